@@ -1,0 +1,125 @@
+ghost use Rattle.std.specs.Prelude.{◌≡◌, ℕ, ◌+◌, ◌≤◌, List, length, map, take, slice_get, Some, None, IfOk, IfErr, IsTrue, ◌↔◌, OnErr};
+ghost use Rattle.std.specs.Char.{to_ascii_lowercase};
+ghost use Rattle.dns_names.specs.Name.{Labels, IsName, IsUnder, wire, parent, wildcard, name_cmp};
+ghost use Rattle.dns_names.specs.Octets.{LabelsAt, Explains};
+
+use crate::run::{RunFault, run_end};
+use crate::{NameError, labels};
+use smallvec::SmallVec;
+use dns_memory::Heap;
+use std::alloc::AllocError;
+use std::cmp::Ordering;
+use std::marker::Model;
+
+/// A name, kept as its plain form.
+#[derive(Drop)]
+pub struct Name {
+    octets: SmallVec<u8, 32, Heap>,
+}
+
+impl Model for Name {
+    ghost use Rattle.std.specs.Prelude.{ℕ, List};
+
+    ghost Value = { List (List ℕ) };
+
+    ghost use Rattle.dns_names.specs.Name.{labels_of};
+    ghost use Rattle.dns_names.specs.Plain.{IsPlain};
+
+    ghost view = { λ n. labels_of n.octets.items };
+
+    ghost invariant = { λ n. IsPlain n.octets.items };
+}
+
+/// Where the plain form of a name at the front of the octets has its zero octet.
+fn root_of(octets: &[u8]) -> Result<usize, NameError>
+    ensures found { IfOk result (λ stop. (stop ≤ 254) × (labels : Labels) × LabelsAt octets.now 0 labels stop × (slice_get octets.now stop ≡ Some 0)) }
+    ensures refused { IfErr result (Explains octets.now) }
+    ensures other { IfErr result (λ e. e ≡ NameError.OutOfMemory → ⊥) }
+{
+    match run_end(octets, 0, 254) {
+        Ok(stop) => {
+            if octets[stop] == 0 {
+                Ok(stop)
+            } else {
+                Err(NameError::LabelTooLong)
+            }
+        }
+        Err(RunFault::Cut) => Err(NameError::Cut),
+        Err(RunFault::TooLong) => Err(NameError::NameTooLong),
+    }
+}
+
+/// The octets in lower case.
+fn lowered(alloc: Heap, octets: &[u8]) -> Result<SmallVec<u8, 32, Heap>, AllocError>
+    ensures { IfOk result (λ v. v.items ≡ map to_ascii_lowercase octets.now) }
+{
+    let mut plain = SmallVec::new(alloc);
+    for octet in octets {
+        plain.push(octet.to_ascii_lowercase())?;
+    }
+    Ok(plain)
+}
+
+impl Name {
+    /// The name whose plain form stands at the front of the octets, and how many octets that has.
+    pub fn parse_wire(alloc: Heap, octets: &[u8]) -> Result<(Name, usize), NameError>
+        ensures found { IfOk result (λ r. IsName r.0 × (r.1 ≤ length octets.now) × (map to_ascii_lowercase (take r.1 octets.now) ≡ wire r.0)) }
+        ensures refused { IfErr result (Explains octets.now) }
+        // What is a name is read, unless memory runs out.
+        ensures only { (name : Labels) (n : ℕ) → IsName name → n ≤ length octets.now → map to_ascii_lowercase (take n octets.now) ≡ wire name → IfErr result (λ e. e ≡ NameError.OutOfMemory) }
+    {
+        let stop = root_of(octets)?;
+        match lowered(alloc, &octets[..stop + 1]) {
+            Ok(plain) => Ok((Name { octets: plain }, stop + 1)),
+            Err(_) => Err(NameError::OutOfMemory),
+        }
+    }
+
+    /// The plain form.
+    pub fn as_wire(&self) -> &[u8]
+        ensures octets { result.now ≡ wire self.now }
+        ensures valid { IsName self.now }
+    {
+        self.octets.as_slice()
+    }
+
+    /// Whether the name is the ancestor or stands under it.
+    pub fn is_under(&self, ancestor: &Name) -> bool
+        ensures { IsTrue result ↔ IsUnder self.now ancestor.now }
+    {
+        labels::is_under(self.octets.as_slice(), ancestor.octets.as_slice())
+    }
+
+    /// The order of names: from the root downward.
+    pub fn cmp(&self, other: &Name) -> Ordering
+        ensures { result ≡ name_cmp self.now other.now }
+    {
+        labels::compare(self.octets.as_slice(), other.octets.as_slice())
+    }
+
+    /// The name above it, if it is not the root.
+    pub fn parent(&self, alloc: Heap) -> Result<Option<Name>, AllocError>
+        ensures { IfOk result (λ above. above ≡ parent self.now) }
+    {
+        let octets = self.octets.as_slice();
+        if octets.len() < 2 {
+            return Ok(None);
+        }
+        let (_, rest) = labels::split_first(octets);
+        Ok(Some(Name {
+            octets: SmallVec::from_slice(alloc, rest)?,
+        }))
+    }
+
+    /// The label `*` before the name.
+    pub fn wildcard_of(&self, alloc: Heap) -> Result<Name, AllocError>
+        requires { length (wire self.now) ≤ 253 }
+        ensures { IfOk result (λ name. name ≡ wildcard self.now) }
+    {
+        let mut octets = SmallVec::new(alloc);
+        octets.push(1)?;
+        octets.push(b'*')?;
+        octets.extend_from_slice(self.octets.as_slice())?;
+        Ok(Name { octets })
+    }
+}

@@ -1,0 +1,52 @@
+ghost use Rattle.std.specs.Prelude.{◌≡◌, List, [], true, not, IfOk, OnOk, OnErr};
+ghost use Rattle.std.specs.List.{list_any, find};
+ghost use Rattle.std.specs.Option.{option_copied};
+ghost use Rattle.dns_records.specs.Record.{Record as Stated};
+ghost use Rattle.dns_zone.specs.Records.{is_ordered, put, without, records_at, rrset, exists, next_after, has};
+
+use dns_names::Name;
+use dns_records::Record;
+use dns_memory::Heap;
+use std::alloc::AllocError;
+
+/// A finite set of records, seen as the list of its records in order.
+pub trait ZoneIndex: Drop {
+    /// What it contains.
+    ghost records: { Self → List Stated };
+
+    /// The set of no records.
+    fn empty(alloc: Heap) -> Result<Self, AllocError>
+        ensures { IfOk result (λ set. records set ≡ []) };
+
+    /// The same set again. A change of one does not change the other.
+    fn fork(&self) -> Result<Self, AllocError>
+        ensures { IfOk result (λ set. records set ≡ records self.now) };
+
+    fn records_at(&self, name: &Name) -> &[Record]
+        ensures { result.now ≡ records_at (records self.now) name.now };
+
+    fn rrset(&self, name: &Name, rtype: u16) -> &[Record]
+        ensures { result.now ≡ rrset (records self.now) name.now rtype };
+
+    /// Whether the name or one under it owns a record.
+    fn exists(&self, name: &Name) -> bool
+        ensures { result ≡ exists (records self.now) name.now };
+
+    /// Puts a record in. It replaces one of equal owner, type and data.
+    fn insert(&mut self, added: Record) -> Result<(), AllocError>
+        ensures ok { OnOk result (records self.new ≡ put added (records self.old)) }
+        ensures err { OnErr result (records self.new ≡ records self.old) };
+
+    /// Takes the record of equal owner, type and data out, and answers whether there was one.
+    fn remove(&mut self, removed: &Record) -> Result<bool, AllocError>
+        ensures found { IfOk result (λ found. found ≡ has removed.now (records self.old)) }
+        ensures ok { OnOk result (records self.new ≡ without removed.now (records self.old)) }
+        ensures err { OnErr result (records self.new ≡ records self.old) };
+
+    /// The first record, or the next one in order.
+    fn walk(&self, after: Option<&Record>) -> Option<&Record>
+        ensures { option_copied result ≡ next_after (option_copied after.entry) (records self.now) };
+
+    /// The records are in order, and each stands once.
+    ghost ordered: { (set : Self) → is_ordered (records set) ≡ true };
+}
