@@ -4,9 +4,9 @@ ghost use Rattle.dns_names.specs.Name.{Labels, IsName, IsUnder, wire, parent, wi
 ghost use Rattle.dns_names.specs.Octets.{LabelsAt, Explains};
 
 use crate::run::{RunFault, run_end};
-use crate::{NameError, labels};
-use smallvec::SmallVec;
+use crate::{NameError, NameRef, labels};
 use dns_memory::Heap;
+use smallvec::SmallVec;
 use std::alloc::AllocError;
 use std::cmp::Ordering;
 use std::marker::Model;
@@ -81,6 +81,13 @@ impl Name {
         ensures valid { IsName self.now }
     {
         self.octets.as_slice()
+    }
+
+    /// The name, lent.
+    pub fn lend(&self) -> NameRef<'_>
+        ensures { result ≡ self.now }
+    {
+        NameRef::over(self.octets.as_slice())
     }
 
     /// Whether the name is the ancestor or stands under it.

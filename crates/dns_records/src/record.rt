@@ -1,9 +1,9 @@
 ghost use Rattle.std.specs.Prelude.{◌≡◌, ℕ, ◌++◌, ◌≤◌, length, take, IfOk, OnOk, IfErr};
 ghost use Rattle.dns_records.specs.Record.{Record as Stated, plain, IsRecord};
 
+use dns_memory::Heap;
 use dns_names::Name;
 use smallvec::SmallVec;
-use dns_memory::Heap;
 use std::alloc::AllocError;
 use std::marker::Model;
 

@@ -6,9 +6,9 @@ ghost use Rattle.dns_wire.specs.Pack.{Place, pack_name, new_places};
 ghost use Rattle.dns_wire.specs.Packed.{Used, StandsAt, IsWritten, AreThePlaces, IsPacked, and_field};
 
 use crate::WireError;
+use dns_memory::Heap;
 use dns_names::Name;
 use dns_records::Record;
-use dns_memory::Heap;
 
 /// A question as it came, octet for octet, and its name.
 #[derive(Drop)]

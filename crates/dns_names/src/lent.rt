@@ -1,0 +1,94 @@
+ghost use Rattle.std.specs.Prelude.{◌≡◌, ◌∷◌, ◌↔◌, Some, None, IsTrue, length};
+ghost use Rattle.dns_names.specs.Name.{IsName, IsUnder, wire, parent, name_cmp};
+
+use crate::labels;
+use std::cmp::Ordering;
+use std::marker::Model;
+
+/// A name that somebody else keeps: the plain form, lent. Its ancestors are tails of it, so that walking up takes no memory.
+#[derive(Drop)]
+pub struct NameRef<'a> {
+    octets: &'a [u8],
+}
+
+impl<'a> Model for NameRef<'a> {
+    ghost use Rattle.std.specs.Prelude.{ℕ, List};
+
+    ghost Value = { List (List ℕ) };
+
+    ghost use Rattle.dns_names.specs.Name.{labels_of};
+    ghost use Rattle.dns_names.specs.Plain.{IsPlain};
+
+    ghost view = { λ n. labels_of n.octets.now };
+
+    ghost invariant = { λ n. IsPlain n.octets.now };
+}
+
+impl<'a> NameRef<'a> {
+    ghost use Rattle.dns_names.specs.Name.{labels_of};
+    ghost use Rattle.dns_names.specs.Plain.{IsPlain};
+
+    /// The name whose plain form the octets are: the caller knows that they are one.
+    pub(crate) fn over(octets: &'a [u8]) -> NameRef<'a>
+        requires { IsPlain octets.now }
+        ensures { result ≡ labels_of octets.now }
+    {
+        NameRef { octets }
+    }
+
+    /// The plain form (RFC 1035 section 3.1).
+    pub fn as_wire(&self) -> &'a [u8]
+        ensures octets { result.now ≡ wire self.now }
+        ensures valid { IsName self.now }
+    {
+        self.octets
+    }
+
+    /// The same name, lent once more.
+    pub fn again(&self) -> NameRef<'a>
+        ensures { result ≡ self.now }
+    {
+        NameRef {
+            octets: self.octets,
+        }
+    }
+
+    /// How many labels the name has; the root has none.
+    pub fn label_count(&self) -> usize
+        ensures { result ≡ length self.now }
+    {
+        labels::label_count(self.octets)
+    }
+
+    /// The name above it, if it is not the root (RFC 1034 section 3.1).
+    pub fn parent(&self) -> Option<NameRef<'a>>
+        ensures { result ≡ parent self.now }
+    {
+        if self.octets.len() < 2 {
+            return None;
+        }
+        let (_, rest) = labels::split_first(self.octets);
+        Some(NameRef { octets: rest })
+    }
+
+    /// Whether the name is the ancestor or stands under it (RFC 1034 section 3.1).
+    pub fn is_under(&self, ancestor: &NameRef<'_>) -> bool
+        ensures { IsTrue result ↔ IsUnder self.now ancestor.now }
+    {
+        labels::is_under(self.octets, ancestor.octets)
+    }
+
+    /// Whether the two are one name.
+    pub fn is(&self, other: &NameRef<'_>) -> bool
+        ensures { IsTrue result ↔ (self.now ≡ other.now) }
+    {
+        self.octets == other.octets
+    }
+
+    /// The order of names: labels from the root downward, as octets (RFC 4034 section 6.1).
+    pub fn cmp(&self, other: &NameRef<'_>) -> Ordering
+        ensures { result ≡ name_cmp self.now other.now }
+    {
+        labels::compare(self.octets, other.octets)
+    }
+}
