@@ -1,7 +1,9 @@
-ghost use Rattle.std.specs.Prelude.{◌≡◌, ◌∷◌, ◌↔◌, Some, None, IsTrue, length};
+ghost use Rattle.std.specs.Prelude.{◌≡◌, ◌∷◌, ◌↔◌, Some, None, IfOk, IsTrue, length};
 ghost use Rattle.dns_names.specs.Name.{IsName, IsUnder, wire, parent, name_cmp};
 
-use crate::labels;
+use crate::{Name, labels};
+use dns_memory::Heap;
+use std::alloc::AllocError;
 use std::cmp::Ordering;
 use std::marker::Model;
 
@@ -29,7 +31,7 @@ impl<'a> NameRef<'a> {
     ghost use Rattle.dns_names.specs.Plain.{IsPlain};
 
     /// The name whose plain form the octets are: the caller knows that they are one.
-    pub(crate) fn over(octets: &'a [u8]) -> NameRef<'a>
+    pub fn over(octets: &'a [u8]) -> NameRef<'a>
         requires { IsPlain octets.now }
         ensures { result ≡ labels_of octets.now }
     {
@@ -51,6 +53,13 @@ impl<'a> NameRef<'a> {
         NameRef {
             octets: self.octets,
         }
+    }
+
+    /// The name with memory of its own.
+    pub fn to_name(&self, alloc: Heap) -> Result<Name, AllocError>
+        ensures { IfOk result (λ name. name ≡ self.now) }
+    {
+        Name::over(alloc, self.octets)
     }
 
     /// How many labels the name has; the root has none.

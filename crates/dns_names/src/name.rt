@@ -2,6 +2,9 @@ ghost use Rattle.std.specs.Prelude.{◌≡◌, ℕ, ◌+◌, ◌≤◌, List, le
 ghost use Rattle.std.specs.Char.{to_ascii_lowercase};
 ghost use Rattle.dns_names.specs.Name.{Labels, IsName, IsUnder, wire, parent, wildcard, name_cmp};
 ghost use Rattle.dns_names.specs.Octets.{LabelsAt, Explains};
+ghost use Rattle.dns_names.specs.Compare.{same_labels, same_labels-per, same_labels-equiv, name_cmp-total, name_cmp-ties, name_cmp-po};
+ghost use Rattle.std.specs.Ordering.{as_partial_cmp};
+ghost use Rattle.std.specs.Prelude.{refl};
 
 use crate::run::{RunFault, run_end};
 use crate::{NameError, NameRef, labels};
@@ -61,6 +64,19 @@ fn lowered(alloc: Heap, octets: &[u8]) -> Result<SmallVec<u8, 32, Heap>, AllocEr
 }
 
 impl Name {
+    ghost use Rattle.dns_names.specs.Name.{labels_of};
+    ghost use Rattle.dns_names.specs.Plain.{IsPlain};
+
+    /// The name whose plain form the octets are: the caller knows that they are one.
+    pub(crate) fn over(alloc: Heap, octets: &[u8]) -> Result<Name, AllocError>
+        requires { IsPlain octets.now }
+        ensures { IfOk result (λ name. name ≡ labels_of octets.now) }
+    {
+        Ok(Name {
+            octets: SmallVec::from_slice(alloc, octets)?,
+        })
+    }
+
     /// The name whose plain form stands at the front of the octets, and how many octets that has.
     pub fn parse_wire(alloc: Heap, octets: &[u8]) -> Result<(Name, usize), NameError>
         ensures found { IfOk result (λ r. IsName r.0 × (r.1 ≤ length octets.now) × (map to_ascii_lowercase (take r.1 octets.now) ≡ wire r.0)) }
@@ -97,13 +113,6 @@ impl Name {
         labels::is_under(self.octets.as_slice(), ancestor.octets.as_slice())
     }
 
-    /// The order of names: from the root downward.
-    pub fn cmp(&self, other: &Name) -> Ordering
-        ensures { result ≡ name_cmp self.now other.now }
-    {
-        labels::compare(self.octets.as_slice(), other.octets.as_slice())
-    }
-
     /// The name above it, if it is not the root.
     pub fn parent(&self, alloc: Heap) -> Result<Option<Name>, AllocError>
         ensures { IfOk result (λ above. above ≡ parent self.now) }
@@ -128,5 +137,59 @@ impl Name {
         octets.push(b'*')?;
         octets.extend_from_slice(self.octets.as_slice())?;
         Ok(Name { octets })
+    }
+}
+
+impl Clone for Name {
+    ghost is_clone = { λ name copy. copy ≡ name };
+
+    fn clone(&self) -> Result<Self, AllocError> {
+        Ok(Name {
+            octets: SmallVec::from_slice(*self.octets.allocator(), self.octets.as_slice())?,
+        })
+    }
+}
+
+impl PartialEq for Name {
+    ghost eq = { same_labels };
+
+    ghost laws = { same_labels-per };
+
+    fn eq(&self, other: &Self) -> bool
+        ensures value { result ≡ same_labels self.now other.now }
+        ensures same { IsTrue result ↔ (self.now ≡ other.now) }
+    {
+        self.octets.as_slice() == other.octets.as_slice()
+    }
+}
+
+impl Eq for Name {
+    ghost laws = { same_labels-equiv };
+}
+
+impl PartialOrd for Name {
+    ghost partial_cmp = { as_partial_cmp name_cmp };
+
+    ghost laws = { name_cmp-po };
+
+    fn partial_cmp(&self, other: &Self) -> Option<Ordering> {
+        Some(self.cmp(other))
+    }
+}
+
+impl Ord for Name {
+    ghost cmp = { name_cmp };
+
+    ghost total = { name_cmp-total };
+
+    ghost matches_partial_cmp = { λ a b. refl };
+
+    ghost matches_eq = { name_cmp-ties };
+
+    /// The order of names: labels from the root downward, as octets (RFC 4034 section 6.1).
+    fn cmp(&self, other: &Self) -> Ordering
+        ensures { result ≡ name_cmp self.now other.now }
+    {
+        labels::compare(self.octets.as_slice(), other.octets.as_slice())
     }
 }

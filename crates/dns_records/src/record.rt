@@ -1,10 +1,11 @@
 ghost use Rattle.std.specs.Prelude.{◌≡◌, ℕ, ◌++◌, ◌≤◌, length, take, IfOk, OnOk, IfErr};
-ghost use Rattle.dns_records.specs.Record.{Record as Stated, plain, IsRecord};
+ghost use Rattle.dns_records.specs.Record.{Record as Stated, plain, IsRecord, record_of, data_of, record_cmp};
 
+use crate::RData;
 use dns_memory::Heap;
 use dns_names::Name;
-use smallvec::SmallVec;
 use std::alloc::AllocError;
+use std::cmp::Ordering;
 use std::marker::Model;
 
 /// Why octets are no record.
@@ -16,42 +17,60 @@ pub enum RecordError {
     UnknownType,
 }
 
-/// A record of class IN. Its data is kept in plain form, and has the form of its type.
+/// A record of class IN: an owner, a TTL in seconds, and data of a known type (RFC 1035 section 3.2.1).
 #[derive(Drop)]
 pub struct Record {
     owner: Name,
-    rtype: u16,
     ttl: u32,
-    rdata: SmallVec<u8, 24, Heap>,
+    rdata: RData,
 }
 
 impl Model for Record {
-    ghost use Rattle.dns_records.specs.Record.{Record as Stated, IsRecord};
+    ghost use Rattle.dns_records.specs.Record.{Record as Stated, IsRecord, record_of};
 
     ghost Value = { Stated };
 
-    ghost view = { λ r. record { owner = r.owner; rtype = r.rtype; ttl = r.ttl; rdata = r.rdata.items } };
+    ghost view = { λ r. record_of r.owner r.ttl r.rdata };
 
-    ghost invariant = { λ r. IsRecord (record { owner = r.owner; rtype = r.rtype; ttl = r.ttl; rdata = r.rdata.items }) };
+    ghost invariant = { λ r. IsRecord (record_of r.owner r.ttl r.rdata) };
 }
 
 impl Record {
+    /// The record of an owner, a TTL in seconds, and data.
+    pub fn new(owner: Name, ttl: u32, rdata: RData) -> Record
+        ensures { result ≡ record_of owner ttl rdata }
+    {
+        let _owner = owner.as_wire();
+        let _data = rdata.octets();
+        Record { owner, ttl, rdata }
+    }
+
+    /// Whose record it is.
     pub fn owner(&self) -> &Name
         ensures { result.now ≡ self.now.owner }
     {
         &self.owner
     }
 
+    /// The type (RFC 1035 section 3.2.2).
     pub fn rtype(&self) -> u16
         ensures { result ≡ self.now.rtype }
     {
-        self.rtype
+        self.rdata.rtype()
     }
 
+    /// For how many seconds it may be kept.
     pub fn ttl(&self) -> u32
         ensures { result ≡ self.now.ttl }
     {
         self.ttl
+    }
+
+    /// The type and the data.
+    pub fn data(&self) -> &RData
+        ensures { result.now ≡ data_of self.now }
+    {
+        &self.rdata
     }
 
     /// The data in plain form.
@@ -59,19 +78,41 @@ impl Record {
         ensures octets { result.now ≡ self.now.rdata }
         ensures valid { IsRecord self.now }
     {
-        self.rdata.as_slice()
+        self.rdata.octets()
+    }
+
+    /// The order of records in a zone: by owner, type and data. The TTL does not count.
+    pub fn compare(&self, other: &Record) -> Ordering
+        ensures { result ≡ record_cmp self.now other.now }
+    {
+        let owners = self.owner.cmp(&other.owner);
+        let types = self.rdata.rtype().cmp(&other.rdata.rtype());
+        owners.then(types.then(self.rdata.octets().cmp(other.rdata.octets())))
     }
 
     /// Writes the plain form at the end.
     pub fn to_wire_plain(&self, out: &mut Vec<u8, Heap>) -> Result<(), AllocError>
         ensures { OnOk result (out.new.items ≡ out.old.items ++ plain self.now) }
     {
+        let rdata = self.rdata.octets();
         out.extend_from_slice(self.owner.as_wire())?;
-        out.extend_from_slice(&self.rtype.to_be_bytes())?;
+        out.extend_from_slice(&self.rdata.rtype().to_be_bytes())?;
         out.extend_from_slice(&self.ttl.to_be_bytes())?;
-        out.extend_from_slice(&(self.rdata.len() as u16).to_be_bytes())?;
-        out.extend_from_slice(self.rdata.as_slice())?;
+        out.extend_from_slice(&(rdata.len() as u16).to_be_bytes())?;
+        out.extend_from_slice(rdata)?;
         Ok(())
+    }
+}
+
+impl Clone for Record {
+    ghost is_clone = { λ r copy. copy ≡ r };
+
+    fn clone(&self) -> Result<Self, AllocError> {
+        Ok(Record {
+            owner: self.owner.clone()?,
+            ttl: self.ttl,
+            rdata: self.rdata.clone()?,
+        })
     }
 }
 

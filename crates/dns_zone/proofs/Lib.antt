@@ -1,0 +1,4 @@
+pub mod Searching
+pub mod Placing
+pub mod Listed
+pub mod Under

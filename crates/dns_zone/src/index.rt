@@ -1,15 +1,15 @@
-ghost use Rattle.std.specs.Prelude.{◌≡◌, List, [], true, not, IfOk, OnOk, OnErr};
-ghost use Rattle.std.specs.List.{list_any, find};
+ghost use Rattle.std.specs.Prelude.{◌≡◌, List, [], true, IfOk, OnOk, OnErr};
 ghost use Rattle.std.specs.Option.{option_copied};
-ghost use Rattle.dns_records.specs.Record.{Record as Stated};
+ghost use Rattle.std.specs.List.{AllByRecursion};
+ghost use Rattle.dns_records.specs.Record.{Record as Stated, IsRecord};
 ghost use Rattle.dns_zone.specs.Records.{is_ordered, put, without, records_at, rrset, exists, next_after, has};
 
-use dns_names::Name;
-use dns_records::Record;
 use dns_memory::Heap;
+use dns_names::NameRef;
+use dns_records::Record;
 use std::alloc::AllocError;
 
-/// A finite set of records, seen as the list of its records in order.
+/// A finite set of records, seen as the list of its records in order of owner, type and data.
 pub trait ZoneIndex: Drop {
     /// What it contains.
     ghost records: { Self → List Stated };
@@ -22,17 +22,19 @@ pub trait ZoneIndex: Drop {
     fn fork(&self) -> Result<Self, AllocError>
         ensures { IfOk result (λ set. records set ≡ records self.now) };
 
-    fn records_at(&self, name: &Name) -> &[Record]
+    /// The records that the name owns, in order of type and data.
+    fn records_at(&self, name: &NameRef<'_>) -> &[Record]
         ensures { result.now ≡ records_at (records self.now) name.now };
 
-    fn rrset(&self, name: &Name, rtype: u16) -> &[Record]
+    /// The records of a name and a type (an RRset, RFC 2181 section 5), in order of data.
+    fn rrset(&self, name: &NameRef<'_>, rtype: u16) -> &[Record]
         ensures { result.now ≡ rrset (records self.now) name.now rtype };
 
-    /// Whether the name or one under it owns a record.
-    fn exists(&self, name: &Name) -> bool
+    /// Whether the name or one under it owns a record (RFC 4592 section 2.2.2).
+    fn exists(&self, name: &NameRef<'_>) -> bool
         ensures { result ≡ exists (records self.now) name.now };
 
-    /// Puts a record in. It replaces one of equal owner, type and data.
+    /// Puts a record in. It replaces one of equal owner, type and data, and so its TTL.
     fn insert(&mut self, added: Record) -> Result<(), AllocError>
         ensures ok { OnOk result (records self.new ≡ put added (records self.old)) }
         ensures err { OnErr result (records self.new ≡ records self.old) };
@@ -43,10 +45,13 @@ pub trait ZoneIndex: Drop {
         ensures ok { OnOk result (records self.new ≡ without removed.now (records self.old)) }
         ensures err { OnErr result (records self.new ≡ records self.old) };
 
-    /// The first record, or the next one in order.
+    /// The first record, or the first behind one.
     fn walk(&self, after: Option<&Record>) -> Option<&Record>
         ensures { option_copied result ≡ next_after (option_copied after.entry) (records self.now) };
 
-    /// The records are in order, and each stands once.
+    /// The records strictly rise, so that each stands once.
     ghost ordered: { (set : Self) → is_ordered (records set) ≡ true };
+
+    /// Each is a valid record.
+    ghost valid: { (set : Self) → ∥ AllByRecursion IsRecord (records set) ∥₁ };
 }

@@ -1,0 +1,20 @@
+use dns_names::NameRef;
+
+/// The start of a zone of authority (RFC 1035 section 3.3.13). Times are seconds.
+#[derive(Drop)]
+pub struct Soa<'a> {
+    /// The primary name server.
+    pub mname: NameRef<'a>,
+    /// The mailbox of the person responsible, as a name.
+    pub rname: NameRef<'a>,
+    /// The version of the zone.
+    pub serial: u32,
+    /// When a secondary asks again.
+    pub refresh: u32,
+    /// When it asks again after a failure.
+    pub retry: u32,
+    /// When it gives the zone up without an answer.
+    pub expire: u32,
+    /// The TTL of negative answers (RFC 2308 section 4).
+    pub minimum: u32,
+}
