@@ -2,3 +2,4 @@ pub mod Searching
 pub mod Placing
 pub mod Listed
 pub mod Under
+pub mod Surveying

@@ -1,7 +1,9 @@
 -- What the sorted list answers, and that it stays in order.
-use Rattle.std.proofs.Common.{◌≡◌, ℕ, zero, suc, ◌<◌, ◌≤◌, Bool, true, false, List, [], ◌∷◌, ◌++◌, length, get_or, take, drop, refl, sym, ap, subst, ◌∙◌, arith, cond, reverse}
-use Rattle.std.specs.Prelude.{filter, ◌&&◌, ◌||◌, ◌==◌, not, Some, None, Option, slice_get}
-use Rattle.std.specs.List.{AllWithin, AllByRecursion, list_any, find}
+use Rattle.std.proofs.Common.{◌≡◌, inl, inr, ℕ, zero, suc, ◌+◌, ◌≤◌, Bool, true, false, List, [], ◌∷◌, length, refl, sym, ap, subst, ◌∙◌, arith, cond}
+use Rattle.std.specs.Prelude.{filter, ◌&&◌, ◌||◌, ◌==◌, not, nat_lt, Some, None, Option, slice_get, if◌then◌else◌}
+use Rattle.std.specs.List.{AllWithin, AllByRecursion, list_any, list_all, find}
+use Rattle.std.specs.Str.{bytes_eq}
+use Rattle.std.specs.Cmp.Lexicographic.{slice_cmp}
 use Rattle.std.specs.Ordering.{is_lt, is_eq, is_gt, nat_cmp, ordering_then, ordering_reverse}
 use Rattle.std.specs.FinMap.Entries.{by_order}
 use Rattle.std.specs.FinMap.{nat_cmp-IsAntisymmetric}
@@ -9,12 +11,18 @@ use Rattle.std.specs.Cmp.{both_ways, tied_itself, nat_cmp_total}
 use Rattle.std.specs.declared.cmp.Ordering.{Ordering}
 use Rattle.std.specs.declared.cmp.Ordering.TheVariants.{Less, Equal, Greater}
 use Rattle.std.proofs.lemmas.Bool.Decides.{nat_tests}
-use Rattle.dns_names.specs.Name.{Labels, names_eq, name_cmp}
+use Rattle.dns_names.specs.Name.{Labels, names_eq, under, name_cmp}
 use Rattle.dns_names.specs.Compare.{name_cmp-same}
 use Rattle.dns_records.specs.Record.{Record, record_cmp, IsRecord}
-use Rattle.dns_zone.specs.Records.{is_ordered, is_below, put, without, records_at, rrset, next_after}
-use Rattle.dns_zone.specs.Order.{name_total, record_total, names_same, names_itself, number_itself}
-use Rattle.dns_zone.specs.Sets.{Sorted, Below, sorted_from, sorted_put, sorted_filter, equal_is}
+use Rattle.dns_zone.specs.Records.{is_ordered, put, without, alike, owns_type, records_at, rrset, next_after}
+use Rattle.dns_zone.specs.Zone.{has_twice, has_cname_and_other, soas, zone_fault}
+use Rattle.dns_zone.specs.Survey.{Surveys, is_wildcard_ns, fault_told}
+use Rattle.dns_zone.specs.declared.survey.Survey.{Survey}
+use Rattle.dns_zone.specs.declared.ZoneError.{ZoneError}
+use Rattle.dns_zone.specs.declared.ZoneError.TheVariants.{NoSoa, ManySoa, NoNs, OutOfZone, Duplicate, CnameAndOther, WildcardNs, TooMany}
+use Rattle.dns_records.specs.Types.{type_soa, type_ns}
+use Rattle.dns_zone.specs.Order.{name_total, record_total, names_same, names_itself, number_itself, bytes_same, both_true}
+use Rattle.dns_zone.specs.Sets.{Sorted, Below, sorted_from, sorted_put, sorted_filter, equal_is, told}
 
 filter_same : (p q : Record → Bool) → ((r : Record) → p r ≡ q r) → (xs : List Record) → filter p xs ≡ filter q xs
 filter_same p q h [] = refl
@@ -77,3 +85,58 @@ next_is r (x ∷ xs) (suc at) inside f g =
     let here : is_lt (record_cmp r x) ≡ false = greater_is (record_cmp x r) (record_cmp r x) (record_total.antisymm r x) ∙ f 0 x (omega arith) (omega arith) in
     next_is r xs at (omega arith) (λ k d from to. f (suc k) d (omega arith) (omega arith)) (λ k d from to. g (suc k) d (omega arith) (omega arith))
     ∙ ap (λ (b : Bool). cond b (Some x) (find (λ s. is_lt (record_cmp r s)) xs)) (sym here)
+
+above_zero : (n : ℕ) → (suc n == 0) ≡ false
+above_zero n = grind (arith, nat_tests)
+
+counted : (p : Record → Bool) (x : Record) (xs : List Record) (b : Bool) → (length (filter p xs) == 0) ≡ not (list_any p xs) → (length (cond b (x ∷ filter p xs) (filter p xs)) == 0) ≡ not (b || list_any p xs)
+counted p x xs true rest = above_zero (length (filter p xs))
+counted p x xs false rest = rest
+
+-- none is kept by a test exactly where none passes it
+pub none_passes : (p : Record → Bool) (xs : List Record) → (length (filter p xs) == 0) ≡ not (list_any p xs)
+none_passes p [] = refl
+none_passes p (x ∷ xs) = counted p x xs (p x) (none_passes p xs)
+
+alike_tied : (a b : Record) → alike a b ≡ true → record_cmp a b ≡ Equal
+alike_tied a b e =
+    let two = both_true (names_eq a.owner b.owner && a.rtype == b.rtype) (bytes_eq a.rdata b.rdata) e in
+    let three = both_true (names_eq a.owner b.owner) (a.rtype == b.rtype) two.0 in
+    let owner = names_same a.owner b.owner three.0 in
+    let rtype : a.rtype ≡ b.rtype = grind (arith, nat_tests, three.1) in
+    let rdata = bytes_same a.rdata b.rdata two.1 in
+    (λ i. ordering_then (name_cmp a.owner (sym owner i)) (ordering_then (nat_cmp a.rtype (sym rtype i)) (slice_cmp nat_cmp a.rdata (sym rdata i)))) ∙ tied_itself record_total a
+
+none_alike : (x : Record) (xs : List Record) → Below x xs → list_any (alike x) xs ≡ false
+none_alike x [] h = refl
+none_alike x (y ∷ ys) h =
+    let apart : alike x y ≡ false = elim (told (alike x y)) [ inl e ↦ (let tied = alike_tied x y e in let less = h.0 in absurd cc) | inr e ↦ e ] in
+    ap (λ (b : Bool). b || list_any (alike x) ys) apart ∙ none_alike x ys h.1
+
+-- no record of a list in order stands twice in it
+pub once : (xs : List Record) → Sorted xs → has_twice xs ≡ false
+once [] h = refl
+once (x ∷ xs) h = ap (λ (b : Bool). b || has_twice xs) (none_alike x xs h.0) ∙ once xs h.1
+
+and_true : (b : Bool) → (b && true) ≡ b
+and_true true = refl
+and_true false = refl
+
+or_false : (b : Bool) → (b || false) ≡ b
+or_false true = refl
+or_false false = refl
+
+-- the refusal that is told is the refusal
+pub fault_is : (apex : Labels) (xs : List Record) (s : Survey) (a b : Bool) → Sorted xs → a ≡ not (owns_type xs apex type_soa) → b ≡ not (owns_type xs apex type_ns) → Surveys apex xs [] s → fault_told s a b ≡ zone_fault apex xs
+fault_is apex xs s a b h no_soa no_ns tells =
+    let zero_soas : s.soas + 0 ≡ s.soas = omega arith in
+    let zero_count : s.count + 0 ≡ s.count = omega arith in
+    let many = sym (ap (nat_lt 1) zero_soas) ∙ tells.soas_of in
+    let outside = ap not (sym (and_true s.inside) ∙ tells.inside_of) in
+    let shared = sym (or_false s.shared_alias) ∙ tells.shared_of in
+    let wild = sym (or_false s.wildcard_ns) ∙ tells.wildcard_of in
+    let large = sym (ap (nat_lt 65536) zero_count) ∙ tells.count_of in
+    let none = sym (once xs h) in
+    let last : Option ZoneError = if has_cname_and_other xs then Some CnameAndOther else if list_any is_wildcard_ns xs then Some WildcardNs else if nat_lt 65536 (length xs) then Some TooMany else None in
+    (λ i. if no_soa i then Some NoSoa else if many i then Some ManySoa else if no_ns i then Some NoNs else if outside i then Some OutOfZone else if shared i then Some CnameAndOther else if wild i then Some WildcardNs else if large i then Some TooMany else None)
+    ∙ (λ i. if not (owns_type xs apex type_soa) then Some NoSoa else if nat_lt 1 (length (soas xs)) then Some ManySoa else if not (owns_type xs apex type_ns) then Some NoNs else if not (list_all (λ r. under r.owner apex) xs) then Some OutOfZone else if none i then Some Duplicate else last)

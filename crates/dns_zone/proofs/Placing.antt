@@ -1,21 +1,20 @@
 -- The place of a record in a list in order.
-use Rattle.std.proofs.Common.{◌≡◌, ℕ, zero, suc, ◌+◌, ◌<◌, ◌≤◌, Bool, true, false, List, [], ◌∷◌, ◌++◌, length, get_or, take, drop, refl, sym, ap, ◌∙◌, arith, cond}
-use Rattle.std.specs.Prelude.{filter, not, slice_set, ◌||◌}
-use Rattle.std.specs.List.{AllWithin, AllByRecursion, list_any}
-use Rattle.std.specs.Ordering.{is_lt, is_eq, is_gt, ordering_reverse}
+use Rattle.std.proofs.Common.{◌≡◌, ℕ, zero, suc, ◌<◌, ◌≤◌, true, false, List, [], ◌∷◌, length, get_or, refl, ap, ◌∙◌, arith, cond}
+use Rattle.std.specs.Prelude.{not, ◌||◌}
+use Rattle.std.specs.List.{AllWithin}
+use Rattle.std.specs.Ordering.{is_lt, is_eq, ordering_reverse}
 use Rattle.std.specs.FinMap.Entries.{by_order}
 use Rattle.std.specs.Cmp.{tied_back}
 use Rattle.std.specs.declared.cmp.Ordering.{Ordering}
 use Rattle.std.specs.declared.cmp.Ordering.TheVariants.{Less, Equal, Greater}
 use Rattle.dns_records.specs.Record.{Record, record_cmp}
-use Rattle.dns_zone.specs.Records.{is_ordered, is_below, put, without, has}
+use Rattle.dns_zone.specs.Records.{put, without, has}
 use Rattle.dns_zone.specs.Order.{record_total}
-use Rattle.dns_zone.specs.Sets.{Sorted, Below, sorted_from, below_less, below_tied, less_is, equal_is}
+use Rattle.dns_zone.specs.Sets.{Sorted, Below, below_less, below_tied, less_is}
 use Rattle.dns_zone.specs.Place.{StandsAt, BelongsAt}
 
 turned : (a b : Ordering) → a ≡ ordering_reverse b → b ≡ Less → a ≡ Greater
 turned a b e l = e ∙ ap ordering_reverse l
-
 
 -- no record above another ties with it
 kept_above : (r : Record) (xs : List Record) → Below r xs → without r xs ≡ xs

@@ -1,11 +1,11 @@
 -- Searching by halves.
 use Rattle.std.proofs.Common.{◌≡◌, ℕ, zero, suc, ◌+◌, ◌-◌, ◌<◌, ◌≤◌, Bool, true, false, ◌⊎◌, inl, inr, List, [], ◌∷◌, length, get_or, take, drop, refl, sym, ap, subst, ◌∙◌, arith, cond}
-use Rattle.std.specs.Prelude.{filter, slice_range, nat_lt}
+use Rattle.std.specs.Prelude.{filter, nat_lt}
 use Rattle.std.proofs.lemmas.List.{get_or_default}
 use borrow.Author.Tests.{ltb-true, ltb-false}
 use Rattle.std.specs.List.{AllWithin}
-use Rattle.std.specs.Ordering.{is_lt, is_eq, is_gt, nat_cmp, ordering_then, ordering_reverse}
-use Rattle.std.specs.Cmp.{alike_right, tied_back, nat_cmp_total, then_total, on_total, IsTotalOrder}
+use Rattle.std.specs.Ordering.{is_lt, is_eq, is_gt, nat_cmp, ordering_then}
+use Rattle.std.specs.Cmp.{alike_right, nat_cmp_total, then_total, on_total, IsTotalOrder}
 use Rattle.std.specs.declared.cmp.Ordering.{Ordering}
 use Rattle.std.specs.declared.cmp.Ordering.TheVariants.{Less, Equal, Greater}
 use Rattle.dns_names.specs.Name.{Labels, name_cmp}

@@ -1,7 +1,7 @@
 -- Where the names under a name stand in the order of names.
-use Rattle.std.proofs.Common.{◌≡◌, ◌⊎◌, inl, inr, ℕ, zero, suc, ◌<◌, ◌≤◌, Bool, true, false, List, [], ◌∷◌, ◌++◌, length, get_or, refl, sym, ap, subst, ◌∙◌, arith, reverse, append_assoc}
+use Rattle.std.proofs.Common.{◌≡◌, ◌⊎◌, inl, inr, ℕ, zero, suc, ◌<◌, ◌≤◌, Bool, true, false, List, [], ◌∷◌, ◌++◌, length, get_or, refl, sym, ap, subst, ◌∙◌, arith, reverse}
 use Rattle.std.specs.Prelude.{◌||◌}
-use Rattle.std.specs.List.{AllWithin, list_any}
+use Rattle.std.specs.List.{AllWithin}
 use Rattle.std.specs.Ordering.{is_lt, is_gt, nat_cmp, ordering_then}
 use Rattle.std.specs.Cmp.{both_ways, tied_itself}
 use Rattle.std.specs.Cmp.Lexicographic.{slice_cmp, nat_list_cmp_total}
@@ -10,7 +10,7 @@ use Rattle.std.specs.declared.cmp.Ordering.{Ordering}
 use Rattle.std.specs.declared.cmp.Ordering.TheVariants.{Less, Equal, Greater}
 use Rattle.std.proofs.lemmas.List.{reverse-reverse, reverse-append}
 use Rattle.dns_names.specs.Name.{Labels, IsUnder, under, names_eq, name_cmp}
-use Rattle.dns_records.specs.Record.{Record, record_cmp}
+use Rattle.dns_records.specs.Record.{Record}
 use Rattle.dns_zone.specs.Records.{exists}
 use Rattle.dns_zone.specs.Order.{names_same, names_itself}
 use Rattle.dns_zone.specs.Sets.{Sorted, Below, told, either_true}

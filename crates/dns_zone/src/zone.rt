@@ -1,14 +1,13 @@
-ghost use Rattle.std.specs.Prelude.{◌≡◌, ◌⊎◌, IfOk, IfErr};
+ghost use Rattle.std.specs.Prelude.{◌≡◌, Some, IfOk, IfErr};
 ghost use Rattle.dns_zone.specs.Zone.{IsZone, zone_fault};
-ghost use Rattle.dns_zone.specs.Made.{IsSetOf};
+ghost use Rattle.dns_zone.specs.Survey.{fault_told};
 
+use crate::survey::{Survey, survey_of};
 use crate::{ZoneError, ZoneIndex};
 use dns_names::Name;
-use dns_records::Record;
-use dns_memory::Heap;
 use std::marker::Model;
 
-/// A zone: an apex, and a valid set of records.
+/// A zone: an apex, and a valid set of records (RFC 1034 section 4.2.1).
 #[derive(Drop)]
 pub struct Zone<I: ZoneIndex> {
     apex: Name,
@@ -26,6 +25,18 @@ impl<I: ZoneIndex> Model for Zone<I> {
 }
 
 impl<I: ZoneIndex> Zone<I> {
+    /// The zone of a set, which is handed back where it is none, with the lowest refusal that applies.
+    pub fn from_index(apex: Name, index: I) -> Result<Zone<I>, (I, ZoneError)>
+        ensures found { IfOk result (λ z. (z.records ≡ I.records index) × (z.apex ≡ apex) × IsZone z) }
+        ensures refused { IfErr result (λ e. (zone_fault apex (I.records index) ≡ Some e.1) × (I.records e.0 ≡ I.records index)) }
+    {
+        match fault(&apex, &index) {
+            Some(error) => Err((index, error)),
+            None => Ok(Zone { apex, index }),
+        }
+    }
+
+    /// The name that all owners are at or under.
     pub fn apex(&self) -> &Name
         ensures name { result.now ≡ self.now.apex }
         ensures valid { IsZone self.now }
@@ -33,12 +44,14 @@ impl<I: ZoneIndex> Zone<I> {
         &self.apex
     }
 
+    /// The records.
     pub fn index(&self) -> &I
         ensures { I.records result.now ≡ self.now.records }
     {
         &self.index
     }
 
+    /// The records alone.
     pub fn into_index(self) -> I
         ensures { I.records result ≡ self.records }
     {
@@ -47,15 +60,35 @@ impl<I: ZoneIndex> Zone<I> {
     }
 }
 
-/// What is promised of making zones, and not proved yet.
-pub trait MakesZones<I: ZoneIndex> {
-    /// The zone of a list of records, which stand in any order.
-    fn from_records(alloc: Heap, apex: Name, records: Vec<Record, Heap>) -> Result<Zone<I>, ZoneError>
-        ensures found { IfOk result (λ z. IsSetOf records.entry.items z.records × (z.apex ≡ apex) × IsZone z) }
-        ensures refused { IfErr result (λ e. (zone_fault apex records.entry.items ≡ Some e) ⊎ (e ≡ ZoneError.OutOfMemory)) };
+/// Why the set is no zone of that apex.
+fn fault<I: ZoneIndex>(apex: &Name, index: &I) -> Option<ZoneError>
+    ensures { result ≡ zone_fault apex.now (I.records index.now) }
+{
+    let apex = apex.lend();
+    let soa = index.rrset(&apex, 6).is_empty();
+    let ns = index.rrset(&apex, 2).is_empty();
+    first_fault(survey_of(index, &apex), soa, ns)
+}
 
-    /// The zone of a set, which is handed back where it is none.
-    fn from_index(apex: Name, index: I) -> Result<Zone<I>, (I, ZoneError)>
-        ensures found { IfOk result (λ z. (z.records ≡ I.records index) × (z.apex ≡ apex) × IsZone z) }
-        ensures refused { IfErr result (λ e. (zone_fault apex (I.records index) ≡ Some e.1) × (I.records e.0 ≡ I.records index)) };
+/// The lowest refusal that applies, where it is known whether the apex lacks a SOA, and an NS.
+fn first_fault(survey: Survey, no_soa: bool, no_ns: bool) -> Option<ZoneError>
+    ensures { result ≡ fault_told survey no_soa no_ns }
+{
+    if no_soa {
+        Some(ZoneError::NoSoa)
+    } else if survey.soas > 1 {
+        Some(ZoneError::ManySoa)
+    } else if no_ns {
+        Some(ZoneError::NoNs)
+    } else if !survey.inside {
+        Some(ZoneError::OutOfZone)
+    } else if survey.shared_alias {
+        Some(ZoneError::CnameAndOther)
+    } else if survey.wildcard_ns {
+        Some(ZoneError::WildcardNs)
+    } else if survey.count > 65536 {
+        Some(ZoneError::TooMany)
+    } else {
+        None
+    }
 }

@@ -1,4 +1,4 @@
-use Rattle.std.proofs.Common.{◌≡◌, ◌<◌, ◌≤◌, true, false, length, get_or, sym, ap, ◌∙◌, arith}
+use Rattle.std.proofs.Common.{◌≡◌, ◌<◌, false, length, get_or, sym, ap, ◌∙◌, arith}
 use Rattle.std.specs.Ordering.{is_lt, is_eq}
 use Rattle.std.specs.declared.cmp.Ordering.TheVariants.{Equal}
 use Rattle.std.proofs.lemmas.List.{get_or_default}
@@ -26,10 +26,10 @@ returns-clause-absent c =
     let at = c.count_before-at.result in
     belongs wanted records at (sorted_from records c.requires) c.count_before-at.ensures.bound c.count_before-at.ensures.before (λ inside. elim c.else-at-records.branch [
       | else-at-records-via-then-at-records+else-is_eq w ↦ (
-        let there = w.index-records-at.result in
-        let apart : is_eq (record_cmp there wanted) ≡ false = ap is_eq (sym w.compare.ensures) ∙ sym w.is_eq.ensures ∙ w.if-is_eq.false in
-        let same : get_or records at wanted ≡ there = get_or_default records at wanted there inside ∙ sym w.index-records-at.is in
-        let behind : is_lt (record_cmp there wanted) ≡ false = ap (λ r. is_lt (record_cmp r wanted)) (sym same) ∙ c.count_before-at.ensures.behind at wanted (omega arith) inside in
-        ap (λ r. record_cmp r wanted) same ∙ past_both (record_cmp there wanted) behind apart)
+          let there = w.index-records-at.result in
+          let apart : is_eq (record_cmp there wanted) ≡ false = ap is_eq (sym w.compare.ensures) ∙ sym w.is_eq.ensures ∙ w.if-is_eq.false in
+          let same : get_or records at wanted ≡ there = get_or_default records at wanted there inside ∙ sym w.index-records-at.is in
+          let behind : is_lt (record_cmp there wanted) ≡ false = ap (λ r. is_lt (record_cmp r wanted)) (sym same) ∙ c.count_before-at.ensures.behind at wanted (omega arith) inside in
+          ap (λ r. record_cmp r wanted) same ∙ past_both (record_cmp there wanted) behind apart)
       | else-at-records-via-else-at-records w ↦ absurd (omega (arith, w.if-at-records.false))
     ])

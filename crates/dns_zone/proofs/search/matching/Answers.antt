@@ -1,4 +1,4 @@
-use Rattle.std.proofs.Common.{◌≤◌, length, rules, arith}
+use Rattle.std.proofs.Common.{◌≤◌, rules}
 use Rattle.dns_zone.specs.Side.{side_of}
 use Rattle.dns_zone.proofs.Searching.{counts_meet, matches}
 use Rattle.dns_zone.proofs.search.matching.Goals as goal
