@@ -86,18 +86,6 @@ next_is r (x ∷ xs) (suc at) inside f g =
     next_is r xs at (omega arith) (λ k d from to. f (suc k) d (omega arith) (omega arith)) (λ k d from to. g (suc k) d (omega arith) (omega arith))
     ∙ ap (λ (b : Bool). cond b (Some x) (find (λ s. is_lt (record_cmp r s)) xs)) (sym here)
 
-above_zero : (n : ℕ) → (suc n == 0) ≡ false
-above_zero n = grind (arith, nat_tests)
-
-counted : (p : Record → Bool) (x : Record) (xs : List Record) (b : Bool) → (length (filter p xs) == 0) ≡ not (list_any p xs) → (length (cond b (x ∷ filter p xs) (filter p xs)) == 0) ≡ not (b || list_any p xs)
-counted p x xs true rest = above_zero (length (filter p xs))
-counted p x xs false rest = rest
-
--- none is kept by a test exactly where none passes it
-pub none_passes : (p : Record → Bool) (xs : List Record) → (length (filter p xs) == 0) ≡ not (list_any p xs)
-none_passes p [] = refl
-none_passes p (x ∷ xs) = counted p x xs (p x) (none_passes p xs)
-
 alike_tied : (a b : Record) → alike a b ≡ true → record_cmp a b ≡ Equal
 alike_tied a b e =
     let two = both_true (names_eq a.owner b.owner && a.rtype == b.rtype) (bytes_eq a.rdata b.rdata) e in

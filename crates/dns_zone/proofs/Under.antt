@@ -3,7 +3,7 @@ use Rattle.std.proofs.Common.{◌≡◌, ◌⊎◌, inl, inr, ℕ, zero, suc, �
 use Rattle.std.specs.Prelude.{◌||◌}
 use Rattle.std.specs.List.{AllWithin}
 use Rattle.std.specs.Ordering.{is_lt, is_gt, nat_cmp, ordering_then}
-use Rattle.std.specs.Cmp.{both_ways, tied_itself}
+use Rattle.std.specs.Cmp.{tied_itself}
 use Rattle.std.specs.Cmp.Lexicographic.{slice_cmp, nat_list_cmp_total}
 use Rattle.std.specs.FinMap.{nat_cmp-IsAntisymmetric, slice_cmp-IsAntisymmetric}
 use Rattle.std.specs.declared.cmp.Ordering.{Ordering}
@@ -12,32 +12,9 @@ use Rattle.std.proofs.lemmas.List.{reverse-reverse, reverse-append}
 use Rattle.dns_names.specs.Name.{Labels, IsUnder, under, names_eq, name_cmp}
 use Rattle.dns_records.specs.Record.{Record}
 use Rattle.dns_zone.specs.Records.{exists}
-use Rattle.dns_zone.specs.Order.{names_same, names_itself}
-use Rattle.dns_zone.specs.Sets.{Sorted, Below, told, either_true}
+use Rattle.dns_zone.specs.Ancestry.{under_from, under_with}
+use Rattle.dns_zone.specs.Sets.{Sorted, Below, told}
 use Rattle.dns_zone.proofs.Searching.{then_less}
-
--- the test is the fact
-pub under_from : (a n : Labels) → under a n ≡ true → IsUnder a n
-under_from [] n e = ([], names_same [] n e)
-under_from (l ∷ a) n e = elim (either_true (names_eq (l ∷ a) n) (under a n) e) [
-  | inl same ↦ ([], names_same (l ∷ a) n same)
-  | inr more ↦ (let rest = under_from a n more in (l ∷ rest.0, ap (λ (x : Labels). l ∷ x) rest.1))
-]
-
-either : (a b : Bool) → b ≡ true → (a || b) ≡ true
-either true b e = refl
-either false b e = e
-
-at_itself : (n : Labels) → under n n ≡ true
-at_itself [] = refl
-at_itself (l ∷ n) = ap (λ (b : Bool). b || under n (l ∷ n)) (names_itself (l ∷ n))
-
-pub under_front : (front n : Labels) → under (front ++ n) n ≡ true
-under_front [] n = at_itself n
-under_front (l ∷ front) n = either (names_eq (l ∷ front ++ n) n) (under (front ++ n) n) (under_front front n)
-
-pub under_with : (a n : Labels) → IsUnder a n → under a n ≡ true
-under_with a n h = subst (λ (x : Labels). under x n ≡ true) (sym h.1) (under_front h.0 n)
 
 -- a list of labels that begins with another is not below it
 not_below : (p q : Labels) → is_lt (slice_cmp (slice_cmp nat_cmp) (p ++ q) p) ≡ false
@@ -110,7 +87,3 @@ exists_none [] n at past f = refl
 exists_none (x ∷ xs) n zero past f = absurd (omega arith)
 exists_none (x ∷ xs) n (suc at) past f =
     exists_none xs n at (omega arith) (λ k d from to. f (suc k) d (omega arith) (omega arith)) ∙ ap (λ (b : Bool). b || exists xs n) (sym (before_apart x.owner n (f 0 x (omega arith) (omega arith))))
-
--- a test tied to the fact is the test
-pub tied_under : (b : Bool) (a n : Labels) → (b ≡ true → IsUnder a n) → (IsUnder a n → b ≡ true) → b ≡ under a n
-tied_under b a n f g = both_ways b (under a n) (λ e. under_with a n (f e)) (λ e. g (under_from a n e))

@@ -3,7 +3,8 @@ use Rattle.std.specs.List.{AllWithin}
 use Rattle.std.specs.Ordering.{is_lt}
 use Rattle.dns_names.specs.Name.{Labels, under, name_cmp}
 use Rattle.dns_zone.specs.Sets.{sorted_from}
-use Rattle.dns_zone.proofs.Under.{exists_some, exists_none, tied_under}
+use Rattle.dns_zone.specs.Ancestry.{tied_under}
+use Rattle.dns_zone.proofs.Under.{exists_some, exists_none}
 use Rattle.dns_zone.proofs.search.is_owned_under.Goals as goal
 
 pub returns-then-at-records : goal.returns-then-at-records

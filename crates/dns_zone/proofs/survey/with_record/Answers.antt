@@ -4,7 +4,7 @@ use Rattle.std.specs.List.{list_all, list_any}
 use Rattle.dns_names.specs.Name.{under}
 use Rattle.dns_zone.specs.Zone.{soas}
 use Rattle.dns_zone.specs.Survey.{is_shared_alias, is_wildcard_ns}
-use Rattle.dns_zone.proofs.Under.{tied_under}
+use Rattle.dns_zone.specs.Ancestry.{tied_under}
 use Rattle.dns_zone.proofs.Surveying.{capped, soas_step, and_assoc, or_assoc}
 use Rattle.dns_zone.proofs.survey.with_record.Goals as goal
 
