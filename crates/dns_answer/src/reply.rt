@@ -1,28 +1,10 @@
-ghost use Rattle.std.specs.Prelude.{◌≡◌, ◌<◌, IfOk, Some};
+ghost use Rattle.std.specs.Prelude.{◌≡◌, ◌<◌};
 ghost use Rattle.dns_wire.specs.Message.{header_of};
-ghost use Rattle.dns_answer.specs.Answer.{Replies, handled_as, bare_reply, IsForReply};
 ghost use Rattle.dns_wire.specs.Text.{text};
+ghost use Rattle.dns_answer.specs.Answer.{bare_reply};
 
-use crate::Transport;
-use dns_wire::Message;
-use dns_zone::{Zone, ZoneIndex};
-use dns_memory::Heap;
-use std::alloc::AllocError;
-
-/// What is promised of replies, and not proved yet.
-pub trait Writes<I: ZoneIndex> {
-    /// The reply to a question that is neither an update nor a transfer.
-    fn reply(
-        alloc: Heap,
-        zones: &[Zone<I>],
-        message: &Message<'_>,
-        transport: Transport,
-    ) -> Result<Vec<u8, Heap>, AllocError>
-        requires { IsForReply message.now transport }
-        ensures { IfOk result (λ octets. handled_as zones.now message.now.octets transport (Some message.now.message) ≡ Replies octets.items) };
-}
-
-/// The header of a reply with no question and no record.
+/// The reply with no question and no record: the ID and the OPCODE of the request, RD where it is a query, and the RCODE
+/// (RFC 1035 section 4.1.1). The response code is below 16.
 pub fn header_only(request: &[u8; 12], rcode: u8) -> [u8; 12]
     requires { rcode < 16 }
     ensures { result ≡ text (bare_reply (header_of request.now) rcode) }

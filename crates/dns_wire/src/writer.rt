@@ -1,43 +1,103 @@
-ghost use Rattle.std.specs.Prelude.{◌≡◌, ℕ, List, [], ◌+◌, ◌++◌, ◌<◌, ◌≤◌, Err, IfOk, length};
-ghost use Rattle.dns_wire.specs.Reply.{stated};
-ghost use Rattle.dns_wire.specs.Text.{Reply as Stated, text};
+ghost use Rattle.std.specs.Int.{w16, to_be_bytes as be_octets};
+ghost use Rattle.std.specs.Prelude.{◌≡◌, ℕ, List, [], ◌+◌, ◌++◌, ◌<◌, ◌≤◌, Err, IfOk, IfErr, OnOk, length};
+ghost use Rattle.dns_wire.specs.Puts.{Wrote, RefusesUpTo, asked};
+ghost use Rattle.dns_wire.specs.Reply.{echo, stated};
+ghost use Rattle.dns_wire.specs.Text.{Reply as Stated, text, header_octets};
 ghost use Rattle.dns_names.specs.Name.{Labels};
 ghost use Rattle.dns_wire.specs.Pack.{Place, pack_name, new_places};
 ghost use Rattle.dns_wire.specs.Packed.{Used, StandsAt, IsWritten, AreThePlaces, IsPacked, and_field};
 
-use crate::WireError;
+use crate::packer::Packer;
+use crate::{Echo, Reply, ReplyRecord, WireError};
 use dns_memory::Heap;
-use dns_names::Name;
-use dns_records::Record;
 
-/// A question as it came, octet for octet, and its name.
-#[derive(Drop)]
-pub struct Echo {
-    pub octets: Vec<u8, Heap>,
-    pub name: Name,
+/// Writes messages.
+pub struct Writer;
+
+/// How many records a section has, as the header says it.
+fn count(records: &[ReplyRecord<'_>]) -> Result<[u8; 2], WireError>
+    ensures found { IfOk result (λ octets. octets ≡ be_octets w16 (length records.now)) }
+    ensures refused { IfErr result (λ e. (e ≡ WireError.DoesNotFit) × (65535 < length records.now)) }
+{
+    match u16::try_from(records.len()) {
+        Ok(count) => Ok(count.to_be_bytes()),
+        Err(_) => Err(WireError::DoesNotFit),
+    }
 }
 
-/// What is to be written.
-#[derive(Drop)]
-pub struct Reply {
-    pub id: u16,
-    pub opcode: u8,
-    pub aa: bool,
-    pub tc: bool,
-    pub rd: bool,
-    pub rcode: u8,
-    pub question: Option<Echo>,
-    pub answer: Vec<Record, Heap>,
-    pub authority: Vec<Record, Heap>,
-    pub additional: Vec<Record, Heap>,
+/// The header of a reply (RFC 1035 section 4.1.1).
+fn header(reply: &Reply<'_>) -> Result<[u8; 12], WireError>
+    requires { reply.now.opcode < 16 }
+    ensures found { IfOk result (λ octets. octets ≡ header_octets (stated reply.now)) }
+    ensures refused { IfErr result (λ e. (e ≡ WireError.DoesNotFit) × (65535 < length reply.now.answer.items + length reply.now.authority.items + length reply.now.additional.items)) }
+{
+    let id = reply.id.to_be_bytes();
+    let questions = if reply.question.is_some() { 1 } else { 0 };
+    let answers = count(reply.answer.as_slice())?;
+    let authorities = count(reply.authority.as_slice())?;
+    let additionals = count(reply.additional.as_slice())?;
+    let flags = 128 + 8 * reply.opcode + 4 * reply.aa as u8 + 2 * reply.tc as u8 + reply.rd as u8;
+    Ok([
+        id[0],
+        id[1],
+        flags,
+        reply.rcode,
+        0,
+        questions,
+        answers[0],
+        answers[1],
+        authorities[0],
+        authorities[1],
+        additionals[0],
+        additionals[1],
+    ])
 }
 
-/// What is promised of writing, and not proved yet.
-pub trait WritesReplies {
-    /// The one packed text of a reply.
-    fn write(alloc: Heap, reply: &Reply, limit: usize) -> Result<Vec<u8, Heap>, WireError>
+impl<'a> Packer<'a> {
+    /// Writes the question of a reply as it came, behind the header.
+    fn put_question(&mut self, question: &Option<Echo<'a>>) -> Result<(), WireError>
+        requires header { length self.old.octets.items ≡ 12 }
+        requires first { self.old.places.items ≡ [] }
+        requires room { length self.old.octets.items ≤ self.old.limit }
+        ensures written { OnOk result (Wrote self.old.limit self.old.octets.items self.new.octets.items self.new.limit self.new.places.items (asked (echo question.now))) }
+        ensures refused { IfErr result (RefusesUpTo self.old.limit (length self.old.octets.items + length (asked (echo question.now)).octets)) }
+    {
+        if let Some(echo) = question {
+            self.put(echo.octets)?;
+            self.note_name(12, echo.name.as_wire())?;
+        }
+        Ok(())
+    }
+}
+
+impl Writer {
+    /// The one packed text of a reply (RFC 1035 section 4.1), if it has at most so many octets: a datagram takes 512,
+    /// and the length before a message on a stream tells at most 65,535 (RFC 1035 section 4.2). It refuses with `DoesNotFit`
+    /// where the text is longer, and with `OutOfMemory` where memory is wanting.
+    pub fn write(alloc: Heap, reply: &Reply<'_>, limit: usize) -> Result<Vec<u8, Heap>, WireError>
+        requires opcode { reply.now.opcode < 16 }
+        requires rcode { reply.now.rcode < 16 }
+        requires limit { limit < 65536 }
         ensures found { IfOk result (λ octets. (octets.items ≡ text (stated reply.now)) × (length octets.items ≤ limit)) }
-        ensures too_long { (result ≡ Err WireError.DoesNotFit) → (limit < length (text (stated reply.now))) };
+        ensures refused { IfErr result (RefusesUpTo limit (length (text (stated reply.now)))) }
+    {
+        let mut packer = Packer {
+            octets: Vec::with_capacity(alloc, 512)?,
+            places: Vec::with_capacity(alloc, 32)?,
+            limit,
+        };
+        packer.put(&header(reply)?)?;
+        packer.put_question(&reply.question)?;
+        packer.put_records(reply.answer.as_slice())?;
+        packer.put_records(reply.authority.as_slice())?;
+        packer.put_records(reply.additional.as_slice())?;
+        let Packer {
+            octets,
+            places: _,
+            limit: _,
+        } = packer;
+        Ok(octets)
+    }
 }
 
 /// A reply has at most one packed text. The computed packing writes a name as it is to be written, and keeps its table

@@ -1,6 +1,6 @@
 use Rattle.std.proofs.Common.{◌≡◌, false, sym, subst, ◌∙◌}
 use Rattle.std.specs.Prelude.{IfNone}
-use Rattle.dns_lookup.proofs.Nearest.{among, nearest_here, nearest_step, nearest_end}
+use Rattle.dns_lookup.proofs.Upward.{among, nearest_here, nearest_step, nearest_end}
 use Rattle.dns_lookup.proofs.zones.nearest.Goals as goal
 
 pub returns-in-Some-clause-found : goal.returns-in-Some-clause-found

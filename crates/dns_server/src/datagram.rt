@@ -1,0 +1,86 @@
+//! The reply to a datagram.
+ghost use Rattle.std.specs.Prelude.{◌≡◌, ◌<◌, ◌≤◌, ◌==◌, ◌&&◌, ◌||◌, nat_lt, length, IfOk, option_map};
+ghost use Rattle.dns_wire.specs.Message.{header_of};
+ghost use Rattle.dns_wire.specs.Text.{text};
+ghost use Rattle.dns_answer.specs.Answer.{bare_reply, is_request};
+ghost use Rattle.dns_server.specs.Served.{served, sent};
+
+use crate::question::answer_question;
+use dns_answer::header_only;
+use dns_memory::Heap;
+use dns_wire::{Message, at_most_one};
+use dns_zone::{Zone, ZoneIndex};
+use std::alloc::AllocError;
+
+/// A reply that is a header alone.
+pub(crate) fn refusal(alloc: Heap, octets: &[u8], rcode: u8) -> Result<Vec<u8, Heap>, AllocError>
+    requires header { 12 ≤ length octets.now }
+    requires rcode { rcode < 16 }
+    ensures { IfOk result (λ reply. reply.items ≡ text (bare_reply (header_of octets.now) rcode)) }
+{
+    let mut header = [0; 12];
+    header.copy_from_slice(&octets[..12]);
+    Vec::from_slice(alloc, &header_only(&header, rcode))
+}
+
+/// Whether nothing is answered: there is no whole header, or it is that of a response.
+fn is_unanswered(octets: &[u8]) -> bool
+    ensures { result ≡ (nat_lt (length octets.now) 12 || (header_of octets.now).qr) }
+{
+    octets.len() < 12 || octets[2] / 128 % 2 == 1
+}
+
+/// The kind of a request, OPCODE.
+fn opcode_of(octets: &[u8]) -> u8
+    requires { 12 ≤ length octets.now }
+    ensures value { result ≡ (header_of octets.now).opcode }
+    ensures bound { result < 16 }
+{
+    octets[2] / 8 % 16
+}
+
+/// Whether the message has the counts of a request: one question, no additional records, and in a query no others but those
+/// of an IXFR (RFC 1995 section 3).
+fn has_counts_of_request(message: &Message<'_>) -> bool
+    ensures { result ≡ is_request message.now.message }
+{
+    let Some(question) = message.question() else {
+        return false;
+    };
+    let is_update = message.opcode() == 5;
+    let is_ixfr = question.qtype() == 251;
+    let is_bare = (message.answer_count() == 0) & ((message.authority_count() == 0) | is_ixfr);
+    (message.additional_count() == 0) & (is_update | is_bare)
+}
+
+/// The reply to a datagram, if it gets one: what the definition of a reply gives for these octets, where the request is refused or
+/// asks for addresses that stand at the name itself, and NOTIMP for all else.
+pub fn answer_datagram<I: ZoneIndex>(
+    alloc: Heap,
+    zones: &[Zone<I>],
+    octets: &[u8],
+) -> Result<Option<Vec<u8, Heap>>, AllocError>
+    ensures { IfOk result (λ reply. served zones.now octets.now ≡ sent (option_map (λ v. v.items) reply)) }
+{
+    if is_unanswered(octets) {
+        return Ok(None);
+    }
+    let opcode = opcode_of(octets);
+    if opcode != 0 && opcode != 5 {
+        return Ok(Some(refusal(alloc, octets, 4)?));
+    }
+    if octets.len() > 512 {
+        return Ok(Some(refusal(alloc, octets, 1)?));
+    }
+    at_most_one();
+    let Ok(message) = Message::read(octets) else {
+        return Ok(Some(refusal(alloc, octets, 1)?));
+    };
+    if !has_counts_of_request(&message) {
+        return Ok(Some(refusal(alloc, octets, 1)?));
+    }
+    match message.question() {
+        Some(question) => Ok(Some(answer_question(alloc, zones, &message, &question)?)),
+        None => Ok(None),
+    }
+}

@@ -1,0 +1,61 @@
+-- What an attempt to write more octets of a message does.
+use Rattle.std.specs.Prelude.{◌≡◌, ℕ, ◌+◌, ◌<◌, ◌≤◌, List, [], ◌∷◌, ◌++◌, length, nat_lt, if◌then◌else◌, Option, Some, None}
+use Rattle.std.specs.Int.{w16, w32, to_be_bytes}
+use Rattle.dns_records.specs.Types.{class_in}
+use Rattle.dns_names.specs.Name.{Labels, IsName, wire}
+use Rattle.dns_records.specs.Record.{Record}
+use Rattle.dns_wire.specs.Pack.{Place, Packing, new_places, packed_record}
+use Rattle.dns_wire.specs.Text.{Echo}
+use Rattle.dns_wire.specs.declared.WireError.{WireError}
+use Rattle.dns_wire.specs.declared.WireError.TheVariants.{OutOfMemory, Short, BadPointer, ReservedLabel, NameTooLong, Cut, Trailing, BadData, DoesNotFit}
+
+-- More octets stand behind those that stood, within the limit, and the table of places is as said.
+pub record Wrote (limit : ℕ) (before after : List ℕ) (limit' : ℕ) (places' : List Place) (more : Packing) : Type 0 where
+  pub octets : after ≡ before ++ more.octets
+  pub places : places' ≡ more.places
+  pub fits : length after ≤ limit
+  pub same : limit' ≡ limit
+
+-- Why octets up to a length aren't written: they are more than the limit, or memory is wanting.
+abbrev pub RefusesUpTo : ℕ → ℕ → WireError → Type 0
+RefusesUpTo limit size OutOfMemory = Unit {0}
+RefusesUpTo limit size DoesNotFit = limit < size
+RefusesUpTo limit size Short = ⊥
+RefusesUpTo limit size BadPointer = ⊥
+RefusesUpTo limit size ReservedLabel = ⊥
+RefusesUpTo limit size NameTooLong = ⊥
+RefusesUpTo limit size Cut = ⊥
+RefusesUpTo limit size Trailing = ⊥
+RefusesUpTo limit size BadData = ⊥
+
+-- Octets alone, which add no place.
+abbrev pub plain_octets : List Place → List ℕ → Packing
+plain_octets places octets = record { octets = octets; places = places }
+
+-- Records one behind the other, and the places behind them.
+abbrev pub packed_all : List Place → ℕ → List Record → Packing
+packed_all places at [] = record { octets = []; places = places }
+packed_all places at (r ∷ rs) =
+    let here = packed_record places at r in
+    let after = packed_all here.places (at + length here.octets) rs in
+    record { octets = here.octets ++ after.octets; places = after.places }
+
+-- The plain form of a name stands at the front of the octets.
+pub record BeginsWithName (octets : List ℕ) : Type 0 where
+  pub name : Labels
+  pub rest : List ℕ
+  pub valid : IsName name
+  pub is : octets ≡ wire name ++ rest
+
+-- What stands between the owner and the data of a record, with no length of the data yet.
+abbrev pub fixed_octets : ℕ → ℕ → List ℕ
+fixed_octets rtype ttl = to_be_bytes w16 rtype ++ to_be_bytes w16 class_in ++ to_be_bytes w32 ttl ++ 0 ∷ 0 ∷ []
+
+-- The place of a suffix, if a pointer can name it.
+abbrev pub noted : ℕ → Labels → List Place
+noted at name = if nat_lt at 16384 then record { offset = at; suffix = name } ∷ [] else []
+
+-- The question of a reply, and the places of its name.
+abbrev pub asked : Option Echo → Packing
+asked None = record { octets = []; places = [] }
+asked (Some q) = record { octets = q.octets; places = new_places [] 12 q.name }

@@ -1,0 +1,43 @@
+ghost use Rattle.std.specs.Prelude.{◌≡◌, ◌+◌, ◌≤◌, ◌++◌, length, map, take, drop};
+ghost use Rattle.std.specs.Char.{to_ascii_lowercase};
+ghost use Rattle.dns_names.specs.Name.{wire};
+ghost use Rattle.dns_wire.specs.Viewed.{labels_at, IsViewed};
+
+use crate::name::{RunEnd, step};
+
+/// Writes octets in lower case over those from an offset on.
+fn copy_lower(text: &[u8], out: &mut [u8], at: usize)
+    requires { at + length text.now ≤ length out.old }
+    ensures { out.new ≡ take at out.old ++ map to_ascii_lowercase text.now ++ drop (at + length text.now) out.old }
+{
+    let field = &mut out[at..at + text.len()];
+    field.copy_from_slice(text);
+    field.make_ascii_lowercase();
+}
+
+/// Writes the plain form of the name that stands at an offset, in lower case, and gives its length.
+pub(crate) fn copy_plain(message: &[u8], at: usize, out: &mut [u8]) -> usize
+    requires there { IsViewed message.now at }
+    requires room { 255 ≤ length out.old }
+    ensures plain { take result out.new ≡ wire (labels_at message.now at) }
+    ensures inside { result ≤ length out.new }
+{
+    let mut run = at;
+    let mut size = 0;
+    'runs: loop {
+        let Ok(end) = step(message, run, 254 - size) else {
+            return 0;
+        };
+        match end {
+            RunEnd::Root { stop } => {
+                copy_lower(&message[run..stop + 1], out, size);
+                return size + (stop + 1 - run);
+            }
+            RunEnd::Pointer { stop, target } => {
+                copy_lower(&message[run..stop], out, size);
+                size += stop - run;
+                run = target;
+            }
+        }
+    }
+}

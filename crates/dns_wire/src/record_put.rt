@@ -1,0 +1,118 @@
+ghost use Rattle.std.specs.Prelude.{◌≡◌, ◌+◌, ◌-◌, ◌<◌, ◌≤◌, ◌++◌, length, take, drop, IfErr, OnOk};
+ghost use Rattle.std.specs.Int.{w16, to_be_bytes as be_octets};
+ghost use Rattle.dns_names.specs.Name.{labels_of, wire};
+ghost use Rattle.dns_names.specs.Plain.{IsPlain};
+ghost use Rattle.dns_records.specs.Record.{AreFields};
+ghost use Rattle.dns_records.specs.Fields.{stated_fields};
+ghost use Rattle.dns_wire.specs.Pack.{packed_fields, packed_rdata, packed_record};
+ghost use Rattle.dns_wire.specs.Puts.{Wrote, RefusesUpTo, BeginsWithName, fixed_octets, packed_all};
+
+use crate::packer::Packer;
+use crate::{ReplyRecord, WireError};
+use dns_records::{Field, form};
+
+/// The name at the front of plain octets, and the octets behind it.
+fn split_name(octets: &[u8]) -> (&[u8], &[u8])
+    requires { BeginsWithName octets.now }
+    ensures plain { IsPlain result.0.now }
+    ensures labels { labels_of result.0.now ≡ labels_of octets.now }
+    ensures behind { result.1.now ≡ drop (length (wire (labels_of octets.now))) octets.now }
+{
+    let mut root = 0;
+    'labels: while octets[root] != 0 {
+        root += 1 + octets[root] as usize;
+    }
+    octets.split_at(root + 1)
+}
+
+/// The octets of a record between its owner and its data, with 0 for the length of the data (RFC 1035 section 4.1.3).
+fn fixed(rtype: u16, ttl: u32) -> [u8; 10]
+    ensures { result ≡ fixed_octets rtype ttl }
+{
+    let t = rtype.to_be_bytes();
+    let l = ttl.to_be_bytes();
+    [t[0], t[1], 0, 1, l[0], l[1], l[2], l[3], 0, 0]
+}
+
+impl<'a> Packer<'a> {
+    /// Writes the parts of the data of a record. Targets stand in full, and no pointer names them (RFC 2782).
+    fn put_fields(&mut self, fields: &[Field], rdata: &'a [u8]) -> Result<(), WireError>
+        requires form { AreFields (stated_fields fields.now) rdata.now }
+        requires room { length self.old.octets.items ≤ self.old.limit }
+        ensures written { OnOk result (Wrote self.old.limit self.old.octets.items self.new.octets.items self.new.limit self.new.places.items (packed_fields self.old.places.items (length self.old.octets.items) (stated_fields fields.now) rdata.now)) }
+        ensures refused { IfErr result (RefusesUpTo self.old.limit (length self.old.octets.items + length (packed_fields self.old.places.items (length self.old.octets.items) (stated_fields fields.now) rdata.now).octets)) }
+    {
+        let mut rest = rdata;
+        for field in fields.iter() {
+            match *field {
+                Field::Octets(n) => {
+                    let (front, behind) = rest.split_at(n);
+                    self.put(front)?;
+                    rest = behind;
+                }
+                Field::Name => {
+                    let (name, behind) = split_name(rest);
+                    self.put_name(name)?;
+                    rest = behind;
+                }
+                Field::Target => return self.put(rest),
+                Field::Strings => return self.put(rest),
+            }
+        }
+        self.put(rest)
+    }
+
+    /// Writes the length of the data that begins at an offset into the two octets before it.
+    fn put_size(&mut self, start: usize)
+        requires up { 2 ≤ start }
+        requires inside { start ≤ length self.old.octets.items }
+        requires small { length self.old.octets.items - start < 65536 }
+        ensures octets { self.new.octets.items ≡ take (start - 2) self.old.octets.items ++ be_octets w16 (length self.old.octets.items - start) ++ drop start self.old.octets.items }
+        ensures places { self.new.places.items ≡ self.old.places.items }
+        ensures limit { self.new.limit ≡ self.old.limit }
+    {
+        let size = (self.octets.len() - start) as u16;
+        self.octets.as_mut_slice()[start - 2..start].copy_from_slice(&size.to_be_bytes());
+    }
+
+    /// Writes the data of a record, by the form of its type.
+    fn put_rdata(&mut self, one: &ReplyRecord<'a>) -> Result<(), WireError>
+        requires room { length self.old.octets.items ≤ self.old.limit }
+        ensures written { OnOk result (Wrote self.old.limit self.old.octets.items self.new.octets.items self.new.limit self.new.places.items (packed_rdata self.old.places.items (length self.old.octets.items) one.now)) }
+        ensures refused { IfErr result (RefusesUpTo self.old.limit (length self.old.octets.items + length (packed_rdata self.old.places.items (length self.old.octets.items) one.now).octets)) }
+    {
+        let rdata = one.rdata();
+        match form(one.rtype()) {
+            Some(fields) => self.put_fields(fields, rdata),
+            None => self.put(rdata),
+        }
+    }
+
+    /// Writes a record (RFC 1035 section 4.1.3).
+    fn put_record(&mut self, one: &ReplyRecord<'a>) -> Result<(), WireError>
+        requires room { length self.old.octets.items ≤ self.old.limit }
+        requires small { self.old.limit < 65536 }
+        ensures written { OnOk result (Wrote self.old.limit self.old.octets.items self.new.octets.items self.new.limit self.new.places.items (packed_record self.old.places.items (length self.old.octets.items) one.now)) }
+        ensures refused { IfErr result (RefusesUpTo self.old.limit (length self.old.octets.items + length (packed_record self.old.places.items (length self.old.octets.items) one.now).octets)) }
+    {
+        self.put_name(one.owner().as_wire())?;
+        self.put(&fixed(one.rtype(), one.ttl()))?;
+        let start = self.octets.len();
+        self.put_rdata(one)?;
+        self.put_size(start);
+        Ok(())
+    }
+
+    /// Writes records one behind the other.
+    pub(crate) fn put_records(&mut self, records: &[ReplyRecord<'a>]) -> Result<(), WireError>
+        requires room { length self.old.octets.items ≤ self.old.limit }
+        requires small { self.old.limit < 65536 }
+        ensures written { OnOk result (Wrote self.old.limit self.old.octets.items self.new.octets.items self.new.limit self.new.places.items (packed_all self.old.places.items (length self.old.octets.items) records.now)) }
+        ensures refused { IfErr result (RefusesUpTo self.old.limit (length self.old.octets.items + length (packed_all self.old.places.items (length self.old.octets.items) records.now).octets)) }
+    {
+        for one in records.iter() {
+            self.put_record(one)?;
+        }
+        Ok(())
+    }
+}

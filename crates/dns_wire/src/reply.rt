@@ -1,0 +1,96 @@
+ghost use Rattle.std.specs.Prelude.{◌≡◌};
+ghost use Rattle.dns_records.specs.Record.{IsRecord};
+
+use dns_memory::Heap;
+use dns_names::NameRef;
+use dns_records::Record;
+use std::marker::Model;
+
+/// A record as a reply gives it: that of a zone, lent, with the owner and the TTL that go out.
+#[derive(Drop)]
+pub struct ReplyRecord<'a> {
+    owner: NameRef<'a>,
+    ttl: u32,
+    record: &'a Record,
+}
+
+impl<'a> Model for ReplyRecord<'a> {
+    ghost use Rattle.std.specs.Prelude.{◌<◌, ◌^◌};
+    ghost use Rattle.dns_records.specs.Record.{Record as Stated};
+
+    ghost Value = { Stated };
+
+    ghost view = { λ r. record { owner = r.owner; rtype = r.record.now.rtype; ttl = r.ttl; rdata = r.record.now.rdata } };
+
+    ghost invariant = { λ r. r.ttl < 2 ^ 32 };
+}
+
+impl<'a> ReplyRecord<'a> {
+    /// The record of a zone under another owner and with another TTL.
+    pub fn new(owner: NameRef<'a>, ttl: u32, record: &'a Record) -> ReplyRecord<'a>
+        ensures owner { result.owner ≡ owner.entry }
+        ensures ttl { result.ttl ≡ ttl }
+        ensures rtype { result.rtype ≡ record.now.rtype }
+        ensures rdata { result.rdata ≡ record.now.rdata }
+    {
+        ReplyRecord { owner, ttl, record }
+    }
+
+    /// The owner that goes out.
+    pub fn owner(&self) -> NameRef<'a>
+        ensures { result ≡ self.now.owner }
+    {
+        self.owner.again()
+    }
+
+    /// The type of the record.
+    pub fn rtype(&self) -> u16
+        ensures { result ≡ self.now.rtype }
+    {
+        self.record.rtype()
+    }
+
+    /// The TTL that goes out, in seconds.
+    pub fn ttl(&self) -> u32
+        ensures { result ≡ self.now.ttl }
+    {
+        self.ttl
+    }
+
+    /// The data in plain form.
+    pub fn rdata(&self) -> &'a [u8]
+        ensures octets { result.now ≡ self.now.rdata }
+        ensures valid { IsRecord self.now }
+    {
+        let _owner = self.owner.as_wire();
+        self.record.rdata()
+    }
+}
+
+/// A question as it came, octet for octet, and its name.
+#[derive(Drop)]
+pub struct Echo<'a> {
+    pub octets: &'a [u8],
+    pub name: NameRef<'a>,
+}
+
+/// What is to be written: a response, without recursion (RFC 1035 section 4.1).
+#[derive(Drop)]
+pub struct Reply<'a> {
+    /// The number of the request.
+    pub id: u16,
+    /// The kind of the request, below 16.
+    pub opcode: u8,
+    /// Whether the answer is authoritative.
+    pub aa: bool,
+    /// Whether records are left out for want of room.
+    pub tc: bool,
+    /// Whether recursion was desired.
+    pub rd: bool,
+    /// The response code, below 16.
+    pub rcode: u8,
+    pub question: Option<Echo<'a>>,
+    pub answer: Vec<ReplyRecord<'a>, Heap>,
+    pub authority: Vec<ReplyRecord<'a>, Heap>,
+    pub additional: Vec<ReplyRecord<'a>, Heap>,
+}
