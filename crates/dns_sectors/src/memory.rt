@@ -1,43 +1,62 @@
 // Sectors in memory, with a record of the writes and syncs that were made, so that each crash can be tried.
 ghost use Rattle.std.specs.Prelude.{◌≡◌, ◌≤◌, ◌<◌, ◌+◌, ◌-◌, ◌^◌, ◌⊎◌, ◌++◌, [], ◌∷◌, List, length, replicate, vec_len, vec_capacity, slice_set, false, if◌then◌else◌, IfOk, OnOk, IsErr};
-ghost use Rattle.dns_sectors.specs.Record.{contents, durable as durable_after, pending_after, MayBeLeft, LeftSince};
+ghost use Rattle.dns_sectors.specs.Crash.{applied, contents, MayBeLeft};
+ghost use Rattle.dns_sectors.specs.Record.{disk_of, LeftSince};
 ghost use Rattle.dns_sectors.specs.Phase.{pairs};
 ghost use Rattle.dns_sectors.specs.Kept.{kept};
-ghost use Rattle.dns_sectors.specs.Crash.{applied};
-ghost use Rattle.dns_sectors.specs.Laws.{seen_is_left, now_is_since, since_now, length-contents};
-ghost use Rattle.std.proofs.Common.{refl};
+ghost use Rattle.dns_sectors.specs.Laws.{contents_may_be_left, now_is_since, since_now, same_contents};
 
 use crate::plan::{Plan, Turn};
 use crate::{DeviceError, Sector, SectorWrite, Sectors};
 use dns_memory::Heap;
 use std::alloc::AllocError;
+use std::marker::Model;
 use std::rc::Rc;
 
-/// A call that changed the device.
+/// A write or a sync, as the record of a device in memory has it.
 #[derive(Clone, Copy)]
 pub enum Call {
+    /// A write, to this sector and of these octets, that joined the pending writes.
     Wrote(usize, Sector),
+    /// A sync that succeeded.
     Synced,
+    /// A write or a sync that failed and had no effect.
+    Failed,
 }
 
+/// A device in memory, which is always honest. Contracts see it as the sectors that it began with, its record of
+/// the writes and syncs since, the room of that record, and the count of failures.
 #[derive(Drop)]
 pub struct MemorySectors {
     plan: Rc<Plan, Heap>,
+    // the sectors when the record began
     start: Vec<Sector, Heap>,
+    // what reads give
     current: Vec<Sector, Heap>,
     durable: Vec<Sector, Heap>,
     pending: Vec<SectorWrite, Heap>,
     calls: Vec<Call, Heap>,
     failures: u64,
-    ghost reads: { current.items ≡ contents calls.items start.items },
-    ghost durable_is: { durable.items ≡ durable_after calls.items [] start.items },
-    ghost pending_is: { pairs pending.items ≡ pending_after calls.items [] },
 }
 
-/// Which pending writes a crash keeps, by their numbers from 1.
+impl Model for MemorySectors {
+    ghost use Rattle.dns_sectors.specs.Record.{Recorded};
+
+    ghost Value = { Recorded };
+
+    ghost use Rattle.dns_sectors.specs.Holds.{recorded, Agrees};
+
+    ghost view = { recorded };
+
+    ghost invariant = { Agrees };
+}
+
+/// Which pending writes a crash keeps.
 #[derive(Clone, Copy)]
 pub enum Keep<'a> {
+    /// All of them.
     All,
+    /// Those with these numbers, the oldest being 1. A number above their count keeps nothing.
     These(&'a [u64]),
 }
 
@@ -55,17 +74,20 @@ impl Keep<'_> {
 }
 
 impl MemorySectors {
-    /// Sectors of zeros, with room for a record of so many calls.
+    ghost use Rattle.std.specs.Prelude.{◌≡◌, [], length, replicate, IfOk};
+    ghost use Rattle.dns_sectors.specs.Crash.{applied, MayBeLeft};
+    ghost use Rattle.dns_sectors.specs.Record.{disk_of};
+    ghost use Rattle.dns_sectors.specs.Kept.{kept};
+
+    /// As many sectors of zeros, with room for a record of so many writes and syncs: one beyond that fails, and is
+    /// counted but not recorded. Refused where the memory for the sectors or the record is.
     pub fn new(
         alloc: Heap,
         len: usize,
         calls: usize,
         plan: Rc<Plan, Heap>,
     ) -> Result<MemorySectors, AllocError>
-        ensures zeros { IfOk result (λ device. device.start.items ≡ replicate len (replicate 512 0)) }
-        ensures nothing_made { IfOk result (λ device. device.calls.items ≡ []) }
-        ensures room { IfOk result (λ device. vec_capacity device.calls ≡ calls) }
-        ensures no_failure { IfOk result (λ device. device.failures ≡ 0) }
+        ensures { IfOk result (λ device. device ≡ record { start = replicate len (replicate 512 0); calls = []; room = calls; failures = 0 }) }
     {
         let start = zeros(alloc, len)?;
         let current = zeros(alloc, len)?;
@@ -82,32 +104,19 @@ impl MemorySectors {
             failures: 0,
         })
     }
-}
 
-impl MemorySectors {
-    // No call more can be recorded.
-    fn is_full(&self) -> bool
-        ensures calls { result ≡ false → vec_len self.now.calls < vec_capacity self.now.calls }
-        ensures pending { result ≡ false → vec_len self.now.pending < vec_capacity self.now.pending }
-    {
-        self.calls.len() >= self.calls.capacity() || self.pending.len() >= self.pending.capacity()
-    }
-}
-
-impl MemorySectors {
     /// How many writes are pending.
     pub fn pending(&self) -> usize
-        ensures { result ≡ length (pending_after self.now.calls.items []) }
+        ensures { result ≡ length (disk_of self.now).pending }
     {
         self.pending.len()
     }
 
-    /// The device after a crash that keeps these of the pending writes. Its record is empty.
+    /// The device after a crash that keeps these of the pending writes, each whole and in order. Its record is
+    /// empty, and has the same room.
     pub fn crash(self, keep: Keep) -> MemorySectors
-        ensures sectors { result.start.items ≡ applied (kept keep.entry 1 (pending_after self.calls.items [])) (durable_after self.calls.items [] self.start.items) }
-        ensures nothing_made { result.calls.items ≡ [] }
-        ensures room { vec_capacity result.calls ≡ vec_capacity self.calls }
-        ensures failures { result.failures ≡ self.failures }
+        ensures kept { result ≡ record { start = applied (kept keep.entry 1 (disk_of self).pending) (disk_of self).durable; calls = []; room = self.room; failures = self.failures } }
+        ensures outcome { MayBeLeft (disk_of self) result.start }
     {
         let MemorySectors {
             plan,
@@ -167,35 +176,81 @@ fn zeros(alloc: Heap, len: usize) -> Result<Vec<Sector, Heap>, AllocError>
     Ok(sectors)
 }
 
-// One failure more, up to the last number.
-fn count_failure(failures: &mut u64)
-    ensures { (failures.old < failures.new) ⊎ ((failures.old ≡ 2 ^ 64 - 1) × (failures.new ≡ failures.old)) }
-{
-    *failures = failures.saturating_add(1);
+impl MemorySectors {
+    ghost use Rattle.std.specs.Prelude.{◌≡◌, ◌≤◌, ◌<◌, ◌+◌, ◌-◌, ◌^◌, ◌↔◌, IsTrue, length, min};
+    ghost use Rattle.dns_sectors.specs.Record.{noted};
+
+    // The record has room for no call more.
+    fn is_full(&self) -> bool
+        ensures { IsTrue result ↔ self.now.room ≤ length self.now.calls }
+    {
+        self.calls.len() >= self.calls.capacity()
+    }
+
+    // Counts a failure, up to the last number.
+    fn fail(&mut self) -> DeviceError
+        ensures counted { self.new ≡ record self.old { failures = min (self.old.failures + 1) (2 ^ 64 - 1) } }
+        ensures fits { self.old.failures ≤ 2 ^ 64 - 1 }
+    {
+        self.failures = self.failures.saturating_add(1);
+        DeviceError::Device
+    }
+
+    // Notes a write or a sync that has no effect.
+    fn note_failed(&mut self)
+        requires { length self.old.calls < self.old.room }
+        ensures { self.new ≡ noted self.old Call.Failed }
+    {
+        self.calls.push_reserved(Call::Failed);
+    }
+
+    // Notes a write, and makes it.
+    fn note_write(&mut self, at: usize, octets: &Sector)
+        requires room { length self.old.calls < self.old.room }
+        requires within { at < length self.old.start }
+        ensures { self.new ≡ noted self.old (Call.Wrote at octets.now) }
+    {
+        self.calls.push_reserved(Call::Wrote(at, *octets));
+        self.pending.push_reserved(SectorWrite {
+            at,
+            octets: *octets,
+        });
+        self.current[at] = *octets;
+    }
+
+    // Notes a sync, and makes all that is pending durable.
+    fn note_sync(&mut self)
+        requires { length self.old.calls < self.old.room }
+        ensures { self.new ≡ noted self.old Call.Synced }
+    {
+        self.calls.push_reserved(Call::Synced);
+        self.pending.clear();
+        self.durable.copy_from_slice(&self.current);
+    }
 }
 
 impl Sectors for MemorySectors {
-    ghost count = { λ d. length d.current.items };
+    ghost count = { λ device. length device.start };
 
-    ghost seen = { λ d. d.current.items };
+    ghost seen = { λ device. contents (disk_of device) };
 
-    ghost may_leave = { λ d. MayBeLeft d.start.items d.calls.items };
+    ghost may_leave = { λ device. MayBeLeft (disk_of device) };
 
-    ghost moment = { λ d. length d.calls.items };
+    ghost moment = { λ device. length device.calls };
 
-    ghost left_since = { λ d. LeftSince d.start.items d.calls.items };
+    ghost left_since = { LeftSince };
 
-    ghost failed = { λ d. d.failures };
+    ghost failed = { λ device. device.failures };
 
     ghost is_honest = { λ _. Unit {0} };
 
-    ghost seen_may_stay = { λ d _. seen_is_left d.start.items d.calls.items d.current.items d.reads };
+    ghost seen_may_stay = { λ device _. contents_may_be_left (disk_of device) };
 
-    ghost counts_now = { λ d t c _. now_is_since d.start.items d.calls.items t c };
+    ghost counts_now = { λ device t c _. now_is_since device t c };
 
-    ghost only_now = { λ d c _. since_now d.start.items d.calls.items c };
+    ghost only_now = { λ device c _. since_now device c };
 
-    ghost all_seen = { λ d _. refl };
+    ghost all_seen = { λ device _. same_contents device };
 
     fn len(&self) -> usize {
         self.current.len()
@@ -207,64 +262,37 @@ impl Sectors for MemorySectors {
 
     fn read(&mut self, at: usize) -> Result<Sector, DeviceError> {
         if self.plan.stopped() {
-            count_failure(&mut self.failures);
-            return Err(DeviceError::Device);
+            return Err(self.fail());
         }
         Ok(self.current[at])
     }
 
     fn write(&mut self, at: usize, octets: &Sector) -> Result<(), DeviceError> {
         let turn = self.plan.turn();
-        if self.is_full() || turn == Turn::Fails {
-            count_failure(&mut self.failures);
-            return Err(DeviceError::Device);
+        if self.is_full() {
+            return Err(self.fail());
         }
-        record_write(
-            &mut self.calls,
-            &mut self.pending,
-            &mut self.current,
-            at,
-            octets,
-        );
+        if turn == Turn::Fails {
+            self.note_failed();
+            return Err(self.fail());
+        }
+        self.note_write(at, octets);
         if turn == Turn::Stops {
-            count_failure(&mut self.failures);
-            return Err(DeviceError::Device);
+            return Err(self.fail());
         }
         Ok(())
     }
 
     fn sync(&mut self) -> Result<(), DeviceError> {
         let turn = self.plan.turn();
-        if self.is_full() || turn != Turn::Done {
-            count_failure(&mut self.failures);
-            return Err(DeviceError::Device);
+        if self.is_full() {
+            return Err(self.fail());
         }
-        self.calls.push_reserved(Call::Synced);
-        self.pending.clear();
-        self.durable.copy_from_slice(&self.current);
+        if turn != Turn::Done {
+            self.note_failed();
+            return Err(self.fail());
+        }
+        self.note_sync();
         Ok(())
     }
-}
-
-// Notes a write and makes it.
-fn record_write(
-    calls: &mut Vec<Call, Heap>,
-    pending: &mut Vec<SectorWrite, Heap>,
-    now: &mut Vec<Sector, Heap>,
-    at: usize,
-    octets: &Sector,
-)
-    requires room { vec_len calls.old < vec_capacity calls.old }
-    requires pending_room { vec_len pending.old < vec_capacity pending.old }
-    requires within { at < length now.old.items }
-    ensures calls { calls.new.items ≡ calls.old.items ++ Call.Wrote at octets.now ∷ [] }
-    ensures pending { pending.new.items ≡ pending.old.items ++ record { at = at; octets = octets.now } ∷ [] }
-    ensures now { now.new.items ≡ slice_set now.old.items at octets.now }
-{
-    calls.push_reserved(Call::Wrote(at, *octets));
-    pending.push_reserved(SectorWrite {
-        at,
-        octets: *octets,
-    });
-    now[at] = *octets;
 }

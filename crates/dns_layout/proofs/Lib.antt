@@ -1,0 +1,4 @@
+mod Heads
+mod Names
+mod Octets
+mod Roots
