@@ -1,6 +1,6 @@
 -- Laws of equality and order of names.
-use Rattle.std.proofs.Common.{◌≡◌, ℕ, Bool, true, List, reverse, refl, sym, ap, ◌∙◌}
-use Rattle.std.specs.Prelude.{◌==◌, Some}
+use Rattle.std.proofs.Common.{◌≡◌, ℕ, Bool, List, reverse, sym, ap, ◌∙◌}
+use Rattle.std.specs.Prelude.{◌==◌}
 use Rattle.std.specs.Bool.{Decides, one_answer}
 use Rattle.std.specs.Ordering.{nat_cmp, eq_by_cmp, as_partial_cmp}
 use Rattle.std.specs.declared.cmp.Ordering.TheVariants.{Equal}

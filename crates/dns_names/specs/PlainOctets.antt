@@ -1,7 +1,7 @@
 -- What a plain form is made of.
-use Rattle.std.proofs.Common.{◌≡◌, ℕ, ◌+◌, ◌<◌, ◌≤◌, List, [], ◌∷◌, ◌++◌, length, refl, arith}
+use Rattle.std.proofs.Common.{ℕ, ◌<◌, ◌≤◌, List, [], ◌∷◌, ◌++◌, length, arith}
 use Rattle.std.specs.List.{AllByRecursion}
-use Rattle.dns_names.specs.Name.{Labels, IsLabel, IsName, wire}
+use Rattle.dns_names.specs.Name.{Labels, IsLabel, wire}
 
 pub octets-append : (xs ys : List ℕ) → AllByRecursion (λ octet. octet < 256) xs → AllByRecursion (λ octet. octet < 256) ys → AllByRecursion (λ octet. octet < 256) (xs ++ ys)
 octets-append [] ys h k = k

@@ -1,6 +1,8 @@
-ghost use Rattle.std.specs.Prelude.{◌≡◌, ◌∷◌, ◌↔◌, Some, None, IfOk, IsTrue, length};
-ghost use Rattle.dns_names.specs.Name.{IsName, IsUnder, wire, parent, name_cmp};
+ghost use Rattle.std.specs.Prelude.{◌≡◌, ℕ, List, ◌∷◌, ◌++◌, ◌↔◌, Some, None, IfOk, IfSome, IfNone, IsTrue, length, map};
+ghost use Rattle.std.specs.Char.{to_ascii_lowercase};
+ghost use Rattle.dns_names.specs.Name.{Labels, IsName, IsUnder, wire, parent, name_cmp};
 
+use crate::name::root_of;
 use crate::{Name, labels};
 use dns_memory::Heap;
 use std::alloc::AllocError;
@@ -26,6 +28,18 @@ impl<'a> Model for NameRef<'a> {
     ghost invariant = { λ n. IsPlain n.octets.now };
 }
 
+/// Whether no octet is a capital.
+fn is_lower(octets: &[u8]) -> bool
+    ensures { IsTrue result ↔ (map to_ascii_lowercase octets.now ≡ octets.now) }
+{
+    for octet in octets {
+        if octet.is_ascii_uppercase() {
+            return false;
+        }
+    }
+    true
+}
+
 impl<'a> NameRef<'a> {
     ghost use Rattle.dns_names.specs.Name.{labels_of};
     ghost use Rattle.dns_names.specs.Plain.{IsPlain};
@@ -36,6 +50,21 @@ impl<'a> NameRef<'a> {
         ensures { result ≡ labels_of octets.now }
     {
         NameRef { octets }
+    }
+
+    /// The name whose plain form, in lower case, stands at the front of the octets, and the octets behind it.
+    pub fn first(octets: &'a [u8]) -> Option<(NameRef<'a>, &'a [u8])>
+        ensures found { IfSome result (λ r. IsName r.0 × (octets.now ≡ wire r.0 ++ r.1.now)) }
+        ensures none { IfNone result ((name : Labels) (rest : List ℕ) → IsName name → octets.now ≡ wire name ++ rest → ⊥) }
+    {
+        let Ok(stop) = root_of(octets) else {
+            return None;
+        };
+        let (plain, rest) = octets.split_at(stop + 1);
+        if !is_lower(plain) {
+            return None;
+        }
+        Some((NameRef { octets: plain }, rest))
     }
 
     /// The plain form (RFC 1035 section 3.1).

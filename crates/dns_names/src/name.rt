@@ -1,4 +1,5 @@
-ghost use Rattle.std.specs.Prelude.{◌≡◌, ℕ, ◌+◌, ◌≤◌, List, length, map, take, slice_get, Some, None, IfOk, IfErr, IsTrue, ◌↔◌, OnErr};
+ghost use Rattle.std.specs.Prelude.{◌≡◌, ℕ, ◌+◌, ◌≤◌, List, length, map, take, slice_get, Some, None, IfOk, IfErr, IsTrue, ◌↔◌, [], Ok, Err, ◌⊎◌, MatchResult};
+ghost use Rattle.dns_names.specs.Text.{name_of_text, printed_name};
 ghost use Rattle.std.specs.Char.{to_ascii_lowercase};
 ghost use Rattle.dns_names.specs.Name.{Labels, IsName, IsUnder, wire, parent, wildcard, name_cmp};
 ghost use Rattle.dns_names.specs.Octets.{LabelsAt, Explains};
@@ -6,7 +7,9 @@ ghost use Rattle.dns_names.specs.Compare.{same_labels, same_labels-per, same_lab
 ghost use Rattle.std.specs.Ordering.{as_partial_cmp};
 ghost use Rattle.std.specs.Prelude.{refl};
 
+use crate::builder::Builder;
 use crate::run::{RunFault, run_end};
+use crate::text::split_letter;
 use crate::{NameError, NameRef, labels};
 use dns_memory::Heap;
 use smallvec::SmallVec;
@@ -34,7 +37,7 @@ impl Model for Name {
 }
 
 /// Where the plain form of a name at the front of the octets has its zero octet.
-fn root_of(octets: &[u8]) -> Result<usize, NameError>
+pub(crate) fn root_of(octets: &[u8]) -> Result<usize, NameError>
     ensures found { IfOk result (λ stop. (stop ≤ 254) × (labels : Labels) × LabelsAt octets.now 0 labels stop × (slice_get octets.now stop ≡ Some 0)) }
     ensures refused { IfErr result (Explains octets.now) }
     ensures other { IfErr result (λ e. e ≡ NameError.OutOfMemory → ⊥) }
@@ -75,6 +78,59 @@ impl Name {
         Ok(Name {
             octets: SmallVec::from_slice(alloc, octets)?,
         })
+    }
+
+    /// The name that the octets are the plain form of.
+    pub(crate) fn of_plain(octets: SmallVec<u8, 32, Heap>) -> Name
+        requires { IsPlain octets.items }
+        ensures { result ≡ labels_of octets.entry.items }
+    {
+        Name { octets }
+    }
+
+    /// The name of a text, in lower case: labels with dots between, in which `\\X` is the octet X and `\\DDD` the octet of that
+    /// decimal value (RFC 1035 section 5.1). A text with no dot at its end is followed by the origin; `@` alone is the origin,
+    /// and `.` alone is the root. Refused are, in this order, a misused `\\` (`BadEscape`), a label without octets
+    /// (`EmptyLabel`), one of more than 63 (`LabelTooLong`), and a name of more than 255 in plain form (`NameTooLong`).
+    pub fn from_text(alloc: Heap, text: &[u8], origin: &Name) -> Result<Name, NameError>
+        ensures read { MatchResult result (λ name. name_of_text origin.now text.now ≡ Ok name) (λ e. (e ≡ NameError.OutOfMemory) ⊎ (name_of_text origin.now text.now ≡ Err e)) }
+        // What is printed reads as the same name, with any origin.
+        ensures printed { (name : Labels) → IsName name → text.now ≡ printed_name name → MatchResult result (λ n. n ≡ name) (λ e. e ≡ NameError.OutOfMemory) }
+    {
+        Name::of_text(alloc, text, origin)
+    }
+
+    fn of_text(alloc: Heap, text: &[u8], origin: &Name) -> Result<Name, NameError>
+        ensures { MatchResult result (λ name. name_of_text origin.now text.now ≡ Ok name) (λ e. (e ≡ NameError.OutOfMemory) ⊎ (name_of_text origin.now text.now ≡ Err e)) }
+    {
+        if text == b"@".as_slice() {
+            return Ok(origin.clone()?);
+        }
+        if text == b".".as_slice() {
+            return Ok(Name::root(alloc));
+        }
+        if text.is_empty() {
+            return Err(NameError::EmptyLabel);
+        }
+        let mut builder = Builder::new(alloc);
+        let mut rest = text;
+        'letters: while !rest.is_empty() {
+            let Some((octet, escaped, behind)) = split_letter(rest) else {
+                return Err(NameError::BadEscape);
+            };
+            builder.take_letter(octet, escaped)?;
+            rest = behind;
+        }
+        builder.finish(origin)
+    }
+
+    /// The root, which has no label (RFC 1034 section 3.1).
+    pub fn root(alloc: Heap) -> Name
+        ensures { result ≡ [] }
+    {
+        Name {
+            octets: SmallVec::from_slice(alloc, &[0]).unwrap(),
+        }
     }
 
     /// The name whose plain form stands at the front of the octets, and how many octets that has.

@@ -1,17 +1,20 @@
 -- Laws of data made of its parts.
-use Rattle.std.proofs.Common.{◌≡◌, ℕ, ◌+◌, ◌^◌, ◌<◌, ◌≤◌, zero, suc, Bool, true, false, List, [], ◌∷◌, ◌++◌, length, refl, sym, ap, subst, ◌∙◌, arith, append-nil, length-append, append_assoc}
-use Rattle.std.specs.Prelude.{◌==◌, ◌||◌, Some, IfSome}
+use Rattle.std.proofs.Common.{◌≡◌, ℕ, ◌<◌, ◌≤◌, zero, suc, Bool, true, false, List, [], ◌∷◌, ◌++◌, length, refl, sym, ap, subst, ◌∙◌, arith, append-nil, length-append, append_assoc}
+use Rattle.std.specs.Prelude.{◌==◌, ◌||◌, Some}
 use Rattle.std.specs.List.{AllByRecursion}
-use Rattle.std.specs.Int.{Width, w32, to_be_bytes, bytes_high_first, byte_at, byte_len}
+use Rattle.std.specs.Int.{Width, w16, w32, to_be_bytes, bytes_high_first, byte_at, byte_len}
 use borrow.Author.Tests.{eqb-true}
-use Rattle.dns_names.specs.Name.{Labels, IsName, wire, labels_of}
+use Rattle.dns_names.specs.Name.{Labels, IsName, wire}
+use Rattle.dns_names.specs.Lower.{AreOctets}
 use Rattle.dns_names.specs.Plain.{IsPlain}
-use Rattle.dns_names.specs.PlainLaws.{plain_of}
+use Rattle.dns_names.specs.PlainLaws.{plain_of, parts_same}
 use Rattle.dns_names.specs.PlainOctets.{octets-append, wire_octets}
-use Rattle.dns_records.specs.Types.{Field, Octets, Name, form, type_soa}
-use Rattle.dns_records.specs.Record.{Data, IsData, AreFields, IsRData}
-use Rattle.dns_records.specs.Typed.{name_data, is_name_type, soa_data, soa_numbers}
+use Rattle.dns_records.specs.Types.{Field, Octets, Name, Target, form}
+use Rattle.dns_records.specs.Record.{Data, IsData, AreFields}
+use Rattle.dns_records.specs.Typed.{name_data, is_name_type, soa_data, soa_numbers, mx_data, srv_data, srv_numbers}
 use Rattle.dns_records.specs.declared.typed.Soa.{Soa}
+use Rattle.dns_records.specs.declared.typed.Mx.{Mx}
+use Rattle.dns_records.specs.declared.typed.Srv.{Srv}
 
 -- the form of data that is one name
 pub name_form : (t : ℕ) → is_name_type t ≡ true → form t ≡ Some (Name ∷ [])
@@ -35,16 +38,31 @@ name_data-valid t name h valid =
       form = rw f parts;
     }
 
+-- a name alone
+pub name_alone : (o : List ℕ) → AreFields (Name ∷ []) o → IsPlain o
+name_alone o parts =
+    let name = parts.3.0 in
+    let front : parts.0 ≡ wire name = parts.3.2 in
+    let none : parts.1 ≡ [] = parts.4 in
+    let whole : o ≡ wire name = parts.2 ∙ ap (λ (x : List ℕ). parts.0 ++ x) none ∙ append-nil parts.0 ∙ front in
+    (plain_of o name parts.3.1 whole).1
+
+pub target_alone : (o : List ℕ) → AreFields (Target ∷ []) o → IsPlain o
+target_alone o parts = name_alone o (parts.0, parts.1, parts.2, parts.3, parts.4)
+
 -- the data of such a type is a name
 pub name_data-plain : (d : Data) → IsData d → is_name_type d.rtype ≡ true → IsPlain d.octets
 name_data-plain d valid h =
     let f = name_form d.rtype h in
     let parts : AreFields (Name ∷ []) d.octets = rw f at valid.form in
-    let name = parts.3.0 in
-    let front : parts.0 ≡ wire name = parts.3.2 in
-    let none : parts.1 ≡ [] = parts.4 in
-    let whole : d.octets ≡ wire name = parts.2 ∙ ap (λ (x : List ℕ). parts.0 ++ x) none ∙ append-nil parts.0 ∙ front in
-    (plain_of d.octets name parts.3.1 whole).1
+    name_alone d.octets parts
+
+-- octets before the other parts
+pub behind_octets : (n : ℕ) (fields : List Field) (o front behind : List ℕ) → AreFields (Octets n ∷ fields) o → o ≡ front ++ behind → length front ≡ n → AreFields fields behind
+behind_octets n fields o front behind parts e size =
+    let first : length parts.0 ≡ n = parts.3 in
+    let both = parts_same parts.0 front parts.1 behind (sym parts.2 ∙ e) (first ∙ sym size) in
+    subst (AreFields fields) both.1 parts.4
 
 -- a number is octets
 byte_small : (i n : ℕ) → byte_at i n < 256
@@ -80,3 +98,49 @@ soa_data-valid soa m r =
       short = omega (arith, length-append (first ++ second) numbers, length-append first second);
       form = parts;
     }
+
+pub mx_data-valid : (mx : Mx) → IsName mx.exchange → IsData (mx_data mx)
+mx_data-valid mx valid =
+    let number = to_be_bytes w16 mx.preference in
+    let name = wire mx.exchange in
+    let name_short : length name ≤ 255 = valid.short in
+    let last : AreFields (Name ∷ []) name = (name, [], sym (append-nil name), (mx.exchange, valid, refl), refl) in
+    let parts : AreFields (Octets 2 ∷ Name ∷ []) (number ++ name) = (number, name, refl, refl, last) in
+    record {
+      rtype = refl;
+      octets = octets-append number name (number_octets w16 mx.preference) (wire_octets mx.exchange valid.labels);
+      short = omega arith;
+      form = parts;
+    }
+
+pub srv_data-valid : (srv : Srv) → IsName srv.target → IsData (srv_data srv)
+srv_data-valid srv valid =
+    let numbers = srv_numbers srv in
+    let name = wire srv.target in
+    let name_short : length name ≤ 255 = valid.short in
+    let last : AreFields (Target ∷ []) name = (name, [], sym (append-nil name), (srv.target, valid, refl), refl) in
+    let parts : AreFields (Octets 6 ∷ Target ∷ []) (numbers ++ name) = (numbers, name, refl, refl, last) in
+    let number = number_octets w16 in
+    let fit = octets-append (to_be_bytes w16 srv.priority ++ to_be_bytes w16 srv.weight) (to_be_bytes w16 srv.port) (octets-append (to_be_bytes w16 srv.priority) (to_be_bytes w16 srv.weight) (number srv.priority) (number srv.weight)) (number srv.port) in
+    record {
+      rtype = refl;
+      octets = octets-append numbers name fit (wire_octets srv.target valid.labels);
+      short = omega arith;
+      form = parts;
+    }
+
+-- an address
+octets_all : (o : List ℕ) → AreOctets o → AllByRecursion (λ octet. octet < 256) o
+octets_all [] h = tt
+octets_all (x ∷ o) h = (h 0, octets_all o (λ i. h (suc i)))
+
+pub address-valid : (t : ℕ) (o : List ℕ) → form t ≡ Some (Octets (length o) ∷ []) → AreOctets o → length o ≤ 24 → IsData (record { rtype = t; octets = o })
+address-valid t o f fits size =
+    let parts : AreFields (Octets (length o) ∷ []) o = (o, [], sym (append-nil o), refl, refl) in
+    record { rtype = rw f refl; octets = octets_all o fits; short = omega arith; form = rw f parts }
+
+-- an address is so many octets
+pub address_whole : (n : ℕ) (o : List ℕ) → AreFields (Octets n ∷ []) o → length o ≡ n
+address_whole n o parts =
+    let none : parts.1 ≡ [] = parts.4 in
+    ap length (parts.2 ∙ ap (λ (x : List ℕ). parts.0 ++ x) none ∙ append-nil parts.0) ∙ parts.3

@@ -1,4 +1,5 @@
-ghost use Rattle.std.specs.Prelude.{◌≡◌, ℕ, ◌++◌, ◌≤◌, length, take, IfOk, OnOk, IfErr};
+ghost use Rattle.std.specs.Prelude.{◌≡◌, ◌++◌, ◌↔◌, IsTrue, OnOk};
+ghost use Rattle.dns_records.specs.Compare.{same_record, same_record-per, same_record-equiv};
 ghost use Rattle.dns_records.specs.Record.{Record as Stated, plain, IsRecord, record_of, data_of, record_cmp};
 
 use crate::RData;
@@ -11,14 +12,28 @@ use std::marker::Model;
 /// Why octets are no record.
 #[derive(Clone, Copy, Debug, PartialEq, Eq)]
 pub enum RecordError {
+    /// Memory was refused.
     OutOfMemory,
+    /// The octets end too early, or the data has not the form of its type.
     BadData,
+    /// The data has more than 4,096 octets.
     TooLong,
+    /// The type is none that a record here can have.
     UnknownType,
 }
 
+impl From<AllocError> for RecordError {
+    ghost use Rattle.dns_records.specs.declared.record.RecordError.TheVariants.{OutOfMemory};
+
+    ghost from_gives = { λ _ e. e ≡ OutOfMemory };
+
+    fn from(_error: AllocError) -> RecordError {
+        RecordError::OutOfMemory
+    }
+}
+
 /// A record of class IN: an owner, a TTL in seconds, and data of a known type (RFC 1035 section 3.2.1).
-#[derive(Drop)]
+#[derive(Debug, Drop)]
 pub struct Record {
     owner: Name,
     ttl: u32,
@@ -116,10 +131,20 @@ impl Clone for Record {
     }
 }
 
-/// What is promised of reading a plain record, and not proved yet.
-pub trait ReadsPlain {
-    /// The record whose plain form stands at the front of the octets, and how many octets that has.
-    fn from_wire_plain(alloc: Heap, octets: &[u8]) -> Result<(Record, usize), RecordError>
-        ensures found { IfOk result (λ r. (r.1 ≤ length octets.now) × (take r.1 octets.now ≡ plain r.0) × IsRecord r.0) }
-        ensures only { (r : Stated) (n : ℕ) → IsRecord r → n ≤ length octets.now → take n octets.now ≡ plain r → IfErr result (λ e. e ≡ RecordError.OutOfMemory) };
+impl PartialEq for Record {
+    ghost eq = { same_record };
+
+    ghost laws = { same_record-per };
+
+    /// Whether all is equal, the TTL too.
+    fn eq(&self, other: &Self) -> bool
+        ensures value { result ≡ same_record self.now other.now }
+        ensures same { IsTrue result ↔ (self.now ≡ other.now) }
+    {
+        self.owner == other.owner && self.ttl == other.ttl && self.rdata == other.rdata
+    }
+}
+
+impl Eq for Record {
+    ghost laws = { same_record-equiv };
 }

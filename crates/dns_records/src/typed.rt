@@ -18,3 +18,23 @@ pub struct Soa<'a> {
     /// The TTL of negative answers (RFC 2308 section 4).
     pub minimum: u32,
 }
+
+/// A mail exchange (RFC 1035 section 3.3.9).
+#[derive(Drop)]
+pub struct Mx<'a> {
+    /// The lower, the better.
+    pub preference: u16,
+    pub exchange: NameRef<'a>,
+}
+
+/// The location of a service (RFC 2782).
+#[derive(Drop)]
+pub struct Srv<'a> {
+    /// The lower, the better.
+    pub priority: u16,
+    /// The share among those of one priority.
+    pub weight: u16,
+    pub port: u16,
+    /// The host, or the root where there is no such service.
+    pub target: NameRef<'a>,
+}

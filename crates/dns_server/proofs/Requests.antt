@@ -17,5 +17,5 @@ none_read (Some m) h = absurd (h m refl)
 
 pub read_request : (f : Message → Question → Handled) (h : Header) (m : Message) (q : Question) → is_request m ≡ true → m.questions ≡ q ∷ [] → read_as f h (Some m) ≡ f m q
 read_request f h m q request one =
-    ap (λ (b : Bool). elim b as (λ _. Handled) [ | false ↦ Replies (text (bare_reply h rcode_formerr)) | true ↦ elim (m.questions) as (λ _. Handled) [ [] ↦ NoReply | q ∷ rest ↦ f m q ] ]) request
+    ap (λ (b : Bool). elim b as (λ _. Handled) [ false ↦ Replies (text (bare_reply h rcode_formerr)) | true ↦ elim (m.questions) as (λ _. Handled) [ [] ↦ NoReply | q ∷ rest ↦ f m q ] ]) request
     ∙ ap (λ (qs : List Question). elim qs as (λ _. Handled) [ [] ↦ NoReply | q ∷ rest ↦ f m q ]) one

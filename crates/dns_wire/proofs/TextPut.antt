@@ -37,13 +37,13 @@ all_long places at (r ∷ rs) =
     omega (arith, all_long here.places (at + length here.octets) rs, record_size places at r, length-append here.octets after.octets)
 
 -- the packings of the three sections
-pub first_all : Reply → Packing
+unfoldable pub first_all : Reply → Packing
 first_all r = packed_all (question_places r) (12 + length (question_octets r)) r.answer
 
-pub second_all : Reply → Packing
+unfoldable pub second_all : Reply → Packing
 second_all r = packed_all (first_all r).places (12 + length (question_octets r) + length (first_all r).octets) r.authority
 
-pub third_all : Reply → Packing
+unfoldable pub third_all : Reply → Packing
 third_all r = packed_all (second_all r).places (12 + length (question_octets r) + length (first_all r).octets + length (second_all r).octets) r.additional
 
 records_is : (r : Reply) → packed_records (question_places r) (12 + length (question_octets r)) (r.answer ++ r.authority ++ r.additional) ≡ ((first_all r).octets ++ (second_all r).octets) ++ (third_all r).octets

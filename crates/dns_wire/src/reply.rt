@@ -27,13 +27,17 @@ impl<'a> Model for ReplyRecord<'a> {
 
 impl<'a> ReplyRecord<'a> {
     /// The record of a zone under another owner and with another TTL.
-    pub fn new(owner: NameRef<'a>, ttl: u32, record: &'a Record) -> ReplyRecord<'a>
+    pub fn new(owner: NameRef<'a>, ttl: u32, held: &'a Record) -> ReplyRecord<'a>
         ensures owner { result.owner ≡ owner.entry }
         ensures ttl { result.ttl ≡ ttl }
-        ensures rtype { result.rtype ≡ record.now.rtype }
-        ensures rdata { result.rdata ≡ record.now.rdata }
+        ensures rtype { result.rtype ≡ held.now.rtype }
+        ensures rdata { result.rdata ≡ held.now.rdata }
     {
-        ReplyRecord { owner, ttl, record }
+        ReplyRecord {
+            owner,
+            ttl,
+            record: held,
+        }
     }
 
     /// The owner that goes out.

@@ -2,6 +2,8 @@ ghost use Rattle.std.specs.Int.{w16, to_be_bytes as be_octets};
 ghost use Rattle.std.specs.Prelude.{◌≡◌, ℕ, List, [], ◌+◌, ◌++◌, ◌<◌, ◌≤◌, Err, IfOk, IfErr, OnOk, length};
 ghost use Rattle.dns_wire.specs.Puts.{Wrote, RefusesUpTo, asked};
 ghost use Rattle.dns_wire.specs.Reply.{echo, stated};
+ghost use Rattle.dns_wire.specs.Reads.{Reads};
+ghost use Rattle.dns_wire.specs.Valid.{IsReply, message_of_reply};
 ghost use Rattle.dns_wire.specs.Text.{Reply as Stated, text, header_octets};
 ghost use Rattle.dns_names.specs.Name.{Labels};
 ghost use Rattle.dns_wire.specs.Pack.{Place, pack_name, new_places};
@@ -100,10 +102,12 @@ impl Writer {
     }
 }
 
-/// A reply has at most one packed text. The computed packing writes a name as it is to be written, and keeps its table
+/// A reply has at most one packed text, and the computed text is that, and reads as the reply. The computed packing writes a name as it is to be written, and keeps its table
 /// of places right.
 pub fn one_packed_text()
     ensures once { (t u : List ℕ) (r : Stated) → IsPacked t r → IsPacked u r → t ≡ u }
+    ensures packed { (r : Stated) → IsReply r → IsPacked (text r) r }
+    ensures reads_back { (r : Stated) → IsReply r → Reads (text r) (message_of_reply r) }
     ensures written { (earlier : List Used) (places : List Place) (name : Labels) → AreThePlaces (StandsAt earlier) places → IsWritten (StandsAt earlier) name (pack_name places name) }
     ensures first { AreThePlaces (StandsAt []) [] }
     ensures next { (earlier : List Used) (places : List Place) (at : ℕ) (name : Labels) → AreThePlaces (StandsAt earlier) places → ((offset : ℕ) (suffix : Labels) → StandsAt earlier offset suffix → offset < at) → AreThePlaces (StandsAt (and_field earlier at (at + length (pack_name places name)) name)) (places ++ new_places places at name) }

@@ -1,4 +1,4 @@
-use Rattle.std.proofs.Common.{◌∙◌, sym}
+use Rattle.std.proofs.Common.{◌∙◌}
 use Rattle.dns_names.specs.Compare.{same_plain-labels}
 use Rattle.dns_names.proofs.name.NamePartialEq.eq.Goals as goal
 

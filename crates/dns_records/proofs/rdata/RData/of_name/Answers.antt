@@ -1,4 +1,3 @@
-use Rattle.std.proofs.Common.{◌∙◌}
 use Rattle.dns_records.specs.Laws.{name_data-valid}
 use Rattle.dns_records.proofs.rdata.RData.of_name.Goals as goal
 

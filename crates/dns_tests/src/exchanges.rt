@@ -1,0 +1,100 @@
+use dns_memory::{Heap, heap};
+use dns_server::{answer_datagram, builtin_zone};
+use std::test::Fail;
+
+/// The question of most exchanges, for the address of host1.example., behind an ID.
+const HOST1: &str = "05686f737431076578616d706c650000010001";
+
+/// The reply to a request in hexadecimal, in hexadecimal; empty where there is none.
+fn reply_to(heap: Heap, request: &str) -> Result<String<Heap>, Fail> {
+    let zone = builtin_zone(heap)?;
+    let request = hex::decode(heap, request)?;
+    match answer_datagram(heap, &[zone], &request)? {
+        Some(reply) => Ok(hex::encode(heap, reply.as_slice())?),
+        None => Ok(String::new(heap)),
+    }
+}
+
+// Requests and replies, from RFC 1035 by hand.
+#[test]
+fn replies_are_octet_for_octet(rt: HostRuntime) -> Result<(), Fail> {
+    let heap = heap(rt.alloc())?;
+    for (request, reply) in [
+        // the address that stands
+        (
+            "12340000000100000000000005686f737431076578616d706c650000010001",
+            "12348400000100010000000005686f737431076578616d706c650000010001c00c0001000100000e100004c0000201",
+        ),
+        // capitals are echoed, and RD too
+        (
+            "00010100000100000000000005484f535431076578616d706c650000010001",
+            "00018500000100010000000005484f535431076578616d706c650000010001c00c0001000100000e100004c0000201",
+        ),
+        // eleven octets, and a response
+        ("0000000000000000000000", ""),
+        ("000080000001000000000000076578616d706c650000010001", ""),
+        // a name that points at itself, an octet left over, no question
+        (
+            "000a00000001000000000000c00c00010001",
+            "000a80010000000000000000",
+        ),
+        (
+            "12340000000100000000000005686f737431076578616d706c65000001000100",
+            "123480010000000000000000",
+        ),
+        ("123400000000000000000000", "123480010000000000000000"),
+        // STATUS, and an update
+        ("123410000000000000000000", "123490040000000000000000"),
+        (
+            "000b28000001000000000000076578616d706c650000060001",
+            "000ba8040000000000000000",
+        ),
+        // a name outside every zone, and class CH
+        (
+            "00020000000100000000000003636f6d0000010001",
+            "00028005000100000000000003636f6d0000010001",
+        ),
+        (
+            "000200000001000000000000076578616d706c650000010003",
+            "000280050001000000000000076578616d706c650000010003",
+        ),
+        // what isn't answered yet: NS, a transfer, a name that doesn't exist
+        (
+            "000300000001000000000000076578616d706c650000020001",
+            "000380040000000000000000",
+        ),
+        (
+            "000300000001000000000000076578616d706c650000fc0001",
+            "000380040000000000000000",
+        ),
+        (
+            "00030000000100000000000005686f737432076578616d706c650000010001",
+            "000380040000000000000000",
+        ),
+    ] {
+        let given = reply_to(heap, request)?;
+        assert!(rt; given.as_str() == reply, "{request} gives {given}");
+    }
+    Ok(())
+}
+
+// A datagram of 512 octets is read, one of 513 is malformed whatever it says.
+#[test]
+fn long_datagrams_are_malformed(rt: HostRuntime) -> Result<(), Fail> {
+    let heap = heap(rt.alloc())?;
+    let zone = builtin_zone(heap)?;
+    let zones = [zone];
+    let mut request = hex::decode(heap, "123400000001000000000000")?;
+    request.extend_from_slice(hex::decode(heap, HOST1)?.as_slice())?;
+    for size in [512usize, 513] {
+        for _ in 0..600 {
+            if request.len() < size {
+                request.push(0)?;
+            }
+        }
+        assert_eq!(rt; request.len(), size);
+        let reply = answer_datagram(heap, &zones, &request)?.ok_or("a reply")?;
+        assert!(rt; reply.as_slice() == [0x12, 0x34, 0x80, 1, 0, 0, 0, 0, 0, 0, 0, 0].as_slice());
+    }
+    Ok(())
+}

@@ -1,0 +1,11 @@
+//! Tests that cross crates: exchanges octet for octet, each refusal, memory refused at each allocation, and a writer that fails.
+#![tactic(auto)]
+
+#[cfg(test)]
+mod exchanges;
+#[cfg(test)]
+mod memory;
+#[cfg(test)]
+mod scripts;
+#[cfg(test)]
+mod zones;

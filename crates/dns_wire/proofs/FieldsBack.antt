@@ -1,0 +1,142 @@
+-- The data of a record that is written reads back.
+use Rattle.std.proofs.Common.{◌≡◌, ℕ, zero, suc, ◌+◌, ◌≤◌, List, [], ◌∷◌, ◌++◌, length, take, drop, Option, Some, refl, sym, ap, subst, ◌∙◌, arith, append_assoc, take-append-drop}
+use Rattle.std.specs.Prelude.{MatchOption, slice_range}
+use Rattle.std.proofs.lemmas.List.{length-append, length-take-le, drop_at}
+use Rattle.dns_names.specs.Name.{Labels, IsName, wire, labels_of}
+use Rattle.dns_records.specs.Types.{Field, Octets, Name, Target, Strings, form}
+use Rattle.dns_records.specs.Record.{Record, IsField, AreFields}
+use Rattle.dns_wire.specs.Pack.{Place, Packing, pack_name, packed_name, packed_fields, packed_rdata}
+use Rattle.dns_wire.specs.NameAt.{FullNameAt}
+use Rattle.dns_wire.specs.Reads.{FieldAt, FieldsAt, RDataAt}
+use Rattle.dns_wire.proofs.FieldsPut.{octets_room, octets_behind, name_behind}
+use Rattle.dns_wire.proofs.Fronts.{labels_of_front}
+use Rattle.dns_wire.proofs.NamesBack.{Readable, readable_more, readable_next, name_back, full_back}
+use Rattle.dns_wire.proofs.Places.{some_written}
+use Rattle.dns_wire.proofs.TextPacked.{Rest, piece, rest_as}
+
+-- what stands, read as octets
+plain_at : (text : List ℕ) (at : ℕ) (octets back : List ℕ) → Rest text at (octets ++ back) → (at + length octets ≤ length text) × (octets ≡ slice_range text at (at + length octets))
+plain_at text at octets back h = let p = piece text at octets back h in (p.here.inside, sym p.here.read)
+
+field_back : (text : List ℕ) (at : ℕ) (field : Field) (front back : List ℕ) → IsField field front → Rest text at (front ++ back) → FieldAt text at field front (at + length front)
+field_back text at (Octets n) front back is h = let p = plain_at text at front back h in (ap (λ (k : ℕ). at + k) is, p.0, p.1)
+field_back text at Name front back (name, valid, is) h =
+    (name, subst (λ (xs : List ℕ). FullNameAt text at name (at + length xs)) (sym is) (full_back text at name back valid (rest_as text at at (front ++ back) (wire name ++ back) refl (ap (λ (xs : List ℕ). xs ++ back) is) h)), is)
+field_back text at Target front back (name, valid, is) h =
+    (name, subst (λ (xs : List ℕ). FullNameAt text at name (at + length xs)) (sym is) (full_back text at name back valid (rest_as text at at (front ++ back) (wire name ++ back) refl (ap (λ (xs : List ℕ). xs ++ back) is) h)), is)
+field_back text at Strings front back is h = let p = plain_at text at front back h in (p.0, p.1, is)
+
+-- data in full
+plain_back : (text : List ℕ) (at : ℕ) (fields : List Field) (rdata back : List ℕ) → AreFields fields rdata → Rest text at (rdata ++ back) → FieldsAt text at fields rdata (at + length rdata)
+plain_back text at [] rdata back form h = (omega (arith, ap length form), form)
+plain_back text at (field ∷ fields) rdata back (front, rest, is, one, more) h =
+    let whole : rdata ++ back ≡ front ++ (rest ++ back) = ap (λ (xs : List ℕ). xs ++ back) is ∙ append_assoc front rest back in
+    let here = rest_as text at at (rdata ++ back) (front ++ (rest ++ back)) refl whole h in
+    let behind = (piece text at front (rest ++ back) here).behind in
+    let stop : at + length front + length rest ≡ at + length rdata = omega (arith, ap length is, length-append front rest) in
+    (front, rest, at + length front, is, field_back text at field front (rest ++ back) one here, subst (λ (k : ℕ). FieldsAt text (at + length front) fields rest k) stop (plain_back text (at + length front) fields rest back more behind))
+
+-- a name in front, and what is behind it
+pub name_split : (fields : List Field) (rdata : List ℕ) → AreFields (Name ∷ fields) rdata → IsName (labels_of rdata) × (rdata ≡ wire (labels_of rdata) ++ drop (length (wire (labels_of rdata))) rdata)
+name_split fields rdata (front, rest, is, (name, valid, plain), more) =
+    let whole : rdata ≡ wire name ++ rest = is ∙ ap (λ (xs : List ℕ). xs ++ rest) plain in
+    let same : labels_of rdata ≡ name = labels_of_front rdata name rest valid whole in
+    let back : drop (length (wire name)) rdata ≡ rest = ap (drop (length (wire name))) whole ∙ drop_at (wire name) rest (length (wire name)) refl in
+    let split : rdata ≡ wire name ++ drop (length (wire name)) rdata = whole ∙ ap (λ (xs : List ℕ). wire name ++ xs) (sym back) in
+    (subst IsName (sym same) valid, subst (λ (n : Labels). rdata ≡ wire n ++ drop (length (wire n)) rdata) (sym same) split)
+
+pub record FieldsBack (text : List ℕ) (places : List Place) (at : ℕ) (fields : List Field) (rdata : List ℕ) : Type 0 where
+  pub stand : FieldsAt text at fields rdata (at + length (packed_fields places at fields rdata).octets)
+  pub table : Readable text (packed_fields places at fields rdata).places (at + length (packed_fields places at fields rdata).octets)
+
+pub fields_back : (text : List ℕ) (places : List Place) (at : ℕ) (fields : List Field) (rdata back : List ℕ) → AreFields fields rdata → Readable text places at → 12 ≤ at → Rest text at ((packed_fields places at fields rdata).octets ++ back) → FieldsBack text places at fields rdata
+fields_back text places at [] rdata back form table far h = record { stand = plain_back text at [] rdata back form h; table = readable_more text places at (at + length rdata) (omega arith) table }
+fields_back text places at (Target ∷ fields) rdata back form table far h = record { stand = plain_back text at (Target ∷ fields) rdata back form h; table = readable_more text places at (at + length rdata) (omega arith) table }
+fields_back text places at (Strings ∷ fields) rdata back form table far h = record { stand = plain_back text at (Strings ∷ fields) rdata back form h; table = readable_more text places at (at + length rdata) (omega arith) table }
+fields_back text places at (Octets n ∷ fields) rdata back form table far h =
+    let after = packed_fields places (at + n) fields (drop n rdata) in
+    let front = take n rdata in
+    let here = rest_as text at at ((front ++ after.octets) ++ back) (front ++ (after.octets ++ back)) refl (append_assoc front after.octets back) h in
+    let p = piece text at front (after.octets ++ back) here in
+    let width : length front ≡ n = length-take-le n rdata (octets_room n fields rdata form) in
+    let place : at + length front ≡ at + n = ap (λ (k : ℕ). at + k) width in
+    let more = fields_back text places (at + n) fields (drop n rdata) back (octets_behind n fields rdata form) (readable_more text places at (at + n) (omega arith) table) (omega arith) (rest_as text (at + length front) (at + n) (after.octets ++ back) (after.octets ++ back) place refl p.behind) in
+    let stop : at + n + length after.octets ≡ at + length (front ++ after.octets) = omega (arith, width, length-append front after.octets) in
+    record {
+      stand = (
+        front,
+        drop n rdata,
+        at + n,
+        split n rdata,
+        subst (λ (k : ℕ). FieldAt text at (Octets n) front k) place (field_back text at (Octets n) front (after.octets ++ back) width here),
+        subst (λ (k : ℕ). FieldsAt text (at + n) fields (drop n rdata) k) stop more.stand,
+      );
+      table = subst (Readable text after.places) stop more.table;
+    }
+  where
+    split : (n : ℕ) (xs : List ℕ) → xs ≡ take n xs ++ drop n xs
+    split n xs = sym (take-append-drop n xs)
+fields_back text places at (Name ∷ fields) rdata back form table far h =
+    let name = labels_of rdata in
+    let octets = pack_name places name in
+    let here = packed_name places at name in
+    let behind = drop (length (wire name)) rdata in
+    let mid = at + length octets in
+    let after = packed_fields here.places mid fields behind in
+    let n = name_split fields rdata form in
+    let stands = rest_as text at at ((octets ++ after.octets) ++ back) (octets ++ (after.octets ++ back)) refl (append_assoc octets after.octets back) h in
+    let p = piece text at octets (after.octets ++ back) stands in
+    let more = fields_back text here.places mid fields behind back (name_behind fields rdata form) (readable_next text places at name (after.octets ++ back) table far n.0.labels stands) (omega arith) p.behind in
+    let stop : mid + length after.octets ≡ at + length (octets ++ after.octets) = omega (arith, length-append octets after.octets) in
+    record {
+      stand = (
+        wire name,
+        behind,
+        mid,
+        n.1,
+        (name, name_back text places at name (after.octets ++ back) table n.0 stands, refl),
+        subst (λ (k : ℕ). FieldsAt text mid fields behind k) stop more.stand,
+      );
+      table = subst (Readable text after.places) stop more.table;
+    }
+
+nothing : (xs : List ℕ) → length xs ≡ 0 → xs ≡ []
+nothing [] e = refl
+nothing (x ∷ xs) e = absurd (omega (arith, e))
+
+-- nothing is written for no data alone
+none_written : (places : List Place) (at : ℕ) (fields : List Field) (rdata : List ℕ) → length (packed_fields places at fields rdata).octets ≡ 0 → rdata ≡ []
+none_written places at [] rdata e = nothing rdata e
+none_written places at (Target ∷ fields) rdata e = nothing rdata e
+none_written places at (Strings ∷ fields) rdata e = nothing rdata e
+none_written places at (Name ∷ fields) rdata e =
+    let here = packed_name places at (labels_of rdata) in
+    let after = packed_fields here.places (at + length here.octets) fields (drop (length (wire (labels_of rdata))) rdata) in
+    absurd (omega (arith, e, length-append here.octets after.octets, some_written places (labels_of rdata)))
+none_written places at (Octets n ∷ fields) rdata e =
+    let after = packed_fields places (at + n) fields (drop n rdata) in
+    let sum = length-append (take n rdata) after.octets in
+    let first : take n rdata ≡ [] = nothing (take n rdata) (omega (arith, e, sum)) in
+    let rest : drop n rdata ≡ [] = none_written places (at + n) fields (drop n rdata) (omega (arith, e, sum)) in
+    sym (take-append-drop n rdata) ∙ ap (λ (xs : List ℕ). xs ++ drop n rdata) first ∙ rest
+
+pub record DataBack (text : List ℕ) (places : List Place) (at : ℕ) (r : Record) : Type 0 where
+  pub stands : RDataAt text at r.rtype (length (packed_rdata places at r).octets) r.rdata
+  pub table : Readable text (packed_rdata places at r).places (at + length (packed_rdata places at r).octets)
+
+rdata_known : (text : List ℕ) (at rtype size : ℕ) (fields : List Field) (rdata : List ℕ) → form rtype ≡ Some fields → (size ≡ 0 → rdata ≡ []) → at + size ≤ length text → FieldsAt text at fields rdata (at + size) → RDataAt text at rtype size rdata
+rdata_known text at rtype zero fields rdata e none inside h = none refl
+rdata_known text at rtype (suc n) fields rdata e none inside h = (inside, subst (λ (f : Option (List Field)). MatchOption f (rdata ≡ slice_range text at (at + suc n)) (λ fs. FieldsAt text at fs rdata (at + suc n))) (sym e) h)
+
+pub rdata_back : (text : List ℕ) (places : List Place) (at : ℕ) (r : Record) (back : List ℕ) (fields : List Field) → form r.rtype ≡ Some fields → AreFields fields r.rdata → Readable text places at → 12 ≤ at → Rest text at ((packed_rdata places at r).octets ++ back) → DataBack text places at r
+rdata_back text places at r back fields e fits table far h =
+    let parts = packed_fields places at fields r.rdata in
+    let same : parts ≡ packed_rdata places at r = sym (rw (e, packed_rdata) refl) in
+    let stands = rest_as text at at ((packed_rdata places at r).octets ++ back) (parts.octets ++ back) refl (ap (λ (p : Packing). p.octets ++ back) (sym same)) h in
+    let b = fields_back text places at fields r.rdata back fits table far stands in
+    let inside = (piece text at parts.octets back stands).here.inside in
+    let known = rdata_known text at r.rtype (length parts.octets) fields r.rdata e (none_written places at fields r.rdata) inside b.stand in
+    record {
+      stands = subst (λ (p : Packing). RDataAt text at r.rtype (length p.octets) r.rdata) same known;
+      table = subst (λ (p : Packing). Readable text p.places (at + length p.octets)) same b.table;
+    }

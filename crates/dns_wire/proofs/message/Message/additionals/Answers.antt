@@ -1,0 +1,19 @@
+use Rattle.std.proofs.Common.{length, ap, ◌∙◌}
+use Rattle.dns_wire.specs.Message.{Message}
+use Rattle.dns_wire.specs.Received.{received}
+use Rattle.dns_wire.proofs.ItemsShown.{left_is, items_within, section, message_of_view}
+use Rattle.dns_wire.proofs.Shown.{behind_header}
+use Rattle.dns_wire.proofs.message.Message.additionals.Goals as goal
+
+pub over-requires : goal.over-requires
+over-requires c =
+    let s = c.self.inside in
+    let m = s.octets.now in
+    section m 10 s.additionals c.number.result (received m).message.additionals (length m) (items_within m s.authorities (received m).message.authorities s.additionals (items_within m s.answers (received m).message.answers s.authorities (behind_header m (received m).message s.answers s.authorities s.additionals c.self.invariant).inside c.self.invariant.answer) c.self.invariant.authority) c.self.invariant.additional c.self.invariant.stands.arcount c.number.ensures
+
+pub returns : goal.returns
+returns c =
+    let s = c.self.inside in
+    let m = s.octets.now in
+    let h = section m 10 s.additionals c.number.result (received m).message.additionals (length m) (items_within m s.authorities (received m).message.authorities s.additionals (items_within m s.answers (received m).message.answers s.authorities (behind_header m (received m).message s.answers s.authorities s.additionals c.self.invariant).inside c.self.invariant.answer) c.self.invariant.authority) c.self.invariant.additional c.self.invariant.stands.arcount c.number.ensures in
+    c.over.ensures ∙ left_is m s.additionals c.number.result h ∙ ap (λ (x : Message). x.additionals) (message_of_view m c.args.self.now c.self.view_is)

@@ -1,0 +1,122 @@
+ghost use Rattle.std.specs.Prelude.{◌≡◌, ◌+◌, ◌≤◌, [], ◌∷◌, ◌++◌, length, IfSome, IfNone};
+
+use crate::NameView;
+use crate::fields::{long_number, number};
+use crate::name::name_end;
+use std::marker::Model;
+
+/// A record in a message, which stays where it is (RFC 1035 section 4.1.3). Any class and type can stand there, and a TTL of
+/// any 32 bits.
+#[derive(Drop)]
+pub struct RecordView<'a> {
+    message: &'a [u8],
+    at: usize,
+    behind_owner: usize,
+}
+
+impl<'a> Model for RecordView<'a> {
+    ghost use Rattle.dns_wire.specs.Message.{Item};
+    ghost use Rattle.dns_wire.specs.Viewed.{item_shown, IsItemShown};
+
+    ghost Value = { Item };
+
+    ghost view = { λ r. item_shown r.message.now r.at r.behind_owner };
+
+    ghost invariant = { λ r. IsItemShown r.message.now r.at r.behind_owner };
+}
+
+impl<'a> RecordView<'a> {
+    /// The name that owns the record.
+    pub fn owner(&self) -> NameView<'a>
+        ensures { result ≡ self.now.owner }
+    {
+        NameView::over(self.message, self.at)
+    }
+
+    /// The type of the record.
+    pub fn rtype(&self) -> u16
+        ensures { result ≡ self.now.rtype }
+    {
+        number(self.message, self.behind_owner)
+    }
+
+    /// The class of the record.
+    pub fn class(&self) -> u16
+        ensures { result ≡ self.now.class }
+    {
+        number(self.message, self.behind_owner + 2)
+    }
+
+    /// The time to live, in seconds.
+    pub fn ttl(&self) -> u32
+        ensures { result ≡ self.now.ttl }
+    {
+        long_number(self.message, self.behind_owner + 4)
+    }
+}
+
+/// The records of a section that are still to be walked, which takes no memory.
+#[derive(Drop)]
+pub struct Section<'a> {
+    message: &'a [u8],
+    next: usize,
+    left: u16,
+}
+
+impl<'a> Model for Section<'a> {
+    ghost use Rattle.std.specs.Prelude.{List};
+    ghost use Rattle.dns_wire.specs.Message.{Item};
+    ghost use Rattle.dns_wire.specs.Viewed.{items_left, AreItemsLeft};
+
+    ghost Value = { List Item };
+
+    ghost view = { λ s. items_left s.message.now s.next s.left };
+
+    ghost invariant = { λ s. AreItemsLeft s.message.now s.next s.left };
+}
+
+impl<'a> Section<'a> {
+    ghost use Rattle.std.specs.Prelude.{◌≡◌, [], ◌∷◌, length, IfSome, OnSome, IfNone};
+    ghost use Rattle.dns_wire.specs.Viewed.{items_left, AreItemsLeft};
+
+    /// So many records from an offset on.
+    pub(crate) fn over(message: &'a [u8], next: usize, left: u16) -> Section<'a>
+        requires { AreItemsLeft message.now next left }
+        ensures { result ≡ items_left message.now next left }
+    {
+        Section {
+            message,
+            next,
+            left,
+        }
+    }
+
+    /// How many records are left.
+    pub fn len(&self) -> u16
+        ensures { result ≡ length self.now }
+    {
+        self.left
+    }
+
+    /// The next record, if there is one.
+    pub fn next(&mut self) -> Option<RecordView<'a>>
+        ensures some { IfSome result (λ r. self.old ≡ r ∷ self.new) }
+        ensures none { IfNone result (self.old ≡ []) }
+    {
+        if self.left == 0 {
+            return None;
+        }
+        let at = self.next;
+        let Ok(behind_owner) = name_end(self.message, at) else {
+            return None;
+        };
+        let size = number(self.message, behind_owner + 8) as usize;
+        self.next = behind_owner + 10 + size;
+        self.left -= 1;
+        Some(RecordView {
+            message: self.message,
+            at,
+            behind_owner,
+        })
+    }
+}
