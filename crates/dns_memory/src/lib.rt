@@ -1,10 +1,11 @@
-//! An allocator for tests: it counts the calls of `allocate`, and refuses one of them.
+//! The memory of every collection: an allocator that counts the calls of `allocate`, and refuses one of them when a test
+//! asks for it.
 #![tactic(auto)]
 
 use std::alloc::{AllocError, Allocator, Global};
 use std::cell::Cell;
 
-/// Lend it: a `&Meter` is an allocator, and is `Copy`.
+/// An allocator that counts. Lend it: a `&Meter` is an allocator, and is `Copy`.
 pub struct Meter<B: Allocator> {
     inner: B,
     // How many calls of `allocate` are still to come, up to the one that is refused, which is counted.
@@ -12,6 +13,7 @@ pub struct Meter<B: Allocator> {
 }
 
 impl<B: Allocator> Meter<B> {
+    /// Counts the calls of another allocator, and refuses none.
     pub fn new(inner: B) -> Meter<B> {
         Meter {
             inner,
@@ -39,7 +41,7 @@ impl<B: Allocator> Drop for Meter<B> {
 /// The handle of every collection: `Copy`, of a known size, with no lifetime of its own and no type parameter.
 pub type Heap = &'static Meter<Global>;
 
-/// Made once, and never freed.
+/// The handle over the memory of the machine. It is made once, and never freed.
 pub fn heap(alloc: Global) -> Result<Heap, AllocError> {
     Ok(Box::leak(Box::new(alloc, Meter::new(alloc))?))
 }

@@ -1,27 +1,15 @@
 -- The parts of data, taken from octets one by one.
-use Rattle.std.proofs.Common.{◌≡◌, ◌≢◌, ℕ, suc, ◌<◌, ◌≤◌, ◌↔◌, Bool, true, false, List, [], ◌∷◌, ◌++◌, length, take, drop, Option, Some, refl, sym, ap, subst, ◌∙◌, arith, cond, append-nil, take-append-drop, length-append}
-use Rattle.std.specs.Prelude.{IfSome, IsTrue, not, ◌==◌}
+use Rattle.std.proofs.Common.{◌≡◌, ◌≢◌, ℕ, suc, ◌<◌, ◌≤◌, ◌↔◌, Bool, true, false, List, [], ◌∷◌, ◌++◌, length, take, drop, refl, sym, ap, subst, ◌∙◌, arith, append-nil, take-append-drop, length-append}
+use Rattle.std.specs.Prelude.{IsTrue, not, ◌==◌}
 use Rattle.std.specs.List.{AllByRecursion, flat_map}
 use Rattle.std.proofs.lemmas.List.{drop_at, length-take-le}
 use Rattle.std.proofs.lemmas.Bool.Decides.{nat_tests}
 use Rattle.dns_names.specs.Name.{Labels, IsName, wire}
 use Rattle.dns_names.specs.PlainLaws.{wire_first}
-use Rattle.dns_records.specs.Types.{Field, Octets, Name, Target, Strings, form, type_a, type_ns, type_cname, type_soa, type_ptr, type_mx, type_txt, type_aaaa, type_srv}
+use Rattle.dns_records.specs.Types.{Field, Octets, Name, Target, Strings}
 use Rattle.dns_records.specs.Record.{string, IsField, AreFields}
 use Rattle.dns_records.specs.Fields.{StringsLast, stated_field, stated_fields}
 use Rattle.dns_records.specs.declared.parts.Field.{Field as Part}
-
--- strings stand last in the form of each type
-chosen : (b : Bool) (f g : Option (List Field)) → IfSome f StringsLast → IfSome g StringsLast → IfSome (cond b f g) StringsLast
-chosen true f g h k = h
-chosen false f g h k = k
-
-forms_last : (t : ℕ) → IfSome (form t) StringsLast
-forms_last t =
-    chosen (t == type_a) _ _ tt (chosen (t == type_ns) _ _ tt (chosen (t == type_cname) _ _ tt (chosen (t == type_soa) _ _ tt (chosen (t == type_ptr) _ _ tt (chosen (t == type_mx) _ _ tt (chosen (t == type_txt) _ _ tt (chosen (t == type_aaaa) _ _ tt (chosen (t == type_srv) _ _ tt tt))))))))
-
-pub form_last : (t : ℕ) (fields : List Field) → form t ≡ Some fields → StringsLast fields
-form_last t fields e = let h : IfSome (Some fields) StringsLast = subst (λ (f : Option (List Field)). IfSome f StringsLast) e (forms_last t) in h
 
 -- so many octets, and the other parts
 pub octets_first : (n : ℕ) (fields : List Field) (o : List ℕ) → n ≤ length o → AreFields fields (drop n o) ↔ AreFields (Octets n ∷ fields) o

@@ -4,3 +4,4 @@ pub mod Frames
 pub mod Readings
 pub mod Once
 pub mod StringParts
+pub mod Joined

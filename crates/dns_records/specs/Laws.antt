@@ -1,6 +1,6 @@
 -- Laws of data made of its parts.
-use Rattle.std.proofs.Common.{◌≡◌, ℕ, ◌<◌, ◌≤◌, zero, suc, Bool, true, false, List, [], ◌∷◌, ◌++◌, length, refl, sym, ap, subst, ◌∙◌, arith, append-nil, length-append, append_assoc}
-use Rattle.std.specs.Prelude.{◌==◌, ◌||◌, Some}
+use Rattle.std.proofs.Common.{◌≡◌, ℕ, ◌<◌, ◌≤◌, zero, suc, Bool, true, false, List, [], ◌∷◌, ◌++◌, length, refl, sym, ap, subst, ◌∙◌, arith, append-nil, length-append, append_assoc, Option, cond}
+use Rattle.std.specs.Prelude.{◌==◌, ◌||◌, Some, IfSome}
 use Rattle.std.specs.List.{AllByRecursion}
 use Rattle.std.specs.Int.{Width, w16, w32, to_be_bytes, bytes_high_first, byte_at, byte_len}
 use borrow.Author.Tests.{eqb-true}
@@ -9,7 +9,8 @@ use Rattle.dns_names.specs.Lower.{AreOctets}
 use Rattle.dns_names.specs.Plain.{IsPlain}
 use Rattle.dns_names.specs.PlainLaws.{plain_of, parts_same}
 use Rattle.dns_names.specs.PlainOctets.{octets-append, wire_octets}
-use Rattle.dns_records.specs.Types.{Field, Octets, Name, Target, form}
+use Rattle.dns_records.specs.Types.{Field, Octets, Name, Target, form, type_a, type_ns, type_cname, type_soa, type_ptr, type_mx, type_txt, type_aaaa, type_srv}
+use Rattle.dns_records.specs.Fields.{StringsLast}
 use Rattle.dns_records.specs.Record.{Data, IsData, AreFields}
 use Rattle.dns_records.specs.Typed.{name_data, is_name_type, soa_data, soa_numbers, mx_data, srv_data, srv_numbers}
 use Rattle.dns_records.specs.declared.typed.Soa.{Soa}
@@ -144,3 +145,15 @@ pub address_whole : (n : ℕ) (o : List ℕ) → AreFields (Octets n ∷ []) o �
 address_whole n o parts =
     let none : parts.1 ≡ [] = parts.4 in
     ap length (parts.2 ∙ ap (λ (x : List ℕ). parts.0 ++ x) none ∙ append-nil parts.0) ∙ parts.3
+
+-- strings stand last in the form of each type
+chosen : (b : Bool) (f g : Option (List Field)) → IfSome f StringsLast → IfSome g StringsLast → IfSome (cond b f g) StringsLast
+chosen true f g h k = h
+chosen false f g h k = k
+
+forms_last : (t : ℕ) → IfSome (form t) StringsLast
+forms_last t =
+    chosen (t == type_a) _ _ tt (chosen (t == type_ns) _ _ tt (chosen (t == type_cname) _ _ tt (chosen (t == type_soa) _ _ tt (chosen (t == type_ptr) _ _ tt (chosen (t == type_mx) _ _ tt (chosen (t == type_txt) _ _ tt (chosen (t == type_aaaa) _ _ tt (chosen (t == type_srv) _ _ tt tt))))))))
+
+pub form_last : (t : ℕ) (fields : List Field) → form t ≡ Some fields → StringsLast fields
+form_last t fields e = let h : IfSome (Some fields) StringsLast = subst (λ (f : Option (List Field)). IfSome f StringsLast) e (forms_last t) in h

@@ -7,6 +7,7 @@ ghost use Rattle.dns_records.specs.Types.{type_ns, type_cname, type_ptr};
 ghost use Rattle.dns_records.specs.Typed.{a_data, aaaa_data, name_data, mx_data, srv_data, soa_data, name_of, is_name_type};
 
 use crate::typed::{Mx, Soa, Srv};
+use crate::types;
 use dns_memory::Heap;
 use dns_names::{Name, NameRef};
 use smallvec::SmallVec;
@@ -35,7 +36,7 @@ impl Model for RData {
 fn is_name_type(rtype: u16) -> bool
     ensures { result ≡ is_name_type rtype }
 {
-    matches!(rtype, 2 | 5 | 12)
+    matches!(rtype, types::NS | types::CNAME | types::PTR)
 }
 
 impl RData {
@@ -73,35 +74,35 @@ impl RData {
     pub fn a(alloc: Heap, address: [u8; 4]) -> RData
         ensures { result ≡ a_data address }
     {
-        RData::of_address(alloc, 1, &address)
+        RData::of_address(alloc, types::A, &address)
     }
 
     /// A host's IPv6 address (RFC 3596 section 2.2).
     pub fn aaaa(alloc: Heap, address: [u8; 16]) -> RData
         ensures { result ≡ aaaa_data address }
     {
-        RData::of_address(alloc, 28, &address)
+        RData::of_address(alloc, types::AAAA, &address)
     }
 
     /// A name server (RFC 1035 section 3.3.11).
     pub fn ns(alloc: Heap, host: &Name) -> Result<RData, AllocError>
         ensures { IfOk result (λ d. d ≡ name_data type_ns host.now) }
     {
-        RData::of_name(alloc, 2, host)
+        RData::of_name(alloc, types::NS, host)
     }
 
     /// The canonical name of an alias (RFC 1035 section 3.3.1).
     pub fn cname(alloc: Heap, name: &Name) -> Result<RData, AllocError>
         ensures { IfOk result (λ d. d ≡ name_data type_cname name.now) }
     {
-        RData::of_name(alloc, 5, name)
+        RData::of_name(alloc, types::CNAME, name)
     }
 
     /// A name that an address is mapped to (RFC 1035 section 3.3.12).
     pub fn ptr(alloc: Heap, name: &Name) -> Result<RData, AllocError>
         ensures { IfOk result (λ d. d ≡ name_data type_ptr name.now) }
     {
-        RData::of_name(alloc, 12, name)
+        RData::of_name(alloc, types::PTR, name)
     }
 
     /// A mail exchange (RFC 1035 section 3.3.9).
@@ -111,7 +112,10 @@ impl RData {
         let mut octets = SmallVec::new(alloc);
         octets.extend_from_slice(&mx.preference.to_be_bytes())?;
         octets.extend_from_slice(mx.exchange.as_wire())?;
-        Ok(RData { rtype: 15, octets })
+        Ok(RData {
+            rtype: types::MX,
+            octets,
+        })
     }
 
     /// The location of a service (RFC 2782).
@@ -123,7 +127,10 @@ impl RData {
         octets.extend_from_slice(&srv.weight.to_be_bytes())?;
         octets.extend_from_slice(&srv.port.to_be_bytes())?;
         octets.extend_from_slice(srv.target.as_wire())?;
-        Ok(RData { rtype: 33, octets })
+        Ok(RData {
+            rtype: types::SRV,
+            octets,
+        })
     }
 
     /// The start of a zone of authority (RFC 1035 section 3.3.13).
@@ -138,7 +145,10 @@ impl RData {
         octets.extend_from_slice(&soa.retry.to_be_bytes())?;
         octets.extend_from_slice(&soa.expire.to_be_bytes())?;
         octets.extend_from_slice(&soa.minimum.to_be_bytes())?;
-        Ok(RData { rtype: 6, octets })
+        Ok(RData {
+            rtype: types::SOA,
+            octets,
+        })
     }
 }
 
@@ -185,6 +195,7 @@ impl RData {
             octets: SmallVec::from_slice(alloc, octets)?,
         })
     }
+
     /// Data of a type that is one name.
     fn of_name(alloc: Heap, rtype: u16, name: &Name) -> Result<RData, AllocError>
         requires { is_name_type rtype ≡ true }

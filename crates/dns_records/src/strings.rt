@@ -1,10 +1,12 @@
 //! The strings of a TXT, one by one.
-ghost use Rattle.std.specs.Prelude.{◌≡◌, ◌≢◌, ◌∷◌, ◌<◌, length, MatchOption};
+ghost use Rattle.std.specs.Prelude.{◌≡◌, ◌≢◌, ◌∷◌, ◌<◌, length, map, MatchOption, IfOk, IfErr};
 ghost use Rattle.std.specs.Iterator.{YieldsFirstRef, item_count};
 ghost use Rattle.dns_records.specs.Types.{type_txt};
-ghost use Rattle.dns_records.specs.TextStrings.{txt_data, FitsTxt, strings_of, AreStrings};
+ghost use Rattle.dns_records.specs.TextStrings.{txt_data, FitsTxt, RefusesTxt, strings_of, AreStrings};
 
-use crate::RData;
+use crate::{RData, RecordError, types};
+use dns_memory::Heap;
+use smallvec::SmallVec;
 use std::marker::Model;
 
 /// The strings of a TXT (RFC 1035 section 3.3.14).
@@ -54,11 +56,28 @@ impl<'a> Iterator for Strings<'a> {
 }
 
 impl RData {
+    /// Strings (RFC 1035 section 3.3.14). Refused are, as `BadData`, no string at all and one of more than 255 octets, and,
+    /// as `TooLong`, strings that take more than 4,096 octets, a length octet before each.
+    pub fn txt(alloc: Heap, strings: &[&[u8]]) -> Result<RData, RecordError>
+        ensures found { IfOk result (λ d. (d ≡ txt_data (map (λ s. s.now) strings.now)) × FitsTxt (map (λ s. s.now) strings.now)) }
+        ensures refused { IfErr result (RefusesTxt (map (λ s. s.now) strings.now)) }
+    {
+        let mut octets: SmallVec<u8, 24, Heap> = SmallVec::new(alloc);
+        for string in strings {
+            let Ok(len) = u8::try_from(string.len()) else {
+                return Err(RecordError::BadData);
+            };
+            octets.extend_from_slice(&[len])?;
+            octets.extend_from_slice(string)?;
+        }
+        RData::new(alloc, types::TXT, octets.as_slice())
+    }
+
     /// The strings of a TXT (RFC 1035 section 3.3.14).
     pub fn as_txt(&self) -> Option<Strings<'_>>
         ensures { MatchOption result (self.now.rtype ≢ type_txt) (λ strings. (self.now ≡ txt_data strings) × FitsTxt strings) }
     {
-        if self.rtype() != 16 {
+        if self.rtype() != types::TXT {
             return None;
         }
         Some(Strings {

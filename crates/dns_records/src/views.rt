@@ -6,11 +6,12 @@ ghost use Rattle.dns_records.specs.declared.typed.Srv.{Srv as SrvParts};
 ghost use Rattle.dns_records.specs.declared.typed.Soa.{Soa as SoaParts};
 ghost use Rattle.dns_records.specs.Types.{type_a, type_aaaa, type_mx, type_srv, type_soa};
 ghost use Rattle.dns_records.specs.Record.{host_of, serial_of, minimum_of, with_serial};
+ghost use Rattle.dns_records.specs.TextStrings.{txt_data};
 ghost use Rattle.dns_records.specs.Typed.{a_data, aaaa_data, name_data, mx_data, srv_data, soa_data, FitsMx, FitsSrv, FitsSoa};
 
 use crate::numbers::{five_u32, split_u16, u32_at};
 use crate::typed::{Mx, Soa, Srv};
-use crate::{RData, Record};
+use crate::{RData, Record, types};
 use dns_names::NameRef;
 use std::alloc::AllocError;
 
@@ -19,7 +20,7 @@ impl RData {
     pub fn as_a(&self) -> Option<[u8; 4]>
         ensures { MatchOption result (self.now.rtype ≢ type_a) (λ address. self.now ≡ a_data address) }
     {
-        if self.rtype() != 1 {
+        if self.rtype() != types::A {
             return None;
         }
         Some(*self.octets().first_chunk::<4>()?)
@@ -29,7 +30,7 @@ impl RData {
     pub fn as_aaaa(&self) -> Option<[u8; 16]>
         ensures { MatchOption result (self.now.rtype ≢ type_aaaa) (λ address. self.now ≡ aaaa_data address) }
     {
-        if self.rtype() != 28 {
+        if self.rtype() != types::AAAA {
             return None;
         }
         Some(*self.octets().first_chunk::<16>()?)
@@ -39,7 +40,7 @@ impl RData {
     pub fn as_mx(&self) -> Option<Mx<'_>>
         ensures { MatchOption result (self.now.rtype ≢ type_mx) (λ mx. (self.now ≡ mx_data mx) × FitsMx mx) }
     {
-        if self.rtype() != 15 {
+        if self.rtype() != types::MX {
             return None;
         }
         let (preference, behind) = split_u16(self.octets())?;
@@ -54,7 +55,7 @@ impl RData {
     pub fn as_srv(&self) -> Option<Srv<'_>>
         ensures { MatchOption result (self.now.rtype ≢ type_srv) (λ srv. (self.now ≡ srv_data srv) × FitsSrv srv) }
     {
-        if self.rtype() != 33 {
+        if self.rtype() != types::SRV {
             return None;
         }
         let (priority, behind) = split_u16(self.octets())?;
@@ -73,7 +74,7 @@ impl RData {
     pub fn as_soa(&self) -> Option<Soa<'_>>
         ensures { MatchOption result (self.now.rtype ≢ type_soa) (λ soa. (self.now ≡ soa_data soa) × FitsSoa soa) }
     {
-        if self.rtype() != 6 {
+        if self.rtype() != types::SOA {
             return None;
         }
         let (mname, behind) = NameRef::first(self.octets())?;
@@ -98,9 +99,9 @@ impl Record {
     {
         let octets = self.data().octets();
         match self.rtype() {
-            2 => Some(NameRef::over(octets)),
-            15 => Some(NameRef::over(&octets[2..])),
-            33 => Some(NameRef::over(&octets[6..])),
+            types::NS => Some(NameRef::over(octets)),
+            types::MX => Some(NameRef::over(&octets[2..])),
+            types::SRV => Some(NameRef::over(&octets[6..])),
             _ => None,
         }
     }
@@ -139,4 +140,5 @@ pub fn parts_are_one()
     ensures mx { (a b : MxParts) → FitsMx a → FitsMx b → mx_data a ≡ mx_data b → a ≡ b }
     ensures srv { (a b : SrvParts) → FitsSrv a → FitsSrv b → srv_data a ≡ srv_data b → a ≡ b }
     ensures soa { (a b : SoaParts) → FitsSoa a → FitsSoa b → soa_data a ≡ soa_data b → a ≡ b }
+    ensures txt { (a b : List (List ℕ)) → txt_data a ≡ txt_data b → a ≡ b }
 {}

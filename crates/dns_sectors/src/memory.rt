@@ -1,7 +1,8 @@
 // Sectors in memory, with a record of the writes and syncs that were made, so that each crash can be tried.
-ghost use Rattle.std.specs.Prelude.{◌≡◌, ◌≤◌, ◌<◌, ◌+◌, ◌-◌, ◌^◌, ◌⊎◌, ◌++◌, [], ◌∷◌, List, length, replicate, vec_len, vec_capacity, slice_set, false, if◌then◌else◌, IfOk, OnOk, IsErr};
+ghost use Rattle.std.specs.Prelude.{◌≡◌, ◌≤◌, ◌<◌, ◌+◌, ◌-◌, ◌^◌, ◌⊎◌, ◌++◌, [], ◌∷◌, List, length, replicate, vec_len, vec_capacity, slice_set, false, if◌then◌else◌, IfOk, OnOk, OnErr, IsErr};
+ghost use Rattle.dns_sectors.specs.Device.{CountsFailure};
 ghost use Rattle.dns_sectors.specs.Crash.{applied, contents, MayBeLeft};
-ghost use Rattle.dns_sectors.specs.Record.{disk_of, LeftSince};
+ghost use Rattle.dns_sectors.specs.Record.{disk_of, noted, counted, LeftSince};
 ghost use Rattle.dns_sectors.specs.Phase.{pairs};
 ghost use Rattle.dns_sectors.specs.Kept.{kept};
 ghost use Rattle.dns_sectors.specs.Laws.{contents_may_be_left, now_is_since, since_now, same_contents};
@@ -177,8 +178,8 @@ fn zeros(alloc: Heap, len: usize) -> Result<Vec<Sector, Heap>, AllocError>
 }
 
 impl MemorySectors {
-    ghost use Rattle.std.specs.Prelude.{◌≡◌, ◌≤◌, ◌<◌, ◌+◌, ◌-◌, ◌^◌, ◌↔◌, IsTrue, length, min};
-    ghost use Rattle.dns_sectors.specs.Record.{noted};
+    ghost use Rattle.std.specs.Prelude.{◌≡◌, ◌≤◌, ◌<◌, ◌-◌, ◌^◌, ◌↔◌, IsTrue, length};
+    ghost use Rattle.dns_sectors.specs.Record.{noted, counted};
 
     // The record has room for no call more.
     fn is_full(&self) -> bool
@@ -189,7 +190,7 @@ impl MemorySectors {
 
     // Counts a failure, up to the last number.
     fn fail(&mut self) -> DeviceError
-        ensures counted { self.new ≡ record self.old { failures = min (self.old.failures + 1) (2 ^ 64 - 1) } }
+        ensures counted { self.new ≡ counted self.old }
         ensures fits { self.old.failures ≤ 2 ^ 64 - 1 }
     {
         self.failures = self.failures.saturating_add(1);
@@ -267,7 +268,15 @@ impl Sectors for MemorySectors {
         Ok(self.current[at])
     }
 
-    fn write(&mut self, at: usize, octets: &Sector) -> Result<(), DeviceError> {
+    /// A call beyond the room of the record fails, and is counted and not recorded. One within it is recorded: as a write
+    /// where it joined the pending ones, even if it failed.
+    fn write(&mut self, at: usize, octets: &Sector) -> Result<(), DeviceError>
+        requires { at < length self.old.start }
+        ensures full { self.old.room ≤ length self.old.calls → IsErr result × (self.new ≡ counted self.old) }
+        ensures failed { CountsFailure result self.old.failures self.new.failures }
+        ensures ok { OnOk result (self.new ≡ noted self.old (Call.Wrote at octets.now)) }
+        ensures err { OnErr result ((self.new ≡ counted self.old) ⊎ (self.new ≡ counted (noted self.old Call.Failed)) ⊎ (self.new ≡ counted (noted self.old (Call.Wrote at octets.now)))) }
+    {
         let turn = self.plan.turn();
         if self.is_full() {
             return Err(self.fail());
@@ -283,7 +292,13 @@ impl Sectors for MemorySectors {
         Ok(())
     }
 
-    fn sync(&mut self) -> Result<(), DeviceError> {
+    /// A call beyond the room of the record fails, and is counted and not recorded.
+    fn sync(&mut self) -> Result<(), DeviceError>
+        ensures full { self.old.room ≤ length self.old.calls → IsErr result × (self.new ≡ counted self.old) }
+        ensures failed { CountsFailure result self.old.failures self.new.failures }
+        ensures ok { OnOk result (self.new ≡ noted self.old Call.Synced) }
+        ensures err { OnErr result ((self.new ≡ counted self.old) ⊎ (self.new ≡ counted (noted self.old Call.Failed))) }
+    {
         let turn = self.plan.turn();
         if self.is_full() {
             return Err(self.fail());

@@ -65,8 +65,9 @@ impl<'a> Packer<'a> {
         ensures refused { IfErr result (RefusesUpTo self.old.limit (length self.old.octets.items + length (asked (echo question.now)).octets)) }
     {
         if let Some(echo) = question {
+            let name = echo.name.as_wire();
             self.put(echo.octets)?;
-            self.note_name(12, echo.name.as_wire())?;
+            self.note_name(12, name)?;
         }
         Ok(())
     }

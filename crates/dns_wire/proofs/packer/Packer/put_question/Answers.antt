@@ -7,14 +7,14 @@ use Rattle.dns_wire.specs.Reply.{echo}
 use Rattle.dns_wire.proofs.packer.Packer.put_question.Goals as goal
 
 pub note_name-requires-clause-plain : goal.note_name-requires-clause-plain
-note_name-requires-clause-plain c = (plain_of c.as_wire.result.now c.in-Some.echo.name c.as_wire.ensures.valid c.as_wire.ensures.octets).1
+note_name-requires-clause-plain c = (plain_of c.as_wire-name.result.now c.in-Some.echo.name c.as_wire-name.ensures.valid c.as_wire-name.ensures.octets).1
 
 pub returns-in_ok-note_name-clause-written : goal.returns-in_ok-note_name-clause-written
 returns-in_ok-note_name-clause-written c =
     let s = c.args.self.now in
     let new = c.note_name.new.self in
     let put = c.put.new.self in
-    let name : labels_of c.as_wire.result.now ≡ c.in-Some.echo.name = (plain_of c.as_wire.result.now c.in-Some.echo.name c.as_wire.ensures.valid c.as_wire.ensures.octets).0 in
+    let name : labels_of c.as_wire-name.result.now ≡ c.in-Some.echo.name = (plain_of c.as_wire-name.result.now c.in-Some.echo.name c.as_wire-name.ensures.valid c.as_wire-name.ensures.octets).0 in
     let w = c.in_ok-put.ensures.written in
     let kept = c.in_ok-note_name.ensures in
     let octets : new.octets.items ≡ put.octets.items = ap (λ v. v.items) kept.0 in
