@@ -5,15 +5,25 @@ ghost use Rattle.dns_wire.specs.Text.{text};
 ghost use Rattle.dns_answer.specs.Answer.{bare_reply, is_request};
 ghost use Rattle.dns_server.specs.Served.{served, sent};
 
-use crate::question::answer_question;
-use dns_answer::header_only;
+use dns_answer::{Transport, header_only, is_for_reply, reply};
 use dns_memory::Heap;
+use dns_records::types;
 use dns_wire::{Message, at_most_one};
 use dns_zone::{Zone, ZoneIndex};
 use std::alloc::AllocError;
 
+/// The kind of a query, and that of an update (RFC 1035 section 4.1.1, RFC 2136 section 2.2).
+const QUERY: u8 = 0;
+
+const UPDATE: u8 = 5;
+
+/// The response codes of what is no request, and of what is not served (RFC 1035 section 4.1.1).
+const FORMERR: u8 = 1;
+
+const NOTIMP: u8 = 4;
+
 /// A reply that is a header alone.
-pub(crate) fn refusal(alloc: Heap, octets: &[u8], rcode: u8) -> Result<Vec<u8, Heap>, AllocError>
+fn refusal(alloc: Heap, octets: &[u8], rcode: u8) -> Result<Vec<u8, Heap>, AllocError>
     requires header { 12 ≤ length octets.now }
     requires rcode { rcode < 16 }
     ensures { IfOk result (λ reply. reply.items ≡ text (bare_reply (header_of octets.now) rcode)) }
@@ -47,14 +57,14 @@ fn has_counts_of_request(message: &Message<'_>) -> bool
     let Some(question) = message.question() else {
         return false;
     };
-    let is_update = message.opcode() == 5;
-    let is_ixfr = question.qtype() == 251;
+    let is_update = message.opcode() == UPDATE;
+    let is_ixfr = question.qtype() == types::IXFR;
     let is_bare = (message.answer_count() == 0) & ((message.authority_count() == 0) | is_ixfr);
     (message.additional_count() == 0) & (is_update | is_bare)
 }
 
-/// The reply to a datagram, if it gets one: what the definition of a reply gives for these octets, where the request is refused or
-/// asks for addresses that stand at the name itself, and NOTIMP for all else.
+/// The reply to a datagram, if it gets one: octet for octet what is defined for these zones and these octets. What goes to the
+/// updates or to the transfers is NOTIMP, a header alone.
 pub fn answer_datagram<I: ZoneIndex>(
     alloc: Heap,
     zones: &[Zone<I>],
@@ -66,21 +76,21 @@ pub fn answer_datagram<I: ZoneIndex>(
         return Ok(None);
     }
     let opcode = opcode_of(octets);
-    if opcode != 0 && opcode != 5 {
-        return Ok(Some(refusal(alloc, octets, 4)?));
+    if opcode != QUERY && opcode != UPDATE {
+        return Ok(Some(refusal(alloc, octets, NOTIMP)?));
     }
     if octets.len() > 512 {
-        return Ok(Some(refusal(alloc, octets, 1)?));
+        return Ok(Some(refusal(alloc, octets, FORMERR)?));
     }
     at_most_one();
     let Ok(message) = Message::read(octets) else {
-        return Ok(Some(refusal(alloc, octets, 1)?));
+        return Ok(Some(refusal(alloc, octets, FORMERR)?));
     };
     if !has_counts_of_request(&message) {
-        return Ok(Some(refusal(alloc, octets, 1)?));
+        return Ok(Some(refusal(alloc, octets, FORMERR)?));
     }
-    match message.question() {
-        Some(question) => Ok(Some(answer_question(alloc, zones, &message, &question)?)),
-        None => Ok(None),
+    if !is_for_reply(&message, Transport::Udp) {
+        return Ok(Some(refusal(alloc, octets, NOTIMP)?));
     }
+    Ok(Some(reply(alloc, zones, &message, Transport::Udp)?))
 }

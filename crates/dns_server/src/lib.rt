@@ -3,8 +3,6 @@
 
 mod builtin;
 mod datagram;
-mod fit;
-mod question;
 mod script;
 
 pub use builtin::{BuiltinError, builtin_zone};

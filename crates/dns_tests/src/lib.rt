@@ -4,7 +4,11 @@
 #[cfg(test)]
 mod exchanges;
 #[cfg(test)]
+mod lookups;
+#[cfg(test)]
 mod memory;
+#[cfg(test)]
+mod replies;
 #[cfg(test)]
 mod scripts;
 #[cfg(test)]

@@ -6,15 +6,17 @@ use std::test::Fail;
 
 /// A message with a question for `a.`, an opaque record whose data is a chain of so many pointers, each to the one before
 /// it and the first to the question's name, and a record owned by the name at the end of the chain.
-fn chain(alloc: Heap, pointers: usize) -> Result<Vec<u8, Heap>, Fail> {
+fn chain(alloc: Heap, pointers: u16) -> Result<Vec<u8, Heap>, Fail> {
     let mut octets: Vec<u8, Heap> = Vec::new(alloc);
     octets.extend_from_slice(b"\x00\x00\x84\x00\x00\x01\x00\x02\x00\x00\x00\x00")?;
     octets.extend_from_slice(b"\x01a\x00\x00\x01\x00\x01")?;
     octets.extend_from_slice(b"\x00\x00\x63\x00\x01\x00\x00\x00\x00")?;
-    octets.extend_from_slice(&(2 * pointers as u16).to_be_bytes())?;
+    octets.extend_from_slice(&pointers.saturating_mul(2).to_be_bytes())?;
     let mut target = 12u16;
     for _ in 0..pointers {
-        let here = octets.len() as u16;
+        let Ok(here) = u16::try_from(octets.len()) else {
+            return Err(Fail::from("too long"));
+        };
         octets.extend_from_slice(&(0xc000u16 | target).to_be_bytes())?;
         target = here;
     }
@@ -29,7 +31,7 @@ fn chains_of_pointers(rt: HostRuntime) -> Result<(), Fail> {
     let alloc = heap(rt.alloc())?;
     let name = Name::from_text(alloc, b"a.", &Name::root(alloc))?;
     let mut longest = 0;
-    for pointers in 0..233usize {
+    for pointers in 0..233u16 {
         let octets = chain(alloc, pointers)?;
         if octets.len() > 512 {
             break;
@@ -55,10 +57,7 @@ fn refused_pointers(rt: HostRuntime) -> Result<(), Fail> {
         let mut octets = *b"\x00\x00\x00\x00\x00\x01\x00\x00\x00\x00\x00\x00..\x00\x01\x00\x01";
         octets[12] = text[0];
         octets[13] = text[1];
-        assert_eq!(rt;
-            Message::read(&octets).err(),
-            Some(WireError::BadPointer)
-        );
+        assert_eq!(rt; Message::read(&octets).err(), Some(WireError::BadPointer));
     }
     Ok(())
 }
@@ -95,20 +94,23 @@ fn longest_name(alloc: Heap) -> Result<Vec<u8, Heap>, Fail> {
 fn the_longest_name_behind_a_pointer(rt: HostRuntime) -> Result<(), Fail> {
     let alloc = heap(rt.alloc())?;
     let mut octets = longest_name(alloc)?;
-    let pointer = octets.len();
+    assert_eq!(rt; octets.len(), 267);
     octets.extend_from_slice(b"\xc0\x0c\x01y\xc0\x0c\x01z\xc0\x4c")?;
+    if octets.len() != 277 {
+        return Err(Fail::from("another length"));
+    }
     let (whole, end) = NameView::read(&octets, 12)?;
-    assert_eq!(rt; end, pointer);
+    assert_eq!(rt; end, 267);
     let name = whole.to_name(alloc)?;
     assert_eq!(rt; name.as_wire().len(), 255);
-    let (shown, end) = NameView::read(&octets, pointer)?;
-    assert_eq!(rt; end, pointer + 2);
+    let (shown, end) = NameView::read(&octets, 267)?;
+    assert_eq!(rt; end, 269);
     assert!(rt; shown.is(&name.lend()));
     assert_eq!(rt;
-        NameView::read(&octets, pointer + 2).err(),
+        NameView::read(&octets, 269).err(),
         Some(WireError::NameTooLong)
     );
     // Behind its first label there is room for one more.
-    assert!(rt; NameView::read(&octets, pointer + 6).is_ok());
+    assert!(rt; NameView::read(&octets, 273).is_ok());
     Ok(())
 }

@@ -3,3 +3,4 @@ pub mod Placing
 pub mod Listed
 pub mod Under
 pub mod Surveying
+pub mod Gathering

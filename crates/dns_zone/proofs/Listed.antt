@@ -1,9 +1,7 @@
 -- What the sorted list answers, and that it stays in order.
-use Rattle.std.proofs.Common.{◌≡◌, inl, inr, ℕ, zero, suc, ◌+◌, ◌≤◌, Bool, true, false, List, [], ◌∷◌, length, refl, sym, ap, subst, ◌∙◌, arith, cond}
+use Rattle.std.proofs.Common.{◌≡◌, ℕ, zero, suc, ◌+◌, ◌≤◌, Bool, true, false, List, [], ◌∷◌, length, refl, sym, ap, subst, ◌∙◌, arith, cond}
 use Rattle.std.specs.Prelude.{filter, ◌&&◌, ◌||◌, ◌==◌, not, nat_lt, Some, None, Option, slice_get, if◌then◌else◌}
 use Rattle.std.specs.List.{AllWithin, AllByRecursion, list_any, list_all, find}
-use Rattle.std.specs.Str.{bytes_eq}
-use Rattle.std.specs.Cmp.Lexicographic.{slice_cmp}
 use Rattle.std.specs.Ordering.{is_lt, is_eq, is_gt, nat_cmp, ordering_then, ordering_reverse}
 use Rattle.std.specs.FinMap.Entries.{by_order}
 use Rattle.std.specs.FinMap.{nat_cmp-IsAntisymmetric}
@@ -14,15 +12,16 @@ use Rattle.std.proofs.lemmas.Bool.Decides.{nat_tests}
 use Rattle.dns_names.specs.Name.{Labels, names_eq, under, name_cmp}
 use Rattle.dns_names.specs.Compare.{name_cmp-same}
 use Rattle.dns_records.specs.Record.{Record, record_cmp, IsRecord}
-use Rattle.dns_zone.specs.Records.{is_ordered, put, without, alike, owns_type, records_at, rrset, next_after}
-use Rattle.dns_zone.specs.Zone.{has_twice, has_cname_and_other, soas, zone_fault}
+use Rattle.dns_zone.specs.Records.{is_ordered, put, without, owns_type, records_at, rrset, next_after}
+use Rattle.dns_zone.specs.Zone.{has_cname_and_other, soas, zone_fault}
 use Rattle.dns_zone.specs.Survey.{Surveys, is_wildcard_ns, fault_told}
 use Rattle.dns_zone.specs.declared.survey.Survey.{Survey}
 use Rattle.dns_zone.specs.declared.ZoneError.{ZoneError}
 use Rattle.dns_zone.specs.declared.ZoneError.TheVariants.{NoSoa, ManySoa, NoNs, OutOfZone, Duplicate, CnameAndOther, WildcardNs, TooMany}
 use Rattle.dns_records.specs.Types.{type_soa, type_ns}
-use Rattle.dns_zone.specs.Order.{name_total, record_total, names_same, names_itself, number_itself, bytes_same, both_true}
-use Rattle.dns_zone.specs.Sets.{Sorted, Below, sorted_from, sorted_put, sorted_filter, equal_is, told}
+use Rattle.dns_zone.specs.Order.{name_total, record_total, names_same, names_itself, number_itself}
+use Rattle.dns_zone.specs.Twice.{once}
+use Rattle.dns_zone.specs.Sets.{Sorted, sorted_from, sorted_put, sorted_filter, equal_is}
 
 filter_same : (p q : Record → Bool) → ((r : Record) → p r ≡ q r) → (xs : List Record) → filter p xs ≡ filter q xs
 filter_same p q h [] = refl
@@ -85,26 +84,6 @@ next_is r (x ∷ xs) (suc at) inside f g =
     let here : is_lt (record_cmp r x) ≡ false = greater_is (record_cmp x r) (record_cmp r x) (record_total.antisymm r x) ∙ f 0 x (omega arith) (omega arith) in
     next_is r xs at (omega arith) (λ k d from to. f (suc k) d (omega arith) (omega arith)) (λ k d from to. g (suc k) d (omega arith) (omega arith))
     ∙ ap (λ (b : Bool). cond b (Some x) (find (λ s. is_lt (record_cmp r s)) xs)) (sym here)
-
-alike_tied : (a b : Record) → alike a b ≡ true → record_cmp a b ≡ Equal
-alike_tied a b e =
-    let two = both_true (names_eq a.owner b.owner && a.rtype == b.rtype) (bytes_eq a.rdata b.rdata) e in
-    let three = both_true (names_eq a.owner b.owner) (a.rtype == b.rtype) two.0 in
-    let owner = names_same a.owner b.owner three.0 in
-    let rtype : a.rtype ≡ b.rtype = grind (arith, nat_tests, three.1) in
-    let rdata = bytes_same a.rdata b.rdata two.1 in
-    (λ i. ordering_then (name_cmp a.owner (sym owner i)) (ordering_then (nat_cmp a.rtype (sym rtype i)) (slice_cmp nat_cmp a.rdata (sym rdata i)))) ∙ tied_itself record_total a
-
-none_alike : (x : Record) (xs : List Record) → Below x xs → list_any (alike x) xs ≡ false
-none_alike x [] h = refl
-none_alike x (y ∷ ys) h =
-    let apart : alike x y ≡ false = elim (told (alike x y)) [ inl e ↦ (let tied = alike_tied x y e in let less = h.0 in absurd cc) | inr e ↦ e ] in
-    ap (λ (b : Bool). b || list_any (alike x) ys) apart ∙ none_alike x ys h.1
-
--- no record of a list in order stands twice in it
-pub once : (xs : List Record) → Sorted xs → has_twice xs ≡ false
-once [] h = refl
-once (x ∷ xs) h = ap (λ (b : Bool). b || has_twice xs) (none_alike x xs h.0) ∙ once xs h.1
 
 and_true : (b : Bool) → (b && true) ≡ b
 and_true true = refl

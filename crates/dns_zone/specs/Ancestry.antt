@@ -1,10 +1,10 @@
 -- The tests of names beside the facts.
-use Rattle.std.proofs.Common.{◌≡◌, ◌⊎◌, inl, inr, Bool, true, false, List, [], ◌∷◌, ◌++◌, refl, sym, ap, subst, ◌∙◌}
+use Rattle.std.proofs.Common.{◌≡◌, inl, inr, Bool, true, false, [], ◌∷◌, ◌++◌, refl, sym, ap, subst}
 use Rattle.std.specs.Prelude.{◌||◌}
 use Rattle.std.specs.Cmp.{both_ways}
 use Rattle.dns_names.specs.Name.{Labels, IsUnder, under, names_eq}
 use Rattle.dns_zone.specs.Order.{names_same, names_itself}
-use Rattle.dns_zone.specs.Sets.{told, either_true}
+use Rattle.dns_zone.specs.Sets.{either_true}
 
 -- the test is the fact
 pub under_from : (a n : Labels) → under a n ≡ true → IsUnder a n

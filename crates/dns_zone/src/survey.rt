@@ -2,6 +2,7 @@
 ghost use Rattle.std.specs.Prelude.{◌≡◌, ◌∷◌, ◌+◌, ◌==◌, ◌&&◌, nat_lt, min, List, [], length, if◌then◌else◌};
 ghost use Rattle.dns_names.specs.Name.{Labels};
 ghost use Rattle.dns_records.specs.Record.{Record as Stated};
+ghost use Rattle.dns_records.specs.Types.{type_ns, type_cname, type_soa};
 ghost use Rattle.dns_zone.specs.Records.{records_at};
 ghost use Rattle.dns_zone.specs.Zone.{is_wildcard};
 ghost use Rattle.dns_zone.specs.Survey.{Surveys};
@@ -9,6 +10,7 @@ ghost use Rattle.dns_zone.specs.Survey.{Surveys};
 use crate::ZoneIndex;
 use dns_names::NameRef;
 use dns_records::Record;
+use dns_records::types::{CNAME, NS, SOA};
 
 /// What is told of the records so far. The counts stop one behind the limits that they are compared with.
 #[derive(Clone, Copy)]
@@ -30,23 +32,23 @@ fn begins_with_asterisk(name: &NameRef<'_>) -> bool
 
 /// Whether the record is an NS at a wildcard.
 fn is_wildcard_ns(r: &Record) -> bool
-    ensures { result ≡ (r.now.rtype == 2 && is_wildcard r.now.owner) }
+    ensures { result ≡ (r.now.rtype == type_ns && is_wildcard r.now.owner) }
 {
-    r.rtype() == 2 && begins_with_asterisk(&r.owner().lend())
+    r.rtype() == NS && begins_with_asterisk(&r.owner().lend())
 }
 
 /// Whether the record is a CNAME at an owner of so many records, more than one.
 fn is_shared_alias(r: &Record, owned: usize) -> bool
-    ensures { result ≡ (r.now.rtype == 5 && nat_lt 1 owned) }
+    ensures { result ≡ (r.now.rtype == type_cname && nat_lt 1 owned) }
 {
-    r.rtype() == 5 && owned > 1
+    r.rtype() == CNAME && owned > 1
 }
 
 /// How many SOAs there are with one record more, two standing for any number above one.
 fn soas_with(soas: usize, r: &Record) -> usize
-    ensures { result ≡ (if r.now.rtype == 6 then min soas 1 + 1 else soas) }
+    ensures { result ≡ (if r.now.rtype == type_soa then min soas 1 + 1 else soas) }
 {
-    if r.rtype() == 6 {
+    if r.rtype() == SOA {
         return soas.min(1) + 1;
     }
     soas

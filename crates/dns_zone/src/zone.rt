@@ -1,10 +1,15 @@
-ghost use Rattle.std.specs.Prelude.{◌≡◌, Some, IfOk, IfErr};
+ghost use Rattle.std.specs.Prelude.{◌≡◌, ◌⊎◌, Some, None, IfOk, IfErr, OnOk};
 ghost use Rattle.dns_zone.specs.Zone.{IsZone, zone_fault};
+ghost use Rattle.dns_zone.specs.Made.{IsSetOf};
 ghost use Rattle.dns_zone.specs.Survey.{fault_told};
 
+use crate::gather::{refusal_of_doubles, rises, set_of, sort};
 use crate::survey::{Survey, survey_of};
 use crate::{ZoneError, ZoneIndex};
+use dns_memory::Heap;
 use dns_names::Name;
+use dns_records::Record;
+use dns_records::types::{NS, SOA};
 use std::marker::Model;
 
 /// A zone: an apex, and a valid set of records (RFC 1034 section 4.2.1).
@@ -25,6 +30,28 @@ impl<I: ZoneIndex> Model for Zone<I> {
 }
 
 impl<I: ZoneIndex> Zone<I> {
+    /// The zone of records in any order, or the lowest refusal that applies to the list.
+    pub fn from_records(
+        alloc: Heap,
+        apex: Name,
+        records: Vec<Record, Heap>,
+    ) -> Result<Zone<I>, ZoneError>
+        ensures found { IfOk result (λ z. IsZone z × (z.apex ≡ apex) × IsSetOf records.entry.items z.records) }
+        ensures only { OnOk result (zone_fault apex records.entry.items ≡ None) }
+        ensures refused { IfErr result (λ e. (e ≡ ZoneError.OutOfMemory) ⊎ (zone_fault apex records.entry.items ≡ Some e)) }
+    {
+        let mut records = records;
+        sort(&mut records)?;
+        if !rises(&records) {
+            return Err(refusal_of_doubles(&apex.lend(), &records));
+        }
+        let index = set_of(alloc, records)?;
+        match Zone::from_index(apex, index) {
+            Ok(zone) => Ok(zone),
+            Err((_, error)) => Err(error),
+        }
+    }
+
     /// The zone of a set, which is handed back where it is none, with the lowest refusal that applies.
     pub fn from_index(apex: Name, index: I) -> Result<Zone<I>, (I, ZoneError)>
         ensures found { IfOk result (λ z. (z.records ≡ I.records index) × (z.apex ≡ apex) × IsZone z) }
@@ -65,8 +92,8 @@ fn fault<I: ZoneIndex>(apex: &Name, index: &I) -> Option<ZoneError>
     ensures { result ≡ zone_fault apex.now (I.records index.now) }
 {
     let apex = apex.lend();
-    let soa = index.rrset(&apex, 6).is_empty();
-    let ns = index.rrset(&apex, 2).is_empty();
+    let soa = index.rrset(&apex, SOA).is_empty();
+    let ns = index.rrset(&apex, NS).is_empty();
     first_fault(survey_of(index, &apex), soa, ns)
 }
 

@@ -1,5 +1,4 @@
 use Rattle.std.proofs.Common.{◌≡◌, ◌<◌, true, false, length, sym, ap, ◌∙◌, arith}
-use Rattle.std.specs.Bool.{IsTrue}
 use Rattle.dns_names.specs.Name.{names_eq}
 use Rattle.dns_lookup.proofs.Upward.{eq_true, eq_false, find_next, any_next, find_here, any_here, has_apex}
 use Rattle.dns_lookup.proofs.zones.place_of.Goals as goal

@@ -1,6 +1,6 @@
 use Rattle.std.proofs.Common.{[], length, subst, ap, ◌∙◌}
-use Rattle.std.specs.Prelude.{◌==◌, ◌&&◌}
-use Rattle.dns_names.specs.Name.{Labels, names_eq}
+use Rattle.std.specs.Prelude.{◌==◌}
+use Rattle.dns_names.specs.Name.{Labels}
 use Rattle.dns_zone.specs.Records.{rrset}
 use Rattle.dns_zone.specs.Sets.{sorted_from}
 use Rattle.dns_zone.specs.Survey.{Surveys}

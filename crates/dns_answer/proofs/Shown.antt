@@ -1,0 +1,237 @@
+-- What each name puts into the sections.
+use Rattle.std.proofs.Common.{◌≡◌, ℕ, zero, suc, ◌+◌, ◌-◌, ◌<◌, ◌≤◌, Bool, true, false, ◌||◌, List, [], ◌∷◌, ◌++◌, length, get_or, take, map, refl, sym, ap, subst, ◌∙◌, arith, cond}
+use Rattle.std.specs.Prelude.{Option, Some, None, Result, Ok, Err, IfOk, not, ◌&&◌, ◌==◌, nat_lt, filter, min, slice_get}
+use Rattle.std.proofs.lemmas.Option.{get_or_from_slice_get, slice_get_within, slice_get-get_or}
+use Rattle.std.specs.List.{list_any, flat_map}
+use Rattle.std.proofs.lemmas.List.{append-nil, map-append, take_all}
+use Rattle.std.proofs.lemmas.Grind.{flat_map-append}
+use Rattle.std.proofs.lemmas.Bool.Decides.{nat_tests}
+use Rattle.dns_names.specs.Name.{Labels, names_eq}
+use Rattle.dns_records.specs.Types.{type_ns, type_soa}
+use Rattle.dns_records.specs.Record.{Record, host_of, minimum_of}
+use Rattle.dns_zone.specs.Records.{rrset, owns_type}
+use Rattle.dns_zone.specs.Order.{both_true}
+use Rattle.dns_zone.specs.Zone.{Zone, IsZone, soas, zone_fault}
+use Rattle.dns_zone.specs.declared.ZoneError.{ZoneError}
+use Rattle.dns_lookup.specs.Told.{IsTold, AreTold}
+use Rattle.dns_lookup.specs.ToldLaws.{outcome_of, told_is, told_at, told_length}
+use Rattle.dns_lookup.specs.declared.chain.Found.{Found as Told}
+use Rattle.dns_lookup.specs.declared.outcome.Kind.{Kind}
+use Rattle.dns_lookup.specs.declared.outcome.Kind.TheVariants as kinds
+use Rattle.dns_lookup.specs.Lookup.{Outcome, Found, Referral, Alias, Answers, NoData, NameError}
+use Rattle.dns_answer.specs.Sections.{Shown, from_zone, records_of, as_owner, answers_of, answer_of, authority_of, negative_soa, authority_at, addresses_for, is_name_error, is_authoritative}
+
+-- the parts of what was found, by its outcome
+abbrev pub answers_at : Zone → Labels → ℕ → Outcome → List Shown
+answers_at z name t o = answers_of t (record { zone = z; name = name; outcome = o })
+
+abbrev pub authority_by : Zone → Outcome → List Shown
+authority_by z o = authority_at (record { zone = z; name = []; outcome = o })
+
+pub records_back : (z : Zone) (rs : List Record) → records_of (from_zone z rs) ≡ rs
+records_back z [] = refl
+records_back z (r ∷ rs) = ap (λ (xs : List Record). r ∷ xs) (records_back z rs)
+
+-- one name more in the answer section
+pub next_answers : (t : ℕ) (fs : List Found) (i : ℕ) (f : Found) (rs : List Record) → take (i + 1) fs ≡ take i fs ++ f ∷ [] → answers_of t f ≡ from_zone f.zone (as_owner f.name rs) → records_of (answer_of t (take (i + 1) fs)) ≡ records_of (answer_of t (take i fs)) ++ as_owner f.name rs
+next_answers t fs i f rs more is =
+    ap (λ (xs : List Found). records_of (answer_of t xs)) more
+    ∙ ap records_of (flat_map-append (answers_of t) (take i fs) (f ∷ []) ∙ ap (λ (xs : List Shown). answer_of t (take i fs) ++ xs) (append-nil (answers_of t f) ∙ is))
+    ∙ map-append (λ (s : Shown). s.shown) (answer_of t (take i fs)) (from_zone f.zone (as_owner f.name rs))
+    ∙ ap (λ (xs : List Record). records_of (answer_of t (take i fs)) ++ xs) (records_back f.zone (as_owner f.name rs))
+
+-- a record by its number has the type that was asked
+typed_step : (t : ℕ) (r x : Record) (xs : List Record) (a b : Bool) → (x.rtype == t) ≡ b → ((i : ℕ) → i < length xs → (get_or xs i r).rtype ≡ t) → (i : ℕ) → i < length (cond (a && b) (x ∷ xs) xs) → (get_or (cond (a && b) (x ∷ xs) xs) i r).rtype ≡ t
+typed_step t r x xs true true e rest zero lt = grind (arith, nat_tests)
+typed_step t r x xs true true e rest (suc i) lt = rest i (omega (arith, lt))
+typed_step t r x xs true false e rest i lt = rest i lt
+typed_step t r x xs false b e rest i lt = rest i lt
+
+all_typed : (records : List Record) (name : Labels) (t : ℕ) (r : Record) (i : ℕ) → i < length (rrset records name t) → (get_or (rrset records name t) i r).rtype ≡ t
+all_typed [] name t r i lt = absurd (omega (arith, lt))
+all_typed (x ∷ xs) name t r i lt = typed_step t r x (rrset xs name t) (names_eq x.owner name) (x.rtype == t) refl (all_typed xs name t r) i lt
+
+pub typed_at : (records : List Record) (name : Labels) (t i : ℕ) (r : Record) → i < length (rrset records name t) → r ≡ get_or (rrset records name t) i r → r.rtype ≡ t
+typed_at records name t i r inside is = ap (λ (x : Record). x.rtype) is ∙ all_typed records name t r i inside
+
+-- of a list without more than one that passes a test, those that pass another too are all, if there is one
+fewer_step : (x : Record) (ys zs : List Record) (a b : Bool) → length ys ≤ length zs → length (cond (a && b) (x ∷ ys) ys) ≤ length (cond b (x ∷ zs) zs)
+fewer_step x ys zs true true h = omega (arith, h)
+fewer_step x ys zs true false h = h
+fewer_step x ys zs false true h = omega (arith, h)
+fewer_step x ys zs false false h = h
+
+fewer : (p q : Record → Bool) (xs : List Record) → length (filter (λ r. p r && q r) xs) ≤ length (filter q xs)
+fewer p q [] = omega arith
+fewer p q (x ∷ xs) = fewer_step x (filter (λ r. p r && q r) xs) (filter q xs) (p x) (q x) (fewer p q xs)
+
+none_left : (xs : List Record) → length xs ≤ 0 → xs ≡ []
+none_left [] h = refl
+none_left (x ∷ xs) h = absurd (omega (arith, h))
+
+some_step : (x : Record) (p q : Record → Bool) (xs : List Record) (a b : Bool) → ((a && b) || list_any (λ r. p r && q r) xs) ≡ true → (list_any (λ r. p r && q r) xs ≡ true → 0 < length (filter q xs)) → 0 < length (cond b (x ∷ filter q xs) (filter q xs))
+some_step x p q xs true true h rest = omega arith
+some_step x p q xs true false h rest = rest h
+some_step x p q xs false true h rest = omega arith
+some_step x p q xs false false h rest = rest h
+
+some_passes : (p q : Record → Bool) (xs : List Record) → list_any (λ r. p r && q r) xs ≡ true → 0 < length (filter q xs)
+some_passes p q [] e = absurd cc
+some_passes p q (x ∷ xs) e = some_step x p q xs (p x) (q x) e (some_passes p q xs)
+
+one_step : (x : Record) (p q : Record → Bool) (xs : List Record) (a b : Bool) → ((a && b) || list_any (λ r. p r && q r) xs) ≡ true → length (cond b (x ∷ filter q xs) (filter q xs)) ≤ 1
+    → (list_any (λ r. p r && q r) xs ≡ true → length (filter q xs) ≤ 1 → filter (λ r. p r && q r) xs ≡ filter q xs) → cond (a && b) (x ∷ filter (λ r. p r && q r) xs) (filter (λ r. p r && q r) xs) ≡ cond b (x ∷ filter q xs) (filter q xs)
+one_step x p q xs true true e h rest =
+    let low : length (filter q xs) ≤ 0 = omega (arith, h) in
+    let lower : length (filter (λ r. p r && q r) xs) ≤ 0 = omega (arith, low, fewer p q xs) in
+    ap (λ (ys : List Record). x ∷ ys) (none_left (filter (λ r. p r && q r) xs) lower ∙ sym (none_left (filter q xs) low))
+one_step x p q xs true false e h rest = rest e h
+one_step x p q xs false true e h rest = absurd (let some = some_passes p q xs e in omega (arith, some, h))
+one_step x p q xs false false e h rest = rest e h
+
+only_one : (p q : Record → Bool) (xs : List Record) → list_any (λ r. p r && q r) xs ≡ true → length (filter q xs) ≤ 1 → filter (λ r. p r && q r) xs ≡ filter q xs
+only_one p q [] e h = refl
+only_one p q (x ∷ xs) e h = one_step x p q xs (p x) (q x) e h (only_one p q xs)
+
+two_tests : (a b : Bool) (x y : ZoneError) (rest : Option ZoneError) → cond (not a) (Some x) (cond b (Some y) rest) ≡ None → (a ≡ true) × (b ≡ false)
+two_tests true true x y rest e = absurd cc
+two_tests true false x y rest e = (refl, refl)
+two_tests false b x y rest e = absurd cc
+
+-- a zone has one SOA, and it stands at the apex
+pub held_soa : (z : Zone) → IsZone z → rrset z.records z.apex type_soa ≡ soas z.records
+held_soa z valid =
+    let told = two_tests (owns_type z.records z.apex type_soa) (nat_lt 1 (length (soas z.records))) _ _ _ valid.valid in
+    let one : length (soas z.records) ≤ 1 = grind (arith, nat_tests, told.1) in
+    only_one (λ r. names_eq r.owner z.apex) (λ r. r.rtype == type_soa) z.records told.0 one
+
+-- a SOA has no host, and so no addresses with it
+no_host_of_soa : (r : Record) → r.rtype ≡ type_soa → host_of r ≡ None
+no_host_of_soa r e = ap (λ (t : ℕ). host_of (record r { rtype = t })) e
+
+abbrev lesser : Record → Record
+lesser r = record r { ttl = min r.ttl (minimum_of r) }
+
+no_addresses : (s : Shown) → host_of s.shown ≡ None → addresses_for s ≡ []
+no_addresses s e = rw (e, addresses_for) refl
+
+soa_step : (z : Zone) (r : Record) (rs : List Record) (b : Bool) → (r.rtype == type_soa) ≡ b → flat_map addresses_for (from_zone z (map lesser rs)) ≡ [] → flat_map addresses_for (from_zone z (map lesser (cond b (r ∷ rs) rs))) ≡ []
+soa_step z r rs true e rest =
+    let typed : r.rtype ≡ type_soa = grind (arith, nat_tests) in
+    ap (λ (xs : List Record). xs ++ flat_map addresses_for (from_zone z (map lesser rs))) (no_addresses (record { zone = z; shown = lesser r }) (no_host_of_soa (lesser r) typed)) ∙ rest
+soa_step z r rs false e rest = rest
+
+soas_alone : (z : Zone) (records : List Record) → flat_map addresses_for (from_zone z (map lesser (soas records))) ≡ []
+soas_alone z [] = refl
+soas_alone z (r ∷ records) = soa_step z r (soas records) (r.rtype == type_soa) refl (soas_alone z records)
+
+-- but a referral, nothing in the authority section has addresses with it
+pub no_servers : (z : Zone) (at : Labels) (kind : Kind) → (kind ≡ kinds.Referral → ⊥) → flat_map addresses_for (authority_by z (outcome_of kind at)) ≡ []
+no_servers z at kinds.Referral other = absurd (other refl)
+no_servers z at kinds.Alias other = refl
+no_servers z at kinds.Answers other = refl
+no_servers z at kinds.NoData other = soas_alone z z.records
+no_servers z at kinds.NameError other = soas_alone z z.records
+
+-- but for a referral, an alias and answers, it is the SOA
+pub negative_authority : (z : Zone) (at : Labels) (kind : Kind) → (kind ≡ kinds.Referral → ⊥) → (kind ≡ kinds.Alias → ⊥) → (kind ≡ kinds.Answers → ⊥) → records_of (authority_by z (outcome_of kind at)) ≡ negative_soa z
+negative_authority z at kinds.Referral no_cut no_alias no_data = absurd (no_cut refl)
+negative_authority z at kinds.Alias no_cut no_alias no_data = absurd (no_alias refl)
+negative_authority z at kinds.Answers no_cut no_alias no_data = absurd (no_data refl)
+negative_authority z at kinds.NoData no_cut no_alias no_data = records_back z (negative_soa z)
+negative_authority z at kinds.NameError no_cut no_alias no_data = records_back z (negative_soa z)
+
+-- the zone at a place
+pub held_at : (zones : List Zone) (i : ℕ) (z held : Zone) → held ≡ get_or zones i held → slice_get zones i ≡ Some z → held ≡ z
+held_at zones i z held is e = is ∙ get_or_from_slice_get zones i z held e
+
+pub ok_map : {T E : Type 0} (r : Result T E) (P Q : T → Type 0) → IfOk r P → ((x : T) → P x → Q x) → IfOk r Q
+ok_map (Ok x) P Q h f = f x h
+ok_map (Err e) P Q h f = tt
+
+-- the owner that goes out does not count
+pub same_addresses : (z : Zone) (name : Labels) (rs : List Record) → flat_map addresses_for (from_zone z (as_owner name rs)) ≡ flat_map addresses_for (from_zone z rs)
+same_addresses z name [] = refl
+same_addresses z name (r ∷ rs) = ap (λ (xs : List Record). addresses_for (record { zone = z; shown = r }) ++ xs) (same_addresses z name rs)
+
+-- the addresses of one name more
+pub next_hosts : (t : ℕ) (fs : List Found) (i : ℕ) (f : Found) (rs : List Record) → take (i + 1) fs ≡ take i fs ++ f ∷ [] → answers_of t f ≡ from_zone f.zone (as_owner f.name rs)
+    → flat_map addresses_for (answer_of t (take (i + 1) fs)) ≡ flat_map addresses_for (answer_of t (take i fs)) ++ flat_map addresses_for (from_zone f.zone rs)
+next_hosts t fs i f rs more is =
+    ap (λ (xs : List Found). flat_map addresses_for (answer_of t xs)) more
+    ∙ ap (flat_map addresses_for) (flat_map-append (answers_of t) (take i fs) (f ∷ []) ∙ ap (λ (xs : List Shown). answer_of t (take i fs) ++ xs) (append-nil (answers_of t f) ∙ is))
+    ∙ flat_map-append addresses_for (answer_of t (take i fs)) (from_zone f.zone (as_owner f.name rs))
+    ∙ ap (λ (xs : List Record). flat_map addresses_for (answer_of t (take i fs)) ++ xs) (same_addresses f.zone f.name rs)
+
+-- the last name decides
+pub authority_last : (fs : List Found) (f : Found) → authority_of (fs ++ f ∷ []) ≡ authority_at f
+authority_last [] f = refl
+authority_last (g ∷ []) f = refl
+authority_last (g ∷ h ∷ fs) f = authority_last (h ∷ fs) f
+
+pub last_one : (told : List Told) (one : Told) → Some one ≡ slice_get told (length told - 1) → (length told - 1 < length told) × (one ≡ get_or told (length told - 1) one)
+last_one told one e =
+    let inside = slice_get_within told (length told - 1) one (sym e) in
+    (inside, sym (get_or_from_slice_get told (length told - 1) one one (sym e)))
+
+pub last_told : (zones : List Zone) (fs : List Found) (told : List Told) (one : Told) → AreTold zones fs told → Some one ≡ slice_get told (length told - 1) → (f : Found) × IsTold zones f one × (authority_of fs ≡ authority_at f)
+last_told zones fs told one are e =
+    let at_end = last_one told one e in
+    let at = told_at zones fs told (length told - 1) one are at_end.0 at_end.1 in
+    let size : length fs ≤ length told - 1 + 1 = omega (arith, told_length zones fs told are, at_end.0) in
+    let whole : fs ≡ take (length told - 1) fs ++ at.found ∷ [] = sym (take_all (length told - 1 + 1) fs size) ∙ at.next in
+    (at.found, at.is, ap authority_of whole ∙ authority_last (take (length told - 1) fs) at.found)
+
+pub none_told : (zones : List Zone) (fs : List Found) (told : List Told) → AreTold zones fs told → None ≡ slice_get told (length told - 1) → fs ≡ []
+none_told zones [] told are e = refl
+none_told zones (f ∷ fs) [] are e = absurd are
+none_told zones (f ∷ fs) (one ∷ told) are e =
+    let within : suc (length told) - 1 < suc (length told) = omega arith in
+    absurd (let some = slice_get-get_or (one ∷ told) (suc (length told) - 1) one within in cc)
+
+-- the response code and AA
+abbrev pub error_by : Outcome → Bool
+error_by o = is_name_error ((record { zone = record { apex = []; records = [] }; name = []; outcome = o }) ∷ [])
+
+error_last : (fs : List Found) (f : Found) → is_name_error (fs ++ f ∷ []) ≡ error_by f.outcome
+error_last [] f = refl
+error_last (g ∷ []) f = refl
+error_last (g ∷ h ∷ fs) f = error_last (h ∷ fs) f
+
+pub last_error : (zones : List Zone) (fs : List Found) (told : List Told) (one : Told) → AreTold zones fs told → Some one ≡ slice_get told (length told - 1) → is_name_error fs ≡ error_by (outcome_of one.kind one.node)
+last_error zones fs told one are e =
+    let at_end = last_one told one e in
+    let at = told_at zones fs told (length told - 1) one are at_end.0 at_end.1 in
+    let size : length fs ≤ length told - 1 + 1 = omega (arith, told_length zones fs told are, at_end.0) in
+    let whole : fs ≡ take (length told - 1) fs ++ at.found ∷ [] = sym (take_all (length told - 1 + 1) fs size) ∙ at.next in
+    ap is_name_error whole ∙ error_last (take (length told - 1) fs) at.found ∙ ap error_by (told_is at.found.outcome at.found.name one.kind one.node at.is.kind)
+
+pub no_error : (kind : Kind) (at : Labels) → (kind ≡ kinds.NameError → ⊥) → error_by (outcome_of kind at) ≡ false
+no_error kinds.Referral at other = refl
+no_error kinds.Alias at other = refl
+no_error kinds.Answers at other = refl
+no_error kinds.NoData at other = refl
+no_error kinds.NameError at other = absurd (other refl)
+
+abbrev pub authoritative_by : Outcome → Bool
+authoritative_by o = is_authoritative ((record { zone = record { apex = []; records = [] }; name = []; outcome = o }) ∷ [])
+
+pub first_authority : (zones : List Zone) (fs : List Found) (told : List Told) (one : Told) → AreTold zones fs told → Some one ≡ slice_get told 0 → is_authoritative fs ≡ authoritative_by (outcome_of one.kind one.node)
+first_authority zones [] [] one are e = absurd cc
+first_authority zones [] (x ∷ told) one are e = absurd are
+first_authority zones (f ∷ fs) [] one are e = absurd are
+first_authority zones (f ∷ fs) (x ∷ told) one are e =
+    let same : x ≡ one = cc in
+    ap authoritative_by (told_is f.outcome f.name x.kind x.node are.0.kind) ∙ ap (λ (y : Told). authoritative_by (outcome_of y.kind y.node)) same
+
+pub is_authority : (kind : Kind) (at : Labels) → (kind ≡ kinds.Referral → ⊥) → authoritative_by (outcome_of kind at) ≡ true
+is_authority kinds.Referral at other = absurd (other refl)
+is_authority kinds.Alias at other = refl
+is_authority kinds.Answers at other = refl
+is_authority kinds.NoData at other = refl
+is_authority kinds.NameError at other = refl
+
+pub none_first : (zones : List Zone) (fs : List Found) (told : List Told) → AreTold zones fs told → None ≡ slice_get told 0 → fs ≡ []
+none_first zones [] told are e = refl
+none_first zones (f ∷ fs) [] are e = absurd are
+none_first zones (f ∷ fs) (one ∷ told) are e = absurd cc

@@ -1,0 +1,101 @@
+//! All sections of the reply to a lookup.
+ghost use Rattle.std.specs.Prelude.{◌≡◌, ◌<◌, List, [], length, IfOk, OnOk};
+ghost use Rattle.std.specs.List.{flat_map};
+ghost use Rattle.dns_lookup.specs.Lookup.{Found as Stated};
+ghost use Rattle.dns_lookup.specs.Told.{AreTold};
+ghost use Rattle.dns_answer.specs.Sections.{records_of, answer_of, authority_of, addresses_for};
+ghost use Rattle.dns_answer.specs.Added.{AddsUnseen, AreSections};
+
+use crate::additional::Sections;
+use crate::sections::{answer_section, answers, authority_section, searched, servers};
+use dns_lookup::Found;
+use dns_memory::Heap;
+use dns_wire::ReplyRecord;
+use dns_zone::{Zone, ZoneIndex};
+use std::alloc::AllocError;
+
+/// The authority section by the last of the names that were searched.
+fn last_authority<'a, I: ZoneIndex>(
+    alloc: Heap,
+    zones: &'a [Zone<I>],
+    found: &[Found<'a>],
+) -> Result<Vec<ReplyRecord<'a>, Heap>, AllocError>
+    requires { (fs : List Stated) × AreTold zones.now fs found.now }
+    ensures { IfOk result (λ shown. (fs : List Stated) → AreTold zones.now fs found.now → shown.items ≡ records_of (authority_of fs)) }
+{
+    match found.last() {
+        Some(last) => authority_section(alloc, zones, last),
+        None => Ok(Vec::new(alloc)),
+    }
+}
+
+/// The sections without the additional one.
+fn without_addresses<'a, I: ZoneIndex>(
+    alloc: Heap,
+    zones: &'a [Zone<I>],
+    found: &[Found<'a>],
+    qtype: u16,
+) -> Result<Sections<'a>, AllocError>
+    requires { (fs : List Stated) × AreTold zones.now fs found.now }
+    ensures answer { IfOk result (λ s. (fs : List Stated) → AreTold zones.now fs found.now → s.answer.items ≡ records_of (answer_of qtype fs)) }
+    ensures authority { IfOk result (λ s. (fs : List Stated) → AreTold zones.now fs found.now → s.authority.items ≡ records_of (authority_of fs)) }
+    ensures additional { IfOk result (λ s. s.additional.items ≡ []) }
+{
+    let answer = answer_section(alloc, zones, found, qtype)?;
+    let authority = last_authority(alloc, zones, found)?;
+    Ok(Sections {
+        answer,
+        authority,
+        additional: Vec::new(alloc),
+    })
+}
+
+impl<'a> Sections<'a> {
+    /// Puts in the addresses that go with the answer section.
+    fn add_for_answers<I: ZoneIndex>(
+        &mut self,
+        zones: &'a [Zone<I>],
+        found: &[Found<'a>],
+        qtype: u16,
+    ) -> Result<(), AllocError>
+        requires { (fs : List Stated) × AreTold zones.now fs found.now }
+        ensures { OnOk result ((fs : List Stated) → AreTold zones.now fs found.now → AddsUnseen self.old self.new (flat_map addresses_for (answer_of qtype fs))) }
+    {
+        for one in found {
+            self.add_addresses(searched(zones, one), answers(zones, one, qtype))?;
+        }
+        Ok(())
+    }
+
+    /// Puts in the addresses that go with the authority section.
+    fn add_for_authority<I: ZoneIndex>(
+        &mut self,
+        zones: &'a [Zone<I>],
+        found: &[Found<'a>],
+    ) -> Result<(), AllocError>
+        requires { (fs : List Stated) × AreTold zones.now fs found.now }
+        ensures { OnOk result ((fs : List Stated) → AreTold zones.now fs found.now → AddsUnseen self.old self.new (flat_map addresses_for (authority_of fs))) }
+    {
+        match found.last() {
+            Some(last) => self.add_addresses(searched(zones, last), servers(zones, last)),
+            None => Ok(()),
+        }
+    }
+
+    /// The sections of the reply to what a question found: what each name puts into the answer section, what the last puts
+    /// into the authority section, and the addresses that go with both.
+    pub(crate) fn new<I: ZoneIndex>(
+        alloc: Heap,
+        zones: &'a [Zone<I>],
+        found: &[Found<'a>],
+        qtype: u16,
+    ) -> Result<Sections<'a>, AllocError>
+        requires { (fs : List Stated) × AreTold zones.now fs found.now }
+        ensures { IfOk result (λ s. (fs : List Stated) → AreTold zones.now fs found.now → AreSections qtype fs s) }
+    {
+        let mut sections = without_addresses(alloc, zones, found, qtype)?;
+        sections.add_for_answers(zones, found, qtype)?;
+        sections.add_for_authority(zones, found)?;
+        Ok(sections)
+    }
+}

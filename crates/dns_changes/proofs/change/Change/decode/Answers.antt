@@ -1,0 +1,37 @@
+use Rattle.std.proofs.Common.{◌≡◌, [], sym, subst, ◌∙◌, append-nil}
+use Rattle.std.proofs.lemmas.Result.{err_from_is_err_and}
+use Rattle.dns_changes.specs.Change.{Change}
+use Rattle.dns_changes.specs.Entry.{HasEntry, entry, counted}
+use Rattle.dns_changes.proofs.Entries.{behind_old, behind_new, behind_removed, behind_added, is_that, has_entry, left_over}
+use Rattle.dns_changes.proofs.change.Change.decode.Goals as goal
+
+pub returns-in_err-new_soa-clause-only : goal.returns-in_err-new_soa-clause-only
+returns-in_err-new_soa-clause-only c = λ change has e. (
+    let at = behind_old change c.args.octets.now c.in_ok-old_soa.rest.now c.in_ok-old_soa.old_soa has e c.in_ok-old_soa.ensures.found in
+    let p = err_from_is_err_and c.from_residual-in_err-new_soa.result c.from_residual-in_err-new_soa.ensures.1 in
+    rw (p.1, p.2) (c.in_err-new_soa.ensures.only change.new_soa _ has.new_soa at.1))
+
+pub returns-in_err-removed-clause-only : goal.returns-in_err-removed-clause-only
+returns-in_err-removed-clause-only c = λ change has e. (
+    let at = behind_new change c.args.octets.now c.in_ok-old_soa.rest.now c.in_ok-new_soa.rest.now c.in_ok-old_soa.old_soa c.in_ok-new_soa.new_soa has e c.in_ok-old_soa.ensures.found c.in_ok-new_soa.ensures.found in
+    let p = err_from_is_err_and c.from_residual-in_err-removed.result c.from_residual-in_err-removed.ensures.1 in
+    rw (p.1, p.2) (c.in_err-removed.ensures.only change.removed _ has.removed has.few.going at.1))
+
+pub returns-in_err-added-clause-only : goal.returns-in_err-added-clause-only
+returns-in_err-added-clause-only c = λ change has e. (
+    let at = behind_removed change c.args.octets.now c.in_ok-old_soa.rest.now c.in_ok-new_soa.rest.now c.in_ok-removed.rest.now c.in_ok-old_soa.old_soa c.in_ok-new_soa.new_soa c.in_ok-removed.removed.items has e c.in_ok-old_soa.ensures.found c.in_ok-new_soa.ensures.found c.in_ok-removed.ensures.found in
+    let p = err_from_is_err_and c.from_residual-in_err-added.result c.from_residual-in_err-added.ensures.1 in
+    rw (p.1, p.2) (c.in_err-added.ensures.only change.added [] has.added has.few.coming (at.1 ∙ sym (append-nil (counted change.added)))))
+
+pub returns-then-not-is_empty-clause-only : goal.returns-then-not-is_empty-clause-only
+returns-then-not-is_empty-clause-only c = λ change has e. (
+    let at = behind_added change c.args.octets.now c.in_ok-old_soa.rest.now c.in_ok-new_soa.rest.now c.in_ok-removed.rest.now c.in_ok-added.rest.now c.in_ok-old_soa.old_soa c.in_ok-new_soa.new_soa c.in_ok-removed.removed.items c.in_ok-added.added.items has e c.in_ok-old_soa.ensures.found c.in_ok-new_soa.ensures.found c.in_ok-removed.ensures.found c.in_ok-added.ensures.found in
+    absurd (left_over c.in_ok-added.rest.now c.is_empty.result c.is_empty.ensures c.if-not-is_empty.true at.1))
+
+pub returns-clause-found : goal.returns-clause-found
+returns-clause-found c =
+    let made = has_entry c.args.octets.now c.in_ok-old_soa.rest.now c.in_ok-new_soa.rest.now c.in_ok-removed.rest.now c.in_ok-added.rest.now c.in_ok-old_soa.old_soa c.in_ok-new_soa.new_soa c.in_ok-removed.removed.items c.in_ok-added.added.items c.in_ok-old_soa.ensures.found c.in_ok-new_soa.ensures.found c.in_ok-removed.ensures.found c.in_ok-added.ensures.found (sym c.is_empty.ensures ∙ c.if-not-is_empty.false) in
+    subst (λ (d : Change). HasEntry d × (entry d ≡ c.args.octets.now)) (sym c.new.ensures) made
+
+pub returns-clause-only : goal.returns-clause-only
+returns-clause-only c = λ change has e. c.new.ensures ∙ is_that change c.args.octets.now c.in_ok-old_soa.rest.now c.in_ok-new_soa.rest.now c.in_ok-removed.rest.now c.in_ok-added.rest.now c.in_ok-old_soa.old_soa c.in_ok-new_soa.new_soa c.in_ok-removed.removed.items c.in_ok-added.added.items has e c.in_ok-old_soa.ensures.found c.in_ok-new_soa.ensures.found c.in_ok-removed.ensures.found c.in_ok-added.ensures.found

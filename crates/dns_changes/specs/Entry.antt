@@ -1,0 +1,26 @@
+-- The octets of a change in a journal.
+use Rattle.std.specs.Prelude.{ℕ, ◌+◌, ◌-◌, ◌/◌, List, ◌++◌, length}
+use Rattle.std.specs.List.{AllByRecursion, flat_map}
+use Rattle.std.specs.Int.{w32, to_be_bytes}
+use Rattle.dns_records.specs.Record.{Record, IsRecord, plain}
+use Rattle.dns_changes.specs.Change.{Change, AreFew}
+
+-- A count, and the records in plain form.
+abbrev pub counted : List Record → List ℕ
+counted records = to_be_bytes w32 (length records) ++ flat_map plain records
+
+-- The old SOA, the new one, the records that go and those that come.
+abbrev pub entry : Change → List ℕ
+entry c = plain c.old_soa ++ plain c.new_soa ++ counted c.removed ++ counted c.added
+
+-- A change of valid records, so few on each side that their count has 32 bits.
+pub record HasEntry (c : Change) : Type 0 where
+  pub old_soa : IsRecord c.old_soa
+  pub new_soa : IsRecord c.new_soa
+  pub removed : AllByRecursion IsRecord c.removed
+  pub added : AllByRecursion IsRecord c.added
+  pub few : AreFew c.removed c.added
+
+-- An entry takes one sector, and above 484 octets one more for each 488 begun.
+abbrev pub entry_sectors : ℕ → ℕ
+entry_sectors octets = 1 + (octets - 484 + 487) / 488

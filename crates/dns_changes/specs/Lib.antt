@@ -1,0 +1,4 @@
+pub mod Change
+pub mod Entry
+pub mod Laws
+pub mod Applied

@@ -1,0 +1,197 @@
+ghost use Rattle.std.specs.Prelude.{◌≡◌, ◌⊎◌, true, false, not, ◌∷◌, Some, None, IfOk, IfErr, OnOk, OnErr};
+ghost use Rattle.dns_zone.specs.Records.{contains, has, put, united, without};
+ghost use Rattle.dns_changes.specs.Change.{AreFew, applied, are_held, are_new, change_fault, removed_from};
+
+use crate::ChangeError;
+use dns_memory::Heap;
+use dns_records::Record;
+use dns_zone::ZoneIndex;
+use std::alloc::AllocError;
+use std::marker::Model;
+
+/// A change from one version of a zone to another (RFC 1995 section 4): its SOA before and after, and the other records that
+/// go and come, each with its TTL.
+#[derive(Debug, Drop)]
+pub struct Change {
+    old_soa: Record,
+    removed: Vec<Record, Heap>,
+    new_soa: Record,
+    added: Vec<Record, Heap>,
+}
+
+impl Model for Change {
+    ghost use Rattle.dns_changes.specs.Change.{Change as Stated, AreFew};
+
+    ghost Value = { Stated };
+
+    ghost view = { λ c. record { old_soa = c.old_soa; removed = c.removed.items; new_soa = c.new_soa; added = c.added.items } };
+
+    ghost invariant = { λ c. AreFew c.removed.items c.added.items };
+}
+
+impl Change {
+    /// The change of these records, of which there are so few on each side that their number has 32 bits.
+    pub fn new(
+        old_soa: Record,
+        removed: Vec<Record, Heap>,
+        new_soa: Record,
+        added: Vec<Record, Heap>,
+    ) -> Change
+        requires { AreFew removed.items added.items }
+        ensures { result ≡ record { old_soa = old_soa; removed = removed.entry.items; new_soa = new_soa; added = added.entry.items } }
+    {
+        Change {
+            old_soa,
+            removed,
+            new_soa,
+            added,
+        }
+    }
+
+    /// The SOA before.
+    pub fn old_soa(&self) -> &Record
+        ensures { result.now ≡ self.now.old_soa }
+    {
+        &self.old_soa
+    }
+
+    /// The other records that go.
+    pub fn removed(&self) -> &[Record]
+        ensures records { result.now ≡ self.now.removed }
+        ensures few { AreFew self.now.removed self.now.added }
+    {
+        &self.removed
+    }
+
+    /// The SOA after.
+    pub fn new_soa(&self) -> &Record
+        ensures { result.now ≡ self.now.new_soa }
+    {
+        &self.new_soa
+    }
+
+    /// The other records that come.
+    pub fn added(&self) -> &[Record]
+        ensures records { result.now ≡ self.now.added }
+        ensures few { AreFew self.now.removed self.now.added }
+    {
+        &self.added
+    }
+
+    /// Takes the records that go out of a set, and puts those that come into it. Where the change doesn't fit the set, or
+    /// memory is refused, the set stays.
+    pub fn apply<I: ZoneIndex>(&self, index: &mut I) -> Result<(), ChangeError>
+        ensures applied { OnOk result (I.records index.new ≡ applied self.now (I.records index.old)) }
+        ensures fits { OnOk result (change_fault self.now (I.records index.old) ≡ None) }
+        ensures refused { IfErr result (λ e. (e ≡ ChangeError.OutOfMemory) ⊎ (change_fault self.now (I.records index.old) ≡ Some e)) }
+        ensures stays { OnErr result (I.records index.new ≡ I.records index.old) }
+    {
+        let mut set = index.fork()?;
+        self.remove_all(&mut set)?;
+        self.add_all(&mut set)?;
+        *index = set;
+        Ok(())
+    }
+
+    /// Takes the old SOA and the records that go out of a set, which is of no use where that is refused.
+    fn remove_all<I: ZoneIndex>(&self, set: &mut I) -> Result<(), ChangeError>
+        ensures held { OnOk result ((contains (I.records set.old) self.now.old_soa ≡ true) × (are_held (I.records set.old) (self.now.old_soa ∷ self.now.removed) ≡ true)) }
+        ensures left { OnOk result (I.records set.new ≡ removed_from (I.records set.old) (self.now.old_soa ∷ self.now.removed)) }
+        ensures refused { IfErr result (λ e. (e ≡ ChangeError.OutOfMemory) ⊎ (change_fault self.now (I.records set.old) ≡ Some e)) }
+    {
+        if !take_out(set, self.old_soa())? {
+            return Err(ChangeError::WrongSoa);
+        }
+        if !take_each(set, self.removed())? {
+            return Err(ChangeError::RemovesAbsent);
+        }
+        Ok(())
+    }
+
+    /// Puts the new SOA and the records that come into a set, which is of no use where that is refused.
+    fn add_all<I: ZoneIndex>(&self, set: &mut I) -> Result<(), ChangeError>
+        ensures new { OnOk result (are_new (I.records set.old) (self.now.new_soa ∷ self.now.added) ≡ true) }
+        ensures left { OnOk result (I.records set.new ≡ united (I.records set.old) (self.now.new_soa ∷ self.now.added)) }
+        ensures refused { IfErr result (λ e. (e ≡ ChangeError.OutOfMemory) ⊎ ((are_new (I.records set.old) (self.now.new_soa ∷ self.now.added) ≡ false) × (e ≡ ChangeError.AddsPresent))) }
+    {
+        if !put_in(set, self.new_soa())? {
+            return Err(ChangeError::AddsPresent);
+        }
+        if !put_each(set, self.added())? {
+            return Err(ChangeError::AddsPresent);
+        }
+        Ok(())
+    }
+}
+
+/// Whether the set has the record, with its TTL.
+fn holds<I: ZoneIndex>(set: &I, wanted: &Record) -> bool
+    ensures { result ≡ contains (I.records set.now) wanted.now }
+{
+    set.rrset(&wanted.owner().lend(), wanted.rtype())
+        .contains(wanted)
+}
+
+/// Whether the set has a record of that owner, type and data.
+fn holds_key<I: ZoneIndex>(set: &I, wanted: &Record) -> bool
+    ensures { result ≡ has wanted.now (I.records set.now) }
+{
+    one_ties(set.rrset(&wanted.owner().lend(), wanted.rtype()), wanted)
+}
+
+/// Whether one of the records has that owner, type and data.
+fn one_ties(records: &[Record], wanted: &Record) -> bool
+    ensures { result ≡ has wanted.now records.now }
+{
+    records.iter().any(|r| wanted.compare(r).is_eq())
+}
+
+/// Takes a record out, and answers whether it was there.
+fn take_out<I: ZoneIndex>(set: &mut I, gone: &Record) -> Result<bool, AllocError>
+    ensures held { IfOk result (λ held. held ≡ contains (I.records set.old) gone.now) }
+    ensures left { IfOk result (λ held. held ≡ true → I.records set.new ≡ without gone.now (I.records set.old)) }
+{
+    if !holds(set, gone) {
+        return Ok(false);
+    }
+    set.remove(gone)?;
+    Ok(true)
+}
+
+/// Takes records out one behind another, up to the first that isn't there, and answers whether all were there.
+fn take_each<I: ZoneIndex>(set: &mut I, gone: &[Record]) -> Result<bool, AllocError>
+    ensures held { IfOk result (λ held. held ≡ are_held (I.records set.old) gone.now) }
+    ensures left { IfOk result (λ held. held ≡ true → I.records set.new ≡ removed_from (I.records set.old) gone.now) }
+{
+    for record in gone {
+        if !take_out(set, record)? {
+            return Ok(false);
+        }
+    }
+    Ok(true)
+}
+
+/// Puts a copy of a record in where none of its owner, type and data is there, and answers whether it did.
+fn put_in<I: ZoneIndex>(set: &mut I, come: &Record) -> Result<bool, AllocError>
+    ensures new { IfOk result (λ new. not new ≡ has come.now (I.records set.old)) }
+    ensures left { IfOk result (λ new. new ≡ true → I.records set.new ≡ put come.now (I.records set.old)) }
+{
+    if holds_key(set, come) {
+        return Ok(false);
+    }
+    set.insert(come.clone()?)?;
+    Ok(true)
+}
+
+/// Puts copies of records in one behind another, up to the first that is there already, and answers whether none was.
+fn put_each<I: ZoneIndex>(set: &mut I, come: &[Record]) -> Result<bool, AllocError>
+    ensures new { IfOk result (λ new. new ≡ are_new (I.records set.old) come.now) }
+    ensures left { IfOk result (λ new. new ≡ true → I.records set.new ≡ united (I.records set.old) come.now) }
+{
+    for record in come {
+        if !put_in(set, record)? {
+            return Ok(false);
+        }
+    }
+    Ok(true)
+}

@@ -1,0 +1,123 @@
+//! All that a question finds, from alias to alias.
+ghost use Rattle.std.specs.Prelude.{◌≡◌, ℕ, ◌<◌, ◌≤◌, false, None, Some, [], ◌∷◌, ◌++◌, length, vec_len, IfOk, IfSome, IfNone};
+ghost use Rattle.std.specs.List.{list_any};
+ghost use Rattle.dns_names.specs.Name.{names_eq};
+ghost use Rattle.dns_records.specs.Types.{type_cname};
+ghost use Rattle.dns_zone.specs.Zone.{Zone as Held};
+ghost use Rattle.dns_zone.specs.Records.{owns_type};
+ghost use Rattle.dns_lookup.specs.Lookup.{Found as Stated, outcome, zone_of, alias_at, next_name, resolve};
+ghost use Rattle.dns_lookup.specs.Told.{IsTold, AreTold, names_told};
+
+use crate::node::Node;
+use crate::outcome::{Kind, outcome};
+use crate::zones::nearest;
+use dns_memory::Heap;
+use dns_names::NameRef;
+use dns_records::types;
+use dns_zone::{Zone, ZoneIndex};
+use std::alloc::AllocError;
+
+/// One name that was searched.
+#[derive(Drop)]
+pub struct Found<'a> {
+    /// The place of the zone that was searched.
+    pub zone: usize,
+    /// The name: that of the question, or the target of the alias before.
+    pub name: NameRef<'a>,
+    /// The cut of a referral, or the node that answers; of a name error, the name itself.
+    pub node: Node<'a>,
+    /// What became of it.
+    pub kind: Kind,
+}
+
+/// The names that were searched, one behind the other.
+pub type Outcome<'a> = Vec<Found<'a>, Heap>;
+
+/// At most so many names are searched.
+const MOST: usize = 8;
+
+/// What the name finds in the nearest of the zones.
+fn search<'a, I: ZoneIndex>(
+    zones: &'a [Zone<I>],
+    name: NameRef<'a>,
+    qtype: u16,
+) -> Option<Found<'a>>
+    ensures found { IfSome result (λ f. (z : Held) × (zone_of zones.now name.entry ≡ Some z) × IsTold zones.now (record { zone = z; name = name.entry; outcome = outcome z name.entry qtype }) f) }
+    ensures none { IfNone result (zone_of zones.now name.entry ≡ None) }
+{
+    let zone = nearest(zones, &name)?;
+    let (kind, node) = outcome(&zones[zone], &name, qtype);
+    Some(Found {
+        zone,
+        name,
+        node,
+        kind,
+    })
+}
+
+/// The target of the alias that stands at the node.
+fn target<'z, I: ZoneIndex>(zone: &'z Zone<I>, node: &Node<'_>) -> Option<NameRef<'z>>
+    ensures found { IfSome result (λ name. name ≡ alias_at zone.now node.now) }
+    ensures none { IfNone result (owns_type zone.now.records node.now type_cname ≡ false) }
+{
+    node.rrset(zone, types::CNAME).first()?.data().as_name()
+}
+
+/// Whether the name was searched.
+fn is_among(found: &[Found<'_>], name: &NameRef<'_>) -> bool
+    ensures { result ≡ list_any (names_eq name.now) (names_told found.now) }
+{
+    for one in found {
+        if name.is(&one.name) {
+            return true;
+        }
+    }
+    false
+}
+
+/// The name that is searched next: the target of an alias, unless it was searched before.
+fn next_name<'a, I: ZoneIndex>(
+    zones: &'a [Zone<I>],
+    last: &Found<'a>,
+    before: &[Found<'a>],
+) -> Option<NameRef<'a>>
+    requires { last.now.zone < length zones.now }
+    ensures { (f : Stated) (t : ℕ) → IsTold zones.now f last.now → f.outcome ≡ outcome f.zone f.name t → result ≡ next_name f (names_told before.now ++ last.now.name ∷ []) }
+{
+    let Kind::Alias = last.kind else {
+        return None;
+    };
+    let next = target(&zones[last.zone], &last.node)?;
+    if next.is(&last.name) | is_among(before, &next) {
+        return None;
+    }
+    Some(next)
+}
+
+/// What a question finds: the name, and then the target of each alias, each in the nearest of the zones (RFC 1034 section
+/// 4.3.2). The list ends behind a name that is no alias, before a target that was searched already, before a name under no
+/// apex, and behind eight names; it is empty where the question's name is under no apex. Memory is taken for the list alone.
+pub fn resolve<'a, I: ZoneIndex>(
+    alloc: Heap,
+    zones: &'a [Zone<I>],
+    name: NameRef<'a>,
+    qtype: u16,
+) -> Result<Outcome<'a>, AllocError>
+    ensures told { IfOk result (λ found. AreTold zones.now (resolve zones.now name.entry qtype) found.items) }
+    ensures most { IfOk result (λ found. vec_len found ≤ 8) }
+{
+    let mut found = Vec::new(alloc);
+    let mut here = name;
+    'names: while found.len() < MOST {
+        let Some(one) = search(zones, here, qtype) else {
+            return Ok(found);
+        };
+        let next = next_name(zones, &one, found.as_slice());
+        found.push(one)?;
+        match next {
+            Some(name) => here = name,
+            None => return Ok(found),
+        }
+    }
+    Ok(found)
+}

@@ -1,0 +1,91 @@
+-- The words of the data of each type, by its parts.
+use Rattle.std.proofs.Common.{◌≡◌, ℕ, zero, suc, ◌^◌, ◌<◌, true, List, [], ◌∷◌, ◌++◌, length, take, drop, decimal, refl, ap, ◌∙◌, arith, length-append, append_assoc}
+use Rattle.std.specs.Int.{w16, w32, to_be_bytes}
+use Rattle.std.specs.List.{AllByRecursion}
+use Rattle.std.proofs.lemmas.List.{take_at, drop_at, take_all}
+use Rattle.dns_names.specs.Name.{Labels, IsName, IsLabel, wire, labels_of, labels_within}
+use Rattle.dns_names.specs.PlainLaws.{labels_of-wire, fewer_labels}
+use Rattle.dns_names.specs.Text.{printed_name}
+use Rattle.dns_records.specs.Record.{number_of}
+use Rattle.dns_records.specs.Typed.{a_data, aaaa_data, mx_data, srv_data, soa_data, soa_numbers}
+use Rattle.dns_records.specs.declared.typed.Mx.{Mx}
+use Rattle.dns_records.specs.declared.typed.Srv.{Srv}
+use Rattle.dns_records.specs.declared.typed.Soa.{Soa}
+use Rattle.dns_records.specs.Types.{Field, Name, Octets}
+use Rattle.dns_records.specs.Laws.{name_form}
+use Rattle.dns_records.specs.Typed.{is_name_type, name_of}
+use Rattle.dns_records.specs.Record.{Data}
+use Rattle.dns_records.specs.TextStrings.{txt_data}
+use Rattle.dns_records.proofs.StringParts.{strings_of-flat}
+use Rattle.std.specs.Prelude.{map, Some, None, Bool, false, if◌then◌else◌}
+use Rattle.std.specs.Net.Text.{ipv4_text}
+use Rattle.dns_masterfile.specs.Text.{printed_string, printed_ipv6}
+use Rattle.dns_masterfile.specs.Printed.{spaced, data_words, printed_data}
+
+pub number_2 : (n : ℕ) → n < 2 ^ 16 → number_of (to_be_bytes w16 n) ≡ n
+number_2 n h = omega arith
+
+pub number_4 : (n : ℕ) → n < 2 ^ 32 → number_of (to_be_bytes w32 n) ≡ n
+number_4 n h = omega arith
+
+-- the name at the front of octets
+front_within : (labels : Labels) (rest : List ℕ) (more : ℕ) → AllByRecursion IsLabel labels → length labels < more → labels_within more (wire labels ++ rest) ≡ labels
+front_within [] rest zero valid lt = absurd (omega arith)
+front_within [] rest (suc more) valid lt = refl
+front_within (l ∷ ls) rest zero valid lt = absurd (omega arith)
+front_within ([] ∷ ls) rest (suc more) valid lt = let some : 0 < 0 = valid.0.some in absurd (omega arith)
+front_within ((c ∷ l) ∷ ls) rest (suc more) valid lt =
+    let tail : ((c ∷ l) ++ wire ls) ++ rest ≡ (c ∷ l) ++ (wire ls ++ rest) = append_assoc (c ∷ l) (wire ls) rest in
+    let front : take (length (c ∷ l)) (((c ∷ l) ++ wire ls) ++ rest) ≡ c ∷ l = ap (take (length (c ∷ l))) tail ∙ take_at (c ∷ l) (wire ls ++ rest) (length (c ∷ l)) refl in
+    let back : drop (length (c ∷ l)) (((c ∷ l) ++ wire ls) ++ rest) ≡ wire ls ++ rest = ap (drop (length (c ∷ l))) tail ∙ drop_at (c ∷ l) (wire ls ++ rest) (length (c ∷ l)) refl in
+    let later : labels_within more (wire ls ++ rest) ≡ ls = front_within ls rest more valid.1 (omega arith) in
+    ap (λ (x : List ℕ). x ∷ labels_within more (drop (length (c ∷ l)) (((c ∷ l) ++ wire ls) ++ rest))) front
+    ∙ ap (λ (x : List ℕ). (c ∷ l) ∷ labels_within more x) back
+    ∙ ap (λ (xs : Labels). (c ∷ l) ∷ xs) later
+
+pub labels_of-front : (name : Labels) (rest : List ℕ) → IsName name → labels_of (wire name ++ rest) ≡ name
+labels_of-front name rest valid = front_within name rest (length (wire name ++ rest)) valid.labels (omega (arith, fewer_labels name, length-append (wire name) rest))
+
+pub mx_words : (m : Mx) → m.preference < 2 ^ 16 → IsName m.exchange → printed_data (mx_data m) ≡ spaced (decimal m.preference ∷ printed_name m.exchange ∷ [])
+mx_words m small valid = rw (number_2 m.preference small, labels_of-wire m.exchange valid.labels) refl
+
+pub srv_words : (s : Srv) → s.priority < 2 ^ 16 → s.weight < 2 ^ 16 → s.port < 2 ^ 16 → IsName s.target → printed_data (srv_data s) ≡ spaced (decimal s.priority ∷ decimal s.weight ∷ decimal s.port ∷ printed_name s.target ∷ [])
+srv_words s one two three valid = rw (number_2 s.priority one, number_2 s.weight two, number_2 s.port three, labels_of-wire s.target valid.labels) refl
+
+name_step : (fields : List Field) (name : Labels) (rest : List ℕ) → IsName name → data_words (Name ∷ fields) (wire name ++ rest) ≡ printed_name name ∷ data_words fields rest
+name_step fields name rest valid =
+    ap (λ (n : Labels). printed_name n ∷ data_words fields (drop (length (wire n)) (wire name ++ rest))) (labels_of-front name rest valid)
+    ∙ ap (λ (x : List ℕ). printed_name name ∷ data_words fields x) (drop_at (wire name) rest (length (wire name)) refl)
+
+pub record FitNumbers (s : Soa) : Type 0 where
+  pub serial : s.serial < 2 ^ 32
+  pub refresh : s.refresh < 2 ^ 32
+  pub retry : s.retry < 2 ^ 32
+  pub expire : s.expire < 2 ^ 32
+  pub minimum : s.minimum < 2 ^ 32
+
+soa_number_words : (s : Soa) → FitNumbers s → data_words (Octets 20 ∷ []) (soa_numbers s) ≡ decimal s.serial ∷ decimal s.refresh ∷ decimal s.retry ∷ decimal s.expire ∷ decimal s.minimum ∷ []
+soa_number_words s fit = rw (number_4 s.serial fit.serial, number_4 s.refresh fit.refresh, number_4 s.retry fit.retry, number_4 s.expire fit.expire, number_4 s.minimum fit.minimum) refl
+
+pub soa_words : (s : Soa) → IsName s.mname → IsName s.rname → FitNumbers s → printed_data (soa_data s) ≡ spaced (printed_name s.mname ∷ printed_name s.rname ∷ decimal s.serial ∷ decimal s.refresh ∷ decimal s.retry ∷ decimal s.expire ∷ decimal s.minimum ∷ [])
+soa_words s m r fit =
+    ap (λ (x : List ℕ). spaced (data_words (Name ∷ Name ∷ Octets 20 ∷ []) x)) (append_assoc (wire s.mname) (wire s.rname) (soa_numbers s))
+    ∙ ap spaced (name_step (Name ∷ Octets 20 ∷ []) s.mname (wire s.rname ++ soa_numbers s) m
+    ∙ ap (λ (ws : List (List ℕ)). printed_name s.mname ∷ ws) (name_step (Octets 20 ∷ []) s.rname (soa_numbers s) r
+    ∙ ap (λ (ws : List (List ℕ)). printed_name s.rname ∷ ws) (soa_number_words s fit)))
+
+pub txt_words : (strings : List (List ℕ)) → printed_data (txt_data strings) ≡ spaced (map printed_string strings)
+txt_words strings = ap (λ (ss : List (List ℕ)). spaced (map printed_string ss)) (strings_of-flat _ strings refl)
+
+pub name_words : (d : Data) (name : Labels) → Some name ≡ name_of d → printed_data d ≡ spaced (printed_name name ∷ [])
+name_words d name e = go (is_name_type d.rtype) refl e
+  where
+    go : (b : Bool) → is_name_type d.rtype ≡ b → Some name ≡ (if b then Some (labels_of d.octets) else None) → printed_data d ≡ spaced (printed_name name ∷ [])
+    go true t h = (let same : name ≡ labels_of d.octets = cc in rw (name_form d.rtype t, same) refl)
+    go false t h = absurd (cc)
+
+pub a_words : (o : List ℕ) → length o ≡ 4 → printed_data (a_data o) ≡ spaced (ipv4_text o ∷ [])
+a_words o long = let all : take 4 o ≡ o = take_all 4 o (omega arith) in ap (λ (x : List ℕ). spaced (ipv4_text x ∷ [])) (ap (take 4) all ∙ all)
+
+pub aaaa_words : (o : List ℕ) → length o ≡ 16 → printed_data (aaaa_data o) ≡ spaced (printed_ipv6 o ∷ [])
+aaaa_words o long = let all : take 16 o ≡ o = take_all 16 o (omega arith) in ap (λ (x : List ℕ). spaced (printed_ipv6 x ∷ [])) (ap (take 16) all ∙ all)

@@ -1,0 +1,47 @@
+use Rattle.std.proofs.Common.{◌≡◌, ℕ, ◌+◌, ◌-◌, ◌≤◌, List, ◌∷◌, [], ◌++◌, length, take, drop, sym, ap, subst, ◌∙◌, arith, append-nil, take-add, drop-drop}
+use Rattle.std.proofs.lemmas.List.{length-drop}
+use Rattle.dns_masterfile.specs.declared.words.Step.TheVariants.{Take, End, Stop}
+use Rattle.dns_masterfile.specs.Pieces.{Piece, InQuotes, Fault, Text, Quoted, pieces_from, pieces_of}
+use Rattle.dns_masterfile.specs.Steps.{grown_by, IsQuotedStep}
+use Rattle.dns_masterfile.proofs.Scanning.{rest_of, grown_quoted, grown_fault, grown_more}
+use Rattle.dns_masterfile.proofs.words.quoted_len.Goals as goal
+
+pub steps-preserved : goal.steps-preserved
+steps-preserved c =
+    let octets : List ℕ = c.args.octets.now in
+    let len : ℕ = c.steps.len in
+    let more : ℕ = c.in-Take.more in
+    let step : IsQuotedStep (drop len octets) (Take more) = subst (λ (rest : List ℕ). IsQuotedStep rest (Take more)) (rest_of octets len) c.in-Take.ensures in
+    let front : take len octets ++ take more (drop len octets) ≡ take (len + more) octets = sym (take-add len more octets) in
+    let back : drop more (drop len octets) ≡ drop (len + more) octets = drop-drop more len octets in
+    record {
+      within = omega (arith, step.1, length-drop len octets);
+      so_far = c.steps.invariant.so_far ∙ ap (grown_by (take len octets)) step.2
+          ∙ sym (grown_more (take len octets) (take more (drop len octets)) (pieces_from InQuotes (drop more (drop len octets))))
+          ∙ ap (λ (front : List ℕ). grown_by front (pieces_from InQuotes (drop more (drop len octets)))) front
+          ∙ ap (λ (rest : List ℕ). grown_by (take (len + more) octets) (pieces_from InQuotes rest)) back;
+    }
+
+pub returns-in-End-clause-string : goal.returns-in-End-clause-string
+returns-in-End-clause-string c =
+    let octets : List ℕ = c.args.octets.now in
+    let len : ℕ = c.steps.len in
+    let step : IsQuotedStep (drop len octets) End = subst (λ (rest : List ℕ). IsQuotedStep rest End) (rest_of octets len) c.in-End.ensures in
+    let back : drop 1 (drop len octets) ≡ drop (len + 1) octets = drop-drop 1 len octets in
+    c.steps.invariant.so_far ∙ ap (grown_by (take len octets)) step.1 ∙ grown_quoted (take len octets) [] (pieces_of (drop 1 (drop len octets)))
+    ∙ ap (λ (text : List ℕ). Text (Quoted text) ∷ pieces_of (drop 1 (drop len octets))) (append-nil (take len octets))
+    ∙ ap (λ (rest : List ℕ). Text (Quoted (take len octets)) ∷ pieces_of rest) back
+
+pub returns-in-End-clause-within : goal.returns-in-End-clause-within
+returns-in-End-clause-within c =
+    let octets : List ℕ = c.args.octets.now in
+    let len : ℕ = c.steps.len in
+    let step : IsQuotedStep (drop len octets) End = subst (λ (rest : List ℕ). IsQuotedStep rest End) (rest_of octets len) c.in-End.ensures in
+    omega (arith, step.0, length-drop len octets)
+
+pub returns-in-Stop-clause-string : goal.returns-in-Stop-clause-string
+returns-in-Stop-clause-string c =
+    let octets : List ℕ = c.args.octets.now in
+    let len : ℕ = c.steps.len in
+    let step : IsQuotedStep (drop len octets) Stop = subst (λ (rest : List ℕ). IsQuotedStep rest Stop) (rest_of octets len) c.in-Stop.ensures in
+    c.steps.invariant.so_far ∙ ap (grown_by (take len octets)) step ∙ grown_fault (take len octets)

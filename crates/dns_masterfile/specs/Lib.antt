@@ -1,0 +1,9 @@
+pub mod Text
+pub mod Kinds
+pub mod Pieces
+pub mod Steps
+pub mod Entries
+pub mod Data
+pub mod Meaning
+pub mod Reading
+pub mod Printed

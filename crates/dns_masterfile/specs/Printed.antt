@@ -1,0 +1,58 @@
+-- The printed form of a zone.
+use Rattle.std.specs.Prelude.{ℕ, Bool, true, false, not, ◌==◌, List, [], ◌∷◌, ◌++◌, length, take, drop, filter, map, flat_map, unwrap_or, decimal, codes}
+use Rattle.std.specs.Net.Text.{ipv4_text}
+use Rattle.dns_names.specs.Name.{labels_of, wire}
+use Rattle.dns_names.specs.Text.{printed_name}
+use Rattle.dns_records.specs.Types.{Field, Octets, Name, Target, Strings, form, type_soa}
+use Rattle.dns_records.specs.Record.{Record, Data, data_of, number_of}
+use Rattle.dns_records.specs.TextStrings.{strings_of}
+use Rattle.dns_masterfile.specs.Text.{printed_string, printed_ipv6}
+use Rattle.dns_masterfile.specs.Data.{Fixed, Number16, Number32, Ipv4, Ipv6, fixed_of, word_of_type}
+
+abbrev pub size_of : Fixed → ℕ
+size_of Number16 = 2
+size_of Number32 = 4
+size_of Ipv4 = 4
+size_of Ipv6 = 16
+
+abbrev pub printed_as : Fixed → List ℕ → List ℕ
+printed_as Number16 octets = decimal (number_of octets)
+printed_as Number32 octets = decimal (number_of octets)
+printed_as Ipv4 octets = ipv4_text octets
+printed_as Ipv6 octets = printed_ipv6 octets
+
+abbrev pub fixed_words : List Fixed → List ℕ → List (List ℕ)
+fixed_words [] octets = []
+fixed_words (f ∷ fs) octets = printed_as f (take (size_of f) octets) ∷ fixed_words fs (drop (size_of f) octets)
+
+-- The words of data in plain form.
+abbrev pub data_words : List Field → List ℕ → List (List ℕ)
+data_words [] octets = []
+data_words (Octets n ∷ fs) octets = fixed_words (fixed_of n) (take n octets) ++ data_words fs (drop n octets)
+data_words (Name ∷ fs) octets = let name = labels_of octets in printed_name name ∷ data_words fs (drop (length (wire name)) octets)
+data_words (Target ∷ fs) octets = let name = labels_of octets in printed_name name ∷ data_words fs (drop (length (wire name)) octets)
+data_words (Strings ∷ fs) octets = map printed_string (strings_of octets)
+
+-- Words, each behind a blank.
+abbrev pub spaced : List (List ℕ) → List ℕ
+spaced words = flat_map (λ word. 32 ∷ word) words
+
+abbrev pub printed_data : Data → List ℕ
+printed_data d = spaced (data_words (unwrap_or (form d.rtype) []) d.octets)
+
+-- `owner TTL IN TYPE RDATA`, ended by LF.
+abbrev pub printed_record : Record → List ℕ
+printed_record r =
+    printed_name r.owner ++ spaced (decimal r.ttl ∷ codes "IN" ∷ unwrap_or (word_of_type r.rtype) [] ∷ []) ++ printed_data (data_of r) ++ 10 ∷ []
+
+-- The SOA, or the others.
+abbrev pub is_wanted : Bool → Record → Bool
+is_wanted true r = r.rtype == type_soa
+is_wanted false r = not (r.rtype == type_soa)
+
+-- The SOA first, then the others in their order.
+abbrev pub in_print_order : List Record → List Record
+in_print_order records = filter (is_wanted true) records ++ filter (is_wanted false) records
+
+abbrev pub printed_zone : List Record → List ℕ
+printed_zone records = flat_map printed_record (in_print_order records)

@@ -1,0 +1,199 @@
+//! Records in print.
+ghost use Rattle.std.specs.Prelude.{Some, [], ◌∷◌, decimal, map, ◌≡◌, unwrap_or};
+ghost use Rattle.std.specs.Fmt.{DisplaysOnOk};
+ghost use Rattle.dns_masterfile.specs.Text.{printed_string_octet, printed_string, further_groups, printed_groups};
+ghost use Rattle.dns_masterfile.specs.Data.{word_of_type};
+ghost use Rattle.dns_masterfile.specs.Printed.{spaced, printed_data, printed_record};
+ghost use Rattle.dns_names.specs.Text.{printed_name};
+
+use dns_records::{Mx, RData, Record, Soa, Srv, Strings, types};
+use std::fmt;
+use std::net::{Ipv4Addr, Ipv6Addr};
+
+/// An octet between quotes: `"` and `\` stand behind a `\`, and what is no visible ASCII is `\DDD`.
+#[derive(Drop)]
+struct QuotedOctet(u8);
+
+impl fmt::Display for QuotedOctet {
+    ghost output = { λ o. Some (printed_string_octet o.0) };
+
+    fn fmt<W: fmt::Write>(&self, f: &mut fmt::Formatter<W>) -> fmt::Result {
+        let octet = self.0;
+        match octet {
+            b'"' | b'\\' => write!(f, "\\{}", octet as char),
+            32..=126 => write!(f, "{}", octet as char),
+            _ => {
+                let hundreds = (b'0' + octet / 100) as char;
+                let tens = (b'0' + octet / 10 % 10) as char;
+                let ones = (b'0' + octet % 10) as char;
+                write!(f, "\\{hundreds}{tens}{ones}")
+            }
+        }
+    }
+}
+
+/// A string between quotes.
+#[derive(Drop)]
+struct Quoted<'a>(&'a [u8]);
+
+impl fmt::Display for Quoted<'_> {
+    ghost output = { λ s. Some (printed_string s.0.now) };
+
+    fn fmt<W: fmt::Write>(&self, f: &mut fmt::Formatter<W>) -> fmt::Result {
+        write!(f, "\"")?;
+        for octet in self.0 {
+            write!(f, "{}", QuotedOctet(*octet))?;
+        }
+        write!(f, "\"")
+    }
+}
+
+/// Groups of an IPv6 address, each behind a colon.
+#[derive(Drop)]
+struct FurtherGroups<'a>(&'a [u16]);
+
+impl fmt::Display for FurtherGroups<'_> {
+    ghost output = { λ g. Some (further_groups g.0.now) };
+
+    fn fmt<W: fmt::Write>(&self, f: &mut fmt::Formatter<W>) -> fmt::Result {
+        for group in self.0 {
+            write!(f, ":{:x}", *group)?;
+        }
+        Ok(())
+    }
+}
+
+/// The groups of an IPv6 address, none left out.
+#[derive(Drop)]
+struct Groups<'a>(&'a [u16]);
+
+impl fmt::Display for Groups<'_> {
+    ghost output = { λ g. Some (printed_groups g.0.now) };
+
+    fn fmt<W: fmt::Write>(&self, f: &mut fmt::Formatter<W>) -> fmt::Result {
+        match self.0 {
+            [] => Ok(()),
+            [first, rest @ ..] => write!(f, "{:x}{}", *first, FurtherGroups(rest)),
+        }
+    }
+}
+
+/// The words of an MX, each behind a blank.
+#[derive(Drop)]
+struct MxWords<'a>(&'a Mx<'a>);
+
+impl fmt::Display for MxWords<'_> {
+    ghost output = { λ m. Some (spaced (decimal m.0.now.preference ∷ printed_name m.0.now.exchange ∷ [])) };
+
+    fn fmt<W: fmt::Write>(&self, f: &mut fmt::Formatter<W>) -> fmt::Result {
+        write!(f, " {} {}", self.0.preference, self.0.exchange)
+    }
+}
+
+/// The words of an SRV, each behind a blank.
+#[derive(Drop)]
+struct SrvWords<'a>(&'a Srv<'a>);
+
+impl fmt::Display for SrvWords<'_> {
+    ghost output = { λ s. Some (spaced (decimal s.0.now.priority ∷ decimal s.0.now.weight ∷ decimal s.0.now.port ∷ printed_name s.0.now.target ∷ [])) };
+
+    fn fmt<W: fmt::Write>(&self, f: &mut fmt::Formatter<W>) -> fmt::Result {
+        let srv = self.0;
+        write!(f, " {} {}", srv.priority, srv.weight)?;
+        write!(f, " {} {}", srv.port, srv.target)
+    }
+}
+
+/// The words of a SOA, each behind a blank.
+#[derive(Drop)]
+struct SoaWords<'a>(&'a Soa<'a>);
+
+impl fmt::Display for SoaWords<'_> {
+    ghost output = { λ s. Some (spaced (printed_name s.0.now.mname ∷ printed_name s.0.now.rname ∷ decimal s.0.now.serial ∷ decimal s.0.now.refresh ∷ decimal s.0.now.retry ∷ decimal s.0.now.expire ∷ decimal s.0.now.minimum ∷ [])) };
+
+    fn fmt<W: fmt::Write>(&self, f: &mut fmt::Formatter<W>) -> fmt::Result {
+        let soa = self.0;
+        write!(f, " {} {}", soa.mname, soa.rname)?;
+        write!(f, " {} {} {}", soa.serial, soa.refresh, soa.retry)?;
+        write!(f, " {} {}", soa.expire, soa.minimum)
+    }
+}
+
+/// Writes the strings of a TXT between quotes, each behind a blank.
+fn write_strings<W: fmt::Write>(strings: Strings<'_>, f: &mut fmt::Formatter<W>) -> fmt::Result
+    ensures { DisplaysOnOk W.write_str_gives f.old result (Some (spaced (map printed_string strings.entry))) f.new }
+{
+    let mut rest = strings;
+    'strings: while let Some(string) = rest.next() {
+        write!(f, " {}", Quoted(string))?;
+    }
+    Ok(())
+}
+
+/// The data of a record, each word behind a blank.
+#[derive(Drop)]
+struct DataWords<'a>(&'a RData);
+
+impl fmt::Display for DataWords<'_> {
+    ghost output = { λ d. Some (printed_data d.0.now) };
+
+    fn fmt<W: fmt::Write>(&self, f: &mut fmt::Formatter<W>) -> fmt::Result {
+        let data = self.0;
+        if let Some(name) = data.as_name() {
+            return write!(f, " {name}");
+        }
+        if let Some(address) = data.as_a() {
+            return write!(f, " {}", Ipv4Addr::from(address));
+        }
+        if let Some(address) = data.as_aaaa() {
+            return write!(f, " {}", Groups(&Ipv6Addr::from(address).segments()));
+        }
+        if let Some(mx) = data.as_mx() {
+            return write!(f, "{}", MxWords(&mx));
+        }
+        if let Some(srv) = data.as_srv() {
+            return write!(f, "{}", SrvWords(&srv));
+        }
+        if let Some(soa) = data.as_soa() {
+            return write!(f, "{}", SoaWords(&soa));
+        }
+        let _octets = data.octets();
+        match data.as_txt() {
+            Some(strings) => write_strings(strings, f),
+            None => unreachable!(),
+        }
+    }
+}
+
+/// The word of a type that is known.
+fn type_word(rtype: u16) -> &'static str
+    ensures { result.now ≡ unwrap_or (word_of_type rtype) [] }
+{
+    match rtype {
+        types::A => "A",
+        types::NS => "NS",
+        types::CNAME => "CNAME",
+        types::SOA => "SOA",
+        types::PTR => "PTR",
+        types::MX => "MX",
+        types::TXT => "TXT",
+        types::AAAA => "AAAA",
+        types::SRV => "SRV",
+        _ => "",
+    }
+}
+
+/// A record as a line of a master file.
+#[derive(Drop)]
+pub(crate) struct Line<'a>(pub &'a Record);
+
+impl fmt::Display for Line<'_> {
+    ghost output = { λ r. Some (printed_record r.0.now) };
+
+    fn fmt<W: fmt::Write>(&self, f: &mut fmt::Formatter<W>) -> fmt::Result {
+        let record = self.0;
+        let rtype = type_word(record.rtype());
+        write!(f, "{} {} IN {rtype}", record.owner(), record.ttl())?;
+        write!(f, "{}\n", DataWords(record.data()))
+    }
+}

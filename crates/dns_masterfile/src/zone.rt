@@ -1,0 +1,47 @@
+//! Zones in print.
+ghost use Rattle.std.specs.Prelude.{◌≡◌, [], OnOk, filter, flat_map, if◌then◌else◌};
+ghost use Rattle.std.specs.Io.KnownBytes.{Appends};
+ghost use Rattle.dns_masterfile.specs.Printed.{is_wanted, printed_record, printed_zone};
+
+use crate::print::Line;
+use dns_records::{Record, types};
+use dns_zone::{Zone, ZoneIndex};
+use std::io::{self, Write};
+
+/// Whether the record is one of those that are wanted: the SOA, or all others.
+fn is_wanted(soa: bool, r: &Record) -> bool
+    ensures { result ≡ is_wanted soa r.now }
+{
+    (r.rtype() == types::SOA) == soa
+}
+
+/// Writes the record if it is wanted.
+fn print_if<W: Write>(wanted: bool, r: &Record, out: &mut W) -> io::Result<()>
+    ensures { OnOk result (Appends (W.contents out.old) (W.contents out.new) (if wanted then printed_record r.now else [])) }
+{
+    if wanted {
+        write!(out, "{}", Line(r))?;
+    }
+    Ok(())
+}
+
+/// Writes the records that are wanted, in their order.
+fn print_wanted<I: ZoneIndex, W: Write>(index: &I, soa: bool, out: &mut W) -> io::Result<()>
+    ensures { OnOk result (Appends (W.contents out.old) (W.contents out.new) (flat_map printed_record (filter (is_wanted soa) (I.records index.now)))) }
+{
+    let mut last: Option<&Record> = None;
+    'records: while let Some(record) = index.walk(last) {
+        print_if(is_wanted(soa, record), record, out)?;
+        last = Some(record);
+    }
+    Ok(())
+}
+
+/// Writes a zone in its printed form: a line for each record, the SOA first, then the others by owner, type and data. Names are in full.
+/// A fault of the writer is handed on.
+pub fn print_zone<I: ZoneIndex, W: Write>(zone: &Zone<I>, out: &mut W) -> io::Result<()>
+    ensures { OnOk result (Appends (W.contents out.old) (W.contents out.new) (printed_zone zone.now.records)) }
+{
+    print_wanted(zone.index(), true, out)?;
+    print_wanted(zone.index(), false, out)
+}

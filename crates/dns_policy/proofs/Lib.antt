@@ -1,0 +1,4 @@
+pub mod Addresses
+pub mod Bits
+pub mod Decimals
+mod Examples

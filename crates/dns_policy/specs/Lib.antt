@@ -1,0 +1,3 @@
+pub mod Address
+pub mod Family
+pub mod Prefix

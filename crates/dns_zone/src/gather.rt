@@ -1,0 +1,104 @@
+//! A list of records in any order, gathered into a set.
+ghost use Rattle.std.specs.Prelude.{◌≡◌, true, ◌==◌, ◌&&◌, length, Some, IfOk, OnOk, IsPermutation};
+ghost use Rattle.std.specs.List.{list_all};
+ghost use Rattle.std.specs.List.Sorted.{IsSorted};
+ghost use Rattle.dns_names.specs.Name.{names_eq, under};
+ghost use Rattle.dns_records.specs.Record.{record_cmp};
+ghost use Rattle.dns_records.specs.Types.{type_soa};
+ghost use Rattle.dns_zone.specs.Records.{is_ordered, owns_type};
+ghost use Rattle.dns_zone.specs.Zone.{has_twice, soas, zone_fault};
+
+use crate::{ZoneError, ZoneIndex};
+use dns_memory::Heap;
+use dns_names::NameRef;
+use dns_records::Record;
+use dns_records::types::{NS, SOA};
+use std::alloc::AllocError;
+
+/// Puts the records in order. Those of equal owner, type and data stand beside one another then.
+pub(crate) fn sort(records: &mut Vec<Record, Heap>) -> Result<(), AllocError>
+    ensures same { IsPermutation records.old.items records.new.items }
+    ensures sorted { OnOk result (IsSorted record_cmp records.new.items) }
+{
+    records.sort_by(|a, b| a.compare(b))?;
+    Ok(())
+}
+
+/// Whether each record is above the one before it.
+pub(crate) fn rises(records: &[Record]) -> bool
+    ensures { result ≡ is_ordered records.now }
+{
+    records.is_sorted_by(|a, b| a.compare(b).is_lt())
+}
+
+/// The set of records in order.
+pub(crate) fn set_of<I: ZoneIndex>(alloc: Heap, records: Vec<Record, Heap>) -> Result<I, AllocError>
+    requires { is_ordered records.items ≡ true }
+    ensures { IfOk result (λ index. I.records index ≡ records.entry.items) }
+{
+    let mut index = I::empty(alloc)?;
+    for record in records {
+        index.insert(record)?;
+    }
+    Ok(index)
+}
+
+/// Whether the record is of that owner and type.
+fn is_of(r: &Record, owner: &NameRef<'_>, rtype: u16) -> bool
+    ensures { result ≡ (names_eq r.now.owner owner.now && r.now.rtype == rtype) }
+{
+    r.owner().lend().is(owner) & (r.rtype() == rtype)
+}
+
+/// Whether the record is a SOA.
+fn is_soa(r: &Record) -> bool
+    ensures { result ≡ (r.now.rtype == type_soa) }
+{
+    r.rtype() == SOA
+}
+
+/// Whether the record has an owner at the name or under it.
+fn stands_under(r: &Record, apex: &NameRef<'_>) -> bool
+    ensures { result ≡ under r.now.owner apex.now }
+{
+    r.owner().lend().is_under(apex)
+}
+
+/// Whether one of the records is of that owner and type.
+fn one_is_of(records: &[Record], owner: &NameRef<'_>, rtype: u16) -> bool
+    ensures { result ≡ owns_type records.now owner.now rtype }
+{
+    records.iter().any(|r| is_of(r, owner, rtype))
+}
+
+/// How many of the records are SOAs.
+fn count_soas(records: &[Record]) -> usize
+    ensures { result ≡ length (soas records.now) }
+{
+    records.iter().filter(|r| is_soa(r)).count()
+}
+
+/// Whether each record has an owner at the name or under it.
+fn all_stand_under(records: &[Record], apex: &NameRef<'_>) -> bool
+    ensures { result ≡ list_all (λ r. under r.owner apex.now) records.now }
+{
+    records.iter().all(|r| stands_under(r, apex))
+}
+
+/// Why records of which two have one owner, type and data are no zone.
+pub(crate) fn refusal_of_doubles(apex: &NameRef<'_>, records: &[Record]) -> ZoneError
+    requires { has_twice records.now ≡ true }
+    ensures { zone_fault apex.now records.now ≡ Some result }
+{
+    if !one_is_of(records, apex, SOA) {
+        ZoneError::NoSoa
+    } else if count_soas(records) > 1 {
+        ZoneError::ManySoa
+    } else if !one_is_of(records, apex, NS) {
+        ZoneError::NoNs
+    } else if !all_stand_under(records, apex) {
+        ZoneError::OutOfZone
+    } else {
+        ZoneError::Duplicate
+    }
+}

@@ -1,0 +1,152 @@
+//! What the calls of an index do one behind the other.
+ghost use Rattle.std.specs.Prelude.{◌≡◌, IfOk, OnOk};
+ghost use Rattle.std.specs.Option.{option_copied};
+ghost use Rattle.dns_zone.specs.Records.{next_after, put};
+ghost use Rattle.dns_zone.specs.Run.{reply_of, set_after, replies_of, set_left};
+
+use crate::ZoneIndex;
+use dns_memory::Heap;
+use dns_names::Name;
+use dns_records::Record;
+use std::alloc::AllocError;
+use std::marker::Model;
+
+/// A call of an index.
+#[derive(Debug, Drop)]
+pub enum Command {
+    /// Asks for the records that the name owns.
+    RecordsAt(Name),
+    /// Asks for the records of a name and a type.
+    Rrset(Name, u16),
+    /// Asks whether the name or one under it owns a record.
+    Exists(Name),
+    /// Puts the record in.
+    Insert(Record),
+    /// Takes the record of equal owner, type and data out.
+    Remove(Record),
+    /// Asks for the first record, or the first behind one.
+    Walk(Option<Record>),
+    /// Takes a fork, puts the record into what the fork was taken from, and goes on with the fork.
+    Fork(Record),
+}
+
+/// What a call answers.
+#[derive(Debug, Drop)]
+pub enum Reply {
+    /// Copies of the records that were asked for, in order.
+    Held(Copies),
+    /// Whether what was asked for, or was to be taken out, is there.
+    Found(bool),
+    /// A copy of the record that was asked for, if there is one.
+    Next(Option<Record>),
+    /// It is done.
+    Done,
+}
+
+/// Copies of records.
+#[derive(Debug, Drop)]
+pub struct Copies {
+    items: Vec<Record, Heap>,
+}
+
+impl Model for Copies {
+    ghost use Rattle.std.specs.Prelude.{List};
+    ghost use Rattle.dns_records.specs.Record.{Record as Stated};
+
+    ghost Value = { List Stated };
+
+    ghost view = { λ copies. copies.items.items };
+}
+
+impl Copies {
+    /// The copies of records.
+    fn of(alloc: Heap, records: &[Record]) -> Result<Copies, AllocError>
+        ensures { IfOk result (λ copies. copies ≡ records.now) }
+    {
+        let mut items = Vec::new(alloc);
+        for record in records {
+            items.push(record.clone()?)?;
+        }
+        Ok(Copies { items })
+    }
+
+    /// The records.
+    pub fn records(&self) -> &[Record]
+        ensures { result.now ≡ self.now }
+    {
+        &self.items
+    }
+}
+
+/// A copy of the record behind one, or of the first.
+fn next<I: ZoneIndex>(index: &I, after: Option<&Record>) -> Result<Reply, AllocError>
+    ensures { IfOk result (λ reply. reply ≡ Reply.Next (next_after (option_copied after.entry) (I.records index.now))) }
+{
+    match index.walk(after) {
+        None => Ok(Reply::Next(None)),
+        Some(record) => Ok(Reply::Next(Some(record.clone()?))),
+    }
+}
+
+/// Puts a copy of the record in.
+fn insert_copy<I: ZoneIndex>(index: &mut I, added: &Record) -> Result<(), AllocError>
+    ensures { OnOk result (I.records index.new ≡ put added.now (I.records index.old)) }
+{
+    index.insert(added.clone()?)
+}
+
+/// Takes a fork, puts a copy of the record into the index, and puts the fork in its place.
+fn go_on_with_fork<I: ZoneIndex>(index: &mut I, added: &Record) -> Result<(), AllocError>
+    ensures { OnOk result (I.records index.new ≡ I.records index.old) }
+{
+    let fork = index.fork()?;
+    insert_copy(index, added)?;
+    *index = fork;
+    Ok(())
+}
+
+/// Makes one call.
+fn call<I: ZoneIndex>(alloc: Heap, index: &mut I, command: &Command) -> Result<Reply, AllocError>
+    ensures reply { IfOk result (λ reply. reply ≡ reply_of (I.records index.old) command.now) }
+    ensures left { OnOk result (I.records index.new ≡ set_after (I.records index.old) command.now) }
+{
+    match command {
+        Command::RecordsAt(name) => {
+            let copies = Copies::of(alloc, index.records_at(&name.lend()))?;
+            Ok(Reply::Held(copies))
+        }
+        Command::Rrset(name, rtype) => {
+            let copies = Copies::of(alloc, index.rrset(&name.lend(), *rtype))?;
+            Ok(Reply::Held(copies))
+        }
+        Command::Exists(name) => Ok(Reply::Found(index.exists(&name.lend()))),
+        Command::Insert(record) => {
+            insert_copy(index, record)?;
+            Ok(Reply::Done)
+        }
+        Command::Remove(record) => Ok(Reply::Found(index.remove(record)?)),
+        Command::Walk(after) => next(index, after.as_ref()),
+        Command::Fork(record) => {
+            go_on_with_fork(index, record)?;
+            Ok(Reply::Done)
+        }
+    }
+}
+
+/// Makes the calls in order, and answers what they reply and the set that they leave.
+pub fn run_index<I: ZoneIndex>(
+    alloc: Heap,
+    index: I,
+    commands: &[Command],
+) -> Result<(I, Vec<Reply, Heap>), AllocError>
+    ensures replies { IfOk result (λ run. run.1.items ≡ replies_of (I.records index) commands.now) }
+    ensures left { IfOk result (λ run. I.records run.0 ≡ set_left (I.records index) commands.now) }
+{
+    let mut index = index;
+    let mut replies = Vec::new(alloc);
+    'calls: for command in commands {
+        let reply = call(alloc, &mut index, command)?;
+        replies.push(reply)?;
+    }
+    Ok((index, replies))
+}

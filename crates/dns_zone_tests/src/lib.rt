@@ -1,0 +1,9 @@
+//! Tests of sets of records and of zones over them.
+#![tactic(auto)]
+
+#[cfg(test)]
+mod given;
+#[cfg(test)]
+mod runs;
+#[cfg(test)]
+mod zones;

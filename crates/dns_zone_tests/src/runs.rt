@@ -1,0 +1,161 @@
+use crate::given::{Kind, name, record};
+use dns_memory::{Heap, heap};
+use dns_names::Name;
+use dns_records::Record;
+use dns_zone::laws::{Command, Reply, run_index};
+use dns_zone::{RecordList, ZoneIndex};
+use std::cmp::Ordering;
+use std::test::Fail;
+
+/// Numbers that look random.
+#[derive(Drop)]
+struct Numbers {
+    state: u64,
+}
+
+impl Numbers {
+    fn next(&mut self, below: u8) -> u8 {
+        self.state = self
+            .state
+            .wrapping_mul(6364136223846793005)
+            .wrapping_add(1442695040888963407);
+        ((self.state >> 33) % u64::from(below.max(1))) as u8
+    }
+}
+
+fn owner(numbers: &mut Numbers) -> &'static [u8] {
+    match numbers.next(6) {
+        0 => b"a.",
+        1 => b"b.a.",
+        2 => b"c.b.a.",
+        3 => b"*.b.a.",
+        4 => b"aa.",
+        _ => b".",
+    }
+}
+
+fn some_record(heap: Heap, numbers: &mut Numbers) -> Result<Record, Fail> {
+    let owner = owner(numbers);
+    let ttl = u32::from(numbers.next(3));
+    match numbers.next(5) {
+        0 => record(heap, owner, ttl, Kind::Ns),
+        1 => record(heap, owner, ttl, Kind::Cname),
+        k => record(heap, owner, ttl, Kind::A(k)),
+    }
+}
+
+fn some_command(heap: Heap, numbers: &mut Numbers) -> Result<Command, Fail> {
+    Ok(match numbers.next(12) {
+        0 => Command::RecordsAt(name(heap, owner(numbers))?),
+        1 => Command::Rrset(name(heap, owner(numbers))?, u16::from(numbers.next(6))),
+        2 => Command::Exists(name(heap, owner(numbers))?),
+        3 => Command::Walk(None),
+        4 => Command::Walk(Some(some_record(heap, numbers)?)),
+        5 => Command::Fork(some_record(heap, numbers)?),
+        6 | 7 => Command::Remove(some_record(heap, numbers)?),
+        _ => Command::Insert(some_record(heap, numbers)?),
+    })
+}
+
+fn tie(a: &Record, b: &Record) -> bool {
+    a.compare(b) == Ordering::Equal
+}
+
+/// Takes the record that ties out of the list, and says whether there was one.
+fn take_out(plain: &mut Vec<Record, Heap>, gone: &Record) -> bool {
+    let before = plain.len();
+    plain.retain(|r| !tie(r, gone));
+    plain.len() < before
+}
+
+/// How many of the records are of a name and, if one is given, of a type.
+fn count(plain: &[Record], name: &Name, rtype: Option<u16>) -> usize {
+    plain
+        .iter()
+        .filter(|r| r.owner() == name && rtype.is_none_or(|t| r.rtype() == t))
+        .count()
+}
+
+/// Whether the records rise and are of a name and, if one is given, of a type, all of the list, and as many as there are.
+fn are_those_of(found: &[Record], plain: &[Record], name: &Name, rtype: Option<u16>) -> bool {
+    let rise = found.is_sorted_by(|a, b| a.compare(b) == Ordering::Less);
+    let listed = found.iter().all(|r| plain.contains(r));
+    rise && listed
+        && count(found, name, rtype) == found.len()
+        && count(plain, name, rtype) == found.len()
+}
+
+/// Whether the record is the least of those behind another.
+fn is_next(found: &Option<Record>, plain: &[Record], after: &Option<Record>) -> bool {
+    let behind = |r: &Record| match after {
+        None => true,
+        Some(a) => a.compare(r) == Ordering::Less,
+    };
+    match found {
+        None => !plain.iter().any(|r| behind(r)),
+        Some(next) => {
+            plain.contains(next)
+                && behind(next)
+                && plain
+                    .iter()
+                    .all(|r| !behind(r) || r.compare(next) != Ordering::Less)
+        }
+    }
+}
+
+/// Makes the call of a plain list, and says whether the reply is its.
+fn agrees(plain: &mut Vec<Record, Heap>, command: &Command, reply: &Reply) -> Result<bool, Fail> {
+    Ok(match (command, reply) {
+        (Command::RecordsAt(name), Reply::Held(copies)) => are_those_of(
+            copies.records(),
+            plain,
+            name,
+            None,
+        ),
+        (Command::Rrset(name, rtype), Reply::Held(copies)) => are_those_of(
+            copies.records(),
+            plain,
+            name,
+            Some(*rtype),
+        ),
+        (Command::Exists(name), Reply::Found(found)) => {
+            *found
+                == plain
+                    .iter()
+                    .any(|r| r.owner().lend().is_under(&name.lend()))
+        }
+        (Command::Insert(added), Reply::Done) => {
+            take_out(plain, added);
+            plain.push(added.clone()?)?;
+            true
+        }
+        (Command::Remove(gone), Reply::Found(found)) => *found == take_out(plain, gone),
+        (Command::Walk(after), Reply::Next(next)) => is_next(next, plain, after),
+        (Command::Fork(_), Reply::Done) => true,
+        _ => false,
+    })
+}
+
+// The sorted list against a plain one, over four hundred calls.
+#[test]
+fn four_hundred_calls(rt: HostRuntime) -> Result<(), Fail> {
+    let heap = heap(rt.alloc())?;
+    let mut numbers = Numbers { state: 1 };
+    let mut commands = Vec::new(heap);
+    for _ in 0..400 {
+        commands.push(some_command(heap, &mut numbers)?)?;
+    }
+    let (list, replies) = run_index(heap, RecordList::empty(heap)?, &commands)?;
+    assert_eq!(rt; replies.len(), commands.len());
+    let mut plain: Vec<Record, Heap> = Vec::new(heap);
+    for (command, reply) in commands.iter().zip(replies.iter()) {
+        assert!(rt; agrees(&mut plain, command, reply)?);
+    }
+    assert!(rt;
+        plain
+            .iter()
+            .all(|r| list.records_at(&r.owner().lend()).contains(r))
+    );
+    assert!(rt; plain.len() > 5, "{} records", plain.len());
+    Ok(())
+}
