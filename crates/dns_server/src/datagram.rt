@@ -17,6 +17,9 @@ const QUERY: u8 = 0;
 
 const UPDATE: u8 = 5;
 
+/// A datagram has at most so many octets (RFC 1035 section 4.2.1).
+const MOST: usize = 512;
+
 /// The response codes of what is no request, and of what is not served (RFC 1035 section 4.1.1).
 const FORMERR: u8 = 1;
 
@@ -79,7 +82,7 @@ pub fn answer_datagram<I: ZoneIndex>(
     if opcode != QUERY && opcode != UPDATE {
         return Ok(Some(refusal(alloc, octets, NOTIMP)?));
     }
-    if octets.len() > 512 {
+    if octets.len() > MOST {
         return Ok(Some(refusal(alloc, octets, FORMERR)?));
     }
     at_most_one();

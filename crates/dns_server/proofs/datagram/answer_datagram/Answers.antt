@@ -18,7 +18,7 @@ returns-in_default g c =
       | else-opcode-ne-QUERY-via-then-opcode-ne-QUERY+else-opcode-ne-UPDATE w ↦ ap (λ n. n == 0 || n == 5) (sym value ∙ w.if-opcode-ne-UPDATE.false)
       | else-opcode-ne-QUERY-via-else-opcode-ne-QUERY w ↦ ap (λ n. n == 0 || n == 5) (sym value ∙ w.if-opcode-ne-QUERY.false)
     ] in
-    let long : nat_lt 512 (length octets) ≡ false = le-ltb 512 (length octets) c.if-octets-gt512.false in
+    let long : nat_lt 512 (length octets) ≡ false = le-ltb 512 (length octets) c.if-octets-gt-MOST.false in
     let fit : AreOctets octets = λ i. omega (arith, c.type_inv.octets i) in
     let none : message_of octets ≡ None = none_read (message_of octets) (λ m e. (let ok = c.read.ensures.only m ((c.at_most_one.ensures.computed octets m fit).1 e) in let bad = subst (λ r. IsOk r) c.in_default.is ok in cc)) in
     unread c.args.zones.now octets unanswered kind long none ∙ ap (λ xs. Replies xs) (sym c.in_ok-refusal-3.ensures)
@@ -32,7 +32,7 @@ returns-then-not-is_for_reply g c =
       | else-opcode-ne-QUERY-via-then-opcode-ne-QUERY+else-opcode-ne-UPDATE w ↦ ap (λ n. n == 0 || n == 5) (sym value ∙ w.if-opcode-ne-UPDATE.false)
       | else-opcode-ne-QUERY-via-else-opcode-ne-QUERY w ↦ ap (λ n. n == 0 || n == 5) (sym value ∙ w.if-opcode-ne-QUERY.false)
     ] in
-    let long : nat_lt 512 (length octets) ≡ false = le-ltb 512 (length octets) c.if-octets-gt512.false in
+    let long : nat_lt 512 (length octets) ≡ false = le-ltb 512 (length octets) c.if-octets-gt-MOST.false in
     let fit : AreOctets octets = λ i. omega (arith, c.type_inv.octets i) in
     let r = c.in-Ok.message in
     let found = c.in-Ok.ensures.found in
