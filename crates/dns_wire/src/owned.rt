@@ -28,8 +28,15 @@ fn append_name(message: &[u8], at: usize, out: &mut Vec<u8, Heap>) -> Result<usi
 }
 
 /// Appends one part of the data, and gives where it ends.
-fn append_field(message: &[u8], at: usize, field: Field, stop: usize, out: &mut Vec<u8, Heap>) -> Result<usize, AllocError>
+fn append_field(
+    message: &[u8],
+    at: usize,
+    field: Field,
+    stop: usize,
+    out: &mut Vec<u8, Heap>,
+) -> Result<usize, AllocError>
     requires there { (mid : ℕ) × SomeField message.now at (stated_field field) mid stop }
+    requires up { at ≤ stop }
     requires inside { stop ≤ length message.now }
     ensures { IfOk result (λ mid. (part : SomeField message.now at (stated_field field) mid stop) × (out.new.items ≡ out.old.items ++ part.plain)) }
 {
@@ -48,8 +55,15 @@ fn append_field(message: &[u8], at: usize, field: Field, stop: usize, out: &mut 
 }
 
 /// Appends the parts of the data.
-fn append_fields(message: &[u8], at: usize, fields: &[Field], stop: usize, out: &mut Vec<u8, Heap>) -> Result<(), AllocError>
+fn append_fields(
+    message: &[u8],
+    at: usize,
+    fields: &[Field],
+    stop: usize,
+    out: &mut Vec<u8, Heap>,
+) -> Result<(), AllocError>
     requires there { SomeFields message.now at (stated_fields fields.now) stop }
+    requires up { at ≤ stop }
     requires inside { stop ≤ length message.now }
     requires last { StringsLast (stated_fields fields.now) }
     ensures { OnOk result ((plain : List ℕ) × FieldsAt message.now at (stated_fields fields.now) plain stop × (out.new.items ≡ out.old.items ++ plain)) }
@@ -62,7 +76,13 @@ fn append_fields(message: &[u8], at: usize, fields: &[Field], stop: usize, out: 
 }
 
 /// Appends the data of a record.
-pub(crate) fn append_data(message: &[u8], at: usize, rtype: u16, size: usize, out: &mut Vec<u8, Heap>) -> Result<(), AllocError>
+pub(crate) fn append_data(
+    message: &[u8],
+    at: usize,
+    rtype: u16,
+    size: usize,
+    out: &mut Vec<u8, Heap>,
+) -> Result<(), AllocError>
     requires there { (plain : List ℕ) × RDataAt message.now at rtype size plain }
     requires inside { at + size ≤ length message.now }
     ensures { OnOk result ((plain : List ℕ) × RDataAt message.now at rtype size plain × (out.new.items ≡ out.old.items ++ plain)) }

@@ -67,7 +67,13 @@ impl<'a> RecordView<'a> {
     {
         let size = number(self.message, self.behind_owner + 8) as usize;
         let mut octets = Vec::new(alloc);
-        append_data(self.message, self.behind_owner + 10, self.rtype(), size, &mut octets)?;
+        append_data(
+            self.message,
+            self.behind_owner + 10,
+            self.rtype(),
+            size,
+            &mut octets,
+        )?;
         Ok(octets)
     }
 
