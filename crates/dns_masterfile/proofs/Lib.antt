@@ -3,6 +3,7 @@ mod Means
 mod Samples
 mod Sound
 mod ZoneE
+pub mod Lefts
 pub mod PrintedData
 pub mod PrintedZone
 pub mod Scanning

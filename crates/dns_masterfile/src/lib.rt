@@ -3,7 +3,9 @@
 
 mod comments;
 mod kind;
+mod pieces;
 mod print;
+mod scanner;
 mod words;
 mod zone;
 
