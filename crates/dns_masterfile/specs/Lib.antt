@@ -10,3 +10,5 @@ pub mod Meaning
 pub mod Reading
 pub mod Printed
 pub mod Next
+pub mod Taking
+pub mod Contexts

@@ -1,5 +1,5 @@
 -- What stands next in a file.
-use Rattle.std.specs.Prelude.{◌≡◌, true, false, List, [], ◌∷◌}
+use Rattle.std.specs.Prelude.{◌≡◌, true, false, [], ◌∷◌}
 use Rattle.dns_masterfile.specs.declared.scanner.Next.{Next}
 use Rattle.dns_masterfile.specs.declared.scanner.Next.TheVariants.{Word, Entry, End, Fault}
 use Rattle.dns_masterfile.specs.Left.{Left, no_words, word_before, entry_at}

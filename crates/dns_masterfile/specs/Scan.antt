@@ -1,7 +1,4 @@
 -- What the reader finds in a file, as it is stated.
-use Rattle.std.specs.Prelude.{◌≡◌, ◌⊎◌, ℕ, true, false, List, [], ◌∷◌, Ok, Err}
-use Rattle.dns_masterfile.specs.declared.FileError.{FileError}
-use Rattle.dns_masterfile.specs.declared.FileError.TheVariants.{OutOfMemory}
 use Rattle.dns_masterfile.specs.declared.pieces.Word.{Word as Found}
 use Rattle.dns_masterfile.specs.declared.pieces.Word.TheVariants as found
 use Rattle.dns_masterfile.specs.declared.pieces.Piece.{Piece as Part}

@@ -1,4 +1,4 @@
-use Rattle.std.proofs.Common.{◌≡◌, ◌<◌, ◌-◌, List, ℕ, length, drop, sym, ap, ◌∙◌, arith}
+use Rattle.std.proofs.Common.{◌<◌, List, ℕ, length, ap, ◌∙◌, arith}
 use Rattle.std.proofs.lemmas.List.{length-drop}
 use Rattle.dns_masterfile.proofs.Scanning.{rest_of, some_octets}
 use Rattle.dns_masterfile.proofs.pieces.split_bare.Goals as goal

@@ -1,5 +1,4 @@
-use Rattle.std.proofs.Common.{◌≡◌, ℕ, Bool, List, ◌∷◌, sym, ap, ◌∙◌, false}
-use Rattle.dns_masterfile.specs.Entries.{Entry}
+use Rattle.std.proofs.Common.{ℕ, Bool, List, ◌∷◌, sym, ap, ◌∙◌, false}
 use Rattle.dns_masterfile.specs.Pieces.{pieces_of}
 use Rattle.dns_masterfile.specs.Left.{Left, left_from, entry_at}
 use Rattle.dns_masterfile.proofs.Lefts.{entries_begun}
