@@ -2,8 +2,13 @@ pub mod Text
 pub mod Kinds
 pub mod Pieces
 pub mod Steps
+pub mod Scan
 pub mod Entries
+pub mod Left
 pub mod Data
 pub mod Meaning
 pub mod Reading
 pub mod Printed
+pub mod Next
+pub mod Taking
+pub mod Contexts

@@ -1,10 +1,10 @@
 -- Bare words, quoted strings and comments, by what is next in them.
-use Rattle.std.specs.Prelude.{◌≡◌, ℕ, suc, ◌<◌, ◌≤◌, Option, Some, None, List, [], ◌∷◌, length, take, drop}
+use Rattle.std.specs.Prelude.{◌≡◌, ℕ, ◌<◌, ◌≤◌, Option, Some, None, List, [], ◌∷◌, length, take, drop}
 use Rattle.dns_masterfile.specs.declared.kind.Kind.{Kind}
-use Rattle.dns_masterfile.specs.declared.kind.Kind.TheVariants.{LineFeed, Return, Control, Blank, Semicolon, Quote, Opening, Closing, Backslash, Plain}
+use Rattle.dns_masterfile.specs.declared.kind.Kind.TheVariants.{LineFeed, Return, Control}
 use Rattle.dns_masterfile.specs.declared.words.Step.{Step}
 use Rattle.dns_masterfile.specs.declared.words.Step.TheVariants.{Take, End, Stop}
-use Rattle.dns_masterfile.specs.Pieces.{Piece, Within, InWord, InQuotes, BehindEscape, Fault, grown, bare_end, quoted_end, pieces_from, pieces_of}
+use Rattle.dns_masterfile.specs.Pieces.{Piece, InWord, InQuotes, BehindEscape, Fault, grown, bare_end, quoted_end, pieces_from, pieces_of}
 
 -- the word at the front with octets before it
 abbrev pub grown_by : List ℕ → List Piece → List Piece

@@ -1,12 +1,25 @@
 //! Master files (RFC 1035 section 5).
 #![tactic(auto)]
 
+ghost use Rattle.std.specs.Prelude.{◌≡◌};
+ghost use Rattle.dns_masterfile.specs.declared.FileError.TheVariants.{OutOfMemory};
+
 mod comments;
+mod context;
+mod entry;
 mod kind;
+mod pieces;
 mod print;
+mod rdata;
+mod read;
+mod scanner;
+mod take;
+mod values;
 mod words;
 mod zone;
 
+pub use read::read_zone;
+use std::alloc::{AllocError, AllocFailed};
 pub use zone::print_zone;
 
 /// Why a master file is refused.
@@ -30,4 +43,20 @@ pub enum FileError {
     UnknownType,
     /// The data has more than 4,096 octets.
     TooLong,
+}
+
+impl From<AllocError> for FileError {
+    ghost from_gives = { λ _ e. e ≡ OutOfMemory };
+
+    fn from(_error: AllocError) -> FileError {
+        FileError::OutOfMemory
+    }
+}
+
+impl<T: Drop> From<AllocFailed<T>> for FileError {
+    ghost from_gives = { λ _ e. e ≡ OutOfMemory };
+
+    fn from(_error: AllocFailed<T>) -> FileError {
+        FileError::OutOfMemory
+    }
 }

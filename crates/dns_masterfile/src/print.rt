@@ -166,7 +166,7 @@ impl fmt::Display for DataWords<'_> {
 }
 
 /// The word of a type that is known.
-fn type_word(rtype: u16) -> &'static str
+pub(crate) fn type_word(rtype: u16) -> &'static str
     ensures { result.now ≡ unwrap_or (word_of_type rtype) [] }
 {
     match rtype {

@@ -1,7 +1,7 @@
-use Rattle.std.proofs.Common.{◌≡◌, ℕ, ◌+◌, ◌-◌, ◌≤◌, List, ◌∷◌, [], ◌++◌, length, take, drop, sym, ap, subst, ◌∙◌, arith, append-nil, take-add, drop-drop}
+use Rattle.std.proofs.Common.{◌≡◌, ℕ, ◌+◌, List, ◌∷◌, [], ◌++◌, take, drop, sym, ap, subst, ◌∙◌, arith, append-nil, take-add, drop-drop}
 use Rattle.std.proofs.lemmas.List.{length-drop}
 use Rattle.dns_masterfile.specs.declared.words.Step.TheVariants.{Take, End, Stop}
-use Rattle.dns_masterfile.specs.Pieces.{Piece, InWord, Fault, Text, Bare, pieces_from, pieces_of}
+use Rattle.dns_masterfile.specs.Pieces.{InWord, Text, Bare, pieces_from, pieces_of}
 use Rattle.dns_masterfile.specs.Steps.{grown_by, IsWordStep}
 use Rattle.dns_masterfile.proofs.Scanning.{rest_of, grown_bare, grown_fault, grown_more}
 use Rattle.dns_masterfile.proofs.words.bare_len.Goals as goal

@@ -1,7 +1,7 @@
-use Rattle.std.proofs.Common.{◌≡◌, ℕ, ◌+◌, ◌-◌, ◌≤◌, List, ◌∷◌, [], ◌++◌, length, take, drop, sym, ap, subst, ◌∙◌, arith, append-nil, take-add, drop-drop}
+use Rattle.std.proofs.Common.{◌≡◌, ℕ, ◌+◌, List, ◌∷◌, [], ◌++◌, take, drop, sym, ap, subst, ◌∙◌, arith, append-nil, take-add, drop-drop}
 use Rattle.std.proofs.lemmas.List.{length-drop}
 use Rattle.dns_masterfile.specs.declared.words.Step.TheVariants.{Take, End, Stop}
-use Rattle.dns_masterfile.specs.Pieces.{Piece, InQuotes, Fault, Text, Quoted, pieces_from, pieces_of}
+use Rattle.dns_masterfile.specs.Pieces.{InQuotes, Text, Quoted, pieces_from, pieces_of}
 use Rattle.dns_masterfile.specs.Steps.{grown_by, IsQuotedStep}
 use Rattle.dns_masterfile.proofs.Scanning.{rest_of, grown_quoted, grown_fault, grown_more}
 use Rattle.dns_masterfile.proofs.words.quoted_len.Goals as goal

@@ -1,0 +1,173 @@
+-- Octets taken one behind the other.
+use Rattle.std.proofs.Common.{◌≡◌, ℕ, ◌+◌, ◌<◌, ◌≤◌, inl, inr, Bool, true, false, List, [], ◌∷◌, ◌++◌, length, refl, sym, ap, subst, ◌∙◌, arith, append_assoc, append-nil, length-append, suc, drop, get_or}
+use Rattle.std.specs.Prelude.{Option, Some, None, Ok, Err, map, flat_map, nat_lt, ok_or, option_and_then, if◌then◌else◌}
+use Rattle.std.specs.List.{AllByRecursion}
+use Rattle.std.proofs.lemmas.Bool.Decides.{nat_tests}
+use Rattle.std.proofs.lemmas.List.{length-map}
+use Rattle.std.proofs.Math.Seq.{drop-cons}
+use Rattle.dns_names.specs.Name.{Labels}
+use Rattle.dns_names.specs.Text.{Letter, letters, octet_of}
+use Rattle.dns_records.specs.Types.{Field}
+use Rattle.dns_records.specs.Record.{string}
+use Rattle.dns_masterfile.specs.declared.FileError.{FileError}
+use Rattle.dns_masterfile.specs.declared.FileError.TheVariants.{BadData}
+use Rattle.dns_masterfile.specs.Text.{string_of_text}
+use Rattle.dns_masterfile.specs.Pieces.{Word, text_of}
+use Rattle.dns_masterfile.specs.Data.{Fixed, octets_of_text}
+use Rattle.dns_masterfile.specs.Reading.{Outcome, Taken, ◌>>=◌, next_word, take_fixed, take_field, take_data, take_strings, fault_of, fits_data}
+use Rattle.dns_masterfile.specs.Taking.{FitField, FitFields, Refuses, string_at, strings_in}
+
+-- octets before those that are taken
+abbrev pub joined : List ℕ → Taken (List ℕ) → Taken (List ℕ)
+joined front (Ok x) = Ok (front ++ x.0, x.1)
+joined front (Err e) = Err e
+
+joined_twice : (a b : List ℕ) (r : Taken (List ℕ)) → joined a (joined b r) ≡ joined (a ++ b) r
+joined_twice a b (Ok x) = ap (λ (octets : List ℕ). Ok (octets, x.1)) (sym (append_assoc a b x.0))
+joined_twice a b (Err e) = refl
+
+bind_joined : (front : List ℕ) (r : Taken (List ℕ)) → (r >>= λ x. Ok (front ++ x.0, x.1)) ≡ joined front r
+bind_joined front (Ok x) = refl
+bind_joined front (Err e) = refl
+
+pub joined_end : (all : Taken (List ℕ)) (front : List ℕ) (words : List Word) → all ≡ joined front (Ok ([], words)) → all ≡ Ok (front, words)
+joined_end all front words h = h ∙ ap (λ (octets : List ℕ). Ok (octets, words)) (append-nil front)
+
+-- one more number or address
+pub fixed_more : (f : Fixed) (fs : List Fixed) (all : Taken (List ℕ)) (front more : List ℕ) (words rest : List Word) (w : Word) → all ≡ joined front (take_fixed (f ∷ fs) words) → next_word words ≡ Ok (w, rest) → octets_of_text f (text_of w) ≡ Some more → all ≡ joined (front ++ more) (take_fixed fs rest)
+fixed_more f fs all front more words rest w h word octets =
+    let read : List ℕ → Taken (List ℕ) = λ o. take_fixed fs rest >>= λ r. Ok (o ++ r.0, r.1) in
+    let taken : take_fixed (f ∷ fs) words ≡ joined more (take_fixed fs rest) =
+    ap (λ (r : Taken Word). r >>= λ w. ok_or (octets_of_text f (text_of w.0)) (fault_of f) >>= λ o. take_fixed fs w.1 >>= λ r. Ok (o ++ r.0, r.1)) word
+    ∙ ap (λ (o : Option (List ℕ)). ok_or o (fault_of f) >>= read) octets
+    ∙ bind_joined more (take_fixed fs rest) in
+    h ∙ ap (joined front) taken ∙ joined_twice front more (take_fixed fs rest)
+
+pub fixed_missing : (f : Fixed) (fs : List Fixed) (all : Taken (List ℕ)) (front : List ℕ) (words : List Word) (e : FileError) → all ≡ joined front (take_fixed (f ∷ fs) words) → next_word words ≡ Err e → all ≡ Err e
+fixed_missing f fs all front words e h word =
+    h ∙ ap (λ (r : Taken Word). joined front (r >>= λ w. ok_or (octets_of_text f (text_of w.0)) (fault_of f) >>= λ o. take_fixed fs w.1 >>= λ r. Ok (o ++ r.0, r.1))) word
+
+pub fixed_refused : (f : Fixed) (fs : List Fixed) (all : Taken (List ℕ)) (front : List ℕ) (words rest : List Word) (w : Word) → all ≡ joined front (take_fixed (f ∷ fs) words) → next_word words ≡ Ok (w, rest) → octets_of_text f (text_of w) ≡ None → all ≡ Err (fault_of f)
+fixed_refused f fs all front words rest w h word none =
+    h ∙ ap (λ (r : Taken Word). joined front (r >>= λ w. ok_or (octets_of_text f (text_of w.0)) (fault_of f) >>= λ o. take_fixed fs w.1 >>= λ r. Ok (o ++ r.0, r.1))) word
+    ∙ ap (λ (o : Option (List ℕ)). joined front (ok_or o (fault_of f) >>= λ o. take_fixed fs rest >>= λ r. Ok (o ++ r.0, r.1))) none
+
+-- one more part of data
+pub fields_more : (origin : Labels) (f : Field) (fs : List Field) (all : Taken (List ℕ)) (front more : List ℕ) (words rest : List Word) → all ≡ joined front (take_data origin (f ∷ fs) words) → take_field origin f words ≡ Ok (more, rest) → all ≡ joined (front ++ more) (take_data origin fs rest)
+fields_more origin f fs all front more words rest h field =
+    h ∙ ap (λ (r : Taken (List ℕ)). joined front (r >>= λ a. take_data origin fs a.1 >>= λ b. Ok (a.0 ++ b.0, b.1))) field
+    ∙ ap (joined front) (bind_joined more (take_data origin fs rest))
+    ∙ joined_twice front more (take_data origin fs rest)
+
+pub fields_refused : (origin : Labels) (f : Field) (fs : List Field) (all : Taken (List ℕ)) (front : List ℕ) (words : List Word) (e : FileError) → all ≡ joined front (take_data origin (f ∷ fs) words) → take_field origin f words ≡ Err e → all ≡ Err e
+fields_refused origin f fs all front words e h field =
+    h ∙ ap (λ (r : Taken (List ℕ)). joined front (r >>= λ a. take_data origin fs a.1 >>= λ b. Ok (a.0 ++ b.0, b.1))) field
+
+-- parts that are still to come complete those before
+abbrev pub Completes : List Field → List Field → List ℕ → Type 0
+Completes all fs front = (tail : List ℕ) → FitFields fs tail → FitFields all (front ++ tail)
+
+pub completes_more : (all fs : List Field) (f : Field) (front more : List ℕ) → Completes all (f ∷ fs) front → FitField f more → Completes all fs (front ++ more)
+completes_more all fs f front more h fit = λ tail rest. subst (FitFields all) (sym (append_assoc front more tail)) (h (more ++ tail) (more, tail, refl, fit, rest))
+
+pub completes_all : (all : List Field) (front : List ℕ) → Completes all [] front → FitFields all front
+completes_all all front h = subst (FitFields all) (append-nil front) (h [] refl)
+
+-- strings before those that are taken
+abbrev pub strung : List ℕ → Outcome (List ℕ) → Outcome (List ℕ)
+strung front (Ok octets) = Ok (front ++ octets)
+strung front (Err e) = Err e
+
+strung_twice : (a b : List ℕ) (r : Outcome (List ℕ)) → strung a (strung b r) ≡ strung (a ++ b) r
+strung_twice a b (Ok octets) = ap (λ (x : List ℕ). Ok x) (sym (append_assoc a b octets))
+strung_twice a b (Err e) = refl
+
+bind_strung : (front : List ℕ) (r : Outcome (List ℕ)) → (r >>= λ rest. Ok (front ++ rest)) ≡ strung front r
+bind_strung front (Ok octets) = refl
+bind_strung front (Err e) = refl
+
+first_string : (size : ℕ) (w : Word) (words : List Word) → take_strings size (w ∷ words) ≡ (string_at size (text_of w) >>= λ s. strung (string s) (take_strings (size + 1 + length s) words))
+first_string size w words = go (string_of_text (text_of w))
+  where
+    fit : (b : Bool) (s : List ℕ) → (fits_data b >>= λ _. take_strings (size + 1 + length s) words >>= λ rest. Ok (string s ++ rest)) ≡ ((fits_data b >>= λ _. Ok s) >>= λ s. strung (string s) (take_strings (size + 1 + length s) words))
+    fit true s = refl
+    fit false s = bind_strung (string s) (take_strings (size + 1 + length s) words)
+
+    go : (o : Option (List ℕ)) → (ok_or o BadData >>= λ s. fits_data (nat_lt 4096 (size + 1 + length s)) >>= λ _. take_strings (size + 1 + length s) words >>= λ rest. Ok (string s ++ rest)) ≡ ((ok_or o BadData >>= λ s. fits_data (nat_lt 4096 (size + 1 + length s)) >>= λ _. Ok s) >>= λ s. strung (string s) (take_strings (size + 1 + length s) words))
+    go None = refl
+    go (Some s) = fit (nat_lt 4096 (size + 1 + length s)) s
+
+pub strings_more : (all : Outcome (List ℕ)) (size next : ℕ) (front s : List ℕ) (w : Word) (words : List Word) → all ≡ strung front (take_strings size (w ∷ words)) → string_at size (text_of w) ≡ Ok s → next ≡ size + 1 + length s → all ≡ strung (front ++ string s) (take_strings next words)
+strings_more all size next front s w words h read e =
+    h ∙ ap (strung front) (first_string size w words ∙ ap (λ (r : Outcome (List ℕ)). r >>= λ s. strung (string s) (take_strings (size + 1 + length s) words)) read)
+    ∙ strung_twice front (string s) (take_strings (size + 1 + length s) words)
+    ∙ ap (λ (n : ℕ). strung (front ++ string s) (take_strings n words)) (sym e)
+
+pub strings_refused : (all : Outcome (List ℕ)) (size : ℕ) (front : List ℕ) (w : Word) (words : List Word) (e : FileError) → all ≡ strung front (take_strings size (w ∷ words)) → string_at size (text_of w) ≡ Err e → all ≡ Err e
+strings_refused all size front w words e h read =
+    h ∙ ap (strung front) (first_string size w words ∙ ap (λ (r : Outcome (List ℕ)). r >>= λ s. strung (string s) (take_strings (size + 1 + length s) words)) read)
+
+-- the strings of words of which there is one
+pub strings_found : (words : List Word) (front : List ℕ) → 0 < length words → take_strings 0 words ≡ Ok front → strings_in words ≡ Ok (front, [])
+strings_found [] front some h = absurd (omega arith)
+strings_found (w ∷ words) front some h = ap (λ (r : Outcome (List ℕ)). r >>= λ octets. Ok (octets, [])) h
+
+pub strings_fault : (words : List Word) (e : FileError) → 0 < length words → take_strings 0 words ≡ Err e → strings_in words ≡ Err e
+strings_fault [] e some h = absurd (omega arith)
+strings_fault (w ∷ words) e some h = ap (λ (r : Outcome (List ℕ)). r >>= λ octets. Ok (octets, [])) h
+
+-- strings behind one another
+pub strings_push : (strings : List (List ℕ)) (s : List ℕ) → flat_map string (strings ++ s ∷ []) ≡ flat_map string strings ++ string s
+strings_push [] s = append-nil (string s)
+strings_push (x ∷ strings) s = ap (λ (rest : List ℕ). string x ++ rest) (strings_push strings s) ∙ sym (append_assoc (string x) (flat_map string strings) (string s))
+
+pub short_push : (strings : List (List ℕ)) (s : List ℕ) → AllByRecursion (λ s. length s < 256) strings → length s < 256 → AllByRecursion (λ s. length s < 256) (strings ++ s ∷ [])
+short_push [] s h short = (short, tt)
+short_push (x ∷ strings) s h short = (h.0, short_push strings s h.1 short)
+
+-- a string is short
+pub short_string : (text s : List ℕ) → string_of_text text ≡ Some s → length s < 256
+short_string text s h = go (letters text) h
+  where
+    if_some : (ls : List Letter) (b : Bool) → nat_lt (length ls) 256 ≡ b → (if b then Some (map octet_of ls) else None) ≡ Some s → length s < 256
+    if_some ls true t e =
+        let same : map octet_of ls ≡ s = cc in
+        let small : length ls < 256 = grind (arith, nat_tests) in
+        subst (λ (n : ℕ). n < 256) (sym (length-map ls octet_of) ∙ ap length same) small
+    if_some ls false t e = absurd cc
+
+    go : (o : Option (List Letter)) → option_and_then (λ ls. if nat_lt (length ls) 256 then Some (map octet_of ls) else None) o ≡ Some s → length s < 256
+    go None e = absurd cc
+    go (Some ls) e = if_some ls (nat_lt (length ls) 256) refl e
+
+pub string_fits : (size : ℕ) (text s : List ℕ) → string_of_text text ≡ Some s → size + 1 + length s ≤ 4096 → string_at size text ≡ Ok s
+string_fits size text s h room =
+    let test : nat_lt 4096 (size + 1 + length s) ≡ false = grind (arith, nat_tests) in
+    ap (λ (o : Option (List ℕ)). ok_or o BadData >>= λ octets. fits_data (nat_lt 4096 (size + 1 + length octets)) >>= λ _. Ok octets) h
+    ∙ ap (λ (b : Bool). fits_data b >>= λ _. Ok s) test
+
+-- a length octet and what it counts
+pub put_two : (old pushed new slice s : List ℕ) (n : ℕ) → pushed ≡ old ++ n ∷ [] → new ≡ pushed ++ slice → slice ≡ s → n ≡ length s → new ≡ old ++ string s
+put_two old pushed new slice s n p q e m =
+    q ∙ ap (λ (front : List ℕ). front ++ slice) p ∙ append_assoc old (n ∷ []) slice
+    ∙ ap (λ (octets : List ℕ). old ++ n ∷ octets) e ∙ ap (λ (k : ℕ). old ++ k ∷ s) m
+
+-- the string that stands next is refused
+pub refused_string : (all self words : List Word) (size : ℕ) (front text : List ℕ) (w : Word) (e : FileError) → 0 < length all → take_strings 0 all ≡ strung front (take_strings size self) → self ≡ w ∷ words → text ≡ text_of w → Refuses (string_at size text) e → Refuses (strings_in all) e
+refused_string all self words size front text w e some h at same (inl oom) = inl oom
+refused_string all self words size front text w e some h at same (inr fault) =
+    let here : take_strings 0 all ≡ strung front (take_strings size (w ∷ words)) = h ∙ ap (λ (ws : List Word). strung front (take_strings size ws)) at in
+    let read : string_at size (text_of w) ≡ Err e = ap (string_at size) (sym same) ∙ fault in
+    inr (strings_fault all e some (strings_refused (take_strings 0 all) size front w words e here read))
+
+-- no string is left
+pub strings_end : (all self : List Word) (size : ℕ) (front : List ℕ) → 0 < length all → take_strings 0 all ≡ strung front (take_strings size self) → self ≡ [] → strings_in all ≡ Ok (front, self)
+strings_end all self size front some h none =
+    let read : take_strings 0 all ≡ Ok front = h ∙ ap (λ (ws : List Word). strung front (take_strings size ws)) none ∙ ap (λ (x : List ℕ). Ok x) (append-nil front) in
+    strings_found all front some read ∙ ap (λ (ws : List Word). Ok (front, ws)) (sym none)
+
+pub length_both : (front more : List ℕ) (size rest left total : ℕ) → length more ≡ size → length front + left ≡ total → left ≡ size + rest → length (front ++ more) + rest ≡ total
+length_both front more size rest left total p q r = omega (arith, length-append front more)
+
+pub drop_next : {A : Type 0} (xs : List A) (i : ℕ) (d : A) → i < length xs → drop i xs ≡ get_or xs i d ∷ drop (i + 1) xs
+drop_next xs i d h = let e : suc i ≡ i + 1 = omega arith in drop-cons xs i d h ∙ ap (λ n. get_or xs i d ∷ drop n xs) e

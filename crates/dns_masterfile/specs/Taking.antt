@@ -1,0 +1,91 @@
+-- What a reader takes from the words of an entry.
+use Rattle.std.specs.Prelude.{◌≡◌, ◌⊎◌, ℕ, ◌+◌, ◌<◌, ◌≤◌, Bool, false, nat_lt, List, [], ◌∷◌, ◌++◌, length, map, Some, None, Ok, Err, ok_or}
+use Rattle.dns_records.specs.Types.{Field, Octets, Name, Target, Strings}
+use Rattle.dns_records.specs.Record.{IsField, string}
+use Rattle.dns_masterfile.specs.declared.FileError.{FileError}
+use Rattle.dns_masterfile.specs.declared.FileError.TheVariants.{OutOfMemory, BadData}
+use Rattle.dns_masterfile.specs.declared.rdata.Fixed.{Fixed as Part}
+use Rattle.dns_masterfile.specs.declared.rdata.Fixed.TheVariants as part
+use Rattle.dns_masterfile.specs.Pieces.{Word}
+use Rattle.dns_masterfile.specs.Text.{string_of_text}
+use Rattle.dns_masterfile.specs.Data.{Fixed, Number16, Number32, Ipv4, Ipv6, fixed_of, octets_of_text}
+use Rattle.dns_masterfile.specs.Meaning.{is_class}
+use Rattle.dns_masterfile.specs.Printed.{size_of}
+use Rattle.dns_masterfile.specs.Reading.{Outcome, Taken, ◌>>=◌, fault_of, fits_data, next_word, take_strings}
+use Rattle.dns_masterfile.specs.Left.{Left}
+
+-- The value is taken from the words that were left, and the file behind them stays.
+abbrev pub Takes : {A : Type 0} → (List Word → Taken A) → Left → Left → A → Type 0
+Takes taken old new value = (taken old.words ≡ Ok (value, new.words)) × (new ≡ record old { words = new.words })
+
+-- Memory was refused, or that is the fault.
+abbrev pub Refuses : {A : Type 0} → Outcome A → FileError → Type 0
+Refuses outcome e = (e ≡ OutOfMemory) ⊎ (outcome ≡ Err e)
+
+-- Octets are taken, and stand behind those before.
+abbrev pub Puts : (List Word → Taken (List ℕ)) → (List ℕ → Type 0) → Left → Left → List ℕ → List ℕ → Type 0
+Puts taken Is old new before after = (octets : List ℕ) × Takes taken old new octets × (after ≡ before ++ octets) × Is octets
+
+-- The words that stay are what a function leaves of them.
+abbrev pub Skips : (List Word → List Word) → Left → Left → Type 0
+Skips skip old new = new ≡ record old { words = skip old.words }
+
+abbrev pub starts_with_class : List Word → Bool
+starts_with_class [] = false
+starts_with_class (w ∷ rest) = is_class w
+
+abbrev pub stated_fixed : Part → Fixed
+stated_fixed part.Number16 = Number16
+stated_fixed part.Number32 = Number32
+stated_fixed part.Ipv4 = Ipv4
+stated_fixed part.Ipv6 = Ipv6
+
+abbrev pub stated_fixeds : List Part → List Fixed
+stated_fixeds parts = map stated_fixed parts
+
+-- How many octets they are.
+abbrev pub size_of_all : List Fixed → ℕ
+size_of_all [] = 0
+size_of_all (f ∷ fs) = size_of f + size_of_all fs
+
+-- The octets are so many.
+abbrev pub IsSized : List Fixed → List ℕ → Type 0
+IsSized fs octets = length octets ≡ size_of_all fs
+
+-- The text is a number or an address, whose octets stand behind those before.
+abbrev pub PutsFixed : Fixed → List ℕ → List ℕ → List ℕ → Type 0
+PutsFixed f text before after = (octets : List ℕ) × (octets_of_text f text ≡ Some octets) × (after ≡ before ++ octets) × (length octets ≡ size_of f)
+
+abbrev pub RefusesFixed : Fixed → List ℕ → FileError → Type 0
+RefusesFixed f text e = (e ≡ OutOfMemory) ⊎ ((octets_of_text f text ≡ None) × (e ≡ fault_of f))
+
+-- The octets of a string behind so many octets of strings.
+abbrev pub string_at : ℕ → List ℕ → Outcome (List ℕ)
+string_at size text = ok_or (string_of_text text) BadData >>= λ octets. fits_data (nat_lt 4096 (size + 1 + length octets)) >>= λ _. Ok octets
+
+-- The text is a string, which stands behind the octets before, and so many octets are strings then.
+abbrev pub PutsString : List ℕ → ℕ → List ℕ → List ℕ → ℕ → Type 0
+PutsString text size before after now =
+    (octets : List ℕ) × (string_at size text ≡ Ok octets) × (after ≡ before ++ string octets)
+    × (now ≡ size + 1 + length octets) × (now ≤ 4096) × (length octets < 256)
+
+-- One string or more.
+abbrev pub strings_in : List Word → Taken (List ℕ)
+strings_in words = next_word words >>= λ first. take_strings 0 words >>= λ octets. Ok (octets, [])
+
+-- The octets are such a part of data, and are not too many.
+abbrev pub FitName : List ℕ → Type 0
+FitName octets = IsField Name octets × (length octets ≤ 255)
+
+abbrev pub FitStrings : List ℕ → Type 0
+FitStrings octets = IsField Strings octets × (length octets ≤ 4096)
+
+abbrev pub FitField : Field → List ℕ → Type 0
+FitField (Octets n) octets = IsSized (fixed_of n) octets
+FitField Name octets = FitName octets
+FitField Target octets = FitName octets
+FitField Strings octets = FitStrings octets
+
+abbrev pub FitFields : List Field → List ℕ → Type 0
+FitFields [] octets = octets ≡ []
+FitFields (f ∷ fs) octets = (front rest : List ℕ) × (octets ≡ front ++ rest) × FitField f front × FitFields fs rest

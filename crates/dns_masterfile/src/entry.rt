@@ -1,0 +1,115 @@
+//! One entry of a file.
+ghost use Rattle.std.specs.Prelude.{◌≡◌, true, false, Some, Err, IfOk, MatchResult};
+ghost use Rattle.dns_records.specs.Fields.{stated_fields};
+ghost use Rattle.dns_records.specs.Types.{form as form_of};
+ghost use Rattle.dns_masterfile.specs.Reading.{directive_in, item_in, said_by, take_owner};
+ghost use Rattle.dns_masterfile.specs.Scan.{stated_word};
+ghost use Rattle.dns_masterfile.specs.Contexts.{Faults, Says, has_ended, stated_context, type_in};
+ghost use Rattle.dns_masterfile.specs.Taking.{Refuses, Takes};
+
+use crate::FileError;
+use crate::context::{Context, Said, ttl_in};
+use crate::pieces::Word;
+use crate::scanner::{Next, Scanner};
+use dns_memory::Heap;
+use dns_names::Name;
+use dns_records::{Field, Record, form};
+
+impl<'a> Scanner<'a> {
+    /// Nothing is left of the entry.
+    fn end(&self) -> Result<(), FileError>
+        ensures { MatchResult result (λ _. has_ended self.now ≡ true) (λ e. (has_ended self.now ≡ false) × (e ≡ FileError.Syntax)) }
+    {
+        match self.next() {
+            Next::Entry(_, _) => Ok(()),
+            Next::End => Ok(()),
+            Next::Word(_, _) => Err(FileError::Syntax),
+            Next::Fault => Err(FileError::Syntax),
+        }
+    }
+
+    /// Takes the owner, which is the last one where the line begins with a blank.
+    fn take_owner(&mut self, alloc: Heap, context: &Context, blank: bool) -> Result<Name, FileError>
+        ensures { MatchResult result (Takes (take_owner (stated_context context.now) blank) self.old self.new) (Refuses (take_owner (stated_context context.now) blank self.old.words)) }
+    {
+        if !blank {
+            return self.take_name(alloc, &context.origin);
+        }
+        match &context.owner {
+            Some(owner) => Ok(owner.clone()?),
+            None => Err(FileError::NoOwner),
+        }
+    }
+
+    /// Takes the word of a type, and tells the parts of its data.
+    fn take_type(&mut self) -> Result<(u16, &'static [Field]), FileError>
+        ensures taken { MatchResult result (λ t. Takes type_in self.old self.new (t.0, stated_fields t.1.now)) (λ e. type_in self.old.words ≡ Err e) }
+        ensures form { IfOk result (λ t. form_of t.0 ≡ Some (stated_fields t.1.now)) }
+    {
+        let word = self.take_word()?;
+        let Some(rtype) = word.rtype() else {
+            return Err(FileError::UnknownType);
+        };
+        match form(rtype) {
+            Some(fields) => Ok((rtype, fields)),
+            None => Err(FileError::UnknownType),
+        }
+    }
+
+    /// Takes a record.
+    fn take_item(&mut self, alloc: Heap, context: &Context, blank: bool) -> Result<Said, FileError>
+        ensures { MatchResult result (Says (λ e. item_in (stated_context context.now) e self.old.words) blank self.old self.new) (Faults (λ e. item_in (stated_context context.now) e self.old.words) blank self.old) }
+    {
+        let owner = self.take_owner(alloc, context, blank)?;
+        let written = self.take_middle()?;
+        let (rtype, fields) = self.take_type()?;
+        let Some(ttl) = ttl_in(context, written) else {
+            return Err(FileError::NoTtl);
+        };
+        let rdata = self.take_rdata(alloc, &context.origin, rtype, fields)?;
+        self.end()?;
+        Ok(Said::Item(Record::new(owner, ttl, rdata), written))
+    }
+
+    /// Takes a directive, of which the first word is that.
+    fn take_directive(
+        &mut self,
+        alloc: Heap,
+        context: &Context,
+        word: Word<'_>,
+    ) -> Result<Said, FileError>
+        ensures { MatchResult result (Says (λ e. directive_in (stated_context context.now) e (stated_word word.entry) self.old.words) false self.old self.new) (Faults (λ e. directive_in (stated_context context.now) e (stated_word word.entry) self.old.words) false self.old) }
+    {
+        if word.is_keyword(b"$ORIGIN") {
+            let name = self.take_name(alloc, &context.origin)?;
+            self.end()?;
+            return Ok(Said::Origin(name));
+        }
+        if word.is_keyword(b"$TTL") {
+            let ttl = self.take_number()?;
+            self.end()?;
+            return Ok(Said::Default(ttl));
+        }
+        Err(FileError::Syntax)
+    }
+
+    /// Takes an entry.
+    pub(crate) fn take_entry(
+        &mut self,
+        alloc: Heap,
+        context: &Context,
+        blank: bool,
+    ) -> Result<Said, FileError>
+        ensures { MatchResult result (Says (λ e. said_by (stated_context context.now) e self.old.words) blank self.old self.new) (Faults (λ e. said_by (stated_context context.now) e self.old.words) blank self.old) }
+    {
+        let Some((word, behind)) = self.first_word() else {
+            self.end()?;
+            return Ok(Said::Nothing);
+        };
+        if !word.begins_with_dollar() {
+            return self.take_item(alloc, context, blank);
+        }
+        *self = behind;
+        self.take_directive(alloc, context, word)
+    }
+}

@@ -1,0 +1,230 @@
+//! Data in the words of an entry.
+ghost use Rattle.std.specs.Prelude.{◌≡◌, ◌≤◌, Some, MatchResult};
+ghost use Rattle.dns_policy.specs.Address.{ipv4_of_text, ipv6_of_text};
+ghost use Rattle.dns_records.specs.Fields.{stated_field, stated_fields};
+ghost use Rattle.dns_records.specs.Types.{form as form_of};
+ghost use Rattle.dns_masterfile.specs.Data.{Number16, Number32, fixed_of, octets_of_text};
+ghost use Rattle.dns_masterfile.specs.Reading.{take_data, take_field, take_fixed, take_wire};
+ghost use Rattle.dns_masterfile.specs.Taking.{FitField, FitFields, FitName, FitStrings, IsSized, Puts, PutsFixed, PutsString, Refuses, RefusesFixed, Takes, stated_fixed, stated_fixeds, string_at, strings_in};
+
+use crate::FileError;
+use crate::scanner::Scanner;
+use crate::values::{Octets, number, string};
+use dns_memory::Heap;
+use dns_names::Name;
+use dns_policy::address;
+use dns_records::{Field, RData, RecordError};
+use smallvec::SmallVec;
+use std::net::IpAddr;
+
+/// How octets of data are written.
+#[derive(Clone, Copy, Drop)]
+pub(crate) enum Fixed {
+    Number16,
+    Number32,
+    Ipv4,
+    Ipv6,
+}
+
+/// How so many octets of data are written.
+fn fixed_of(size: usize) -> &'static [Fixed]
+    ensures { stated_fixeds result.now ≡ fixed_of size }
+{
+    match size {
+        2 => &[Fixed::Number16],
+        4 => &[Fixed::Ipv4],
+        6 => &[Fixed::Number16, Fixed::Number16, Fixed::Number16],
+        16 => &[Fixed::Ipv6],
+        20 => &[
+            Fixed::Number32,
+            Fixed::Number32,
+            Fixed::Number32,
+            Fixed::Number32,
+            Fixed::Number32,
+        ],
+        _ => &[],
+    }
+}
+
+/// The octets of a number of 16 bits.
+fn number16(text: &[u8]) -> Option<[u8; 2]>
+    ensures { result ≡ octets_of_text Number16 text.now }
+{
+    match u16::try_from(number(text)?) {
+        Ok(value) => Some(value.to_be_bytes()),
+        Err(_) => None,
+    }
+}
+
+/// The octets of a number of 32 bits.
+fn number32(text: &[u8]) -> Option<[u8; 4]>
+    ensures { result ≡ octets_of_text Number32 text.now }
+{
+    match number(text) {
+        Some(value) => Some(value.to_be_bytes()),
+        None => None,
+    }
+}
+
+/// The octets of an IPv4 address.
+fn ipv4(text: &[u8]) -> Option<[u8; 4]>
+    ensures { result ≡ ipv4_of_text text.now }
+{
+    match address(text) {
+        Some(IpAddr::V4(found)) => Some(found.octets()),
+        Some(IpAddr::V6(_)) => None,
+        None => None,
+    }
+}
+
+/// The octets of an IPv6 address.
+fn ipv6(text: &[u8]) -> Option<[u8; 16]>
+    ensures { result ≡ ipv6_of_text text.now }
+{
+    match address(text) {
+        Some(IpAddr::V4(_)) => None,
+        Some(IpAddr::V6(found)) => Some(found.octets()),
+        None => None,
+    }
+}
+
+/// Puts the octets of a number or an address behind those before.
+fn put_fixed(fixed: Fixed, text: &[u8], octets: &mut Octets) -> Result<(), FileError>
+    ensures { MatchResult result (λ _. PutsFixed (stated_fixed fixed) text.now octets.old.items octets.new.items) (RefusesFixed (stated_fixed fixed) text.now) }
+{
+    match fixed {
+        Fixed::Number16 => match number16(text) {
+            Some(front) => Ok(octets.extend_from_slice(&front)?),
+            None => Err(FileError::BadNumber),
+        },
+        Fixed::Number32 => match number32(text) {
+            Some(front) => Ok(octets.extend_from_slice(&front)?),
+            None => Err(FileError::BadNumber),
+        },
+        Fixed::Ipv4 => match ipv4(text) {
+            Some(front) => Ok(octets.extend_from_slice(&front)?),
+            None => Err(FileError::BadData),
+        },
+        Fixed::Ipv6 => match ipv6(text) {
+            Some(front) => Ok(octets.extend_from_slice(&front)?),
+            None => Err(FileError::BadData),
+        },
+    }
+}
+
+/// Puts a string behind the octets before, of which so many are strings already, and says how many are strings then.
+fn put_string(
+    alloc: Heap,
+    text: &[u8],
+    size: usize,
+    octets: &mut Octets,
+) -> Result<usize, FileError>
+    requires { size ≤ 4096 }
+    ensures { MatchResult result (PutsString text.now size octets.old.items octets.new.items) (Refuses (string_at size text.now)) }
+{
+    let string = string(alloc, text)?;
+    let size = size + 1 + string.len();
+    if size > 4096 {
+        return Err(FileError::TooLong);
+    }
+    octets.push(string.len() as u8)?;
+    octets.extend_from_slice(string.as_slice())?;
+    Ok(size)
+}
+
+impl<'a> Scanner<'a> {
+    /// Takes numbers and addresses that are so many octets.
+    fn take_fixed(&mut self, size: usize, octets: &mut Octets) -> Result<(), FileError>
+        ensures { MatchResult result (λ _. Puts (take_fixed (fixed_of size)) (IsSized (fixed_of size)) self.old self.new octets.old.items octets.new.items) (Refuses (take_fixed (fixed_of size) self.old.words)) }
+    {
+        'parts: for fixed in fixed_of(size) {
+            let word = self.take_word()?;
+            put_fixed(*fixed, word.text(), octets)?;
+        }
+        Ok(())
+    }
+
+    /// Takes a name, in plain form.
+    fn take_wire(
+        &mut self,
+        alloc: Heap,
+        origin: &Name,
+        octets: &mut Octets,
+    ) -> Result<(), FileError>
+        ensures { MatchResult result (λ _. Puts (take_wire origin.now) FitName self.old self.new octets.old.items octets.new.items) (Refuses (take_wire origin.now self.old.words)) }
+    {
+        let name = self.take_name(alloc, origin)?;
+        Ok(octets.extend_from_slice(name.as_wire())?)
+    }
+
+    /// Takes the strings that are left, one or more.
+    fn take_strings(&mut self, alloc: Heap, octets: &mut Octets) -> Result<(), FileError>
+        ensures { MatchResult result (λ _. Puts strings_in FitStrings self.old self.new octets.old.items octets.new.items) (Refuses (strings_in self.old.words)) }
+    {
+        let Some(_) = self.first_word() else {
+            return Err(FileError::Syntax);
+        };
+        let mut size = 0;
+        'strings: while let Some((word, behind)) = self.first_word() {
+            *self = behind;
+            size = put_string(alloc, word.text(), size, octets)?;
+        }
+        Ok(())
+    }
+
+    /// Takes one part of the data.
+    fn take_field(
+        &mut self,
+        alloc: Heap,
+        origin: &Name,
+        field: Field,
+        octets: &mut Octets,
+    ) -> Result<(), FileError>
+        ensures { MatchResult result (λ _. Puts (take_field origin.now (stated_field field)) (FitField (stated_field field)) self.old self.new octets.old.items octets.new.items) (Refuses (take_field origin.now (stated_field field) self.old.words)) }
+    {
+        match field {
+            Field::Octets(size) => self.take_fixed(size, octets),
+            Field::Name => self.take_wire(alloc, origin, octets),
+            Field::Target => self.take_wire(alloc, origin, octets),
+            Field::Strings => self.take_strings(alloc, octets),
+        }
+    }
+
+    /// Takes the parts of the data.
+    fn take_fields(
+        &mut self,
+        alloc: Heap,
+        origin: &Name,
+        fields: &[Field],
+        octets: &mut Octets,
+    ) -> Result<(), FileError>
+        ensures { MatchResult result (λ _. Puts (take_data origin.now (stated_fields fields.now)) (FitFields (stated_fields fields.now)) self.old self.new octets.old.items octets.new.items) (Refuses (take_data origin.now (stated_fields fields.now) self.old.words)) }
+    {
+        'fields: for field in fields {
+            self.take_field(alloc, origin, *field, octets)?;
+        }
+        Ok(())
+    }
+
+    /// Takes the data of a type, which has these parts.
+    pub(crate) fn take_rdata(
+        &mut self,
+        alloc: Heap,
+        origin: &Name,
+        rtype: u16,
+        fields: &[Field],
+    ) -> Result<RData, FileError>
+        requires { form_of rtype ≡ Some (stated_fields fields.now) }
+        ensures { MatchResult result (λ d. (d.rtype ≡ rtype) × Takes (take_data origin.now (stated_fields fields.now)) self.old self.new d.octets) (Refuses (take_data origin.now (stated_fields fields.now) self.old.words)) }
+    {
+        let mut octets = SmallVec::new(alloc);
+        self.take_fields(alloc, origin, fields, &mut octets)?;
+        match RData::new(alloc, rtype, octets.as_slice()) {
+            Ok(rdata) => Ok(rdata),
+            Err(RecordError::OutOfMemory) => Err(FileError::OutOfMemory),
+            Err(RecordError::BadData) => unreachable!(),
+            Err(RecordError::TooLong) => unreachable!(),
+            Err(RecordError::UnknownType) => unreachable!(),
+        }
+    }
+}

@@ -1,0 +1,98 @@
+//! What is taken from the words of an entry.
+ghost use Rattle.std.specs.Prelude.{◌≡◌, [], Err, MatchOption, MatchResult};
+ghost use Rattle.dns_masterfile.specs.Left.{word_before};
+ghost use Rattle.dns_masterfile.specs.Reading.{next_word, skip_class, take_middle, take_name, take_number, take_ttl};
+ghost use Rattle.dns_masterfile.specs.Scan.{stated_word};
+ghost use Rattle.dns_masterfile.specs.Taking.{Refuses, Skips, Takes, starts_with_class};
+
+use crate::FileError;
+use crate::pieces::Word;
+use crate::scanner::{Next, Scanner};
+use crate::values::number;
+use dns_memory::Heap;
+use dns_names::Name;
+
+impl<'a> Scanner<'a> {
+    /// The next word of the entry, and what is left behind it.
+    pub(crate) fn first_word(&self) -> Option<(Word<'a>, Scanner<'a>)>
+        ensures { MatchOption result (self.now.words ≡ []) (λ r. self.now ≡ word_before (stated_word r.0) r.1) }
+    {
+        match self.next() {
+            Next::Word(word, behind) => Some((word, behind)),
+            Next::Entry(_, _) => None,
+            Next::End => None,
+            Next::Fault => None,
+        }
+    }
+
+    /// Takes the next word.
+    pub(crate) fn take_word(&mut self) -> Result<Word<'a>, FileError>
+        ensures { MatchResult result (λ w. Takes next_word self.old self.new (stated_word w)) (λ e. next_word self.old.words ≡ Err e) }
+    {
+        let Some((word, behind)) = self.first_word() else {
+            return Err(FileError::Syntax);
+        };
+        *self = behind;
+        Ok(word)
+    }
+
+    /// Takes a name.
+    pub(crate) fn take_name(&mut self, alloc: Heap, origin: &Name) -> Result<Name, FileError>
+        ensures { MatchResult result (Takes (take_name origin.now) self.old self.new) (Refuses (take_name origin.now self.old.words)) }
+    {
+        let word = self.take_word()?;
+        word.name(alloc, origin)
+    }
+
+    /// Takes a number.
+    pub(crate) fn take_number(&mut self) -> Result<u32, FileError>
+        ensures { MatchResult result (Takes take_number self.old self.new) (λ e. take_number self.old.words ≡ Err e) }
+    {
+        let word = self.take_word()?;
+        number(word.text()).ok_or(FileError::BadNumber)
+    }
+
+    /// Takes a TTL, if one stands next.
+    fn take_ttl(&mut self) -> Result<Option<u32>, FileError>
+        ensures { MatchResult result (Takes take_ttl self.old self.new) (λ e. take_ttl self.old.words ≡ Err e) }
+    {
+        let Some((word, behind)) = self.first_word() else {
+            return Ok(None);
+        };
+        let Some(digits) = word.as_digits() else {
+            return Ok(None);
+        };
+        *self = behind;
+        match number(digits) {
+            Some(ttl) => Ok(Some(ttl)),
+            None => Err(FileError::BadNumber),
+        }
+    }
+
+    /// Takes the class, if it stands next, and says whether it did.
+    fn skip_class(&mut self) -> bool
+        ensures class { result ≡ starts_with_class self.old.words }
+        ensures behind { Skips skip_class self.old self.new }
+    {
+        let Some((word, behind)) = self.first_word() else {
+            return false;
+        };
+        if !word.is_class() {
+            return false;
+        }
+        *self = behind;
+        true
+    }
+
+    /// Takes the TTL, if one is written: the class may stand before or behind it.
+    pub(crate) fn take_middle(&mut self) -> Result<Option<u32>, FileError>
+        ensures { MatchResult result (Takes take_middle self.old self.new) (λ e. take_middle self.old.words ≡ Err e) }
+    {
+        if self.skip_class() {
+            return self.take_ttl();
+        }
+        let ttl = self.take_ttl()?;
+        self.skip_class();
+        Ok(ttl)
+    }
+}
