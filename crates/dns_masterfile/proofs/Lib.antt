@@ -1,5 +1,9 @@
+mod Agree
+mod Complete
+mod Covered
 mod Files
 mod Means
+mod OnlyPieces
 mod Samples
 mod Sound
 mod ZoneE
