@@ -2,10 +2,13 @@ mod Agree
 mod Complete
 mod Covered
 mod Files
+mod FixedBack
 mod Means
 mod OnlyPieces
 mod Samples
 mod Sound
+mod StringsBack
+mod Written
 mod ZoneE
 pub mod PrintedData
 pub mod PrintedZone
