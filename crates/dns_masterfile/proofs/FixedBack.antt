@@ -1,23 +1,22 @@
 -- Numbers and addresses in data read back from print.
-use Rattle.std.proofs.Common.{◌≡◌, ℕ, zero, suc, ◌+◌, ◌*◌, ◌/◌, ◌%◌, ◌^◌, ◌<◌, ◌≤◌, inl, inr, Bool, true, false, List, [], ◌∷◌, ◌++◌, length, get_or, decimal, take, drop, Some, refl, sym, ap, subst, ◌∙◌, arith, append_assoc, length-append}
-use Rattle.std.specs.Prelude.{⊤, ◌==◌, ◌||◌, flat_map, option_map, cond, codes}
-use Rattle.std.specs.List.{AllByRecursion, list_any}
-use Rattle.std.specs.Int.{w16, w32, to_be_bytes, from_be_bytes}
+use Rattle.std.proofs.Common.{◌≡◌, ℕ, zero, suc, ◌+◌, ◌*◌, ◌/◌, ◌%◌, ◌^◌, ◌<◌, ◌≤◌, inl, Bool, true, false, List, [], ◌∷◌, ◌++◌, length, get_or, decimal, Some, refl, ap, ◌∙◌, arith, length-append}
+use Rattle.std.specs.Prelude.{◌==◌, ◌||◌, option_map, cond, codes}
+use Rattle.std.specs.List.{AllByRecursion}
+use Rattle.std.specs.Int.{w16, w32, to_be_bytes}
 use Rattle.std.specs.Fmt.{digits, digits_onto, digit_glyph}
-use Rattle.std.specs.Str.Parse.{AllDigits, IsNumeral, digits_value}
-use Rattle.std.specs.Char.{digit_value}
+use Rattle.std.specs.Str.Parse.{AllDigits}
 use Rattle.std.specs.Net.Addr.{segments_of, octets_of}
 use Rattle.std.specs.Net.Text.{ipv4_text}
-use Rattle.std.specs.Net.Grammar.{IsDotted, IsGroup, IsGroupsAfter, IsGroups, IsColonHex}
+use Rattle.std.specs.Net.Grammar.{IsGroup, IsGroupsAfter, IsGroups, IsColonHex}
 use Rattle.std.proofs.lemmas.Nat.{be_bytes_2, be_bytes_4}
-use Rattle.std.proofs.lemmas.Fmt.{decimal_is_IsNumeral, digits_is_IsNumeral}
+use Rattle.std.proofs.lemmas.Fmt.{digits_is_IsNumeral}
 use Rattle.std.proofs.lemmas.List.Folds.{list_any-append}
 use Rattle.std.proofs.NetLemmas.Texts.{IsDotted-ipv4_text}
-use Rattle.dns_policy.specs.Address.{has_dot, ipv4_of_text, ipv6_of_text}
+use Rattle.dns_policy.specs.Address.{has_dot}
 use Rattle.dns_policy.proofs.Addresses.{ipv4_read, ipv6_read}
 use Rattle.dns_records.specs.Record.{number_of}
-use Rattle.dns_masterfile.specs.Text.{number_of_text, printed_group, further_groups, printed_groups, printed_ipv6}
-use Rattle.dns_masterfile.specs.Pieces.{Word, Bare, Quoted, IsWord}
+use Rattle.dns_masterfile.specs.Text.{printed_group, further_groups, printed_groups}
+use Rattle.dns_masterfile.specs.Pieces.{Bare, IsWord}
 use Rattle.dns_masterfile.specs.Data.{Fixed, Number16, Number32, Ipv4, Ipv6, octets_of_text}
 use Rattle.dns_masterfile.specs.Printed.{size_of, printed_as}
 use Rattle.dns_masterfile.proofs.OnlyPieces.{IsPlain}
@@ -172,8 +171,7 @@ segments_fit (suc n) (a ∷ []) e h = absurd (omega (arith, e))
 segments_fit (suc n) (a ∷ b ∷ o) e h =
     let inner = segments_fit n o (omega (arith, e)) h.1.1 in
     let high : (a * 256 + b) / 256 ≡ a = omega (arith, h.1.0) in
-    let low : (a * 256 + b) % 256 ≡ b = omega (arith, h.1.0) in
-    (
+    let low : (a * 256 + b) % 256 ≡ b = omega (arith, h.1.0) in (
       (omega (arith, h.0, h.1.0), inner.0),
       ap suc inner.1,
       ap (λ (x : ℕ). x ∷ ((a * 256 + b) % 256) ∷ octets_of (segments_of o)) high ∙ ap (λ (x : ℕ). a ∷ x ∷ octets_of (segments_of o)) low ∙ ap (λ (xs : List ℕ). a ∷ b ∷ xs) inner.2,

@@ -1,10 +1,12 @@
 mod Agree
 mod Complete
 mod Covered
+mod DataText
 mod Files
 mod FixedBack
 mod Means
 mod OnlyPieces
+mod PrintMeans
 mod Samples
 mod Sound
 mod StringsBack

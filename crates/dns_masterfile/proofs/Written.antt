@@ -1,11 +1,9 @@
 -- Words as they are printed: each is one piece.
-use Rattle.std.proofs.Common.{◌≡◌, ℕ, ◌+◌, ◌-◌, ◌*◌, ◌/◌, ◌%◌, ◌^◌, ◌<◌, ◌≤◌, inl, inr, Bool, true, false, List, [], ◌∷◌, ◌++◌, length, decimal, refl, sym, ap, subst, ◌∙◌, arith, append_assoc, append-nil, length-append}
-use Rattle.std.specs.Prelude.{⊤, ◌≢◌, ◌==◌, ◌||◌, nat_lt, flat_map, codes}
+use Rattle.std.proofs.Common.{◌≡◌, ℕ, ◌+◌, ◌/◌, ◌%◌, ◌^◌, ◌<◌, ◌≤◌, inl, inr, Bool, true, false, List, [], ◌∷◌, ◌++◌, length, decimal, refl, sym, ap, subst, ◌∙◌, arith, append_assoc, length-append}
+use Rattle.std.specs.Prelude.{◌≢◌, ◌==◌, ◌||◌, nat_lt, flat_map}
 use Rattle.std.specs.List.{AllByRecursion, concat}
 use Rattle.std.specs.Char.{digit_value}
-use Rattle.std.specs.Str.Parse.{AllDigits, IsNumeral}
-use Rattle.std.specs.Net.Text.{ipv4_text}
-use Rattle.std.specs.Prelude.{slice_index}
+use Rattle.std.specs.Str.Parse.{AllDigits}
 use Rattle.std.proofs.lemmas.Bool.Decides.{nat_tests}
 use Rattle.std.proofs.lemmas.Fmt.{decimal_is_IsNumeral}
 use Rattle.dns_names.specs.Name.{Labels, IsLabel, IsName}
