@@ -7,6 +7,7 @@ mod FixedBack
 mod Means
 mod OnlyPieces
 mod PrintMeans
+mod PrintedZones
 mod Samples
 mod Sound
 mod StringsBack
