@@ -1,5 +1,5 @@
 -- What a file means is what is read of it.
-use Rattle.std.proofs.Common.{◌≡◌, ℕ, suc, Bool, true, false, List, [], ◌∷◌, Ok, sym, ap, ◌∙◌}
+use Rattle.std.proofs.Common.{◌≡◌, ℕ, suc, Bool, true, false, List, [], ◌∷◌, Ok, Err, sym, ap, ◌∙◌}
 use Rattle.std.specs.Prelude.{Result}
 use Rattle.std.specs.List.{AllByRecursion}
 use Rattle.dns_names.specs.Name.{Labels}
@@ -9,6 +9,7 @@ use Rattle.dns_masterfile.specs.Pieces.{Piece, Gap, Comment, LineEnd, Open, Clos
 use Rattle.dns_masterfile.specs.Entries.{Entry, begun, entries_from, entries_of}
 use Rattle.dns_masterfile.specs.Meaning.{Context, at_start, after, Mean, FileMeans}
 use Rattle.dns_masterfile.specs.Reading.{read_entries, read_file}
+use Rattle.dns_masterfile.specs.Laws.{FileIsRead, FileMeansOnce}
 use Rattle.dns_masterfile.proofs.OnlyPieces.{NoFault, only_pieces}
 use Rattle.dns_masterfile.proofs.Covered.{are_pieces}
 use Rattle.dns_masterfile.proofs.Sound.{entries_mean}
@@ -54,5 +55,15 @@ ok_same : (xs ys : List Record) → read_as xs ≡ Ok ys → xs ≡ ys
 ok_same xs ys h = cc
 
 -- a file means at most one list of records
-pub means_one : (octets : List ℕ) (origin : Labels) (xs ys : List Record) → FileMeans octets origin xs → FileMeans octets origin ys → xs ≡ ys
+pub means_one : FileMeansOnce
 means_one octets origin xs ys h k = ok_same xs ys (sym (means_is_read octets origin xs h) ∙ means_is_read octets origin ys k)
+
+differ : (records : List Record) (fault : ℕ × FileError) → read_as records ≡ Err fault → ⊥
+differ records fault h = absurd cc
+
+-- a file that is refused means nothing
+pub refused_means_none : (octets : List ℕ) (origin : Labels) (fault : ℕ × FileError) (records : List Record) → read_file octets origin ≡ Err fault → FileMeans octets origin records → ⊥
+refused_means_none octets origin fault records h m = differ records fault (sym (means_is_read octets origin records m) ∙ h)
+
+pub file_is_read : FileIsRead
+file_is_read octets origin records = (means_is_read octets origin records, read_is_meant octets origin records)

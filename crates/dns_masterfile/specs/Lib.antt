@@ -7,3 +7,4 @@ pub mod Data
 pub mod Meaning
 pub mod Reading
 pub mod Printed
+pub mod Laws
