@@ -9,6 +9,9 @@ use Rattle.std.proofs.Props.{props}
 use Rattle.dns_names.specs.Name.{Labels}
 use Rattle.dns_records.specs.Record.{Record, IsRecord}
 use Rattle.dns_masterfile.specs.declared.FileError.{FileError}
+use Rattle.dns_zone.specs.Records.{is_ordered}
+use Rattle.dns_zone.specs.Made.{IsSetOf}
+use Rattle.dns_masterfile.specs.Meaning.{FileMeans}
 use Rattle.dns_masterfile.specs.Reading.{read_file}
 use Rattle.dns_zone.proofs.Gathering.{set_is}
 use Rattle.dns_masterfile.specs.Printed.{is_wanted, in_print_order, printed_zone}
@@ -23,8 +26,12 @@ outcome_set = hlevel props
 pub records_read : (records : List Record) → ∥ AllByRecursion IsRecord records ∥₁ → (origin : Labels) → read_file (printed_zone records) origin ≡ Ok (in_print_order records)
 records_read records h origin = ∥∥₁_elim h (outcome_set (read_file (printed_zone records) origin) (Ok (in_print_order records))) (λ all. print_reads records all origin)
 
+-- and so is what it means
+pub records_mean : (records : List Record) → ∥ AllByRecursion IsRecord records ∥₁ → (origin : Labels) → FileMeans (printed_zone records) origin (in_print_order records)
+records_mean records h origin = read_is_meant (printed_zone records) origin (in_print_order records) (records_read records h origin)
+
 pub zone_means : PrintMeansZone
-zone_means zone h origin = read_is_meant (printed_zone zone.records) origin (in_print_order zone.records) (records_read zone.records h.each origin)
+zone_means zone h origin = records_mean zone.records h.each origin
 
 -- Those that pass a test, and then the others.
 permuted_step : (b : Bool) (r : Record) (wanted others rest : List Record) → IsPermutation (wanted ++ others) rest → IsPermutation (cond b (r ∷ wanted) wanted ++ cond (not b) (r ∷ others) others) (r ∷ rest)
@@ -35,5 +42,9 @@ permuted : (records : List Record) → IsPermutation (in_print_order records) re
 permuted [] = IsPermutation-refl []
 permuted (r ∷ rest) = permuted_step (is_wanted true r) r (filter (is_wanted true) rest) (filter (is_wanted false) rest) rest (permuted rest)
 
+-- records in order are those that are printed of them
+pub records_kept : (records : List Record) → is_ordered records ≡ true → IsSetOf (in_print_order records) records
+records_kept records h = set_is (in_print_order records) records (permuted records) h
+
 pub print_keeps : PrintKeepsRecords
-print_keeps zone h = set_is (in_print_order zone.records) zone.records (permuted zone.records) h.ordered
+print_keeps zone h = records_kept zone.records h.ordered

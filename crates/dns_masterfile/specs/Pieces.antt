@@ -71,7 +71,7 @@ IsBareWord text rest =
     (IsWord (λ k. k ≡ Plain) text × EndsWord rest)
     ⊎ ((front : List ℕ) × (text ≡ front ++ 92 ∷ []) × IsWord (λ k. k ≡ Plain) front × EndsLine rest)
 
--- The piece goes on as far as it can.
+-- The piece goes on as far as it can. What a bare word is depends on what ends it.
 abbrev pub IsWhole : Piece → List ℕ → Type 0
 IsWhole Comment rest = EndsLine rest
 IsWhole (Text (Bare text)) rest = IsBareWord text rest
