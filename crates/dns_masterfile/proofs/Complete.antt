@@ -170,7 +170,7 @@ number_decimal limit text n h = go (is_decimal text) refl h
     go true p h = p
     go false p h = absurd cc
 
-true_false : (b : Bool) → b ≡ true → b ≡ false → ⊥
+pub true_false : (b : Bool) → b ≡ true → b ≡ false → ⊥
 true_false b h k = absurd cc
 
 ttl_no_class : (word : Word) (ttl : ℕ) → IsTtl word ttl → is_class word ≡ false

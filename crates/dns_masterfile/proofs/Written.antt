@@ -15,6 +15,7 @@ use Rattle.dns_masterfile.specs.Text.{printed_string_octet}
 use Rattle.dns_masterfile.specs.Pieces.{Word, Bare, Quoted, IsVisible, IsQuotable, IsUnit, IsWord}
 use Rattle.dns_masterfile.specs.Meaning.{begins_with_dollar}
 use Rattle.dns_masterfile.proofs.OnlyPieces.{IsPlain}
+use Rattle.dns_masterfile.proofs.Complete.{true_false}
 use Rattle.dns_masterfile.proofs.Covered.{OfKind, kind_is, empty_word, more_word}
 
 -- A word as it stands in a line.
@@ -91,10 +92,7 @@ special_range : (c : ℕ) → is_special c ≡ true → (32 ≤ c) × (c < 127)
 special_range c h = (grind (arith, nat_tests), grind (arith, nat_tests))
 
 unspecial : (c x : ℕ) → is_special c ≡ false → is_special x ≡ true → c ≢ x
-unspecial c x h k = λ e. differ (is_special c) h (ap is_special e ∙ k)
-  where
-    differ : (b : Bool) → b ≡ false → b ≡ true → ⊥
-    differ b p q = absurd cc
+unspecial c x h k = λ e. true_false (is_special c) (ap is_special e ∙ k) h
 
 range_is : (c : ℕ) → (nat_lt c 33 || nat_lt 126 c) ≡ false → (32 < c) × (c < 127)
 range_is c h = (grind (arith, nat_tests), grind (arith, nat_tests))
@@ -148,10 +146,7 @@ string_range : (c : ℕ) → (nat_lt c 32 || nat_lt 126 c) ≡ false → (32 ≤
 string_range c h = (grind (arith, nat_tests), grind (arith, nat_tests))
 
 no_quote : (c : ℕ) → (c == 34 || c == 92) ≡ false → (c ≢ 34) × (c ≢ 92)
-no_quote c h = ((λ e. differ (c == 34 || c == 92) h (ap (λ (x : ℕ). x == 34 || x == 92) e)), (λ e. differ (c == 34 || c == 92) h (ap (λ (x : ℕ). x == 34 || x == 92) e)))
-  where
-    differ : (b : Bool) → b ≡ false → b ≡ true → ⊥
-    differ b p q = absurd cc
+no_quote c h = ((λ e. true_false (c == 34 || c == 92) (ap (λ (x : ℕ). x == 34 || x == 92) e) h), (λ e. true_false (c == 34 || c == 92) (ap (λ (x : ℕ). x == 34 || x == 92) e) h))
 
 string_octet_word : (c : ℕ) → c < 256 → IsWord IsQuotable (printed_string_octet c)
 string_octet_word c h = go (c == 34 || c == 92) (nat_lt c 32 || nat_lt 126 c) refl refl
