@@ -1,7 +1,17 @@
+mod Agree
+mod Complete
+mod Covered
+mod DataText
 mod Files
+mod FixedBack
 mod Means
+mod OnlyPieces
+mod PrintMeans
+mod PrintedZones
 mod Samples
 mod Sound
+mod StringsBack
+mod Written
 mod ZoneE
 pub mod Fits
 pub mod Items

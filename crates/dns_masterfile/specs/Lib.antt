@@ -12,3 +12,4 @@ pub mod Printed
 pub mod Next
 pub mod Taking
 pub mod Contexts
+pub mod Laws

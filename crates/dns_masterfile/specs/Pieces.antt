@@ -53,21 +53,28 @@ IsPiece LineEnd octets = (octets ≡ 10 ∷ []) ⊎ (octets ≡ 13 ∷ 10 ∷ []
 IsPiece Open octets = octets ≡ 40 ∷ []
 IsPiece Close octets = octets ≡ 41 ∷ []
 IsPiece (Text (Quoted text)) octets = (octets ≡ 34 ∷ text ++ 34 ∷ []) × IsWord IsQuotable text
-IsPiece (Text (Bare text)) octets = (octets ≡ text) × (0 < length text) × IsWord (λ k. k ≡ Plain) text
+IsPiece (Text (Bare text)) octets = (octets ≡ text) × (0 < length text)
 IsPiece Fault octets = ⊥
 
--- Where a comment ends, and where a bare word does.
-abbrev pub EndsComment : List ℕ → Type 0
-EndsComment [] = ⊤
-EndsComment (c ∷ rest) = (kind c ≡ LineFeed) ⊎ (kind c ≡ Return)
+-- Where a line ends, and with it a comment, and where a bare word does.
+abbrev pub EndsLine : List ℕ → Type 0
+EndsLine [] = ⊤
+EndsLine (c ∷ rest) = (kind c ≡ LineFeed) ⊎ (kind c ≡ Return)
 
 abbrev pub EndsWord : List ℕ → Type 0
 EndsWord [] = ⊤
 EndsWord (c ∷ rest) = ¬ (kind c ≡ Plain) × ¬ (kind c ≡ Backslash)
 
+-- The text is a bare word before the rest. A `\` before a line's end belongs to the word, and stands there alone.
+abbrev pub IsBareWord : List ℕ → List ℕ → Type 0
+IsBareWord text rest =
+    (IsWord (λ k. k ≡ Plain) text × EndsWord rest)
+    ⊎ ((front : List ℕ) × (text ≡ front ++ 92 ∷ []) × IsWord (λ k. k ≡ Plain) front × EndsLine rest)
+
+-- The piece goes on as far as it can. What a bare word is depends on what ends it.
 abbrev pub IsWhole : Piece → List ℕ → Type 0
-IsWhole Comment rest = EndsComment rest
-IsWhole (Text (Bare text)) rest = EndsWord rest
+IsWhole Comment rest = EndsLine rest
+IsWhole (Text (Bare text)) rest = IsBareWord text rest
 IsWhole _ rest = ⊤
 
 -- The octets are the pieces, one behind the other.

@@ -1,0 +1,195 @@
+-- Numbers and addresses in data read back from print.
+use Rattle.std.proofs.Common.{◌≡◌, ℕ, zero, suc, ◌+◌, ◌*◌, ◌/◌, ◌%◌, ◌^◌, ◌<◌, ◌≤◌, inl, Bool, true, false, List, [], ◌∷◌, ◌++◌, length, get_or, decimal, Some, refl, ap, ◌∙◌, arith, length-append}
+use Rattle.std.specs.Prelude.{◌==◌, ◌||◌, option_map, cond, codes}
+use Rattle.std.specs.List.{AllByRecursion}
+use Rattle.std.specs.Int.{w16, w32, to_be_bytes}
+use Rattle.std.specs.Fmt.{digits, digits_onto, digit_glyph}
+use Rattle.std.specs.Str.Parse.{AllDigits}
+use Rattle.std.specs.Net.Addr.{segments_of, octets_of}
+use Rattle.std.specs.Net.Text.{ipv4_text}
+use Rattle.std.specs.Net.Grammar.{IsGroup, IsGroupsAfter, IsGroups, IsColonHex}
+use Rattle.std.proofs.lemmas.Nat.{be_bytes_2, be_bytes_4}
+use Rattle.std.proofs.lemmas.Fmt.{digits_is_IsNumeral}
+use Rattle.std.proofs.lemmas.List.Folds.{list_any-append}
+use Rattle.std.proofs.NetLemmas.Texts.{IsDotted-ipv4_text}
+use Rattle.dns_policy.specs.Address.{has_dot}
+use Rattle.dns_policy.proofs.Addresses.{ipv4_read, ipv6_read}
+use Rattle.dns_records.specs.Record.{number_of}
+use Rattle.dns_masterfile.specs.Text.{printed_group, further_groups, printed_groups}
+use Rattle.dns_masterfile.specs.Pieces.{Bare, IsWord}
+use Rattle.dns_masterfile.specs.Data.{Fixed, Number16, Number32, Ipv4, Ipv6, octets_of_text}
+use Rattle.dns_masterfile.specs.Printed.{size_of, printed_as}
+use Rattle.dns_masterfile.proofs.OnlyPieces.{IsPlain}
+use Rattle.dns_masterfile.proofs.Covered.{empty_word}
+use Rattle.dns_masterfile.proofs.Written.{IsWritten, word_append, digits_word, digit_no_dot, number_written}
+use Rattle.dns_masterfile.proofs.StringsBack.{number_reads_back}
+
+abbrev pub FitOctets : List ℕ → Type 0
+FitOctets octets = AllByRecursion (λ c. c < 256) octets
+
+fits_at : (o : List ℕ) (i : ℕ) → FitOctets o → get_or o i 0 < 256
+fits_at [] i h = omega arith
+fits_at (c ∷ cs) zero h = h.0
+fits_at (c ∷ cs) (suc i) h = fits_at cs i h.1
+
+-- What the text of octets of a form gives: a word, which is read as them.
+pub record ReadsAs (f : Fixed) (octets : List ℕ) : Type 0 where
+  pub word : IsWritten (Bare (printed_as f octets))
+  pub read : octets_of_text f (printed_as f octets) ≡ Some octets
+
+number16_as : (o : List ℕ) → FitOctets o → length o ≡ 2 → ReadsAs Number16 o
+number16_as [] h e = absurd (omega (arith, e))
+number16_as (a ∷ []) h e = absurd (omega (arith, e))
+number16_as (a ∷ b ∷ c ∷ o) h e = absurd (omega (arith, e))
+number16_as (a ∷ b ∷ []) h e =
+    let n : ℕ = number_of (a ∷ b ∷ []) in
+    let small : n < 2 ^ 16 = omega (arith, h.0, h.1.0) in
+    let wide : n < 2 ^ 64 = omega (arith, small) in
+    let octets : to_be_bytes w16 n ≡ a ∷ b ∷ [] = be_bytes_2 (a ∷ b ∷ []) n refl (λ i. fits_at (a ∷ b ∷ []) i h) (omega arith) in
+    record {
+      word = number_written n wide;
+      read = ap (option_map (to_be_bytes w16)) (number_reads_back (2 ^ 16) n small wide) ∙ ap (λ (x : List ℕ). Some x) octets;
+    }
+
+number32_as : (o : List ℕ) → FitOctets o → length o ≡ 4 → ReadsAs Number32 o
+number32_as [] h e = absurd (omega (arith, e))
+number32_as (a ∷ []) h e = absurd (omega (arith, e))
+number32_as (a ∷ b ∷ []) h e = absurd (omega (arith, e))
+number32_as (a ∷ b ∷ c ∷ []) h e = absurd (omega (arith, e))
+number32_as (a ∷ b ∷ c ∷ d ∷ x ∷ o) h e = absurd (omega (arith, e))
+number32_as (a ∷ b ∷ c ∷ d ∷ []) h e =
+    let n : ℕ = number_of (a ∷ b ∷ c ∷ d ∷ []) in
+    let small : n < 2 ^ 32 = omega (arith, h.0, h.1.0, h.1.1.0, h.1.1.1.0) in
+    let wide : n < 2 ^ 64 = omega (arith, small) in
+    let octets : to_be_bytes w32 n ≡ a ∷ b ∷ c ∷ d ∷ [] = be_bytes_4 (a ∷ b ∷ c ∷ d ∷ []) n refl (λ i. fits_at (a ∷ b ∷ c ∷ d ∷ []) i h) (omega arith) in
+    record {
+      word = number_written n wide;
+      read = ap (option_map (to_be_bytes w32)) (number_reads_back (2 ^ 32) n small wide) ∙ ap (λ (x : List ℕ). Some x) octets;
+    }
+
+-- Four decimal numbers.
+dotted_more : (text : List ℕ) (n : ℕ) → IsWritten (Bare text) → n < 256 → IsWritten (Bare (text ++ codes "." ++ decimal n))
+dotted_more text n h small =
+    let number = number_written n (omega (arith, small)) in
+    let dot = word_append IsPlain text (codes ".") h.1 (digits_dot) in
+    (omega (arith, h.0, length-append text (codes "."), length-append (text ++ codes ".") (decimal n)), word_append IsPlain (text ++ codes ".") (decimal n) dot number.1)
+  where
+    digits_dot : IsWord IsPlain (codes ".")
+    digits_dot = (codes "." ∷ [], refl, ((46, inl (refl, refl)), tt))
+
+ipv4_as : (o : List ℕ) → FitOctets o → length o ≡ 4 → ReadsAs Ipv4 o
+ipv4_as o h e =
+    let at = λ (i : ℕ). fits_at o i h in
+    let first = number_written (get_or o 0 0) (omega (arith, fits_at o 0 h)) in
+    let two = dotted_more (decimal (get_or o 0 0)) (get_or o 1 0) first (fits_at o 1 h) in
+    let three = dotted_more _ (get_or o 2 0) two (fits_at o 2 h) in
+    let four = dotted_more _ (get_or o 3 0) three (fits_at o 3 h) in
+    record {
+      word = four;
+      read = ipv4_read (ipv4_text o) o (IsDotted-ipv4_text o e (λ k. fits_at o k h));
+    }
+
+-- A group of at most four digits.
+last_digit : (k n m : ℕ) (acc : List ℕ) → length acc ≤ m → n < 16 → length (digits_onto (suc k) 16 false n acc) ≤ suc m
+last_digit k n m acc h small =
+    let none : n / 16 ≡ 0 = omega (arith, small) in
+    rw none (omega (arith, h))
+
+more_digits : (k n m : ℕ) (acc : List ℕ) → suc (length acc) ≤ m → ((acc' : List ℕ) → length acc' ≤ suc (length acc) → length (digits_onto k 16 false (n / 16) acc') ≤ m) → length (digits_onto (suc k) 16 false n acc) ≤ m
+more_digits k n m acc room h = go (n / 16 == 0)
+  where
+    glyph : ℕ
+    glyph = digit_glyph false (n % 16)
+
+    go : (b : Bool) → length (cond b (glyph ∷ acc) (digits_onto k 16 false (n / 16) (glyph ∷ acc))) ≤ m
+    go true = room
+    go false = h (glyph ∷ acc) (omega arith)
+
+group_len : (n : ℕ) → n < 2 ^ 16 → length (printed_group n) ≤ 4
+unfolding digits
+group_len n fits =
+    more_digits 63 n 4 [] (omega arith) (λ a ha.
+    more_digits 62 (n / 16) 4 a (omega (arith, ha)) (λ b hb.
+    more_digits 61 (n / 16 / 16) 4 b (omega (arith, ha, hb)) (λ c hc.
+    last_digit 60 (n / 16 / 16 / 16) 3 c (omega (arith, ha, hb, hc)) (omega (arith, fits)))))
+
+group_is : (n : ℕ) → n < 2 ^ 16 → IsGroup (printed_group n) n
+group_is n fits = (digits_is_IsNumeral 16 false (omega arith) (omega arith) n (omega (arith, fits)), group_len n fits)
+
+abbrev FitSegments : List ℕ → Type 0
+FitSegments segments = AllByRecursion (λ s. s < 2 ^ 16) segments
+
+further_are : (segments : List ℕ) → FitSegments segments → IsGroupsAfter true (codes ":") (further_groups segments) segments
+further_are [] h = refl
+further_are (s ∷ rest) h = inl (printed_group s, further_groups rest, refl, group_is s h.0, further_are rest h.1)
+
+groups_are : (segments : List ℕ) → FitSegments segments → IsGroups true (printed_groups segments) segments
+groups_are [] h = refl
+groups_are (s ∷ rest) h = inl (printed_group s, further_groups rest, refl, group_is s h.0, further_are rest h.1)
+
+digits_no_dot : (text : List ℕ) → AllDigits 16 text → has_dot text ≡ false
+digits_no_dot [] h = refl
+digits_no_dot (c ∷ cs) h = rw (digit_no_dot c h.0) (digits_no_dot cs h.1)
+
+either_false : (a b : Bool) → a ≡ false → b ≡ false → (a || b) ≡ false
+either_false a b h k = rw (h, k) refl
+
+group_no_dot : (s : ℕ) (rest : List ℕ) → s < 2 ^ 16 → has_dot rest ≡ false → has_dot (printed_group s ++ rest) ≡ false
+group_no_dot s rest fits h = list_any-append (λ octet. octet == 46) (printed_group s) rest ∙ either_false (has_dot (printed_group s)) (has_dot rest) (digits_no_dot (printed_group s) (group_is s fits).0.0.1) h
+
+further_no_dot : (segments : List ℕ) → FitSegments segments → has_dot (further_groups segments) ≡ false
+further_no_dot [] h = refl
+further_no_dot (s ∷ rest) h = group_no_dot s (further_groups rest) h.0 (further_no_dot rest h.1)
+
+groups_no_dot : (segments : List ℕ) → FitSegments segments → has_dot (printed_groups segments) ≡ false
+groups_no_dot [] h = refl
+groups_no_dot (s ∷ rest) h = group_no_dot s (further_groups rest) h.0 (further_no_dot rest h.1)
+
+group_word : (s : ℕ) → s < 2 ^ 16 → IsWord IsPlain (printed_group s)
+group_word s fits = digits_word 16 (printed_group s) (omega arith) (group_is s fits).0.0.1
+
+further_word : (segments : List ℕ) → FitSegments segments → IsWord IsPlain (further_groups segments)
+further_word [] h = empty_word IsPlain
+further_word (s ∷ rest) h = word_append IsPlain (58 ∷ printed_group s) (further_groups rest) (word_append IsPlain (58 ∷ []) (printed_group s) colon (group_word s h.0)) (further_word rest h.1)
+  where
+    colon : IsWord IsPlain (58 ∷ [])
+    colon = ((58 ∷ []) ∷ [], refl, ((58, inl (refl, refl)), tt))
+
+groups_written : (segments : List ℕ) → FitSegments segments → 0 < length segments → IsWritten (Bare (printed_groups segments))
+groups_written [] h some = absurd (omega (arith, some))
+groups_written (s ∷ rest) h some = (
+  omega (arith, (group_is s h.0).0.0.0, length-append (printed_group s) (further_groups rest)),
+  word_append IsPlain (printed_group s) (further_groups rest) (group_word s h.0) (further_word rest h.1),
+)
+
+-- Octets two by two.
+segments_fit : (n : ℕ) (o : List ℕ) → length o ≡ n + n → FitOctets o → FitSegments (segments_of o) × (length (segments_of o) ≡ n) × (octets_of (segments_of o) ≡ o)
+segments_fit zero [] e h = (tt, refl, refl)
+segments_fit zero (a ∷ o) e h = absurd (omega (arith, e))
+segments_fit (suc n) [] e h = absurd (omega (arith, e))
+segments_fit (suc n) (a ∷ []) e h = absurd (omega (arith, e))
+segments_fit (suc n) (a ∷ b ∷ o) e h =
+    let inner = segments_fit n o (omega (arith, e)) h.1.1 in
+    let high : (a * 256 + b) / 256 ≡ a = omega (arith, h.1.0) in
+    let low : (a * 256 + b) % 256 ≡ b = omega (arith, h.1.0) in (
+      (omega (arith, h.0, h.1.0), inner.0),
+      ap suc inner.1,
+      ap (λ (x : ℕ). x ∷ ((a * 256 + b) % 256) ∷ octets_of (segments_of o)) high ∙ ap (λ (x : ℕ). a ∷ x ∷ octets_of (segments_of o)) low ∙ ap (λ (xs : List ℕ). a ∷ b ∷ xs) inner.2,
+    )
+
+ipv6_as : (o : List ℕ) → FitOctets o → length o ≡ 16 → ReadsAs Ipv6 o
+ipv6_as o h e =
+    let s = segments_fit 8 o e h in
+    let segments : List ℕ = segments_of o in
+    let spelled : IsColonHex (printed_groups segments) segments = inl (groups_are segments s.0, s.1) in
+    record {
+      word = groups_written segments s.0 (omega (arith, s.1));
+      read = ipv6_read (printed_groups segments) segments (groups_no_dot segments s.0) spelled ∙ ap (λ (x : List ℕ). Some x) s.2;
+    }
+
+-- octets of each form are printed as a word that is read as them
+pub reads_as : (f : Fixed) (octets : List ℕ) → FitOctets octets → length octets ≡ size_of f → ReadsAs f octets
+reads_as Number16 octets h e = number16_as octets h e
+reads_as Number32 octets h e = number32_as octets h e
+reads_as Ipv4 octets h e = ipv4_as octets h e
+reads_as Ipv6 octets h e = ipv6_as octets h e
