@@ -5,6 +5,7 @@ mod DataText
 mod Files
 mod FixedBack
 mod Means
+mod OneSet
 mod OnlyPieces
 mod PrintMeans
 mod PrintedZones

@@ -15,9 +15,10 @@ use Rattle.dns_masterfile.specs.Meaning.{FileMeans}
 use Rattle.dns_masterfile.specs.Reading.{read_file}
 use Rattle.dns_zone.proofs.Gathering.{set_is}
 use Rattle.dns_masterfile.specs.Printed.{is_wanted, in_print_order, printed_zone}
-use Rattle.dns_masterfile.specs.Laws.{PrintMeansZone, PrintKeepsRecords}
+use Rattle.dns_masterfile.specs.Laws.{PrintMeansZone, PrintKeepsRecords, PrintIsZone}
 use Rattle.dns_masterfile.proofs.Agree.{read_is_meant}
 use Rattle.dns_masterfile.proofs.PrintMeans.{print_reads}
+use Rattle.dns_masterfile.proofs.OneSet.{one_set}
 
 outcome_set : IsSet (Result (List Record) (ℕ × FileError))
 outcome_set = hlevel props
@@ -48,3 +49,6 @@ records_kept records h = set_is (in_print_order records) records (permuted recor
 
 pub print_keeps : PrintKeepsRecords
 print_keeps zone h = records_kept zone.records h.ordered
+
+pub print_is_zone : PrintIsZone
+print_is_zone zone h set is = one_set (in_print_order zone.records) set zone.records is (print_keeps zone h)

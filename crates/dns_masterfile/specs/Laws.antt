@@ -21,3 +21,7 @@ PrintMeansZone = (zone : Zone) → IsZone zone → (origin : Labels) → FileMea
 
 abbrev pub PrintKeepsRecords : Type 0
 PrintKeepsRecords = (zone : Zone) → IsZone zone → IsSetOf (in_print_order zone.records) zone.records
+
+-- The set of the records that are read of a zone in print is the zone's.
+abbrev pub PrintIsZone : Type 0
+PrintIsZone = (zone : Zone) → IsZone zone → (set : List Record) → IsSetOf (in_print_order zone.records) set → set ≡ zone.records
