@@ -8,6 +8,7 @@ mod comments;
 mod context;
 mod entry;
 mod kind;
+pub mod laws;
 mod pieces;
 mod print;
 mod rdata;

@@ -1,7 +1,10 @@
 //! Zones in print.
 ghost use Rattle.std.specs.Prelude.{◌≡◌, [], OnOk, filter, flat_map, if◌then◌else◌};
 ghost use Rattle.std.specs.Io.KnownBytes.{Appends};
-ghost use Rattle.dns_masterfile.specs.Printed.{is_wanted, printed_record, printed_zone};
+ghost use Rattle.dns_names.specs.Name.{Labels};
+ghost use Rattle.dns_zone.specs.Made.{IsSetOf};
+ghost use Rattle.dns_masterfile.specs.Meaning.{FileMeans};
+ghost use Rattle.dns_masterfile.specs.Printed.{in_print_order, is_wanted, printed_record, printed_zone};
 
 use crate::print::Line;
 use dns_records::{Record, types};
@@ -40,7 +43,9 @@ fn print_wanted<I: ZoneIndex, W: Write>(index: &I, soa: bool, out: &mut W) -> io
 /// Writes a zone in its printed form: a line for each record, the SOA first, then the others by owner, type and data. Names are in full.
 /// A fault of the writer is handed on.
 pub fn print_zone<I: ZoneIndex, W: Write>(zone: &Zone<I>, out: &mut W) -> io::Result<()>
-    ensures { OnOk result (Appends (W.contents out.old) (W.contents out.new) (printed_zone zone.now.records)) }
+    ensures printed { OnOk result (Appends (W.contents out.old) (W.contents out.new) (printed_zone zone.now.records)) }
+    ensures means { (origin : Labels) → FileMeans (printed_zone zone.now.records) origin (in_print_order zone.now.records) }
+    ensures keeps { IsSetOf (in_print_order zone.now.records) zone.now.records }
 {
     print_wanted(zone.index(), true, out)?;
     print_wanted(zone.index(), false, out)
