@@ -23,3 +23,4 @@ pub mod PrintedData
 pub mod PrintedZone
 pub mod Scanning
 pub mod Strings
+pub mod FileRead

@@ -2,7 +2,7 @@ use Rattle.std.proofs.Common.{◌≡◌, ◌∷◌, length}
 use Rattle.dns_masterfile.specs.Left.{entry_at}
 use Rattle.dns_masterfile.specs.Contexts.{stated_context}
 use Rattle.dns_masterfile.specs.Reading.{before, read_entries, read_file}
-use Rattle.dns_masterfile.proofs.read.read_zone.Given as goal
+use Rattle.dns_masterfile.proofs.read.read_records.Given as goal
 
 abbrev pub invariant-entries : goal.invariant-entries
 invariant-entries l = read_file l.octets l.origin ≡ before l.records.items (read_entries (stated_context l.context) (entry_at l.start.line l.start.blank l.scanner ∷ l.scanner.behind))
