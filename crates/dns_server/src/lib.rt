@@ -1,10 +1,14 @@
 //! The edge of the server: requests and scripts of requests.
 #![tactic(auto)]
 
-mod builtin;
+mod configuration;
 mod datagram;
+mod files;
+mod run;
 mod script;
 
-pub use builtin::{BuiltinError, builtin_zone};
+pub use configuration::{Configuration, ConfigurationError, ZoneSettings};
 pub use datagram::answer_datagram;
-pub use script::{Ending, replay};
+pub use files::{DONE, FAILED, File, REFUSED, USAGE, check};
+pub use run::replay;
+pub use script::{Ending, run_script};

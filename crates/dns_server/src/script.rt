@@ -91,7 +91,7 @@ fn run_line<I: ZoneIndex, W: Write>(
 
 /// Runs a script over the zones, and writes the effects of each line in order. What was written before a line that is no command
 /// stays. A line ends with LF or CR LF.
-pub fn replay<I: ZoneIndex, W: Write>(
+pub fn run_script<I: ZoneIndex, W: Write>(
     alloc: Heap,
     zones: &[Zone<I>],
     script: &[u8],

@@ -1,5 +1,6 @@
+use crate::given::small;
 use dns_memory::{Heap, heap};
-use dns_server::{answer_datagram, builtin_zone};
+use dns_server::answer_datagram;
 use std::test::Fail;
 
 /// The question of most exchanges, for the address of host1.example., behind an ID.
@@ -7,7 +8,7 @@ const HOST1: &str = "05686f737431076578616d706c650000010001";
 
 /// The reply to a request in hexadecimal, in hexadecimal; empty where there is none.
 fn reply_to(heap: Heap, request: &str) -> Result<String<Heap>, Fail> {
-    let zone = builtin_zone(heap)?;
+    let zone = small(heap)?;
     let request = hex::decode(heap, request)?;
     match answer_datagram(heap, &[zone], &request)? {
         Some(reply) => Ok(hex::encode(heap, reply.as_slice())?),
@@ -90,7 +91,7 @@ fn replies_are_octet_for_octet(rt: HostRuntime) -> Result<(), Fail> {
 #[test]
 fn long_datagrams_are_malformed(rt: HostRuntime) -> Result<(), Fail> {
     let heap = heap(rt.alloc())?;
-    let zone = builtin_zone(heap)?;
+    let zone = small(heap)?;
     let zones = [zone];
     let mut request = hex::decode(heap, "123400000001000000000000")?;
     request.extend_from_slice(hex::decode(heap, HOST1)?.as_slice())?;

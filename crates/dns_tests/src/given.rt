@@ -52,6 +52,18 @@ const EXAMPLE: &[(&str, u16, &str)] = &[
     ),
 ];
 
+/// A zone of four records: a SOA, two name servers, and an address.
+const SMALL: &[(&str, u16, &str)] = &[
+    (
+        "example.",
+        types::SOA,
+        "026e73076578616d706c6503636f6d000a686f73746d6173746572076578616d706c65000000000700001c2000000384001275000000012c",
+    ),
+    ("example.", types::NS, "026e73076578616d706c6503636f6d00"),
+    ("example.", types::NS, "026e73076578616d706c65036e657400"),
+    ("host1.example.", types::A, "c0000201"),
+];
+
 /// The name of a text, under the root.
 pub(crate) fn name(heap: Heap, text: &str) -> Result<Name, Fail> {
     Ok(Name::from_text(heap, text.as_bytes(), &Name::root(heap))?)
@@ -90,4 +102,9 @@ pub(crate) fn zone(heap: Heap, apex: &str, index: RecordList) -> Result<Zone<Rec
 /// The records of the zone of RFC 4592 section 2.2.1.
 pub(crate) fn example(heap: Heap) -> Result<RecordList, Fail> {
     records(heap, EXAMPLE)
+}
+
+/// A zone of four records.
+pub(crate) fn small(heap: Heap) -> Result<Zone<RecordList>, Fail> {
+    zone(heap, "example.", records(heap, SMALL)?)
 }

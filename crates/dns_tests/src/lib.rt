@@ -4,6 +4,8 @@
 #[cfg(test)]
 mod exchanges;
 #[cfg(test)]
+mod files;
+#[cfg(test)]
 mod given;
 #[cfg(test)]
 mod lookups;
@@ -11,5 +13,7 @@ mod lookups;
 mod memory;
 #[cfg(test)]
 mod replies;
+#[cfg(test)]
+mod runs;
 #[cfg(test)]
 mod scripts;

@@ -1,12 +1,18 @@
-use dns_memory::heap;
-use dns_server::{answer_datagram, builtin_zone};
+use crate::given::small;
+use dns_memory::{Heap, heap};
+use dns_server::{DONE, FAILED, File, answer_datagram, check};
+use std::io;
 use std::test::Fail;
+
+/// A zone of four records, in three lines.
+const FILE: &str =
+    "$TTL 60\n@ SOA ns.elsewhere. host.master.with.many.labels.so.that.it.is.long ( 1 2 3 4 5 )\n NS ns\nns A 192.0.2.1\n AAAA ::1\n";
 
 // Each allocation of a reply is refused in turn: the call says so, and the zones answer as before.
 #[test]
 fn a_reply_that_is_refused_memory(rt: HostRuntime) -> Result<(), Fail> {
     let heap = heap(rt.alloc())?;
-    let zone = builtin_zone(heap)?;
+    let zone = small(heap)?;
     let zones = [zone];
     let request = hex::decode(
         heap,
@@ -30,22 +36,29 @@ fn a_reply_that_is_refused_memory(rt: HostRuntime) -> Result<(), Fail> {
     Ok(())
 }
 
-// Each allocation of the built-in zone is refused in turn.
-#[test]
-fn a_zone_that_is_refused_memory(rt: HostRuntime) -> Result<(), Fail> {
-    let heap = heap(rt.alloc())?;
-    let mut refusals = 0u64;
-    for n in 1..100u64 {
-        heap.refuse(n);
-        match builtin_zone(heap) {
-            Err(error) => {
-                assert!(rt; error == dns_server::BuiltinError::OutOfMemory);
-                refusals = n;
-            }
-            Ok(_) => break,
-        }
-    }
+/// The exit status of `check` for a small file, while the allocation of a number is refused, and how many there were.
+fn checked(heap: Heap, refused: u64) -> (u8, u64) {
+    let file = File {
+        path: "f",
+        octets: Some(FILE.as_bytes()),
+    };
+    let (mut out, mut err) = (io::sink(), io::sink());
+    heap.refuse(refused);
+    let status = check(heap, &file, "example.", &mut out, &mut err);
+    let calls = heap.calls();
     heap.refuse(0);
-    assert!(rt; refusals > 0 && refusals < 60, "{refusals} allocations");
+    (status, calls)
+}
+
+// Each allocation of a master file's zone is refused in turn.
+#[test]
+fn a_file_that_is_refused_memory(rt: HostRuntime) -> Result<(), Fail> {
+    let heap = heap(rt.alloc())?;
+    let (status, calls) = checked(heap, 0);
+    assert_eq!(rt; status, DONE);
+    assert!(rt; calls > 3, "{calls} allocations");
+    for n in 1..=calls {
+        assert_eq!(rt; checked(heap, n).0, FAILED, "{n}");
+    }
     Ok(())
 }

@@ -1,5 +1,6 @@
+use crate::given::small;
 use dns_memory::heap;
-use dns_server::{Ending, builtin_zone, replay};
+use dns_server::{Ending, run_script};
 use std::io;
 use std::test::Fail;
 
@@ -27,7 +28,7 @@ impl io::Write for Full {
 #[test]
 fn lines_of_scripts(rt: HostRuntime) -> Result<(), Fail> {
     let heap = heap(rt.alloc())?;
-    let zone = builtin_zone(heap)?;
+    let zone = small(heap)?;
     let zones = [zone];
     for (script, ending) in [
         ("", Ending::Done),
@@ -43,7 +44,7 @@ fn lines_of_scripts(rt: HostRuntime) -> Result<(), Fail> {
         ("# one\n# two\nflush\n", Ending::Syntax(3)),
     ] {
         let mut out: Vec<u8> = Vec::new(rt.alloc());
-        let given = replay(heap, &zones, script.as_bytes(), &mut out);
+        let given = run_script(heap, &zones, script.as_bytes(), &mut out);
         assert!(rt; given == ending, "{script:?} ends with {given:?}");
         assert!(rt; out.is_empty());
     }
@@ -54,16 +55,16 @@ fn lines_of_scripts(rt: HostRuntime) -> Result<(), Fail> {
 #[test]
 fn effects_of_scripts(rt: HostRuntime) -> Result<(), Fail> {
     let heap = heap(rt.alloc())?;
-    let zone = builtin_zone(heap)?;
+    let zone = small(heap)?;
     let zones = [zone];
     let script =
         b"udp 10.0.0.7 123400000000000000000000\nudp 10.0.0.7 123410000000000000000000\nbad\n";
     let mut out: Vec<u8> = Vec::new(rt.alloc());
-    let ending = replay(heap, &zones, script, &mut out);
+    let ending = run_script(heap, &zones, script, &mut out);
     assert!(rt; ending == Ending::Syntax(3));
     let want = b"udp 10.0.0.7 123480010000000000000000\nudp 10.0.0.7 123490040000000000000000\n";
     assert!(rt; out.as_slice() == want.as_slice());
     let mut full = Full { left: 50 };
-    assert!(rt; replay(heap, &zones, script, &mut full) == Ending::Failed);
+    assert!(rt; run_script(heap, &zones, script, &mut full) == Ending::Failed);
     Ok(())
 }

@@ -1,62 +1,126 @@
-//! The program: reads the words of its command line, and turns how a run ended into an exit status.
+//! The program: reads the words of its command line and the files that they name, and turns how a run ended into an exit status.
 #![tactic(auto)]
 
 use clap::{Arg, ArgAction, Command, Error};
-use dns_memory::heap;
-use dns_server::{Ending, builtin_zone, replay};
+use dns_memory::{Heap, heap};
+use dns_server::{Configuration, FAILED, File, USAGE, check, replay};
 use std::alloc::Global;
 use std::io::{self, Write};
 use std::process::ExitCode;
 use std::{env, fs};
 
-/// A run ended because a line or a file was refused.
-const REFUSED: u8 = 1;
-/// The words of the command line are wrong.
-const USAGE: u8 = 2;
-/// A writer failed, or memory was refused.
-const FAILED: u8 = 3;
-
-/// The path of the script that the words name: `replay builtin SCRIPT`.
-fn script_named<'a>(alloc: Global, words: &'a [&'a str]) -> Result<Option<&'a str>, Error> {
-    let config = Arg::new(alloc, "config")
-        .required(true)
-        .action(ArgAction::Set);
-    let script = Arg::new(alloc, "script")
-        .required(true)
-        .action(ArgAction::Set);
-    let run = Command::new(alloc, "replay").arg(config)?.arg(script)?;
-    let command = Command::new(alloc, "dnsprim").subcommand(run)?;
-    let matches = command.try_get_matches_from(words)?;
-    let Some((_, inner)) = matches.subcommand() else {
-        return Ok(None);
-    };
-    if inner.get_str("config") != Some("builtin") {
-        return Ok(None);
-    }
-    Ok(inner.get_str("script"))
+/// What the words ask for.
+#[derive(Clone, Copy)]
+enum Task<'a> {
+    /// `check FILE ORIGIN`
+    Check(&'a str, &'a str),
+    /// `replay CONFIG SCRIPT`
+    Replay(&'a str, &'a str),
 }
 
-/// Runs the script at the path over the built-in zone, and gives the exit status.
-fn run(rt: &HostRuntime, path: &str) -> io::Result<u8> {
-    let Ok(script) = fs::read(rt, path) else {
-        eprintln!(rt; "{path}: Unreadable")?;
-        return Ok(REFUSED);
+/// A subcommand of two words.
+fn of_two_words<'a>(
+    alloc: Global,
+    name: &'static str,
+    first: &'static str,
+    second: &'static str,
+) -> Result<Command<'a>, Error> {
+    let first = Arg::new(alloc, first).required(true).action(ArgAction::Set);
+    let second = Arg::new(alloc, second)
+        .required(true)
+        .action(ArgAction::Set);
+    Ok(Command::new(alloc, name).arg(first)?.arg(second)?)
+}
+
+/// What the words ask for, if it is a task.
+fn task<'a>(alloc: Global, words: &'a [&'a str]) -> Result<Option<Task<'a>>, Error> {
+    let command = Command::new(alloc, "dnsprim")
+        .subcommand(of_two_words(alloc, "check", "FILE", "ORIGIN")?)?
+        .subcommand(of_two_words(alloc, "replay", "CONFIG", "SCRIPT")?)?;
+    let matches = command.try_get_matches_from(words)?;
+    let Some((name, inner)) = matches.subcommand() else {
+        return Ok(None);
     };
-    let alloc = heap(rt.alloc())?;
-    let Ok(zone) = builtin_zone(alloc) else {
-        return Ok(FAILED);
-    };
-    let mut out = io::BufWriter::new(rt.alloc(), io::writer(rt))?;
-    let ending = replay(alloc, &[zone], script.as_slice(), &mut out);
-    out.flush()?;
-    match ending {
-        Ending::Done => Ok(0),
-        Ending::Syntax(line) => {
-            eprintln!(rt; "{path}:{line}: Syntax")?;
-            Ok(REFUSED)
+    Ok(if name == "check" {
+        match (inner.get_str("FILE"), inner.get_str("ORIGIN")) {
+            (Some(file), Some(origin)) => Some(Task::Check(file, origin)),
+            _ => None,
         }
-        Ending::Failed => Ok(FAILED),
+    } else {
+        match (inner.get_str("CONFIG"), inner.get_str("SCRIPT")) {
+            (Some(config), Some(script)) => Some(Task::Replay(config, script)),
+            _ => None,
+        }
+    })
+}
+
+/// The octets of the file at a path, if it can be read.
+fn octets(rt: &HostRuntime, path: &str) -> Option<Vec<u8>> {
+    fs::read(rt, path).ok()
+}
+
+/// The file of a path and its octets.
+fn file<'a>(path: &'a str, octets: &'a Option<Vec<u8>>) -> File<'a> {
+    File {
+        path,
+        octets: match octets {
+            Some(octets) => Some(octets.as_slice()),
+            None => None,
+        },
     }
+}
+
+/// The paths of the master files that a configuration names, and the octets of each; none where it is refused.
+fn master_files(
+    rt: &HostRuntime,
+    heap: Heap,
+    config: &File<'_>,
+) -> io::Result<Vec<(String, Option<Vec<u8>>)>> {
+    let mut files = Vec::new(rt.alloc());
+    let Some(text) = config.octets else {
+        return Ok(files);
+    };
+    if let Ok(configuration) = Configuration::read(rt.alloc(), heap, text) {
+        for zone in configuration.zones {
+            let octets = octets(rt, &zone.file);
+            files.push((zone.file, octets))?;
+        }
+    }
+    Ok(files)
+}
+
+/// Does the task, and gives the exit status.
+fn run(rt: &HostRuntime, task: Task<'_>) -> io::Result<u8> {
+    let heap = heap(rt.alloc())?;
+    let mut out = io::BufWriter::new(rt.alloc(), io::writer(rt))?;
+    let mut err = rt.stderr();
+    let status = match task {
+        Task::Check(path, origin) => {
+            let text = octets(rt, path);
+            check(heap, &file(path, &text), origin, &mut out, &mut err)
+        }
+        Task::Replay(config, script) => {
+            let (config_text, script_text) = (octets(rt, config), octets(rt, script));
+            let config = file(config, &config_text);
+            let texts = master_files(rt, heap, &config)?;
+            let mut files = Vec::new(rt.alloc());
+            for (path, text) in &texts {
+                files.push(file(path, text))?;
+            }
+            let script = file(script, &script_text);
+            replay(
+                rt.alloc(),
+                heap,
+                &config,
+                &files,
+                &script,
+                &mut out,
+                &mut err,
+            )
+        }
+    };
+    out.flush()?;
+    Ok(status)
 }
 
 /// Does what the words say, and gives the exit status. An error is that of a stream or of memory.
@@ -69,10 +133,10 @@ fn start(rt: &HostRuntime) -> io::Result<u8> {
     for word in &words {
         texts.push(word.as_str())?;
     }
-    match script_named(rt.alloc(), &texts) {
-        Ok(Some(path)) => run(rt, path),
+    match task(rt.alloc(), &texts) {
+        Ok(Some(task)) => run(rt, task),
         Ok(None) => {
-            eprintln!(rt; "usage: dnsprim replay builtin SCRIPT")?;
+            eprintln!(rt; "usage: dnsprim check FILE ORIGIN | dnsprim replay CONFIG SCRIPT")?;
             Ok(USAGE)
         }
         Err(error) => {
