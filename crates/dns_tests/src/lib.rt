@@ -4,6 +4,8 @@
 #[cfg(test)]
 mod exchanges;
 #[cfg(test)]
+mod given;
+#[cfg(test)]
 mod lookups;
 #[cfg(test)]
 mod memory;
@@ -11,5 +13,3 @@ mod memory;
 mod replies;
 #[cfg(test)]
 mod scripts;
-#[cfg(test)]
-mod zones;

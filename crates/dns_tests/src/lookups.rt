@@ -1,14 +1,10 @@
 //! What names find, over the example zone of RFC 4592 and chains of aliases.
+use crate::given::{example, name, zone};
 use dns_lookup::{Kind, resolve};
 use dns_memory::{Heap, heap};
-use dns_names::Name;
 use dns_records::{RData, Record, types};
 use dns_zone::{RecordList, Zone, ZoneIndex};
 use std::test::Fail;
-
-fn name(heap: Heap, text: &str) -> Result<Name, Fail> {
-    Ok(Name::from_text(heap, text.as_bytes(), &Name::root(heap))?)
-}
 
 /// Data of a type, its host or target the text, its numbers zero.
 fn data(heap: Heap, rtype: u16, text: &str) -> Result<RData, Fail> {
@@ -37,7 +33,11 @@ fn data(heap: Heap, rtype: u16, text: &str) -> Result<RData, Fail> {
 }
 
 /// The zone of an apex and a list of owners, types and hosts, with a SOA and an NS.
-fn zone(heap: Heap, apex: &str, records: &[(&str, u16, &str)]) -> Result<Zone<RecordList>, Fail> {
+fn hosts_zone(
+    heap: Heap,
+    apex: &str,
+    records: &[(&str, u16, &str)],
+) -> Result<Zone<RecordList>, Fail> {
     let mut index = RecordList::empty(heap)?;
     for rtype in [types::SOA, types::NS] {
         index.insert(Record::new(
@@ -49,27 +49,7 @@ fn zone(heap: Heap, apex: &str, records: &[(&str, u16, &str)]) -> Result<Zone<Re
     for (owner, rtype, host) in records {
         index.insert(Record::new(name(heap, owner)?, 3600, data(heap, *rtype, host)?))?;
     }
-    match Zone::from_index(name(heap, apex)?, index) {
-        Ok(zone) => Ok(zone),
-        Err(_) => Err(Fail::from("the records are no zone")),
-    }
-}
-
-/// The zone of RFC 4592 section 2.2.1.
-fn example(heap: Heap) -> Result<Zone<RecordList>, Fail> {
-    zone(
-        heap,
-        "example.",
-        &[
-            ("*.example.", types::TXT, "."),
-            ("*.example.", types::MX, "host1.example."),
-            ("sub.*.example.", types::TXT, "."),
-            ("host1.example.", types::A, "."),
-            ("_ssh._tcp.host1.example.", types::SRV, "host1.example."),
-            ("_ssh._tcp.host2.example.", types::SRV, "host1.example."),
-            ("subdel.example.", types::NS, "ns.example.com."),
-        ],
-    )
+    zone(heap, apex, index)
 }
 
 /// Whether a question finds these kinds at these nodes, and no more.
@@ -92,82 +72,118 @@ fn finds(
     Ok(true)
 }
 
-// The questions of RFC 4592 section 2.2.1, and the names of section 3.3.1 with their sources of synthesis.
+/// The questions of RFC 4592 section 2.2.1, and the names of section 3.3.1 with their sources of synthesis: what each finds.
+const WILDCARDS: &[(&str, u16, &str, Kind)] = &[
+    ("host3.example.", types::MX, "*.example.", Kind::Answers),
+    ("host3.example.", types::A, "*.example.", Kind::NoData),
+    ("foo.bar.example.", types::TXT, "*.example.", Kind::Answers),
+    ("host1.example.", types::MX, "host1.example.", Kind::NoData),
+    ("sub.*.example.", types::MX, "sub.*.example.", Kind::NoData),
+    (
+        "_telnet._tcp.host1.example.",
+        types::SRV,
+        "_telnet._tcp.host1.example.",
+        Kind::NameError,
+    ),
+    (
+        "host.subdel.example.",
+        types::A,
+        "subdel.example.",
+        Kind::Referral,
+    ),
+    (
+        "ghost.*.example.",
+        types::MX,
+        "ghost.*.example.",
+        Kind::NameError,
+    ),
+    (
+        "_dns._udp.host2.example.",
+        types::SRV,
+        "_dns._udp.host2.example.",
+        Kind::NameError,
+    ),
+    (
+        "_telnet._tcp.host3.example.",
+        types::SRV,
+        "*.example.",
+        Kind::NoData,
+    ),
+    (
+        "_chat._udp.host3.example.",
+        types::TXT,
+        "*.example.",
+        Kind::Answers,
+    ),
+    (
+        "foobar.*.example.",
+        types::TXT,
+        "foobar.*.example.",
+        Kind::NameError,
+    ),
+    // beside the tables: an empty nonterminal, all types, the apex, and capitals
+    ("host2.example.", types::A, "host2.example.", Kind::NoData),
+    (
+        "host1.example.",
+        types::ANY,
+        "host1.example.",
+        Kind::Answers,
+    ),
+    ("example.", types::NS, "example.", Kind::Answers),
+    ("HOST1.Example.", types::A, "host1.example.", Kind::Answers),
+];
+
+// Each of them.
 #[test]
 fn the_tables_of_wildcards(rt: HostRuntime) -> Result<(), Fail> {
     let heap = heap(rt.alloc())?;
-    let zones = [example(heap)?];
-    for (question, rtype, node, kind) in [
-        ("host3.example.", types::MX, "*.example.", Kind::Answers),
-        ("host3.example.", types::A, "*.example.", Kind::NoData),
-        ("foo.bar.example.", types::TXT, "*.example.", Kind::Answers),
-        ("host1.example.", types::MX, "host1.example.", Kind::NoData),
-        ("sub.*.example.", types::MX, "sub.*.example.", Kind::NoData),
-        (
-            "_telnet._tcp.host1.example.",
-            types::SRV,
-            "_telnet._tcp.host1.example.",
-            Kind::NameError,
-        ),
-        (
-            "host.subdel.example.",
-            types::A,
-            "subdel.example.",
-            Kind::Referral,
-        ),
-        (
-            "ghost.*.example.",
-            types::MX,
-            "ghost.*.example.",
-            Kind::NameError,
-        ),
-        (
-            "_dns._udp.host2.example.",
-            types::SRV,
-            "_dns._udp.host2.example.",
-            Kind::NameError,
-        ),
-        (
-            "_telnet._tcp.host3.example.",
-            types::SRV,
-            "*.example.",
-            Kind::NoData,
-        ),
-        (
-            "_chat._udp.host3.example.",
-            types::TXT,
-            "*.example.",
-            Kind::Answers,
-        ),
-        (
-            "foobar.*.example.",
-            types::TXT,
-            "foobar.*.example.",
-            Kind::NameError,
-        ),
-        // beside the tables: an empty nonterminal, all types, the apex, and capitals
-        ("host2.example.", types::A, "host2.example.", Kind::NoData),
-        (
-            "host1.example.",
-            types::ANY,
-            "host1.example.",
-            Kind::Answers,
-        ),
-        ("example.", types::NS, "example.", Kind::Answers),
-        ("HOST1.Example.", types::A, "host1.example.", Kind::Answers),
-    ] {
-        let holds = finds(heap, &zones, (question, rtype), &[(0, node, kind)])?;
+    let zones = [zone(heap, "example.", example(heap)?)?];
+    for (question, rtype, node, kind) in WILDCARDS {
+        let holds = finds(heap, &zones, (question, *rtype), &[(0, *node, *kind)])?;
         assert!(rt; holds, "{question} {rtype}");
     }
     Ok(())
 }
 
-// Aliases from zone to zone, round in a loop, and to a name under no apex.
+/// What names find along aliases from zone to zone, round in a loop, and to a name under no apex.
+const CHAINS: &[(&str, u16, &[(usize, &str, Kind)])] = &[
+    (
+        "x.a.",
+        types::A,
+        &[(0, "x.a.", Kind::Alias), (1, "y.b.a.", Kind::Answers)],
+    ),
+    (
+        "x.a.",
+        types::MX,
+        &[(0, "x.a.", Kind::Alias), (1, "y.b.a.", Kind::NoData)],
+    ),
+    ("x.a.", types::CNAME, &[(0, "x.a.", Kind::Answers)]),
+    ("x.a.", types::ANY, &[(0, "x.a.", Kind::Answers)]),
+    (
+        "p.a.",
+        types::A,
+        &[(0, "p.a.", Kind::Alias), (0, "q.a.", Kind::Alias)],
+    ),
+    ("own.a.", types::A, &[(0, "own.a.", Kind::Alias)]),
+    ("out.a.", types::A, &[(0, "out.a.", Kind::Alias)]),
+    (
+        "z.w.a.",
+        types::A,
+        &[
+            (0, "*.w.a.", Kind::Alias),
+            (0, "x.a.", Kind::Alias),
+            (1, "y.b.a.", Kind::Answers),
+        ],
+    ),
+    ("z.c.", types::A, &[]),
+];
+
+// Each of them.
 #[test]
 fn chains_of_aliases(rt: HostRuntime) -> Result<(), Fail> {
     let heap = heap(rt.alloc())?;
     let zones = [
-        zone(
+        hosts_zone(
             heap,
             "a.",
             &[
@@ -179,64 +195,14 @@ fn chains_of_aliases(rt: HostRuntime) -> Result<(), Fail> {
                 ("*.w.a.", types::CNAME, "x.a."),
             ],
         )?,
-        zone(heap, "b.a.", &[("y.b.a.", types::A, ".")])?,
+        hosts_zone(heap, "b.a.", &[("y.b.a.", types::A, ".")])?,
     ];
-    let alias = Kind::Alias;
-    assert!(rt;
-        finds(
-            heap,
-            &zones,
-            ("x.a.", types::A),
-            &[(0, "x.a.", alias), (1, "y.b.a.", Kind::Answers)]
-        )?
-    );
-    assert!(rt;
-        finds(
-            heap,
-            &zones,
-            ("x.a.", types::MX),
-            &[(0, "x.a.", alias), (1, "y.b.a.", Kind::NoData)]
-        )?
-    );
-    assert!(rt;
-        finds(
-            heap,
-            &zones,
-            ("x.a.", types::CNAME),
-            &[(0, "x.a.", Kind::Answers)]
-        )?
-    );
-    assert!(rt;
-        finds(
-            heap,
-            &zones,
-            ("x.a.", types::ANY),
-            &[(0, "x.a.", Kind::Answers)]
-        )?
-    );
-    assert!(rt;
-        finds(
-            heap,
-            &zones,
-            ("p.a.", types::A),
-            &[(0, "p.a.", alias), (0, "q.a.", alias)]
-        )?
-    );
-    assert!(rt; finds(heap, &zones, ("own.a.", types::A), &[(0, "own.a.", alias)])?);
-    assert!(rt; finds(heap, &zones, ("out.a.", types::A), &[(0, "out.a.", alias)])?);
-    assert!(rt;
-        finds(
-            heap,
-            &zones,
-            ("z.w.a.", types::A),
-            &[
-                (0, "*.w.a.", alias),
-                (0, "x.a.", alias),
-                (1, "y.b.a.", Kind::Answers)
-            ]
-        )?
-    );
-    assert!(rt; finds(heap, &zones, ("z.c.", types::A), &[])?);
+    for (question, rtype, wanted) in CHAINS {
+        assert!(rt;
+            finds(heap, &zones, (question, *rtype), wanted)?,
+            "{question} {rtype}"
+        );
+    }
     Ok(())
 }
 
@@ -244,7 +210,7 @@ fn chains_of_aliases(rt: HostRuntime) -> Result<(), Fail> {
 #[test]
 fn the_longest_chain(rt: HostRuntime) -> Result<(), Fail> {
     let heap = heap(rt.alloc())?;
-    let zones = [zone(
+    let zones = [hosts_zone(
         heap,
         "loop.",
         &[
@@ -278,7 +244,7 @@ fn the_longest_chain(rt: HostRuntime) -> Result<(), Fail> {
 #[test]
 fn a_lookup_that_is_refused_memory(rt: HostRuntime) -> Result<(), Fail> {
     let heap = heap(rt.alloc())?;
-    let zones = [zone(
+    let zones = [hosts_zone(
         heap,
         "a.",
         &[(

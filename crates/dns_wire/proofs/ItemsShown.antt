@@ -6,7 +6,7 @@ use Rattle.dns_names.specs.Name.{Labels}
 use Rattle.dns_records.specs.Record.{number_of}
 use Rattle.dns_wire.specs.Message.{Item, Received}
 use Rattle.dns_wire.specs.NameAt.{FullNameAt}
-use Rattle.dns_wire.specs.Reads.{NumberAt, ItemAt, ItemsAt}
+use Rattle.dns_wire.specs.Reads.{NumberAt, RDataAt, ItemAt, ItemsAt}
 use Rattle.dns_wire.specs.Reading.{rdata_at, items_at}
 use Rattle.dns_wire.specs.Received.{received}
 use Rattle.dns_wire.specs.Viewed.{data_shown, item_shown, items_left, AreItemsLeft}
@@ -33,12 +33,14 @@ long_number_is m at inside =
     sym (ap (λ (k : ℕ). number_of (take k (drop at m))) width ∙ ap (λ (xs : List ℕ). number_of (take 4 xs)) all ∙ ap (λ (k : ℕ). ((k * 256 + get_or m (at + 1) 0) * 256 + get_or m (at + 2) 0) * 256 + get_or m (at + 3) 0) (zero-add (get_or m at 0)))
 
 -- what a view shows is the record that stands
-data_is : (m : List ℕ) (at : ℕ) (r : Item) (stop : ℕ) (h : ItemAt m at r stop) → data_shown m h.mid ≡ r.rdata
+pub data_read : (m : List ℕ) (mid rtype size : ℕ) (plain : List ℕ) → rtype ≡ number_of (slice_range m mid (mid + 2)) → size ≡ number_of (slice_range m (mid + 8) (mid + 8 + 2)) → RDataAt m (mid + 10) rtype size plain → data_shown m mid ≡ plain
 unfolding data_shown
-data_is m at r stop h =
+data_read m mid rtype size plain typed counted h =
     ap (λ (o : Option (List ℕ)). elim o [ None ↦ [] | Some plain ↦ plain ])
-    (ap (λ (t : ℕ). rdata_at t (number_of (slice_range m (h.mid + 8) (h.mid + 8 + 2))) m (h.mid + 10)) (sym h.rtype.read)
-    ∙ ap (λ (n : ℕ). rdata_at r.rtype n m (h.mid + 10)) (sym h.counted.read) ∙ rdata_is m (h.mid + 10) r.rtype h.rdlength r.rdata h.rdata)
+    (ap (λ (t : ℕ). rdata_at t (number_of (slice_range m (mid + 8) (mid + 8 + 2))) m (mid + 10)) (sym typed) ∙ ap (λ (n : ℕ). rdata_at rtype n m (mid + 10)) (sym counted) ∙ rdata_is m (mid + 10) rtype size plain h)
+
+data_is : (m : List ℕ) (at : ℕ) (r : Item) (stop : ℕ) (h : ItemAt m at r stop) → data_shown m h.mid ≡ r.rdata
+data_is m at r stop h = data_read m h.mid r.rtype h.rdlength r.rdata h.rtype.read h.counted.read h.rdata
 
 pub item_is_shown : (m : List ℕ) (at : ℕ) (r : Item) (stop : ℕ) (h : ItemAt m at r stop) → item_shown m at h.mid ≡ r
 item_is_shown m at r stop h =

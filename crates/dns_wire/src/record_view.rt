@@ -1,8 +1,14 @@
-ghost use Rattle.std.specs.Prelude.{◌≡◌, ◌+◌, ◌≤◌, [], ◌∷◌, ◌++◌, length, IfSome, IfNone};
+ghost use Rattle.std.specs.Prelude.{◌≡◌, ◌+◌, ◌≤◌, [], ◌∷◌, ◌++◌, length, IfOk, IfErr, IfSome, IfNone};
+ghost use Rattle.dns_records.specs.Refusals.{RefusesData};
+ghost use Rattle.dns_wire.specs.Message.{record_of_item, data_of_item};
 
 use crate::NameView;
 use crate::fields::{long_number, number};
 use crate::name::name_end;
+use crate::owned::append_data;
+use dns_memory::Heap;
+use dns_records::{RData, Record, RecordError};
+use std::alloc::AllocError;
 use std::marker::Model;
 
 /// A record in a message, which stays where it is (RFC 1035 section 4.1.3). Any class and type can stand there, and a TTL of
@@ -52,6 +58,34 @@ impl<'a> RecordView<'a> {
         ensures { result ≡ self.now.ttl }
     {
         long_number(self.message, self.behind_owner + 4)
+    }
+
+    /// The data in plain form, names in full and in lower case: empty where RDLENGTH is 0, and as it stands where the type
+    /// is not known (RFC 3597 section 3).
+    pub fn rdata(&self, alloc: Heap) -> Result<Vec<u8, Heap>, AllocError>
+        ensures { IfOk result (λ octets. octets.items ≡ self.now.rdata) }
+    {
+        let size = number(self.message, self.behind_owner + 8) as usize;
+        let mut octets = Vec::new(alloc);
+        append_data(
+            self.message,
+            self.behind_owner + 10,
+            self.rtype(),
+            size,
+            &mut octets,
+        )?;
+        Ok(octets)
+    }
+
+    /// The record of class IN with this owner, TTL, type and data, whatever the class here. It is refused as its data is.
+    pub fn to_record(&self, alloc: Heap) -> Result<Record, RecordError>
+        ensures found { IfOk result (λ r. r ≡ record_of_item self.now) }
+        ensures refused { IfErr result (RefusesData (data_of_item self.now)) }
+    {
+        let owner = self.owner().to_name(alloc)?;
+        let octets = self.rdata(alloc)?;
+        let rdata = RData::new(alloc, self.rtype(), &octets)?;
+        Ok(Record::new(owner, self.ttl(), rdata))
     }
 }
 

@@ -6,6 +6,8 @@ mod messages;
 #[cfg(test)]
 mod pointers;
 #[cfg(test)]
+mod records;
+#[cfg(test)]
 mod replies;
 #[cfg(test)]
 mod samples;

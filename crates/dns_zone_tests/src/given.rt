@@ -5,13 +5,13 @@ use dns_records::{RData, Record, Soa};
 use std::test::Fail;
 
 /// The name of a text, under the root.
-pub fn name(heap: Heap, text: &[u8]) -> Result<Name, Fail> {
+pub(crate) fn name(heap: Heap, text: &[u8]) -> Result<Name, Fail> {
     Ok(Name::from_text(heap, text, &Name::root(heap))?)
 }
 
 /// Data of a record, its names the root.
 #[derive(Clone, Copy)]
-pub enum Kind {
+pub(crate) enum Kind {
     Soa(u32),
     Ns,
     Cname,
@@ -43,6 +43,6 @@ fn data(heap: Heap, kind: Kind) -> Result<RData, Fail> {
 }
 
 /// A record of an owner, a TTL and data.
-pub fn record(heap: Heap, owner: &[u8], ttl: u32, kind: Kind) -> Result<Record, Fail> {
+pub(crate) fn record(heap: Heap, owner: &[u8], ttl: u32, kind: Kind) -> Result<Record, Fail> {
     Ok(Record::new(name(heap, owner)?, ttl, data(heap, kind)?))
 }

@@ -1,0 +1,93 @@
+//! Zones for tests.
+use dns_memory::Heap;
+use dns_names::Name;
+use dns_records::{RData, Record, types};
+use dns_zone::{RecordList, Zone, ZoneIndex};
+use std::test::Fail;
+
+/// The owners, types and data of the zone of RFC 4592 section 2.2.1, the data in hexadecimal.
+const EXAMPLE: &[(&str, u16, &str)] = &[
+    (
+        "example.",
+        types::SOA,
+        "026e73076578616d706c6503636f6d000a686f73746d6173746572076578616d706c65000000000700001c2000000384001275000000012c",
+    ),
+    ("example.", types::NS, "026e73076578616d706c6503636f6d00"),
+    ("example.", types::NS, "026e73076578616d706c65036e657400"),
+    (
+        "*.example.",
+        types::MX,
+        "000a05686f737431076578616d706c6500",
+    ),
+    (
+        "*.example.",
+        types::TXT,
+        "127468697320697320612077696c6463617264",
+    ),
+    (
+        "sub.*.example.",
+        types::TXT,
+        "1674686973206973206e6f7420612077696c6463617264",
+    ),
+    ("host1.example.", types::A, "c0000201"),
+    (
+        "_ssh._tcp.host1.example.",
+        types::SRV,
+        "00000000001605686f737431076578616d706c6500",
+    ),
+    (
+        "_ssh._tcp.host2.example.",
+        types::SRV,
+        "00000000001605686f737432076578616d706c6500",
+    ),
+    (
+        "subdel.example.",
+        types::NS,
+        "026e73076578616d706c6503636f6d00",
+    ),
+    (
+        "subdel.example.",
+        types::NS,
+        "026e73076578616d706c65036e657400",
+    ),
+];
+
+/// The name of a text, under the root.
+pub(crate) fn name(heap: Heap, text: &str) -> Result<Name, Fail> {
+    Ok(Name::from_text(heap, text.as_bytes(), &Name::root(heap))?)
+}
+
+/// Adds a record of TTL 3600.
+pub(crate) fn put(
+    heap: Heap,
+    index: &mut RecordList,
+    owner: &str,
+    rtype: u16,
+    data: &[u8],
+) -> Result<(), Fail> {
+    let data = RData::new(heap, rtype, data)?;
+    index.insert(Record::new(name(heap, owner)?, 3600, data))?;
+    Ok(())
+}
+
+/// The records of owners and types, with their data in hexadecimal.
+pub(crate) fn records(heap: Heap, list: &[(&str, u16, &str)]) -> Result<RecordList, Fail> {
+    let mut index = RecordList::empty(heap)?;
+    for (owner, rtype, data) in list {
+        put(heap, &mut index, owner, *rtype, &hex::decode(heap, data)?)?;
+    }
+    Ok(index)
+}
+
+/// The zone of an apex and records.
+pub(crate) fn zone(heap: Heap, apex: &str, index: RecordList) -> Result<Zone<RecordList>, Fail> {
+    match Zone::from_index(name(heap, apex)?, index) {
+        Ok(zone) => Ok(zone),
+        Err(_) => Err(Fail::from("the records are no zone")),
+    }
+}
+
+/// The records of the zone of RFC 4592 section 2.2.1.
+pub(crate) fn example(heap: Heap) -> Result<RecordList, Fail> {
+    records(heap, EXAMPLE)
+}

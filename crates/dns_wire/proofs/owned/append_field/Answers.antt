@@ -1,0 +1,45 @@
+use Rattle.std.proofs.Common.{◌≡◌, ◌++◌, ◌+◌, ℕ, sym, subst}
+use Rattle.std.specs.Prelude.{IfOk}
+use Rattle.dns_names.specs.Name.{Labels, wire}
+use Rattle.dns_records.specs.Types.{Name, Target}
+use Rattle.dns_records.specs.Fields.{stated_field}
+use Rattle.dns_records.specs.declared.parts.Field.{Field}
+use Rattle.dns_wire.specs.NameAt.{FullNameAt}
+use Rattle.dns_wire.specs.Fields.{SomeField}
+use Rattle.dns_wire.proofs.Appended.{octets_appended, name_appended, target_appended, strings_appended}
+use Rattle.dns_wire.proofs.Exits.{if_ok}
+use Rattle.dns_wire.proofs.owned.append_field.Goals as goal
+
+pub returns-in_ok-extend_from_slice-in-Octets : goal.returns-in_ok-extend_from_slice-in-Octets
+returns-in_ok-extend_from_slice-in-Octets c =
+    let m = c.args.message.now in
+    let h = rw c.in-Octets.is at c.requires.there in
+    subst (λ (f : Field). (part : SomeField m c.args.at (stated_field f) (c.args.at + c.in-Octets.n) c.args.stop) × (c.extend_from_slice.new.self.items ≡ c.args.out.now.items ++ part.plain)) (sym c.in-Octets.is)
+    (octets_appended m c.args.at c.in-Octets.n h.0 c.args.stop c.args.out.now.items c.extend_from_slice.new.self.items h.1 c.requires.inside c.in_ok-extend_from_slice-in-Octets.ensures.items)
+
+pub returns-in-Name : goal.returns-in-Name
+returns-in-Name c =
+    let m = c.args.message.now in
+    let h = rw c.in-Name.is at c.requires.there in
+    let old = c.args.out.now.items in
+    let new = c.append_name.new.out.items in
+    subst (λ (f : Field). IfOk c.append_name.result (λ mid. (part : SomeField m c.args.at (stated_field f) mid c.args.stop) × (new ≡ old ++ part.plain))) (sym c.in-Name.is)
+    (if_ok c.append_name.result (λ (end : ℕ). (name : Labels) × FullNameAt m c.args.at name end × (new ≡ old ++ wire name)) (λ (end : ℕ). (part : SomeField m c.args.at Name end c.args.stop) × (new ≡ old ++ part.plain)) c.append_name.ensures
+    (λ end k. name_appended m c.args.at h.0 c.args.stop end old new h.1 k))
+
+pub returns-in-Target : goal.returns-in-Target
+returns-in-Target c =
+    let m = c.args.message.now in
+    let h = rw c.in-Target.is at c.requires.there in
+    let old = c.args.out.now.items in
+    let new = c.append_name-in-Target.new.out.items in
+    subst (λ (f : Field). IfOk c.append_name-in-Target.result (λ mid. (part : SomeField m c.args.at (stated_field f) mid c.args.stop) × (new ≡ old ++ part.plain))) (sym c.in-Target.is)
+    (if_ok c.append_name-in-Target.result (λ (end : ℕ). (name : Labels) × FullNameAt m c.args.at name end × (new ≡ old ++ wire name)) (λ (end : ℕ). (part : SomeField m c.args.at Target end c.args.stop) × (new ≡ old ++ part.plain)) c.append_name-in-Target.ensures
+    (λ end k. target_appended m c.args.at h.0 c.args.stop end old new h.1 k))
+
+pub returns-in_ok-extend_from_slice-in-Strings : goal.returns-in_ok-extend_from_slice-in-Strings
+returns-in_ok-extend_from_slice-in-Strings c =
+    let m = c.args.message.now in
+    let h = rw c.in-Strings.is at c.requires.there in
+    subst (λ (f : Field). (part : SomeField m c.args.at (stated_field f) c.args.stop c.args.stop) × (c.extend_from_slice-in-Strings.new.self.items ≡ c.args.out.now.items ++ part.plain)) (sym c.in-Strings.is)
+    (strings_appended m c.args.at h.0 c.args.stop c.args.out.now.items c.extend_from_slice-in-Strings.new.self.items h.1 c.in_ok-extend_from_slice-in-Strings.ensures.items)
