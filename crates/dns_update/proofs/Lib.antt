@@ -1,0 +1,9 @@
+pub mod Kept
+pub mod Gone
+pub mod Found
+pub mod Items
+pub mod OneSoa
+pub mod Sizes
+pub mod SameSets
+pub mod ExampleZone
+pub mod Examples
