@@ -35,15 +35,9 @@ fn in_use_fault<I: ZoneIndex>(index: &I, item: &Item) -> Option<Rcode>
     if !item.is_empty() {
         Some(Rcode::FormErr)
     } else if item.rtype() == ANY {
-        if owns(index, &name) {
-            None
-        } else {
-            Some(Rcode::NxDomain)
-        }
-    } else if owns_type(index, &name, item.rtype()) {
-        None
+        (!owns(index, &name)).then_some(Rcode::NxDomain)
     } else {
-        Some(Rcode::NxRrset)
+        (!owns_type(index, &name, item.rtype())).then_some(Rcode::NxRrset)
     }
 }
 
@@ -55,15 +49,9 @@ fn unused_fault<I: ZoneIndex>(index: &I, item: &Item) -> Option<Rcode>
     if !item.is_empty() {
         Some(Rcode::FormErr)
     } else if item.rtype() == ANY {
-        if owns(index, &name) {
-            Some(Rcode::YxDomain)
-        } else {
-            None
-        }
-    } else if owns_type(index, &name, item.rtype()) {
-        Some(Rcode::YxRrset)
+        owns(index, &name).then_some(Rcode::YxDomain)
     } else {
-        None
+        owns_type(index, &name, item.rtype()).then_some(Rcode::YxRrset)
     }
 }
 
