@@ -1,7 +1,7 @@
 -- Tests of items and records.
-use Rattle.std.proofs.Common.{◌≡◌, ℕ, zero, suc, ◌+◌, ◌<◌, true, false, ◌&&◌, List, [], ◌∷◌, Option, Some, None, length, drop, get_or, refl, sym, ap, ◌∙◌, arith}
+use Rattle.std.proofs.Common.{◌≡◌, ℕ, zero, suc, ◌+◌, ◌<◌, true, false, ◌&&◌, List, [], ◌∷◌, Option, Some, None, length, drop, get_or, refl, subst, sym, ap, ◌∙◌, arith}
 use Rattle.std.specs.Prelude.{is_some, ◌==◌}
-use Rattle.std.specs.List.{list_any, find}
+use Rattle.std.specs.List.{AllByRecursion, list_any, find}
 use Rattle.std.specs.Ordering.{is_eq}
 use Rattle.dns_names.specs.Name.{names_eq}
 use Rattle.dns_records.specs.Record.{Record, record_cmp}
@@ -10,7 +10,7 @@ use Rattle.dns_zone.specs.Order.{both_true, names_same, names_itself, number_its
 use Rattle.dns_zone.specs.Twice.{alike_is, any_by}
 use Rattle.dns_changes.proofs.Steps.{tied_here}
 use Rattle.dns_wire.specs.Message.{Item}
-use Rattle.dns_update.specs.Item.{first_fault, otherwise}
+use Rattle.dns_update.specs.Item.{HasForm, first_fault, otherwise}
 use Rattle.dns_update.specs.declared.Rcode.{Rcode}
 use Rattle.dns_update.proofs.Kept.{find_kept, numbers_same}
 
@@ -51,3 +51,18 @@ fault_stops fault xs i r o lt is e some h = sym (h ∙ fault_at fault xs i r lt 
 
 pub fault_passes : (fault : Item → Option Rcode) (xs : List Item) (i : ℕ) (r : Item) (o : Option Rcode) → i < length xs → r ≡ get_or xs i r → o ≡ fault r → is_some o ≡ false → first_fault fault xs ≡ first_fault fault (drop i xs) → first_fault fault xs ≡ first_fault fault (drop (i + 1) xs)
 fault_passes fault xs i r o lt is e none h = h ∙ fault_at fault xs i r lt is ∙ ap (λ (x : Option Rcode). otherwise x (first_fault fault (drop (i + 1) xs))) (sym e) ∙ goes_on o _ none
+
+-- ---- items that all pass
+pub no_fault : (a b : Option Rcode) → otherwise a b ≡ None → (a ≡ None) × (b ≡ None)
+no_fault (Some rcode) b e = absurd cc
+no_fault None b e = (refl, e)
+
+pub passes_at : (fault : Item → Option Rcode) (xs : List Item) (i : ℕ) (r : Item) → first_fault fault xs ≡ None → i < length xs → r ≡ get_or xs i r → fault r ≡ None
+passes_at fault [] i r e lt is = absurd (omega arith)
+passes_at fault (x ∷ xs) zero r e lt is = ap fault is ∙ (no_fault (fault x) (first_fault fault xs) e).0
+passes_at fault (x ∷ xs) (suc i) r e lt is = passes_at fault xs i r (no_fault (fault x) (first_fault fault xs) e).1 (omega arith) is
+
+pub form_at : (xs : List Item) (i : ℕ) (r : Item) → AllByRecursion HasForm xs → i < length xs → r ≡ get_or xs i r → HasForm r
+form_at [] i r h lt is = absurd (omega arith)
+form_at (x ∷ xs) zero r h lt is = subst HasForm (sym is) h.0
+form_at (x ∷ xs) (suc i) r h lt is = form_at xs i r h.1 (omega arith) is

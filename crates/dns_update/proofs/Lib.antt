@@ -1,6 +1,7 @@
 pub mod Kept
 pub mod Gone
 pub mod Found
+pub mod Forms
 pub mod Items
 pub mod OneSoa
 pub mod Sizes

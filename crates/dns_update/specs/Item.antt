@@ -1,7 +1,7 @@
 -- A record of an update: a prerequisite, or what is to be added or deleted (RFC 2136 2.4, 2.5).
-use Rattle.std.specs.Prelude.{ℕ, Bool, ◌||◌, ◌==◌, List, [], ◌∷◌, length, Option, Some, None}
+use Rattle.std.specs.Prelude.{◌≡◌, ◌⊎◌, ℕ, Bool, ◌||◌, ◌==◌, List, [], ◌∷◌, length, Option, Some, None}
 use Rattle.dns_records.specs.Types.{type_ixfr, type_axfr, type_mailb, type_maila}
-use Rattle.dns_records.specs.Record.{Record}
+use Rattle.dns_records.specs.Record.{Record, IsRData}
 use Rattle.dns_wire.specs.Message.{Item}
 use Rattle.dns_update.specs.declared.Rcode.{Rcode}
 use Rattle.dns_update.specs.declared.Rcode.TheVariants.{FormErr, NxDomain, Refused, YxDomain, YxRrset, NxRrset, NotZone}
@@ -23,6 +23,10 @@ as_record i = record { owner = i.owner; rtype = i.rtype; ttl = i.ttl; rdata = i.
 -- RDLENGTH is 0.
 abbrev pub is_empty : Item → Bool
 is_empty i = length i.rdata == 0
+
+-- There is no data, or it has the form of its type (RFC 1035 4.1.3).
+abbrev pub HasForm : Item → Type 0
+HasForm i = (length i.rdata ≡ 0) ⊎ IsRData i.rtype i.rdata
 
 -- Types that questions alone have, besides ANY (RFC 2136 3.4.1.2, RFC 1995 2).
 abbrev pub is_meta : ℕ → Bool

@@ -1,6 +1,6 @@
 //! What an update does to the records of a zone.
-ghost use Rattle.std.specs.Prelude.{◌≡◌, ◌≢◌, ◌||◌, ◌&&◌, ◌==◌, not, filter, Some, OnOk, IfOk};
-ghost use Rattle.std.specs.List.{list_any, find};
+ghost use Rattle.std.specs.Prelude.{◌≡◌, ◌≢◌, ◌||◌, ◌&&◌, ◌==◌, not, filter, Some, None, OnOk, IfOk};
+ghost use Rattle.std.specs.List.{AllByRecursion, list_any, find};
 ghost use Rattle.std.specs.Option.{option_copied};
 ghost use Rattle.std.specs.Ordering.{is_eq};
 ghost use Rattle.dns_names.specs.Name.{names_eq};
@@ -8,7 +8,8 @@ ghost use Rattle.dns_records.specs.Record.{record_cmp, serial_of};
 ghost use Rattle.dns_records.specs.Types.{type_soa};
 ghost use Rattle.dns_serial.specs.Serial.{greater};
 ghost use Rattle.dns_zone.specs.Records.{alike, without};
-ghost use Rattle.dns_update.specs.Item.{as_record};
+ghost use Rattle.dns_update.specs.Item.{as_record, HasForm, first_fault};
+ghost use Rattle.dns_update.specs.Prescan.{prescan_fault};
 ghost use Rattle.dns_update.specs.Effect.{added, deleted, deleted_set, effect, effects, is_of, is_spared, is_vital, owns_other, replaced, succeeds};
 
 use crate::item::Item;
@@ -246,6 +247,8 @@ fn take_effect<I: ZoneIndex>(
     apex: &NameRef<'_>,
     item: &Item,
 ) -> Result<(), AllocError>
+    requires passes { prescan_fault apex.now item.now ≡ None }
+    requires form { HasForm item.now }
     ensures { OnOk result (I.records set.new ≡ effect apex.now (I.records set.old) item.now) }
 {
     match item.class() {
@@ -262,6 +265,8 @@ pub(crate) fn take_effects<I: ZoneIndex>(
     apex: &NameRef<'_>,
     items: &[Item],
 ) -> Result<(), AllocError>
+    requires pass { first_fault (prescan_fault apex.now) items.now ≡ None }
+    requires form { AllByRecursion HasForm items.now }
     ensures { OnOk result (I.records set.new ≡ effects apex.now (I.records set.old) items.now) }
 {
     for item in items {

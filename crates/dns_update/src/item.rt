@@ -1,5 +1,7 @@
-ghost use Rattle.std.specs.Prelude.{◌≡◌, ◌<◌, ◌^◌, length, IfOk};
+ghost use Rattle.std.specs.Prelude.{◌≡◌, ◌<◌, ◌≤◌, ◌^◌, true, length, IfOk};
 ghost use Rattle.dns_names.specs.Name.{names_eq, under};
+ghost use Rattle.dns_records.specs.Record.{IsRData, data_of};
+ghost use Rattle.dns_records.specs.Refusals.{RefusesData};
 ghost use Rattle.dns_records.specs.Types.{is_known};
 ghost use Rattle.dns_zone.specs.Records.{alike};
 ghost use Rattle.dns_update.specs.Item.{as_record, is_empty, is_meta};
@@ -8,7 +10,7 @@ ghost use Rattle.dns_update.specs.Prerequisites.{lists};
 use dns_memory::Heap;
 use dns_names::{Name, NameRef};
 use dns_records::types::{AXFR, CLASS_IN, IXFR, MAILA, MAILB};
-use dns_records::{RData, Record, form};
+use dns_records::{RData, Record, RecordError, form};
 use dns_wire::{RecordView, Section};
 use std::alloc::AllocError;
 use std::marker::Model;
@@ -130,14 +132,44 @@ impl Item {
         self.class() == CLASS_IN && self.names_record(r)
     }
 
-    /// The item as a record of the zone, where a zone can have it.
+    /// The item as a record of the zone.
     pub(crate) fn to_record(&self, alloc: Heap) -> Result<Record, AllocError>
+        requires known { is_known self.now.rtype ≡ true }
+        requires short { length self.now.rdata ≤ 4096 }
+        requires form { IsRData self.now.rtype self.now.rdata }
         ensures { IfOk result (λ r. r ≡ as_record self.now) }
     {
-        match RData::new(alloc, self.rtype, &self.rdata) {
-            Ok(rdata) => Ok(Record::new(self.owner.clone()?, self.ttl, rdata)),
-            Err(_) => Err(AllocError),
+        let rdata = self.data(alloc)?;
+        Ok(Record::new(self.owner().clone()?, self.ttl(), rdata))
+    }
+
+    /// The type and the data, where a zone can have them.
+    fn data(&self, alloc: Heap) -> Result<RData, AllocError>
+        requires known { is_known self.now.rtype ≡ true }
+        requires short { length self.now.rdata ≤ 4096 }
+        requires form { IsRData self.now.rtype self.now.rdata }
+        ensures { IfOk result (λ d. d ≡ data_of (as_record self.now)) }
+    {
+        match RData::new(alloc, self.rtype(), self.rdata()) {
+            Ok(data) => Ok(data),
+            Err(error) => Err(refused_memory(error, self)),
         }
+    }
+}
+
+/// What is said of data that is refused though it has the form of its type: memory was.
+fn refused_memory(error: RecordError, item: &Item) -> AllocError
+    requires known { is_known item.now.rtype ≡ true }
+    requires short { length item.now.rdata ≤ 4096 }
+    requires form { IsRData item.now.rtype item.now.rdata }
+    requires refused { RefusesData (data_of (as_record item.now)) error }
+    ensures { error ≡ RecordError.OutOfMemory }
+{
+    match error {
+        RecordError::OutOfMemory => AllocError,
+        RecordError::BadData => unreachable!(),
+        RecordError::TooLong => unreachable!(),
+        RecordError::UnknownType => unreachable!(),
     }
 }
 

@@ -1,10 +1,11 @@
 //! The verdict on an update.
 ghost use Rattle.std.specs.Prelude.{◌≡◌, ◌<◌, ◌+◌, ◌^◌, [], ◌∷◌, length, IfOk, OnOk};
+ghost use Rattle.std.specs.List.{AllByRecursion};
 ghost use Rattle.std.specs.Option.{option_copied};
 ghost use Rattle.dns_records.specs.Types.{type_soa};
 ghost use Rattle.dns_zone.specs.Records.{next_after};
 ghost use Rattle.dns_zone.specs.Zone.{soas};
-ghost use Rattle.dns_update.specs.Item.{first_fault, otherwise};
+ghost use Rattle.dns_update.specs.Item.{HasForm, first_fault, otherwise};
 ghost use Rattle.dns_update.specs.Prerequisites.{prerequisites_fault};
 ghost use Rattle.dns_update.specs.Prescan.{prescan_fault};
 ghost use Rattle.dns_update.specs.Soa.{HasSoa};
@@ -138,7 +139,8 @@ fn judge_items<I: ZoneIndex>(
     prerequisites: &[Item],
     items: &[Item],
 ) -> Result<Judged, AllocError>
-    requires { length items.now < 2 ^ 16 }
+    requires few { length items.now < 2 ^ 16 }
+    requires form { AllByRecursion HasForm items.now }
     ensures { IfOk result (IsJudged zone.now prerequisites.now items.now) }
 {
     if let Some(rcode) = fault(zone, prerequisites, items) {
@@ -157,6 +159,7 @@ pub fn judge<I: ZoneIndex>(
 ) -> Result<Judged, AllocError>
     ensures { IfOk result (IsJudged zone.now message.now.message.answers message.now.message.authorities) }
 {
+    let _reads = message.octets();
     let prerequisites = items_of(alloc, message.answers())?;
     let items = items_of(alloc, message.authorities())?;
     judge_items(alloc, zone, &prerequisites, &items)
