@@ -23,9 +23,13 @@ pub record AreFew (removed added : List Record) : Type 0 where
 abbrev pub is_soa : Record → Bool
 is_soa r = r.rtype == type_soa
 
--- The records of one set that are not in another, SOAs aside, in their order. A record whose TTL changed is not in the other.
+-- The record is no SOA, and not in the others. A record whose TTL changed is not in the others.
+abbrev pub is_lone : List Record → Record → Bool
+is_lone others r = not (is_soa r) && not (contains others r)
+
+-- The records of one set that are not in another, SOAs aside, in their order.
 abbrev pub only_in : List Record → List Record → List Record
-only_in records others = filter (λ r. not (is_soa r) && not (contains others r)) records
+only_in records others = filter (is_lone others) records
 
 -- The change from one set to another: there is at most one, and one where each has one SOA.
 pub record IsChange (before after : List Record) (c : Change) : Type 0 where

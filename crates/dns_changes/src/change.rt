@@ -125,7 +125,7 @@ impl Change {
 }
 
 /// Whether the set has the record, with its TTL.
-fn holds<I: ZoneIndex>(set: &I, wanted: &Record) -> bool
+pub(crate) fn holds<I: ZoneIndex>(set: &I, wanted: &Record) -> bool
     ensures { result ≡ contains (I.records set.now) wanted.now }
 {
     set.rrset(&wanted.owner().lend(), wanted.rtype())

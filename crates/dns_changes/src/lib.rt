@@ -3,6 +3,7 @@
 
 ghost use Rattle.std.specs.Prelude.{◌≡◌};
 
+mod between;
 mod change;
 mod entry;
 pub mod laws;

@@ -1,0 +1,29 @@
+-- Tests over the elements that another test keeps.
+use Rattle.std.proofs.Common.{◌≡◌, ℕ, Bool, true, false, not, ◌&&◌, ◌||◌, List, [], ◌∷◌, Some, refl, ap, arith, cond}
+use Rattle.std.specs.Prelude.{filter, ◌==◌}
+use Rattle.std.proofs.lemmas.Bool.Decides.{nat_tests}
+use Rattle.std.specs.List.{list_any, find}
+
+pub any_kept : {X : Type 0} (q p : X → Bool) (xs : List X) → list_any q (filter p xs) ≡ list_any (λ x. p x && q x) xs
+any_kept q p [] = refl
+any_kept q p (x ∷ xs) = at (p x) (any_kept q p xs)
+  where
+    at : (b : Bool) → list_any q (filter p xs) ≡ list_any (λ x. p x && q x) xs → list_any q (cond b (x ∷ filter p xs) (filter p xs)) ≡ ((b && q x) || list_any (λ x. p x && q x) xs)
+    at true rest = ap (λ b. q x || b) rest
+    at false rest = rest
+
+pub find_kept : {X : Type 0} (q p : X → Bool) (xs : List X) → ((x : X) → q x ≡ true → p x ≡ true) → find q (filter p xs) ≡ find q xs
+find_kept q p [] h = refl
+find_kept q p (x ∷ xs) h = at (p x) (q x) refl refl (find_kept q p xs h)
+  where
+    at : (b d : Bool) → p x ≡ b → q x ≡ d → find q (filter p xs) ≡ find q xs → find q (cond b (x ∷ filter p xs) (filter p xs)) ≡ cond d (Some x) (find q xs)
+    at true d e f rest = (λ i. cond (f i) (Some x) (rest i))
+    at false true e f rest = (let kept = h x f in absurd cc)
+    at false false e f rest = rest
+
+pub numbers_same : (a b : ℕ) → (a == b) ≡ true → a ≡ b
+numbers_same a b e = grind (arith, nat_tests)
+
+pub twice : (b : Bool) → not (not b) ≡ b
+twice true = refl
+twice false = refl

@@ -1,0 +1,10 @@
+pub mod Kept
+pub mod Gone
+pub mod Found
+pub mod Forms
+pub mod Items
+pub mod OneSoa
+pub mod Sizes
+pub mod SameSets
+pub mod ExampleZone
+pub mod Examples

@@ -1,0 +1,6 @@
+pub mod Item
+pub mod Prerequisites
+pub mod Prescan
+pub mod Effect
+pub mod Soa
+pub mod Verdict

@@ -1,0 +1,276 @@
+//! What an update does to the records of a zone.
+ghost use Rattle.std.specs.Prelude.{◌≡◌, ◌≢◌, ◌||◌, ◌&&◌, ◌==◌, not, filter, Some, None, OnOk, IfOk};
+ghost use Rattle.std.specs.List.{AllByRecursion, list_any, find};
+ghost use Rattle.std.specs.Option.{option_copied};
+ghost use Rattle.std.specs.Ordering.{is_eq};
+ghost use Rattle.dns_names.specs.Name.{names_eq};
+ghost use Rattle.dns_records.specs.Record.{record_cmp, serial_of};
+ghost use Rattle.dns_records.specs.Types.{type_soa};
+ghost use Rattle.dns_serial.specs.Serial.{greater};
+ghost use Rattle.dns_zone.specs.Records.{alike, without};
+ghost use Rattle.dns_update.specs.Item.{as_record, HasForm, first_fault};
+ghost use Rattle.dns_update.specs.Prescan.{prescan_fault};
+ghost use Rattle.dns_update.specs.Effect.{added, deleted, deleted_set, effect, effects, is_of, is_spared, is_vital, owns_other, replaced, succeeds};
+
+use crate::item::Item;
+use crate::prerequisites::owns_type;
+use dns_memory::Heap;
+use dns_names::{Name, NameRef};
+use dns_records::Record;
+use dns_records::types::{ANY, CLASS_ANY, CLASS_IN, CNAME, NS, SOA};
+use dns_serial::Serial;
+use dns_zone::ZoneIndex;
+use std::alloc::AllocError;
+
+/// Whether the name owns the record.
+fn is_owned_by(r: &Record, name: &NameRef<'_>) -> bool
+    ensures { result ≡ names_eq r.now.owner name.now }
+{
+    r.owner().lend().is(name)
+}
+
+/// Whether the record is of the name, and of the type where that isn't ANY.
+fn is_of(r: &Record, name: &NameRef<'_>, rtype: u16) -> bool
+    ensures { result ≡ is_of name.now rtype r.now }
+{
+    is_owned_by(r, name) && (rtype == ANY || r.rtype() == rtype)
+}
+
+/// Whether the record is the SOA or an NS of the apex.
+fn is_vital(r: &Record, apex: &NameRef<'_>) -> bool
+    ensures { result ≡ is_vital apex.now r.now }
+{
+    is_owned_by(r, apex) && (r.rtype() == SOA || r.rtype() == NS)
+}
+
+/// A copy of a record that was found.
+fn copy_of(found: Option<&Record>) -> Result<Option<Record>, AllocError>
+    ensures { IfOk result (λ copy. copy ≡ option_copied found.entry) }
+{
+    match found {
+        None => Ok(None),
+        Some(r) => Ok(Some(r.clone()?)),
+    }
+}
+
+/// The first of the records that is of the name and the type.
+fn first_of<'r>(records: &'r [Record], name: &NameRef<'_>, rtype: u16) -> Option<&'r Record>
+    ensures { option_copied result ≡ find (is_of name.now rtype) records.now }
+{
+    records.iter().find(|r| is_of(r, name, rtype))
+}
+
+/// A copy of the first record that goes where those of a name and a type go.
+fn next_replaced<I: ZoneIndex>(
+    set: &I,
+    name: &NameRef<'_>,
+    rtype: u16,
+) -> Result<Option<Record>, AllocError>
+    ensures { IfOk result (λ found. found ≡ find (is_of name.now rtype) (I.records set.now)) }
+{
+    copy_of(first_of(set.records_at(name), name, rtype))
+}
+
+/// Takes a record out.
+fn take_out<I: ZoneIndex>(set: &mut I, gone: Record) -> Result<(), AllocError>
+    ensures { OnOk result (I.records set.new ≡ without gone (I.records set.old)) }
+{
+    set.remove(&gone)?;
+    Ok(())
+}
+
+/// Takes the records of a name and a type out.
+fn remove_replaced<I: ZoneIndex>(
+    set: &mut I,
+    name: &NameRef<'_>,
+    rtype: u16,
+) -> Result<(), AllocError>
+    ensures { OnOk result (I.records set.new ≡ filter (λ r. not (is_of name.now rtype r)) (I.records set.old)) }
+{
+    'records: while let Some(gone) = next_replaced(set, name, rtype)? {
+        take_out(set, gone)?;
+    }
+    Ok(())
+}
+
+/// Puts a record in, in place of all others of its owner and type.
+fn replace<I: ZoneIndex>(set: &mut I, come: Record) -> Result<(), AllocError>
+    ensures { OnOk result (I.records set.new ≡ replaced (I.records set.old) come) }
+{
+    remove_replaced(set, &come.owner().lend(), come.rtype())?;
+    set.insert(come)
+}
+
+/// Whether one of the records is of another type.
+fn has_other(records: &[Record], rtype: u16) -> bool
+    ensures { result ≡ list_any (λ r. not (r.rtype == rtype)) records.now }
+{
+    records.iter().any(|r| r.rtype() != rtype)
+}
+
+/// Whether the name owns a record of another type.
+fn owns_other<I: ZoneIndex>(set: &I, name: &NameRef<'_>, rtype: u16) -> bool
+    ensures { result ≡ owns_other (I.records set.now) name.now rtype }
+{
+    has_other(set.records_at(name), rtype)
+}
+
+/// Whether the record is a SOA with a serial less than that one.
+fn is_older(r: &Record, serial: Serial) -> bool
+    ensures { result ≡ (r.now.rtype == type_soa && greater serial.0 (serial_of r.now)) }
+{
+    r.rtype() == SOA && serial.greater(Serial(r.serial()))
+}
+
+/// Whether one of the records is a SOA with a serial less than that one.
+fn has_older(records: &[Record], serial: Serial) -> bool
+    ensures { result ≡ list_any (λ r. r.rtype == type_soa && greater serial.0 (serial_of r)) records.now }
+{
+    records.iter().any(|r| is_older(r, serial))
+}
+
+/// Whether the SOA comes after one that stands at its owner (RFC 1982).
+fn succeeds_one<I: ZoneIndex>(set: &I, soa: &Record) -> bool
+    requires { soa.now.rtype ≡ type_soa }
+    ensures { result ≡ list_any (succeeds soa.now) (I.records set.now) }
+{
+    has_older(set.records_at(&soa.owner().lend()), Serial(soa.serial()))
+}
+
+/// Adds a record (RFC 2136 section 3.4.2.2).
+fn add<I: ZoneIndex>(set: &mut I, come: Record) -> Result<(), AllocError>
+    ensures { OnOk result (I.records set.new ≡ added (I.records set.old) come) }
+{
+    if come.rtype() == CNAME {
+        if owns_other(set, &come.owner().lend(), CNAME) {
+            return Ok(());
+        }
+        return replace(set, come);
+    }
+    if owns_type(set, &come.owner().lend(), CNAME) {
+        return Ok(());
+    }
+    if come.rtype() == SOA {
+        if succeeds_one(set, &come) {
+            return replace(set, come);
+        }
+        return Ok(());
+    }
+    set.insert(come)
+}
+
+/// Whether the record goes where an RRset is deleted, or all records of a name.
+fn is_deleted(r: &Record, apex: &NameRef<'_>, name: &NameRef<'_>, rtype: u16) -> bool
+    ensures { result ≡ (is_of name.now rtype r.now && not (is_vital apex.now r.now)) }
+{
+    is_of(r, name, rtype) && !is_vital(r, apex)
+}
+
+/// The first of the records that goes where an RRset is deleted, or all records of a name.
+fn first_deleted<'r>(
+    records: &'r [Record],
+    apex: &NameRef<'_>,
+    name: &NameRef<'_>,
+    rtype: u16,
+) -> Option<&'r Record>
+    ensures { option_copied result ≡ find (λ r. is_of name.now rtype r && not (is_vital apex.now r)) records.now }
+{
+    records.iter().find(|r| is_deleted(r, apex, name, rtype))
+}
+
+/// A copy of the first record that goes where an RRset is deleted, or all records of a name.
+fn next_deleted<I: ZoneIndex>(
+    set: &I,
+    apex: &NameRef<'_>,
+    name: &NameRef<'_>,
+    rtype: u16,
+) -> Result<Option<Record>, AllocError>
+    ensures { IfOk result (λ found. found ≡ find (λ r. is_of name.now rtype r && not (is_vital apex.now r)) (I.records set.now)) }
+{
+    copy_of(first_deleted(set.records_at(name), apex, name, rtype))
+}
+
+/// Deletes an RRset, or all records of a name (RFC 2136 section 3.4.2.3).
+fn delete_set<I: ZoneIndex>(
+    set: &mut I,
+    apex: &NameRef<'_>,
+    name: &NameRef<'_>,
+    rtype: u16,
+) -> Result<(), AllocError>
+    ensures { OnOk result (I.records set.new ≡ deleted_set apex.now (I.records set.old) name.now rtype) }
+{
+    'records: while let Some(gone) = next_deleted(set, apex, name, rtype)? {
+        take_out(set, gone)?;
+    }
+    Ok(())
+}
+
+/// Whether the item names a SOA, or the last NS of the apex.
+fn is_spared<I: ZoneIndex>(set: &I, apex: &NameRef<'_>, item: &Item) -> bool
+    ensures { result ≡ is_spared apex.now (I.records set.now) (as_record item.now) }
+{
+    let last = set.rrset(apex, NS).len() == 1;
+    (item.rtype() == SOA) | ((item.rtype() == NS) & item.is_owned_by(apex) & last)
+}
+
+/// The first of the records that the item names.
+fn first_named<'r>(records: &'r [Record], item: &Item) -> Option<&'r Record>
+    ensures { option_copied result ≡ find (alike (as_record item.now)) records.now }
+{
+    records.iter().find(|r| item.names_record(r))
+}
+
+/// A copy of the record that the item names, if it is there.
+fn named<I: ZoneIndex>(set: &I, item: &Item) -> Result<Option<Record>, AllocError>
+    ensures { IfOk result (λ found. found ≡ find (alike (as_record item.now)) (I.records set.now)) }
+{
+    copy_of(first_named(set.rrset(&item.owner().lend(), item.rtype()), item))
+}
+
+/// Deletes one record (RFC 2136 section 3.4.2.4).
+fn delete<I: ZoneIndex>(set: &mut I, apex: &NameRef<'_>, item: &Item) -> Result<(), AllocError>
+    ensures { OnOk result (I.records set.new ≡ deleted apex.now (I.records set.old) (as_record item.now)) }
+{
+    if is_spared(set, apex, item) {
+        return Ok(());
+    }
+    if let Some(gone) = named(set, item)? {
+        take_out(set, gone)?;
+    }
+    Ok(())
+}
+
+/// Does what one item says (RFC 2136 section 3.4.2).
+fn take_effect<I: ZoneIndex>(
+    alloc: Heap,
+    set: &mut I,
+    apex: &NameRef<'_>,
+    item: &Item,
+) -> Result<(), AllocError>
+    requires passes { prescan_fault apex.now item.now ≡ None }
+    requires form { HasForm item.now }
+    ensures { OnOk result (I.records set.new ≡ effect apex.now (I.records set.old) item.now) }
+{
+    match item.class() {
+        CLASS_IN => add(set, item.to_record(alloc)?),
+        CLASS_ANY => delete_set(set, apex, &item.owner().lend(), item.rtype()),
+        _ => delete(set, apex, item),
+    }
+}
+
+/// Does what the items say, in order. Where memory is refused the set is of no use.
+pub(crate) fn take_effects<I: ZoneIndex>(
+    alloc: Heap,
+    set: &mut I,
+    apex: &NameRef<'_>,
+    items: &[Item],
+) -> Result<(), AllocError>
+    requires pass { first_fault (prescan_fault apex.now) items.now ≡ None }
+    requires form { AllByRecursion HasForm items.now }
+    ensures { OnOk result (I.records set.new ≡ effects apex.now (I.records set.old) items.now) }
+{
+    for item in items {
+        take_effect(alloc, set, apex, item)?;
+    }
+    Ok(())
+}

@@ -1,0 +1,188 @@
+ghost use Rattle.std.specs.Prelude.{◌≡◌, ◌<◌, ◌≤◌, ◌^◌, true, length, IfOk};
+ghost use Rattle.dns_names.specs.Name.{names_eq, under};
+ghost use Rattle.dns_records.specs.Record.{IsRData, data_of};
+ghost use Rattle.dns_records.specs.Refusals.{RefusesData};
+ghost use Rattle.dns_records.specs.Types.{is_known};
+ghost use Rattle.dns_zone.specs.Records.{alike};
+ghost use Rattle.dns_update.specs.Item.{as_record, is_empty, is_meta};
+ghost use Rattle.dns_update.specs.Prerequisites.{lists};
+
+use dns_memory::Heap;
+use dns_names::{Name, NameRef};
+use dns_records::types::{AXFR, CLASS_IN, IXFR, MAILA, MAILB};
+use dns_records::{RData, Record, RecordError, form};
+use dns_wire::{RecordView, Section};
+use std::alloc::AllocError;
+use std::marker::Model;
+
+/// A record of an update, of any class and type (RFC 2136 sections 2.4 and 2.5).
+#[derive(Debug, Drop)]
+pub(crate) struct Item {
+    owner: Name,
+    rtype: u16,
+    class: u16,
+    ttl: u32,
+    rdata: Vec<u8, Heap>,
+}
+
+impl Model for Item {
+    ghost use Rattle.dns_wire.specs.Message.{Item as Stated};
+
+    ghost Value = { Stated };
+
+    ghost view = { λ i. record { owner = i.owner; rtype = i.rtype; class = i.class; ttl = i.ttl; rdata = i.rdata.items } };
+}
+
+impl Item {
+    /// The record of a message.
+    fn of(alloc: Heap, view: &RecordView<'_>) -> Result<Item, AllocError>
+        ensures { IfOk result (λ item. item ≡ view.now) }
+    {
+        Ok(Item {
+            owner: view.owner().to_name(alloc)?,
+            rtype: view.rtype(),
+            class: view.class(),
+            ttl: view.ttl(),
+            rdata: view.rdata(alloc)?,
+        })
+    }
+
+    /// Whose record it is.
+    pub(crate) fn owner(&self) -> &Name
+        ensures { result.now ≡ self.now.owner }
+    {
+        &self.owner
+    }
+
+    /// The type of the record, or one that stands for others.
+    pub(crate) fn rtype(&self) -> u16
+        ensures { result ≡ self.now.rtype }
+    {
+        self.rtype
+    }
+
+    /// The class, which tells what the item is for.
+    pub(crate) fn class(&self) -> u16
+        ensures { result ≡ self.now.class }
+    {
+        self.class
+    }
+
+    /// The time to live, in seconds.
+    pub(crate) fn ttl(&self) -> u32
+        ensures { result ≡ self.now.ttl }
+    {
+        self.ttl
+    }
+
+    /// The data in plain form.
+    pub(crate) fn rdata(&self) -> &[u8]
+        ensures { result.now ≡ self.now.rdata }
+    {
+        &self.rdata
+    }
+
+    /// Whether it has no data.
+    pub(crate) fn is_empty(&self) -> bool
+        ensures { result ≡ is_empty self.now }
+    {
+        self.rdata.is_empty()
+    }
+
+    /// Whether its owner is the apex or stands under it.
+    pub(crate) fn is_in_zone(&self, apex: &Name) -> bool
+        ensures { result ≡ under self.now.owner apex.now }
+    {
+        self.owner().is_under(apex)
+    }
+
+    /// Whether that name is its owner.
+    pub(crate) fn is_owned_by(&self, name: &NameRef<'_>) -> bool
+        ensures { result ≡ names_eq self.now.owner name.now }
+    {
+        self.owner().lend().is(name)
+    }
+
+    /// Whether a zone can have records of its type.
+    pub(crate) fn is_of_known_type(&self) -> bool
+        ensures { result ≡ is_known self.now.rtype }
+    {
+        form(self.rtype()).is_some()
+    }
+
+    /// Whether questions alone have its type, and it isn't ANY.
+    pub(crate) fn is_of_meta_type(&self) -> bool
+        ensures { result ≡ is_meta self.now.rtype }
+    {
+        matches!(self.rtype(), IXFR | AXFR | MAILB | MAILA)
+    }
+
+    /// Whether the record is of the item's owner, type and data.
+    pub(crate) fn names_record(&self, r: &Record) -> bool
+        ensures { result ≡ alike (as_record self.now) r.now }
+    {
+        let owners = self.owner().lend().is(&r.owner().lend());
+        owners & (self.rtype() == r.rtype()) & (self.rdata() == r.rdata())
+    }
+
+    /// Whether the item lists the record: it is of class IN, and of its owner, type and data.
+    pub(crate) fn lists(&self, r: &Record) -> bool
+        ensures { result ≡ lists r.now self.now }
+    {
+        self.class() == CLASS_IN && self.names_record(r)
+    }
+
+    /// The item as a record of the zone.
+    pub(crate) fn to_record(&self, alloc: Heap) -> Result<Record, AllocError>
+        requires known { is_known self.now.rtype ≡ true }
+        requires short { length self.now.rdata ≤ 4096 }
+        requires form { IsRData self.now.rtype self.now.rdata }
+        ensures { IfOk result (λ r. r ≡ as_record self.now) }
+    {
+        let rdata = self.data(alloc)?;
+        Ok(Record::new(self.owner().clone()?, self.ttl(), rdata))
+    }
+
+    /// The type and the data, where a zone can have them.
+    fn data(&self, alloc: Heap) -> Result<RData, AllocError>
+        requires known { is_known self.now.rtype ≡ true }
+        requires short { length self.now.rdata ≤ 4096 }
+        requires form { IsRData self.now.rtype self.now.rdata }
+        ensures { IfOk result (λ d. d ≡ data_of (as_record self.now)) }
+    {
+        match RData::new(alloc, self.rtype(), self.rdata()) {
+            Ok(data) => Ok(data),
+            Err(error) => Err(refused_memory(error, self)),
+        }
+    }
+}
+
+/// What is said of data that is refused though it has the form of its type: memory was.
+fn refused_memory(error: RecordError, item: &Item) -> AllocError
+    requires known { is_known item.now.rtype ≡ true }
+    requires short { length item.now.rdata ≤ 4096 }
+    requires form { IsRData item.now.rtype item.now.rdata }
+    requires refused { RefusesData (data_of (as_record item.now)) error }
+    ensures { error ≡ RecordError.OutOfMemory }
+{
+    match error {
+        RecordError::OutOfMemory => AllocError,
+        RecordError::BadData => unreachable!(),
+        RecordError::TooLong => unreachable!(),
+        RecordError::UnknownType => unreachable!(),
+    }
+}
+
+/// The records of a section, in order.
+pub(crate) fn items_of(alloc: Heap, section: Section<'_>) -> Result<Vec<Item, Heap>, AllocError>
+    ensures all { IfOk result (λ items. items.items ≡ section.entry) }
+    ensures few { length section.entry < 2 ^ 16 }
+{
+    let mut section = section;
+    let _count = section.len();
+    let mut items = Vec::new(alloc);
+    'items: while let Some(view) = section.next() {
+        items.push(Item::of(alloc, &view)?)?;
+    }
+    Ok(items)
+}

@@ -1,0 +1,82 @@
+//! What of an update section can't be done, whatever the zone contains.
+ghost use Rattle.std.specs.Prelude.{◌≡◌};
+ghost use Rattle.dns_zone.specs.Zone.{is_wildcard};
+ghost use Rattle.dns_update.specs.Item.{first_fault};
+ghost use Rattle.dns_update.specs.Prescan.{addition_fault, deletion_fault, prescan_fault, set_deletion_fault};
+
+use crate::Rcode;
+use crate::item::Item;
+use dns_names::{Name, NameRef};
+use dns_records::types::{ANY, CLASS_ANY, CLASS_IN, CLASS_NONE, NS};
+
+/// Whether the first label is `*` (RFC 4592 section 2.1.1).
+fn begins_with_asterisk(name: &NameRef<'_>) -> bool
+    ensures { result ≡ is_wildcard name.now }
+{
+    let octets = name.as_wire();
+    octets.len() > 1 && octets[0] == 1 && octets[1] == b'*'
+}
+
+/// What fails a record that is to be added.
+fn addition_fault(item: &Item) -> Option<Rcode>
+    ensures { result ≡ addition_fault item.now }
+{
+    let known = item.is_of_known_type();
+    if item.rtype() == ANY || item.is_of_meta_type() || known && item.is_empty() {
+        return Some(Rcode::FormErr);
+    }
+    let wildcard_ns = item.rtype() == NS && begins_with_asterisk(&item.owner().lend());
+    if !known || item.rdata().len() > 4096 || wildcard_ns {
+        return Some(Rcode::Refused);
+    }
+    None
+}
+
+/// What fails the deletion of an RRset, or of all records of a name.
+fn set_deletion_fault(item: &Item) -> Option<Rcode>
+    ensures { result ≡ set_deletion_fault item.now }
+{
+    if item.ttl() != 0 || !item.is_empty() || item.is_of_meta_type() {
+        return Some(Rcode::FormErr);
+    }
+    None
+}
+
+/// What fails the deletion of one record.
+fn deletion_fault(item: &Item) -> Option<Rcode>
+    ensures { result ≡ deletion_fault item.now }
+{
+    let empty = item.is_of_known_type() && item.is_empty();
+    if item.ttl() != 0 || item.rtype() == ANY || item.is_of_meta_type() || empty {
+        return Some(Rcode::FormErr);
+    }
+    None
+}
+
+/// What fails an item of the update section (RFC 2136 section 3.4.1).
+fn prescan_fault(apex: &Name, item: &Item) -> Option<Rcode>
+    ensures { result ≡ prescan_fault apex.now item.now }
+{
+    if !item.is_in_zone(apex) {
+        return Some(Rcode::NotZone);
+    }
+    match item.class() {
+        CLASS_IN => addition_fault(item),
+        CLASS_ANY => set_deletion_fault(item),
+        CLASS_NONE => deletion_fault(item),
+        _ => Some(Rcode::FormErr),
+    }
+}
+
+/// What fails the first item of the update section that fails.
+pub(crate) fn prescan(apex: &Name, items: &[Item]) -> Option<Rcode>
+    ensures { result ≡ first_fault (prescan_fault apex.now) items.now }
+{
+    for item in items {
+        let fault = prescan_fault(apex, item);
+        if fault.is_some() {
+            return fault;
+        }
+    }
+    None
+}

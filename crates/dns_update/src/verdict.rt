@@ -1,0 +1,166 @@
+//! The verdict on an update.
+ghost use Rattle.std.specs.Prelude.{◌≡◌, ◌<◌, ◌+◌, ◌^◌, [], ◌∷◌, length, IfOk, OnOk};
+ghost use Rattle.std.specs.List.{AllByRecursion};
+ghost use Rattle.std.specs.Option.{option_copied};
+ghost use Rattle.dns_records.specs.Types.{type_soa};
+ghost use Rattle.dns_zone.specs.Records.{next_after};
+ghost use Rattle.dns_zone.specs.Zone.{soas};
+ghost use Rattle.dns_update.specs.Item.{HasForm, first_fault, otherwise};
+ghost use Rattle.dns_update.specs.Prerequisites.{prerequisites_fault};
+ghost use Rattle.dns_update.specs.Prescan.{prescan_fault};
+ghost use Rattle.dns_update.specs.Soa.{HasSoa};
+ghost use Rattle.dns_update.specs.Verdict.{IsTold, IsJudged, Leaves, is_next, same_set, versioned, with_next_serial};
+
+use crate::effect::take_effects;
+use crate::item::{Item, items_of};
+use crate::prerequisites::prerequisites_fault;
+use crate::prescan::prescan;
+use crate::{Judged, Rcode};
+use dns_changes::Change;
+use dns_memory::Heap;
+use dns_names::NameRef;
+use dns_records::Record;
+use dns_records::types::SOA;
+use dns_serial::Serial;
+use dns_wire::Message;
+use dns_zone::{Zone, ZoneIndex};
+use std::alloc::AllocError;
+
+/// Whether the record is the first of the set, or the first behind another.
+fn is_next<I: ZoneIndex>(set: &I, after: Option<&Record>, r: &Record) -> bool
+    ensures { result ≡ is_next (next_after (option_copied after.entry) (I.records set.now)) r.now }
+{
+    match set.walk(after) {
+        Some(next) => r == next,
+        None => false,
+    }
+}
+
+/// Whether two sets are the same, with all TTLs.
+fn is_same_set<I: ZoneIndex>(a: &I, b: &I) -> bool
+    ensures { result ≡ same_set (I.records a.now) (I.records b.now) }
+{
+    let mut last: Option<&Record> = None;
+    'records: while let Some(record) = a.walk(last) {
+        if !is_next(b, last, record) {
+            return false;
+        }
+        last = Some(record);
+    }
+    b.walk(last).is_none()
+}
+
+/// The SOA of a zone.
+fn soa_of<'s, I: ZoneIndex>(set: &'s I, apex: &NameRef<'_>) -> &'s Record
+    requires { HasSoa apex.now (I.records set.now) }
+    ensures one { soas (I.records set.now) ≡ result.now ∷ [] }
+    ensures soa { result.now.rtype ≡ type_soa }
+{
+    &set.rrset(apex, SOA)[0]
+}
+
+/// Advances the serial of a zone by one (RFC 2136 section 3.6).
+fn advance<I: ZoneIndex>(set: &mut I, soa: &Record) -> Result<(), AllocError>
+    requires one { soas (I.records set.old) ≡ soa.now ∷ [] }
+    requires soa { soa.now.rtype ≡ type_soa }
+    ensures { OnOk result (I.records set.new ≡ with_next_serial (soas (I.records set.old)) (I.records set.old)) }
+{
+    let next = soa.with_serial(Serial(soa.serial()).next().0)?;
+    set.remove(soa)?;
+    set.insert(next)
+}
+
+/// The change of a zone to a set with one SOA.
+fn change_to<I: ZoneIndex>(alloc: Heap, zone: &Zone<I>, after: &I) -> Result<Judged, AllocError>
+    requires one { HasSoa zone.now.apex (I.records after.now) }
+    requires few { length (I.records after.now) < 2 ^ 32 }
+    ensures { IfOk result (IsTold zone.now.records (Leaves (I.records after.now))) }
+{
+    let apex = zone.apex().lend();
+    let before = zone.index();
+    let old = soa_of(before, &apex);
+    let new = soa_of(after, &apex);
+    let change = Change::between(alloc, before, old, after, new)?;
+    Ok(Judged::Accepted(change))
+}
+
+/// The change of a zone to a set with one SOA, once its serial is advanced.
+fn advanced_change<I: ZoneIndex>(
+    alloc: Heap,
+    zone: &Zone<I>,
+    after: I,
+) -> Result<Judged, AllocError>
+    requires one { HasSoa zone.now.apex (I.records after) }
+    requires few { length (I.records after) + 1 < 2 ^ 32 }
+    ensures { IfOk result (IsTold zone.now.records (Leaves (with_next_serial (soas (I.records after)) (I.records after)))) }
+{
+    let mut after = after;
+    let soa = soa_of(&after, &zone.apex().lend()).clone()?;
+    advance(&mut after, &soa)?;
+    change_to(alloc, zone, &after)
+}
+
+/// What becomes of a zone by what an update left of its records.
+fn versioned<I: ZoneIndex>(alloc: Heap, zone: &Zone<I>, after: I) -> Result<Judged, AllocError>
+    requires one { HasSoa zone.now.apex (I.records after) }
+    requires few { length (I.records after) + 1 < 2 ^ 32 }
+    ensures { IfOk result (IsTold zone.now.records (versioned zone.now.records (I.records after))) }
+{
+    if is_same_set(zone.index(), &after) {
+        return Ok(Judged::NoChange);
+    }
+    let apex = zone.apex().lend();
+    let old = Serial(soa_of(zone.index(), &apex).serial());
+    let new = Serial(soa_of(&after, &apex).serial());
+    if new.0 == old.0 {
+        return advanced_change(alloc, zone, after);
+    }
+    if new.greater(old) {
+        return change_to(alloc, zone, &after);
+    }
+    Ok(Judged::Refused(Rcode::Refused))
+}
+
+/// What refuses the items: the prerequisites, else the scan of the update section.
+fn fault<I: ZoneIndex>(zone: &Zone<I>, prerequisites: &[Item], items: &[Item]) -> Option<Rcode>
+    ensures { result ≡ otherwise (prerequisites_fault zone.now prerequisites.now) (first_fault (prescan_fault zone.now.apex) items.now) }
+{
+    let first = prerequisites_fault(zone, prerequisites);
+    if first.is_some() {
+        return first;
+    }
+    prescan(zone.apex(), items)
+}
+
+/// What becomes of an update of these prerequisites and items.
+fn judge_items<I: ZoneIndex>(
+    alloc: Heap,
+    zone: &Zone<I>,
+    prerequisites: &[Item],
+    items: &[Item],
+) -> Result<Judged, AllocError>
+    requires few { length items.now < 2 ^ 16 }
+    requires form { AllByRecursion HasForm items.now }
+    ensures { IfOk result (IsJudged zone.now prerequisites.now items.now) }
+{
+    if let Some(rcode) = fault(zone, prerequisites, items) {
+        return Ok(Judged::Refused(rcode));
+    }
+    let mut after = zone.index().fork()?;
+    take_effects(alloc, &mut after, &zone.apex().lend(), items)?;
+    versioned(alloc, zone, after)
+}
+
+/// What becomes of an update of the zone, which stays as it is (RFC 2136 sections 3.2 to 3.6).
+pub fn judge<I: ZoneIndex>(
+    alloc: Heap,
+    zone: &Zone<I>,
+    message: &Message<'_>,
+) -> Result<Judged, AllocError>
+    ensures { IfOk result (IsJudged zone.now message.now.message.answers message.now.message.authorities) }
+{
+    let _reads = message.octets();
+    let prerequisites = items_of(alloc, message.answers())?;
+    let items = items_of(alloc, message.authorities())?;
+    judge_items(alloc, zone, &prerequisites, &items)
+}

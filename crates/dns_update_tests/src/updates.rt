@@ -1,0 +1,147 @@
+//! Updates as octets, and what becomes of them.
+use crate::given::zone;
+use dns_memory::{Heap, heap};
+use dns_update::{Judged, Rcode, judge};
+use dns_wire::Message;
+use dns_zone::{RecordList, Zone};
+use std::alloc::AllocError;
+use std::test::Fail;
+
+/// What becomes of an update: of a change, how many records other than SOAs go and come, and the new serial.
+#[derive(Clone, Copy, Debug, PartialEq, Eq)]
+enum Told {
+    Refused(Rcode),
+    NoChange,
+    Accepted(usize, usize, u32),
+}
+
+/// The header of an update up to its counts, and what stands between them and the items: ARCOUNT and the zone `example.`
+const HEADER: &str = "000b28000001";
+
+const ZONE: &str = "0000076578616d706c650000060001";
+
+/// PRCOUNT and UPCOUNT, the items, and what becomes of them.
+const UPDATES: &[(&str, &str, Told)] = &[
+    // `_tcp.host1` not in use, a text added there
+    (
+        "00010001",
+        "045f74637005686f737431c00c00ff00fe000000000000c0190010000100000e1000020178",
+        Told::Accepted(0, 1, 8),
+    ),
+    // all NS of the apex deleted as a set
+    ("00000001", "c00c000200ff000000000000", Told::NoChange),
+    // both deleted one by one
+    (
+        "00000002",
+        "c00c000200fe000000000010026e73076578616d706c6503636f6d00c00c000200fe000000000010026e73076578616d706c65036e657400",
+        Told::Accepted(1, 0, 8),
+    ),
+    // an alias where an address stands
+    (
+        "00000001",
+        "05686f737431c00c0005000100000e100002c00c",
+        Told::NoChange,
+    ),
+    // two aliases of one name
+    (
+        "00000002",
+        "0163c00c0005000100000e100002c00cc0190005000100000e1000040164c00c",
+        Told::Accepted(0, 1, 8),
+    ),
+    // another TTL
+    (
+        "00000001",
+        "05686f737431c00c000100010000003c0004c0000201",
+        Told::Accepted(1, 1, 8),
+    ),
+    // SOAs of serial 7, 100, and 2147483654 and then 5
+    (
+        "00000001",
+        "c00c0006000100000e10001600000000000700000001000000010000000100000002",
+        Told::NoChange,
+    ),
+    (
+        "00000001",
+        "c00c0006000100000e10001600000000006400000001000000010000000100000001",
+        Told::Accepted(0, 0, 100),
+    ),
+    (
+        "00000002",
+        "c00c0006000100000e10001600008000000600000001000000010000000100000001c00c0006000100000e10001600000000000500000001000000010000000100000001",
+        Told::Refused(Rcode::Refused),
+    ),
+    // a name outside the zone behind one inside
+    (
+        "00000002",
+        "0174c00c0010000100000e10000201780174056f74686572000010000100000e1000020178",
+        Told::Refused(Rcode::NotZone),
+    ),
+];
+
+/// The octets of an update.
+fn octets(alloc: Heap, counts: &str, items: &str) -> Result<Vec<u8, Heap>, Fail> {
+    let mut octets = hex::decode(alloc, HEADER)?;
+    for part in [counts, ZONE, items] {
+        octets.extend_from_slice(hex::decode(alloc, part)?.as_slice())?;
+    }
+    Ok(octets)
+}
+
+/// A verdict in short.
+fn in_short(judged: &Judged) -> Told {
+    match judged {
+        Judged::Refused(rcode) => Told::Refused(*rcode),
+        Judged::NoChange => Told::NoChange,
+        Judged::Accepted(change) => {
+            let serial = change.new_soa().data().as_soa().map_or(0, |soa| soa.serial);
+            Told::Accepted(change.removed().len(), change.added().len(), serial)
+        }
+    }
+}
+
+/// The verdict on the octets in short, or that memory was refused.
+fn judged(
+    alloc: Heap,
+    zone: &Zone<RecordList>,
+    octets: &[u8],
+) -> Result<Result<Told, AllocError>, Fail> {
+    let message = Message::read(octets)?;
+    match judge(alloc, zone, &message) {
+        Ok(judged) => Ok(Ok(in_short(&judged))),
+        Err(error) => Ok(Err(error)),
+    }
+}
+
+// Each of them.
+#[test]
+fn updates_of_a_zone(rt: HostRuntime) -> Result<(), Fail> {
+    let alloc = heap(rt.alloc())?;
+    let zone = zone(alloc)?;
+    for (counts, items, expected) in UPDATES {
+        let octets = octets(alloc, counts, items)?;
+        let told = judged(alloc, &zone, &octets)??;
+        assert!(rt; told == *expected, "{items}: {told:?}");
+    }
+    Ok(())
+}
+
+// Each allocation is refused in turn, and no other verdict comes than without that.
+#[test]
+fn an_update_that_is_refused_memory(rt: HostRuntime) -> Result<(), Fail> {
+    let alloc = heap(rt.alloc())?;
+    let zone = zone(alloc)?;
+    let (counts, items, expected) = UPDATES[0];
+    let octets = octets(alloc, counts, items)?;
+    let before = alloc.calls();
+    let _ = judged(alloc, &zone, &octets)??;
+    let calls = alloc.calls().wrapping_sub(before);
+    assert!(rt; calls > 0);
+    for n in 1..=calls {
+        alloc.refuse(n);
+        let told = judged(alloc, &zone, &octets)?;
+        alloc.refuse(0);
+        assert!(rt; told.is_err(), "{n}");
+    }
+    assert!(rt; judged(alloc, &zone, &octets)?? == expected);
+    Ok(())
+}
