@@ -33,7 +33,7 @@ fn of_two_words<'a>(
 }
 
 /// What the words ask for, if it is a task.
-fn task<'a>(alloc: Global, words: &'a [&'a str]) -> Result<Option<Task<'a>>, Error> {
+fn asked<'a>(alloc: Global, words: &'a [&'a str]) -> Result<Option<Task<'a>>, Error> {
     let command = Command::new(alloc, "dnsprim")
         .subcommand(of_two_words(alloc, "check", "FILE", "ORIGIN")?)?
         .subcommand(of_two_words(alloc, "replay", "CONFIG", "SCRIPT")?)?;
@@ -133,7 +133,7 @@ fn start(rt: &HostRuntime) -> io::Result<u8> {
     for word in &words {
         texts.push(word.as_str())?;
     }
-    match task(rt.alloc(), &texts) {
+    match asked(rt.alloc(), &texts) {
         Ok(Some(task)) => run(rt, task),
         Ok(None) => {
             eprintln!(rt; "usage: dnsprim check FILE ORIGIN | dnsprim replay CONFIG SCRIPT")?;
