@@ -10,4 +10,6 @@ mod memory;
 #[cfg(test)]
 mod refused;
 #[cfg(test)]
+mod writers;
+#[cfg(test)]
 mod zones;

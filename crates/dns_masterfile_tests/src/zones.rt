@@ -38,6 +38,43 @@ fn a_small_zone(rt: HostRuntime) -> Result<(), Fail> {
     Ok(())
 }
 
+const WILDCARDS: &[u8] = b"$ORIGIN example.
+example.                 3600 IN  SOA   ns.example.com. hostmaster 1 2 3 4 5
+example.                 3600     NS    ns.example.com.
+example.                 3600     NS    ns.example.net.
+*.example.               3600     TXT   \"this is a wildcard\"
+*.example.               3600     MX    10 host1.example.
+sub.*.example.           3600     TXT   \"this is not a wildcard\"
+host1.example.           3600     A     192.0.2.1
+_ssh._tcp.host1.example. 3600     SRV   0 0 22 host1
+_ssh._tcp.host2.example. 3600     SRV   0 0 22 host2
+subdel.example.          3600     NS    ns.example.com.
+subdel.example.          3600     NS    ns.example.net.
+";
+
+const WILDCARDS_PRINTED: &[u8] =
+    b"example. 3600 IN SOA ns.example.com. hostmaster.example. 1 2 3 4 5
+example. 3600 IN NS ns.example.com.
+example. 3600 IN NS ns.example.net.
+*.example. 3600 IN MX 10 host1.example.
+*.example. 3600 IN TXT \"this is a wildcard\"
+sub.*.example. 3600 IN TXT \"this is not a wildcard\"
+host1.example. 3600 IN A 192.0.2.1
+_ssh._tcp.host1.example. 3600 IN SRV 0 0 22 host1.example.
+_ssh._tcp.host2.example. 3600 IN SRV 0 0 22 host2.example.
+subdel.example. 3600 IN NS ns.example.com.
+subdel.example. 3600 IN NS ns.example.net.
+";
+
+// RFC 4592 section 2.2.1.
+#[test]
+fn a_zone_of_wildcards(rt: HostRuntime) -> Result<(), Fail> {
+    let heap = heap(rt.alloc())?;
+    let first = printed(heap, WILDCARDS, b".", b"example.")?;
+    assert!(rt; first.as_slice() == WILDCARDS_PRINTED);
+    Ok(())
+}
+
 // Records that are read and are no zone.
 #[test]
 fn a_zone_without_name_servers(rt: HostRuntime) -> Result<(), Fail> {
