@@ -1,8 +1,37 @@
 //! Records of each type, in the octets of the standards.
 use crate::names::name;
-use dns_memory::heap;
+use dns_memory::{Heap, heap};
+use dns_names::{Name, NameError, NameRef};
 use dns_records::{Mx, RData, Record, RecordError, Soa, Srv, types};
+use std::alloc::AllocError;
 use std::test::Fail;
+
+/// Whether a copy of a lent name is the name of a text.
+fn is_copied(alloc: Heap, lent: &NameRef<'_>, text: &[u8]) -> Result<bool, NameError> {
+    Ok(lent.to_name(alloc)? == name(alloc, text)?)
+}
+
+/// A record of the owner that a text names, with a TTL of a minute.
+fn record_of(alloc: Heap, owner: &[u8], rdata: RData) -> Result<Record, NameError> {
+    Ok(Record::new(name(alloc, owner)?, 60, rdata))
+}
+
+/// The data of the SOA of ISI.EDU.
+fn isi_edu(alloc: Heap, mname: &Name, rname: &Name) -> Result<RData, AllocError> {
+    let soa = Soa {
+        mname: mname.lend(),
+        rname: rname.lend(),
+        serial: 20,
+        refresh: 7200,
+        retry: 600,
+        expire: 3600000,
+        minimum: 60,
+    };
+    RData::soa(alloc, &soa)
+}
+
+const ISI_EDU: &[u8] = b"\x06venera\x03isi\x03edu\x00\x0eaction.domains\x03isi\x03edu\x00\
+\x00\x00\x00\x14\x00\x00\x1c\x20\x00\x00\x02\x58\x00\x36\xee\x80\x00\x00\x00\x3c";
 
 // RFC 1035 section 5.3: the SOA of ISI.EDU.
 #[test]
@@ -10,27 +39,40 @@ fn the_start_of_a_zone(rt: HostRuntime) -> Result<(), Fail> {
     let alloc = heap(rt.alloc())?;
     let venera = name(alloc, b"VENERA.ISI.EDU.")?;
     let action = name(alloc, b"Action\\.domains.ISI.EDU.")?;
-    let soa = Soa {
-        mname: venera.lend(),
-        rname: action.lend(),
-        serial: 20,
-        refresh: 7200,
-        retry: 600,
-        expire: 3600000,
-        minimum: 60,
-    };
-    let rdata = RData::soa(alloc, &soa)?;
-    assert_eq!(rt;
-        rdata.octets(),
-        b"\x06venera\x03isi\x03edu\x00\x0eaction.domains\x03isi\x03edu\x00\
-\x00\x00\x00\x14\x00\x00\x1c\x20\x00\x00\x02\x58\x00\x36\xee\x80\x00\x00\x00\x3c"
-            .as_slice()
-    );
-    let record = Record::new(name(alloc, b"isi.edu.")?, 60, rdata);
-    let newer = record.data().as_soa().ok_or("a SOA")?;
-    assert_eq!(rt; newer.expire, 3600000);
-    assert_eq!(rt; newer.rname.to_name(alloc)?, action);
+    let rdata = isi_edu(alloc, &venera, &action)?;
+    assert_eq!(rt; rdata.octets(), ISI_EDU);
     Ok(())
+}
+
+// What it says, read from the record.
+#[test]
+fn the_fields_of_a_start(rt: HostRuntime) -> Result<(), Fail> {
+    let alloc = heap(rt.alloc())?;
+    let rdata = RData::new(alloc, types::SOA, ISI_EDU)?;
+    let record = record_of(alloc, b"isi.edu.", rdata)?;
+    let soa = record.data().as_soa().ok_or("a SOA")?;
+    assert_eq!(rt; soa.expire, 3600000);
+    assert_eq!(rt;
+        is_copied(alloc, &soa.rname, b"Action\\.domains.ISI.EDU."),
+        Ok(true)
+    );
+    Ok(())
+}
+
+/// The serial number and the minimum of a record, if it is a SOA.
+fn serial_and_minimum(record: &Record) -> Option<(u32, u32)> {
+    if record.rtype() != types::SOA {
+        return None;
+    }
+    Some((record.serial(), record.minimum()))
+}
+
+/// A SOA with another serial number.
+fn with_serial(record: &Record, serial: u32) -> Option<Record> {
+    if record.rtype() != types::SOA {
+        return None;
+    }
+    record.with_serial(serial).ok()
 }
 
 #[test]
@@ -39,22 +81,14 @@ fn another_serial(rt: HostRuntime) -> Result<(), Fail> {
     let octets =
         b"\x00\x00\x00\x00\x00\x14\x00\x00\x1c\x20\x00\x00\x02\x58\x00\x36\xee\x80\x00\x00\x00\x3c";
     let rdata = RData::new(alloc, types::SOA, octets)?;
-    let record = Record::new(name(alloc, b".")?, 60, rdata);
-    if record.rtype() != types::SOA {
-        return Err(Fail::from("no SOA"));
-    }
-    assert_eq!(rt; record.serial(), 20);
-    assert_eq!(rt; record.minimum(), 60);
-    let next = record.with_serial(21)?;
-    if next.rtype() != types::SOA {
-        return Err(Fail::from("no SOA"));
-    }
-    assert_eq!(rt; next.serial(), 21);
-    assert_eq!(rt; next.minimum(), 60);
+    let record = record_of(alloc, b".", rdata)?;
+    assert_eq!(rt; serial_and_minimum(&record), Some((20, 60)));
+    let next = with_serial(&record, 21).ok_or("no SOA")?;
+    assert_eq!(rt; serial_and_minimum(&next), Some((21, 60)));
     Ok(())
 }
 
-// RFC 1035 section 5.3: an exchange, a host and an address of the same zone.
+// RFC 1035 section 5.3: an exchange of the same zone.
 #[test]
 fn a_mail_exchange(rt: HostRuntime) -> Result<(), Fail> {
     let alloc = heap(rt.alloc())?;
@@ -69,28 +103,37 @@ fn a_mail_exchange(rt: HostRuntime) -> Result<(), Fail> {
         b"\x00\x0a\x06venera\x03isi\x03edu\x00".as_slice()
     );
     assert!(rt; rdata.as_srv().is_none());
-    let address = RData::a(alloc, [26, 3, 0, 103]);
-    assert_eq!(rt; address.as_a(), Some([26, 3, 0, 103]));
-    let server = RData::ns(alloc, &venera)?;
-    let host = server.as_name().ok_or("a host")?;
-    assert_eq!(rt; host.to_name(alloc)?, venera);
     Ok(())
 }
 
-// RFC 2782: a service at port 9, and the names of an alias and of a reverse address (RFC 3596 section 2.5).
+// A host of the same zone.
+#[test]
+fn a_name_server(rt: HostRuntime) -> Result<(), Fail> {
+    let alloc = heap(rt.alloc())?;
+    let venera = name(alloc, b"VENERA.ISI.EDU.")?;
+    let server = RData::ns(alloc, &venera)?;
+    let host = server.as_name().ok_or("a host")?;
+    assert_eq!(rt; is_copied(alloc, &host, b"VENERA.ISI.EDU."), Ok(true));
+    Ok(())
+}
+
+/// A service at port 9.
+fn service(alloc: Heap, target: &Name) -> Result<RData, AllocError> {
+    let srv = Srv {
+        priority: 0,
+        weight: 1,
+        port: 9,
+        target: target.lend(),
+    };
+    RData::srv(alloc, &srv)
+}
+
+// RFC 2782: a service at port 9.
 #[test]
 fn a_service(rt: HostRuntime) -> Result<(), Fail> {
     let alloc = heap(rt.alloc())?;
     let target = name(alloc, b"old-slow-box.example.com.")?;
-    let rdata = RData::srv(
-        alloc,
-        &Srv {
-            priority: 0,
-            weight: 1,
-            port: 9,
-            target: target.lend(),
-        },
-    )?;
+    let rdata = service(alloc, &target)?;
     assert_eq!(rt;
         rdata.octets(),
         b"\x00\x00\x00\x01\x00\x09\x0cold-slow-box\x07example\x03com\x00".as_slice()
@@ -98,10 +141,27 @@ fn a_service(rt: HostRuntime) -> Result<(), Fail> {
     let srv = rdata.as_srv().ok_or("a service")?;
     assert_eq!(rt; srv.port, 9);
     assert_eq!(rt; srv.weight, 1);
+    Ok(())
+}
+
+// The names of an alias and of a reverse address (RFC 3596 section 2.5).
+#[test]
+fn an_alias_and_a_pointer(rt: HostRuntime) -> Result<(), Fail> {
+    let alloc = heap(rt.alloc())?;
+    let target = name(alloc, b"old-slow-box.example.com.")?;
     let alias = RData::cname(alloc, &target)?;
     assert_eq!(rt; alias.octets(), target.as_wire());
     let pointer = RData::ptr(alloc, &target)?;
     assert!(rt; alias < pointer);
+    Ok(())
+}
+
+// RFC 1035 section 5.3: the address of a host.
+#[test]
+fn an_address(rt: HostRuntime) -> Result<(), Fail> {
+    let alloc = heap(rt.alloc())?;
+    let address = RData::a(alloc, [26, 3, 0, 103]);
+    assert_eq!(rt; address.as_a(), Some([26, 3, 0, 103]));
     Ok(())
 }
 
@@ -116,85 +176,108 @@ fn an_ipv6_address(rt: HostRuntime) -> Result<(), Fail> {
     Ok(())
 }
 
-// RFC 4592 section 2.2.1: the text at the wildcard; and two strings.
+// RFC 4592 section 2.2.1: the text at the wildcard.
 #[test]
-fn strings(rt: HostRuntime) -> Result<(), Fail> {
+fn a_string(rt: HostRuntime) -> Result<(), Fail> {
     let alloc = heap(rt.alloc())?;
     let one = RData::txt(alloc, &[b"this is a wildcard".as_slice()])?;
     assert_eq!(rt; one.octets(), b"\x12this is a wildcard".as_slice());
-    let two = RData::txt(alloc, &[[7u8; 255].as_slice(), b"".as_slice()])?;
-    let mut strings = two.as_txt().ok_or("strings")?;
-    let first = strings.next().ok_or("a string")?;
-    assert_eq!(rt; first.len(), 255);
-    let second = strings.next().ok_or("a string")?;
-    assert!(rt; second.is_empty());
-    assert!(rt; strings.next().is_none());
     Ok(())
 }
+
+/// The lengths of the strings of a text, if there are two.
+fn two_lengths(rdata: &RData) -> Option<(usize, usize)> {
+    let mut strings = rdata.as_txt()?;
+    let first = strings.next()?;
+    let second = strings.next()?;
+    if strings.next().is_some() {
+        return None;
+    }
+    Some((first.len(), second.len()))
+}
+
+/// The longest string.
+const LONGEST: &[u8] = &[7; 255];
+
+#[test]
+fn two_strings(rt: HostRuntime) -> Result<(), Fail> {
+    let alloc = heap(rt.alloc())?;
+    let two = RData::txt(alloc, &[LONGEST, b"".as_slice()])?;
+    assert_eq!(rt; two_lengths(&two), Some((255, 0)));
+    Ok(())
+}
+
+/// Strings, and why they are no data.
+const STRINGS: &[(&[&[u8]], Option<RecordError>)] = &[
+    (&[], Some(RecordError::BadData)),
+    (&[&[7; 256]], Some(RecordError::BadData)),
+    (&[LONGEST; 16], None),
+    (&[LONGEST; 17], Some(RecordError::TooLong)),
+];
 
 #[test]
 fn refused_strings(rt: HostRuntime) -> Result<(), Fail> {
     let alloc = heap(rt.alloc())?;
-    assert_eq!(rt; RData::txt(alloc, &[]).err(), Some(RecordError::BadData));
-    assert_eq!(rt;
-        RData::txt(alloc, &[[7u8; 256].as_slice()]).err(),
-        Some(RecordError::BadData)
-    );
-    assert!(rt; RData::txt(alloc, &[[7u8; 255].as_slice(); 16]).is_ok());
-    assert_eq!(rt;
-        RData::txt(alloc, &[[7u8; 255].as_slice(); 17]).err(),
-        Some(RecordError::TooLong)
-    );
+    for (strings, error) in STRINGS {
+        assert_eq!(rt; RData::txt(alloc, strings).err(), *error);
+    }
     Ok(())
 }
+
+/// A type, octets, and why they are no data.
+const DATA: &[(u16, &[u8], Option<RecordError>)] = &[
+    (41, b"", Some(RecordError::UnknownType)),
+    (types::TXT, &[0; 4097], Some(RecordError::TooLong)),
+    (types::TXT, &[0; 4096], None),
+    (types::TXT, b"", Some(RecordError::BadData)),
+    (types::NS, b"\x01A\x00", Some(RecordError::BadData)),
+    (types::AAAA, &[0; 15], Some(RecordError::BadData)),
+];
 
 #[test]
 fn refused_data(rt: HostRuntime) -> Result<(), Fail> {
     let alloc = heap(rt.alloc())?;
-    assert_eq!(rt;
-        RData::new(alloc, 41, b"").err(),
-        Some(RecordError::UnknownType)
-    );
-    assert_eq!(rt;
-        RData::new(alloc, types::TXT, &[0; 4097]).err(),
-        Some(RecordError::TooLong)
-    );
-    assert!(rt; RData::new(alloc, types::TXT, &[0; 4096]).is_ok());
-    assert_eq!(rt;
-        RData::new(alloc, types::TXT, b"").err(),
-        Some(RecordError::BadData)
-    );
-    assert_eq!(rt;
-        RData::new(alloc, types::NS, b"\x01A\x00").err(),
-        Some(RecordError::BadData)
-    );
-    assert_eq!(rt;
-        RData::new(alloc, types::AAAA, &[0; 15]).err(),
-        Some(RecordError::BadData)
-    );
+    for (rtype, octets, error) in DATA {
+        assert_eq!(rt; RData::new(alloc, *rtype, octets).err(), *error);
+    }
     Ok(())
 }
 
-// What is written in plain form is read; cut anywhere it is refused.
-#[test]
-fn plain_records(rt: HostRuntime) -> Result<(), Fail> {
-    let alloc = heap(rt.alloc())?;
+/// The address of a host.
+fn host1(alloc: Heap) -> Result<Record, NameError> {
     let rdata = RData::a(alloc, [192, 0, 2, 1]);
-    let record = Record::new(name(alloc, b"host1.example.")?, 3600, rdata);
+    Ok(Record::new(name(alloc, b"host1.example.")?, 3600, rdata))
+}
+
+/// The record in plain form.
+const HOST1: &[u8] = b"\x05host1\x07example\x00\x00\x01\x00\x00\x0e\x10\x00\x04\xc0\x00\x02\x01";
+
+#[test]
+fn a_record_that_is_written(rt: HostRuntime) -> Result<(), Fail> {
+    let alloc = heap(rt.alloc())?;
     let mut octets = Vec::new(alloc);
-    record.to_wire_plain(&mut octets)?;
-    assert_eq!(rt;
-        octets.as_slice(),
-        b"\x05host1\x07example\x00\x00\x01\x00\x00\x0e\x10\x00\x04\xc0\x00\x02\x01".as_slice()
-    );
-    let (read, size) = Record::from_wire_plain(alloc, &octets)?;
-    assert_eq!(rt; size, octets.len());
+    host1(alloc)?.to_wire_plain(&mut octets)?;
+    assert_eq!(rt; octets.as_slice(), HOST1);
+    Ok(())
+}
+
+#[test]
+fn a_record_that_is_read(rt: HostRuntime) -> Result<(), Fail> {
+    let alloc = heap(rt.alloc())?;
+    let (read, size) = Record::from_wire_plain(alloc, HOST1)?;
+    assert_eq!(rt; size, HOST1.len());
+    let record = host1(alloc)?;
     assert!(rt; read == record);
-    for end in 0..octets.len() {
-        assert_eq!(rt;
-            Record::from_wire_plain(alloc, &octets[..end]).err(),
-            Some(RecordError::BadData)
-        );
+    Ok(())
+}
+
+// Cut anywhere it is refused.
+#[test]
+fn a_record_that_is_cut(rt: HostRuntime) -> Result<(), Fail> {
+    let alloc = heap(rt.alloc())?;
+    for end in 0..HOST1.len() {
+        let cut = Record::from_wire_plain(alloc, &HOST1[..end]);
+        assert_eq!(rt; cut.err(), Some(RecordError::BadData));
     }
     Ok(())
 }
