@@ -2,6 +2,7 @@
 use crate::samples::SAMPLES;
 use dns_memory::{Heap, heap};
 use dns_wire::{Message, Section, WireError};
+use std::alloc::AllocError;
 use std::test::Fail;
 
 // The MX of a synthesised name with the address of its host (RFC 4592 section 2.2.1).
@@ -20,96 +21,119 @@ fn ttls(mut section: Section<'_>) -> u32 {
     sum
 }
 
-/// What is told of octets: as in the samples.
-fn told(alloc: Heap, octets: &[u8]) -> Result<Vec<u8, Heap>, Fail> {
-    let mut out = Vec::new(alloc);
-    let message = match Message::read(octets) {
-        Ok(message) => message,
-        Err(error) => {
-            let word = match error {
-                WireError::Short => "short",
-                WireError::BadPointer => "pointer",
-                WireError::ReservedLabel => "reserved",
-                WireError::NameTooLong => "long",
-                WireError::Cut => "cut",
-                WireError::Trailing => "trailing",
-                WireError::BadData => "data",
-                _ => "another",
-            };
-            out.extend_from_slice(word.as_bytes())?;
-            return Ok(out);
-        }
-    };
-    let sum = ttls(message.answers())
-        .wrapping_add(ttls(message.authorities()))
-        .wrapping_add(ttls(message.additionals()));
-    let (answers, authorities, additionals) = (
-        message.answer_count(),
-        message.authority_count(),
-        message.additional_count(),
-    );
+/// The word of the samples for a fault.
+fn word(error: WireError) -> &'static str {
+    match error {
+        WireError::Short => "short",
+        WireError::BadPointer => "pointer",
+        WireError::ReservedLabel => "reserved",
+        WireError::NameTooLong => "long",
+        WireError::Cut => "cut",
+        WireError::Trailing => "trailing",
+        WireError::BadData => "data",
+        _ => "another",
+    }
+}
+
+/// The name that is asked for, `-` where there is not exactly one question.
+fn asked(alloc: Heap, message: &Message<'_>) -> Result<String<Heap>, AllocError> {
     match message.question() {
         Some(question) => {
             let name = question.name().to_name(alloc)?;
-            let text = format!(in alloc; "{name} {answers} {authorities} {additionals} {sum}")?;
-            out.extend_from_slice(text.as_bytes())?;
+            Ok(format!(in alloc; "{name}")?)
         }
-        None => {
-            let text = format!(in alloc; "- {answers} {authorities} {additionals} {sum}")?;
-            out.extend_from_slice(text.as_bytes())?;
-        }
+        None => Ok(format!(in alloc; "-")?),
     }
-    Ok(out)
+}
+
+/// What is told of a message: as in the samples.
+fn told(alloc: Heap, message: &Message<'_>) -> Result<String<Heap>, AllocError> {
+    let answers = message.answer_count();
+    let authorities = message.authority_count();
+    let additionals = message.additional_count();
+    let sum = ttls(message.answers())
+        .wrapping_add(ttls(message.authorities()))
+        .wrapping_add(ttls(message.additionals()));
+    let name = asked(alloc, message)?;
+    Ok(format!(in alloc; "{name} {answers} {authorities} {additionals} {sum}")?)
+}
+
+/// Whether octets are as a sample tells, if there is memory.
+fn is_told(alloc: Heap, octets: &[u8], wanted: &str) -> Option<bool> {
+    match Message::read(octets) {
+        Ok(message) => Some(told(alloc, &message).ok()?.as_str() == wanted),
+        Err(error) => Some(word(error) == wanted),
+    }
+}
+
+/// Whether a sample tells what is read, if it is one.
+fn holds(alloc: Heap, sample: &str) -> Option<bool> {
+    let (digits, wanted) = sample.split_once(' ')?;
+    let octets = hex::decode(alloc, digits).ok()?;
+    is_told(alloc, &octets, wanted)
 }
 
 #[test]
 fn samples(rt: HostRuntime) -> Result<(), Fail> {
     let alloc = heap(rt.alloc())?;
     let mut count = 0u64;
-    for line in SAMPLES.lines() {
-        let (digits, wanted) = line.split_once(' ').ok_or("a sample")?;
-        let octets = hex::decode(alloc, digits)?;
-        let got = told(alloc, &octets)?;
-        let got = str::from_utf8(&got)?;
-        assert_eq!(rt; got, wanted, "{digits}");
+    for sample in SAMPLES.lines() {
+        assert_eq!(rt; holds(alloc, sample), Some(true), "{sample}");
         count = count.wrapping_add(1);
     }
     assert_eq!(rt; count, 300);
     Ok(())
 }
 
-// A message that is cut anywhere is none, nor is one with an octet more.
+/// Why octets are no message.
+pub(crate) fn fault(octets: &[u8]) -> Option<WireError> {
+    Message::read(octets).err()
+}
+
+// A message that is cut anywhere is none.
 #[test]
 fn cut_at_each_octet(rt: HostRuntime) -> Result<(), Fail> {
     let alloc = heap(rt.alloc())?;
-    let mut octets = hex::decode(alloc, REPLY)?;
-    assert!(rt; Message::read(&octets).is_ok());
+    let octets = hex::decode(alloc, REPLY)?;
+    assert_eq!(rt; fault(&octets), None);
     for end in 0..octets.len() {
-        let error = Message::read(&octets[..end]).err();
-        if end < 12 {
-            assert_eq!(rt; error, Some(WireError::Short));
+        let wanted = if end < 12 {
+            WireError::Short
         } else {
-            assert_eq!(rt; error, Some(WireError::Cut), "{end}");
-        }
+            WireError::Cut
+        };
+        assert_eq!(rt; fault(&octets[..end]), Some(wanted), "{end}");
     }
-    octets.extend_from_slice(b"\x00")?;
-    assert_eq!(rt; Message::read(&octets).err(), Some(WireError::Trailing));
     Ok(())
+}
+
+// Nor is one with an octet more.
+#[test]
+fn one_octet_more(rt: HostRuntime) -> Result<(), Fail> {
+    let alloc = heap(rt.alloc())?;
+    let mut octets = hex::decode(alloc, REPLY)?;
+    octets.push(0)?;
+    assert_eq!(rt; fault(&octets), Some(WireError::Trailing));
+    Ok(())
+}
+
+/// Whether the reply is still a message when the octet at a place is a count, and whether the count is the true one.
+fn lie(alloc: Heap, at: usize, count: u8) -> Option<(bool, bool)> {
+    let mut octets = hex::decode(alloc, REPLY).ok()?;
+    let octet = octets.get_mut(at)?;
+    let was = *octet;
+    *octet = count;
+    Some((fault(&octets).is_none(), count == was))
 }
 
 // Each count, one too high and one too low.
 #[test]
 fn counts_that_lie(rt: HostRuntime) -> Result<(), Fail> {
     let alloc = heap(rt.alloc())?;
-    let octets = hex::decode(alloc, REPLY)?;
     for at in [5usize, 7, 9, 11] {
         for count in 0..4u8 {
-            let mut lie = octets.clone()?;
-            let octet = lie.get_mut(at).ok_or("an octet")?;
-            let was = *octet;
-            *octet = count;
-            let read = Message::read(&lie);
-            assert_eq!(rt; read.is_ok(), count == was, "{at} {count}");
+            let (is_read, is_true) = lie(alloc, at, count).ok_or("an octet")?;
+            assert_eq!(rt; is_read, is_true, "{at} {count}");
         }
     }
     Ok(())
@@ -120,9 +144,9 @@ fn counts_that_lie(rt: HostRuntime) -> Result<(), Fail> {
 fn opaque_and_empty_data(rt: HostRuntime) -> Result<(), Fail> {
     let opaque =
         b"\x00\x00\x84\x00\x00\x00\x00\x01\x00\x00\x00\x00\x00\x00\x63\x00\x01\x00\x00\x00\x00\x00\x03\x40\xff\xc0";
-    assert!(rt; Message::read(opaque).is_ok());
+    assert_eq!(rt; fault(opaque), None);
     let empty =
         b"\x00\x00\x28\x00\x00\x00\x00\x00\x00\x01\x00\x00\x00\x00\x01\x00\xff\x00\x00\x00\x00\x00\x00";
-    assert!(rt; Message::read(empty).is_ok());
+    assert_eq!(rt; fault(empty), None);
     Ok(())
 }

@@ -1,8 +1,7 @@
 //! Records of messages, copied.
 use dns_memory::{Heap, heap};
 use dns_records::RecordError;
-use dns_wire::Message;
-use std::alloc::AllocError;
+use dns_wire::{Message, RecordView};
 use std::test::Fail;
 
 /// The header of a response with one answer, whose owner is `Example.`
@@ -42,21 +41,28 @@ const DATA: &[(&str, &str, Option<RecordError>)] = &[
 ];
 
 /// The octets of a response with an answer.
-fn response(alloc: Heap, answer: &str) -> Result<Vec<u8, Heap>, Fail> {
-    let mut octets = hex::decode(alloc, FRONT)?;
-    octets.extend_from_slice(hex::decode(alloc, answer)?.as_slice())?;
-    Ok(octets)
+fn response(alloc: Heap, answer: &str) -> Option<Vec<u8, Heap>> {
+    let digits = format!(in alloc; "{FRONT}{answer}").ok()?;
+    hex::decode(alloc, digits.as_str()).ok()
 }
 
-/// The data of the first answer, and why it is no record, in hexadecimal.
-fn copied(
-    alloc: Heap,
-    octets: &[u8],
-) -> Result<(Result<Vec<u8, Heap>, AllocError>, Option<RecordError>), Fail> {
-    let message = Message::read(octets)?;
-    let mut answers = message.answers();
-    let answer = answers.next().ok_or("an answer")?;
-    Ok((answer.rdata(alloc), answer.to_record(alloc).err()))
+/// The first answer of a message.
+fn first(octets: &[u8]) -> Option<RecordView<'_>> {
+    Message::read(octets).ok()?.answers().next()
+}
+
+/// The data of an answer in plain form, in hexadecimal.
+fn plain_data(alloc: Heap, answer: &RecordView<'_>) -> Option<String<Heap>> {
+    let data = answer.rdata(alloc).ok()?;
+    hex::encode(alloc, &data).ok()
+}
+
+/// Whether the data of an answer are these in plain form, and why it is no record.
+fn copied(alloc: Heap, answer: &str, plain: &str) -> Option<(bool, Option<RecordError>)> {
+    let octets = response(alloc, answer)?;
+    let answer = first(&octets)?;
+    let is_plain = plain_data(alloc, &answer)?.as_str() == plain;
+    Some((is_plain, answer.to_record(alloc).err()))
 }
 
 // Each of them.
@@ -64,53 +70,60 @@ fn copied(
 fn data_in_plain_form(rt: HostRuntime) -> Result<(), Fail> {
     let alloc = heap(rt.alloc())?;
     for (answer, plain, refusal) in DATA {
-        let octets = response(alloc, answer)?;
-        let (data, error) = copied(alloc, &octets)?;
-        let given = hex::encode(alloc, data?.as_slice())?;
-        assert!(rt; given.as_str() == *plain, "{answer} gives {given}");
-        assert!(rt; error == *refusal, "{answer}");
+        let copy = copied(alloc, answer, plain);
+        assert_eq!(rt; copy, Some((true, *refusal)), "{answer}");
     }
     Ok(())
+}
+
+/// A response with a text of 4,097 octets.
+fn long_text(alloc: Heap) -> Option<Vec<u8, Heap>> {
+    let mut octets = response(alloc, "0010000100000e101001")?;
+    octets.extend_from_slice(&[0; 4097]).ok()?;
+    Some(octets)
+}
+
+/// How many octets the data of the first answer have, and why it is no record.
+fn length(alloc: Heap, octets: &[u8]) -> Option<(usize, Option<RecordError>)> {
+    let answer = first(octets)?;
+    let length = answer.rdata(alloc).ok()?.len();
+    Some((length, answer.to_record(alloc).err()))
 }
 
 // A text of 4,097 octets stands in a message and is none in a record.
 #[test]
 fn data_that_is_too_long(rt: HostRuntime) -> Result<(), Fail> {
     let alloc = heap(rt.alloc())?;
-    let mut octets = response(alloc, "0010000100000e101001")?;
-    for _ in 0..4097 {
-        octets.push(0)?;
-    }
-    let (data, error) = copied(alloc, &octets)?;
-    assert!(rt; data?.len() == 4097);
-    assert!(rt; error == Some(RecordError::TooLong));
+    let octets = long_text(alloc).ok_or("octets")?;
+    let too_long = Some(RecordError::TooLong);
+    assert_eq!(rt; length(alloc, &octets), Some((4097, too_long)));
     Ok(())
 }
+
+/// Whether a copy of the data gets its memory, and why the record that is made behind it does not.
+fn two_copies(alloc: Heap, answer: &RecordView<'_>) -> (bool, Option<RecordError>) {
+    let is_copied = answer.rdata(alloc).is_ok();
+    (is_copied, answer.to_record(alloc).err())
+}
+
+/// A SOA whose names are pointers.
+const START: &str = "0006000100000e100018c00cc00c0000000100000002000000030000000400000005";
 
 // Each allocation of a copy is refused in turn.
 #[test]
 fn a_copy_that_is_refused_memory(rt: HostRuntime) -> Result<(), Fail> {
     let alloc = heap(rt.alloc())?;
-    let octets = response(
-        alloc,
-        "0006000100000e100018c00cc00c0000000100000002000000030000000400000005",
-    )?;
+    let octets = response(alloc, START).ok_or("octets")?;
+    let answer = first(&octets).ok_or("an answer")?;
     alloc.refuse(1);
-    let (data, error) = copied(alloc, &octets)?;
+    assert_eq!(rt; two_copies(alloc, &answer), (false, None));
     alloc.refuse(0);
-    assert!(rt; data.is_err());
-    assert!(rt; error.is_none());
-    let before = alloc.calls();
-    let _ = copied(alloc, &octets)?;
-    let calls = alloc.calls().wrapping_sub(before);
+    assert_eq!(rt; two_copies(alloc, &answer), (true, None));
+    let calls = alloc.calls();
     for n in 1..=calls {
         alloc.refuse(n);
-        let (data, error) = copied(alloc, &octets)?;
-        alloc.refuse(0);
-        assert!(rt;
-            data.is_err() != (error == Some(RecordError::OutOfMemory)),
-            "{n}"
-        );
+        let (is_copied, error) = two_copies(alloc, &answer);
+        assert_eq!(rt; is_copied, error == Some(RecordError::OutOfMemory), "{n}");
     }
     Ok(())
 }

@@ -3,19 +3,23 @@ ghost use Rattle.std.specs.Prelude.{◌≡◌};
 
 use dns_memory::{Heap, heap};
 use dns_names::Name;
-use dns_records::{RData, Record};
+use dns_records::{RData, Record, types};
 use dns_wire::{Message, Reply, ReplyRecord, WireError, Writer};
+use std::alloc::AllocError;
 use std::test::Fail;
 
 /// A TXT at the root with strings of these lengths.
-fn text_of(alloc: Heap, lengths: &[u8]) -> Result<Record, Fail> {
+fn text_of(alloc: Heap, lengths: &[u8]) -> Result<Record, WireError> {
     let mut octets: Vec<u8, Heap> = Vec::new(alloc);
     for len in lengths {
         octets.extend_from_slice(&[*len])?;
         octets.extend_from_slice(&[120; 255][..*len as usize])?;
     }
-    let rdata = RData::new(alloc, dns_records::types::TXT, &octets)?;
-    Ok(Record::new(Name::root(alloc), 60, rdata))
+    match RData::new(alloc, types::TXT, &octets) {
+        Ok(rdata) => Ok(Record::new(Name::root(alloc), 60, rdata)),
+        // Strings are data of a TXT, so that nothing but memory can be wanting.
+        Err(_) => Err(WireError::OutOfMemory),
+    }
 }
 
 /// A response with these answers and no question.
@@ -37,104 +41,85 @@ fn response<'a>(alloc: Heap, answer: Vec<ReplyRecord<'a>, Heap>) -> Reply<'a>
     }
 }
 
-// Header 12, and for the record an owner of one octet, 10 octets and its data.
-#[test]
-fn the_limit_of_a_datagram(rt: HostRuntime) -> Result<(), Fail> {
-    let alloc = heap(rt.alloc())?;
-    let root = Name::root(alloc);
-    for (last, fits) in [(232u8, true), (233, false)] {
-        let record = text_of(alloc, &[255, last])?;
-        let mut answer = Vec::new(alloc);
-        answer.push(ReplyRecord::new(root.lend(), 60, &record))?;
-        let reply = response(alloc, answer);
-        let written = Writer::write(alloc, &reply, 512);
-        if fits {
-            let octets = written?;
-            assert_eq!(rt; octets.len(), 512);
-            assert_eq!(rt; Message::read(&octets)?.answer_count(), 1);
-        } else {
-            assert_eq!(rt; written.err(), Some(WireError::DoesNotFit));
-            assert_eq!(rt; Writer::write(alloc, &reply, 513)?.len(), 513);
-        }
-    }
-    Ok(())
-}
-
-/// Fifteen times one record, and another.
-fn sixteen<'a>(
+/// Answers of one owner: a record so many times, and another.
+fn answers<'a>(
     alloc: Heap,
     owner: &'a Name,
     full: &'a Record,
+    times: u8,
     last: &'a Record,
-) -> Result<Vec<ReplyRecord<'a>, Heap>, Fail> {
+) -> Result<Vec<ReplyRecord<'a>, Heap>, AllocError> {
     let mut answer = Vec::new(alloc);
-    for _ in 0..15 {
+    for _ in 0..times {
         answer.push(ReplyRecord::new(owner.lend(), 60, full))?;
     }
     answer.push(ReplyRecord::new(owner.lend(), 60, last))?;
     Ok(answer)
 }
 
-// Fifteen records with data of 4,096 octets, and one with what is left of 65,535.
-#[test]
-fn the_limit_of_a_stream(rt: HostRuntime) -> Result<(), Fail> {
-    let alloc = heap(rt.alloc())?;
+/// The text of the response with so many records whose data has 4,096 octets, and one TXT with strings of these lengths.
+fn text(alloc: Heap, times: u8, lengths: &[u8], limit: u16) -> Result<Vec<u8, Heap>, WireError> {
     let root = Name::root(alloc);
     let full = text_of(alloc, &[255; 16])?;
-    let last = text_of(
-        alloc,
-        &[
-            255, 255, 255, 255, 255, 255, 255, 255, 255, 255, 255, 255, 255, 255, 255, 66,
-        ],
-    )?;
-    let reply = response(alloc, sixteen(alloc, &root, &full, &last)?);
-    let octets = Writer::write(alloc, &reply, 65535)?;
-    assert_eq!(rt; octets.len(), 65535);
-    assert_eq!(rt; Message::read(&octets)?.answer_count(), 16);
+    let last = text_of(alloc, lengths)?;
+    let answer = answers(alloc, &root, &full, times, &last)?;
+    let reply = response(alloc, answer);
+    Writer::write(alloc, &reply, usize::from(limit))
+}
+
+/// How many octets that text has, and how many answers are read from it.
+fn measured(alloc: Heap, times: u8, lengths: &[u8], limit: u16) -> Result<(usize, u16), WireError> {
+    let octets = text(alloc, times, lengths, limit)?;
+    let answers = Message::read(&octets)?.answer_count();
+    Ok((octets.len(), answers))
+}
+
+// Header 12, and for the record an owner of one octet, 10 octets and its data.
+#[test]
+fn the_limit_of_a_datagram(rt: HostRuntime) -> Result<(), Fail> {
+    let alloc = heap(rt.alloc())?;
+    let over = Err(WireError::DoesNotFit);
+    assert_eq!(rt; measured(alloc, 0, &[255, 232], 512), Ok((512, 1)));
+    assert_eq!(rt; measured(alloc, 0, &[255, 233], 512), over);
+    assert_eq!(rt; measured(alloc, 0, &[255, 233], 513), Ok((513, 1)));
     Ok(())
 }
 
-// One octet more.
+/// The same of fifteen full records, and one whose last string has this length, on a stream.
+fn sixteen(alloc: Heap, last: u8) -> Result<(usize, u16), WireError> {
+    let mut lengths = [255; 16];
+    lengths[15] = last;
+    measured(alloc, 15, &lengths, 65535)
+}
+
+// Fifteen records with data of 4,096 octets, and one with what is left of 65,535, or one octet more.
 #[test]
-fn over_the_limit_of_a_stream(rt: HostRuntime) -> Result<(), Fail> {
+fn the_limit_of_a_stream(rt: HostRuntime) -> Result<(), Fail> {
     let alloc = heap(rt.alloc())?;
-    let root = Name::root(alloc);
-    let full = text_of(alloc, &[255; 16])?;
-    let last = text_of(
-        alloc,
-        &[
-            255, 255, 255, 255, 255, 255, 255, 255, 255, 255, 255, 255, 255, 255, 255, 67,
-        ],
-    )?;
-    let reply = response(alloc, sixteen(alloc, &root, &full, &last)?);
-    assert_eq!(rt;
-        Writer::write(alloc, &reply, 65535).err(),
-        Some(WireError::DoesNotFit)
-    );
+    assert_eq!(rt; sixteen(alloc, 66), Ok((65535, 16)));
+    assert_eq!(rt; sixteen(alloc, 67), Err(WireError::DoesNotFit));
     Ok(())
+}
+
+/// Whether the text of one full record is this one.
+fn is_text(alloc: Heap, whole: &[u8]) -> Result<bool, WireError> {
+    Ok(text(alloc, 0, &[255; 16], 65535)?.as_slice() == whole)
 }
 
 // Each allocation of a text is refused in turn.
 #[test]
 fn a_text_that_is_refused_memory(rt: HostRuntime) -> Result<(), Fail> {
     let alloc = heap(rt.alloc())?;
-    let root = Name::root(alloc);
-    let record = text_of(alloc, &[255; 16])?;
-    let mut answer = Vec::new(alloc);
-    answer.push(ReplyRecord::new(root.lend(), 60, &record))?;
-    let reply = response(alloc, answer);
     alloc.refuse(0);
-    let whole = Writer::write(alloc, &reply, 65535)?;
+    let whole = text(alloc, 0, &[255; 16], 65535)?;
     let calls = alloc.calls();
-    assert!(rt; calls > 1);
+    assert!(rt; calls > 2);
     for n in 1..=calls {
         alloc.refuse(n);
-        assert_eq!(rt;
-            Writer::write(alloc, &reply, 65535).err(),
-            Some(WireError::OutOfMemory)
-        );
+        let error = is_text(alloc, &whole).err();
+        assert_eq!(rt; error, Some(WireError::OutOfMemory));
     }
     alloc.refuse(0);
-    assert!(rt; Writer::write(alloc, &reply, 65535)?.as_slice() == whole.as_slice());
+    assert_eq!(rt; is_text(alloc, &whole), Ok(true));
     Ok(())
 }
