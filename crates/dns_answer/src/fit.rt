@@ -3,7 +3,7 @@ ghost use Rattle.std.specs.Prelude.{◌≡◌, ◌==◌, ◌<◌, ◌≤◌, [],
 ghost use Rattle.std.specs.List.{list_all};
 ghost use Rattle.dns_records.specs.Types.{type_ns};
 ghost use Rattle.dns_wire.specs.Reply.{stated};
-ghost use Rattle.dns_wire.specs.Text.{text};
+ghost use Rattle.dns_wire.specs.Text.{question_octets, text};
 ghost use Rattle.dns_answer.specs.Fit.{is_referral, by_udp, by_tcp};
 ghost use Rattle.dns_answer.specs.Answer.{fitted};
 
@@ -37,13 +37,17 @@ fn text_within(
     }
 }
 
-/// The text of a reply that is known to be short: where it isn't written, memory is wanting.
+/// The text of a reply that fits any transport.
 fn short_text(alloc: Heap, reply: &Reply<'_>) -> Result<Vec<u8, Heap>, AllocError>
     requires opcode { reply.now.opcode < 16 }
     requires rcode { reply.now.rcode < 16 }
+    requires short { length (text (stated reply.now)) < 65536 }
     ensures { IfOk result (λ octets. octets.items ≡ text (stated reply.now)) }
 {
-    text_within(alloc, reply, MOST_BY_TCP)?.ok_or(AllocError)
+    match text_within(alloc, reply, MOST_BY_TCP)? {
+        Some(octets) => Ok(octets),
+        None => unreachable!(),
+    }
 }
 
 /// Whether each record is an NS.
@@ -64,6 +68,7 @@ fn is_referral(reply: &Reply<'_>) -> bool
 fn cut_down(alloc: Heap, mut reply: Reply<'_>) -> Result<Vec<u8, Heap>, AllocError>
     requires opcode { reply.opcode < 16 }
     requires rcode { reply.rcode < 16 }
+    requires question { length (question_octets (stated reply)) < 65524 }
     ensures { IfOk result (λ octets. octets.items ≡ text (record (stated reply.entry) { tc = true; answer = []; authority = []; additional = [] })) }
 {
     reply.tc = true;
@@ -77,6 +82,7 @@ fn cut_down(alloc: Heap, mut reply: Reply<'_>) -> Result<Vec<u8, Heap>, AllocErr
 fn fit_to_udp(alloc: Heap, mut reply: Reply<'_>) -> Result<Vec<u8, Heap>, AllocError>
     requires opcode { reply.opcode < 16 }
     requires rcode { reply.rcode < 16 }
+    requires question { length (question_octets (stated reply)) < 65524 }
     ensures { IfOk result (λ octets. octets.items ≡ by_udp (stated reply.entry)) }
 {
     if let Some(whole) = text_within(alloc, &reply, MOST_BY_UDP)? {
@@ -96,6 +102,7 @@ fn fit_to_udp(alloc: Heap, mut reply: Reply<'_>) -> Result<Vec<u8, Heap>, AllocE
 fn fit_to_tcp(alloc: Heap, mut reply: Reply<'_>) -> Result<Vec<u8, Heap>, AllocError>
     requires opcode { reply.opcode < 16 }
     requires rcode { reply.rcode < 16 }
+    requires question { length (question_octets (stated reply)) < 65524 }
     ensures { IfOk result (λ octets. octets.items ≡ by_tcp (stated reply.entry)) }
 {
     if let Some(whole) = text_within(alloc, &reply, MOST_BY_TCP)? {
@@ -117,6 +124,7 @@ pub(crate) fn fit(
 ) -> Result<Vec<u8, Heap>, AllocError>
     requires opcode { reply.opcode < 16 }
     requires rcode { reply.rcode < 16 }
+    requires question { length (question_octets (stated reply)) < 65524 }
     ensures { IfOk result (λ octets. octets.items ≡ fitted transport (stated reply.entry)) }
 {
     match transport {

@@ -2,6 +2,7 @@
 ghost use Rattle.std.specs.Prelude.{◌≡◌, ◌<◌, [], ◌∷◌, Some, is_none, IfOk};
 ghost use Rattle.dns_wire.specs.Message.{Question};
 ghost use Rattle.dns_wire.specs.Reply.{stated};
+ghost use Rattle.dns_wire.specs.Text.{question_octets};
 ghost use Rattle.dns_answer.specs.Answer.{with_question, looked_up, answered, fitted, Replies, handled_as, IsForReply};
 ghost use Rattle.dns_lookup.specs.Lookup.{zone_of};
 ghost use Rattle.dns_answer.specs.Added.{reply_with};
@@ -55,6 +56,7 @@ fn reply_with_question<'a>(
     rcode: u8,
 ) -> Reply<'a>
     ensures stated { (q : Question) → IsAsked message.now.octets q asked.entry → stated result ≡ with_question message.now.octets message.now.message q rcode }
+    ensures question { question_octets (stated result) ≡ asked.entry.octets.now }
     ensures opcode { result.opcode ≡ message.now.message.header.opcode }
     ensures rcode { result.rcode ≡ rcode }
 {
@@ -94,6 +96,7 @@ fn look_up<'a, I: ZoneIndex>(
     asked: Asked<'a>,
 ) -> Result<Reply<'a>, AllocError>
     ensures stated { IfOk result (λ reply. (q : Question) → IsAsked message.now.octets q asked.entry → stated reply ≡ looked_up zones.now message.now.octets message.now.message q) }
+    ensures question { IfOk result (λ reply. question_octets (stated reply) ≡ asked.entry.octets.now) }
     ensures opcode { IfOk result (λ reply. reply.opcode ≡ message.now.message.header.opcode) }
     ensures rcode { IfOk result (λ reply. reply.rcode < 16) }
 {
@@ -124,6 +127,7 @@ fn reply_to<'a, I: ZoneIndex>(
     qclass: u16,
 ) -> Result<Reply<'a>, AllocError>
     ensures stated { IfOk result (λ reply. (q : Question) → IsAsked message.now.octets q asked.entry → qclass ≡ q.qclass → stated reply ≡ answered zones.now message.now.octets message.now.message q) }
+    ensures question { IfOk result (λ reply. question_octets (stated reply) ≡ asked.entry.octets.now) }
     ensures opcode { IfOk result (λ reply. reply.opcode ≡ message.now.message.header.opcode) }
     ensures rcode { IfOk result (λ reply. reply.rcode < 16) }
 {
