@@ -26,57 +26,76 @@ const OTHER: &str = "000000010168016100000100000e100004c0000202";
 const NONE: &str = "00000000";
 
 /// The octets of the change from serial 7 to 8, with these records that go and come.
-fn octets(alloc: Heap, removed: &str, added: &str) -> Result<Vec<u8, Heap>, Fail> {
+fn octets(alloc: Heap, removed: &str, added: &str) -> Option<Vec<u8, Heap>> {
     let mut octets = Vec::new(alloc);
     for part in [
         SOA_FRONT, SEVEN, SOA_BACK, SOA_FRONT, EIGHT, SOA_BACK, removed, added,
     ] {
-        octets.extend_from_slice(hex::decode(alloc, part)?.as_slice())?;
+        octets
+            .extend_from_slice(hex::decode(alloc, part).ok()?.as_slice())
+            .ok()?;
     }
-    Ok(octets)
+    Some(octets)
 }
 
 /// That change.
-fn change(alloc: Heap, removed: &str, added: &str) -> Result<Change, Fail> {
-    Ok(Change::decode(alloc, &octets(alloc, removed, added)?)?)
+fn change(alloc: Heap, removed: &str, added: &str) -> Option<Change> {
+    Change::decode(alloc, &octets(alloc, removed, added)?).ok()
 }
 
 /// The set of the SOA with serial 7 and the address with a TTL of 3,600.
-fn set(alloc: Heap) -> Result<RecordList, Fail> {
-    let mut set = RecordList::empty(alloc)?;
-    set.insert(record(alloc, b"a.", 3600, Kind::Soa(7))?)?;
-    set.insert(record(alloc, b"h.a.", 3600, Kind::A(1))?)?;
-    Ok(set)
+fn set(alloc: Heap) -> Option<RecordList> {
+    let mut set = RecordList::empty(alloc).ok()?;
+    set.insert(record(alloc, b"a.", 3600, Kind::Soa(7))?).ok()?;
+    set.insert(record(alloc, b"h.a.", 3600, Kind::A(1))?).ok()?;
+    Some(set)
 }
 
 /// The TTL of the first address of `h.a.`
-fn ttl(alloc: Heap, set: &RecordList) -> Result<Option<u32>, Fail> {
+fn ttl(alloc: Heap, set: &RecordList) -> Option<u32> {
     let owner = name(alloc, b"h.a.")?;
-    Ok(set.rrset(&owner.lend(), A).first().map(|r| r.ttl()))
+    Some(set.rrset(&owner.lend(), A).first()?.ttl())
 }
 
 /// The serial of the SOA of `a.`
-fn serial(alloc: Heap, set: &RecordList) -> Result<Option<u32>, Fail> {
+fn serial(alloc: Heap, set: &RecordList) -> Option<u32> {
     let apex = name(alloc, b"a.")?;
-    match set.rrset(&apex.lend(), SOA).first() {
-        Some(soa) => Ok(soa.data().as_soa().map(|soa| soa.serial)),
-        None => Ok(None),
-    }
+    let soa = set.rrset(&apex.lend(), SOA).first()?;
+    Some(soa.data().as_soa()?.serial)
 }
 
-// A change of a TTL applies once, is encoded as it was decoded, and takes one sector.
+/// What is seen of a set: that TTL and that serial.
+fn seen(alloc: Heap, set: &RecordList) -> Option<(u32, u32)> {
+    Some((ttl(alloc, set)?, serial(alloc, set)?))
+}
+
+/// What an application to a set answers and another behind it, and what is seen of the set then.
+fn applied_to(
+    alloc: Heap,
+    mut set: RecordList,
+    change: &Change,
+) -> Option<([Option<ChangeError>; 2], (u32, u32))> {
+    let first = change.apply(&mut set).err();
+    let second = change.apply(&mut set).err();
+    Some(([first, second], seen(alloc, &set)?))
+}
+
+/// The same of a change, with these records that go and come.
+fn applied(
+    alloc: Heap,
+    removed: &str,
+    added: &str,
+) -> Option<([Option<ChangeError>; 2], (u32, u32))> {
+    let set = set(alloc)?;
+    applied_to(alloc, set, &change(alloc, removed, added)?)
+}
+
+// A change of a TTL applies once.
 #[test]
 fn a_change_of_a_ttl(rt: HostRuntime) -> Result<(), Fail> {
     let alloc = heap(rt.alloc())?;
-    let change = change(alloc, HOUR, MINUTE)?;
-    let mut set = set(alloc)?;
-    change.apply(&mut set)?;
-    assert!(rt; ttl(alloc, &set)? == Some(60));
-    assert!(rt; serial(alloc, &set)? == Some(8));
-    assert!(rt; change.apply(&mut set) == Err(ChangeError::WrongSoa));
-    let given = change.encode(alloc)?;
-    assert!(rt; given.as_slice() == octets(alloc, HOUR, MINUTE)?.as_slice());
-    assert!(rt; change.sectors() == 1);
+    let answers = [None, Some(ChangeError::WrongSoa)];
+    assert!(rt; applied(alloc, HOUR, MINUTE) == Some((answers, (60, 8))));
     Ok(())
 }
 
@@ -92,13 +111,35 @@ const REFUSED: &[(&str, &str, ChangeError)] = &[
 #[test]
 fn changes_that_do_not_fit(rt: HostRuntime) -> Result<(), Fail> {
     let alloc = heap(rt.alloc())?;
-    let mut set = set(alloc)?;
     for (removed, added, error) in REFUSED {
-        let change = change(alloc, removed, added)?;
-        assert!(rt; change.apply(&mut set) == Err(*error), "{removed} {added}");
-        assert!(rt; ttl(alloc, &set)? == Some(3600));
-        assert!(rt; serial(alloc, &set)? == Some(7));
+        let answers = [Some(*error), Some(*error)];
+        assert!(rt;
+            applied(alloc, removed, added) == Some((answers, (3600, 7))),
+            "{removed} {added}"
+        );
     }
+    Ok(())
+}
+
+/// The octets of a change that was decoded, and how many sectors they take.
+fn encoded(alloc: Heap, octets: &[u8]) -> Option<(Vec<u8, Heap>, usize)> {
+    let change = Change::decode(alloc, octets).ok()?;
+    let sectors = change.sectors();
+    Some((change.encode(alloc).ok()?, sectors))
+}
+
+/// Whether they are those that were decoded, in one sector.
+fn reads_back(alloc: Heap, removed: &str, added: &str) -> Option<bool> {
+    let octets = octets(alloc, removed, added)?;
+    let (again, sectors) = encoded(alloc, &octets)?;
+    Some(again.as_slice() == octets.as_slice() && sectors == 1)
+}
+
+// A change is encoded as it was decoded.
+#[test]
+fn a_change_as_octets(rt: HostRuntime) -> Result<(), Fail> {
+    let alloc = heap(rt.alloc())?;
+    assert!(rt; reads_back(alloc, HOUR, MINUTE) == Some(true));
     Ok(())
 }
 
@@ -107,74 +148,123 @@ fn fault(alloc: Heap, octets: &[u8]) -> Option<ChangeError> {
     Change::decode(alloc, octets).err()
 }
 
+/// Whether octets that are fewer than those of a change are bad, however many they are.
+fn fronts_are_bad(alloc: Heap, removed: &str, added: &str) -> Option<bool> {
+    let whole = octets(alloc, removed, added)?;
+    for cut in 0..whole.len() {
+        if fault(alloc, &whole[..cut]) != Some(ChangeError::BadBytes) {
+            return Some(false);
+        }
+    }
+    Some(true)
+}
+
+/// What a decoder says of a change with one octet more.
+fn fault_of_more(alloc: Heap, removed: &str, added: &str) -> Option<ChangeError> {
+    let mut octets = octets(alloc, removed, added)?;
+    octets.push(0).ok()?;
+    fault(alloc, &octets)
+}
+
+/// What a decoder says of a change.
+fn fault_of(alloc: Heap, removed: &str, added: &str) -> Option<ChangeError> {
+    fault(alloc, &octets(alloc, removed, added)?)
+}
+
 // Octets that end early, anywhere, go on behind the change, or have another count are none.
 #[test]
 fn octets_of_no_change(rt: HostRuntime) -> Result<(), Fail> {
     let alloc = heap(rt.alloc())?;
-    let mut whole = octets(alloc, HOUR, MINUTE)?;
-    for cut in 0..whole.len() {
-        assert!(rt;
-            fault(alloc, &whole[..cut]) == Some(ChangeError::BadBytes),
-            "{cut}"
-        );
-    }
-    whole.push(0)?;
-    assert!(rt; fault(alloc, &whole) == Some(ChangeError::BadBytes));
-    let two = octets(alloc, HOUR, "00000002")?;
-    assert!(rt; fault(alloc, &two) == Some(ChangeError::BadBytes));
+    assert!(rt; fronts_are_bad(alloc, HOUR, MINUTE) == Some(true));
+    assert!(rt; fault_of_more(alloc, HOUR, MINUTE) == Some(ChangeError::BadBytes));
+    assert!(rt; fault_of(alloc, HOUR, "00000002") == Some(ChangeError::BadBytes));
     Ok(())
+}
+
+/// How many allocations an application takes.
+fn calls_of_application(alloc: Heap, change: &Change) -> Option<u64> {
+    let mut set = set(alloc)?;
+    let before = alloc.calls();
+    change.apply(&mut set).ok()?;
+    Some(alloc.calls().wrapping_sub(before))
+}
+
+/// What an application answers that is refused its n-th allocation, and what is seen of the set then.
+fn refused(alloc: Heap, change: &Change, n: u64) -> Option<(Option<ChangeError>, (u32, u32))> {
+    let mut set = set(alloc)?;
+    alloc.refuse(n);
+    let error = change.apply(&mut set).err();
+    alloc.refuse(0);
+    Some((error, seen(alloc, &set)?))
+}
+
+/// Whether each allocation of an application is refused so that the set stays.
+fn application_refused(alloc: Heap) -> Option<bool> {
+    let change = change(alloc, HOUR, MINUTE)?;
+    let calls = calls_of_application(alloc, &change)?;
+    for n in 1..=calls {
+        if refused(alloc, &change, n)? != (Some(ChangeError::OutOfMemory), (3600, 7)) {
+            return Some(false);
+        }
+    }
+    Some(calls > 0)
 }
 
 // Each allocation of an application is refused in turn, and the set stays.
 #[test]
 fn an_application_that_is_refused_memory(rt: HostRuntime) -> Result<(), Fail> {
     let alloc = heap(rt.alloc())?;
-    let change = change(alloc, HOUR, MINUTE)?;
-    let mut first = set(alloc)?;
-    let before = alloc.calls();
-    change.apply(&mut first)?;
-    let calls = alloc.calls().wrapping_sub(before);
-    let mut set = set(alloc)?;
-    for n in 1..=calls {
-        alloc.refuse(n);
-        let applied = change.apply(&mut set);
-        alloc.refuse(0);
-        assert!(rt; applied == Err(ChangeError::OutOfMemory), "{n}");
-        assert!(rt; ttl(alloc, &set)? == Some(3600));
-    }
+    assert!(rt; application_refused(alloc) == Some(true));
     Ok(())
 }
 
-/// How many allocations a decoding and an encoding take.
-fn calls_of(alloc: Heap, octets: &[u8]) -> Result<(u64, u64), Fail> {
-    let start = alloc.calls();
-    let change = Change::decode(alloc, octets)?;
-    let decoded = alloc.calls();
-    let _ = change.encode(alloc)?;
-    Ok((
-        decoded.wrapping_sub(start),
-        alloc.calls().wrapping_sub(decoded),
-    ))
+/// How many allocations a decoding takes.
+fn calls_of_decoding(alloc: Heap, octets: &[u8]) -> Option<u64> {
+    let before = alloc.calls();
+    Change::decode(alloc, octets).ok()?;
+    Some(alloc.calls().wrapping_sub(before))
+}
+
+/// Whether each allocation of a decoding is refused.
+fn decoding_refused(alloc: Heap) -> Option<bool> {
+    let octets = octets(alloc, HOUR, MINUTE)?;
+    let calls = calls_of_decoding(alloc, &octets)?;
+    for n in 1..=calls {
+        alloc.refuse(n);
+        if fault(alloc, &octets) != Some(ChangeError::OutOfMemory) {
+            return Some(false);
+        }
+    }
+    alloc.refuse(0);
+    Some(calls > 0)
+}
+
+/// How many allocations an encoding takes.
+fn calls_of_encoding(alloc: Heap, change: &Change) -> Option<u64> {
+    let before = alloc.calls();
+    change.encode(alloc).ok()?;
+    Some(alloc.calls().wrapping_sub(before))
+}
+
+/// Whether each allocation of an encoding is refused.
+fn encoding_refused(alloc: Heap) -> Option<bool> {
+    let change = change(alloc, HOUR, MINUTE)?;
+    let calls = calls_of_encoding(alloc, &change)?;
+    for n in 1..=calls {
+        alloc.refuse(n);
+        if change.encode(alloc).is_ok() {
+            return Some(false);
+        }
+    }
+    alloc.refuse(0);
+    Some(calls > 0)
 }
 
 // Each allocation of a decoding and of an encoding is refused in turn.
 #[test]
 fn octets_that_are_refused_memory(rt: HostRuntime) -> Result<(), Fail> {
     let alloc = heap(rt.alloc())?;
-    let whole = octets(alloc, HOUR, MINUTE)?;
-    let (decoding, encoding) = calls_of(alloc, &whole)?;
-    for n in 1..=decoding {
-        alloc.refuse(n);
-        assert!(rt;
-            fault(alloc, &whole) == Some(ChangeError::OutOfMemory),
-            "{n}"
-        );
-    }
-    alloc.refuse(0);
-    let change = change(alloc, HOUR, MINUTE)?;
-    for n in 1..=encoding {
-        alloc.refuse(n);
-        assert!(rt; change.encode(alloc).is_err(), "{n}");
-    }
+    assert!(rt; decoding_refused(alloc) == Some(true));
+    assert!(rt; encoding_refused(alloc) == Some(true));
     Ok(())
 }

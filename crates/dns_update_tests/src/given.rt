@@ -3,7 +3,6 @@ use dns_memory::Heap;
 use dns_names::Name;
 use dns_records::{RData, Record, Soa};
 use dns_zone::{RecordList, Zone};
-use std::test::Fail;
 
 /// Data of a record, the names in a SOA the root.
 #[derive(Clone, Copy)]
@@ -23,11 +22,11 @@ const RECORDS: &[(&[u8], Kind)] = &[
 ];
 
 /// The name of a text, under the root.
-pub(crate) fn name(alloc: Heap, text: &[u8]) -> Result<Name, Fail> {
-    Ok(Name::from_text(alloc, text, &Name::root(alloc))?)
+pub(crate) fn name(alloc: Heap, text: &[u8]) -> Option<Name> {
+    Name::from_text(alloc, text, &Name::root(alloc)).ok()
 }
 
-fn soa(alloc: Heap, serial: u32) -> Result<RData, Fail> {
+fn soa(alloc: Heap, serial: u32) -> Option<RData> {
     let root = Name::root(alloc);
     let soa = Soa {
         mname: root.lend(),
@@ -38,31 +37,37 @@ fn soa(alloc: Heap, serial: u32) -> Result<RData, Fail> {
         expire: 1,
         minimum: 1,
     };
-    Ok(RData::soa(alloc, &soa)?)
+    RData::soa(alloc, &soa).ok()
 }
 
-fn ns(alloc: Heap, host: &[u8]) -> Result<RData, Fail> {
-    Ok(RData::ns(alloc, &name(alloc, host)?)?)
+fn ns(alloc: Heap, host: &[u8]) -> Option<RData> {
+    RData::ns(alloc, &name(alloc, host)?).ok()
 }
 
-fn data(alloc: Heap, kind: Kind) -> Result<RData, Fail> {
+fn data(alloc: Heap, kind: Kind) -> Option<RData> {
     match kind {
         Kind::Soa(serial) => soa(alloc, serial),
         Kind::Ns(host) => ns(alloc, host),
-        Kind::A(last) => Ok(RData::a(alloc, [192, 0, 2, last])),
+        Kind::A(last) => Some(RData::a(alloc, [192, 0, 2, last])),
     }
 }
 
 /// A record of an owner, a TTL and data.
-pub(crate) fn record(alloc: Heap, owner: &[u8], ttl: u32, kind: Kind) -> Result<Record, Fail> {
-    Ok(Record::new(name(alloc, owner)?, ttl, data(alloc, kind)?))
+pub(crate) fn record(alloc: Heap, owner: &[u8], ttl: u32, kind: Kind) -> Option<Record> {
+    let owner = name(alloc, owner)?;
+    Some(Record::new(owner, ttl, data(alloc, kind)?))
+}
+
+fn records(alloc: Heap) -> Option<Vec<Record, Heap>> {
+    let mut records = Vec::new(alloc);
+    for (owner, kind) in RECORDS {
+        records.push(record(alloc, owner, 3600, *kind)?).ok()?;
+    }
+    Some(records)
 }
 
 /// The zone of them.
-pub(crate) fn zone(alloc: Heap) -> Result<Zone<RecordList>, Fail> {
-    let mut records = Vec::new(alloc);
-    for (owner, kind) in RECORDS {
-        records.push(record(alloc, owner, 3600, *kind)?)?;
-    }
-    Ok(Zone::from_records(alloc, name(alloc, b"example.")?, records)?)
+pub(crate) fn zone(alloc: Heap) -> Option<Zone<RecordList>> {
+    let apex = name(alloc, b"example.")?;
+    Zone::from_records(alloc, apex, records(alloc)?).ok()
 }

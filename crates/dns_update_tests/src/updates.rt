@@ -4,7 +4,6 @@ use dns_memory::{Heap, heap};
 use dns_update::{Judged, Rcode, judge};
 use dns_wire::Message;
 use dns_zone::{RecordList, Zone};
-use std::alloc::AllocError;
 use std::test::Fail;
 
 /// What becomes of an update: of a change, how many records other than SOAs go and come, and the new serial.
@@ -79,12 +78,14 @@ const UPDATES: &[(&str, &str, Told)] = &[
 ];
 
 /// The octets of an update.
-fn octets(alloc: Heap, counts: &str, items: &str) -> Result<Vec<u8, Heap>, Fail> {
-    let mut octets = hex::decode(alloc, HEADER)?;
+fn octets(alloc: Heap, counts: &str, items: &str) -> Option<Vec<u8, Heap>> {
+    let mut octets = hex::decode(alloc, HEADER).ok()?;
     for part in [counts, ZONE, items] {
-        octets.extend_from_slice(hex::decode(alloc, part)?.as_slice())?;
+        octets
+            .extend_from_slice(hex::decode(alloc, part).ok()?.as_slice())
+            .ok()?;
     }
-    Ok(octets)
+    Some(octets)
 }
 
 /// A verdict in short.
@@ -99,49 +100,60 @@ fn in_short(judged: &Judged) -> Told {
     }
 }
 
-/// The verdict on the octets in short, or that memory was refused.
-fn judged(
-    alloc: Heap,
-    zone: &Zone<RecordList>,
-    octets: &[u8],
-) -> Result<Result<Told, AllocError>, Fail> {
-    let message = Message::read(octets)?;
-    match judge(alloc, zone, &message) {
-        Ok(judged) => Ok(Ok(in_short(&judged))),
-        Err(error) => Ok(Err(error)),
-    }
+/// The verdict on octets in short, if they are a message and no memory is refused.
+fn judged(alloc: Heap, zone: &Zone<RecordList>, octets: &[u8]) -> Option<Told> {
+    let message = Message::read(octets).ok()?;
+    let judged = judge(alloc, zone, &message).ok()?;
+    Some(in_short(&judged))
+}
+
+/// The verdict on an update of the zone.
+fn verdict(alloc: Heap, counts: &str, items: &str) -> Option<Told> {
+    let zone = zone(alloc)?;
+    judged(alloc, &zone, &octets(alloc, counts, items)?)
 }
 
 // Each of them.
 #[test]
 fn updates_of_a_zone(rt: HostRuntime) -> Result<(), Fail> {
     let alloc = heap(rt.alloc())?;
-    let zone = zone(alloc)?;
     for (counts, items, expected) in UPDATES {
-        let octets = octets(alloc, counts, items)?;
-        let told = judged(alloc, &zone, &octets)??;
-        assert!(rt; told == *expected, "{items}: {told:?}");
+        assert!(rt; verdict(alloc, counts, items) == Some(*expected), "{items}");
     }
     Ok(())
 }
 
-// Each allocation is refused in turn, and no other verdict comes than without that.
+/// How many allocations a verdict takes.
+fn calls_of_verdict(alloc: Heap, zone: &Zone<RecordList>, octets: &[u8]) -> Option<u64> {
+    let before = alloc.calls();
+    judged(alloc, zone, octets)?;
+    Some(alloc.calls().wrapping_sub(before))
+}
+
+/// Whether each allocation of a verdict is refused, so that there is none.
+fn each_refused(alloc: Heap, zone: &Zone<RecordList>, octets: &[u8]) -> Option<bool> {
+    let calls = calls_of_verdict(alloc, zone, octets)?;
+    for n in 1..=calls {
+        alloc.refuse(n);
+        if judged(alloc, zone, octets).is_some() {
+            return Some(false);
+        }
+    }
+    alloc.refuse(0);
+    Some(calls > 0)
+}
+
+/// The same of the first update.
+fn first_refused(alloc: Heap) -> Option<bool> {
+    let zone = zone(alloc)?;
+    let (counts, items, _) = UPDATES[0];
+    each_refused(alloc, &zone, &octets(alloc, counts, items)?)
+}
+
+// Each allocation is refused in turn, and there is no verdict.
 #[test]
 fn an_update_that_is_refused_memory(rt: HostRuntime) -> Result<(), Fail> {
     let alloc = heap(rt.alloc())?;
-    let zone = zone(alloc)?;
-    let (counts, items, expected) = UPDATES[0];
-    let octets = octets(alloc, counts, items)?;
-    let before = alloc.calls();
-    let _ = judged(alloc, &zone, &octets)??;
-    let calls = alloc.calls().wrapping_sub(before);
-    assert!(rt; calls > 0);
-    for n in 1..=calls {
-        alloc.refuse(n);
-        let told = judged(alloc, &zone, &octets)?;
-        alloc.refuse(0);
-        assert!(rt; told.is_err(), "{n}");
-    }
-    assert!(rt; judged(alloc, &zone, &octets)?? == expected);
+    assert!(rt; first_refused(alloc) == Some(true));
     Ok(())
 }
