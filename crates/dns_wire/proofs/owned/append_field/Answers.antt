@@ -7,7 +7,7 @@ use Rattle.dns_records.specs.declared.parts.Field.{Field}
 use Rattle.dns_wire.specs.NameAt.{FullNameAt}
 use Rattle.dns_wire.specs.Fields.{SomeField}
 use Rattle.dns_wire.proofs.Appended.{octets_appended, name_appended, target_appended, strings_appended}
-use Rattle.dns_wire.proofs.Exits.{if_ok}
+use Rattle.std.proofs.lemmas.Result.{IfOk-weaker}
 use Rattle.dns_wire.proofs.owned.append_field.Goals as goal
 
 pub returns-in_ok-extend_from_slice-in-Octets : goal.returns-in_ok-extend_from_slice-in-Octets
@@ -24,8 +24,7 @@ returns-in-Name c =
     let old = c.args.out.now.items in
     let new = c.append_name.new.out.items in
     subst (λ (f : Field). IfOk c.append_name.result (λ mid. (part : SomeField m c.args.at (stated_field f) mid c.args.stop) × (new ≡ old ++ part.plain))) (sym c.in-Name.is)
-    (if_ok c.append_name.result (λ (end : ℕ). (name : Labels) × FullNameAt m c.args.at name end × (new ≡ old ++ wire name)) (λ (end : ℕ). (part : SomeField m c.args.at Name end c.args.stop) × (new ≡ old ++ part.plain)) c.append_name.ensures
-    (λ end k. name_appended m c.args.at h.0 c.args.stop end old new h.1 k))
+    (IfOk-weaker c.append_name.result (λ (end : ℕ). (name : Labels) × FullNameAt m c.args.at name end × (new ≡ old ++ wire name)) (λ (end : ℕ). (part : SomeField m c.args.at Name end c.args.stop) × (new ≡ old ++ part.plain)) (λ end k. name_appended m c.args.at h.0 c.args.stop end old new h.1 k) c.append_name.ensures)
 
 pub returns-in-Target : goal.returns-in-Target
 returns-in-Target c =
@@ -34,8 +33,7 @@ returns-in-Target c =
     let old = c.args.out.now.items in
     let new = c.append_name-in-Target.new.out.items in
     subst (λ (f : Field). IfOk c.append_name-in-Target.result (λ mid. (part : SomeField m c.args.at (stated_field f) mid c.args.stop) × (new ≡ old ++ part.plain))) (sym c.in-Target.is)
-    (if_ok c.append_name-in-Target.result (λ (end : ℕ). (name : Labels) × FullNameAt m c.args.at name end × (new ≡ old ++ wire name)) (λ (end : ℕ). (part : SomeField m c.args.at Target end c.args.stop) × (new ≡ old ++ part.plain)) c.append_name-in-Target.ensures
-    (λ end k. target_appended m c.args.at h.0 c.args.stop end old new h.1 k))
+    (IfOk-weaker c.append_name-in-Target.result (λ (end : ℕ). (name : Labels) × FullNameAt m c.args.at name end × (new ≡ old ++ wire name)) (λ (end : ℕ). (part : SomeField m c.args.at Target end c.args.stop) × (new ≡ old ++ part.plain)) (λ end k. target_appended m c.args.at h.0 c.args.stop end old new h.1 k) c.append_name-in-Target.ensures)
 
 pub returns-in_ok-extend_from_slice-in-Strings : goal.returns-in_ok-extend_from_slice-in-Strings
 returns-in_ok-extend_from_slice-in-Strings c =
