@@ -1,1 +1,3 @@
+pub mod Ports
 pub mod Requests
+pub mod Zipped
