@@ -4,7 +4,8 @@ use Rattle.dns_update.specs.Item.{first_fault}
 use Rattle.dns_update.specs.Prerequisites.{prerequisites_fault}
 use Rattle.dns_update.specs.Prescan.{prescan_fault}
 use Rattle.dns_update.proofs.Items.{no_fault}
-use Rattle.dns_update.proofs.OneSoa.{zone_soa, zone_few, soa_stays, has_soa_at}
+use Rattle.dns_zone.proofs.OneSoa.{zone_soa, zone_few, has_soa_at}
+use Rattle.dns_update.proofs.OneSoa.{soa_stays}
 use Rattle.dns_update.proofs.Sizes.{effects_more}
 use Rattle.dns_update.proofs.verdict.judge_items.Goals as goal
 
