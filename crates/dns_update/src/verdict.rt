@@ -5,10 +5,12 @@ ghost use Rattle.std.specs.Option.{option_copied};
 ghost use Rattle.dns_records.specs.Types.{type_soa};
 ghost use Rattle.dns_zone.specs.Records.{next_after};
 ghost use Rattle.dns_zone.specs.Zone.{soas};
+ghost use Rattle.dns_changes.specs.Change.{Change as Stated};
 ghost use Rattle.dns_update.specs.Item.{HasForm, first_fault, otherwise};
 ghost use Rattle.dns_update.specs.Prerequisites.{prerequisites_fault};
 ghost use Rattle.dns_update.specs.Prescan.{prescan_fault};
 ghost use Rattle.dns_zone.specs.Soa.{HasSoa};
+ghost use Rattle.dns_update.specs.Version.{IsNext};
 ghost use Rattle.dns_update.specs.Verdict.{IsTold, IsJudged, Leaves, is_next, same_set, versioned, with_next_serial};
 
 use crate::effect::take_effects;
@@ -126,7 +128,8 @@ fn judge_items<I: ZoneIndex>(
 ) -> Result<Judged, AllocError>
     requires few { length items.now < 2 ^ 16 }
     requires form { AllByRecursion HasForm items.now }
-    ensures { IfOk result (IsJudged zone.now prerequisites.now items.now) }
+    ensures verdict { IfOk result (IsJudged zone.now prerequisites.now items.now) }
+    ensures next { IfOk result (λ judged. (change : Stated) → judged ≡ Judged.Accepted change → IsNext zone.now change) }
 {
     if let Some(rcode) = fault(zone, prerequisites, items) {
         return Ok(Judged::Refused(rcode));
@@ -142,7 +145,9 @@ pub fn judge<I: ZoneIndex>(
     zone: &Zone<I>,
     message: &Message<'_>,
 ) -> Result<Judged, AllocError>
-    ensures { IfOk result (IsJudged zone.now message.now.message.answers message.now.message.authorities) }
+    ensures verdict { IfOk result (IsJudged zone.now message.now.message.answers message.now.message.authorities) }
+    // What is accepted leads to a valid zone, whose serial is greater (RFC 1982).
+    ensures next { IfOk result (λ judged. (change : Stated) → judged ≡ Judged.Accepted change → IsNext zone.now change) }
 {
     let _reads = message.octets();
     let prerequisites = items_of(alloc, message.answers())?;
