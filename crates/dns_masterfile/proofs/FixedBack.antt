@@ -13,15 +13,16 @@ use Rattle.std.proofs.lemmas.Fmt.{digits_is_IsNumeral}
 use Rattle.std.proofs.lemmas.List.Folds.{list_any-append}
 use Rattle.std.proofs.NetLemmas.Texts.{IsDotted-ipv4_text}
 use Rattle.dns_policy.specs.Address.{has_dot}
+use Rattle.dns_policy.specs.Printed.{printed_group, further_groups, printed_groups}
 use Rattle.dns_policy.proofs.Addresses.{ipv4_read, ipv6_read}
+use Rattle.dns_policy.proofs.PrintedBack.{FitSegments, group_is, groups_are, groups_no_dot}
 use Rattle.dns_records.specs.Record.{number_of}
-use Rattle.dns_masterfile.specs.Text.{printed_group, further_groups, printed_groups}
 use Rattle.dns_masterfile.specs.Pieces.{Bare, IsWord}
 use Rattle.dns_masterfile.specs.Data.{Fixed, Number16, Number32, Ipv4, Ipv6, octets_of_text}
 use Rattle.dns_masterfile.specs.Printed.{size_of, printed_as}
 use Rattle.dns_masterfile.proofs.OnlyPieces.{IsPlain}
 use Rattle.dns_masterfile.proofs.Covered.{empty_word}
-use Rattle.dns_masterfile.proofs.Written.{IsWritten, word_append, digits_word, digit_no_dot, number_written}
+use Rattle.dns_masterfile.proofs.Written.{IsWritten, word_append, digits_word, number_written}
 use Rattle.dns_masterfile.proofs.StringsBack.{number_reads_back}
 
 abbrev pub FitOctets : List ℕ → Type 0
@@ -88,62 +89,6 @@ ipv4_as o h e =
       word = four;
       read = ipv4_read (ipv4_text o) o (IsDotted-ipv4_text o e (λ k. fits_at o k h));
     }
-
--- A group of at most four digits.
-last_digit : (k n m : ℕ) (acc : List ℕ) → length acc ≤ m → n < 16 → length (digits_onto (suc k) 16 false n acc) ≤ suc m
-last_digit k n m acc h small =
-    let none : n / 16 ≡ 0 = omega (arith, small) in
-    rw none (omega (arith, h))
-
-more_digits : (k n m : ℕ) (acc : List ℕ) → suc (length acc) ≤ m → ((acc' : List ℕ) → length acc' ≤ suc (length acc) → length (digits_onto k 16 false (n / 16) acc') ≤ m) → length (digits_onto (suc k) 16 false n acc) ≤ m
-more_digits k n m acc room h = go (n / 16 == 0)
-  where
-    glyph : ℕ
-    glyph = digit_glyph false (n % 16)
-
-    go : (b : Bool) → length (cond b (glyph ∷ acc) (digits_onto k 16 false (n / 16) (glyph ∷ acc))) ≤ m
-    go true = room
-    go false = h (glyph ∷ acc) (omega arith)
-
-group_len : (n : ℕ) → n < 2 ^ 16 → length (printed_group n) ≤ 4
-unfolding digits
-group_len n fits =
-    more_digits 63 n 4 [] (omega arith) (λ a ha.
-    more_digits 62 (n / 16) 4 a (omega (arith, ha)) (λ b hb.
-    more_digits 61 (n / 16 / 16) 4 b (omega (arith, ha, hb)) (λ c hc.
-    last_digit 60 (n / 16 / 16 / 16) 3 c (omega (arith, ha, hb, hc)) (omega (arith, fits)))))
-
-group_is : (n : ℕ) → n < 2 ^ 16 → IsGroup (printed_group n) n
-group_is n fits = (digits_is_IsNumeral 16 false (omega arith) (omega arith) n (omega (arith, fits)), group_len n fits)
-
-abbrev FitSegments : List ℕ → Type 0
-FitSegments segments = AllByRecursion (λ s. s < 2 ^ 16) segments
-
-further_are : (segments : List ℕ) → FitSegments segments → IsGroupsAfter true (codes ":") (further_groups segments) segments
-further_are [] h = refl
-further_are (s ∷ rest) h = inl (printed_group s, further_groups rest, refl, group_is s h.0, further_are rest h.1)
-
-groups_are : (segments : List ℕ) → FitSegments segments → IsGroups true (printed_groups segments) segments
-groups_are [] h = refl
-groups_are (s ∷ rest) h = inl (printed_group s, further_groups rest, refl, group_is s h.0, further_are rest h.1)
-
-digits_no_dot : (text : List ℕ) → AllDigits 16 text → has_dot text ≡ false
-digits_no_dot [] h = refl
-digits_no_dot (c ∷ cs) h = rw (digit_no_dot c h.0) (digits_no_dot cs h.1)
-
-either_false : (a b : Bool) → a ≡ false → b ≡ false → (a || b) ≡ false
-either_false a b h k = rw (h, k) refl
-
-group_no_dot : (s : ℕ) (rest : List ℕ) → s < 2 ^ 16 → has_dot rest ≡ false → has_dot (printed_group s ++ rest) ≡ false
-group_no_dot s rest fits h = list_any-append (λ octet. octet == 46) (printed_group s) rest ∙ either_false (has_dot (printed_group s)) (has_dot rest) (digits_no_dot (printed_group s) (group_is s fits).0.0.1) h
-
-further_no_dot : (segments : List ℕ) → FitSegments segments → has_dot (further_groups segments) ≡ false
-further_no_dot [] h = refl
-further_no_dot (s ∷ rest) h = group_no_dot s (further_groups rest) h.0 (further_no_dot rest h.1)
-
-groups_no_dot : (segments : List ℕ) → FitSegments segments → has_dot (printed_groups segments) ≡ false
-groups_no_dot [] h = refl
-groups_no_dot (s ∷ rest) h = group_no_dot s (further_groups rest) h.0 (further_no_dot rest h.1)
 
 group_word : (s : ℕ) → s < 2 ^ 16 → IsWord IsPlain (printed_group s)
 group_word s fits = digits_word 16 (printed_group s) (omega arith) (group_is s fits).0.0.1

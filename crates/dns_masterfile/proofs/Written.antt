@@ -186,8 +186,5 @@ pub digits_word : (radix : ℕ) (text : List ℕ) → radix ≤ 16 → AllDigits
 digits_word radix [] small h = empty_word IsPlain
 digits_word radix (c ∷ cs) small h = more_word IsPlain (c ∷ []) cs (c, inl (refl, digit_kind c (omega (arith, small, h.0)))) (digits_word radix cs small h.1)
 
-pub digit_no_dot : (c : ℕ) → digit_value c < 16 → (c == 46) ≡ false
-digit_no_dot c h = (let low = (digit_octet c h).low in grind (arith, nat_tests))
-
 pub number_written : (n : ℕ) → n < 2 ^ 64 → IsWritten (Bare (decimal n))
 number_written n h = (let d = decimal_is_IsNumeral n h in (d.0.0, digits_word 10 (decimal n) (omega arith) d.0.1))

@@ -1,10 +1,10 @@
 -- Numbers, strings and addresses in text, and how each is printed.
-use Rattle.std.specs.Prelude.{ℕ, Bool, false, ◌&&◌, ◌||◌, ◌==◌, nat_lt, List, [], ◌∷◌, ◌++◌, length, map, flat_map, option_and_then, Option, Some, None, if◌then◌else◌}
+use Rattle.std.specs.Prelude.{ℕ, Bool, ◌&&◌, ◌||◌, ◌==◌, nat_lt, List, [], ◌∷◌, ◌++◌, length, map, flat_map, option_and_then, Option, Some, None, if◌then◌else◌}
 use Rattle.std.specs.List.{list_all}
 use Rattle.std.specs.Char.{is_ascii_digit}
 use Rattle.std.specs.Str.Parse.{digits_value}
 use Rattle.std.specs.Net.Addr.{segments_of}
-use Rattle.std.specs.Fmt.{digits}
+use Rattle.dns_policy.specs.Printed.{printed_groups}
 use Rattle.dns_names.specs.Text.{letters, octet_of, escaped}
 
 -- A number: decimal digits, below a limit (RFC 1035 5.1).
@@ -33,17 +33,6 @@ printed_string_octet c = if c == 34 || c == 92 then 92 ∷ c ∷ [] else if nat_
 
 abbrev pub printed_string : List ℕ → List ℕ
 printed_string octets = 34 ∷ flat_map printed_string_octet octets ++ 34 ∷ []
-
--- A group of an IPv6 address: hexadecimal digits in lower case, without leading zeros.
-abbrev pub printed_group : ℕ → List ℕ
-printed_group segment = digits 16 false segment
-
-abbrev pub further_groups : List ℕ → List ℕ
-further_groups segments = flat_map (λ s. 58 ∷ printed_group s) segments
-
-abbrev pub printed_groups : List ℕ → List ℕ
-printed_groups [] = []
-printed_groups (segment ∷ rest) = printed_group segment ++ further_groups rest
 
 -- The octets of an IPv6 address as eight groups, none left out.
 abbrev pub printed_ipv6 : List ℕ → List ℕ

@@ -1,14 +1,15 @@
 //! Records in print.
 ghost use Rattle.std.specs.Prelude.{Some, [], ◌∷◌, decimal, map, ◌≡◌, unwrap_or};
 ghost use Rattle.std.specs.Fmt.{DisplaysOnOk};
-ghost use Rattle.dns_masterfile.specs.Text.{printed_string_octet, printed_string, further_groups, printed_groups};
+ghost use Rattle.dns_masterfile.specs.Text.{printed_string_octet, printed_string};
 ghost use Rattle.dns_masterfile.specs.Data.{word_of_type};
 ghost use Rattle.dns_masterfile.specs.Printed.{spaced, printed_data, printed_record};
 ghost use Rattle.dns_names.specs.Text.{printed_name};
 
+use dns_policy::print_address;
 use dns_records::{Mx, RData, Record, Soa, Srv, Strings, types};
 use std::fmt;
-use std::net::{Ipv4Addr, Ipv6Addr};
+use std::net::{IpAddr, Ipv4Addr, Ipv6Addr};
 
 /// An octet between quotes: `"` and `\` stand behind a `\`, and what is no visible ASCII is `\DDD`.
 #[derive(Drop)]
@@ -45,36 +46,6 @@ impl fmt::Display for Quoted<'_> {
             write!(f, "{}", QuotedOctet(*octet))?;
         }
         write!(f, "\"")
-    }
-}
-
-/// Groups of an IPv6 address, each behind a colon.
-#[derive(Drop)]
-struct FurtherGroups<'a>(&'a [u16]);
-
-impl fmt::Display for FurtherGroups<'_> {
-    ghost output = { λ g. Some (further_groups g.0.now) };
-
-    fn fmt<W: fmt::Write>(&self, f: &mut fmt::Formatter<W>) -> fmt::Result {
-        for group in self.0 {
-            write!(f, ":{:x}", *group)?;
-        }
-        Ok(())
-    }
-}
-
-/// The groups of an IPv6 address, none left out.
-#[derive(Drop)]
-struct Groups<'a>(&'a [u16]);
-
-impl fmt::Display for Groups<'_> {
-    ghost output = { λ g. Some (printed_groups g.0.now) };
-
-    fn fmt<W: fmt::Write>(&self, f: &mut fmt::Formatter<W>) -> fmt::Result {
-        match self.0 {
-            [] => Ok(()),
-            [first, rest @ ..] => write!(f, "{:x}{}", *first, FurtherGroups(rest)),
-        }
     }
 }
 
@@ -146,7 +117,7 @@ impl fmt::Display for DataWords<'_> {
             return write!(f, " {}", Ipv4Addr::from(address));
         }
         if let Some(address) = data.as_aaaa() {
-            return write!(f, " {}", Groups(&Ipv6Addr::from(address).segments()));
+            return write!(f, " {}", print_address(IpAddr::V6(Ipv6Addr::from(address))));
         }
         if let Some(mx) = data.as_mx() {
             return write!(f, "{}", MxWords(&mx));

@@ -1,4 +1,5 @@
 pub mod Addresses
 pub mod Bits
 pub mod Decimals
+pub mod PrintedBack
 mod Examples

@@ -1,3 +1,4 @@
 pub mod Address
 pub mod Family
 pub mod Prefix
+pub mod Printed

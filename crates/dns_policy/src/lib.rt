@@ -2,9 +2,11 @@
 #![tactic(auto)]
 
 mod prefix;
+mod print;
 mod text;
 
 pub use prefix::{Prefix, allows};
+pub use print::{PrintedAddress, print_address};
 pub use text::address;
 
 /// Why a text is no prefix.

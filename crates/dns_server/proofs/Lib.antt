@@ -1,1 +1,5 @@
+pub mod Ended
+pub mod Ports
 pub mod Requests
+pub mod Soas
+pub mod Zipped

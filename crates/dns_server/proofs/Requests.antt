@@ -13,7 +13,7 @@ use Rattle.dns_answer.specs.declared.Transport.TheVariants.{Udp}
 use Rattle.dns_answer.specs.Answer.{Handled, Replies, NoReply, Update, Transfer, answerable, read_as, handled_as, to_question, answered, fitted, is_request, bare_reply, rcode_formerr, rcode_notimp, opcode_update, IsForReply}
 use Rattle.dns_server.specs.Served.{for_now, served}
 
-neither : (a b : Bool) → (a || b) ≡ false → (a ≡ false) × (b ≡ false)
+pub neither : (a b : Bool) → (a || b) ≡ false → (a ≡ false) × (b ≡ false)
 neither true b e = absurd cc
 neither false b e = (refl, e)
 

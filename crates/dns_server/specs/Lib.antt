@@ -1,1 +1,3 @@
+pub mod Checks
 pub mod Served
+pub mod Settings

@@ -1,4 +1,11 @@
 //! The configuration: the zones that are held, their files, and who may change and copy them.
+ghost use Rattle.std.specs.Prelude.{◌≡◌, ◌↔◌, IsTrue, IsSome, IfSome, IfOk, map};
+ghost use Rattle.std.specs.List.{list_any};
+ghost use Rattle.std.specs.Str.{IsUtf8};
+ghost use Rattle.std.specs.String.{string_bytes};
+ghost use Rattle.toml.specs.Parse.{parse_document};
+ghost use Rattle.dns_server.specs.Settings.{AreCounts, ArePrefixes, AreSettings, IsConfiguration, IsHost, IsListener, IsPort, IsSettings, Says, are_alike};
+
 use dns_memory::Heap;
 use dns_names::{Name, NameError};
 use dns_policy::{Prefix, address};
@@ -95,35 +102,47 @@ impl From<NameError> for ConfigurationError {
 }
 
 /// A port: a decimal number from 1 to 65,535, without leading zeros.
-fn port(text: &str) -> Option<u16> {
-    let digits = text.as_bytes();
-    if digits.first() == Some(&b'0') || !digits.iter().all(|digit| digit.is_ascii_digit()) {
+fn port(text: &str) -> Option<u16>
+    ensures { IfSome result (IsPort text.now) }
+{
+    let first = *text.as_bytes().first()?;
+    if first == b'0' || first == b'+' {
         return None;
     }
     text.parse().ok()
 }
 
-/// An IPv4 address or an IPv6 address between brackets, and behind a colon a port.
-fn listener(text: &str) -> Option<SocketAddr> {
-    let (host, digits) = text.rsplit_once(':')?;
-    let port = port(digits)?;
-    let ip = match host.strip_prefix('[') {
-        Some(inner) => match address(inner.strip_suffix(']')?.as_bytes())? {
-            IpAddr::V6(ip) => IpAddr::V6(ip),
-            IpAddr::V4(_) => return None,
+/// An IPv4 address, or an IPv6 address between brackets.
+fn host(text: &[u8]) -> Option<IpAddr>
+    ensures { IfSome result (IsHost text.now) }
+{
+    match text {
+        [b'[', inner @ .., b']'] => match address(inner) {
+            Some(IpAddr::V6(ip)) => Some(IpAddr::V6(ip)),
+            _ => None,
         },
-        None => match address(host.as_bytes())? {
-            IpAddr::V4(ip) => IpAddr::V4(ip),
-            IpAddr::V6(_) => return None,
+        _ => match address(text) {
+            Some(IpAddr::V4(ip)) => Some(IpAddr::V4(ip)),
+            _ => None,
         },
-    };
-    Some(SocketAddr::new(ip, port))
+    }
+}
+
+/// An address, and behind a colon a port.
+fn listener(text: &str) -> Option<SocketAddr>
+    ensures { IfSome result (IsListener text.now) }
+{
+    let (front, digits) = text.rsplit_once(':')?;
+    let ip = host(front.as_bytes())?;
+    Some(SocketAddr::new(ip, port(digits)?))
 }
 
 /// The prefixes that are written.
-fn prefixes(alloc: Global, texts: &[String]) -> Result<Vec<Prefix>, ConfigurationError> {
+fn prefixes(alloc: Global, texts: &[String]) -> Result<Vec<Prefix>, ConfigurationError>
+    ensures { IfOk result (λ ps. ArePrefixes (map string_bytes texts.now) ps.items) }
+{
     let mut prefixes = Vec::new(alloc);
-    for text in texts {
+    'texts: for text in texts {
         match Prefix::parse(text.as_bytes()) {
             Ok(prefix) => prefixes.push(prefix)?,
             Err(_) => return Err(ConfigurationError::BadConfig),
@@ -133,7 +152,9 @@ fn prefixes(alloc: Global, texts: &[String]) -> Result<Vec<Prefix>, Configuratio
 }
 
 /// Whether the counts of a zone are within their bounds.
-fn has_counts(zone: &WrittenZone) -> bool {
+fn has_counts(zone: &WrittenZone) -> bool
+    ensures { IsTrue result ↔ AreCounts zone.now.snapshot_sectors zone.now.journal_sectors zone.now.keep }
+{
     (1..=MOST).contains(&zone.snapshot_sectors)
         && (8..=MOST).contains(&zone.journal_sectors)
         && zone.keep <= MOST
@@ -144,7 +165,9 @@ fn settings(
     alloc: Global,
     heap: Heap,
     zone: WrittenZone,
-) -> Result<ZoneSettings, ConfigurationError> {
+) -> Result<ZoneSettings, ConfigurationError>
+    ensures { IfOk result (IsSettings zone) }
+{
     if !has_counts(&zone) {
         return Err(ConfigurationError::BadConfig);
     }
@@ -160,32 +183,69 @@ fn settings(
     })
 }
 
+/// Whether two zones have one apex or one device.
+fn are_alike(zone: &ZoneSettings, other: &ZoneSettings) -> bool
+    ensures { result ≡ are_alike zone.now other.now }
+{
+    zone.origin == other.origin || zone.device == other.device
+}
+
 /// Whether a zone has the apex or the device of one before it.
-fn is_double(zones: &[ZoneSettings], zone: &ZoneSettings) -> bool {
-    zones.iter().any(|other| other.origin == zone.origin || other.device == zone.device)
+fn is_double(zones: &[ZoneSettings], zone: &ZoneSettings) -> bool
+    ensures { result ≡ list_any (λ z. are_alike z zone.now) zones.now }
+{
+    zones.iter().any(|other| are_alike(other, zone))
+}
+
+/// The settings of zones that are written: at most 16, no two with one apex or one device.
+fn all_settings(
+    alloc: Global,
+    heap: Heap,
+    written: Vec<WrittenZone>,
+) -> Result<Vec<ZoneSettings>, ConfigurationError>
+    ensures { IfOk result (λ zones. AreSettings written.items zones.items) }
+{
+    let mut zones = Vec::new(alloc);
+    'zones: for zone in written {
+        let zone = settings(alloc, heap, zone)?;
+        if zones.len() == MOST_ZONES || is_double(&zones, &zone) {
+            return Err(ConfigurationError::BadConfig);
+        }
+        zones.push(zone)?;
+    }
+    Ok(zones)
+}
+
+/// The configuration that is written.
+fn configuration_of(
+    alloc: Global,
+    heap: Heap,
+    written: Written,
+) -> Result<Configuration, ConfigurationError>
+    ensures { IfOk result (Says written) }
+{
+    let Some(listen) = listener(&written.listen) else {
+        return Err(ConfigurationError::BadConfig);
+    };
+    let zones = all_settings(alloc, heap, written.zone)?;
+    Ok(Configuration { listen, zones })
 }
 
 impl Configuration {
-    /// Reads a configuration in TOML.
+    /// Reads a configuration in TOML: its keys are those of `Configuration` and of its zones, `listen` with the address, a colon and the
+    /// port as one text. `BadConfig` comes for every other text.
     pub fn read(
         alloc: Global,
         heap: Heap,
         octets: &[u8],
-    ) -> Result<Configuration, ConfigurationError> {
-        let written: Written = match toml::from_slice(alloc, octets) {
-            Ok(written) => written,
-            Err(error) if error.is_memory() => return Err(ConfigurationError::OutOfMemory),
-            Err(_) => return Err(ConfigurationError::BadConfig),
-        };
-        let listen = listener(&written.listen).ok_or(ConfigurationError::BadConfig)?;
-        let mut zones = Vec::new(alloc);
-        for zone in written.zone {
-            let zone = settings(alloc, heap, zone)?;
-            if zones.len() == MOST_ZONES || is_double(&zones, &zone) {
-                return Err(ConfigurationError::BadConfig);
-            }
-            zones.push(zone)?;
+    ) -> Result<Configuration, ConfigurationError>
+        ensures text { IfOk result (λ _. IsUtf8 octets.now × IsSome (parse_document octets.now)) }
+        ensures valid { IfOk result IsConfiguration }
+    {
+        match toml::from_slice(alloc, octets) {
+            Ok(written) => configuration_of(alloc, heap, written),
+            Err(error) if error.is_memory() => Err(ConfigurationError::OutOfMemory),
+            Err(_) => Err(ConfigurationError::BadConfig),
         }
-        Ok(Configuration { listen, zones })
     }
 }

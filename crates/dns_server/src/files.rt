@@ -1,9 +1,19 @@
 //! Files that a run is given, and the faults that are told of them.
+ghost use Rattle.std.specs.Prelude.{◌≡◌, ◌⊎◌, true, List, [], length, Some, Ok, Err, IfOk, IfErr, OnOk, MatchResult};
+ghost use Rattle.std.specs.Bool.{MatchBool};
+ghost use Rattle.std.specs.Option.{option_copied};
+ghost use Rattle.std.specs.Io.KnownBytes.{Appends, Keeps};
+ghost use Rattle.dns_names.specs.Text.{name_of_text};
+ghost use Rattle.dns_names.specs.declared.NameError.{NameError as StatedError};
+ghost use Rattle.dns_records.specs.Record.{Record};
+ghost use Rattle.dns_zone.specs.Made.{IsSetOf};
+ghost use Rattle.dns_server.specs.Checks.{CheckEnds, entry_word, is_memory, line, loaded, ok_text, told, zone_word};
+
 use dns_masterfile::{FileError, read_zone};
 use dns_memory::Heap;
 use dns_names::{Name, NameError};
-use dns_records::types;
 use dns_zone::{RecordList, Zone, ZoneError, ZoneIndex};
+use std::fmt;
 use std::io::{self, Write};
 
 /// Exit statuses: all was done; a file, a line or a word was refused; the words are wrong; a writer failed, or memory was refused.
@@ -37,24 +47,88 @@ pub(crate) enum Fault {
     NoZone(ZoneError),
 }
 
-/// Tells in one line what is wrong with the file or the word, and gives the exit status. Of refused memory nothing is told.
-pub(crate) fn tell<E: Write>(err: &mut E, what: &str, fault: Fault) -> io::Result<u8> {
-    match fault {
-        Fault::OutOfMemory => return Ok(FAILED),
-        Fault::Unreadable => writeln!(err, "{what}: Unreadable")?,
-        Fault::BadConfig => writeln!(err, "{what}: BadConfig")?,
-        Fault::BadOrigin => writeln!(err, "{what}: BadOrigin")?,
-        Fault::Syntax(line) => writeln!(err, "{what}:{line}: Syntax")?,
-        Fault::Entry(_, FileError::OutOfMemory) => return Ok(FAILED),
-        Fault::Entry(line, error) => writeln!(err, "{what}:{line}: {error:?}")?,
-        Fault::NoZone(ZoneError::OutOfMemory) => return Ok(FAILED),
-        Fault::NoZone(error) => writeln!(err, "{what}: {error:?}")?,
+/// The name of a refusal of an entry.
+fn entry_word(error: FileError) -> &'static str
+    ensures { result.now ≡ entry_word error }
+{
+    match error {
+        FileError::OutOfMemory => "OutOfMemory",
+        FileError::Syntax => "Syntax",
+        FileError::BadName => "BadName",
+        FileError::BadNumber => "BadNumber",
+        FileError::BadData => "BadData",
+        FileError::NoTtl => "NoTtl",
+        FileError::NoOwner => "NoOwner",
+        FileError::UnknownType => "UnknownType",
+        FileError::TooLong => "TooLong",
     }
+}
+
+/// The name of a refusal of a zone.
+fn zone_word(error: ZoneError) -> &'static str
+    ensures { result.now ≡ zone_word error }
+{
+    match error {
+        ZoneError::OutOfMemory => "OutOfMemory",
+        ZoneError::NoSoa => "NoSoa",
+        ZoneError::ManySoa => "ManySoa",
+        ZoneError::NoNs => "NoNs",
+        ZoneError::OutOfZone => "OutOfZone",
+        ZoneError::Duplicate => "Duplicate",
+        ZoneError::CnameAndOther => "CnameAndOther",
+        ZoneError::WildcardNs => "WildcardNs",
+        ZoneError::TooMany => "TooMany",
+    }
+}
+
+/// Whether memory was refused.
+fn is_memory(fault: Fault) -> bool
+    ensures { result ≡ is_memory fault }
+{
+    match fault {
+        Fault::OutOfMemory => true,
+        Fault::Entry(_, error) => error == FileError::OutOfMemory,
+        Fault::NoZone(error) => error == ZoneError::OutOfMemory,
+        _ => false,
+    }
+}
+
+/// What is wrong with a file or a word, behind its path or its text.
+#[derive(Drop)]
+struct Told<'a>(&'a str, Fault);
+
+impl fmt::Display for Told<'_> {
+    ghost output = { λ t. Some (told t.0.now t.1) };
+
+    fn fmt<W: fmt::Write>(&self, f: &mut fmt::Formatter<W>) -> fmt::Result {
+        let what = self.0;
+        match self.1 {
+            Fault::OutOfMemory => write!(f, "{what}: OutOfMemory"),
+            Fault::Unreadable => write!(f, "{what}: Unreadable"),
+            Fault::BadConfig => write!(f, "{what}: BadConfig"),
+            Fault::BadOrigin => write!(f, "{what}: BadOrigin"),
+            Fault::Syntax(line) => write!(f, "{what}:{line}: Syntax"),
+            Fault::Entry(line, error) => write!(f, "{what}:{line}: {}", entry_word(error)),
+            Fault::NoZone(error) => write!(f, "{what}: {}", zone_word(error)),
+        }
+    }
+}
+
+/// Tells in one line what is wrong with the file or the word, and gives the exit status. Of refused memory nothing is told.
+pub(crate) fn tell<E: Write>(err: &mut E, what: &str, fault: Fault) -> io::Result<u8>
+    ensures { IfOk result (λ status. MatchBool (is_memory fault) (status ≡ FAILED) ((status ≡ REFUSED) × Appends (E.contents err.old) (E.contents err.new) (line (told what.now fault)))) }
+{
+    if is_memory(fault) {
+        return Ok(FAILED);
+    }
+    writeln!(err, "{}", Told(what, fault))?;
     Ok(REFUSED)
 }
 
 /// The name that a text is, under the root.
-pub(crate) fn apex(alloc: Heap, text: &str) -> Result<Name, Fault> {
+pub(crate) fn apex(alloc: Heap, text: &str) -> Result<Name, Fault>
+    ensures { MatchResult result (λ name. name_of_text [] text.now ≡ Ok name) (λ f. (f ≡ Fault.OutOfMemory) ⊎ ((f ≡ Fault.BadOrigin) × ((e : StatedError) × (name_of_text [] text.now ≡ Err e)))) }
+{
     match Name::from_text(alloc, text.as_bytes(), &Name::root(alloc)) {
         Ok(name) => Ok(name),
         Err(NameError::OutOfMemory) => Err(Fault::OutOfMemory),
@@ -67,7 +141,10 @@ pub(crate) fn load(
     alloc: Heap,
     octets: Option<&[u8]>,
     apex: Name,
-) -> Result<(Zone<RecordList>, usize), Fault> {
+) -> Result<(Zone<RecordList>, usize), Fault>
+    ensures found { IfOk result (λ z. (records : List Record) × (loaded (option_copied octets.entry) apex ≡ Ok records) × (z.1 ≡ length records) × IsSetOf records z.0.records) }
+    ensures refused { IfErr result (λ f. (is_memory f ≡ true) ⊎ (loaded (option_copied octets.entry) apex ≡ Err f)) }
+{
     let Some(octets) = octets else {
         return Err(Fault::Unreadable);
     };
@@ -82,10 +159,11 @@ pub(crate) fn load(
     }
 }
 
-/// The serial of a zone.
-fn serial<I: ZoneIndex>(zone: &Zone<I>) -> Option<u32> {
-    let soas = zone.index().rrset(&zone.apex().lend(), types::SOA);
-    Some(soas.first()?.data().as_soa()?.serial)
+/// Prints how many records a zone has, and its serial.
+fn print_good<W: Write>(out: &mut W, count: usize, serial: u32) -> io::Result<()>
+    ensures { OnOk result (Appends (W.contents out.old) (W.contents out.new) (line (ok_text count serial))) }
+{
+    writeln!(out, "ok {count} records serial {serial}")
 }
 
 /// Reads a master file, prints what is in it or what is wrong, and gives the exit status.
@@ -95,15 +173,16 @@ fn checked<W: Write, E: Write>(
     origin: &str,
     out: &mut W,
     err: &mut E,
-) -> io::Result<u8> {
+) -> io::Result<u8>
+    ensures { IfOk result (λ status. CheckEnds (option_copied file.now.octets) file.now.path.now origin.now (W.contents out.old) (W.contents out.new) (E.contents err.old) (E.contents err.new) status) }
+{
     let apex = match apex(alloc, origin) {
         Ok(apex) => apex,
         Err(fault) => return tell(err, origin, fault),
     };
     match load(alloc, file.octets, apex) {
         Ok((zone, count)) => {
-            let serial = serial(&zone).unwrap_or(0);
-            writeln!(out, "ok {count} records serial {serial}")?;
+            print_good(out, count, zone.soa().serial())?;
             Ok(DONE)
         }
         Err(fault) => tell(err, file.path, fault),
@@ -119,6 +198,8 @@ pub fn check<W: Write, E: Write>(
     origin: &str,
     out: &mut W,
     err: &mut E,
-) -> u8 {
+) -> u8
+    ensures { CheckEnds (option_copied file.now.octets) file.now.path.now origin.now (W.contents out.old) (W.contents out.new) (E.contents err.old) (E.contents err.new) result }
+{
     checked(alloc, file, origin, out, err).unwrap_or(FAILED)
 }

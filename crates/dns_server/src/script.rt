@@ -1,17 +1,18 @@
 //! Scripts of events: one command a line.
 use crate::answer_datagram;
 use dns_memory::Heap;
+use dns_policy::{address, print_address};
 use dns_zone::{Zone, ZoneIndex};
 use std::alloc::AllocError;
 use std::io::Write;
-use std::net::Ipv4Addr;
+use std::net::IpAddr;
 
 /// One line of a script.
 enum Command<'a> {
     /// A blank line or a comment.
     Nothing,
     /// A datagram from an address, its octets in hexadecimal.
-    Datagram(Ipv4Addr, &'a str),
+    Datagram(IpAddr, &'a str),
 }
 
 /// How a run ends.
@@ -39,7 +40,7 @@ fn read_command(line: &str) -> Option<Command<'_>> {
     if verb != "udp" {
         return None;
     }
-    let address = words.next()?.parse::<Ipv4Addr>().ok()?;
+    let address = address(words.next()?.as_bytes())?;
     let octets = words.next()?;
     if words.next().is_some() {
         return None;
@@ -78,7 +79,7 @@ fn run_line<I: ZoneIndex, W: Write>(
     };
     match answer_datagram(alloc, zones, &octets) {
         Ok(Some(reply)) => match hex::encode(alloc, reply.as_slice()) {
-            Ok(reply) => match writeln!(out, "udp {address} {reply}") {
+            Ok(reply) => match writeln!(out, "udp {} {reply}", print_address(address)) {
                 Ok(()) => Ok(true),
                 Err(_) => Err(Ending::Failed),
             },

@@ -1,8 +1,10 @@
 //! Master files that are checked, and scripts over the zones of a configuration.
-use crate::runs::{EXAMPLE, EXAMPLE_ZONE, RUNS};
+use crate::given::Full;
+use crate::runs::{EXAMPLE, EXAMPLE_ZONE, RUNS, TWO_ZONES, ZONE_P, ZONE_Q};
 use dns_memory::{Heap, heap};
-use dns_server::{DONE, File, REFUSED, check, replay};
+use dns_server::{DONE, FAILED, File, REFUSED, check, replay};
 use std::alloc::Global;
+use std::io;
 use std::test::Fail;
 
 /// What a run printed, what it told of a fault, and its exit status.
@@ -49,6 +51,14 @@ fn replayed(
         told,
         status,
     })
+}
+
+/// A file that can't be read, or has a text.
+fn file_or_none<'a>(path: &'a str, text: Option<&'a str>) -> File<'a> {
+    match text {
+        Some(text) => file(path, text),
+        None => File { path, octets: None },
+    }
 }
 
 // Each run over files prints its octets and ends with status 0.
@@ -139,6 +149,139 @@ fn checks_of_files(rt: HostRuntime) -> Result<(), Fail> {
         assert!(rt; out.as_slice() == printed.as_bytes(), "{origin}");
         assert!(rt; err.as_slice() == fault.as_bytes(), "{fault}");
         assert_eq!(rt; status, if fault.is_empty() { DONE } else { REFUSED });
+    }
+    Ok(())
+}
+
+/// A configuration of two zones, their master files and a script, each of which may be unreadable, and the one fault that is told.
+type Faulty = (
+    Option<&'static str>,
+    [Option<&'static str>; 2],
+    Option<&'static str>,
+    &'static str,
+);
+
+/// A script whose first line is none, and a master file whose second is none.
+const BAD_SCRIPT: Option<&str> = Some("bad");
+
+const BAD_ZONE: Option<&str> = Some("\n A 192.0.2.1\n");
+
+/// The faults in their order: of the configuration, the master files, the script, its lines.
+const FAULTS: &[Faulty] = &[
+    (None, [None, None], None, "c: Unreadable\n"),
+    (Some(""), [None, None], None, "c: BadConfig\n"),
+    (Some(TWO_ZONES), [None, None], None, "p.zone: Unreadable\n"),
+    (
+        Some(TWO_ZONES),
+        [BAD_ZONE, None],
+        BAD_SCRIPT,
+        "p.zone:2: NoOwner\n",
+    ),
+    (
+        Some(TWO_ZONES),
+        [Some(ZONE_Q), BAD_ZONE],
+        None,
+        "p.zone: NoSoa\n",
+    ),
+    (
+        Some(TWO_ZONES),
+        [Some(ZONE_P), None],
+        None,
+        "q.zone: Unreadable\n",
+    ),
+    (
+        Some(TWO_ZONES),
+        [Some(ZONE_P), BAD_ZONE],
+        BAD_SCRIPT,
+        "q.zone:2: NoOwner\n",
+    ),
+    (
+        Some(TWO_ZONES),
+        [Some(ZONE_P), Some("")],
+        BAD_SCRIPT,
+        "q.zone: NoSoa\n",
+    ),
+    (
+        Some(TWO_ZONES),
+        [Some(ZONE_P), Some(ZONE_Q)],
+        None,
+        "s: Unreadable\n",
+    ),
+    (
+        Some(TWO_ZONES),
+        [Some(ZONE_P), Some(ZONE_Q)],
+        BAD_SCRIPT,
+        "s:1: Syntax\n",
+    ),
+];
+
+/// Whether a run tells this one fault, and ends with status 1.
+fn tells(alloc: Global, heap: Heap, given: &Faulty) -> bool {
+    let mut told: Vec<u8> = Vec::new(alloc);
+    let (config, [p, q], script, fault) = *given;
+    let files = [file_or_none("q.zone", q), file_or_none("p.zone", p)];
+    let (config, script) = (file_or_none("c", config), file_or_none("s", script));
+    let mut out = io::sink();
+    let status = replay(alloc, heap, &config, &files, &script, &mut out, &mut told);
+    told.as_slice() == fault.as_bytes() && status == REFUSED
+}
+
+// The first fault is told and no other.
+#[test]
+fn faults_in_their_order(rt: HostRuntime) -> Result<(), Fail> {
+    let heap = heap(rt.alloc())?;
+    for given in FAULTS {
+        assert!(rt; tells(rt.alloc(), heap, given), "{}", given.3);
+    }
+    Ok(())
+}
+
+/// The exit status of a run whose writers fail behind so many octets.
+fn run_into(alloc: Global, heap: Heap, script: &str, out: usize, err: usize) -> u8 {
+    let (mut out, mut err) = (Full::after(out), Full::after(err));
+    let (config, script) = (file("c", EXAMPLE), file("s", script));
+    let files = [file("example.zone", EXAMPLE_ZONE)];
+    replay(alloc, heap, &config, &files, &script, &mut out, &mut err)
+}
+
+// A run whose printing fails at any octet ends with status 3, and so does one whose fault can't be told.
+#[test]
+fn runs_into_writers_that_fail(rt: HostRuntime) -> Result<(), Fail> {
+    let (alloc, heap) = (rt.alloc(), heap(rt.alloc())?);
+    for left in 0..40 {
+        let status = run_into(
+            alloc,
+            heap,
+            "udp 127.0.0.1 123400000000000000000000",
+            left,
+            0,
+        );
+        assert_eq!(rt; status, if left < 39 { FAILED } else { DONE }, "{left}");
+    }
+    for left in 0..13 {
+        let status = run_into(alloc, heap, "bad", 0, left);
+        assert_eq!(rt; status, if left < 12 { FAILED } else { REFUSED }, "{left}");
+    }
+    Ok(())
+}
+
+/// The exit status of `check` of a file whose writers fail behind so many octets.
+fn check_into(heap: Heap, text: &str, out: usize, err: usize) -> u8 {
+    let (mut out, mut err) = (Full::after(out), Full::after(err));
+    check(heap, &file("f", text), "example.", &mut out, &mut err)
+}
+
+// So does a check.
+#[test]
+fn checks_into_writers_that_fail(rt: HostRuntime) -> Result<(), Fail> {
+    let heap = heap(rt.alloc())?;
+    for left in 0..24 {
+        let status = check_into(heap, EXAMPLE_ZONE, left, 0);
+        assert_eq!(rt; status, if left < 23 { FAILED } else { DONE }, "{left}");
+    }
+    for left in 0..10 {
+        let status = check_into(heap, "", 0, left);
+        assert_eq!(rt; status, if left < 9 { FAILED } else { REFUSED }, "{left}");
     }
     Ok(())
 }

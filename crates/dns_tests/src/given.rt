@@ -1,8 +1,9 @@
-//! Zones for tests.
+//! Zones and a writer for tests.
 use dns_memory::Heap;
 use dns_names::Name;
 use dns_records::{RData, Record, types};
 use dns_zone::{RecordList, Zone, ZoneIndex};
+use std::io;
 use std::test::Fail;
 
 /// The owners, types and data of the zone of RFC 4592 section 2.2.1, the data in hexadecimal.
@@ -107,4 +108,32 @@ pub(crate) fn example(heap: Heap) -> Result<RecordList, Fail> {
 /// A zone of four records.
 pub(crate) fn small(heap: Heap) -> Result<Zone<RecordList>, Fail> {
     zone(heap, "example.", records(heap, SMALL)?)
+}
+
+/// A writer that takes so many octets and then fails.
+#[derive(Drop)]
+pub(crate) struct Full {
+    left: usize,
+}
+
+impl Full {
+    /// A writer that takes so many octets.
+    pub(crate) fn after(left: usize) -> Full {
+        Full { left }
+    }
+}
+
+impl io::Write for Full {
+    fn write(&mut self, buf: &[u8]) -> io::Result<usize> {
+        if self.left == 0 {
+            return Err(io::Error::from(io::ErrorKind::StorageFull));
+        }
+        let taken = buf.len().min(self.left);
+        self.left -= taken;
+        Ok(taken)
+    }
+
+    fn flush(&mut self) -> io::Result<()> {
+        Ok(())
+    }
 }

@@ -142,6 +142,49 @@ t.example. 3600 IN TXT \"aaaaaaaaaaaaaaaaaaaaaaaaaaaaaaaaaaaaaaaaaaaaaaaaaaaaaaa
 /// Questions, each over the zones of the files.
 pub(crate) const RUNS: &[Run] = &[
     Run {
+        name: "host1-a",
+        config: EXAMPLE,
+        files: &[("example.zone", EXAMPLE_ZONE)],
+        script: "\
+# the first exchange\n\
+udp 127.0.0.1 12340000000100000000000005686f737431076578616d706c650000010001\n\
+",
+        printed: "\
+udp 127.0.0.1 12348400000100010000000005686f737431076578616d706c650000010001c00c0001000100000e100004c0000201\n\
+",
+    },
+    Run {
+        name: "refused-octets",
+        config: EXAMPLE,
+        files: &[("example.zone", EXAMPLE_ZONE)],
+        script: "\
+\n\
+# eleven octets, a pointer to itself, one octet left over\n\
+udp 127.0.0.1 0000000000000000000000\n\
+udp 127.0.0.1 000a00000001000000000000c00c00010001\n\
+udp 127.0.0.1 12340000000100000000000005686f737431076578616d706c65000001000100\n\
+",
+        printed: "\
+udp 127.0.0.1 000a80010000000000000000\n\
+udp 127.0.0.1 123480010000000000000000\n\
+",
+    },
+    Run {
+        name: "addresses-of-either-family",
+        config: EXAMPLE,
+        files: &[("example.zone", EXAMPLE_ZONE)],
+        script: "\
+udp ::1 123400000000000000000000\n\
+udp 2001:DB8::35 123400000000000000000000\n\
+udp 192.0.2.1 123400000000000000000000\n\
+",
+        printed: "\
+udp 0:0:0:0:0:0:0:1 123480010000000000000000\n\
+udp 2001:db8:0:0:0:0:0:35 123480010000000000000000\n\
+udp 192.0.2.1 123480010000000000000000\n\
+",
+    },
+    Run {
         name: "alias-into-another-zone",
         config: TWO_ZONES,
         files: &[("p.zone", ZONE_P), ("q.zone", ZONE_Q)],

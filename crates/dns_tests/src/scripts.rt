@@ -1,28 +1,7 @@
-use crate::given::small;
-use dns_memory::heap;
+use crate::given::{Full, small};
+use dns_memory::{Heap, heap};
 use dns_server::{Ending, run_script};
-use std::io;
 use std::test::Fail;
-
-/// A writer that takes so many octets and then fails.
-#[derive(Drop)]
-struct Full {
-    left: usize,
-}
-
-impl io::Write for Full {
-    fn write(&mut self, buf: &[u8]) -> io::Result<usize> {
-        if self.left < buf.len() {
-            return Err(io::Error::from(io::ErrorKind::StorageFull));
-        }
-        self.left -= buf.len();
-        Ok(buf.len())
-    }
-
-    fn flush(&mut self) -> io::Result<()> {
-        Ok(())
-    }
-}
 
 // Each kind of line, and the lines that are none.
 #[test]
@@ -35,7 +14,11 @@ fn lines_of_scripts(rt: HostRuntime) -> Result<(), Fail> {
         ("# a comment\r\n\r\n \t\n", Ending::Done),
         ("udp 127.0.0.1 00\n", Ending::Done),
         ("udp\t127.0.0.1  00", Ending::Done),
+        ("udp ::1 00\nudp 2001:DB8::35 00\n", Ending::Done),
         ("\nudp 127.0.0.1\n", Ending::Syntax(2)),
+        ("udp ::127.0.0.1 00\n", Ending::Syntax(1)),
+        ("udp [::1] 00\n", Ending::Syntax(1)),
+        ("udp localhost 00\n", Ending::Syntax(1)),
         ("udp 127.0.0.01 00\n", Ending::Syntax(1)),
         ("udp 127.0.0.1 000\n", Ending::Syntax(1)),
         ("udp 127.0.0.1 0g\n", Ending::Syntax(1)),
@@ -64,7 +47,30 @@ fn effects_of_scripts(rt: HostRuntime) -> Result<(), Fail> {
     assert!(rt; ending == Ending::Syntax(3));
     let want = b"udp 10.0.0.7 123480010000000000000000\nudp 10.0.0.7 123490040000000000000000\n";
     assert!(rt; out.as_slice() == want.as_slice());
-    let mut full = Full { left: 50 };
+    let mut full = Full::after(50);
     assert!(rt; run_script(heap, &zones, script, &mut full) == Ending::Failed);
+    Ok(())
+}
+
+/// How a script of one line ends that has so many octets in hexadecimal.
+fn ending_of_zeros(heap: Heap, count: usize, out: &mut Vec<u8>) -> Result<Ending, Fail> {
+    let zone = small(heap)?;
+    let mut script = Vec::new(heap);
+    script.extend_from_slice(b"udp 127.0.0.1 ")?;
+    for _ in 0..count {
+        script.extend_from_slice(b"00")?;
+    }
+    Ok(run_script(heap, &[zone], &script, out))
+}
+
+// A line has at most 65,535 octets.
+#[test]
+fn the_longest_line(rt: HostRuntime) -> Result<(), Fail> {
+    let heap = heap(rt.alloc())?;
+    let mut out: Vec<u8> = Vec::new(rt.alloc());
+    assert!(rt; ending_of_zeros(heap, 65536, &mut out)? == Ending::Syntax(1));
+    assert!(rt; out.is_empty());
+    assert!(rt; ending_of_zeros(heap, 65535, &mut out)? == Ending::Done);
+    assert!(rt; out.as_slice() == b"udp 127.0.0.1 000080010000000000000000\n".as_slice());
     Ok(())
 }

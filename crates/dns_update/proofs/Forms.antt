@@ -8,6 +8,7 @@ use Rattle.dns_names.specs.Name.{Labels, under}
 use Rattle.dns_records.specs.Types.{Field, Octets, Name, Target, Strings, form, is_known, type_ns, type_any, class_in}
 use Rattle.dns_records.specs.Record.{IsField, AreFields, IsRData}
 use Rattle.dns_zone.specs.Order.{number_itself}
+use Rattle.dns_zone.proofs.OneSoa.{past, untrue}
 use Rattle.dns_zone.specs.Zone.{is_wildcard}
 use Rattle.dns_wire.specs.Message.{Item, Message}
 use Rattle.dns_wire.specs.Reads.{FieldAt, FieldsAt, RDataAt, ItemAt, ItemsAt, Reads}
@@ -47,10 +48,6 @@ pub updates_formed : (octets : List ℕ) (m : Message) → Reads octets m → Al
 updates_formed octets m h = let reads : Reads octets m = h in items_formed octets reads.second m.authorities reads.third reads.authorities
 
 -- ---- what is to be added
-past : (b : Bool) (x : Rcode) (rest : Option Rcode) → (if b then Some x else rest) ≡ None → (b ≡ false) × (rest ≡ None)
-past true x rest e = absurd cc
-past false x rest e = (refl, e)
-
 chosen : (b : Bool) (x y : Option Rcode) → b ≡ true → (if b then x else y) ≡ None → x ≡ None
 chosen true x y e f = f
 chosen false x y e f = absurd cc
@@ -59,10 +56,6 @@ neither : (a b : Bool) → (a || b) ≡ false → (a ≡ false) × (b ≡ false)
 neither true b e = absurd cc
 neither false b e = (refl, e)
 
-untrue : (b : Bool) → not b ≡ false → b ≡ true
-untrue true e = refl
-untrue false e = absurd cc
-
 filled : (a b : Bool) → a ≡ true → (a && b) ≡ false → b ≡ false
 filled true b e f = f
 filled false b e f = absurd cc
@@ -70,19 +63,22 @@ filled false b e f = absurd cc
 within : (n : ℕ) → nat_lt 4096 n ≡ false → n ≤ 4096
 within n e = grind (arith, nat_tests)
 
-pub record IsFit (i : Item) : Type 0 where
+pub record IsFit (apex : Labels) (i : Item) : Type 0 where
   pub known : is_known i.rtype ≡ true
   pub short : length i.rdata ≤ 4096
   pub form : IsRData i.rtype i.rdata
+  pub inside : under i.owner apex ≡ true
+  pub server : (i.rtype == type_ns && is_wildcard i.owner) ≡ false
 
-pub fit : (apex : Labels) (i : Item) → i.class ≡ class_in → prescan_fault apex i ≡ None → HasForm i → IsFit i
+pub fit : (apex : Labels) (i : Item) → i.class ≡ class_in → prescan_fault apex i ≡ None → HasForm i → IsFit apex i
 fit apex i c e h =
     let inside = past (not (under i.owner apex)) NotZone _ e in
     let class : (i.class == class_in) ≡ true = ap (λ (n : ℕ). n == class_in) c ∙ number_itself class_in in
     let added = chosen (i.class == class_in) (addition_fault i) _ class inside.1 in
     let one = past (i.rtype == type_any || is_meta i.rtype || is_known i.rtype && is_empty i) FormErr _ added in
     let two = past (not (is_known i.rtype) || nat_lt 4096 (length i.rdata) || i.rtype == type_ns && is_wildcard i.owner) Refused _ one.1 in
-    let limits = neither (not (is_known i.rtype)) (nat_lt 4096 (length i.rdata)) (neither (not (is_known i.rtype) || nat_lt 4096 (length i.rdata)) _ two.0).0 in
+    let refused = neither (not (is_known i.rtype) || nat_lt 4096 (length i.rdata)) _ two.0 in
+    let limits = neither (not (is_known i.rtype)) (nat_lt 4096 (length i.rdata)) refused.0 in
     let known = untrue (is_known i.rtype) limits.0 in
     let some = filled (is_known i.rtype) (is_empty i) known (neither (i.rtype == type_any || is_meta i.rtype) _ one.0).1 in
     record {
@@ -92,4 +88,6 @@ fit apex i c e h =
         | inl none ↦ (let empty : is_empty i ≡ true = ap (λ (n : ℕ). n == 0) none in absurd cc)
         | inr form ↦ form
       ];
+      inside = untrue (under i.owner apex) inside.0;
+      server = refused.1;
     }

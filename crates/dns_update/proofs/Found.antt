@@ -10,7 +10,7 @@ use Rattle.dns_zone.specs.Records.{records_at}
 use Rattle.dns_zone.specs.Order.{both_true, tied_key}
 use Rattle.dns_zone.specs.Twice.{any_by}
 use Rattle.dns_update.specs.Effect.{is_of, is_vital, owns_other, succeeds}
-use Rattle.dns_update.proofs.Kept.{any_kept, find_kept}
+use Rattle.dns_zone.proofs.Kept.{any_kept, find_kept}
 use Rattle.dns_update.proofs.Gone.{IsOfKey}
 
 abbrev pub is_deleted : Labels → Labels → ℕ → Record → Bool

@@ -1,10 +1,13 @@
-pub mod Kept
 pub mod Gone
 pub mod Found
 pub mod Forms
 pub mod Items
 pub mod OneSoa
 pub mod Sizes
+pub mod Sound
+pub mod SoundEffects
+pub mod Serials
+pub mod Versions
 pub mod SameSets
 pub mod ExampleZone
 pub mod Examples

@@ -14,42 +14,19 @@ use Rattle.dns_zone.specs.Zone.{Zone, IsZone, soas, has_twice, has_cname_and_oth
 use Rattle.dns_zone.specs.Order.{record_total, both_true, names_same, names_itself, tied_key}
 use Rattle.dns_zone.specs.Sets.{equal_is, told}
 use Rattle.dns_zone.specs.Twice.{any_by}
-use Rattle.dns_changes.specs.Applied.{one_in}
 use Rattle.dns_wire.specs.Message.{Item}
 use Rattle.dns_serial.specs.Serial.{greater, next_serial}
 use Rattle.dns_update.specs.Item.{as_record}
 use Rattle.dns_update.specs.Effect.{is_of, replaced, owns_other, succeeds, added, is_vital, deleted_set, deleted, effect, effects}
 use Rattle.std.specs.Cmp.{tied_itself}
 use Rattle.dns_update.specs.Verdict.{with_next_serial}
-use Rattle.dns_update.specs.Soa.{HasSoa}
-use Rattle.dns_update.proofs.Kept.{any_kept, numbers_same}
+use Rattle.dns_zone.specs.Soa.{HasSoa}
+use Rattle.dns_zone.proofs.Kept.{any_kept, numbers_same}
+use Rattle.dns_zone.proofs.OneSoa.{is_soa, commute, is_one}
 use Rattle.dns_update.proofs.Gone.{IsOfKey}
-
-abbrev pub is_soa : Record → Bool
-is_soa r = r.rtype == type_soa
 
 pub soa_key : IsOfKey is_soa
 soa_key a b e = ap (λ (n : ℕ). n == type_soa) (tied_key a b e).rtype
-
-pub commute : (p q : Record → Bool) (xs : List Record) → filter p (filter q xs) ≡ filter q (filter p xs)
-commute p q [] = refl
-commute p q (x ∷ xs) = at (p x) (q x) refl refl (commute p q xs)
-  where
-    at : (b d : Bool) → p x ≡ b → q x ≡ d → filter p (filter q xs) ≡ filter q (filter p xs) → filter p (cond d (x ∷ filter q xs) (filter q xs)) ≡ filter q (cond b (x ∷ filter p xs) (filter p xs))
-    at true true e f rest = ap (λ c. cond c (x ∷ filter p (filter q xs)) (filter p (filter q xs))) e ∙ ap (λ (ys : List Record). x ∷ ys) rest ∙ sym (ap (λ c. cond c (x ∷ filter q (filter p xs)) (filter q (filter p xs))) f)
-    at true false e f rest = rest ∙ sym (ap (λ c. cond c (x ∷ filter q (filter p xs)) (filter q (filter p xs))) f)
-    at false true e f rest = ap (λ c. cond c (x ∷ filter p (filter q xs)) (filter p (filter q xs))) e ∙ rest
-    at false false e f rest = rest
-
-both_kept : (p q : Record → Bool) (xs : List Record) → filter (λ x. p x && q x) xs ≡ filter p (filter q xs)
-both_kept p q [] = refl
-both_kept p q (x ∷ xs) = at (p x) (q x) refl (both_kept p q xs)
-  where
-    at : (b d : Bool) → p x ≡ b → filter (λ x. p x && q x) xs ≡ filter p (filter q xs) → cond (b && d) (x ∷ filter (λ x. p x && q x) xs) (filter (λ x. p x && q x) xs) ≡ filter p (cond d (x ∷ filter q xs) (filter q xs))
-    at true true e rest = ap (λ (ys : List Record). x ∷ ys) rest ∙ sym (ap (λ b. cond b (x ∷ filter p (filter q xs)) (filter p (filter q xs))) e)
-    at true false e rest = rest
-    at false true e rest = rest ∙ sym (ap (λ b. cond b (x ∷ filter p (filter q xs)) (filter p (filter q xs))) e)
-    at false false e rest = rest
 
 -- a record put in that fails a test leaves those that pass it
 pub put_out : (s : Record → Bool) → IsOfKey s → (r : Record) → s r ≡ false → (xs : List Record) → filter s (put r xs) ≡ filter s xs
@@ -77,9 +54,6 @@ put_alone s key r e (x ∷ xs) h = at (s x) refl h (put_alone s key r e xs)
 
 -- ---- the SOA of a zone
 module _ (apex : Labels) where
-  pub is_one : (xs : List Record) (h : HasSoa apex xs) → is_soa h.soa ≡ true
-  is_one xs h = (one_in xs h.soa h.one).0
-
   pub keeps : (xs : List Record) (h : HasSoa apex xs) (p : Record → Bool) → p h.soa ≡ true → HasSoa apex (filter p xs)
   keeps xs h p e = record {
     soa = h.soa;
@@ -118,18 +92,18 @@ module _ (apex : Labels) where
           alone false f = f
 
       of_soa : (names_eq (h.soa).owner (h.soa).owner && (type_soa == type_any || (h.soa).rtype == type_soa)) ≡ true
-      of_soa = λ j. names_itself (h.soa).owner j && is_one xs h j
+      of_soa = λ j. names_itself (h.soa).owner j && is_one apex xs h j
 
   other_type : (xs : List Record) (h : HasSoa apex xs) (t : ℕ) → (t == type_soa) ≡ false → ((h.soa).rtype == t) ≡ false
   other_type xs h t e = elim (told ((h.soa).rtype == t)) [
     | inr f ↦ f
     | inl f ↦ (let same = numbers_same (h.soa).rtype t f in
-        let soa = is_one xs h in
+        let soa = is_one apex xs h in
         let both : (t == type_soa) ≡ true = ap (λ (n : ℕ). n == type_soa) (sym same) ∙ soa in absurd cc)
   ]
 
   -- a CNAME replaces no SOA
-  aliases : (xs : List Record) → HasSoa apex xs → (r : Record) → (r.rtype == type_cname) ≡ true → HasSoa apex (replaced xs r)
+  pub aliases : (xs : List Record) → HasSoa apex xs → (r : Record) → (r.rtype == type_cname) ≡ true → HasSoa apex (replaced xs r)
   aliases xs h r e =
       let rtype = numbers_same r.rtype type_cname e in
       let none : is_of r.owner r.rtype h.soa ≡ false = (λ i. names_eq (h.soa).owner r.owner && (rtype i == type_any || (h.soa).rtype == rtype i)) ∙ ap (λ b. names_eq (h.soa).owner r.owner && b) (other_type xs h type_cname refl) ∙ never (names_eq (h.soa).owner r.owner) in
@@ -152,22 +126,22 @@ module _ (apex : Labels) where
       at false b false false f p q s = puts xs h r q
 
   vital : (xs : List Record) (h : HasSoa apex xs) → is_vital apex h.soa ≡ true
-  vital xs h = (λ i. names_eq (h.owner i) apex && (is_one xs h i || (h.soa).rtype == type_ns)) ∙ ap (λ b. b && true) (names_itself apex)
+  vital xs h = (λ i. names_eq (h.owner i) apex && (is_one apex xs h i || (h.soa).rtype == type_ns)) ∙ ap (λ b. b && true) (names_itself apex)
 
-  deletes_set : (xs : List Record) → HasSoa apex xs → (name : Labels) (t : ℕ) → HasSoa apex (deleted_set apex xs name t)
+  pub deletes_set : (xs : List Record) → HasSoa apex xs → (name : Labels) (t : ℕ) → HasSoa apex (deleted_set apex xs name t)
   deletes_set xs h name t = keeps xs h (λ r. not (is_of name t r && not (is_vital apex r))) (ap (λ b. not (is_of name t h.soa && not b)) (vital xs h) ∙ stays (is_of name t h.soa))
     where
       stays : (b : Bool) → not (b && false) ≡ true
       stays true = refl
       stays false = refl
 
-  deletes : (xs : List Record) → HasSoa apex xs → (r : Record) → HasSoa apex (deleted apex xs r)
+  pub deletes : (xs : List Record) → HasSoa apex xs → (r : Record) → HasSoa apex (deleted apex xs r)
   deletes xs h r = at (is_soa r) (r.rtype == type_ns && names_eq r.owner apex && length (rrset xs apex type_ns) == 1) refl
     where
       untied : is_soa r ≡ false → is_eq (record_cmp r h.soa) ≡ false
       untied e = elim (told (is_eq (record_cmp r h.soa))) [
         | inr f ↦ f
-        | inl f ↦ (let same = soa_key r h.soa (equal_is (record_cmp r h.soa) f) in let one = is_one xs h in absurd cc)
+        | inl f ↦ (let same = soa_key r h.soa (equal_is (record_cmp r h.soa) f) in let one = is_one apex xs h in absurd cc)
       ]
 
       at : (a b : Bool) → is_soa r ≡ a → HasSoa apex (if a || b then xs else without r xs)
@@ -184,78 +158,18 @@ module _ (apex : Labels) where
       at false false = deletes xs h (as_record i)
 
   -- with the next serial it is one still
-  pub next_soa : (xs : List Record) → HasSoa apex xs → HasSoa apex (with_next_serial (soas xs) xs)
-  next_soa xs h =
+  pub next_alone : (xs : List Record) (h : HasSoa apex xs) → soas (with_next_serial (soas xs) xs) ≡ with_serial h.soa (next_serial (serial_of h.soa)) ∷ []
+  next_alone xs h =
       let s = h.soa in
       let next = with_serial s (next_serial (serial_of s)) in
       let none : soas (without s xs) ≡ [] =
       commute is_soa (λ r. not (is_eq (record_cmp s r))) xs ∙ ap (filter (λ r. not (is_eq (record_cmp s r)))) h.one ∙ ap (λ o. cond (not (is_eq o)) (s ∷ []) []) (tied_itself record_total s) in
-      let with_next : HasSoa apex (put next (without s xs)) = record { soa = next; one = put_alone is_soa soa_key next (is_one xs h) (without s xs) none; owner = h.owner } in
-      subst (λ (ss : List Record). HasSoa apex (with_next_serial ss xs)) (sym h.one) with_next
+      ap (λ (ss : List Record). soas (with_next_serial ss xs)) h.one ∙ put_alone is_soa soa_key next (is_one apex xs h) (without s xs) none
 
-  -- the SOA is the apex's
-  pub soa_here : (xs : List Record) (h : HasSoa apex xs) → rrset xs apex type_soa ≡ h.soa ∷ []
-  soa_here xs h = split xs ∙ ap (filter (λ r. names_eq r.owner apex)) h.one ∙ ap (λ b. cond b (h.soa ∷ []) []) (ap (λ n. names_eq n apex) h.owner ∙ names_itself apex)
-    where
-      split : (ys : List Record) → rrset ys apex type_soa ≡ filter (λ r. names_eq r.owner apex) (soas ys)
-      split ys = both_kept (λ r. names_eq r.owner apex) is_soa ys
+  pub next_soa : (xs : List Record) → HasSoa apex xs → HasSoa apex (with_next_serial (soas xs) xs)
+  next_soa xs h = record { soa = with_serial h.soa (next_serial (serial_of h.soa)); one = next_alone xs h; owner = h.owner }
 
   -- behind all items the zone has one SOA still
   pub soa_stays : (xs : List Record) → HasSoa apex xs → (items : List Item) → HasSoa apex (effects apex xs items)
   soa_stays xs h [] = h
   soa_stays xs h (i ∷ rest) = soa_stays (effect apex xs i) (takes_effect xs h i) rest
-
--- ---- a valid zone has one
-past : {A : Type 0} (b : Bool) (x : A) (rest : Option A) → (if b then Some x else rest) ≡ None → (b ≡ false) × (rest ≡ None)
-past true x rest e = absurd cc
-past false x rest e = (refl, e)
-
-untrue : (b : Bool) → not b ≡ false → b ≡ true
-untrue true e = refl
-untrue false e = absurd cc
-
--- a valid zone has at most 65,536 records
-pub zone_few : (z : Zone) → IsZone z → length z.records ≤ 65536
-zone_few z h =
-    let one = (past (not (owns_type z.records z.apex type_soa)) _ _ h.valid).1 in
-    let two = (past (nat_lt 1 (length (soas z.records))) _ _ one).1 in
-    let three = (past (not (owns_type z.records z.apex type_ns)) _ _ two).1 in
-    let four = (past (not (list_all (λ r. under r.owner z.apex) z.records)) _ _ three).1 in
-    let five = (past (has_twice z.records) _ _ four).1 in
-    let six = (past (has_cname_and_other z.records) _ _ five).1 in
-    let seven = (past (list_any (λ r. r.rtype == type_ns && is_wildcard r.owner) z.records) _ _ six).1 in
-    let last : nat_lt 65536 (length z.records) ≡ false = (past (nat_lt 65536 (length z.records)) _ _ seven).0 in
-    grind (arith, nat_tests, last)
-
--- it owns a SOA at its apex, and no two
-one_and_few : (z : Zone) → IsZone z → (owns_type z.records z.apex type_soa ≡ true) × (nat_lt 1 (length (soas z.records)) ≡ false)
-one_and_few z h = let one = past (not (owns_type z.records z.apex type_soa)) _ _ h.valid in (untrue _ one.0, (past (nat_lt 1 (length (soas z.records))) _ _ one.1).0)
-
-pub zone_soa : (z : Zone) → IsZone z → HasSoa z.apex z.records
-zone_soa z h = first (soas z.records) refl any
-  where
-    any : list_any (λ r. names_eq r.owner z.apex) (soas z.records) ≡ true
-    any = any_kept (λ r. names_eq r.owner z.apex) is_soa z.records ∙ any_by _ (λ r. names_eq r.owner z.apex && r.rtype == type_soa) (λ r. turned (is_soa r) (names_eq r.owner z.apex)) z.records ∙ (one_and_few z h).0
-      where
-        turned : (a b : Bool) → (a && b) ≡ (b && a)
-        turned true true = refl
-        turned true false = refl
-        turned false true = refl
-        turned false false = refl
-
-    alone : (b : Bool) → (b || false) ≡ true → b ≡ true
-    alone true f = refl
-    alone false f = f
-
-    first : (ss : List Record) → soas z.records ≡ ss → list_any (λ r. names_eq r.owner z.apex) ss ≡ true → HasSoa z.apex z.records
-    first [] e f = absurd cc
-    first (s ∷ []) e f = record { soa = s; one = e; owner = names_same s.owner z.apex (alone _ f) }
-    first (s ∷ t ∷ rest) e f =
-        let few = (one_and_few z h).1 in
-        let many : nat_lt 1 (length (soas z.records)) ≡ true = ap (λ (ys : List Record). nat_lt 1 (length ys)) e ∙ over (length rest) in absurd cc
-      where
-        over : (n : ℕ) → nat_lt 1 (suc (suc n)) ≡ true
-        over n = grind (arith, nat_tests)
-
-pub has_soa_at : (a b : Labels) (xs ys : List Record) → a ≡ b → xs ≡ ys → HasSoa a xs → HasSoa b ys
-has_soa_at a b xs ys e f h = subst (λ (n : Labels). HasSoa n ys) e (subst (HasSoa a) f h)

@@ -2,5 +2,5 @@ pub mod Item
 pub mod Prerequisites
 pub mod Prescan
 pub mod Effect
-pub mod Soa
 pub mod Verdict
+pub mod Version

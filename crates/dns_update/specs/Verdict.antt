@@ -56,7 +56,7 @@ abbrev pub unless : Option Rcode → Verdict → Verdict
 unless (Some rcode) verdict = Refuses rcode
 unless None verdict = verdict
 
--- The prerequisites, then the scan of all items, then their effect (RFC 2136 3.8).
+-- The prerequisites, then the scan of all items, then their effect (RFC 2136 3.2, 3.4).
 abbrev pub verdict : Zone → List Item → List Item → Verdict
 verdict z prerequisites items =
     unless (otherwise (prerequisites_fault z prerequisites) (first_fault (prescan_fault z.apex) items))

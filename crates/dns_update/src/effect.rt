@@ -13,13 +13,12 @@ ghost use Rattle.dns_update.specs.Prescan.{prescan_fault};
 ghost use Rattle.dns_update.specs.Effect.{added, deleted, deleted_set, effect, effects, is_of, is_spared, is_vital, owns_other, replaced, succeeds};
 
 use crate::item::Item;
-use crate::prerequisites::owns_type;
 use dns_memory::Heap;
 use dns_names::{Name, NameRef};
 use dns_records::Record;
 use dns_records::types::{ANY, CLASS_ANY, CLASS_IN, CNAME, NS, SOA};
 use dns_serial::Serial;
-use dns_zone::ZoneIndex;
+use dns_zone::{ZoneIndex, owns_type};
 use std::alloc::AllocError;
 
 /// Whether the name owns the record.

@@ -2,7 +2,7 @@
 ghost use Rattle.std.specs.Prelude.{◌≡◌, ◌||◌, ◌==◌, not};
 ghost use Rattle.std.specs.List.{list_any, list_all};
 ghost use Rattle.dns_records.specs.Types.{class_in};
-ghost use Rattle.dns_zone.specs.Records.{alike, has, owns, owns_type, rrset};
+ghost use Rattle.dns_zone.specs.Records.{alike, has, owns, rrset};
 ghost use Rattle.dns_update.specs.Item.{as_record, first_fault};
 ghost use Rattle.dns_update.specs.Prerequisites.{are_rrsets, in_use_fault, is_rrset, lists, prerequisite_fault, prerequisites_fault, unused_fault};
 
@@ -11,20 +11,13 @@ use crate::item::Item;
 use dns_names::NameRef;
 use dns_records::Record;
 use dns_records::types::{ANY, CLASS_ANY, CLASS_IN, CLASS_NONE};
-use dns_zone::{Zone, ZoneIndex};
+use dns_zone::{Zone, ZoneIndex, owns_type};
 
 /// Whether the name owns a record.
 fn owns<I: ZoneIndex>(index: &I, name: &NameRef<'_>) -> bool
     ensures { result ≡ owns (I.records index.now) name.now }
 {
     !index.records_at(name).is_empty()
-}
-
-/// Whether the name owns a record of the type.
-pub(crate) fn owns_type<I: ZoneIndex>(index: &I, name: &NameRef<'_>, rtype: u16) -> bool
-    ensures { result ≡ owns_type (I.records index.now) name.now rtype }
-{
-    !index.rrset(name, rtype).is_empty()
 }
 
 /// What fails a prerequisite of class ANY: that the name is in use, or that the RRset exists (RFC 2136 section 3.2.1).

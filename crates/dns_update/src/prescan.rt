@@ -1,21 +1,13 @@
 //! What of an update section can't be done, whatever the zone contains.
 ghost use Rattle.std.specs.Prelude.{◌≡◌};
-ghost use Rattle.dns_zone.specs.Zone.{is_wildcard};
 ghost use Rattle.dns_update.specs.Item.{first_fault};
 ghost use Rattle.dns_update.specs.Prescan.{addition_fault, deletion_fault, prescan_fault, set_deletion_fault};
 
 use crate::Rcode;
 use crate::item::Item;
-use dns_names::{Name, NameRef};
+use dns_names::Name;
 use dns_records::types::{ANY, CLASS_ANY, CLASS_IN, CLASS_NONE, NS};
-
-/// Whether the first label is `*` (RFC 4592 section 2.1.1).
-fn begins_with_asterisk(name: &NameRef<'_>) -> bool
-    ensures { result ≡ is_wildcard name.now }
-{
-    let octets = name.as_wire();
-    octets.len() > 1 && octets[0] == 1 && octets[1] == b'*'
-}
+use dns_zone::begins_with_asterisk;
 
 /// What fails a record that is to be added.
 fn addition_fault(item: &Item) -> Option<Rcode>

@@ -5,10 +5,12 @@ ghost use Rattle.std.specs.Option.{option_copied};
 ghost use Rattle.dns_records.specs.Types.{type_soa};
 ghost use Rattle.dns_zone.specs.Records.{next_after};
 ghost use Rattle.dns_zone.specs.Zone.{soas};
+ghost use Rattle.dns_changes.specs.Change.{Change as Stated};
 ghost use Rattle.dns_update.specs.Item.{HasForm, first_fault, otherwise};
 ghost use Rattle.dns_update.specs.Prerequisites.{prerequisites_fault};
 ghost use Rattle.dns_update.specs.Prescan.{prescan_fault};
-ghost use Rattle.dns_update.specs.Soa.{HasSoa};
+ghost use Rattle.dns_zone.specs.Soa.{HasSoa};
+ghost use Rattle.dns_update.specs.Version.{IsNext};
 ghost use Rattle.dns_update.specs.Verdict.{IsTold, IsJudged, Leaves, is_next, same_set, versioned, with_next_serial};
 
 use crate::effect::take_effects;
@@ -18,12 +20,10 @@ use crate::prescan::prescan;
 use crate::{Judged, Rcode};
 use dns_changes::Change;
 use dns_memory::Heap;
-use dns_names::NameRef;
 use dns_records::Record;
-use dns_records::types::SOA;
 use dns_serial::Serial;
 use dns_wire::Message;
-use dns_zone::{Zone, ZoneIndex};
+use dns_zone::{Zone, ZoneIndex, soa_of};
 use std::alloc::AllocError;
 
 /// Whether the record is the first of the set, or the first behind another.
@@ -50,15 +50,6 @@ fn is_same_set<I: ZoneIndex>(a: &I, b: &I) -> bool
     b.walk(last).is_none()
 }
 
-/// The SOA of a zone.
-fn soa_of<'s, I: ZoneIndex>(set: &'s I, apex: &NameRef<'_>) -> &'s Record
-    requires { HasSoa apex.now (I.records set.now) }
-    ensures one { soas (I.records set.now) ≡ result.now ∷ [] }
-    ensures soa { result.now.rtype ≡ type_soa }
-{
-    &set.rrset(apex, SOA)[0]
-}
-
 /// Advances the serial of a zone by one (RFC 2136 section 3.6).
 fn advance<I: ZoneIndex>(set: &mut I, soa: &Record) -> Result<(), AllocError>
     requires one { soas (I.records set.old) ≡ soa.now ∷ [] }
@@ -76,11 +67,8 @@ fn change_to<I: ZoneIndex>(alloc: Heap, zone: &Zone<I>, after: &I) -> Result<Jud
     requires few { length (I.records after.now) < 2 ^ 32 }
     ensures { IfOk result (IsTold zone.now.records (Leaves (I.records after.now))) }
 {
-    let apex = zone.apex().lend();
-    let before = zone.index();
-    let old = soa_of(before, &apex);
-    let new = soa_of(after, &apex);
-    let change = Change::between(alloc, before, old, after, new)?;
+    let new = soa_of(after, &zone.apex().lend());
+    let change = Change::between(alloc, zone.index(), zone.soa(), after, new)?;
     Ok(Judged::Accepted(change))
 }
 
@@ -109,9 +97,8 @@ fn versioned<I: ZoneIndex>(alloc: Heap, zone: &Zone<I>, after: I) -> Result<Judg
     if is_same_set(zone.index(), &after) {
         return Ok(Judged::NoChange);
     }
-    let apex = zone.apex().lend();
-    let old = Serial(soa_of(zone.index(), &apex).serial());
-    let new = Serial(soa_of(&after, &apex).serial());
+    let old = Serial(zone.soa().serial());
+    let new = Serial(soa_of(&after, &zone.apex().lend()).serial());
     if new.0 == old.0 {
         return advanced_change(alloc, zone, after);
     }
@@ -141,7 +128,8 @@ fn judge_items<I: ZoneIndex>(
 ) -> Result<Judged, AllocError>
     requires few { length items.now < 2 ^ 16 }
     requires form { AllByRecursion HasForm items.now }
-    ensures { IfOk result (IsJudged zone.now prerequisites.now items.now) }
+    ensures verdict { IfOk result (IsJudged zone.now prerequisites.now items.now) }
+    ensures next { IfOk result (λ judged. (change : Stated) → judged ≡ Judged.Accepted change → IsNext zone.now change) }
 {
     if let Some(rcode) = fault(zone, prerequisites, items) {
         return Ok(Judged::Refused(rcode));
@@ -157,7 +145,9 @@ pub fn judge<I: ZoneIndex>(
     zone: &Zone<I>,
     message: &Message<'_>,
 ) -> Result<Judged, AllocError>
-    ensures { IfOk result (IsJudged zone.now message.now.message.answers message.now.message.authorities) }
+    ensures verdict { IfOk result (IsJudged zone.now message.now.message.answers message.now.message.authorities) }
+    // What is accepted leads to a valid zone, whose serial is greater (RFC 1982).
+    ensures next { IfOk result (λ judged. (change : Stated) → judged ≡ Judged.Accepted change → IsNext zone.now change) }
 {
     let _reads = message.octets();
     let prerequisites = items_of(alloc, message.answers())?;

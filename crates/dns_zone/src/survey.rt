@@ -8,6 +8,7 @@ ghost use Rattle.dns_zone.specs.Zone.{is_wildcard};
 ghost use Rattle.dns_zone.specs.Survey.{Surveys};
 
 use crate::ZoneIndex;
+use crate::owned::begins_with_asterisk;
 use dns_names::NameRef;
 use dns_records::Record;
 use dns_records::types::{CNAME, NS, SOA};
@@ -20,14 +21,6 @@ pub(crate) struct Survey {
     pub inside: bool,
     pub shared_alias: bool,
     pub wildcard_ns: bool,
-}
-
-/// Whether the first label is `*` (RFC 4592 section 2.1.1).
-fn begins_with_asterisk(name: &NameRef<'_>) -> bool
-    ensures { result ≡ is_wildcard name.now }
-{
-    let octets = name.as_wire();
-    octets.len() > 1 && octets[0] == 1 && octets[1] == b'*'
 }
 
 /// Whether the record is an NS at a wildcard.

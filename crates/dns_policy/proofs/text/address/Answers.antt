@@ -1,4 +1,4 @@
-use Rattle.std.proofs.Common.{◌≡◌, ℕ, List, false, Some, None, sym, ap, rules}
+use Rattle.std.proofs.Common.{◌≡◌, ℕ, List, Some, sym, ap, rules}
 use Rattle.dns_policy.proofs.Addresses.{ipv4_read, ipv4_unread, ipv6_read, ipv6_unread}
 use Rattle.std.proofs.NetLemmas.Theorems.{IsIpv4Text_unique, IsIpv6Text_unique}
 use Rattle.std.proofs.NetLemmas.Ipv6.{IsDotted-not_colon_hex}

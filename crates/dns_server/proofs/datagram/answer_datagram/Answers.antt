@@ -1,5 +1,5 @@
 use Rattle.std.proofs.Common.{◌≡◌, true, false, length, sym, ap, subst, ◌∙◌, arith}
-use Rattle.std.specs.Prelude.{◌||◌, ◌==◌, nat_lt, None, Some, IsOk, IsTrue}
+use Rattle.std.specs.Prelude.{◌||◌, ◌==◌, nat_lt, None, Some, IsOk}
 use borrow.Author.Tests.{le-ltb}
 use Rattle.dns_names.specs.Lower.{AreOctets}
 use Rattle.dns_wire.specs.Message.{header_of}

@@ -2,7 +2,7 @@ use Rattle.std.proofs.Common.{length, ap, ◌∙◌}
 use Rattle.std.specs.Prelude.{◌==◌, not}
 use Rattle.dns_zone.specs.Owned.{owns_none}
 use Rattle.dns_zone.specs.Records.{owns}
-use Rattle.dns_update.proofs.Kept.{twice}
+use Rattle.dns_zone.proofs.Kept.{twice}
 use Rattle.dns_update.proofs.prerequisites.owns.Goals as goal
 
 pub returns : goal.returns

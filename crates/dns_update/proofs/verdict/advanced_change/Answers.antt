@@ -1,6 +1,7 @@
 use Rattle.std.proofs.Common.{length, refl, sym, ap, arith}
 use Rattle.dns_zone.specs.Zone.{soas}
-use Rattle.dns_update.proofs.OneSoa.{next_soa, has_soa_at}
+use Rattle.dns_zone.proofs.OneSoa.{has_soa_at}
+use Rattle.dns_update.proofs.OneSoa.{next_soa}
 use Rattle.dns_update.proofs.Sizes.{next_more}
 use Rattle.dns_update.proofs.verdict.advanced_change.Goals as goal
 

@@ -7,7 +7,7 @@ use Rattle.dns_zone.specs.Records.{next_after}
 use Rattle.dns_zone.specs.Survey.{behind}
 use Rattle.dns_zone.proofs.Surveying.{walk_some, walk_none, behind_at, dropped_next}
 use Rattle.dns_update.specs.Verdict.{is_next, same_set}
-use Rattle.dns_update.proofs.Kept.{twice}
+use Rattle.dns_zone.proofs.Kept.{twice}
 use Rattle.dns_update.proofs.SameSets.{other_next, other_stops, other_ends, same_step, copied_some}
 use Rattle.dns_update.proofs.verdict.is_same_set.Goals as goal
 

@@ -1,9 +1,9 @@
 use Rattle.std.proofs.Common.{◌∷◌, [], List, length, get_or, sym, ap, ◌∙◌, arith}
 use Rattle.dns_records.specs.Record.{Record}
 use Rattle.dns_records.specs.Types.{type_soa}
-use Rattle.dns_update.proofs.Kept.{numbers_same}
-use Rattle.dns_update.proofs.OneSoa.{is_one, soa_here}
-use Rattle.dns_update.proofs.verdict.soa_of.Goals as goal
+use Rattle.dns_zone.proofs.Kept.{numbers_same}
+use Rattle.dns_zone.proofs.OneSoa.{is_one, soa_here}
+use Rattle.dns_zone.proofs.soa.soa_of.Goals as goal
 
 pub bounds-rrset-0 : goal.bounds-rrset-0
 bounds-rrset-0 g c = omega (arith, ap length (c.rrset.ensures ∙ soa_here c.args.apex.now (g.I.ZoneIndex.records c.args.set.now) c.requires))

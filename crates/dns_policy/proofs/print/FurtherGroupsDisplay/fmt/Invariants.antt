@@ -1,7 +1,7 @@
 use Rattle.std.proofs.Common.{take}
 use Rattle.std.specs.Fmt.{HasWritten, IsPlainFormatter}
-use Rattle.dns_masterfile.specs.Text.{further_groups}
-use Rattle.dns_masterfile.proofs.print.FurtherGroupsDisplay.fmt.Given as goal
+use Rattle.dns_policy.specs.Printed.{further_groups}
+use Rattle.dns_policy.proofs.print.FurtherGroupsDisplay.fmt.Given as goal
 
 abbrev pub invariant-loop-group : goal.invariant-loop-group
 invariant-loop-group g l =
