@@ -22,19 +22,11 @@ pub(crate) struct Survey {
     pub wildcard_ns: bool,
 }
 
-/// Whether the first label is `*` (RFC 4592 section 2.1.1).
-fn begins_with_asterisk(name: &NameRef<'_>) -> bool
-    ensures { result ≡ is_wildcard name.now }
-{
-    let octets = name.as_wire();
-    octets.len() > 1 && octets[0] == 1 && octets[1] == b'*'
-}
-
 /// Whether the record is an NS at a wildcard.
 fn is_wildcard_ns(r: &Record) -> bool
     ensures { result ≡ (r.now.rtype == type_ns && is_wildcard r.now.owner) }
 {
-    r.rtype() == NS && begins_with_asterisk(&r.owner().lend())
+    r.rtype() == NS && r.owner().lend().begins_with_asterisk()
 }
 
 /// Whether the record is a CNAME at an owner of so many records, more than one.
