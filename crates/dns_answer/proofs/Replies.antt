@@ -1,6 +1,6 @@
 -- The reply to a lookup, put together.
 use Rattle.std.proofs.Common.{◌≡◌, inl, inr, ℕ, ◌≤◌, Bool, true, false, List, [], ◌∷◌, ◌++◌, length, sym, ap, ◌∙◌, arith}
-use Rattle.std.specs.Prelude.{Option, Some, None, if◌then◌else◌, ◌||◌, ◌==◌, nat_lt}
+use Rattle.std.specs.Prelude.{Some, if◌then◌else◌, ◌||◌, ◌==◌, nat_lt}
 use Rattle.std.proofs.lemmas.Bool.Decides.{nat_tests}
 use Rattle.dns_records.specs.Types.{type_ixfr, type_axfr}
 use Rattle.dns_zone.specs.Sets.{told}

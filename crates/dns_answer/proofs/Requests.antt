@@ -1,11 +1,11 @@
 -- The tests of a request that is answered here.
-use Rattle.std.proofs.Common.{◌≡◌, ◌⊎◌, inl, inr, ℕ, zero, suc, ◌<◌, Bool, true, false, ◌||◌, List, [], ◌∷◌, length, refl, sym, ap, subst, ◌∙◌, arith}
+use Rattle.std.proofs.Common.{◌≡◌, inl, inr, ℕ, zero, suc, ◌<◌, Bool, true, false, ◌||◌, List, [], ◌∷◌, length, refl, sym, ap, subst, ◌∙◌, arith}
 use Rattle.std.specs.Prelude.{◌&&◌, ◌==◌, not, All, ◌≢◌, slice_index_or}
 use Rattle.std.proofs.lemmas.Bool.Decides.{nat_tests}
 use Rattle.dns_records.specs.Types.{type_ixfr, type_axfr}
 use Rattle.dns_zone.specs.Order.{both_true, number_itself}
 use Rattle.dns_zone.specs.Sets.{either_true, told}
-use Rattle.dns_wire.specs.Message.{Header, Item, Question, Message}
+use Rattle.dns_wire.specs.Message.{Question, Message}
 use Rattle.dns_answer.specs.Answer.{is_request, opcode_query, opcode_update}
 
 or_true : (b : Bool) → (b || true) ≡ true

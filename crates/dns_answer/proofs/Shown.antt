@@ -7,18 +7,18 @@ use Rattle.std.proofs.lemmas.List.{append-nil, map-append, take_all}
 use Rattle.std.proofs.lemmas.Grind.{flat_map-append}
 use Rattle.std.proofs.lemmas.Bool.Decides.{nat_tests}
 use Rattle.dns_names.specs.Name.{Labels, names_eq}
-use Rattle.dns_records.specs.Types.{type_ns, type_soa}
+use Rattle.dns_records.specs.Types.{type_soa}
 use Rattle.dns_records.specs.Record.{Record, host_of, minimum_of}
 use Rattle.dns_zone.specs.Records.{rrset, owns_type}
-use Rattle.dns_zone.specs.Order.{both_true}
-use Rattle.dns_zone.specs.Zone.{Zone, IsZone, soas, zone_fault}
+use Rattle.dns_zone.specs.Zone.{Zone, IsZone, soas}
 use Rattle.dns_zone.specs.declared.ZoneError.{ZoneError}
 use Rattle.dns_lookup.specs.Told.{IsTold, AreTold}
+use Rattle.dns_lookup.specs.Held.{records_found, IsHeld, AreHeld}
 use Rattle.dns_lookup.specs.ToldLaws.{outcome_of, told_is, told_at, told_length}
 use Rattle.dns_lookup.specs.declared.chain.Found.{Found as Told}
 use Rattle.dns_lookup.specs.declared.outcome.Kind.{Kind}
 use Rattle.dns_lookup.specs.declared.outcome.Kind.TheVariants as kinds
-use Rattle.dns_lookup.specs.Lookup.{Outcome, Found, Referral, Alias, Answers, NoData, NameError}
+use Rattle.dns_lookup.specs.Lookup.{Outcome, Found}
 use Rattle.dns_answer.specs.Sections.{Shown, from_zone, records_of, as_owner, answers_of, answer_of, authority_of, negative_soa, authority_at, addresses_for, is_name_error, is_authoritative}
 
 -- the parts of what was found, by its outcome
@@ -31,6 +31,32 @@ authority_by z o = authority_at (record { zone = z; name = []; outcome = o })
 pub records_back : (z : Zone) (rs : List Record) → records_of (from_zone z rs) ≡ rs
 records_back z [] = refl
 records_back z (r ∷ rs) = ap (λ (xs : List Record). r ∷ xs) (records_back z rs)
+
+-- the records that go into the answer section, or as servers into the authority section, by the kind
+abbrev pub answering : Kind → List Record → List Record
+answering kinds.Alias rs = rs
+answering kinds.Answers rs = rs
+answering kinds.Referral rs = []
+answering kinds.NoData rs = []
+answering kinds.NameError rs = []
+
+answers_kind : (z : Zone) (name : Labels) (t : ℕ) (kind : Kind) (at : Labels) (rs : List Record) → rs ≡ records_found z.records kind at t → answers_at z name t (outcome_of kind at) ≡ from_zone z (as_owner name (answering kind rs))
+answers_kind z name t kinds.Alias at rs e = ap (λ (xs : List Record). from_zone z (as_owner name xs)) (sym e)
+answers_kind z name t kinds.Answers at rs e = ap (λ (xs : List Record). from_zone z (as_owner name xs)) (sym e)
+answers_kind z name t kinds.Referral at rs e = refl
+answers_kind z name t kinds.NoData at rs e = refl
+answers_kind z name t kinds.NameError at rs e = refl
+
+-- what is told puts into the answer section what it holds
+pub answers_told : (zones : List Zone) (t : ℕ) (f : Found) (one : Told) → IsTold zones f one → IsHeld zones t one → answers_of t f ≡ from_zone f.zone (as_owner f.name (answering one.kind one.records.now))
+answers_told zones t f one is holds =
+    ap (answers_at f.zone f.name t) (told_is f.outcome f.name one.kind one.node is.kind) ∙ answers_kind f.zone f.name t one.kind one.node one.records.now (holds f.zone is.zone)
+
+-- those of one of all
+pub held_one : (zones : List Zone) (t : ℕ) (told : List Told) (i : ℕ) (one : Told) → AreHeld zones t told → i < length told → one ≡ get_or told i one → IsHeld zones t one
+held_one zones t [] i one h inside e = absurd (omega (arith, inside))
+held_one zones t (x ∷ told) zero one h inside e = subst (λ (o : Told). IsHeld zones t o) (sym e) h.0
+held_one zones t (x ∷ told) (suc i) one h inside e = held_one zones t told i one h.1 (omega (arith, inside)) e
 
 -- one name more in the answer section
 pub next_answers : (t : ℕ) (fs : List Found) (i : ℕ) (f : Found) (rs : List Record) → take (i + 1) fs ≡ take i fs ++ f ∷ [] → answers_of t f ≡ from_zone f.zone (as_owner f.name rs) → records_of (answer_of t (take (i + 1) fs)) ≡ records_of (answer_of t (take i fs)) ++ as_owner f.name rs
@@ -181,6 +207,9 @@ last_told zones fs told one are e =
     let size : length fs ≤ length told - 1 + 1 = omega (arith, told_length zones fs told are, at_end.0) in
     let whole : fs ≡ take (length told - 1) fs ++ at.found ∷ [] = sym (take_all (length told - 1 + 1) fs size) ∙ at.next in
     (at.found, at.is, ap authority_of whole ∙ authority_last (take (length told - 1) fs) at.found)
+
+pub held_last : (zones : List Zone) (t : ℕ) (told : List Told) (one : Told) → AreHeld zones t told → Some one ≡ slice_get told (length told - 1) → IsHeld zones t one
+held_last zones t told one holds e = let at_end = last_one told one e in held_one zones t told (length told - 1) one holds at_end.0 at_end.1
 
 pub none_told : (zones : List Zone) (fs : List Found) (told : List Told) → AreTold zones fs told → None ≡ slice_get told (length told - 1) → fs ≡ []
 none_told zones [] told are e = refl

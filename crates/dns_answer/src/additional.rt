@@ -10,7 +10,7 @@ use dns_memory::Heap;
 use dns_names::NameRef;
 use dns_records::{Record, types};
 use dns_wire::ReplyRecord;
-use dns_zone::{Zone, ZoneIndex};
+use dns_zone::{NOWHERE, Zone, ZoneIndex, of_type};
 use std::alloc::AllocError;
 
 /// The three sections of a reply.
@@ -72,8 +72,10 @@ impl<'a> Sections<'a> {
     ) -> Result<(), AllocError>
         ensures { OnOk result (AddsUnseen self.old self.new (rrset zone.now.records host.now type_a ++ rrset zone.now.records host.now type_aaaa)) }
     {
-        self.add_records(zone.index().rrset(host, types::A))?;
-        self.add_records(zone.index().rrset(host, types::AAAA))
+        let _ordered = zone.apex();
+        let there = zone.index().spot(host, NOWHERE);
+        self.add_records(of_type(there.records, types::A))?;
+        self.add_records(of_type(there.records, types::AAAA))
     }
 
     /// Puts in the addresses that go with a record of the zone: those of the host of an NS, an MX or an SRV (RFC 1034 section

@@ -1,8 +1,9 @@
 //! All sections of the reply to a lookup.
-ghost use Rattle.std.specs.Prelude.{◌≡◌, ◌<◌, List, [], length, IfOk, OnOk};
+ghost use Rattle.std.specs.Prelude.{◌≡◌, ℕ, ◌<◌, List, [], length, IfOk, OnOk};
 ghost use Rattle.std.specs.List.{flat_map};
 ghost use Rattle.dns_lookup.specs.Lookup.{Found as Stated};
 ghost use Rattle.dns_lookup.specs.Told.{AreTold};
+ghost use Rattle.dns_lookup.specs.Held.{AreHeld};
 ghost use Rattle.dns_answer.specs.Sections.{records_of, answer_of, authority_of, addresses_for};
 ghost use Rattle.dns_answer.specs.Added.{AddsUnseen, AreSections};
 
@@ -21,7 +22,7 @@ fn last_authority<'a, I: ZoneIndex>(
     found: &[Found<'a>],
 ) -> Result<Vec<ReplyRecord<'a>, Heap>, AllocError>
     requires { (fs : List Stated) × AreTold zones.now fs found.now }
-    ensures { IfOk result (λ shown. (fs : List Stated) → AreTold zones.now fs found.now → shown.items ≡ records_of (authority_of fs)) }
+    ensures { IfOk result (λ shown. (t : ℕ) (fs : List Stated) → AreTold zones.now fs found.now → AreHeld zones.now t found.now → shown.items ≡ records_of (authority_of fs)) }
 {
     match found.last() {
         Some(last) => authority_section(alloc, zones, last),
@@ -34,14 +35,13 @@ fn without_addresses<'a, I: ZoneIndex>(
     alloc: Heap,
     zones: &'a [Zone<I>],
     found: &[Found<'a>],
-    qtype: u16,
 ) -> Result<Sections<'a>, AllocError>
     requires { (fs : List Stated) × AreTold zones.now fs found.now }
-    ensures answer { IfOk result (λ s. (fs : List Stated) → AreTold zones.now fs found.now → s.answer.items ≡ records_of (answer_of qtype fs)) }
-    ensures authority { IfOk result (λ s. (fs : List Stated) → AreTold zones.now fs found.now → s.authority.items ≡ records_of (authority_of fs)) }
+    ensures answer { IfOk result (λ s. (t : ℕ) (fs : List Stated) → AreTold zones.now fs found.now → AreHeld zones.now t found.now → s.answer.items ≡ records_of (answer_of t fs)) }
+    ensures authority { IfOk result (λ s. (t : ℕ) (fs : List Stated) → AreTold zones.now fs found.now → AreHeld zones.now t found.now → s.authority.items ≡ records_of (authority_of fs)) }
     ensures additional { IfOk result (λ s. s.additional.items ≡ []) }
 {
-    let answer = answer_section(alloc, zones, found, qtype)?;
+    let answer = answer_section(alloc, found)?;
     let authority = last_authority(alloc, zones, found)?;
     Ok(Sections {
         answer,
@@ -56,13 +56,12 @@ impl<'a> Sections<'a> {
         &mut self,
         zones: &'a [Zone<I>],
         found: &[Found<'a>],
-        qtype: u16,
     ) -> Result<(), AllocError>
         requires { (fs : List Stated) × AreTold zones.now fs found.now }
-        ensures { OnOk result ((fs : List Stated) → AreTold zones.now fs found.now → AddsUnseen self.old self.new (flat_map addresses_for (answer_of qtype fs))) }
+        ensures { OnOk result ((t : ℕ) (fs : List Stated) → AreTold zones.now fs found.now → AreHeld zones.now t found.now → AddsUnseen self.old self.new (flat_map addresses_for (answer_of t fs))) }
     {
         for one in found {
-            self.add_addresses(searched(zones, one), answers(zones, one, qtype))?;
+            self.add_addresses(searched(zones, one), answers(one))?;
         }
         Ok(())
     }
@@ -74,10 +73,10 @@ impl<'a> Sections<'a> {
         found: &[Found<'a>],
     ) -> Result<(), AllocError>
         requires { (fs : List Stated) × AreTold zones.now fs found.now }
-        ensures { OnOk result ((fs : List Stated) → AreTold zones.now fs found.now → AddsUnseen self.old self.new (flat_map addresses_for (authority_of fs))) }
+        ensures { OnOk result ((t : ℕ) (fs : List Stated) → AreTold zones.now fs found.now → AreHeld zones.now t found.now → AddsUnseen self.old self.new (flat_map addresses_for (authority_of fs))) }
     {
         match found.last() {
-            Some(last) => self.add_addresses(searched(zones, last), servers(zones, last)),
+            Some(last) => self.add_addresses(searched(zones, last), servers(last)),
             None => Ok(()),
         }
     }
@@ -88,13 +87,12 @@ impl<'a> Sections<'a> {
         alloc: Heap,
         zones: &'a [Zone<I>],
         found: &[Found<'a>],
-        qtype: u16,
     ) -> Result<Sections<'a>, AllocError>
         requires { (fs : List Stated) × AreTold zones.now fs found.now }
-        ensures { IfOk result (λ s. (fs : List Stated) → AreTold zones.now fs found.now → AreSections qtype fs s) }
+        ensures { IfOk result (λ s. (t : ℕ) (fs : List Stated) → AreTold zones.now fs found.now → AreHeld zones.now t found.now → AreSections t fs s) }
     {
-        let mut sections = without_addresses(alloc, zones, found, qtype)?;
-        sections.add_for_answers(zones, found, qtype)?;
+        let mut sections = without_addresses(alloc, zones, found)?;
+        sections.add_for_answers(zones, found)?;
         sections.add_for_authority(zones, found)?;
         Ok(sections)
     }

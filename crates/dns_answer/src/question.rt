@@ -101,7 +101,7 @@ fn look_up<'a, I: ZoneIndex>(
     ensures rcode { IfOk result (λ reply. reply.rcode < 16) }
 {
     let found = resolve(alloc, zones, asked.name.again(), asked.qtype)?;
-    let sections = Sections::new(alloc, zones, found.as_slice(), asked.qtype)?;
+    let sections = Sections::new(alloc, zones, found.as_slice())?;
     let aa = is_authoritative(found.as_slice());
     let rcode = rcode_of(found.as_slice());
     Ok(with_sections(

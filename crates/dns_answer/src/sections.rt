@@ -1,8 +1,10 @@
 //! The answer section and the authority section of a reply.
-ghost use Rattle.std.specs.Prelude.{◌≡◌, ◌<◌, ◌++◌, List, length, IfOk, OnOk};
+ghost use Rattle.std.specs.Prelude.{◌≡◌, ℕ, ◌<◌, ◌++◌, List, length, IfOk, OnOk};
 ghost use Rattle.std.specs.List.{flat_map};
+ghost use Rattle.dns_zone.specs.Zone.{Zone as Held};
 ghost use Rattle.dns_lookup.specs.Lookup.{Found as Stated};
 ghost use Rattle.dns_lookup.specs.Told.{IsTold, AreTold};
+ghost use Rattle.dns_lookup.specs.Held.{IsHeld, AreHeld};
 ghost use Rattle.dns_answer.specs.Sections.{from_zone, as_owner, records_of, answers_of, answer_of, negative_soa, authority_at, addresses_for};
 
 use dns_lookup::{Found, Kind};
@@ -10,7 +12,7 @@ use dns_memory::Heap;
 use dns_names::NameRef;
 use dns_records::{Record, types};
 use dns_wire::ReplyRecord;
-use dns_zone::{Zone, ZoneIndex};
+use dns_zone::{Zone, ZoneIndex, of_type};
 use std::alloc::AllocError;
 
 /// The zone that was searched for a name.
@@ -23,29 +25,21 @@ pub(crate) fn searched<'a, I: ZoneIndex>(zones: &'a [Zone<I>], one: &Found<'_>) 
 
 /// The records that a name puts into the answer section: its CNAME, or those that were asked for (RFC 1034 section 4.3.2,
 /// step 3a).
-pub(crate) fn answers<'a, I: ZoneIndex>(
-    zones: &'a [Zone<I>],
-    one: &Found<'a>,
-    qtype: u16,
-) -> &'a [Record]
-    requires { one.now.zone < length zones.now }
-    ensures { (f : Stated) → IsTold zones.now f one.now → answers_of qtype f ≡ from_zone f.zone (as_owner f.name result.now) }
+pub(crate) fn answers<'a>(one: &Found<'a>) -> &'a [Record]
+    ensures { (zones : List Held) (t : ℕ) (f : Stated) → IsTold zones f one.now → IsHeld zones t one.now → answers_of t f ≡ from_zone f.zone (as_owner f.name result.now) }
 {
-    let zone = &zones[one.zone];
     match one.kind {
-        Kind::Alias => one.node.rrset(zone, types::CNAME),
-        Kind::Answers => one.node.asked(zone, qtype),
+        Kind::Alias | Kind::Answers => one.records,
         Kind::Referral | Kind::NoData | Kind::NameError => &[],
     }
 }
 
 /// The name servers that the last name puts into the authority section: those of a cut (RFC 1034 section 4.3.2, step 3b).
-pub(crate) fn servers<'a, I: ZoneIndex>(zones: &'a [Zone<I>], last: &Found<'a>) -> &'a [Record]
-    requires { last.now.zone < length zones.now }
-    ensures { (f : Stated) → IsTold zones.now f last.now → flat_map addresses_for (authority_at f) ≡ flat_map addresses_for (from_zone f.zone result.now) }
+pub(crate) fn servers<'a>(last: &Found<'a>) -> &'a [Record]
+    ensures { (zones : List Held) (t : ℕ) (f : Stated) → IsTold zones f last.now → IsHeld zones t last.now → flat_map addresses_for (authority_at f) ≡ flat_map addresses_for (from_zone f.zone result.now) }
 {
     match last.kind {
-        Kind::Referral => last.node.rrset(&zones[last.zone], types::NS),
+        Kind::Referral => last.records,
         _ => &[],
     }
 }
@@ -65,18 +59,15 @@ fn put_under<'a>(
 }
 
 /// The answer section: what each name that was searched puts into it.
-pub(crate) fn answer_section<'a, I: ZoneIndex>(
+pub(crate) fn answer_section<'a>(
     alloc: Heap,
-    zones: &'a [Zone<I>],
     found: &[Found<'a>],
-    qtype: u16,
 ) -> Result<Vec<ReplyRecord<'a>, Heap>, AllocError>
-    requires { (fs : List Stated) × AreTold zones.now fs found.now }
-    ensures { IfOk result (λ shown. (fs : List Stated) → AreTold zones.now fs found.now → shown.items ≡ records_of (answer_of qtype fs)) }
+    ensures { IfOk result (λ shown. (zones : List Held) (t : ℕ) (fs : List Stated) → AreTold zones fs found.now → AreHeld zones t found.now → shown.items ≡ records_of (answer_of t fs)) }
 {
     let mut shown = Vec::new(alloc);
     for one in found {
-        put_under(&mut shown, &one.name, answers(zones, one, qtype))?;
+        put_under(&mut shown, &one.name, answers(one))?;
     }
     Ok(shown)
 }
@@ -103,7 +94,9 @@ fn start_of_authority<'a, I: ZoneIndex>(
     ensures { IfOk result (λ shown. shown.items ≡ negative_soa zone.now) }
 {
     let mut shown = Vec::new(alloc);
-    for record in zone.index().rrset(&zone.apex().lend(), types::SOA) {
+    // The apex comes first in the order of names.
+    let apex = zone.index().spot(&zone.apex().lend(), 0);
+    for record in of_type(apex.records, types::SOA) {
         let ttl = record.ttl().min(record.minimum());
         shown.push(ReplyRecord::new(record.owner().lend(), ttl, record))?;
     }
@@ -118,11 +111,11 @@ pub(crate) fn authority_section<'a, I: ZoneIndex>(
     last: &Found<'a>,
 ) -> Result<Vec<ReplyRecord<'a>, Heap>, AllocError>
     requires { last.now.zone < length zones.now }
-    ensures { IfOk result (λ shown. (f : Stated) → IsTold zones.now f last.now → shown.items ≡ records_of (authority_at f)) }
+    ensures { IfOk result (λ shown. (t : ℕ) (f : Stated) → IsTold zones.now f last.now → IsHeld zones.now t last.now → shown.items ≡ records_of (authority_at f)) }
 {
     let zone = &zones[last.zone];
     match last.kind {
-        Kind::Referral => as_they_are(alloc, last.node.rrset(zone, types::NS)),
+        Kind::Referral => as_they_are(alloc, last.records),
         Kind::Alias | Kind::Answers => Ok(Vec::new(alloc)),
         _ => start_of_authority(alloc, zone),
     }

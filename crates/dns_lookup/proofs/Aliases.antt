@@ -1,20 +1,17 @@
 -- The target of an alias, and the names that were searched before it.
 use Rattle.std.proofs.Common.{◌≡◌, ℕ, suc, ◌+◌, ◌<◌, Bool, true, false, ◌||◌, List, [], ◌∷◌, ◌++◌, length, get_or, drop, refl, sym, ap, subst, ◌∙◌, arith, cond}
-use Rattle.std.specs.Prelude.{Option, Some, None, not, ◌&&◌, ◌==◌, slice_get}
+use Rattle.std.specs.Prelude.{Option, Some, None, ◌&&◌, ◌==◌, slice_get}
 use Rattle.std.specs.List.{list_any}
 use Rattle.std.proofs.Math.Seq.{drop-cons}
 use Rattle.std.proofs.lemmas.Bool.Decides.{nat_tests}
 use Rattle.dns_names.specs.Name.{Labels, names_eq}
-use Rattle.dns_records.specs.Types.{type_cname, type_any}
-use Rattle.dns_records.specs.Record.{Record, alias_of}
-use Rattle.dns_zone.specs.Records.{owns_type, is_none_of, rrset}
+use Rattle.dns_records.specs.Record.{Record}
+use Rattle.dns_zone.specs.Records.{rrset}
 use Rattle.dns_zone.specs.Zone.{Zone}
 use Rattle.dns_lookup.specs.Lookup.{Outcome, Referral, Alias, Answers, NoData, NameError, cut, node, at_node, asked, outcome, next_name, alias_at}
 use Rattle.dns_lookup.specs.Lookup as lookup
-use Rattle.dns_lookup.specs.Told.{IsKind, names_told}
+use Rattle.dns_lookup.specs.Told.{names_told}
 use Rattle.dns_lookup.specs.declared.chain.Found.{Found}
-use Rattle.dns_lookup.specs.declared.outcome.Kind.{Kind}
-use Rattle.dns_lookup.specs.declared.outcome.Kind.TheVariants as kinds
 
 abbrev next_at : Zone → List Labels → Outcome → Option Labels
 next_at z seen o = next_name (record { zone = z; name = []; outcome = o }) seen

@@ -7,6 +7,7 @@ use Rattle.dns_zone.specs.Zone.{Zone}
 use Rattle.dns_lookup.specs.Lookup.{next_name, zone_of, chain, outcome, resolve}
 use Rattle.dns_lookup.specs.Lookup as lookup
 use Rattle.dns_lookup.specs.Told.{IsTold, AreTold, names_told}
+use Rattle.dns_lookup.specs.Held.{IsHeld, AreHeld}
 use Rattle.dns_lookup.specs.declared.chain.Found.{Found}
 
 abbrev names : List lookup.Found → List Labels
@@ -27,6 +28,10 @@ told_more zones [] f [] one h is = (is, tt)
 told_more zones (g ∷ fs) f (first ∷ told) one h is = (h.0, told_more zones fs f told one h.1 is)
 told_more zones [] f (first ∷ told) one h is = absurd h
 told_more zones (g ∷ fs) f [] one h is = absurd h
+
+pub held_more : (zones : List Zone) (t : ℕ) (told : List Found) (one : Found) → AreHeld zones t told → IsHeld zones t one → AreHeld zones t (told ++ one ∷ [])
+held_more zones t [] one h is = (is, tt)
+held_more zones t (first ∷ told) one h is = (h.0, held_more zones t told one h.1 is)
 
 told_names : (zones : List Zone) (fs : List lookup.Found) (told : List Found) → AreTold zones fs told → names_told told ≡ names fs
 told_names zones [] [] h = refl

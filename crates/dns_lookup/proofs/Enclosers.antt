@@ -3,7 +3,7 @@ use Rattle.std.proofs.Common.{◌≡◌, ℕ, ◌<◌, ◌≤◌, Bool, true, fa
 use Rattle.std.specs.Prelude.{Some, None, unwrap_or}
 use Rattle.std.specs.List.{find}
 use Rattle.std.proofs.lemmas.List.{length-append}
-use Rattle.dns_names.specs.Name.{Labels, IsName, wire, parent, ancestors}
+use Rattle.dns_names.specs.Name.{Labels, IsName, wire, ancestors}
 use Rattle.dns_records.specs.Record.{Record}
 use Rattle.dns_zone.specs.Records.{exists}
 use Rattle.dns_lookup.specs.Lookup.{encloser}

@@ -1,19 +1,20 @@
 //! All that a question finds, from alias to alias.
-ghost use Rattle.std.specs.Prelude.{◌≡◌, ℕ, ◌<◌, ◌≤◌, false, None, Some, [], ◌∷◌, ◌++◌, length, vec_len, IfOk, IfSome, IfNone};
+ghost use Rattle.std.specs.Prelude.{◌≡◌, ℕ, List, ◌<◌, ◌≤◌, false, None, Some, [], ◌∷◌, ◌++◌, length, vec_len, IfOk, IfSome, IfNone};
 ghost use Rattle.std.specs.List.{list_any};
-ghost use Rattle.dns_names.specs.Name.{names_eq};
+ghost use Rattle.dns_names.specs.Name.{Labels, names_eq};
 ghost use Rattle.dns_records.specs.Types.{type_cname};
 ghost use Rattle.dns_zone.specs.Zone.{Zone as Held};
-ghost use Rattle.dns_zone.specs.Records.{owns_type};
+ghost use Rattle.dns_zone.specs.Records.{rrset, owns_type};
 ghost use Rattle.dns_lookup.specs.Lookup.{Found as Stated, outcome, zone_of, alias_at, next_name, resolve};
 ghost use Rattle.dns_lookup.specs.Told.{IsTold, AreTold, names_told};
+ghost use Rattle.dns_lookup.specs.Held.{IsHeld, AreHeld};
 
 use crate::node::Node;
 use crate::outcome::{Kind, outcome};
 use crate::zones::nearest;
 use dns_memory::Heap;
 use dns_names::NameRef;
-use dns_records::types;
+use dns_records::Record;
 use dns_zone::{Zone, ZoneIndex};
 use std::alloc::AllocError;
 
@@ -28,6 +29,8 @@ pub struct Found<'a> {
     pub node: Node<'a>,
     /// What became of it.
     pub kind: Kind,
+    /// The records that it finds at the node: the NS of a cut, the CNAME of an alias, those that were asked for, or none.
+    pub records: &'a [Record],
 }
 
 /// The names that were searched, one behind the other.
@@ -43,24 +46,26 @@ fn search<'a, I: ZoneIndex>(
     qtype: u16,
 ) -> Option<Found<'a>>
     ensures found { IfSome result (λ f. (z : Held) × (zone_of zones.now name.entry ≡ Some z) × IsTold zones.now (record { zone = z; name = name.entry; outcome = outcome z name.entry qtype }) f) }
+    ensures held { IfSome result (IsHeld zones.now qtype) }
     ensures none { IfNone result (zone_of zones.now name.entry ≡ None) }
 {
     let zone = nearest(zones, &name)?;
-    let (kind, node) = outcome(&zones[zone], &name, qtype);
+    let (kind, node, records) = outcome(&zones[zone], &name, qtype);
     Some(Found {
         zone,
         name,
         node,
         kind,
+        records,
     })
 }
 
-/// The target of the alias that stands at the node.
-fn target<'z, I: ZoneIndex>(zone: &'z Zone<I>, node: &Node<'_>) -> Option<NameRef<'z>>
-    ensures found { IfSome result (λ name. name ≡ alias_at zone.now node.now) }
-    ensures none { IfNone result (owns_type zone.now.records node.now type_cname ≡ false) }
+/// The target of an alias by its CNAME.
+fn target<'a>(aliases: &'a [Record]) -> Option<NameRef<'a>>
+    ensures found { IfSome result (λ name. (z : Held) (node : Labels) → aliases.now ≡ rrset z.records node type_cname → name ≡ alias_at z node) }
+    ensures none { IfNone result ((z : Held) (node : Labels) → aliases.now ≡ rrset z.records node type_cname → owns_type z.records node type_cname ≡ false) }
 {
-    node.rrset(zone, types::CNAME).first()?.data().as_name()
+    aliases.first()?.data().as_name()
 }
 
 /// Whether the name was searched.
@@ -76,18 +81,13 @@ fn is_among(found: &[Found<'_>], name: &NameRef<'_>) -> bool
 }
 
 /// The name that is searched next: the target of an alias, unless it was searched before.
-fn next_name<'a, I: ZoneIndex>(
-    zones: &'a [Zone<I>],
-    last: &Found<'a>,
-    before: &[Found<'a>],
-) -> Option<NameRef<'a>>
-    requires { last.now.zone < length zones.now }
-    ensures { (f : Stated) (t : ℕ) → IsTold zones.now f last.now → f.outcome ≡ outcome f.zone f.name t → result ≡ next_name f (names_told before.now ++ last.now.name ∷ []) }
+fn next_name<'a>(last: &Found<'a>, before: &[Found<'a>]) -> Option<NameRef<'a>>
+    ensures { (zones : List Held) (f : Stated) (t : ℕ) → IsTold zones f last.now → IsHeld zones t last.now → f.outcome ≡ outcome f.zone f.name t → result ≡ next_name f (names_told before.now ++ last.now.name ∷ []) }
 {
     let Kind::Alias = last.kind else {
         return None;
     };
-    let next = target(&zones[last.zone], &last.node)?;
+    let next = target(last.records)?;
     if next.is(&last.name) | is_among(before, &next) {
         return None;
     }
@@ -104,6 +104,7 @@ pub fn resolve<'a, I: ZoneIndex>(
     qtype: u16,
 ) -> Result<Outcome<'a>, AllocError>
     ensures told { IfOk result (λ found. AreTold zones.now (resolve zones.now name.entry qtype) found.items) }
+    ensures held { IfOk result (λ found. AreHeld zones.now qtype found.items) }
     ensures most { IfOk result (λ found. vec_len found ≤ 8) }
 {
     let mut found = Vec::new(alloc);
@@ -112,7 +113,7 @@ pub fn resolve<'a, I: ZoneIndex>(
         let Some(one) = search(zones, here, qtype) else {
             return Ok(found);
         };
-        let next = next_name(zones, &one, found.as_slice());
+        let next = next_name(&one, found.as_slice());
         found.push(one)?;
         match next {
             Some(name) => here = name,

@@ -2,14 +2,12 @@
 ghost use Rattle.std.specs.Prelude.{◌≡◌, ◌≤◌, length, IfOk};
 ghost use Rattle.dns_names.specs.Name.{wire, labels_of, wildcard};
 ghost use Rattle.dns_names.specs.Plain.{IsPlain};
-ghost use Rattle.dns_zone.specs.Records.{records_at, rrset, owns_type, exists};
-ghost use Rattle.dns_lookup.specs.Lookup.{asked};
+ghost use Rattle.dns_zone.specs.Records.{records_at, exists};
 
 use arrayvec::ArrayVec;
 use dns_memory::Heap;
 use dns_names::{Name, NameRef};
-use dns_records::{Record, types};
-use dns_zone::{Zone, ZoneIndex};
+use dns_zone::{Spot, Zone, ZoneIndex};
 use std::alloc::AllocError;
 use std::marker::Model;
 
@@ -81,54 +79,15 @@ impl<'a> Node<'a> {
         self.base.to_name(alloc)
     }
 
-    /// Whether the node exists in the zone (RFC 4592 section 2.2.2).
-    pub(crate) fn exists<I: ZoneIndex>(&self, zone: &Zone<I>) -> bool
-        ensures { result ≡ exists zone.now.records self.now }
+    /// What stands at the node in the zone, looked for near a place.
+    pub(crate) fn spot<'z, I: ZoneIndex>(&self, zone: &'z Zone<I>, near: usize) -> Spot<'z>
+        ensures records { result.records.now ≡ records_at zone.now.records self.now }
+        ensures exists { result.exists ≡ exists zone.now.records self.now }
     {
         if self.is_wildcard {
             let octets = starred(&self.base);
-            return zone.index().exists(&NameRef::over(octets.as_slice()));
+            return zone.index().spot(&NameRef::over(octets.as_slice()), near);
         }
-        zone.index().exists(&self.base)
-    }
-
-    /// The records that the node owns.
-    fn records_at<'z, I: ZoneIndex>(&self, zone: &'z Zone<I>) -> &'z [Record]
-        ensures { result.now ≡ records_at zone.now.records self.now }
-    {
-        if self.is_wildcard {
-            let octets = starred(&self.base);
-            return zone.index().records_at(&NameRef::over(octets.as_slice()));
-        }
-        zone.index().records_at(&self.base)
-    }
-
-    /// The records of a type that the node owns.
-    pub fn rrset<'z, I: ZoneIndex>(&self, zone: &'z Zone<I>, rtype: u16) -> &'z [Record]
-        ensures { result.now ≡ rrset zone.now.records self.now rtype }
-    {
-        if self.is_wildcard {
-            let octets = starred(&self.base);
-            return zone.index().rrset(&NameRef::over(octets.as_slice()), rtype);
-        }
-        zone.index().rrset(&self.base, rtype)
-    }
-
-    /// Whether the node owns a record of the type.
-    pub(crate) fn owns_type<I: ZoneIndex>(&self, zone: &Zone<I>, rtype: u16) -> bool
-        ensures { result ≡ owns_type zone.now.records self.now rtype }
-    {
-        !self.rrset(zone, rtype).is_empty()
-    }
-
-    /// The records of the node that a type asks for: all, or those of the type (RFC 1034 section 4.3.2, step 3a; RFC 1035
-    /// section 3.2.3).
-    pub fn asked<'z, I: ZoneIndex>(&self, zone: &'z Zone<I>, qtype: u16) -> &'z [Record]
-        ensures { result.now ≡ asked zone.now.records self.now qtype }
-    {
-        if qtype == types::ANY {
-            return self.records_at(zone);
-        }
-        self.rrset(zone, qtype)
+        zone.index().spot(&self.base, near)
     }
 }

@@ -1,14 +1,17 @@
 //! What becomes of one name in one zone.
-ghost use Rattle.std.specs.Prelude.{◌≡◌};
+ghost use Rattle.std.specs.Prelude.{◌≡◌, true, List, Some, None, IfSome, IfNone};
 ghost use Rattle.dns_names.specs.Name.{Labels};
-ghost use Rattle.dns_lookup.specs.Lookup.{encloser, node, at_node, outcome};
+ghost use Rattle.dns_records.specs.Record.{Record as Stated};
+ghost use Rattle.dns_zone.specs.Records.{is_ordered, records_at, exists};
+ghost use Rattle.dns_lookup.specs.Lookup.{encloser, asked, node, at_node, outcome};
 ghost use Rattle.dns_lookup.specs.Told.{IsKind};
+ghost use Rattle.dns_lookup.specs.Held.{records_found};
 
 use crate::cut::cut;
 use crate::node::Node;
 use dns_names::NameRef;
-use dns_records::types;
-use dns_zone::{Zone, ZoneIndex};
+use dns_records::{Record, types};
+use dns_zone::{NOWHERE, Spot, Zone, ZoneIndex, of_type};
 
 /// What became of a name that was searched (RFC 1034 section 4.3.2, step 3).
 #[derive(Clone, Copy, Debug, PartialEq, Eq)]
@@ -25,12 +28,17 @@ pub enum Kind {
     NameError,
 }
 
-/// The longest ancestor of the name that exists, the name itself included (RFC 4592 section 3.3.1).
-fn closest_encloser<'n, I: ZoneIndex>(zone: &Zone<I>, name: &NameRef<'n>) -> NameRef<'n>
+/// The longest ancestor of the name that exists, the name itself included (RFC 4592 section 3.3.1). Each is looked for near a
+/// place.
+fn closest_encloser<'n, I: ZoneIndex>(
+    zone: &Zone<I>,
+    name: &NameRef<'n>,
+    near: usize,
+) -> NameRef<'n>
     ensures { result ≡ encloser zone.now.records name.now }
 {
     let mut here = name.again();
-    'ancestors: while !zone.index().exists(&here) {
+    'ancestors: while !exists_near(zone, &here, near) {
         match here.parent() {
             Some(above) => here = above,
             None => return here,
@@ -39,50 +47,87 @@ fn closest_encloser<'n, I: ZoneIndex>(zone: &Zone<I>, name: &NameRef<'n>) -> Nam
     here
 }
 
-/// The node that answers for a name: the name if it exists, else the label `*` before its closest encloser if that exists
-/// (RFC 4592 section 3.3).
-fn node_of<'n, I: ZoneIndex>(zone: &Zone<I>, name: &NameRef<'n>) -> Option<Node<'n>>
-    ensures { result ≡ node zone.now.records name.now }
+/// Whether the name exists in the zone. It is looked for near a place.
+fn exists_near<I: ZoneIndex>(zone: &Zone<I>, name: &NameRef<'_>, near: usize) -> bool
+    ensures { result ≡ exists zone.now.records name.now }
 {
-    let itself = Node::named(name.again());
-    if itself.exists(zone) {
-        return Some(itself);
+    zone.index().spot(name, near).exists
+}
+
+/// The node that answers for a name, and the records that it owns: the name if it exists, else the label `*` before its closest
+/// encloser if that exists (RFC 4592 section 3.3).
+fn node_of<'a, I: ZoneIndex>(
+    zone: &'a Zone<I>,
+    name: &NameRef<'a>,
+    own: &Spot<'a>,
+) -> Option<(Node<'a>, &'a [Record])>
+    requires records { own.now.records.now ≡ records_at zone.now.records name.now }
+    requires exists { own.now.exists ≡ exists zone.now.records name.now }
+    ensures found { IfSome result (λ found. (node zone.now.records name.now ≡ Some found.0) × (found.1.now ≡ records_at zone.now.records found.0)) }
+    ensures none { IfNone result (node zone.now.records name.now ≡ None) }
+{
+    if own.exists {
+        return Some((Node::named(name.again()), own.records));
     }
     // The encloser is another name above it, so that the label has room before it.
     let _valid = name.as_wire();
-    let source = Node::wildcard_of(closest_encloser(zone, name));
-    if source.exists(zone) {
-        return Some(source);
+    let source = Node::wildcard_of(closest_encloser(zone, name, own.place));
+    let there = source.spot(zone, own.place);
+    if there.exists {
+        return Some((source, there.records));
     }
     None
 }
 
-/// What becomes of a name for which the node answers (RFC 1034 section 4.3.2, step 3a).
-fn kind_at<I: ZoneIndex>(zone: &Zone<I>, node: &Node<'_>, qtype: u16) -> Kind
-    ensures { (name : Labels) → IsKind (at_node zone.now.records node.now qtype) name result node.now }
+/// The records that a type asks for among those of a node: all, or those of the type (RFC 1034 section 4.3.2, step 3a; RFC 1035
+/// section 3.2.3).
+fn asked(owned: &[Record], qtype: u16) -> &[Record]
+    ensures { (set : List Stated) (node : Labels) → is_ordered set ≡ true → owned.now ≡ records_at set node → result.now ≡ asked set node qtype }
 {
-    if node.owns_type(zone, types::CNAME) & (qtype != types::CNAME) & (qtype != types::ANY) {
-        return Kind::Alias;
+    if qtype == types::ANY {
+        return owned;
     }
-    if node.asked(zone, qtype).is_empty() {
-        return Kind::NoData;
-    }
-    Kind::Answers
+    of_type(owned, qtype)
 }
 
-/// What becomes of the name, and the cut or the node that answers; of a name error, the name itself.
-pub(crate) fn outcome<'n, I: ZoneIndex>(
-    zone: &Zone<I>,
-    name: &NameRef<'n>,
-    qtype: u16,
-) -> (Kind, Node<'n>)
-    ensures { IsKind (outcome zone.now name.now qtype) name.now result.0 result.1 }
+/// What becomes of a name for which a node answers that owns these records, and those that the name finds (RFC 1034 section
+/// 4.3.2, step 3a).
+fn kind_by(owned: &[Record], qtype: u16) -> (Kind, &[Record])
+    ensures { (set : List Stated) (node name : Labels) → is_ordered set ≡ true → owned.now ≡ records_at set node → IsKind (at_node set node qtype) name result.0 node × (result.1.now ≡ records_found set result.0 node qtype) }
 {
-    if let Some(shortest) = cut(zone, name) {
-        return (Kind::Referral, Node::named(shortest));
+    let aliases = of_type(owned, types::CNAME);
+    if !aliases.is_empty() & (qtype != types::CNAME) & (qtype != types::ANY) {
+        return (Kind::Alias, aliases);
     }
-    match node_of(zone, name) {
-        Some(node) => (kind_at(zone, &node, qtype), node),
-        None => (Kind::NameError, Node::named(name.again())),
+    let found = asked(owned, qtype);
+    if found.is_empty() {
+        return (Kind::NoData, &[]);
+    }
+    (Kind::Answers, found)
+}
+
+/// What becomes of the name, the cut or the node that answers, and the records that the name finds there; of a name error, the
+/// name itself and none.
+pub(crate) fn outcome<'a, I: ZoneIndex>(
+    zone: &'a Zone<I>,
+    name: &NameRef<'a>,
+    qtype: u16,
+) -> (Kind, Node<'a>, &'a [Record])
+    ensures told { IsKind (outcome zone.now name.now qtype) name.now result.0 result.1 }
+    ensures held { result.2.now ≡ records_found zone.now.records result.0 result.1 qtype }
+{
+    let own = zone.index().spot(name, NOWHERE);
+    if let Some(shortest) = cut(zone, name, &own) {
+        let there = zone.index().spot(&shortest, own.place);
+        let servers = of_type(there.records, types::NS);
+        return (Kind::Referral, Node::named(shortest), servers);
+    }
+    let _ordered = zone.apex();
+    match node_of(zone, name, &own) {
+        Some((node, owned)) => {
+            let (kind, found) = kind_by(owned, qtype);
+            (kind, node, found)
+        }
+        None => (Kind::NameError, Node::named(name.again()), &[]),
     }
 }

@@ -1,6 +1,6 @@
 ghost use Rattle.std.specs.Prelude.{◌≡◌, ℕ, List, ◌∷◌, ◌++◌, ◌↔◌, Some, None, IfOk, IfSome, IfNone, IsTrue, length, map};
 ghost use Rattle.std.specs.Char.{to_ascii_lowercase};
-ghost use Rattle.dns_names.specs.Name.{Labels, IsName, IsUnder, wire, parent, name_cmp};
+ghost use Rattle.dns_names.specs.Name.{Labels, IsName, IsUnder, wire, parent, is_wildcard, name_cmp};
 
 use crate::name::root_of;
 use crate::{Name, labels};
@@ -114,6 +114,14 @@ impl<'a> NameRef<'a> {
         ensures { IsTrue result ↔ IsUnder self.now ancestor.now }
     {
         labels::is_under(self.octets, ancestor.octets)
+    }
+
+    /// Whether the first label is `*` (RFC 4592 section 2.1.1).
+    pub fn begins_with_asterisk(&self) -> bool
+        ensures { result ≡ is_wildcard self.now }
+    {
+        let octets = self.as_wire();
+        octets.len() > 1 && octets[0] == 1 && octets[1] == b'*'
     }
 
     /// Whether the two are one name.

@@ -7,7 +7,6 @@ use crate::Rcode;
 use crate::item::Item;
 use dns_names::Name;
 use dns_records::types::{ANY, CLASS_ANY, CLASS_IN, CLASS_NONE, NS};
-use dns_zone::begins_with_asterisk;
 
 /// What fails a record that is to be added.
 fn addition_fault(item: &Item) -> Option<Rcode>
@@ -17,7 +16,7 @@ fn addition_fault(item: &Item) -> Option<Rcode>
     if item.rtype() == ANY || item.is_of_meta_type() || known && item.is_empty() {
         return Some(Rcode::FormErr);
     }
-    let wildcard_ns = item.rtype() == NS && begins_with_asterisk(&item.owner().lend());
+    let wildcard_ns = item.rtype() == NS && item.owner().lend().begins_with_asterisk();
     if !known || item.rdata().len() > 4096 || wildcard_ns {
         return Some(Rcode::Refused);
     }

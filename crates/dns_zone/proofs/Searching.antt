@@ -146,28 +146,18 @@ gt_apart Less e = refl
 gt_apart Equal e = absurd cc
 gt_apart Greater e = refl
 
-between : (o : Ordering) → is_lt o ≡ false → is_gt o ≡ false → is_eq o ≡ true
-between Less e f = absurd cc
-between Equal e f = refl
-between Greater e f = absurd cc
+above : (o : Ordering) → is_lt o ≡ false → is_eq o ≡ false → is_gt o ≡ true
+above Less e f = absurd cc
+above Equal e f = absurd cc
+above Greater e f = refl
 
-one_side : (o : Ordering) → is_lt o ≡ true → is_gt o ≡ true → ⊥
-one_side Less e f = cc
-one_side Equal e f = cc
-one_side Greater e f = cc
+-- behind those that are what is looked for, none is
+pub past_match : (side : Record → Ordering) → IsCut side → (xs : List Record) (at : ℕ) → is_ordered xs ≡ true → at < length xs → (r : Record) → r ≡ get_or xs at r → is_lt (side (get_or xs at r)) ≡ false → is_eq (side r) ≡ false → AllWithin (λ s. is_eq (side s) ≡ false) xs at (length xs)
+past_match side cut xs at ordered inside r is low other =
+    let here : is_gt (side r) ≡ true = above (side r) (ap (λ s. is_lt (side s)) is ∙ low) other in
+    let all = high_half (λ s. is_gt (side s) ≡ true) xs at (past side cut) ordered inside r is here in
+    λ k d from to. gt_apart (side (get_or xs k d)) (all k d from to)
 
--- the two counts, over any side
-pub counts_meet : (side : Record → Ordering) (xs : List Record) (low high : ℕ) → low ≤ length xs → high ≤ length xs
-    → AllWithin (λ r. is_lt (side r) ≡ true) xs 0 low → AllWithin (λ r. is_gt (side r) ≡ true) xs high (length xs) → low ≤ high
-counts_meet side [] low high a b f g = omega arith
-counts_meet side (x ∷ xs) low high a b f g = elim (told_nat high low) [
-  | inr le ↦ le
-  | inl lt ↦ absurd (one_side (side (get_or (x ∷ xs) high x)) (f high x (omega arith) lt) (g high x (omega arith) (omega arith)))
-]
-
-pub matches : (side : Record → Ordering) (xs : List Record) (low high : ℕ) → low ≤ high → high ≤ length xs
-    → AllWithin (λ r. is_lt (side r) ≡ true) xs 0 low → AllWithin (λ r. is_lt (side r) ≡ false) xs low (length xs)
-    → AllWithin (λ r. is_gt (side r) ≡ false) xs 0 high → AllWithin (λ r. is_gt (side r) ≡ true) xs high (length xs)
+pub matches : (side : Record → Ordering) (xs : List Record) (low high : ℕ) → low ≤ high → high ≤ length xs → AllWithin (λ r. is_lt (side r) ≡ true) xs 0 low → AllWithin (λ r. is_eq (side r) ≡ true) xs low high → AllWithin (λ r. is_eq (side r) ≡ false) xs high (length xs)
     → take (high - low) (drop low xs) ≡ filter (λ r. is_eq (side r)) xs
-matches side xs low high met inside f g h i =
-    filter_range (λ r. is_eq (side r)) xs low high met inside (λ k d from to. lt_apart _ (f k d from to)) (λ k d from to. between _ (g k d from (omega arith)) (h k d (omega arith) to)) (λ k d from to. gt_apart _ (i k d from to))
+matches side xs low high met inside f g h = filter_range (λ r. is_eq (side r)) xs low high met inside (λ k d from to. lt_apart _ (f k d from to)) g h

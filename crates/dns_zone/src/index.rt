@@ -9,6 +9,20 @@ use dns_names::NameRef;
 use dns_records::Record;
 use std::alloc::AllocError;
 
+/// No place in a set.
+pub const NOWHERE: usize = usize::MAX;
+
+/// What a set holds at a name.
+#[derive(Drop)]
+pub struct Spot<'a> {
+    /// The records that the name owns, in order of type and data.
+    pub records: &'a [Record],
+    /// Whether the name or one under it owns a record (RFC 4592 section 2.2.2).
+    pub exists: bool,
+    /// The place of the name in the set, from which names near it are found sooner.
+    pub place: usize,
+}
+
 /// A finite set of records, seen as the list of its records in order of owner, type and data.
 pub trait ZoneIndex: Drop {
     /// What it contains.
@@ -33,6 +47,12 @@ pub trait ZoneIndex: Drop {
     /// Whether the name or one under it owns a record (RFC 4592 section 2.2.2).
     fn exists(&self, name: &NameRef<'_>) -> bool
         ensures { result ≡ exists (records self.now) name.now };
+
+    /// The records that the name owns, and whether it exists. What a place tells is no more than where the search begins: the
+    /// answer is the same from each, and from `NOWHERE`, and comes soonest from the place of a name near it.
+    fn spot(&self, name: &NameRef<'_>, near: usize) -> Spot<'_>
+        ensures records { result.records.now ≡ records_at (records self.now) name.now }
+        ensures exists { result.exists ≡ exists (records self.now) name.now };
 
     /// Puts a record in. It replaces one of equal owner, type and data, and so its TTL.
     fn insert(&mut self, added: Record) -> Result<(), AllocError>

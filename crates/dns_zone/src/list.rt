@@ -4,8 +4,8 @@ ghost use Rattle.std.specs.List.{AllByRecursion};
 ghost use Rattle.dns_records.specs.Record.{IsRecord};
 ghost use Rattle.dns_zone.specs.Records.{is_ordered};
 
-use crate::ZoneIndex;
-use crate::search::{Key, find, first_behind, is_owned_under, matching};
+use crate::search::{Key, find, first_behind, is_owned_under, matching, spot};
+use crate::{Spot, ZoneIndex};
 use dns_memory::Heap;
 use dns_names::NameRef;
 use dns_records::Record;
@@ -42,6 +42,10 @@ impl ZoneIndex for RecordList {
 
     fn exists(&self, name: &NameRef<'_>) -> bool {
         is_owned_under(&self.items, name)
+    }
+
+    fn spot(&self, name: &NameRef<'_>, near: usize) -> Spot<'_> {
+        spot(&self.items, name, near)
     }
 
     fn insert(&mut self, added: Record) -> Result<(), AllocError> {

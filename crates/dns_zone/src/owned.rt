@@ -1,17 +1,19 @@
-//! What is asked of a name in a zone.
-ghost use Rattle.std.specs.Prelude.{◌≡◌};
-ghost use Rattle.dns_zone.specs.Records.{owns_type};
-ghost use Rattle.dns_zone.specs.Zone.{is_wildcard};
+//! What one name owns.
+ghost use Rattle.std.specs.Prelude.{◌≡◌, ℕ, List, true};
+ghost use Rattle.dns_names.specs.Name.{Labels};
+ghost use Rattle.dns_records.specs.Record.{Record as Stated};
+ghost use Rattle.dns_zone.specs.Records.{is_ordered, owns_type, records_at, rrset};
 
 use crate::ZoneIndex;
 use dns_names::NameRef;
+use dns_records::Record;
 
-/// Whether the first label is `*` (RFC 4592 section 2.1.1).
-pub fn begins_with_asterisk(name: &NameRef<'_>) -> bool
-    ensures { result ≡ is_wildcard name.now }
+/// Those of a type among the records that a name owns, which stand in order of type (RFC 2181 section 5).
+pub fn of_type(records: &[Record], rtype: u16) -> &[Record]
+    ensures { (set : List Stated) (name : Labels) → is_ordered set ≡ true → records.now ≡ records_at set name → result.now ≡ rrset set name rtype }
 {
-    let octets = name.as_wire();
-    octets.len() > 1 && octets[0] == 1 && octets[1] == b'*'
+    let from = &records[records.partition_point(|r| r.rtype() < rtype)..];
+    &from[..from.partition_point(|r| r.rtype() == rtype)]
 }
 
 /// Whether the name owns a record of the type.

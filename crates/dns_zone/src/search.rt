@@ -1,12 +1,14 @@
 //! Searching by halves in a list of records in order.
-ghost use Rattle.std.specs.Prelude.{◌≡◌, ◌≤◌, true, false, length, filter, Some, IfOk, IfErr};
+ghost use Rattle.std.specs.Prelude.{◌≡◌, ◌<◌, ◌≤◌, true, false, length, filter, Some, IfOk, IfErr};
 ghost use Rattle.std.specs.List.{AllWithin};
 ghost use Rattle.std.specs.Ordering.{is_lt, is_eq, is_gt};
 ghost use Rattle.std.specs.Option.{option_copied};
-ghost use Rattle.dns_zone.specs.Records.{is_ordered, next_after, exists};
+ghost use Rattle.dns_names.specs.Name.{name_cmp};
+ghost use Rattle.dns_zone.specs.Records.{is_ordered, next_after, records_at, exists};
 ghost use Rattle.dns_zone.specs.Place.{StandsAt, BelongsAt};
 ghost use Rattle.dns_zone.specs.Side.{side_of};
 
+use crate::{NOWHERE, Spot};
 use dns_names::NameRef;
 use dns_records::Record;
 use std::cmp::Ordering;
@@ -33,8 +35,21 @@ fn side(key: &Key<'_>, r: &Record) -> Ordering
     }
 }
 
-/// How many records stand before what is looked for.
-pub(crate) fn count_before(records: &[Record], key: &Key<'_>) -> usize
+/// The place that is looked at next: the wished one if it lies between the two, else the middle.
+fn place_between(low: usize, high: usize, wished: usize) -> usize
+    requires { low < high }
+    ensures from { low ≤ result }
+    ensures below { result < high }
+{
+    if low <= wished && wished < high {
+        return wished;
+    }
+    low + (high - low) / 2
+}
+
+/// How many records stand before what is looked for. The search begins at a place, goes away from it in steps that double, and then
+/// by halves; from a place behind the list it goes by halves at once.
+pub(crate) fn count_before(records: &[Record], key: &Key<'_>, near: usize) -> usize
     requires { is_ordered records.now ≡ true }
     ensures bound { result ≤ length records.now }
     ensures before { AllWithin (λ r. is_lt (side_of key.now r) ≡ true) records.now 0 result }
@@ -42,12 +57,18 @@ pub(crate) fn count_before(records: &[Record], key: &Key<'_>) -> usize
 {
     let mut low = 0;
     let mut high = records.len();
-    'halves: while low < high {
-        let middle = low + (high - low) / 2;
-        if side(key, &records[middle]).is_lt() {
-            low = middle + 1;
+    let mut step = if near < high { 1 } else { high };
+    let mut wished = near;
+    'places: while low < high {
+        let at = place_between(low, high, wished);
+        let reach = step;
+        step = step.saturating_mul(2);
+        if side(key, &records[at]).is_lt() {
+            low = at + 1;
+            wished = at.saturating_add(reach);
         } else {
-            high = middle;
+            high = at;
+            wished = at.wrapping_sub(reach);
         }
     }
     low
@@ -73,14 +94,33 @@ pub(crate) fn count_through(records: &[Record], key: &Key<'_>) -> usize
     low
 }
 
-/// The records that are what is looked for.
+/// Where the records end that are what is looked for, none of which stands before the place.
+fn end_of_match(records: &[Record], key: &Key<'_>, begin: usize) -> usize
+    requires order { is_ordered records.now ≡ true }
+    requires inside { begin ≤ length records.now }
+    requires behind { AllWithin (λ r. is_lt (side_of key.now r) ≡ false) records.now begin (length records.now) }
+    ensures from { begin ≤ result }
+    ensures bound { result ≤ length records.now }
+    ensures here { AllWithin (λ r. is_eq (side_of key.now r) ≡ true) records.now begin result }
+    ensures past { AllWithin (λ r. is_eq (side_of key.now r) ≡ false) records.now result (length records.now) }
+{
+    let mut end = begin;
+    'matches: while end < records.len() {
+        if !side(key, &records[end]).is_eq() {
+            return end;
+        }
+        end += 1;
+    }
+    end
+}
+
+/// The records that are what is looked for. They stand one behind the other.
 pub(crate) fn matching<'r>(records: &'r [Record], key: &Key<'_>) -> &'r [Record]
     requires { is_ordered records.now ≡ true }
     ensures { result.now ≡ filter (λ r. is_eq (side_of key.now r)) records.now }
 {
-    let low = count_before(records, key);
-    let high = count_through(records, key);
-    &records[low..high]
+    let begin = count_before(records, key, NOWHERE);
+    &records[begin..end_of_match(records, key, begin)]
 }
 
 /// Where the record of equal owner, type and data stands, or where it would go.
@@ -89,7 +129,7 @@ pub(crate) fn find(records: &[Record], wanted: &Record) -> Result<usize, usize>
     ensures found { IfOk result (StandsAt wanted.now records.now) }
     ensures absent { IfErr result (BelongsAt wanted.now records.now) }
 {
-    let at = count_before(records, &Key::Data(wanted));
+    let at = count_before(records, &Key::Data(wanted), NOWHERE);
     if at < records.len() && records[at].compare(wanted).is_eq() {
         return Ok(at);
     }
@@ -108,14 +148,40 @@ pub(crate) fn first_behind<'r>(records: &'r [Record], after: &Record) -> Option<
     None
 }
 
+/// Whether a record has an owner at the name or under it: the first that does not stand before the name has one, or none has.
+fn is_owned_from(records: &[Record], name: &NameRef<'_>, at: usize) -> bool
+    requires order { is_ordered records.now ≡ true }
+    requires before { AllWithin (λ r. is_lt (name_cmp r.owner name.now) ≡ true) records.now 0 at }
+    requires behind { AllWithin (λ r. is_lt (name_cmp r.owner name.now) ≡ false) records.now at (length records.now) }
+    ensures { result ≡ exists records.now name.now }
+{
+    if at < records.len() {
+        return records[at].owner().lend().is_under(name);
+    }
+    false
+}
+
 /// Whether a record has an owner at the name or under it.
 pub(crate) fn is_owned_under(records: &[Record], name: &NameRef<'_>) -> bool
     requires { is_ordered records.now ≡ true }
     ensures { result ≡ exists records.now name.now }
 {
-    let at = count_before(records, &Key::Owner(name.again()));
-    if at < records.len() {
-        return records[at].owner().lend().is_under(name);
+    let at = count_before(records, &Key::Owner(name.again()), NOWHERE);
+    is_owned_from(records, name, at)
+}
+
+/// What stands at the name, which is looked for near a place.
+pub(crate) fn spot<'r>(records: &'r [Record], name: &NameRef<'_>, near: usize) -> Spot<'r>
+    requires { is_ordered records.now ≡ true }
+    ensures records { result.records.now ≡ records_at records.now name.now }
+    ensures exists { result.exists ≡ exists records.now name.now }
+{
+    let key = Key::Owner(name.again());
+    let place = count_before(records, &key, near);
+    let end = end_of_match(records, &key, place);
+    Spot {
+        records: &records[place..end],
+        exists: is_owned_from(records, name, place),
+        place,
     }
-    false
 }

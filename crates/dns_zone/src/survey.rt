@@ -8,7 +8,6 @@ ghost use Rattle.dns_zone.specs.Zone.{is_wildcard};
 ghost use Rattle.dns_zone.specs.Survey.{Surveys};
 
 use crate::ZoneIndex;
-use crate::owned::begins_with_asterisk;
 use dns_names::NameRef;
 use dns_records::Record;
 use dns_records::types::{CNAME, NS, SOA};
@@ -27,7 +26,7 @@ pub(crate) struct Survey {
 fn is_wildcard_ns(r: &Record) -> bool
     ensures { result ≡ (r.now.rtype == type_ns && is_wildcard r.now.owner) }
 {
-    r.rtype() == NS && begins_with_asterisk(&r.owner().lend())
+    r.rtype() == NS && r.owner().lend().begins_with_asterisk()
 }
 
 /// Whether the record is a CNAME at an owner of so many records, more than one.

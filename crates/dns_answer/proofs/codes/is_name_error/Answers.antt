@@ -1,4 +1,4 @@
-use Rattle.std.proofs.Common.{◌≡◌, sym, ap, ◌∙◌}
+use Rattle.std.proofs.Common.{sym, ap, ◌∙◌}
 use Rattle.std.specs.Option.{option_copied}
 use Rattle.dns_answer.specs.Sections.{is_name_error}
 use Rattle.dns_lookup.specs.ToldLaws.{outcome_of}

@@ -1,8 +1,8 @@
-use Rattle.std.proofs.Common.{◌≡◌, List, sym, ap, ◌∙◌}
+use Rattle.std.proofs.Common.{List, sym, ap, ◌∙◌}
 use Rattle.std.proofs.lemmas.Option.{slice_get_within}
 use Rattle.dns_lookup.specs.Lookup.{Found as Stated}
 use Rattle.dns_answer.specs.Sections.{records_of, authority_of}
-use Rattle.dns_answer.proofs.Shown.{last_told, none_told, ok_map}
+use Rattle.dns_answer.proofs.Shown.{last_told, held_last, none_told, ok_map}
 use Rattle.dns_answer.proofs.gather.last_authority.Goals as goal
 
 pub authority_section-requires : goal.authority_section-requires
@@ -13,11 +13,11 @@ authority_section-requires g c =
     slice_get_within zones last.zone l.0.zone l.1.zone
 
 pub returns-in-Some : goal.returns-in-Some
-returns-in-Some g c = ok_map c.authority_section.result _ _ c.authority_section.ensures (λ shown e fs are.
+returns-in-Some g c = ok_map c.authority_section.result _ _ c.authority_section.ensures (λ shown e t fs are holds.
     let l = last_told c.args.zones.now fs c.args.found.now c.in-Some.last.now are c.in-Some.ensures.value in
-    e l.0 l.1 ∙ ap records_of (sym l.2))
+    e t l.0 l.1 (held_last c.args.zones.now t c.args.found.now c.in-Some.last.now holds c.in-Some.ensures.value) ∙ ap records_of (sym l.2))
 
 pub returns-in-None : goal.returns-in-None
-returns-in-None g c fs are =
+returns-in-None g c t fs are holds =
     let none = none_told c.args.zones.now fs c.args.found.now are c.in-None.ensures.value in
     c.new.ensures.items ∙ ap (λ (xs : List Stated). records_of (authority_of xs)) (sym none)

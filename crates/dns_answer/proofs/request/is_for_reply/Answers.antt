@@ -1,6 +1,5 @@
-use Rattle.std.proofs.Common.{◌≡◌, ◌≤◌, List, [], ◌∷◌, length, true, false, refl, sym, ap, subst, ◌∙◌, arith}
+use Rattle.std.proofs.Common.{sym, ap, ◌∙◌}
 use Rattle.std.specs.Prelude.{◌==◌}
-use Rattle.dns_records.specs.Types.{type_ixfr, type_axfr}
 use Rattle.dns_answer.specs.Answer.{too_long}
 use Rattle.dns_answer.proofs.Requests.{to_request, from_request, asks_one, only_type, only_one, passed, all_passed, apart, differs, is_number}
 use Rattle.dns_answer.proofs.request.is_for_reply.Goals as goal

@@ -1,7 +1,8 @@
 use Rattle.std.proofs.Common.{◌≡◌, Bool, true, false, refl, sym, ap, subst, ◌∙◌}
-use Rattle.std.specs.Prelude.{Some, None, IfNone, slice_get, not, cond}
+use Rattle.std.specs.Prelude.{Option, Some, None, IfNone, slice_get, not, cond}
 use Rattle.std.specs.Option.{option_copied}
-use Rattle.dns_names.specs.Name.{labels_of}
+use Rattle.dns_names.specs.Name.{Labels, labels_of}
+use Rattle.dns_zone.specs.Zone.{Zone}
 use Rattle.dns_records.specs.Types.{type_cname}
 use Rattle.dns_records.specs.Typed.{is_name_type, name_of}
 use Rattle.dns_zone.specs.Records.{rrset, owns_type}
@@ -13,20 +14,20 @@ owned : (b : Bool) → true ≡ not b → b ≡ false
 owned true e = absurd cc
 owned false e = refl
 
+unless_none : {T : Type 0} (o : Option T) (P : Type 0) → (o ≡ None → P) → IfNone o P
+unless_none None P h = h refl
+unless_none (Some x) P h = tt
+
 pub returns-in_err-first-clause-none : goal.returns-in_err-first-clause-none
-returns-in_err-first-clause-none g c =
-    let records = c.args.zone.now.records in
-    let name = c.args.node.now in
-    let empty : slice_get (rrset records name type_cname) 0 ≡ None = sym (ap option_copied (sym c.in_err-first.was) ∙ c.first.ensures.value ∙ ap (λ rs. slice_get rs 0) c.rrset.ensures) in
-    let none : owns_type records name type_cname ≡ false = owned (owns_type records name type_cname) (sym (none_first (rrset records name type_cname) empty) ∙ owns_no_type records name type_cname) in
-    subst (λ o. IfNone o (owns_type records name type_cname ≡ false)) (sym c.from_residual.ensures) none
+returns-in_err-first-clause-none c =
+    subst (λ o. IfNone o ((z : Zone) (node : Labels) → c.args.aliases.now ≡ rrset z.records node type_cname → owns_type z.records node type_cname ≡ false)) (sym c.from_residual.ensures) (λ z node held.
+    let empty : slice_get (rrset z.records node type_cname) 0 ≡ None = sym (ap option_copied (sym c.in_err-first.was) ∙ c.first.ensures.value ∙ ap (λ rs. slice_get rs 0) held) in
+    owned (owns_type z.records node type_cname) (sym (none_first (rrset z.records node type_cname) empty) ∙ owns_no_type z.records node type_cname))
 
 pub returns-clause-none : goal.returns-clause-none
-returns-clause-none g c =
-    let records = c.args.zone.now.records in
-    let name = c.args.node.now in
+returns-clause-none c = unless_none c.as_name.result _ (λ unnamed z node held.
     let r = c.in_ok-first.field-0.now in
-    let first : slice_get (rrset records name type_cname) 0 ≡ Some r = sym (c.in_ok-first.ensures.value ∙ ap (λ rs. slice_get rs 0) c.rrset.ensures) in
-    let typed : r.rtype ≡ type_cname = first_typed records name type_cname r first in
+    let first : slice_get (rrset z.records node type_cname) 0 ≡ Some r = sym (c.in_ok-first.ensures.value ∙ ap (λ rs. slice_get rs 0) held) in
+    let typed : r.rtype ≡ type_cname = first_typed z.records node type_cname r first in
     let some : c.as_name.result ≡ Some (labels_of r.rdata) = c.as_name.ensures.value ∙ ap name_of c.data.ensures ∙ ap (λ t. cond (is_name_type t) (Some (labels_of r.rdata)) None) typed in
-    subst (λ o. IfNone o (owns_type records name type_cname ≡ false)) (sym some) tt
+    absurd cc)

@@ -1,19 +1,28 @@
-use Rattle.std.proofs.Common.{◌≡◌, sym, ap, ◌∙◌, cond, reverse}
-use Rattle.std.specs.Prelude.{Some}
-use Rattle.std.specs.List.{find}
-use Rattle.dns_names.specs.Name.{ancestors}
+use Rattle.std.proofs.Common.{◌≡◌, Bool, true, false, refl, sym, ◌∙◌, cond}
+use Rattle.std.specs.Prelude.{Option, Some, None}
+use Rattle.std.specs.Option.{option_or}
+use Rattle.std.specs.Bool.{then_some}
+use Rattle.dns_names.specs.Name.{Labels}
 use Rattle.dns_lookup.specs.Cut.{cuts_at}
+use Rattle.dns_lookup.specs.Lookup.{cut}
 use Rattle.dns_lookup.proofs.Cuts.{or_else, up_once}
 use Rattle.dns_lookup.proofs.cut.cut.Goals as goal
-use Rattle.dns_lookup.proofs.cut.cut.Goals.{then-cuts_at, else-cuts_at}
 
-pub ancestors-preserved : goal.ancestors-preserved
-ancestors-preserved g c =
-    let zone = c.args.zone.now in
-    let here = c.ancestors.here in
-    let chosen : c.if-cuts_at.shortest ≡ cond (cuts_at zone here) (Some here) c.ancestors.shortest = elim c.if-cuts_at.branch [
-      | then-cuts_at w ↦ w.shortest-is ∙ ap (λ b. cond b (Some here) c.ancestors.shortest) (sym w.if-cuts_at.true ∙ c.cuts_at.ensures)
-      | else-cuts_at w ↦ w.shortest-is ∙ ap (λ b. cond b (Some here) c.ancestors.shortest) (sym w.if-cuts_at.false ∙ c.cuts_at.ensures)
-    ] in
-    c.ancestors.invariant ∙ up_once (cuts_at zone) here c.in-Some.next c.ancestors.shortest (c.in-Some.ensures)
-    ∙ ap (or_else (find (cuts_at zone) (reverse (ancestors c.in-Some.next)))) (sym chosen)
+either_is : (a b : Option Labels) → option_or a b ≡ or_else a b
+either_is None b = refl
+either_is (Some a) b = refl
+
+or_none : (a : Option Labels) → or_else a None ≡ a
+or_none None = refl
+or_none (Some a) = refl
+
+chosen_is : (b : Bool) (n : Labels) → then_some b n ≡ cond b (Some n) None
+chosen_is true n = refl
+chosen_is false n = refl
+
+pub returns-in-Some : goal.returns-in-Some
+returns-in-Some g c =
+    let z = c.args.zone.now in
+    let name = c.args.name.now in
+    let itself : c.then_some-itself.result ≡ cond (cuts_at z name) (Some name) None = c.then_some-itself.ensures ∙ (λ i. then_some (c.cuts_by.ensures i) (c.again.ensures i)) ∙ chosen_is (cuts_at z name) name in
+    c.or.ensures ∙ either_is c.cut_near.result c.then_some-itself.result ∙ (λ i. or_else (c.cut_near.ensures i) (itself i)) ∙ sym (up_once (cuts_at z) name c.in-Some.above None c.in-Some.ensures) ∙ or_none (cut z name)

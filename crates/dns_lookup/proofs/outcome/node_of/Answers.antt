@@ -1,4 +1,4 @@
-use Rattle.std.proofs.Common.{◌≡◌, ◌≤◌, false, length, sym, ap, subst, ◌∙◌}
+use Rattle.std.proofs.Common.{◌≡◌, ◌≤◌, false, length, sym, subst, ◌∙◌}
 use Rattle.dns_names.specs.Name.{Labels, wire}
 use Rattle.dns_zone.specs.Records.{exists}
 use Rattle.dns_lookup.proofs.Enclosers.{encloser_leaves}
@@ -8,5 +8,5 @@ pub wildcard_of-source-requires : goal.wildcard_of-source-requires
 wildcard_of-source-requires g c =
     let records = c.args.zone.now.records in
     let name = c.args.name.now in
-    let none : exists records name ≡ false = sym (c.exists.ensures ∙ ap (exists records) (c.named-itself.ensures ∙ c.again.ensures)) ∙ c.if-exists.false in
+    let none : exists records name ≡ false = sym c.requires.exists ∙ c.if-own.false in
     subst (λ (n : Labels). length (wire n) ≤ 253) (sym c.closest_encloser.ensures) (encloser_leaves records name c.as_wire-valid.ensures.valid none)

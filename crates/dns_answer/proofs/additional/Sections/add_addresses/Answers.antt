@@ -1,4 +1,4 @@
-use Rattle.std.proofs.Common.{◌≡◌, ◌<◌, List, length, take, sym, subst, arith}
+use Rattle.std.proofs.Common.{◌<◌, List, length, take, sym, subst, arith}
 use Rattle.std.specs.List.{flat_map}
 use Rattle.dns_records.specs.Record.{Record}
 use Rattle.dns_answer.specs.Sections.{from_zone, addresses_for}

@@ -1,4 +1,4 @@
-use Rattle.std.proofs.Common.{◌≡◌, ◌<◌, ◌≤◌, List, length, take, sym, ap, subst, ◌∙◌, arith}
+use Rattle.std.proofs.Common.{◌<◌, ◌≤◌, List, length, take, sym, subst, arith}
 use Rattle.std.specs.List.{flat_map}
 use Rattle.std.proofs.lemmas.List.{take_all}
 use Rattle.std.proofs.lemmas.Option.{slice_get_within}
@@ -8,17 +8,9 @@ use Rattle.dns_lookup.specs.Lookup.{Found as Stated}
 use Rattle.dns_lookup.specs.ToldLaws.{told_at, told_length}
 use Rattle.dns_answer.specs.Sections.{addresses_for, answer_of, from_zone}
 use Rattle.dns_answer.specs.Added.{AddsUnseen}
-use Rattle.dns_answer.proofs.Adding.{adds_none, adds_then}
-use Rattle.dns_answer.proofs.Shown.{next_hosts}
+use Rattle.dns_answer.proofs.Adding.{adds_then}
+use Rattle.dns_answer.proofs.Shown.{held_one, next_hosts}
 use Rattle.dns_answer.proofs.additional.Sections.add_for_answers.Goals as goal
-
-pub answers-requires : goal.answers-requires
-answers-requires g c =
-    let zones = c.args.zones.now in
-    let one = c.one-item.result in
-    let inside : c.loop-one.one-index < length c.args.found.now = omega arith in
-    let at = told_at zones c.requires.0 c.args.found.now c.loop-one.one-index one c.requires.1 inside c.one-item.is in
-    slice_get_within zones one.zone at.found.zone at.is.zone
 
 pub searched-requires : goal.searched-requires
 searched-requires g c =
@@ -29,9 +21,8 @@ searched-requires g c =
     slice_get_within zones one.zone at.found.zone at.is.zone
 
 pub loop-one-preserved : goal.loop-one-preserved
-loop-one-preserved g c fs are =
+loop-one-preserved g c t fs are holds =
     let zones = c.args.zones.now in
-    let t = c.args.qtype in
     let i = c.loop-one.one-index in
     let one = c.one-item.result in
     let inside : i < length c.args.found.now = omega arith in
@@ -39,10 +30,10 @@ loop-one-preserved g c fs are =
     let zone = c.searched.ensures at.found at.is in
     let rs = c.answers.result.now in
     let added = subst (λ (z : Zone). AddsUnseen c.loop-one.self c.add_addresses.new.self (flat_map addresses_for (from_zone z rs))) zone c.in_ok-add_addresses.ensures in
-    let both = adds_then c.args.self.now c.loop-one.self c.add_addresses.new.self (flat_map addresses_for (answer_of t (take i fs))) (flat_map addresses_for (from_zone at.found.zone rs)) (c.loop-one.invariant fs are) added in
-    subst (λ (hosts : List Record). AddsUnseen c.args.self.now c.add_addresses.new.self hosts) (sym (next_hosts t fs i at.found rs at.next (c.answers.ensures at.found at.is))) both
+    let both = adds_then c.args.self.now c.loop-one.self c.add_addresses.new.self (flat_map addresses_for (answer_of t (take i fs))) (flat_map addresses_for (from_zone at.found.zone rs)) (c.loop-one.invariant t fs are holds) added in
+    subst (λ (hosts : List Record). AddsUnseen c.args.self.now c.add_addresses.new.self hosts) (sym (next_hosts t fs i at.found rs at.next (c.answers.ensures zones t at.found at.is (held_one zones t c.args.found.now i one holds inside c.one-item.is)))) both
 
 pub returns : goal.returns
-returns g c fs are =
+returns g c t fs are holds =
     let all : length fs ≤ c.loop-one.one-index = omega (arith, told_length c.args.zones.now fs c.args.found.now are, c.loop-one-test.false) in
-    subst (λ (xs : List Stated). AddsUnseen c.args.self.now c.loop-one.self (flat_map addresses_for (answer_of c.args.qtype xs))) (take_all c.loop-one.one-index fs all) (c.loop-one.invariant fs are)
+    subst (λ (xs : List Stated). AddsUnseen c.args.self.now c.loop-one.self (flat_map addresses_for (answer_of t xs))) (take_all c.loop-one.one-index fs all) (c.loop-one.invariant t fs are holds)

@@ -1,4 +1,4 @@
-use Rattle.std.proofs.Common.{◌≡◌, List, sym, ap, subst, ◌∙◌}
+use Rattle.std.proofs.Common.{List, sym, ap, subst, ◌∙◌}
 use Rattle.std.specs.List.{flat_map}
 use Rattle.std.proofs.lemmas.Option.{slice_get_within}
 use Rattle.dns_records.specs.Record.{Record}
@@ -7,15 +7,8 @@ use Rattle.dns_lookup.specs.Lookup.{Found as Stated}
 use Rattle.dns_answer.specs.Sections.{addresses_for, authority_of, from_zone}
 use Rattle.dns_answer.specs.Added.{AddsUnseen}
 use Rattle.dns_answer.proofs.Adding.{adds_none}
-use Rattle.dns_answer.proofs.Shown.{last_told, none_told, ok_map}
+use Rattle.dns_answer.proofs.Shown.{last_told, held_last, none_told, ok_map}
 use Rattle.dns_answer.proofs.additional.Sections.add_for_authority.Goals as goal
-
-pub servers-requires : goal.servers-requires
-servers-requires g c =
-    let zones = c.args.zones.now in
-    let last = c.in-Some.last.now in
-    let l = last_told zones c.requires.0 c.args.found.now last c.requires.1 c.in-Some.ensures.value in
-    slice_get_within zones last.zone l.0.zone l.1.zone
 
 pub searched-requires : goal.searched-requires
 searched-requires g c =
@@ -25,15 +18,15 @@ searched-requires g c =
     slice_get_within zones last.zone l.0.zone l.1.zone
 
 pub returns-in-Some : goal.returns-in-Some
-returns-in-Some g c = ok_map c.add_addresses.result _ _ c.add_addresses.ensures (λ done e fs are.
+returns-in-Some g c = ok_map c.add_addresses.result _ _ c.add_addresses.ensures (λ done e t fs are holds.
     let zones = c.args.zones.now in
     let last = c.in-Some.last.now in
     let l = last_told zones fs c.args.found.now last are c.in-Some.ensures.value in
     let zone = c.searched.ensures l.0 l.1 in
-    let hosts = ap (λ (z : Zone). flat_map addresses_for (from_zone z c.servers.result.now)) zone ∙ sym (c.servers.ensures l.0 l.1) ∙ ap (flat_map addresses_for) (sym l.2) in
+    let hosts = ap (λ (z : Zone). flat_map addresses_for (from_zone z c.servers.result.now)) zone ∙ sym (c.servers.ensures zones t l.0 l.1 (held_last zones t c.args.found.now last holds c.in-Some.ensures.value)) ∙ ap (flat_map addresses_for) (sym l.2) in
     subst (λ (rs : List Record). AddsUnseen c.args.self.now c.add_addresses.new.self rs) hosts e)
 
 pub returns-in-None : goal.returns-in-None
-returns-in-None g c fs are =
+returns-in-None g c t fs are holds =
     let none = none_told c.args.zones.now fs c.args.found.now are c.in-None.ensures.value in
     subst (λ (xs : List Stated). AddsUnseen c.args.self.now c.args.self.now (flat_map addresses_for (authority_of xs))) (sym none) (adds_none c.args.self.now)

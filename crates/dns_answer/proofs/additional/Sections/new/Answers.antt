@@ -1,15 +1,13 @@
-use Rattle.std.proofs.Common.{◌≡◌, List}
 use Rattle.std.specs.List.{flat_map}
 use Rattle.dns_answer.specs.Sections.{addresses_for, answer_of, authority_of}
 use Rattle.dns_answer.proofs.Adding.{adds_then, gathered}
 use Rattle.dns_answer.proofs.additional.Sections.new.Goals as goal
 
 pub returns : goal.returns
-returns g c fs are =
-    let t = c.args.qtype in
+returns g c t fs are holds =
     let bare = c.in_ok-sections.sections in
     let told = c.in_ok-sections.ensures in
     let mid = c.add_for_answers.new.self in
     let whole = c.add_for_authority.new.self in
-    gathered t fs bare whole (told.answer fs are) (told.authority fs are) told.additional
-    (adds_then bare mid whole (flat_map addresses_for (answer_of t fs)) (flat_map addresses_for (authority_of fs)) (c.in_ok-add_for_answers.ensures fs are) (c.in_ok-add_for_authority.ensures fs are))
+    gathered t fs bare whole (told.answer t fs are holds) (told.authority t fs are holds) told.additional
+    (adds_then bare mid whole (flat_map addresses_for (answer_of t fs)) (flat_map addresses_for (authority_of fs)) (c.in_ok-add_for_answers.ensures t fs are holds) (c.in_ok-add_for_authority.ensures t fs are holds))
