@@ -171,10 +171,6 @@ negative_authority z at kinds.NameError no_cut no_alias no_data = records_back z
 pub held_at : (zones : List Zone) (i : ℕ) (z held : Zone) → held ≡ get_or zones i held → slice_get zones i ≡ Some z → held ≡ z
 held_at zones i z held is e = is ∙ get_or_from_slice_get zones i z held e
 
-pub ok_map : {T E : Type 0} (r : Result T E) (P Q : T → Type 0) → IfOk r P → ((x : T) → P x → Q x) → IfOk r Q
-ok_map (Ok x) P Q h f = f x h
-ok_map (Err e) P Q h f = tt
-
 -- the owner that goes out does not count
 pub same_addresses : (z : Zone) (name : Labels) (rs : List Record) → flat_map addresses_for (from_zone z (as_owner name rs)) ≡ flat_map addresses_for (from_zone z rs)
 same_addresses z name [] = refl

@@ -2,7 +2,8 @@ use Rattle.std.proofs.Common.{List, sym, ap, ◌∙◌}
 use Rattle.std.proofs.lemmas.Option.{slice_get_within}
 use Rattle.dns_lookup.specs.Lookup.{Found as Stated}
 use Rattle.dns_answer.specs.Sections.{records_of, authority_of}
-use Rattle.dns_answer.proofs.Shown.{last_told, held_last, none_told, ok_map}
+use Rattle.dns_answer.proofs.Shown.{last_told, held_last, none_told}
+use Rattle.std.proofs.lemmas.Result.{IfOk-weaker}
 use Rattle.dns_answer.proofs.gather.last_authority.Goals as goal
 
 pub authority_section-requires : goal.authority_section-requires
@@ -13,9 +14,9 @@ authority_section-requires g c =
     slice_get_within zones last.zone l.0.zone l.1.zone
 
 pub returns-in-Some : goal.returns-in-Some
-returns-in-Some g c = ok_map c.authority_section.result _ _ c.authority_section.ensures (λ shown e t fs are holds.
+returns-in-Some g c = IfOk-weaker c.authority_section.result _ _ (λ shown e t fs are holds.
     let l = last_told c.args.zones.now fs c.args.found.now c.in-Some.last.now are c.in-Some.ensures.value in
-    e t l.0 l.1 (held_last c.args.zones.now t c.args.found.now c.in-Some.last.now holds c.in-Some.ensures.value) ∙ ap records_of (sym l.2))
+    e t l.0 l.1 (held_last c.args.zones.now t c.args.found.now c.in-Some.last.now holds c.in-Some.ensures.value) ∙ ap records_of (sym l.2)) c.authority_section.ensures
 
 pub returns-in-None : goal.returns-in-None
 returns-in-None g c t fs are holds =

@@ -7,7 +7,8 @@ use Rattle.dns_lookup.specs.Lookup.{Found as Stated}
 use Rattle.dns_answer.specs.Sections.{addresses_for, authority_of, from_zone}
 use Rattle.dns_answer.specs.Added.{AddsUnseen}
 use Rattle.dns_answer.proofs.Adding.{adds_none}
-use Rattle.dns_answer.proofs.Shown.{last_told, held_last, none_told, ok_map}
+use Rattle.dns_answer.proofs.Shown.{last_told, held_last, none_told}
+use Rattle.std.proofs.lemmas.Result.{IfOk-weaker}
 use Rattle.dns_answer.proofs.additional.Sections.add_for_authority.Goals as goal
 
 pub searched-requires : goal.searched-requires
@@ -18,13 +19,13 @@ searched-requires g c =
     slice_get_within zones last.zone l.0.zone l.1.zone
 
 pub returns-in-Some : goal.returns-in-Some
-returns-in-Some g c = ok_map c.add_addresses.result _ _ c.add_addresses.ensures (λ done e t fs are holds.
+returns-in-Some g c = IfOk-weaker c.add_addresses.result _ _ (λ done e t fs are holds.
     let zones = c.args.zones.now in
     let last = c.in-Some.last.now in
     let l = last_told zones fs c.args.found.now last are c.in-Some.ensures.value in
     let zone = c.searched.ensures l.0 l.1 in
     let hosts = ap (λ (z : Zone). flat_map addresses_for (from_zone z c.servers.result.now)) zone ∙ sym (c.servers.ensures zones t l.0 l.1 (held_last zones t c.args.found.now last holds c.in-Some.ensures.value)) ∙ ap (flat_map addresses_for) (sym l.2) in
-    subst (λ (rs : List Record). AddsUnseen c.args.self.now c.add_addresses.new.self rs) hosts e)
+    subst (λ (rs : List Record). AddsUnseen c.args.self.now c.add_addresses.new.self rs) hosts e) c.add_addresses.ensures
 
 pub returns-in-None : goal.returns-in-None
 returns-in-None g c t fs are holds =

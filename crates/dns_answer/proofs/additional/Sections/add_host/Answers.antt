@@ -3,11 +3,11 @@ use Rattle.dns_records.specs.Record.{Record}
 use Rattle.dns_zone.specs.Records.{records_at}
 use Rattle.dns_answer.specs.Added.{AddsUnseen}
 use Rattle.dns_answer.proofs.Adding.{adds_then}
-use Rattle.dns_answer.proofs.Shown.{ok_map}
+use Rattle.std.proofs.lemmas.Result.{IfOk-weaker}
 use Rattle.dns_answer.proofs.additional.Sections.add_host.Goals as goal
 
 pub returns : goal.returns
-returns g c = ok_map c.add_records-2.result _ _ c.add_records-2.ensures (λ done two.
+returns g c = IfOk-weaker c.add_records-2.result _ _ (λ done two.
     let records = c.args.zone.now.records in
     let host = c.args.host.now in
     let ordered = c.apex-ordered.ensures.valid.ordered in
@@ -15,4 +15,4 @@ returns g c = ok_map c.add_records-2.result _ _ c.add_records-2.ensures (λ done
     let first = c.of_type.ensures records host ordered owned in
     let second = c.of_type-2.ensures records host ordered owned in
     let both = adds_then c.args.self.now c.add_records.new.self c.add_records-2.new.self c.of_type.result.now c.of_type-2.result.now c.in_ok-add_records.ensures two in
-    subst (λ (rs : List Record). AddsUnseen c.args.self.now c.add_records-2.new.self rs) (λ i. first i ++ second i) both)
+    subst (λ (rs : List Record). AddsUnseen c.args.self.now c.add_records-2.new.self rs) (λ i. first i ++ second i) both) c.add_records-2.ensures
