@@ -10,7 +10,7 @@ use dns_memory::Heap;
 use dns_names::NameRef;
 use dns_records::{Record, types};
 use dns_wire::ReplyRecord;
-use dns_zone::{NOWHERE, Zone, ZoneIndex, of_type};
+use dns_zone::{Zone, ZoneIndex, of_type};
 use std::alloc::AllocError;
 
 /// The three sections of a reply.
@@ -73,7 +73,7 @@ impl<'a> Sections<'a> {
         ensures { OnOk result (AddsUnseen self.old self.new (rrset zone.now.records host.now type_a ++ rrset zone.now.records host.now type_aaaa)) }
     {
         let _ordered = zone.apex();
-        let there = zone.index().spot(host, NOWHERE);
+        let there = zone.index().spot(host, None);
         self.add_records(of_type(there.records, types::A))?;
         self.add_records(of_type(there.records, types::AAAA))
     }

@@ -95,7 +95,7 @@ fn start_of_authority<'a, I: ZoneIndex>(
 {
     let mut shown = Vec::new(alloc);
     // The apex comes first in the order of names.
-    let apex = zone.index().spot(&zone.apex().lend(), 0);
+    let apex = zone.index().spot(&zone.apex().lend(), Some(0));
     for record in of_type(apex.records, types::SOA) {
         let ttl = record.ttl().min(record.minimum());
         shown.push(ReplyRecord::new(record.owner().lend(), ttl, record))?;

@@ -29,7 +29,7 @@ fn cuts_at<I: ZoneIndex>(zone: &Zone<I>, name: &NameRef<'_>, near: usize) -> boo
     ensures { result ≡ cuts_at zone.now name.now }
 {
     is_below(name, &zone.apex().lend())
-        && cuts_by(zone, name, zone.index().spot(name, near).records)
+        && cuts_by(zone, name, zone.index().spot(name, Some(near)).records)
 }
 
 /// The cut above the name or at it: of all, the one with the fewest labels (RFC 1034 section 4.3.2, step 3b).

@@ -86,8 +86,10 @@ impl<'a> Node<'a> {
     {
         if self.is_wildcard {
             let octets = starred(&self.base);
-            return zone.index().spot(&NameRef::over(octets.as_slice()), near);
+            return zone
+                .index()
+                .spot(&NameRef::over(octets.as_slice()), Some(near));
         }
-        zone.index().spot(&self.base, near)
+        zone.index().spot(&self.base, Some(near))
     }
 }

@@ -11,7 +11,7 @@ use crate::cut::cut;
 use crate::node::Node;
 use dns_names::NameRef;
 use dns_records::{Record, types};
-use dns_zone::{NOWHERE, Spot, Zone, ZoneIndex, of_type};
+use dns_zone::{Spot, Zone, ZoneIndex, of_type};
 
 /// What became of a name that was searched (RFC 1034 section 4.3.2, step 3).
 #[derive(Clone, Copy, Debug, PartialEq, Eq)]
@@ -51,7 +51,7 @@ fn closest_encloser<'n, I: ZoneIndex>(
 fn exists_near<I: ZoneIndex>(zone: &Zone<I>, name: &NameRef<'_>, near: usize) -> bool
     ensures { result ≡ exists zone.now.records name.now }
 {
-    zone.index().spot(name, near).exists
+    zone.index().spot(name, Some(near)).exists
 }
 
 /// The node that answers for a name, and the records that it owns: the name if it exists, else the label `*` before its closest
@@ -116,9 +116,9 @@ pub(crate) fn outcome<'a, I: ZoneIndex>(
     ensures told { IsKind (outcome zone.now name.now qtype) name.now result.0 result.1 }
     ensures held { result.2.now ≡ records_found zone.now.records result.0 result.1 qtype }
 {
-    let own = zone.index().spot(name, NOWHERE);
+    let own = zone.index().spot(name, None);
     if let Some(shortest) = cut(zone, name, &own) {
-        let there = zone.index().spot(&shortest, own.place);
+        let there = zone.index().spot(&shortest, Some(own.place));
         let servers = of_type(there.records, types::NS);
         return (Kind::Referral, Node::named(shortest), servers);
     }

@@ -9,9 +9,6 @@ use dns_names::NameRef;
 use dns_records::Record;
 use std::alloc::AllocError;
 
-/// No place in a set.
-pub const NOWHERE: usize = usize::MAX;
-
 /// What a set holds at a name.
 #[derive(Drop)]
 pub struct Spot<'a> {
@@ -49,8 +46,8 @@ pub trait ZoneIndex: Drop {
         ensures { result ≡ exists (records self.now) name.now };
 
     /// The records that the name owns, and whether it exists. What a place tells is no more than where the search begins: the
-    /// answer is the same from each, and from `NOWHERE`, and comes soonest from the place of a name near it.
-    fn spot(&self, name: &NameRef<'_>, near: usize) -> Spot<'_>
+    /// answer is the same from each, and from none, and comes soonest from the place of a name near it.
+    fn spot(&self, name: &NameRef<'_>, near: Option<usize>) -> Spot<'_>
         ensures records { result.records.now ≡ records_at (records self.now) name.now }
         ensures exists { result.exists ≡ exists (records self.now) name.now };
 

@@ -44,7 +44,7 @@ impl ZoneIndex for RecordList {
         is_owned_under(&self.items, name)
     }
 
-    fn spot(&self, name: &NameRef<'_>, near: usize) -> Spot<'_> {
+    fn spot(&self, name: &NameRef<'_>, near: Option<usize>) -> Spot<'_> {
         spot(&self.items, name, near)
     }
 

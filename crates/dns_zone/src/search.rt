@@ -8,7 +8,7 @@ ghost use Rattle.dns_zone.specs.Records.{is_ordered, next_after, records_at, exi
 ghost use Rattle.dns_zone.specs.Place.{StandsAt, BelongsAt};
 ghost use Rattle.dns_zone.specs.Side.{side_of};
 
-use crate::{NOWHERE, Spot};
+use crate::Spot;
 use dns_names::NameRef;
 use dns_records::Record;
 use std::cmp::Ordering;
@@ -47,9 +47,9 @@ fn place_between(low: usize, high: usize, wished: usize) -> usize
     low + (high - low) / 2
 }
 
-/// How many records stand before what is looked for. The search begins at a place, goes away from it in steps that double, and then
-/// by halves; from a place behind the list it goes by halves at once.
-pub(crate) fn count_before(records: &[Record], key: &Key<'_>, near: usize) -> usize
+/// How many records stand before what is looked for. A search from a place goes away from it in steps that double, and then by
+/// halves; from no place it goes by halves at once.
+pub(crate) fn count_before(records: &[Record], key: &Key<'_>, near: Option<usize>) -> usize
     requires { is_ordered records.now ≡ true }
     ensures bound { result ≤ length records.now }
     ensures before { AllWithin (λ r. is_lt (side_of key.now r) ≡ true) records.now 0 result }
@@ -57,8 +57,8 @@ pub(crate) fn count_before(records: &[Record], key: &Key<'_>, near: usize) -> us
 {
     let mut low = 0;
     let mut high = records.len();
-    let mut step = if near < high { 1 } else { high };
-    let mut wished = near;
+    let mut step = if near.is_some() { 1 } else { high };
+    let mut wished = near.unwrap_or(high);
     'places: while low < high {
         let at = place_between(low, high, wished);
         let reach = step;
@@ -119,7 +119,7 @@ pub(crate) fn matching<'r>(records: &'r [Record], key: &Key<'_>) -> &'r [Record]
     requires { is_ordered records.now ≡ true }
     ensures { result.now ≡ filter (λ r. is_eq (side_of key.now r)) records.now }
 {
-    let begin = count_before(records, key, NOWHERE);
+    let begin = count_before(records, key, None);
     &records[begin..end_of_match(records, key, begin)]
 }
 
@@ -129,7 +129,7 @@ pub(crate) fn find(records: &[Record], wanted: &Record) -> Result<usize, usize>
     ensures found { IfOk result (StandsAt wanted.now records.now) }
     ensures absent { IfErr result (BelongsAt wanted.now records.now) }
 {
-    let at = count_before(records, &Key::Data(wanted), NOWHERE);
+    let at = count_before(records, &Key::Data(wanted), None);
     if at < records.len() && records[at].compare(wanted).is_eq() {
         return Ok(at);
     }
@@ -166,12 +166,12 @@ pub(crate) fn is_owned_under(records: &[Record], name: &NameRef<'_>) -> bool
     requires { is_ordered records.now ≡ true }
     ensures { result ≡ exists records.now name.now }
 {
-    let at = count_before(records, &Key::Owner(name.again()), NOWHERE);
+    let at = count_before(records, &Key::Owner(name.again()), None);
     is_owned_from(records, name, at)
 }
 
-/// What stands at the name, which is looked for near a place.
-pub(crate) fn spot<'r>(records: &'r [Record], name: &NameRef<'_>, near: usize) -> Spot<'r>
+/// What stands at the name, which is looked for near a place if one is given.
+pub(crate) fn spot<'r>(records: &'r [Record], name: &NameRef<'_>, near: Option<usize>) -> Spot<'r>
     requires { is_ordered records.now ≡ true }
     ensures records { result.records.now ≡ records_at records.now name.now }
     ensures exists { result.exists ≡ exists records.now name.now }
