@@ -1,16 +1,15 @@
 -- The one SOA of a zone stays one, at the apex.
-use Rattle.std.proofs.Common.{◌≡◌, ℕ, suc, ◌≤◌, Bool, true, false, not, ◌&&◌, ◌||◌, inl, inr, List, [], ◌∷◌, Option, Some, None, length, refl, sym, ap, subst, ◌∙◌, arith, cond}
-use Rattle.std.specs.Prelude.{filter, ◌==◌, nat_lt, if◌then◌else◌}
-use Rattle.std.specs.List.{list_any, list_all}
+use Rattle.std.proofs.Common.{◌≡◌, ℕ, Bool, true, false, not, ◌&&◌, ◌||◌, inl, inr, List, [], ◌∷◌, length, refl, sym, ap, ◌∙◌, cond}
+use Rattle.std.specs.Prelude.{filter, ◌==◌, if◌then◌else◌}
+use Rattle.std.specs.List.{list_any}
 use Rattle.std.specs.Ordering.{is_eq}
 use Rattle.std.specs.FinMap.Entries.{by_order}
 use Rattle.std.specs.declared.cmp.Ordering.TheVariants.{Less, Equal, Greater}
-use Rattle.std.proofs.lemmas.Bool.Decides.{nat_tests}
-use Rattle.dns_names.specs.Name.{Labels, names_eq, under}
+use Rattle.dns_names.specs.Name.{Labels, names_eq}
 use Rattle.dns_records.specs.Types.{type_ns, type_cname, type_soa, type_any, class_in, class_any}
 use Rattle.dns_records.specs.Record.{Record, record_cmp, serial_of, with_serial}
 use Rattle.dns_zone.specs.Records.{put, without, rrset, owns_type}
-use Rattle.dns_zone.specs.Zone.{Zone, IsZone, soas, has_twice, has_cname_and_other, is_wildcard}
+use Rattle.dns_zone.specs.Zone.{soas}
 use Rattle.dns_zone.specs.Order.{record_total, both_true, names_same, names_itself, tied_key}
 use Rattle.dns_zone.specs.Sets.{equal_is, told}
 use Rattle.dns_zone.specs.Twice.{any_by}

@@ -1,12 +1,11 @@
 -- The serial of a SOA, and the next one.
-use Rattle.std.proofs.Common.{◌≡◌, ℕ, zero, suc, ◌+◌, ◌-◌, ◌%◌, ◌^◌, ◌<◌, ◌≤◌, true, ◌&&◌, List, [], ◌∷◌, ◌++◌, length, take, drop, Some, refl, sym, ap, ◌∙◌, arith, append-nil, append_assoc, length-append}
+use Rattle.std.proofs.Common.{◌≡◌, ℕ, zero, suc, ◌+◌, ◌-◌, ◌^◌, ◌<◌, ◌≤◌, true, ◌&&◌, List, [], ◌∷◌, ◌++◌, length, take, drop, refl, ap, ◌∙◌, arith, append_assoc, length-append}
 use Rattle.std.specs.Prelude.{nat_lt}
 use Rattle.std.proofs.lemmas.List.{take_at, drop_at, length-drop, length-take}
 use Rattle.std.specs.Int.{w32, to_be_bytes}
 use Rattle.std.specs.List.{AllByRecursion}
 use Rattle.dns_records.specs.Types.{Octets, Name, type_soa}
-use Rattle.dns_records.specs.Record.{Record, Data, IsData, IsRecord, data_of, number_of, serial_of, with_serial}
-use Rattle.dns_records.specs.Typed.{soa_with}
+use Rattle.dns_records.specs.Record.{Record, IsData, IsRecord, data_of, number_of, serial_of, with_serial}
 use Rattle.dns_records.proofs.Readings.{parts_of, soa_with-valid}
 use Rattle.dns_wire.proofs.NumbersBack.{four_back}
 use Rattle.dns_serial.specs.Serial.{advance, greater, next_serial}

@@ -1,8 +1,7 @@
 -- What makes records a valid zone, and how it stays where records come and go.
-use Rattle.std.proofs.Common.{◌≡◌, ℕ, suc, Bool, true, false, not, ◌&&◌, ◌||◌, ◌⊎◌, inl, inr, List, [], ◌∷◌, Some, None, length, refl, sym, ap, subst, ◌∙◌, arith, cond}
+use Rattle.std.proofs.Common.{◌≡◌, ℕ, suc, Bool, true, false, not, ◌&&◌, ◌||◌, ◌⊎◌, inl, inr, List, [], ◌∷◌, Some, None, length, refl, sym, ap, subst, ◌∙◌, arith}
 use Rattle.std.specs.Prelude.{filter, ◌==◌, nat_lt, if◌then◌else◌}
 use Rattle.std.specs.List.{list_any, list_all}
-use Rattle.std.specs.Ordering.{is_eq}
 use Rattle.std.specs.Cmp.{tied_itself}
 use Rattle.std.specs.FinMap.Entries.{by_order}
 use Rattle.std.specs.declared.cmp.Ordering.TheVariants.{Less, Equal, Greater}
@@ -10,12 +9,11 @@ use Rattle.std.proofs.lemmas.Bool.Decides.{nat_tests}
 use Rattle.dns_names.specs.Name.{Labels, names_eq, under}
 use Rattle.dns_records.specs.Types.{type_ns, type_cname, type_soa}
 use Rattle.dns_records.specs.Record.{Record, record_cmp}
-use Rattle.dns_zone.specs.Records.{put, contains, same, records_at, rrset, owns_type}
-use Rattle.dns_zone.specs.Zone.{soas, zone_fault, has_twice, has_cname_and_other, is_wildcard}
-use Rattle.dns_zone.specs.declared.ZoneError.{ZoneError}
+use Rattle.dns_zone.specs.Records.{put, contains, same, records_at, owns_type}
+use Rattle.dns_zone.specs.Zone.{soas, zone_fault, has_cname_and_other, is_wildcard}
 use Rattle.dns_zone.specs.declared.ZoneError.TheVariants.{NoSoa, ManySoa, NoNs, OutOfZone, Duplicate, CnameAndOther, WildcardNs, TooMany}
 use Rattle.dns_zone.specs.Order.{record_total, both_true, names_same, names_itself, same_is, same_itself, tied_key}
-use Rattle.dns_zone.specs.Owned.{none_passes, owns_no_type}
+use Rattle.dns_zone.specs.Owned.{owns_no_type}
 use Rattle.dns_zone.specs.Sets.{Sorted, told, either_true, filter_contains, contains_filter, sorted_filter}
 use Rattle.dns_zone.specs.Twice.{any_by, once}
 use Rattle.dns_zone.specs.Soa.{HasSoa}

@@ -3,7 +3,7 @@ use Rattle.std.proofs.Common.{◌≡◌, ℕ, Bool, true, false, not, ◌&&◌, 
 use Rattle.std.specs.Prelude.{filter, ◌==◌, if◌then◌else◌}
 use Rattle.std.specs.List.{AllByRecursion, list_any}
 use Rattle.std.specs.Ordering.{is_eq}
-use Rattle.std.specs.declared.cmp.Ordering.TheVariants.{Less, Equal}
+use Rattle.std.specs.declared.cmp.Ordering.TheVariants.{Less}
 use Rattle.dns_names.specs.Name.{Labels, names_eq}
 use Rattle.dns_records.specs.Types.{type_ns, type_cname, type_soa, type_any, class_in, class_any}
 use Rattle.dns_records.specs.Record.{Record, record_cmp, serial_of, with_serial}

@@ -1,14 +1,13 @@
 -- What an accepted update leaves is the next version of the zone.
-use Rattle.std.proofs.Common.{◌≡◌, ℕ, ◌<◌, ◌≤◌, ◌^◌, Bool, true, false, not, ◌||◌, inl, inr, List, [], ◌∷◌, Ok, Err, None, refl, sym, ap, subst, ◌∙◌}
+use Rattle.std.proofs.Common.{◌≡◌, Bool, true, false, inl, inr, List, [], ◌∷◌, Ok, Err, None, refl, sym, ap, subst, ◌∙◌}
 use Rattle.std.specs.Prelude.{◌==◌, Result, IfOk, if◌then◌else◌}
 use Rattle.std.specs.List.{AllByRecursion}
-use Rattle.std.specs.Ordering.{is_eq}
 use Rattle.std.proofs.Math.Logic.{∥∥₁_elim, ∥∥₁_map}
 use Rattle.std.proofs.Math.Bool.{Bool-set}
 use Rattle.dns_names.specs.Name.{Labels}
 use Rattle.dns_records.specs.Types.{type_soa}
 use Rattle.dns_records.specs.Record.{Record, IsRecord, serial_of, with_serial}
-use Rattle.dns_zone.specs.Records.{contains, put, same, without}
+use Rattle.dns_zone.specs.Records.{contains, same, without}
 use Rattle.dns_zone.specs.Zone.{Zone, IsZone, soas}
 use Rattle.dns_zone.specs.Order.{same_is}
 use Rattle.dns_zone.specs.Sets.{either_true, sorted_from}

@@ -1,5 +1,4 @@
-use Rattle.std.proofs.Common.{sym, ap, ◌∙◌}
-use Rattle.dns_zone.specs.Zone.{soas}
+use Rattle.std.proofs.Common.{sym, ◌∙◌}
 use Rattle.dns_zone.proofs.OneSoa.{zone_soa, has_soa_at}
 use Rattle.dns_zone.proofs.zone.Zone.soa.Goals as goal
 
