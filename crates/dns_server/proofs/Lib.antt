@@ -2,4 +2,5 @@ pub mod Ended
 pub mod Ports
 pub mod Requests
 pub mod Soas
+pub mod Words
 pub mod Zipped

@@ -1,4 +1,8 @@
 //! Scripts of events: one command a line.
+ghost use Rattle.std.specs.Prelude.{◌≡◌, ◌<◌, ℕ, List, [], ◌∷◌, length, position, IfOk, MatchOption};
+ghost use Rattle.std.specs.List.{after_first, before_first};
+ghost use Rattle.dns_server.specs.Scripts.{HasOctets, IsRead, is_blank, words};
+
 use crate::answer_datagram;
 use dns_memory::Heap;
 use dns_policy::{address, print_address};
@@ -8,12 +12,16 @@ use std::io::Write;
 use std::net::IpAddr;
 
 /// One line of a script.
+#[derive(Drop)]
 enum Command<'a> {
     /// A blank line or a comment.
     Nothing,
     /// A datagram from an address, its octets in hexadecimal.
-    Datagram(IpAddr, &'a str),
+    Datagram(IpAddr, &'a [u8]),
 }
+
+/// A datagram has at most so many octets here.
+const MOST: usize = 65535;
 
 /// How a run ends.
 #[derive(Clone, Copy, Debug, PartialEq, Eq)]
@@ -26,34 +34,73 @@ pub enum Ending {
     Failed,
 }
 
+/// A space or a tab.
+fn is_blank(octet: u8) -> bool
+    ensures { result ≡ is_blank octet }
+{
+    octet == b' ' || octet == b'\t'
+}
+
+/// Where the first blank stands.
+fn first_blank(text: &[u8]) -> Option<usize>
+    ensures { result ≡ position is_blank text.now }
+{
+    text.iter().position(|octet| is_blank(*octet))
+}
+
+/// What stands before the first blank, and behind it.
+fn cut_at_blank(text: &[u8]) -> (&[u8], &[u8])
+    ensures parts { MatchOption (position is_blank text.now) ((result.0.now ≡ text.now) × (result.1.now ≡ [])) (λ _. (result.0.now ≡ before_first is_blank text.now) × (result.1.now ≡ after_first is_blank text.now)) }
+    ensures shorter { 0 < length text.now → length result.1.now < length text.now }
+{
+    match first_blank(text) {
+        Some(end) => (&text[..end], &text[end + 1..]),
+        None => (text, &[]),
+    }
+}
+
+/// The first word of a text, and what stands behind it.
+fn first_word(text: &[u8]) -> Option<(&[u8], &[u8])>
+    ensures { MatchOption result (words text.now ≡ []) (λ w. words text.now ≡ w.0.now ∷ words w.1.now) }
+{
+    let mut rest = text;
+    'blanks: while !rest.is_empty() {
+        let (word, behind) = cut_at_blank(rest);
+        if !word.is_empty() {
+            return Some((word, behind));
+        }
+        rest = behind;
+    }
+    None
+}
+
 /// The command that a line is, if it is one. Words are separated by spaces or tabs.
-fn read_command(line: &str) -> Option<Command<'_>> {
-    if line.starts_with('#') {
+fn read_command(line: &[u8]) -> Option<Command<'_>>
+    ensures { IsRead line.now result }
+{
+    if line.first() == Some(&b'#') {
         return Some(Command::Nothing);
     }
-    let mut words = line
-        .split(|c: char| c == ' ' || c == '\t')
-        .filter(|word| !word.is_empty());
-    let Some(verb) = words.next() else {
+    let Some((verb, behind)) = first_word(line) else {
         return Some(Command::Nothing);
     };
-    if verb != "udp" {
+    if verb != b"udp".as_slice() {
         return None;
     }
-    let address = address(words.next()?.as_bytes())?;
-    let octets = words.next()?;
-    if words.next().is_some() {
+    let (peer, behind) = first_word(behind)?;
+    let (octets, behind) = first_word(behind)?;
+    if first_word(behind).is_some() {
         return None;
     }
-    Some(Command::Datagram(address, octets))
+    Some(Command::Datagram(address(peer)?, octets))
 }
 
 /// The octets that a datagram's text says: 1 to 65,535 of them.
-fn read_octets(alloc: Heap, text: &str) -> Result<Option<Vec<u8, Heap>>, AllocError> {
-    if text.is_empty() || text.len() > 131070 {
-        return Ok(None);
-    }
+fn read_octets(alloc: Heap, text: &[u8]) -> Result<Option<Vec<u8, Heap>>, AllocError>
+    ensures { IfOk result (λ read. MatchOption read ((octets : List ℕ) → ¬ (HasOctets text.now octets)) (λ octets. HasOctets text.now octets.items)) }
+{
     match hex::decode(alloc, text) {
+        Ok(octets) if octets.is_empty() || octets.len() > MOST => Ok(None),
         Ok(octets) => Ok(Some(octets)),
         Err(hex::FromHexError::OutOfMemory) => Err(AllocError),
         Err(_) => Ok(None),
@@ -64,7 +111,7 @@ fn read_octets(alloc: Heap, text: &str) -> Result<Option<Vec<u8, Heap>>, AllocEr
 fn run_line<I: ZoneIndex, W: Write>(
     alloc: Heap,
     zones: &[Zone<I>],
-    line: &str,
+    line: &[u8],
     out: &mut W,
 ) -> Result<bool, Ending> {
     let (address, text) = match read_command(line) {
@@ -104,12 +151,6 @@ pub fn run_script<I: ZoneIndex, W: Write>(
         let line = match line.split_last() {
             Some((b'\r', front)) => front,
             _ => line,
-        };
-        if line.first() == Some(&b'#') {
-            continue;
-        }
-        let Ok(line) = std::str::from_utf8(line) else {
-            return Ending::Syntax(number);
         };
         match run_line(alloc, zones, line, out) {
             Ok(true) => {}
