@@ -1,14 +1,20 @@
 //! Scripts of events: one command a line.
-ghost use Rattle.std.specs.Prelude.{◌≡◌, ◌<◌, ℕ, List, [], ◌∷◌, length, position, IfOk, MatchOption};
+ghost use Rattle.std.specs.Prelude.{◌≡◌, ◌≢◌, ◌<◌, ℕ, List, [], ◌∷◌, length, position, IfOk, OnOk, MatchOption, Some, None};
+ghost use Rattle.std.specs.Option.{option_copied};
+ghost use Rattle.std.specs.Str.Lines.{strip_carriage_return};
+ghost use Rattle.std.specs.Bool.{MatchBool};
+ghost use Rattle.std.specs.Io.KnownBytes.{Appends};
+ghost use Rattle.dns_answer.specs.Answer.{Replies};
+ghost use Rattle.dns_server.specs.Served.{served};
 ghost use Rattle.std.specs.List.{after_first, before_first};
-ghost use Rattle.dns_server.specs.Scripts.{HasOctets, IsRead, is_blank, words};
+ghost use Rattle.dns_server.specs.Scripts.{HasOctets, IsRead, PrintsInto, PrintsNone, RunsInto, is_blank, is_feed, lines, printed_reply, words};
 
 use crate::answer_datagram;
 use dns_memory::Heap;
 use dns_policy::{address, print_address};
 use dns_zone::{Zone, ZoneIndex};
 use std::alloc::AllocError;
-use std::io::Write;
+use std::io::{self, Write};
 use std::net::IpAddr;
 
 /// One line of a script.
@@ -107,33 +113,76 @@ fn read_octets(alloc: Heap, text: &[u8]) -> Result<Option<Vec<u8, Heap>>, AllocE
     }
 }
 
+/// Prints a reply: where it goes, and its octets.
+fn print_reply<W: Write>(alloc: Heap, peer: IpAddr, reply: &[u8], out: &mut W) -> io::Result<()>
+    ensures { OnOk result (Appends (W.contents out.old) (W.contents out.new) (printed_reply peer (Replies reply.now))) }
+{
+    let text = hex::encode(alloc, reply)?;
+    writeln!(out, "udp {} {text}", print_address(peer))
+}
+
+/// Answers a datagram from an address, and prints what is sent.
+fn run_datagram<I: ZoneIndex, W: Write>(
+    alloc: Heap,
+    zones: &[Zone<I>],
+    peer: IpAddr,
+    octets: &[u8],
+    out: &mut W,
+) -> io::Result<()>
+    ensures { OnOk result (Appends (W.contents out.old) (W.contents out.new) (printed_reply peer (served zones.now octets.now))) }
+{
+    match answer_datagram(alloc, zones, octets)? {
+        Some(reply) => print_reply(alloc, peer, reply.as_slice(), out),
+        None => Ok(()),
+    }
+}
+
 /// Runs one line, and says whether it is a command.
 fn run_line<I: ZoneIndex, W: Write>(
     alloc: Heap,
     zones: &[Zone<I>],
     line: &[u8],
     out: &mut W,
-) -> Result<bool, Ending> {
-    let (address, text) = match read_command(line) {
-        None => return Ok(false),
-        Some(Command::Nothing) => return Ok(true),
-        Some(Command::Datagram(address, text)) => (address, text),
-    };
-    let octets = match read_octets(alloc, text) {
-        Ok(Some(octets)) => octets,
-        Ok(None) => return Ok(false),
-        Err(_) => return Err(Ending::Failed),
-    };
-    match answer_datagram(alloc, zones, &octets) {
-        Ok(Some(reply)) => match hex::encode(alloc, reply.as_slice()) {
-            Ok(reply) => match writeln!(out, "udp {} {reply}", print_address(address)) {
-                Ok(()) => Ok(true),
-                Err(_) => Err(Ending::Failed),
-            },
-            Err(_) => Err(Ending::Failed),
+) -> io::Result<bool>
+    ensures { IfOk result (λ is_command. MatchBool is_command (PrintsInto zones.now line.now (W.contents out.old) (W.contents out.new)) (PrintsNone zones.now line.now (W.contents out.old) (W.contents out.new))) }
+{
+    match read_command(line) {
+        None => Ok(false),
+        Some(Command::Nothing) => Ok(true),
+        Some(Command::Datagram(peer, text)) => match read_octets(alloc, text)? {
+            Some(octets) => {
+                run_datagram(alloc, zones, peer, &octets, out)?;
+                Ok(true)
+            }
+            None => Ok(false),
         },
-        Ok(None) => Ok(true),
-        Err(_) => Err(Ending::Failed),
+    }
+}
+
+/// Where the first line feed stands.
+fn first_feed(text: &[u8]) -> Option<usize>
+    ensures { result ≡ position is_feed text.now }
+{
+    text.iter().position(|octet| *octet == b'\n')
+}
+
+/// What stands before the first line feed, and behind it if there is one.
+fn cut_at_feed(text: &[u8]) -> (&[u8], Option<&[u8]>)
+    ensures { MatchOption (position is_feed text.now) ((result.0.now ≡ text.now) × (option_copied result.1 ≡ None)) (λ _. (result.0.now ≡ before_first is_feed text.now) × (option_copied result.1 ≡ Some (after_first is_feed text.now))) }
+{
+    match first_feed(text) {
+        Some(end) => (&text[..end], Some(&text[end + 1..])),
+        None => (text, None),
+    }
+}
+
+/// A line without the carriage return at its end, if it has one.
+fn without_return(line: &[u8]) -> &[u8]
+    ensures { result.now ≡ strip_carriage_return line.now }
+{
+    match line.split_last() {
+        Some((b'\r', front)) => front,
+        _ => line,
     }
 }
 
@@ -144,19 +193,20 @@ pub fn run_script<I: ZoneIndex, W: Write>(
     zones: &[Zone<I>],
     script: &[u8],
     out: &mut W,
-) -> Ending {
-    let mut number = 0u64;
-    for line in script.split(|octet| *octet == b'\n') {
-        number = number.saturating_add(1);
-        let line = match line.split_last() {
-            Some((b'\r', front)) => front,
-            _ => line,
-        };
-        match run_line(alloc, zones, line, out) {
+) -> Ending
+    ensures { result ≢ Ending.Failed → RunsInto zones.now (lines script.now) result (W.contents out.old) (W.contents out.new) }
+{
+    let mut number = 1;
+    let mut rest = Some(script);
+    'lines: while let Some(text) = rest {
+        let (line, behind) = cut_at_feed(text);
+        match run_line(alloc, zones, without_return(line), out) {
             Ok(true) => {}
             Ok(false) => return Ending::Syntax(number),
-            Err(ending) => return ending,
+            Err(_) => return Ending::Failed,
         }
+        number += 1;
+        rest = behind;
     }
     Ending::Done
 }

@@ -1,4 +1,4 @@
-use Rattle.std.proofs.Common.{◌≡◌, ◌<◌, length, ◌∙◌, rules}
+use Rattle.std.proofs.Common.{◌<◌, length, ◌∙◌, rules}
 use Rattle.dns_server.proofs.Words.{cut_words, one_word}
 use Rattle.dns_server.proofs.script.first_word.Goals as goal
 
