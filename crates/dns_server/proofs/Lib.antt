@@ -1,5 +1,7 @@
 pub mod Ended
 pub mod Ports
 pub mod Requests
+pub mod Running
 pub mod Soas
+pub mod Words
 pub mod Zipped

@@ -1,5 +1,5 @@
 -- The SOA of a zone among the records that it was made of.
-use Rattle.std.proofs.Common.{◌≡◌, ℕ, zero, suc, ◌<◌, Bool, true, false, List, [], ◌∷◌, length, get_or, refl, sym, subst, arith}
+use Rattle.std.proofs.Common.{◌≡◌, zero, suc, Bool, true, false, List, [], ◌∷◌, arith}
 use Rattle.std.specs.Prelude.{Contains, filter, cond}
 use Rattle.dns_records.specs.Record.{Record}
 use Rattle.dns_zone.specs.Zone.{soas}

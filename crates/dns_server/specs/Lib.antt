@@ -1,3 +1,4 @@
 pub mod Checks
+pub mod Scripts
 pub mod Served
 pub mod Settings
