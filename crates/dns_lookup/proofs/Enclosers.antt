@@ -3,7 +3,7 @@ use Rattle.std.proofs.Common.{◌≡◌, ℕ, ◌<◌, ◌≤◌, Bool, true, fa
 use Rattle.std.specs.Prelude.{Some, None, unwrap_or}
 use Rattle.std.specs.List.{find}
 use Rattle.std.proofs.lemmas.List.{length-append}
-use Rattle.dns_names.specs.Name.{Labels, IsName, wire, ancestors}
+use Rattle.dns_names.specs.Name.{Labels, IsName, wire, parent, ancestors}
 use Rattle.dns_records.specs.Record.{Record}
 use Rattle.dns_zone.specs.Records.{exists}
 use Rattle.dns_lookup.specs.Lookup.{encloser}
@@ -30,6 +30,14 @@ encloser_here records (l ∷ rest) e = encloser_step records l rest (exists reco
 
 pub encloser_up : (records : List Record) (l : List ℕ) (rest : Labels) → exists records (l ∷ rest) ≡ false → encloser records (l ∷ rest) ≡ encloser records rest
 encloser_up records l rest e = encloser_step records l rest (exists records (l ∷ rest)) ∙ ap (λ (b : Bool). chosen (l ∷ rest) b (encloser records rest)) e
+
+pub encloser_parent : (records : List Record) (name above : Labels) → Some above ≡ parent name → exists records name ≡ false → encloser records name ≡ encloser records above
+encloser_parent records [] above e none = absurd cc
+encloser_parent records (l ∷ rest) above e none = let same : above ≡ rest = cc in encloser_up records l rest none ∙ ap (encloser records) (sym same)
+
+pub encloser_root : (records : List Record) (name : Labels) → None ≡ parent name → encloser records name ≡ name
+encloser_root records [] e = at_root (exists records [])
+encloser_root records (l ∷ rest) e = absurd cc
 
 longest : (l : List ℕ) (rest above : Labels) → length (wire above) ≤ length (wire rest) → (b : Bool) → length (wire (chosen (l ∷ rest) b above)) ≤ length (wire (l ∷ rest))
 longest l rest above h true = omega arith

@@ -1,5 +1,5 @@
 //! What becomes of one name in one zone.
-ghost use Rattle.std.specs.Prelude.{◌≡◌, true, List, Some, None, IfSome, IfNone};
+ghost use Rattle.std.specs.Prelude.{◌≡◌, true, false, List, Some, None, IfSome, IfNone};
 ghost use Rattle.dns_names.specs.Name.{Labels};
 ghost use Rattle.dns_records.specs.Record.{Record as Stated};
 ghost use Rattle.dns_zone.specs.Records.{is_ordered, records_at, exists};
@@ -47,6 +47,17 @@ fn closest_encloser<'n, I: ZoneIndex>(
     here
 }
 
+/// The closest encloser of a name that does not exist, which is one above it.
+fn encloser_above<'n, I: ZoneIndex>(zone: &Zone<I>, name: &NameRef<'n>, near: usize) -> NameRef<'n>
+    requires { exists zone.now.records name.now ≡ false }
+    ensures { result ≡ encloser zone.now.records name.now }
+{
+    match name.parent() {
+        Some(above) => closest_encloser(zone, &above, near),
+        None => name.again(),
+    }
+}
+
 /// Whether the name exists in the zone. It is looked for near a place.
 fn exists_near<I: ZoneIndex>(zone: &Zone<I>, name: &NameRef<'_>, near: usize) -> bool
     ensures { result ≡ exists zone.now.records name.now }
@@ -71,7 +82,7 @@ fn node_of<'a, I: ZoneIndex>(
     }
     // The encloser is another name above it, so that the label has room before it.
     let _valid = name.as_wire();
-    let source = Node::wildcard_of(closest_encloser(zone, name, own.place));
+    let source = Node::wildcard_of(encloser_above(zone, name, own.place));
     let there = source.spot(zone, own.place);
     if there.exists {
         return Some((source, there.records));

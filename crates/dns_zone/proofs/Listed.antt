@@ -27,15 +27,15 @@ filter_same : (p q : Record → Bool) → ((r : Record) → p r ≡ q r) → (xs
 filter_same p q h [] = refl
 filter_same p q h (x ∷ xs) = λ i. cond (h x i) (x ∷ filter_same p q h xs i) (filter_same p q h xs i)
 
-names_tie : (a b : Labels) → is_eq (name_cmp a b) ≡ names_eq a b
+pub names_tie : (a b : Labels) → is_eq (name_cmp a b) ≡ names_eq a b
 names_tie a b = both_ways (is_eq (name_cmp a b)) (names_eq a b) (λ e. (let same = name_cmp-same a b (equal_is (name_cmp a b) e) in subst (λ n. names_eq a n ≡ true) same (names_itself a)))
     (λ e. (let same = names_same a b e in subst (λ n. is_eq (name_cmp a n) ≡ true) same (ap is_eq (tied_itself name_total a))))
 
-numbers_tie : (a b : ℕ) → is_eq (nat_cmp a b) ≡ (a == b)
+pub numbers_tie : (a b : ℕ) → is_eq (nat_cmp a b) ≡ (a == b)
 numbers_tie a b = both_ways (is_eq (nat_cmp a b)) (a == b) (λ e. (let same = nat_cmp-IsAntisymmetric a b (equal_is (nat_cmp a b) e) in subst (λ n. (a == n) ≡ true) same (number_itself a)))
     (λ e. (let same : a ≡ b = grind (arith, nat_tests, e) in subst (λ n. is_eq (nat_cmp a n) ≡ true) same (ap is_eq (tied_itself nat_cmp_total a))))
 
-both_tie : (a b : Ordering) → is_eq (ordering_then a b) ≡ (is_eq a && is_eq b)
+pub both_tie : (a b : Ordering) → is_eq (ordering_then a b) ≡ (is_eq a && is_eq b)
 both_tie Less b = refl
 both_tie Equal b = refl
 both_tie Greater b = refl

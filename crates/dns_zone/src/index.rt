@@ -16,7 +16,7 @@ pub struct Spot<'a> {
     pub records: &'a [Record],
     /// Whether the name or one under it owns a record (RFC 4592 section 2.2.2).
     pub exists: bool,
-    /// The place of the name in the set, from which names near it are found sooner.
+    /// A place before the name, from which names near it are found sooner.
     pub place: usize,
 }
 

@@ -35,6 +35,17 @@ fn side(key: &Key<'_>, r: &Record) -> Ordering
     }
 }
 
+/// Whether the record is what is looked for.
+fn is_match(key: &Key<'_>, r: &Record) -> bool
+    ensures { result ≡ is_eq (side_of key.now r.now) }
+{
+    match key {
+        Key::Owner(name) => r.owner().lend().is(name),
+        Key::Type(name, rtype) => r.owner().lend().is(name) & (r.rtype() == *rtype),
+        Key::Data(other) => r.compare(other).is_eq(),
+    }
+}
+
 /// The place that is looked at next: the wished one if it lies between the two, else the middle.
 fn place_between(low: usize, high: usize, wished: usize) -> usize
     requires { low < high }
@@ -106,7 +117,7 @@ fn end_of_match(records: &[Record], key: &Key<'_>, begin: usize) -> usize
 {
     let mut end = begin;
     'matches: while end < records.len() {
-        if !side(key, &records[end]).is_eq() {
+        if !is_match(key, &records[end]) {
             return end;
         }
         end += 1;
@@ -182,6 +193,6 @@ pub(crate) fn spot<'r>(records: &'r [Record], name: &NameRef<'_>, near: Option<u
     Spot {
         records: &records[place..end],
         exists: is_owned_from(records, name, place),
-        place,
+        place: place.saturating_sub(1),
     }
 }

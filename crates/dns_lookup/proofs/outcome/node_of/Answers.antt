@@ -9,4 +9,4 @@ wildcard_of-source-requires g c =
     let records = c.args.zone.now.records in
     let name = c.args.name.now in
     let none : exists records name ≡ false = sym c.requires.exists ∙ c.if-own.false in
-    subst (λ (n : Labels). length (wire n) ≤ 253) (sym c.closest_encloser.ensures) (encloser_leaves records name c.as_wire-valid.ensures.valid none)
+    subst (λ (n : Labels). length (wire n) ≤ 253) (sym c.encloser_above.ensures) (encloser_leaves records name c.as_wire-valid.ensures.valid none)
