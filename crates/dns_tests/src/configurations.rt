@@ -169,15 +169,20 @@ fn put_zone(alloc: Global, text: &mut String, origin: usize, device: usize) -> O
     text.push_str(&zone).ok()
 }
 
-/// Whether a configuration of so many zones is read, each with an origin and a device below these counts.
-fn are_read(alloc: Global, heap: Heap, zones: usize, origins: usize, devices: usize) -> Option<bool>
-    requires origins { 0 < origins }
-    requires devices { 0 < devices }
-{
+/// Whether a configuration of so many zones is read, those behind so many with the origin of the first, or its device.
+fn are_read(
+    alloc: Global,
+    heap: Heap,
+    zones: usize,
+    origins: usize,
+    devices: usize,
+) -> Option<bool> {
     let mut text = String::new(alloc);
     text.push_str("listen = \"127.0.0.1:53\"\n").ok()?;
     for zone in 0..zones {
-        put_zone(alloc, &mut text, zone % origins, zone % devices)?;
+        let origin = if zone < origins { zone } else { 0 };
+        let device = if zone < devices { zone } else { 0 };
+        put_zone(alloc, &mut text, origin, device)?;
     }
     is_read(alloc, heap, text.as_bytes())
 }
