@@ -196,7 +196,7 @@ pub fn run_script<I: ZoneIndex, W: Write>(
 ) -> Ending
     ensures { result ≢ Ending.Failed → RunsInto zones.now (lines script.now) result (W.contents out.old) (W.contents out.new) }
 {
-    let mut number = 1;
+    let mut number: u64 = 1;
     let mut rest = Some(script);
     'lines: while let Some(text) = rest {
         let (line, behind) = cut_at_feed(text);

@@ -156,7 +156,8 @@ fn checks_of_files(rt: HostRuntime) -> Result<(), Fail> {
 /// A configuration of two zones, their master files and a script, each of which may be unreadable, and the one fault that is told.
 type Faulty = (
     Option<&'static str>,
-    [Option<&'static str>; 2],
+    Option<&'static str>,
+    Option<&'static str>,
     Option<&'static str>,
     &'static str,
 );
@@ -168,48 +169,55 @@ const BAD_ZONE: Option<&str> = Some("\n A 192.0.2.1\n");
 
 /// The faults in their order: of the configuration, the master files, the script, its lines.
 const FAULTS: &[Faulty] = &[
-    (None, [None, None], None, "c: Unreadable\n"),
-    (Some(""), [None, None], None, "c: BadConfig\n"),
-    (Some(TWO_ZONES), [None, None], None, "p.zone: Unreadable\n"),
+    (None, None, None, None, "c: Unreadable\n"),
+    (Some(""), None, None, None, "c: BadConfig\n"),
+    (Some(TWO_ZONES), None, None, None, "p.zone: Unreadable\n"),
     (
         Some(TWO_ZONES),
-        [BAD_ZONE, None],
+        BAD_ZONE,
+        None,
         BAD_SCRIPT,
         "p.zone:2: NoOwner\n",
     ),
     (
         Some(TWO_ZONES),
-        [Some(ZONE_Q), BAD_ZONE],
+        Some(ZONE_Q),
+        BAD_ZONE,
         None,
         "p.zone: NoSoa\n",
     ),
     (
         Some(TWO_ZONES),
-        [Some(ZONE_P), None],
+        Some(ZONE_P),
+        None,
         None,
         "q.zone: Unreadable\n",
     ),
     (
         Some(TWO_ZONES),
-        [Some(ZONE_P), BAD_ZONE],
+        Some(ZONE_P),
+        BAD_ZONE,
         BAD_SCRIPT,
         "q.zone:2: NoOwner\n",
     ),
     (
         Some(TWO_ZONES),
-        [Some(ZONE_P), Some("")],
+        Some(ZONE_P),
+        Some(""),
         BAD_SCRIPT,
         "q.zone: NoSoa\n",
     ),
     (
         Some(TWO_ZONES),
-        [Some(ZONE_P), Some(ZONE_Q)],
+        Some(ZONE_P),
+        Some(ZONE_Q),
         None,
         "s: Unreadable\n",
     ),
     (
         Some(TWO_ZONES),
-        [Some(ZONE_P), Some(ZONE_Q)],
+        Some(ZONE_P),
+        Some(ZONE_Q),
         BAD_SCRIPT,
         "s:1: Syntax\n",
     ),
@@ -218,7 +226,7 @@ const FAULTS: &[Faulty] = &[
 /// Whether a run tells this one fault, and ends with status 1.
 fn tells(alloc: Global, heap: Heap, given: &Faulty) -> bool {
     let mut told: Vec<u8> = Vec::new(alloc);
-    let (config, [p, q], script, fault) = *given;
+    let (config, p, q, script, fault) = *given;
     let files = [file_or_none("q.zone", q), file_or_none("p.zone", p)];
     let (config, script) = (file_or_none("c", config), file_or_none("s", script));
     let mut out = io::sink();
@@ -231,7 +239,7 @@ fn tells(alloc: Global, heap: Heap, given: &Faulty) -> bool {
 fn faults_in_their_order(rt: HostRuntime) -> Result<(), Fail> {
     let heap = heap(rt.alloc())?;
     for given in FAULTS {
-        assert!(rt; tells(rt.alloc(), heap, given), "{}", given.3);
+        assert!(rt; tells(rt.alloc(), heap, given), "{}", given.4);
     }
     Ok(())
 }
