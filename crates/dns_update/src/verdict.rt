@@ -139,14 +139,14 @@ fn judge_items<I: ZoneIndex>(
     versioned(alloc, zone, after)
 }
 
-/// What becomes of an update of the zone, which stays as it is (RFC 2136 sections 3.2 to 3.6).
+/// What becomes of an update of the zone, which stays as it is (RFC 2136 sections 3.2 to 3.6). A change that is accepted can be applied to
+/// it and leaves a valid zone with a greater serial, but that the caller sees to its room: it may have more than 65,536 records.
 pub fn judge<I: ZoneIndex>(
     alloc: Heap,
     zone: &Zone<I>,
     message: &Message<'_>,
 ) -> Result<Judged, AllocError>
     ensures verdict { IfOk result (IsJudged zone.now message.now.message.answers message.now.message.authorities) }
-    // What is accepted leads to a valid zone, whose serial is greater (RFC 1982).
     ensures next { IfOk result (λ judged. (change : Stated) → judged ≡ Judged.Accepted change → IsNext zone.now change) }
 {
     let _reads = message.octets();
