@@ -158,6 +158,22 @@ past_match side cut xs at ordered inside r is low other =
     let all = high_half (λ s. is_gt (side s) ≡ true) xs at (past side cut) ordered inside r is here in
     λ k d from to. gt_apart (side (get_or xs k d)) (all k d from to)
 
+between : (o : Ordering) → is_lt o ≡ false → is_gt o ≡ false → is_eq o ≡ true
+between Less e f = absurd cc
+between Equal e f = refl
+between Greater e f = absurd cc
+
+not_past_equal : (o : Ordering) → is_eq o ≡ true → is_gt o ≡ false
+not_past_equal Less e = absurd cc
+not_past_equal Equal e = refl
+not_past_equal Greater e = absurd cc
+
+-- up to one that is what is looked for, all are that do not stand before it
+pub match_so_far : (side : Record → Ordering) → IsCut side → (xs : List Record) (begin at : ℕ) → is_ordered xs ≡ true → at < length xs → (r : Record) → r ≡ get_or xs at r → AllWithin (λ s. is_lt (side s) ≡ false) xs begin (length xs) → is_eq (side r) ≡ true → AllWithin (λ s. is_eq (side s) ≡ true) xs begin (at + 1)
+match_so_far side cut xs begin at ordered inside r is behind here =
+    let up = low_half (λ s. is_gt (side s) ≡ false) xs at cut.most ordered inside r is (not_past_equal (side r) here) in
+    λ k d from to. between (side (get_or xs k d)) (behind k d from (omega arith)) (up k d (omega arith) to)
+
 pub matches : (side : Record → Ordering) (xs : List Record) (low high : ℕ) → low ≤ high → high ≤ length xs → AllWithin (λ r. is_lt (side r) ≡ true) xs 0 low → AllWithin (λ r. is_eq (side r) ≡ true) xs low high → AllWithin (λ r. is_eq (side r) ≡ false) xs high (length xs)
     → take (high - low) (drop low xs) ≡ filter (λ r. is_eq (side r)) xs
 matches side xs low high met inside f g h = filter_range (λ r. is_eq (side r)) xs low high met inside (λ k d from to. lt_apart _ (f k d from to)) g h

@@ -105,7 +105,8 @@ pub(crate) fn count_through(records: &[Record], key: &Key<'_>) -> usize
     low
 }
 
-/// Where the records end that are what is looked for, none of which stands before the place.
+/// Where the records end that are what is looked for, none of which stands before the place. The search goes away from the place in
+/// steps that double, and then by halves.
 fn end_of_match(records: &[Record], key: &Key<'_>, begin: usize) -> usize
     requires order { is_ordered records.now ≡ true }
     requires inside { begin ≤ length records.now }
@@ -115,14 +116,23 @@ fn end_of_match(records: &[Record], key: &Key<'_>, begin: usize) -> usize
     ensures here { AllWithin (λ r. is_eq (side_of key.now r) ≡ true) records.now begin result }
     ensures past { AllWithin (λ r. is_eq (side_of key.now r) ≡ false) records.now result (length records.now) }
 {
-    let mut end = begin;
-    'matches: while end < records.len() {
-        if !is_match(key, &records[end]) {
-            return end;
+    let mut low = begin;
+    let mut high = records.len();
+    let mut step = 1usize;
+    let mut wished = begin;
+    'matches: while low < high {
+        let at = place_between(low, high, wished);
+        let reach = step;
+        step = step.saturating_mul(2);
+        if is_match(key, &records[at]) {
+            low = at + 1;
+            wished = at.saturating_add(reach);
+        } else {
+            high = at;
+            wished = at.wrapping_sub(reach);
         }
-        end += 1;
     }
-    end
+    low
 }
 
 /// The records that are what is looked for. They stand one behind the other.
