@@ -4,6 +4,8 @@ ghost use Rattle.std.specs.List.{list_any};
 ghost use Rattle.std.specs.Str.{IsUtf8};
 ghost use Rattle.std.specs.String.{string_bytes};
 ghost use Rattle.toml.specs.Parse.{parse_document};
+ghost use Rattle.dns_names.specs.declared.NameError.TheVariants as name;
+ghost use Rattle.dns_server.specs.declared.configuration.ConfigurationError.TheVariants as told;
 ghost use Rattle.dns_server.specs.Settings.{AreCounts, ArePrefixes, AreSettings, IsConfiguration, IsHost, IsListener, IsPort, IsSettings, Says, are_alike};
 
 use dns_memory::Heap;
@@ -81,18 +83,24 @@ pub enum ConfigurationError {
 }
 
 impl From<AllocError> for ConfigurationError {
+    ghost from_gives = { λ _ e. e ≡ told.OutOfMemory };
+
     fn from(_error: AllocError) -> ConfigurationError {
         ConfigurationError::OutOfMemory
     }
 }
 
 impl<T: Drop> From<AllocFailed<T>> for ConfigurationError {
+    ghost from_gives = { λ _ e. e ≡ told.OutOfMemory };
+
     fn from(_error: AllocFailed<T>) -> ConfigurationError {
         ConfigurationError::OutOfMemory
     }
 }
 
 impl From<NameError> for ConfigurationError {
+    ghost from_gives = { λ error e. (e ≡ told.OutOfMemory) ↔ (error ≡ name.OutOfMemory) };
+
     fn from(error: NameError) -> ConfigurationError {
         match error {
             NameError::OutOfMemory => ConfigurationError::OutOfMemory,
