@@ -32,8 +32,11 @@ fn text_within(
 {
     match Writer::write(alloc, reply, limit) {
         Ok(octets) => Ok(Some(octets)),
-        Err(WireError::DoesNotFit) => Ok(None),
-        Err(_) => Err(AllocError),
+        Err(error) => match error {
+            WireError::DoesNotFit => Ok(None),
+            WireError::OutOfMemory => Err(AllocError),
+            _ => unreachable!(),
+        },
     }
 }
 
