@@ -1,0 +1,12 @@
+//! A zone's store, as the layer above sees it: in versions and a base.
+#![tactic(auto)]
+
+mod device_store;
+mod open;
+mod unkept;
+mod zone_store;
+
+pub use device_store::DeviceStore;
+pub use dns_journal::{FlushError, StageError};
+pub use unkept::Unkept;
+pub use zone_store::ZoneStore;
