@@ -4,7 +4,7 @@ ghost use Rattle.std.specs.Int.{w32, to_be_bytes};
 ghost use Rattle.std.specs.List.{AllByRecursion};
 ghost use Rattle.dns_records.specs.Record.{Record as Stated, IsRecord, plain};
 ghost use Rattle.dns_changes.specs.Change.{Change as StatedChange};
-ghost use Rattle.dns_changes.specs.Entry.{counted, entry, entry_sectors, HasEntry};
+ghost use Rattle.dns_changes.specs.Entry.{counted, entry, HasEntry};
 
 use crate::{Change, ChangeError};
 use dns_memory::Heap;
@@ -41,13 +41,12 @@ impl Change {
         Ok(Change::new(old_soa, removed, new_soa, added))
     }
 
-    /// How many sectors of a journal the octets take: one, and above 484 octets one more for each 488 begun.
-    pub fn sectors(&self) -> usize
-        ensures { result ≡ entry_sectors (length (entry self.now)) }
+    /// How many octets `encode` gives.
+    pub fn encoded_len(&self) -> usize
+        ensures { result ≡ length (entry self.now) }
     {
         let soas = plain_len(self.old_soa()) + plain_len(self.new_soa());
-        let octets = soas + counted_len(self.removed()) + counted_len(self.added());
-        1 + (octets.saturating_sub(484) + 487) / 488
+        soas + counted_len(self.removed()) + counted_len(self.added())
     }
 }
 

@@ -3,14 +3,14 @@ ghost use Rattle.std.specs.Prelude.{length, take, drop, replicate, ◌≤◌, �
 ghost use Rattle.dns_sectors.specs.Device.{Only, LeavesOnly, CountsFailure};
 ghost use Rattle.dns_sectors.specs.Crash.{applied, CrashOf};
 ghost use Rattle.dns_sectors.specs.Phase.{pairs, AllWithin};
-ghost use Rattle.dns_layout.specs.Sector.{sector_at, entry_sectors};
+ghost use Rattle.dns_layout.specs.Sector.{sector_at, head_room, entry_sectors as sectors_of_entry};
 ghost use Rattle.dns_changes.specs.Entry.{entry};
 ghost use Rattle.dns_journal.specs.Phases.{LeftByBatch};
 ghost use Rattle.dns_journal.specs.Staging.{Stages, PushesBodies};
 
 use crate::Cursor;
 use dns_changes::Change;
-use dns_layout::{Body, Head, padded};
+use dns_layout::{Body, HEAD_ROOM, Head, PAYLOAD_ROOM, entry_sectors, first_padded, padded};
 use dns_memory::Heap;
 use dns_sectors::{DeviceError, SectorWrite, Sectors, write_phase};
 use std::alloc::AllocError;
@@ -113,12 +113,12 @@ impl<D: Sectors> Journal<D> {
     pub fn stage(&mut self, alloc: Heap, change: &Change) -> Result<(), StageError>
         requires { newest_of self.old < 2 ^ 64 - 1 }
         ensures staged { (shape : Shape) (k : Stored) (staged : List Entry) → Keeps shape self.old k staged
-            → OnOk result ((e : Entry) × (octets_of e ≡ entry change.now) × (size_of e ≡ entry_sectors (length (entry change.now))) × Keeps shape self.new k (staged ++ e ∷ [])) }
+            → OnOk result ((e : Entry) × (octets_of e ≡ entry change.now) × (size_of e ≡ sectors_of_entry (length (entry change.now))) × Keeps shape self.new k (staged ++ e ∷ [])) }
         ensures stays { (shape : Shape) (k : Stored) (staged : List Entry) → Keeps shape self.old k staged → OnErr result (Keeps shape self.new k staged) }
         ensures left { OnErr result (left_of self.new ≡ left_of self.old) }
         ensures newest { OnErr result (newest_of self.new ≡ newest_of self.old) }
-        ensures full { result ≡ Err StageError.Full → left_of self.old < entry_sectors (length (entry change.now)) }
-        ensures fits { OnOk result (left_of self.new + entry_sectors (length (entry change.now)) ≡ left_of self.old) }
+        ensures full { result ≡ Err StageError.Full → left_of self.old < sectors_of_entry (length (entry change.now)) }
+        ensures fits { OnOk result (left_of self.new + sectors_of_entry (length (entry change.now)) ≡ left_of self.old) }
         ensures closed { result ≡ Err StageError.Closed ↔ is_closed self.old ≡ true }
         ensures stays_open { is_closed self.new ≡ is_closed self.old }
         ensures device { device_of self.new ≡ device_of self.old }
@@ -126,7 +126,7 @@ impl<D: Sectors> Journal<D> {
         if self.is_closed {
             return Err(StageError::Closed);
         }
-        if change.sectors() > self.left() {
+        if entry_sectors(change.encoded_len()) > self.left() {
             return Err(StageError::Full);
         }
         let octets = change.encode(alloc)?;
@@ -191,7 +191,7 @@ fn stage_octets(
     heads: &mut Vec<SectorWrite, Heap>,
     octets: &[u8],
 ) -> Result<(), AllocError>
-    requires room { next.old.at + entry_sectors (length octets.now) ≤ next.old.until }
+    requires room { next.old.at + sectors_of_entry (length octets.now) ≤ next.old.until }
     requires number { next.old.version < 2 ^ 64 - 1 }
     requires small { next.old.until ≤ 2 ^ 20 }
     requires len { length octets.now < 2 ^ 32 }
@@ -201,8 +201,8 @@ fn stage_octets(
     ensures heads_within { (n : ℕ) → next.old.until ≤ n → AllWithin n heads.old.items → AllWithin n heads.new.items }
 {
     let len = octets.len();
-    let in_head = len.min(484);
-    let first = front(&octets[..in_head]);
+    let in_head = len.min(HEAD_ROOM);
+    let first = first_padded(&octets[..in_head]);
     let head = Head {
         open_count: next.opened,
         version: next.version + 1,
@@ -221,24 +221,6 @@ fn stage_octets(
     Ok(())
 }
 
-// The octets, and zeros behind them.
-fn front(octets: &[u8]) -> [u8; 484]
-    requires { length octets.now ≤ 484 }
-    ensures { result ≡ octets.now ++ replicate (484 - length octets.now) 0 }
-{
-    let mut first = [0; 484];
-    put(&mut first, 0, octets);
-    first
-}
-
-// Writes a part over the octets from a place on.
-fn put(octets: &mut [u8], at: usize, part: &[u8])
-    requires { at + length part.now ≤ length octets.old }
-    ensures { octets.new ≡ take at octets.old ++ (part.now ++ drop (at + length part.now) octets.old) }
-{
-    octets[at..at + part.len()].copy_from_slice(part);
-}
-
 // Puts the bodies of an entry with this head, from this place on, behind those that are to be written.
 fn push_bodies(
     bodies: &mut Vec<SectorWrite, Heap>,
@@ -246,17 +228,17 @@ fn push_bodies(
     head: &Head,
     rest: &[u8],
 ) -> Result<(), AllocError>
-    requires len { length rest.now ≡ head.now.length - 484 }
-    requires fits { at + entry_sectors head.now.length < 2 ^ 32 }
-    ensures pushed { OnOk result (PushesBodies at head.now rest.now (entry_sectors head.now.length - 1) (pairs bodies.old.items) (pairs bodies.new.items)) }
+    requires len { length rest.now ≡ head.now.length - head_room }
+    requires fits { at + sectors_of_entry head.now.length < 2 ^ 32 }
+    ensures pushed { OnOk result (PushesBodies at head.now rest.now (sectors_of_entry head.now.length - 1) (pairs bodies.old.items) (pairs bodies.new.items)) }
     ensures stays { OnErr result (bodies.new.items ≡ bodies.old.items) }
-    ensures within { (n : ℕ) → at + entry_sectors head.now.length ≤ n + 1 → AllWithin n bodies.old.items → AllWithin n bodies.new.items }
+    ensures within { (n : ℕ) → at + sectors_of_entry head.now.length ≤ n + 1 → AllWithin n bodies.old.items → AllWithin n bodies.new.items }
 {
     let count = head.bodies();
     bodies.reserve(count as usize)?;
     let mut left = rest;
     for i in 0..count {
-        let size = left.len().min(488);
+        let size = left.len().min(PAYLOAD_ROOM);
         let (part, behind) = left.split_at(size);
         left = behind;
         let body = Body {

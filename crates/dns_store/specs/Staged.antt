@@ -5,7 +5,8 @@ use Rattle.std.proofs.lemmas.List.{drop-append-le}
 use Rattle.std.proofs.lemmas.List.Sums.{sum_by_push}
 use Rattle.dns_records.specs.Record.{Record}
 use Rattle.dns_changes.specs.Change.{Change, IsChange}
-use Rattle.dns_changes.specs.Entry.{entry, entry_sectors}
+use Rattle.dns_changes.specs.Entry.{entry}
+use Rattle.dns_layout.specs.Sector.{entry_sectors}
 use Rattle.dns_store.specs.Versions.{Versions, Kept, newest_after, newest_of, staged_with}
 use Rattle.dns_store.specs.Room.{sectors_by, entry_between, entries_along, sectors_left}
 
