@@ -43,7 +43,8 @@ impl Change {
 
     /// How many octets `encode` gives.
     pub fn encoded_len(&self) -> usize
-        ensures { result ≡ length (entry self.now) }
+        ensures octets { result ≡ length (entry self.now) }
+        ensures valid { HasEntry self.now }
     {
         let soas = plain_len(self.old_soa()) + plain_len(self.new_soa());
         soas + counted_len(self.removed()) + counted_len(self.added())
@@ -119,6 +120,7 @@ fn split_counted(alloc: Heap, octets: &[u8]) -> Result<(Vec<Record, Heap>, &[u8]
 /// How many octets the record has in plain form.
 fn plain_len(r: &Record) -> usize
     ensures value { result ≡ length (plain r.now) }
+    ensures valid { IsRecord r.now }
     ensures short { result ≤ 4359 }
 {
     r.owner().as_wire().len() + 8 + r.rdata().len()
@@ -128,6 +130,7 @@ fn plain_len(r: &Record) -> usize
 fn counted_len(records: &[Record]) -> usize
     requires { length records.now < 2 ^ 32 }
     ensures value { result ≡ length (counted records.now) }
+    ensures valid { AllByRecursion IsRecord records.now }
     ensures short { result ≤ 4 + 4359 * length records.now }
 {
     let mut octets = 4;

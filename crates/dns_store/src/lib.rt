@@ -2,7 +2,7 @@
 #![tactic(auto)]
 
 mod device_store;
-mod open;
+mod root;
 mod unkept;
 mod zone_store;
 
