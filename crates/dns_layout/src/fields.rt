@@ -1,7 +1,7 @@
 // The fields that every sector has, as octets.
-ghost use Rattle.std.specs.Prelude.{◌≡◌, ◌≢◌, ◌≤◌, ◌<◌, ◌+◌, ◌^◌, ◌++◌, take, drop, length, replicate, ◌-◌, IfOk, IfErr};
+ghost use Rattle.std.specs.Prelude.{◌≡◌, ◌≢◌, ◌≤◌, ◌<◌, ◌+◌, ◌^◌, ◌++◌, take, drop, length, replicate, ◌-◌, ◌↔◌, IsTrue, IfOk, IfErr};
 ghost use Rattle.byteorder.specs.Endian.{big_bytes, big_number};
-ghost use Rattle.dns_layout.specs.Sector.{tag, sector_of, HasFields, head_room, payload_room};
+ghost use Rattle.dns_layout.specs.Sector.{AreZeros, tag, sector_of, HasFields, head_room, payload_room};
 
 use crate::LayoutError;
 use byteorder::{BigEndian, ByteOrder};
@@ -110,4 +110,11 @@ pub fn padded(octets: &[u8]) -> Payload
     let mut payload = [0; 488];
     put(&mut payload, 0, octets);
     payload
+}
+
+/// Whether there is nothing but zeros.
+pub fn are_zeros(octets: &[u8]) -> bool
+    ensures { IsTrue result ↔ AreZeros octets.now }
+{
+    octets.iter().all(|octet| *octet == 0)
 }

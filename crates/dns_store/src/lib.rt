@@ -3,6 +3,7 @@
 
 mod device_store;
 mod root;
+mod snapshot;
 mod unkept;
 mod zone_store;
 
