@@ -64,7 +64,7 @@ fn write_counted(out: &mut Vec<u8, Heap>, records: &[Record]) -> Result<(), Allo
 }
 
 /// The record in plain form at the front of octets, and what is behind it.
-fn split_record(alloc: Heap, octets: &[u8]) -> Result<(Record, &[u8]), ChangeError>
+pub fn split_record(alloc: Heap, octets: &[u8]) -> Result<(Record, &[u8]), ChangeError>
     ensures found { IfOk result (λ r. IsRecord r.0 × (octets.now ≡ plain r.0 ++ r.1.now)) }
     ensures refused { IfErr result (λ e. (e ≡ ChangeError.OutOfMemory) ⊎ (e ≡ ChangeError.BadBytes)) }
     ensures only { (r : Stated) (rest : List ℕ) → IsRecord r → octets.now ≡ plain r ++ rest → IfErr result (λ e. e ≡ ChangeError.OutOfMemory) }

@@ -1,6 +1,9 @@
 -- What the sectors of a snapshot hold.
 use Rattle.std.specs.Prelude.{◌≡◌, ◌⊎◌, ◌<◌, ◌+◌, ℕ, List, take, drop}
-use Rattle.std.specs.List.{flat_map}
+use Rattle.std.specs.List.{AllByRecursion, flat_map}
+use Rattle.dns_names.specs.Name.{Labels}
+use Rattle.dns_records.specs.Record.{Record, IsRecord, plain}
+use Rattle.dns_zone.specs.Zone.{IsZone}
 use Rattle.dns_sectors.specs.Device.{Content}
 use Rattle.dns_layout.specs.Sector.{AreZeros, sector_at, payload, snapshot_length, snapshot_sectors}
 use Rattle.dns_layout.specs.Store.{IsPart, AreParts}
@@ -38,3 +41,12 @@ abbrev pub IsBadSnapshot : List ℕ → ℕ → Content → ReadError → Type 0
 IsBadSnapshot x at c Device = Unit {0}
 IsBadSnapshot x at c (Damaged place) = IsWrongPart x at c place ⊎ IsWrongTail x at c place
 IsBadSnapshot x at c OutOfMemory = Unit {0}
+
+-- The octets are the plain forms of these records.
+pub record AreStored (octets : List ℕ) (records : List Record) : Type 0 where
+  pub each : AllByRecursion IsRecord records
+  pub octets_are : octets ≡ flat_map plain records
+
+-- They are the records of no zone with this apex, in order.
+abbrev pub IsNoSnapshot : Labels → List ℕ → Type 0
+IsNoSnapshot apex octets = (records : List Record) → IsZone (record { apex = apex; records = records }) → octets ≡ flat_map plain records → ⊥
