@@ -4,7 +4,7 @@ ghost use Rattle.dns_sectors.specs.Device.{Only, LeavesOnly, CountsFailure};
 ghost use Rattle.dns_sectors.specs.Crash.{applied, CrashOf};
 ghost use Rattle.dns_sectors.specs.Phase.{pairs, AllWithin};
 ghost use Rattle.dns_layout.specs.Sector.{sector_at, head_room, entry_sectors as sectors_of_entry};
-ghost use Rattle.dns_changes.specs.Entry.{entry};
+ghost use Rattle.dns_changes.specs.Entry.{HasEntry, entry};
 ghost use Rattle.dns_journal.specs.Phases.{LeftByBatch};
 ghost use Rattle.dns_journal.specs.Staging.{Stages, PushesBodies};
 
@@ -114,6 +114,7 @@ impl<D: Sectors> Journal<D> {
         requires { newest_of self.old < 2 ^ 64 - 1 }
         ensures staged { (shape : Shape) (k : Stored) (staged : List Entry) → Keeps shape self.old k staged
             → OnOk result ((e : Entry) × (octets_of e ≡ entry change.now) × (size_of e ≡ sectors_of_entry (length (entry change.now))) × Keeps shape self.new k (staged ++ e ∷ [])) }
+        ensures written { OnOk result (HasEntry change.now) }
         ensures stays { (shape : Shape) (k : Stored) (staged : List Entry) → Keeps shape self.old k staged → OnErr result (Keeps shape self.new k staged) }
         ensures left { OnErr result (left_of self.new ≡ left_of self.old) }
         ensures newest { OnErr result (newest_of self.new ≡ newest_of self.old) }

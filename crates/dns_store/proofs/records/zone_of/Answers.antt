@@ -18,8 +18,7 @@ returns-in_err-records-clause-refused g c =
 
 pub returns-then-not-rises-clause-refused : goal.returns-then-not-rises-clause-refused
 returns-then-not-rises-clause-refused g c =
-    inr
-    (
+    inr (
       refl,
       λ records valid is.
           let same = zone_records c.args.octets.now c.in_ok-records.records.items c.in_ok-records.ensures.found c.args.apex.now records valid is in
@@ -31,8 +30,7 @@ returns-then-not-rises-clause-refused g c =
 
 pub returns-clause-refused : goal.returns-clause-refused
 returns-clause-refused g c =
-    inr
-    (
+    inr (
       refl,
       λ records valid is.
           let same = zone_records c.args.octets.now c.in_ok-records.records.items c.in_ok-records.ensures.found c.args.apex.now records valid is in
