@@ -5,6 +5,7 @@ use Rattle.dns_layout.specs.Sector.{blank, tag, open_count, number, snapshot_len
 use Rattle.dns_layout.specs.Forms.{SaysRoot}
 use Rattle.dns_layout.specs.Store.{Shape, IsRoot, all_sectors}
 use Rattle.dns_layout.specs.declared.root.Root.{Root}
+use Rattle.dns_journal.specs.declared.read.ReadError.{ReadError}
 use Rattle.dns_store.specs.declared.root.OpenError.{OpenError}
 use Rattle.dns_store.specs.declared.root.OpenError.TheVariants.{Device, Blank, Damaged, Geometry, OutOfMemory}
 
@@ -32,3 +33,8 @@ RootRefusal s count x Blank = x ≡ blank
 RootRefusal s count x (Damaged place) = (place ≡ 0) × (x ≢ blank) × (IsSound x → ⊥)
 RootRefusal s count x Geometry = IsSound x × (IsRoot s x → count ≡ all_sectors s → ⊥)
 RootRefusal s count x OutOfMemory = ⊥
+
+abbrev pub open_error : ReadError → OpenError
+open_error ReadError.Device = Device
+open_error (ReadError.Damaged at) = Damaged at
+open_error ReadError.OutOfMemory = OutOfMemory

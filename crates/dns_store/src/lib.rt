@@ -6,9 +6,11 @@ mod records;
 mod root;
 mod snapshot;
 mod unkept;
+mod versions;
 mod zone_store;
 
 pub use device_store::DeviceStore;
 pub use dns_journal::{FlushError, StageError};
+pub use root::OpenError;
 pub use unkept::Unkept;
 pub use zone_store::ZoneStore;

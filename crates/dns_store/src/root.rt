@@ -13,6 +13,7 @@ ghost use Rattle.dns_store.specs.Turn.{IsRaised};
 use dns_journal::{ReadError, read_sector};
 use dns_layout::{Apex, Root, snapshot_sectors};
 use dns_sectors::{DeviceError, Sector, SectorWrite, Sectors, write_phase};
+use std::alloc::AllocError;
 
 /// Why a store was not opened.
 #[derive(Clone, Copy, Debug, PartialEq, Eq)]
@@ -36,6 +37,30 @@ impl From<DeviceError> for OpenError {
 
     fn from(_error: DeviceError) -> OpenError {
         OpenError::Device
+    }
+}
+
+impl From<AllocError> for OpenError {
+    ghost use Rattle.dns_store.specs.declared.root.OpenError.TheVariants.{OutOfMemory};
+
+    ghost from_gives = { λ _ e. e ≡ OutOfMemory };
+
+    fn from(_error: AllocError) -> OpenError {
+        OpenError::OutOfMemory
+    }
+}
+
+impl From<ReadError> for OpenError {
+    ghost use Rattle.dns_store.specs.Root.{open_error};
+
+    ghost from_gives = { λ r e. e ≡ open_error r };
+
+    fn from(error: ReadError) -> OpenError {
+        match error {
+            ReadError::Device => OpenError::Device,
+            ReadError::Damaged(at) => OpenError::Damaged(at),
+            ReadError::OutOfMemory => OpenError::OutOfMemory,
+        }
     }
 }
 
