@@ -1,7 +1,7 @@
 use Rattle.std.proofs.Common.{◌∙◌, ap, ◌++◌}
 use Rattle.dns_records.specs.Fields.{stated_fields}
 use Rattle.dns_masterfile.proofs.Fits.{only_memory}
-use Rattle.dns_masterfile.proofs.scanner.Scanner.take_rdata.Goals as goal
+use Rattle.dns_masterfile.proofs.scanner.Scanner.take_formed.Goals as goal
 
 pub unreachable-requires : goal.unreachable-requires
 unreachable-requires c =
