@@ -12,7 +12,7 @@ use crate::Transport;
 use crate::additional::Sections;
 use crate::codes::{is_authoritative, rcode_of};
 use crate::fit::fit;
-use dns_lookup::{nearest, resolve};
+use dns_lookup::{closest_zone, resolve};
 use dns_memory::Heap;
 use dns_names::{Name, NameRef};
 use dns_records::types;
@@ -115,7 +115,7 @@ fn look_up<'a, I: ZoneIndex>(
 fn is_outside<I: ZoneIndex>(zones: &[Zone<I>], name: &NameRef<'_>) -> bool
     ensures { result ≡ is_none (zone_of zones.now name.now) }
 {
-    nearest(zones, name).is_none()
+    closest_zone(zones, name).is_none()
 }
 
 /// The reply to a question of a class.

@@ -20,4 +20,4 @@ twice false = refl
 pub returns : goal.returns
 returns g c =
     let zones = c.args.zones.now in
-    sym (ap not c.is_none.ensures ∙ twice c.is_none.result) ∙ outside zones (zone_of zones c.args.name.now) c.nearest.result c.nearest.ensures.found c.nearest.ensures.inside c.nearest.ensures.none
+    sym (ap not c.is_none.ensures ∙ twice c.is_none.result) ∙ outside zones (zone_of zones c.args.name.now) c.closest_zone.result c.closest_zone.ensures.found c.closest_zone.ensures.inside c.closest_zone.ensures.none
