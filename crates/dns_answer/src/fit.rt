@@ -7,17 +7,12 @@ ghost use Rattle.dns_wire.specs.Text.{question_octets, text};
 ghost use Rattle.dns_answer.specs.Fit.{is_referral, by_udp, by_tcp};
 ghost use Rattle.dns_answer.specs.Answer.{fitted};
 
-use crate::Transport;
 use dns_memory::Heap;
 use dns_records::types;
-use dns_wire::{Reply, ReplyRecord, WireError, Writer};
+use dns_request::Transport;
+use dns_wire::limits::{MOST_BY_TCP, MOST_BY_UDP};
+use dns_wire::{Rcode, Reply, ReplyRecord, WireError, Writer};
 use std::alloc::AllocError;
-
-/// A datagram has at most so many octets (RFC 1035 section 4.2.1).
-const MOST_BY_UDP: usize = 512;
-
-/// A message on a stream has at most so many octets (RFC 1035 section 4.2.2).
-const MOST_BY_TCP: usize = 65535;
 
 /// The text of the reply, if it has at most so many octets.
 fn text_within(
@@ -25,9 +20,7 @@ fn text_within(
     reply: &Reply<'_>,
     limit: usize,
 ) -> Result<Option<Vec<u8, Heap>>, AllocError>
-    requires opcode { reply.now.opcode < 16 }
-    requires rcode { reply.now.rcode < 16 }
-    requires limit { limit < 65536 }
+    requires { limit < 65536 }
     ensures { IfOk result (λ fits. MatchOption fits (limit < length (text (stated reply.now))) (λ octets. (octets.items ≡ text (stated reply.now)) × (length octets.items ≤ limit))) }
 {
     match Writer::write(alloc, reply, limit) {
@@ -42,9 +35,7 @@ fn text_within(
 
 /// The text of a reply that fits any transport.
 fn short_text(alloc: Heap, reply: &Reply<'_>) -> Result<Vec<u8, Heap>, AllocError>
-    requires opcode { reply.now.opcode < 16 }
-    requires rcode { reply.now.rcode < 16 }
-    requires short { length (text (stated reply.now)) < 65536 }
+    requires { length (text (stated reply.now)) < 65536 }
     ensures { IfOk result (λ octets. octets.items ≡ text (stated reply.now)) }
 {
     match text_within(alloc, reply, MOST_BY_TCP)? {
@@ -69,9 +60,7 @@ fn is_referral(reply: &Reply<'_>) -> bool
 
 /// The header and the question of a reply, with TC.
 fn cut_down(alloc: Heap, mut reply: Reply<'_>) -> Result<Vec<u8, Heap>, AllocError>
-    requires opcode { reply.opcode < 16 }
-    requires rcode { reply.rcode < 16 }
-    requires question { length (question_octets (stated reply)) < 65524 }
+    requires { length (question_octets (stated reply)) < 65524 }
     ensures { IfOk result (λ octets. octets.items ≡ text (record (stated reply.entry) { tc = true; answer = []; authority = []; additional = [] })) }
 {
     reply.tc = true;
@@ -83,9 +72,7 @@ fn cut_down(alloc: Heap, mut reply: Reply<'_>) -> Result<Vec<u8, Heap>, AllocErr
 
 /// A reply by UDP: whole, else without its additional section unless it is a referral, else cut down.
 fn fit_to_udp(alloc: Heap, mut reply: Reply<'_>) -> Result<Vec<u8, Heap>, AllocError>
-    requires opcode { reply.opcode < 16 }
-    requires rcode { reply.rcode < 16 }
-    requires question { length (question_octets (stated reply)) < 65524 }
+    requires { length (question_octets (stated reply)) < 65524 }
     ensures { IfOk result (λ octets. octets.items ≡ by_udp (stated reply.entry)) }
 {
     if let Some(whole) = text_within(alloc, &reply, MOST_BY_UDP)? {
@@ -103,16 +90,14 @@ fn fit_to_udp(alloc: Heap, mut reply: Reply<'_>) -> Result<Vec<u8, Heap>, AllocE
 
 /// A reply by TCP: whole, else SERVFAIL with the question.
 fn fit_to_tcp(alloc: Heap, mut reply: Reply<'_>) -> Result<Vec<u8, Heap>, AllocError>
-    requires opcode { reply.opcode < 16 }
-    requires rcode { reply.rcode < 16 }
-    requires question { length (question_octets (stated reply)) < 65524 }
+    requires { length (question_octets (stated reply)) < 65524 }
     ensures { IfOk result (λ octets. octets.items ≡ by_tcp (stated reply.entry)) }
 {
     if let Some(whole) = text_within(alloc, &reply, MOST_BY_TCP)? {
         return Ok(whole);
     }
     reply.aa = false;
-    reply.rcode = 2;
+    reply.rcode = Rcode::ServFail;
     reply.answer.clear();
     reply.authority.clear();
     reply.additional.clear();
@@ -125,9 +110,7 @@ pub(crate) fn fit(
     reply: Reply<'_>,
     transport: Transport,
 ) -> Result<Vec<u8, Heap>, AllocError>
-    requires opcode { reply.opcode < 16 }
-    requires rcode { reply.rcode < 16 }
-    requires question { length (question_octets (stated reply)) < 65524 }
+    requires { length (question_octets (stated reply)) < 65524 }
     ensures { IfOk result (λ octets. octets.items ≡ fitted transport (stated reply.entry)) }
 {
     match transport {

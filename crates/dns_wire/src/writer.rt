@@ -29,7 +29,6 @@ fn count(records: &[ReplyRecord<'_>]) -> Result<[u8; 2], WireError>
 
 /// The header of a reply (RFC 1035 section 4.1.1).
 fn header(reply: &Reply<'_>) -> Result<[u8; 12], WireError>
-    requires { reply.now.opcode < 16 }
     ensures found { IfOk result (λ octets. octets ≡ header_octets (stated reply.now)) }
     ensures refused { IfErr result (λ e. (e ≡ WireError.DoesNotFit) × (65535 < length reply.now.answer.items + length reply.now.authority.items + length reply.now.additional.items)) }
 {
@@ -38,12 +37,16 @@ fn header(reply: &Reply<'_>) -> Result<[u8; 12], WireError>
     let answers = count(reply.answer.as_slice())?;
     let authorities = count(reply.authority.as_slice())?;
     let additionals = count(reply.additional.as_slice())?;
-    let flags = 128 + 8 * reply.opcode + 4 * reply.aa as u8 + 2 * reply.tc as u8 + reply.rd as u8;
+    let flags = 128
+        + 8 * reply.opcode.number()
+        + 4 * reply.aa as u8
+        + 2 * reply.tc as u8
+        + reply.rd as u8;
     Ok([
         id[0],
         id[1],
         flags,
-        reply.rcode,
+        reply.rcode.number(),
         0,
         questions,
         answers[0],
@@ -78,9 +81,7 @@ impl Writer {
     /// and the length before a message on a stream tells at most 65,535 (RFC 1035 section 4.2). It refuses with `DoesNotFit`
     /// where the text is longer, and with `OutOfMemory` where memory is wanting.
     pub fn write(alloc: Heap, reply: &Reply<'_>, limit: usize) -> Result<Vec<u8, Heap>, WireError>
-        requires opcode { reply.now.opcode < 16 }
-        requires rcode { reply.now.rcode < 16 }
-        requires limit { limit < 65536 }
+        requires { limit < 65536 }
         ensures found { IfOk result (λ octets. (octets.items ≡ text (stated reply.now)) × (length octets.items ≤ limit)) }
         ensures refused { IfErr result (RefusesUpTo limit (length (text (stated reply.now)))) }
     {
