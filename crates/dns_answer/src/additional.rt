@@ -101,9 +101,9 @@ impl<'a> Sections<'a> {
         ensures { OnOk result (AddsUpTo most self.old self.new (rrset zone.now.records host.now type_a ++ rrset zone.now.records host.now type_aaaa)) }
     {
         let _ordered = zone.apex();
-        let there = zone.index().spot(host, None);
-        self.add_records(of_type(there.records, types::A), most)?;
-        self.add_records(of_type(there.records, types::AAAA), most)
+        let owned = zone.index().records_at(host);
+        self.add_records(of_type(owned, types::A), most)?;
+        self.add_records(of_type(owned, types::AAAA), most)
     }
 
     /// Puts in the addresses that go with a record of the zone: those of the host of an NS, an MX or an SRV (RFC 1034 section

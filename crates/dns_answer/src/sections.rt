@@ -116,9 +116,8 @@ fn start_of_authority<'a, I: ZoneIndex>(
     ensures { IfOk result (λ shown. shown.items ≡ negative_soa zone.now) }
 {
     let mut shown = Vec::new(alloc);
-    // The apex comes first in the order of names.
-    let apex = zone.index().spot(&zone.apex().lend(), Some(0));
-    for record in of_type(apex.records, types::SOA) {
+    let owned = zone.index().records_at(&zone.apex().lend());
+    for record in of_type(owned, types::SOA) {
         let ttl = record.ttl().min(record.minimum());
         shown.push(ReplyRecord::new(record.owner().lend(), ttl, record))?;
     }
