@@ -2,13 +2,13 @@
 use Rattle.std.proofs.Common.{◌≡◌, ℕ, zero, suc, ◌<◌, Bool, true, false, ◌||◌, refl, List, [], ◌∷◌, ◌++◌, length, length-append, take, get_or, arith}
 use Rattle.std.specs.Prelude.{◌≢◌, map, All}
 use Rattle.std.specs.List.{AllZip, list_any}
-use Rattle.std.proofs.lemmas.Slice.Zip.{all_zipped_more}
 use Rattle.std.proofs.lemmas.List.Quantifiers.{all_pairs_push}
 use Rattle.dns_server.specs.declared.configuration.ZoneSettings.{ZoneSettings}
 use Rattle.dns_server.specs.declared.configuration.Configuration.{Configuration}
-use Rattle.dns_server.specs.declared.configuration.WrittenZone.{WrittenZone}
-use Rattle.dns_server.specs.declared.configuration.Written.{Written}
-use Rattle.dns_server.specs.Settings.{AreApart, AreSettings, HasCounts, IsConfiguration, IsSettings, Says, are_alike}
+use Rattle.toml.specs.Data.{Data}
+use Rattle.toml.specs.View.{view}
+use Rattle.toml.specs.declared.value.Value.{Value}
+use Rattle.dns_server.specs.Settings.{AreApart, AreSettings, Describes, HasCounts, IsConfiguration, IsSettings, are_alike}
 
 neither : (a b : Bool) → (a || b) ≡ false → (a ≡ false) × (b ≡ false)
 neither true b e = absurd cc
@@ -29,25 +29,26 @@ none_passes p (x ∷ xs) e zero d small = (neither (p x) (list_any p xs) e).0
 none_passes p (x ∷ xs) e (suc k) d small = none_passes p xs (neither (p x) (list_any p xs) e).1 k d (omega (arith, small))
 
 -- What is read is what a configuration may have.
-counts_of : (ws : List WrittenZone) (zs : List ZoneSettings) → AllZip IsSettings ws zs → All HasCounts zs
+counts_of : (ds : List Data) (zs : List ZoneSettings) → AllZip IsSettings ds zs → All HasCounts zs
 counts_of [] [] h k d small = absurd (omega (arith, small))
 counts_of [] (z ∷ zs) h k d small = absurd h
 counts_of (w ∷ ws) [] h k d small = absurd h
 counts_of (w ∷ ws) (z ∷ zs) h zero d small = h.0.counts
 counts_of (w ∷ ws) (z ∷ zs) h (suc k) d small = counts_of ws zs h.1 k d (omega (arith, small))
 
-pub said_valid : (w : Written) (c : Configuration) → Says w c → IsConfiguration c
-said_valid w c h = record {
-  listens = h.listen.port_is.0;
-  few = h.zones.few;
-  counts = counts_of w.zone.items c.zones.items h.zones.each;
-  apart = h.zones.apart;
+pub described_valid : (d : Data) (c : Configuration) → Describes d c → IsConfiguration c
+described_valid d c h = record {
+  listens = h.listen.2.port_is.0;
+  some = h.some;
+  few = h.zones.2.few;
+  counts = counts_of h.zones.0 c.zones.items h.zones.2.each;
+  apart = h.zones.2.apart;
 }
 
 -- One more zone that is apart from those before it.
-pub settings_more : (ws : List WrittenZone) (zs : List ZoneSettings) (w : WrittenZone) (z : ZoneSettings) → AreSettings ws zs → IsSettings w z → length zs ≢ 16 → list_any (λ other. are_alike other z) zs ≡ false → AreSettings (ws ++ w ∷ []) (zs ++ z ∷ [])
-settings_more ws zs w z h is room apart = record {
-  each = all_zipped_more IsSettings ws zs w z h.each is;
+pub settings_more : (tables : List Value) (i : ℕ) (table : Value) (zs : List ZoneSettings) (z : ZoneSettings) → i < length tables → AreSettings (map view (take i tables)) zs → IsSettings (view (get_or tables i table)) z → length zs ≢ 16 → list_any (λ other. are_alike other z) zs ≡ false → AreSettings (map view (take (suc i) tables)) (zs ++ z ∷ [])
+settings_more tables i table zs z inside h is room apart = record {
+  each = zipped_more view IsSettings tables i table zs z inside h.each is;
   few = (let few = h.few in omega (arith, few, room, length-append zs (z ∷ [])));
   apart = all_pairs_push AreApart zs z h.apart (none_passes (λ other. are_alike other z) zs apart);
 }

@@ -1,19 +1,23 @@
 -- What a configuration says.
-use Rattle.std.specs.Prelude.{◌≡◌, ℕ, ◌<◌, ◌≤◌, ◌^◌, Bool, false, ◌||◌, List, [], ◌∷◌, ◌++◌, length, Ok, decimal, All, AllPairs, bytes_eq, map}
+use Rattle.std.specs.Prelude.{◌≡◌, ℕ, ◌<◌, ◌≤◌, ◌^◌, Bool, false, ◌||◌, List, [], ◌∷◌, ◌++◌, length, Ok, Option, Some, option_and_then, decimal, All, AllPairs, bytes_eq, codes, ℤ, pos, Vec}
+use Rattle.std.specs.Global.{Global}
+use Rattle.std.specs.Str.{IsUtf8}
+use Rattle.toml.specs.Data.{Data, Items, Members, as_array, as_integer, as_str, get, table}
+use Rattle.toml.specs.View.{items_of}
+use Rattle.toml.specs.Parse.{parse_document}
 use Rattle.std.specs.List.{AllZip}
 use Rattle.std.specs.String.{string_bytes}
 use Rattle.std.specs.Net.Socket.{socket_ip, socket_port}
 use Rattle.std.specs.declared.net.ip_addr.IpAddr.{IpAddr}
 use Rattle.std.specs.declared.net.ip_addr.IpAddr.TheVariants.{V4, V6}
 use Rattle.std.specs.declared.net.socket_addr.SocketAddr.{SocketAddr}
+use Rattle.dns_names.specs.Name.{Labels}
 use Rattle.dns_names.specs.Compare.{same_labels}
 use Rattle.dns_names.specs.Text.{name_of_text}
 use Rattle.dns_policy.specs.Address.{IsAddress}
 use Rattle.dns_policy.specs.Prefix.{IsPrefix}
 use Rattle.dns_server.specs.declared.configuration.ZoneSettings.{ZoneSettings}
 use Rattle.dns_server.specs.declared.configuration.Configuration.{Configuration}
-use Rattle.dns_server.specs.declared.configuration.WrittenZone.{WrittenZone}
-use Rattle.dns_server.specs.declared.configuration.Written.{Written}
 
 -- A port in text: from 1 to 65,535, without leading zeros.
 abbrev pub IsPort : List ℕ → ℕ → Type 0
@@ -48,35 +52,61 @@ are_alike z other = same_labels z.origin other.origin || bytes_eq (string_bytes 
 abbrev pub AreApart : ZoneSettings → ZoneSettings → Type 0
 AreApart z other = are_alike z other ≡ false
 
--- What a server may hold: it listens at a port, and has at most 16 zones, each with its counts, no two with one apex or one device.
+-- What a server may hold: it listens at a port, and has 1 to 16 zones, each with its counts, no two with one apex or one device.
 pub record IsConfiguration (c : Configuration) : Type 0 where
   pub listens : 0 < socket_port c.listen
+  pub some : 0 < length c.zones.items
   pub few : length c.zones.items ≤ 16
   pub counts : All HasCounts c.zones.items
   pub apart : AllPairs AreApart c.zones.items
 
--- Each text is a prefix.
-abbrev pub ArePrefixes : List (List ℕ) → List (IpAddr × ℕ) → Type 0
-ArePrefixes texts prefixes = AllZip IsPrefix texts prefixes
+-- The values at the keys of a table.
+abbrev pub text_at : List ℕ → Data → Option (List ℕ)
+text_at key d = option_and_then as_str (get key d)
 
--- The settings of a zone are those that are written.
-pub record IsSettings (w : WrittenZone) (z : ZoneSettings) : Type 0 where
+abbrev pub number_at : List ℕ → Data → Option ℤ
+number_at key d = option_and_then as_integer (get key d)
+
+abbrev pub list_at : List ℕ → Data → Option Items
+list_at key d = option_and_then as_array (get key d)
+
+-- The value is the text of a prefix, and each is.
+abbrev pub HasPrefix : Data → IpAddr × ℕ → Type 0
+HasPrefix d prefix = (text : List ℕ) × (as_str d ≡ Some text) × IsPrefix text prefix
+
+abbrev pub ArePrefixes : List Data → List (IpAddr × ℕ) → Type 0
+ArePrefixes texts prefixes = AllZip HasPrefix texts prefixes
+
+-- The table has, at the key, the texts of the prefixes; the text of the name.
+abbrev pub HasPrefixes : List ℕ → Data → Vec (IpAddr × ℕ) Global → Type 0
+HasPrefixes key d prefixes = (texts : List Data) × (list_at key d ≡ Some (items_of texts)) × ArePrefixes texts prefixes.items
+
+abbrev pub HasName : List ℕ → Data → Labels → Type 0
+HasName key d name = (text : List ℕ) × (text_at key d ≡ Some text) × (name_of_text [] text ≡ Ok name)
+
+-- The table describes the settings of a zone, each by its own key.
+pub record IsSettings (d : Data) (z : ZoneSettings) : Type 0 where
+  pub origin : HasName (codes "origin") d z.origin
+  pub file : text_at (codes "file") d ≡ Some (string_bytes z.file)
+  pub device : text_at (codes "device") d ≡ Some (string_bytes z.device)
+  pub snapshot : number_at (codes "snapshot_sectors") d ≡ Some (pos z.snapshot_sectors)
+  pub journal : number_at (codes "journal_sectors") d ≡ Some (pos z.journal_sectors)
+  pub keep : number_at (codes "keep") d ≡ Some (pos z.keep)
   pub counts : HasCounts z
-  pub origin : name_of_text [] (string_bytes w.origin) ≡ Ok z.origin
-  pub update : ArePrefixes (map string_bytes w.update.items) z.update.items
-  pub transfer : ArePrefixes (map string_bytes w.transfer.items) z.transfer.items
-  pub file : z.file ≡ w.file
-  pub device : z.device ≡ w.device
-  pub snapshot : z.snapshot_sectors ≡ w.snapshot_sectors
-  pub journal : z.journal_sectors ≡ w.journal_sectors
-  pub keep : z.keep ≡ w.keep
+  pub update : HasPrefixes (codes "update") d z.update
+  pub transfer : HasPrefixes (codes "transfer") d z.transfer
 
-pub record AreSettings (ws : List WrittenZone) (zs : List ZoneSettings) : Type 0 where
-  pub each : AllZip IsSettings ws zs
+pub record AreSettings (tables : List Data) (zs : List ZoneSettings) : Type 0 where
+  pub each : AllZip IsSettings tables zs
   pub few : length zs ≤ 16
   pub apart : AllPairs AreApart zs
 
--- The configuration is the one that is written.
-pub record Says (w : Written) (c : Configuration) : Type 0 where
-  pub listen : IsListener (string_bytes w.listen) c.listen
-  pub zones : AreSettings w.zone.items c.zones.items
+-- The document describes the configuration.
+pub record Describes (d : Data) (c : Configuration) : Type 0 where
+  pub listen : (text : List ℕ) × (text_at (codes "listen") d ≡ Some text) × IsListener text c.listen
+  pub zones : (tables : List Data) × (list_at (codes "zone") d ≡ Some (items_of tables)) × AreSettings tables c.zones.items
+  pub some : 0 < length c.zones.items
+
+-- The octets are the text of a TOML document that describes it.
+abbrev pub IsDescribedBy : List ℕ → Configuration → Type 0
+IsDescribedBy octets c = (ms : Members) × IsUtf8 octets × (parse_document octets ≡ Some ms) × Describes (table ms) c

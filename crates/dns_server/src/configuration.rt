@@ -1,47 +1,25 @@
 //! The configuration: the zones that are held, their files, and who may change and copy them.
-ghost use Rattle.std.specs.Prelude.{◌≡◌, ◌↔◌, IsTrue, IsSome, IfSome, IfOk, map};
+ghost use Rattle.std.specs.Prelude.{◌≡◌, ◌↔◌, ◌≤◌, Some, IfSome, IfOk, map, option_map, pos};
 ghost use Rattle.std.specs.List.{list_any};
-ghost use Rattle.std.specs.Str.{IsUtf8};
+ghost use Rattle.std.specs.Option.{option_copied};
 ghost use Rattle.std.specs.String.{string_bytes};
-ghost use Rattle.toml.specs.Parse.{parse_document};
+ghost use Rattle.toml.specs.View.{array_view, view};
 ghost use Rattle.dns_names.specs.declared.NameError.TheVariants as name;
 ghost use Rattle.dns_server.specs.declared.configuration.ConfigurationError.TheVariants as told;
-ghost use Rattle.dns_server.specs.Settings.{AreCounts, ArePrefixes, AreSettings, IsConfiguration, IsHost, IsListener, IsPort, IsSettings, Says, are_alike};
+ghost use Rattle.dns_server.specs.Settings.{ArePrefixes, AreSettings, Describes, HasName, HasPrefixes, IsConfiguration, IsDescribedBy, IsHost, IsListener, IsPort, IsSettings, are_alike, list_at, number_at, text_at};
 
 use dns_memory::Heap;
 use dns_names::{Name, NameError};
 use dns_policy::{Prefix, address};
-use serde::Deserialize;
 use std::alloc::{AllocError, AllocFailed, Global};
 use std::net::{IpAddr, SocketAddr};
+use toml::Value;
 
 /// At most so many zones are held.
 const MOST_ZONES: usize = 16;
 
 /// The largest count of sectors or versions.
 const MOST: u32 = 65536;
-
-/// The text as it is written: each key is required, and another is refused.
-#[derive(Drop, Deserialize)]
-#[serde(deny_unknown_fields)]
-struct Written {
-    listen: String,
-    zone: Vec<WrittenZone>,
-}
-
-/// A zone as it is written.
-#[derive(Drop, Deserialize)]
-#[serde(deny_unknown_fields)]
-struct WrittenZone {
-    origin: String,
-    file: String,
-    device: String,
-    snapshot_sectors: u32,
-    journal_sectors: u32,
-    keep: u32,
-    update: Vec<String>,
-    transfer: Vec<String>,
-}
 
 /// One zone of a configuration.
 #[derive(Drop)]
@@ -145,12 +123,53 @@ fn listener(text: &str) -> Option<SocketAddr>
     Some(SocketAddr::new(ip, port(digits)?))
 }
 
-/// The prefixes that are written.
-fn prefixes(alloc: Global, texts: &[String]) -> Result<Vec<Prefix>, ConfigurationError>
-    ensures { IfOk result (λ ps. ArePrefixes (map string_bytes texts.now) ps.items) }
+/// The text at a key of a table.
+fn text_at<'a>(table: &'a Value, key: &str) -> Option<&'a str>
+    ensures { option_copied result ≡ text_at key.now (view table.now) }
+{
+    match table.get(key) {
+        Some(value) => value.as_str(),
+        None => None,
+    }
+}
+
+/// The number at a key of a table.
+fn number_at(table: &Value, key: &str) -> Option<u32>
+    ensures { IfSome result (λ n. number_at key.now (view table.now) ≡ Some (pos n)) }
+{
+    match table.get(key) {
+        Some(value) => u32::try_from(value.as_integer()?).ok(),
+        None => None,
+    }
+}
+
+/// The list at a key of a table.
+fn list_at<'a>(table: &'a Value, key: &str) -> Option<&'a Vec<Value>>
+    ensures { option_map (λ v. array_view v.now) result ≡ list_at key.now (view table.now) }
+{
+    match table.get(key) {
+        Some(value) => value.as_array(),
+        None => None,
+    }
+}
+
+/// Whether a table has so many keys.
+fn has_keys(table: &Value, count: usize) -> bool {
+    match table.as_table() {
+        Some(table) => table.len() == count,
+        None => false,
+    }
+}
+
+/// The prefixes of a list of texts.
+fn prefixes(alloc: Global, texts: &[Value]) -> Result<Vec<Prefix>, ConfigurationError>
+    ensures { IfOk result (λ ps. ArePrefixes (map view texts.now) ps.items) }
 {
     let mut prefixes = Vec::new(alloc);
-    'texts: for text in texts {
+    'texts: for value in texts {
+        let Some(text) = value.as_str() else {
+            return Err(ConfigurationError::BadConfig);
+        };
         match Prefix::parse(text.as_bytes()) {
             Ok(prefix) => prefixes.push(prefix)?,
             Err(_) => return Err(ConfigurationError::BadConfig),
@@ -159,35 +178,62 @@ fn prefixes(alloc: Global, texts: &[String]) -> Result<Vec<Prefix>, Configuratio
     Ok(prefixes)
 }
 
-/// Whether the counts of a zone are within their bounds.
-fn has_counts(zone: &WrittenZone) -> bool
-    ensures { IsTrue result ↔ AreCounts zone.now.snapshot_sectors zone.now.journal_sectors zone.now.keep }
+/// The prefixes at a key of a table.
+fn prefixes_at(alloc: Global, table: &Value, key: &str) -> Result<Vec<Prefix>, ConfigurationError>
+    ensures { IfOk result (HasPrefixes key.now (view table.now)) }
 {
-    (1..=MOST).contains(&zone.snapshot_sectors)
-        && (8..=MOST).contains(&zone.journal_sectors)
-        && zone.keep <= MOST
+    match list_at(table, key) {
+        Some(texts) => prefixes(alloc, texts.as_slice()),
+        None => Err(ConfigurationError::BadConfig),
+    }
 }
 
-/// The settings that are written of a zone.
-fn settings(
-    alloc: Global,
-    heap: Heap,
-    zone: WrittenZone,
-) -> Result<ZoneSettings, ConfigurationError>
-    ensures { IfOk result (IsSettings zone) }
+/// The path at a key of a table.
+fn path_at(alloc: Global, table: &Value, key: &str) -> Result<String, ConfigurationError>
+    ensures { IfOk result (λ path. text_at key.now (view table.now) ≡ Some (string_bytes path)) }
 {
-    if !has_counts(&zone) {
+    match text_at(table, key) {
+        Some(path) => Ok(String::from_str(alloc, path)?),
+        None => Err(ConfigurationError::BadConfig),
+    }
+}
+
+/// The number at a key of a table, where it is in the range.
+fn count_at(table: &Value, key: &str, low: u32, high: u32) -> Result<u32, ConfigurationError>
+    ensures { IfOk result (λ n. (number_at key.now (view table.now) ≡ Some (pos n)) × (low ≤ n) × (n ≤ high)) }
+{
+    match number_at(table, key) {
+        Some(number) if low <= number && number <= high => Ok(number),
+        _ => Err(ConfigurationError::BadConfig),
+    }
+}
+
+/// The name at a key of a table, under the root if no dot ends it.
+fn name_at(heap: Heap, table: &Value, key: &str) -> Result<Name, ConfigurationError>
+    ensures { IfOk result (HasName key.now (view table.now)) }
+{
+    match text_at(table, key) {
+        Some(text) => Ok(Name::from_text(heap, text.as_bytes(), &Name::root(heap))?),
+        None => Err(ConfigurationError::BadConfig),
+    }
+}
+
+/// The settings of a zone by its table.
+fn settings(alloc: Global, heap: Heap, zone: &Value) -> Result<ZoneSettings, ConfigurationError>
+    ensures { IfOk result (IsSettings (view zone.now)) }
+{
+    if !has_keys(zone, 8) {
         return Err(ConfigurationError::BadConfig);
     }
     Ok(ZoneSettings {
-        origin: Name::from_text(heap, zone.origin.as_bytes(), &Name::root(heap))?,
-        update: prefixes(alloc, &zone.update)?,
-        transfer: prefixes(alloc, &zone.transfer)?,
-        file: zone.file,
-        device: zone.device,
-        snapshot_sectors: zone.snapshot_sectors,
-        journal_sectors: zone.journal_sectors,
-        keep: zone.keep,
+        origin: name_at(heap, zone, "origin")?,
+        file: path_at(alloc, zone, "file")?,
+        device: path_at(alloc, zone, "device")?,
+        snapshot_sectors: count_at(zone, "snapshot_sectors", 1, MOST)?,
+        journal_sectors: count_at(zone, "journal_sectors", 8, MOST)?,
+        keep: count_at(zone, "keep", 0, MOST)?,
+        update: prefixes_at(alloc, zone, "update")?,
+        transfer: prefixes_at(alloc, zone, "transfer")?,
     })
 }
 
@@ -205,17 +251,17 @@ fn is_double(zones: &[ZoneSettings], zone: &ZoneSettings) -> bool
     zones.iter().any(|other| are_alike(other, zone))
 }
 
-/// The settings of zones that are written: at most 16, no two with one apex or one device.
+/// The settings of zones by their tables: at most 16, no two with one apex or one device.
 fn all_settings(
     alloc: Global,
     heap: Heap,
-    written: Vec<WrittenZone>,
+    tables: &[Value],
 ) -> Result<Vec<ZoneSettings>, ConfigurationError>
-    ensures { IfOk result (λ zones. AreSettings written.items zones.items) }
+    ensures { IfOk result (λ zones. AreSettings (map view tables.now) zones.items) }
 {
     let mut zones = Vec::new(alloc);
-    'zones: for zone in written {
-        let zone = settings(alloc, heap, zone)?;
+    'zones: for table in tables {
+        let zone = settings(alloc, heap, table)?;
         if zones.len() == MOST_ZONES || is_double(&zones, &zone) {
             return Err(ConfigurationError::BadConfig);
         }
@@ -224,18 +270,27 @@ fn all_settings(
     Ok(zones)
 }
 
-/// The configuration that is written.
+/// The configuration by its document.
 fn configuration_of(
     alloc: Global,
     heap: Heap,
-    written: Written,
+    document: &Value,
 ) -> Result<Configuration, ConfigurationError>
-    ensures { IfOk result (Says written) }
+    ensures { IfOk result (Describes (view document.now)) }
 {
-    let Some(listen) = listener(&written.listen) else {
+    let Some(text) = text_at(document, "listen") else {
         return Err(ConfigurationError::BadConfig);
     };
-    let zones = all_settings(alloc, heap, written.zone)?;
+    let Some(listen) = listener(text) else {
+        return Err(ConfigurationError::BadConfig);
+    };
+    let Some(tables) = list_at(document, "zone") else {
+        return Err(ConfigurationError::BadConfig);
+    };
+    let zones = all_settings(alloc, heap, tables.as_slice())?;
+    if zones.is_empty() || !has_keys(document, 2) {
+        return Err(ConfigurationError::BadConfig);
+    }
     Ok(Configuration { listen, zones })
 }
 
@@ -247,11 +302,14 @@ impl Configuration {
         heap: Heap,
         octets: &[u8],
     ) -> Result<Configuration, ConfigurationError>
-        ensures text { IfOk result (λ _. IsUtf8 octets.now × IsSome (parse_document octets.now)) }
+        ensures described { IfOk result (IsDescribedBy octets.now) }
         ensures valid { IfOk result IsConfiguration }
     {
-        match toml::from_slice(alloc, octets) {
-            Ok(written) => configuration_of(alloc, heap, written),
+        let Ok(text) = std::str::from_utf8(octets) else {
+            return Err(ConfigurationError::BadConfig);
+        };
+        match toml::table_from_str(alloc, text) {
+            Ok(table) => configuration_of(alloc, heap, &Value::Table(table)),
             Err(error) if error.is_memory() => Err(ConfigurationError::OutOfMemory),
             Err(_) => Err(ConfigurationError::BadConfig),
         }
