@@ -1,5 +1,6 @@
 -- A request of the code as a request of the definitions.
-use Rattle.std.specs.Prelude.{◌≡◌, ℕ, List, take}
+use Rattle.std.specs.Prelude.{◌≡◌, ℕ, List}
+use Rattle.dns_wire.specs.Message.{header_of}
 use Rattle.dns_wire.specs.Codes.{number_of_rcode}
 use Rattle.dns_request.specs.Request as request
 use Rattle.dns_request.specs.declared.request.Request.{Request}
@@ -16,7 +17,7 @@ request_shown (Transfer r) = request.Transfer r.message.message r.question
 -- It is of these octets.
 abbrev pub IsOf : List ℕ → Request → Type 0
 IsOf octets Ignored = Unit {0}
-IsOf octets (Refused header rcode) = header.now ≡ take 12 octets
+IsOf octets (Refused header rcode) = header_of header.now ≡ header_of octets
 IsOf octets (NotServed r rcode) = r.message.octets ≡ octets
 IsOf octets (Query r) = r.message.octets ≡ octets
 IsOf octets (Update r) = r.message.octets ≡ octets

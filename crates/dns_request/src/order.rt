@@ -1,5 +1,5 @@
 //! The tests of a request, in their order.
-ghost use Rattle.std.specs.Prelude.{◌≡◌, ◌==◌, ◌<◌, ◌≤◌, length, take};
+ghost use Rattle.std.specs.Prelude.{◌≡◌, ◌==◌, ◌<◌, ◌≤◌, length};
 ghost use Rattle.dns_wire.specs.Message.{header_of};
 ghost use Rattle.dns_request.specs.Request.{has_counts, message_as, question_as, request_of, too_long};
 ghost use Rattle.dns_request.specs.Shown.{IsOf, request_shown};
@@ -69,7 +69,7 @@ fn by_question(request: RequestMessage<'_>) -> Request<'_>
 
 /// A message, by its questions and its counts.
 fn by_message<'a>(message: Message<'a>, header: &'a [u8; 12]) -> Request<'a>
-    requires { header.now ≡ take 12 message.octets }
+    requires { header_of header.now ≡ header_of message.octets }
     ensures request { request_shown result ≡ message_as message.entry.message message.entry.message.questions }
     ensures of { IsOf message.entry.octets result }
 {

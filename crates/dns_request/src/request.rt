@@ -1,4 +1,7 @@
 //! What octets are as a request.
+ghost use Rattle.std.specs.Prelude.{◌≡◌, [], ◌∷◌};
+ghost use Rattle.dns_wire.specs.Message.{header_of};
+
 use dns_wire::{Message, QuestionView, Rcode};
 
 /// How a message came, and how its reply goes out (RFC 1035 section 4.2).
@@ -16,6 +19,18 @@ pub struct RequestMessage<'a> {
     pub message: Message<'a>,
     pub question: QuestionView<'a>,
     ghost one: { message.message.questions ≡ question ∷ [] },
+}
+
+impl<'a> RequestMessage<'a> {
+    /// The octets of its header, from which a reply that is a header alone is made.
+    pub fn header(&self) -> &'a [u8; 12]
+        ensures { header_of result.now ≡ header_of self.now.message.octets }
+    {
+        match self.message.octets().first_chunk::<12>() {
+            Some(header) => header,
+            None => unreachable!(),
+        }
+    }
 }
 
 /// What octets that came are as a request.
