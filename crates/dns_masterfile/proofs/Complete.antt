@@ -12,7 +12,7 @@ use Rattle.std.specs.Str.Parse.{digits_value}
 use Rattle.std.proofs.lemmas.Bool.Decides.{nat_tests}
 use Rattle.std.proofs.lemmas.Slice.Eq.{bytes_eq-Decides}
 use Rattle.dns_names.specs.Name.{Labels, wire}
-use Rattle.dns_records.specs.Types.{Field, Octets, Name, Target, Strings, form}
+use Rattle.dns_records.specs.Types.{Field, Name, UncompressedName, Strings, form, Value, Values}
 use Rattle.dns_records.specs.Fields.{StringsLast}
 use Rattle.dns_records.specs.Laws.{form_last}
 use Rattle.dns_records.specs.Record.{Record, string}
@@ -20,10 +20,10 @@ use Rattle.dns_masterfile.specs.declared.FileError.{FileError}
 use Rattle.dns_masterfile.specs.Text.{number_of_text, is_decimal, string_of_text, each_of, before_each}
 use Rattle.dns_masterfile.specs.Pieces.{Word, Bare, Quoted, text_of}
 use Rattle.dns_masterfile.specs.Entries.{Entry}
-use Rattle.dns_masterfile.specs.Data.{Fixed, fixed_of, octets_of_text, is_keyword, type_words, type_by_name, type_of_word, IsNameWord, AreFixed, IsFieldText, IsDataText, IsRDataText}
+use Rattle.dns_masterfile.specs.Data.{octets_of_text, is_keyword, type_words, type_by_name, type_of_word, IsNameWord, AreValues, IsFieldText, IsDataText, IsRDataText}
 use Rattle.dns_masterfile.specs.Opaque.{is_numbered, opaque_only, type_of_number, is_opaque_mark, IsOpaqueText}
 use Rattle.dns_masterfile.specs.Meaning.{Context, Said, Nothing, Origin, Default, Item, after, records_in, ttl_in, is_class, begins_with_dollar, IsTtl, IsMiddle, IsOwner, IsItem, Says, Mean}
-use Rattle.dns_masterfile.specs.Reading.{Outcome, ◌>>=◌, or_bad_name, name_in, take_name, take_number, take_fixed, fault_of, take_strings, fits_data, take_wire, take_field, take_data, take_type, is_or_bad, take_mark, take_size, digits_in, sized, take_opaque, take_by_form, take_rdata, take_ttl, ttl_or_not, class_or_not, skip_class, ttl_then_class, either_first, take_middle, take_owner, only_if, ended, item_in, which_directive, directive_or_item, said_by, on_line, before, read_entries}
+use Rattle.dns_masterfile.specs.Reading.{Outcome, ◌>>=◌, or_bad_name, name_in, take_name, take_number, take_values, fault_of, take_strings, fits_data, take_wire, take_field, take_data, take_type, is_or_bad, take_mark, take_size, digits_in, sized, take_opaque, take_by_form, take_rdata, take_ttl, ttl_or_not, class_or_not, skip_class, ttl_then_class, either_first, take_middle, take_owner, only_if, ended, item_in, which_directive, directive_or_item, said_by, on_line, before, read_entries}
 
 pub bind_is : {A B E : Type 0} (r : Result A E) (f : A → Result B E) (x : A) (y : B) → r ≡ Ok x → f x ≡ Ok y → (r >>= f) ≡ Ok y
 bind_is r f x y h k = rw h k
@@ -46,12 +46,12 @@ take_number_is : (word : Word) (rest : List Word) (n : ℕ) → number_of_text (
 take_number_is word rest n h = bind_is (ok_or (number_of_text (2 ^ 32) (text_of word)) _) (λ k. Ok (k, rest)) n (n, rest) (some_or (number_of_text (2 ^ 32) (text_of word)) _ n h) refl
 
 -- Fixed octets.
-fixed_step : (f : Fixed) (fs : List Fixed) (word : Word) (more rest : List Word) (front tail : List ℕ) → octets_of_text f (text_of word) ≡ Some front → take_fixed fs (more ++ rest) ≡ Ok (tail, rest) → take_fixed (f ∷ fs) ((word ∷ more) ++ rest) ≡ Ok (front ++ tail, rest)
+fixed_step : (f : Value) (fs : List Value) (word : Word) (more rest : List Word) (front tail : List ℕ) → octets_of_text f (text_of word) ≡ Some front → take_values fs (more ++ rest) ≡ Ok (tail, rest) → take_values (f ∷ fs) ((word ∷ more) ++ rest) ≡ Ok (front ++ tail, rest)
 fixed_step f fs word more rest front tail h k =
     bind_is (ok_or (octets_of_text f (text_of word)) (fault_of f)) _ front (front ++ tail, rest) (some_or (octets_of_text f (text_of word)) (fault_of f) front h)
-    (bind_is (take_fixed fs (more ++ rest)) (λ r. Ok (front ++ r.0, r.1)) (tail, rest) (front ++ tail, rest) k refl)
+    (bind_is (take_values fs (more ++ rest)) (λ r. Ok (front ++ r.0, r.1)) (tail, rest) (front ++ tail, rest) k refl)
 
-take_fixed_is : (fs : List Fixed) (here rest : List Word) (octets : List ℕ) → AreFixed fs here octets → take_fixed fs (here ++ rest) ≡ Ok (octets, rest)
+take_fixed_is : (fs : List Value) (here rest : List Word) (octets : List ℕ) → AreValues fs here octets → take_values fs (here ++ rest) ≡ Ok (octets, rest)
 take_fixed_is [] here rest octets h = rw (h.0, h.1) refl
 take_fixed_is (f ∷ fs) here rest octets (word, more, front, tail, e, o, read, others) =
     rw (e, o) (fixed_step f fs word more rest front tail read (take_fixed_is fs more rest tail others))
@@ -104,12 +104,12 @@ field_step origin f fs words more front tail h k =
 
 take_data_is : (origin : Labels) (fs : List Field) (words : List Word) (octets : List ℕ) → StringsLast fs → IsDataText origin fs words octets → take_data origin fs words ≡ Ok (octets, [])
 take_data_is origin [] words octets last h = rw (h.0, h.1) refl
-take_data_is origin (Octets n ∷ fs) words octets last (here, more, front, tail, e, o, field, others) =
-    rw (e, o) (field_step origin (Octets n) fs (here ++ more) more front tail (take_fixed_is (fixed_of n) here more front field) (take_data_is origin fs more tail last others))
+take_data_is origin (Values vs ∷ fs) words octets last (here, more, front, tail, e, o, field, others) =
+    rw (e, o) (field_step origin (Values vs) fs (here ++ more) more front tail (take_fixed_is vs here more front field) (take_data_is origin fs more tail last others))
 take_data_is origin (Name ∷ fs) words octets last (here, more, front, tail, e, o, (word, name, w, read, is), others) =
     rw (e, o, w, is) (field_step origin Name fs (word ∷ more) more (wire name) tail (take_wire_is origin word more name read) (take_data_is origin fs more tail last others))
-take_data_is origin (Target ∷ fs) words octets last (here, more, front, tail, e, o, (word, name, w, read, is), others) =
-    rw (e, o, w, is) (field_step origin Target fs (word ∷ more) more (wire name) tail (take_wire_is origin word more name read) (take_data_is origin fs more tail last others))
+take_data_is origin (UncompressedName ∷ fs) words octets last (here, more, front, tail, e, o, (word, name, w, read, is), others) =
+    rw (e, o, w, is) (field_step origin UncompressedName fs (word ∷ more) more (wire name) tail (take_wire_is origin word more name read) (take_data_is origin fs more tail last others))
 take_data_is origin (Strings ∷ []) words octets last (here, more, front, tail, e, o, field, others) =
     let all : words ≡ here = e ∙ ap (λ (ws : List Word). here ++ ws) others.0 ∙ append-nil here in
     rw (all, o) (field_step origin Strings [] here [] front tail (take_all_strings origin here front field) (take_data_is origin [] [] tail tt (refl, others.1)))

@@ -1,6 +1,6 @@
 -- The words of data in print mean the data.
 use Rattle.std.proofs.Common.{◌≡◌, ℕ, zero, suc, ◌+◌, ◌/◌, ◌%◌, ◌^◌, ◌<◌, ◌≤◌, inl, Bool, true, false, List, [], ◌∷◌, ◌++◌, length, map, take, drop, get_or, decimal, Some, None, Ok, refl, sym, ap, subst, ◌∙◌, arith, append-nil, length-append, length-drop, length-take-le, take-append-drop}
-use Rattle.std.specs.Prelude.{⊤, ◌≢◌, ◌==◌, ◌&&◌, not, Option, MatchOption, IfSome, flat_map, codes, cond, is_some, slice_index, unwrap_or}
+use Rattle.std.specs.Prelude.{◌≢◌, ◌==◌, ◌&&◌, not, Option, MatchOption, IfSome, flat_map, codes, cond, is_some, slice_index, unwrap_or}
 use Rattle.std.specs.Int.Digits.{digits_of}
 use Rattle.std.proofs.lemmas.Bool.Decides.{nat_tests}
 use Rattle.std.proofs.lemmas.Fmt.{decimal-digits_of}
@@ -13,7 +13,7 @@ use borrow.Author.Tests.{eqb-true}
 use Rattle.dns_names.specs.Name.{Labels, IsName, wire, labels_of}
 use Rattle.dns_names.specs.Text.{printed_name}
 use Rattle.dns_names.proofs.ReadsBack.{name_reads_back}
-use Rattle.dns_records.specs.Types.{Field, Octets, Name, Target, Strings, form, is_known, is_data_type, is_opaque}
+use Rattle.dns_records.specs.Types.{Field, Ipv4, Ipv6, Name, Strings, U16, U32, UncompressedName, Value, Values, form, is_data_type, is_known, is_opaque, octet_count, size_of}
 use Rattle.dns_records.specs.Fields.{StringsLast}
 use Rattle.dns_records.specs.Record.{AreFields, IsRData, string}
 use Rattle.dns_records.proofs.StringParts.{strings_of-flat}
@@ -21,16 +21,16 @@ use Rattle.dns_masterfile.specs.declared.kind.Kind.TheVariants.{Plain}
 use Rattle.dns_masterfile.specs.Kinds.{kind}
 use Rattle.dns_masterfile.specs.Text.{printed_string_octet, printed_string, string_of_text, each_of}
 use Rattle.dns_masterfile.specs.Pieces.{Word, Bare, Quoted, text_of, IsWord}
-use Rattle.dns_masterfile.specs.Data.{Fixed, fixed_of, AreFixed, IsDataText, IsRDataText, type_of_word, name_of_type, word_of_type}
+use Rattle.dns_masterfile.specs.Data.{AreValues, IsDataText, IsRDataText, type_of_word, name_of_type, word_of_type}
 use Rattle.dns_masterfile.specs.Opaque.{word_of_number, begins_with_zero, hex_octet, opaque_mark, opaque_words, IsOpaqueText}
-use Rattle.dns_masterfile.specs.Printed.{size_of, printed_as, fixed_words, data_words, words_by_form, rdata_words}
+use Rattle.dns_masterfile.specs.Printed.{printed_as, value_words, data_words, words_by_form, rdata_words}
 use Rattle.dns_masterfile.proofs.OnlyPieces.{IsPlain}
 use Rattle.dns_masterfile.proofs.Covered.{empty_word, more_word}
 use Rattle.dns_masterfile.proofs.PrintedData.{labels_of-front}
 use Rattle.dns_masterfile.proofs.StringsBack.{string_reads_back, number_reads_back}
 use Rattle.dns_masterfile.proofs.Written.{written, IsWritten, name_written, string_written, number_written, word_append, escape_word}
 use Rattle.dns_masterfile.proofs.Hexadecimal.{hex_octets}
-use Rattle.dns_masterfile.proofs.FixedBack.{FitOctets, reads_as}
+use Rattle.dns_masterfile.proofs.ValuesBack.{FitOctets, reads_as}
 
 -- a fact of each item of two lists
 pub all_append : {A : Type 0} (P : A → Type 0) (xs ys : List A) → AllByRecursion P xs → AllByRecursion P ys → AllByRecursion P (xs ++ ys)
@@ -46,17 +46,13 @@ written_append [] b = refl
 written_append (w ∷ ws) b = ap (λ (xs : List (List ℕ)). written w ∷ xs) (written_append ws b)
 
 -- Fixed octets.
-abbrev sizes : List Fixed → ℕ
-sizes [] = 0
-sizes (f ∷ fs) = size_of f + sizes fs
-
-record FixedText (fs : List Fixed) (octets : List ℕ) : Type 0 where
+record ValuesText (fs : List Value) (octets : List ℕ) : Type 0 where
   words : List Word
-  texts : map written words ≡ fixed_words fs octets
+  texts : map written words ≡ value_words fs octets
   each : AllByRecursion IsWritten words
-  means : AreFixed fs words octets
+  means : AreValues fs words octets
 
-fixed_text : (fs : List Fixed) (octets : List ℕ) → FitOctets octets → length octets ≡ sizes fs → FixedText fs octets
+fixed_text : (fs : List Value) (octets : List ℕ) → FitOctets octets → length octets ≡ octet_count fs → ValuesText fs octets
 fixed_text [] [] h size = record { words = []; texts = refl; each = tt; means = (refl, refl) }
 fixed_text [] (c ∷ octets) h size = absurd (omega (arith, size))
 fixed_text (f ∷ fs) octets h size =
@@ -65,7 +61,7 @@ fixed_text (f ∷ fs) octets h size =
     let whole : front ++ rest ≡ octets = take-append-drop (size_of f) octets in
     let fit = all_parts (λ c. c < 256) front rest (subst FitOctets (sym whole) h) in
     let long : length front ≡ size_of f = length-take-le (size_of f) octets (omega (arith, size)) in
-    let more : length rest ≡ sizes fs = omega (arith, size, length-drop (size_of f) octets) in
+    let more : length rest ≡ octet_count fs = omega (arith, size, length-drop (size_of f) octets) in
     let first = reads_as f front fit.0 long in
     let inner = fixed_text fs rest fit.1 more in
     record {
@@ -102,28 +98,22 @@ some_words : (strings : List (List ℕ)) → strings ≢ [] → map string_word 
 some_words [] h = λ e. h refl
 some_words (s ∷ ss) h = λ e. absurd cc
 
--- The parts of data: numbers and addresses are written in as many octets as they have.
-abbrev pub AreSized : List Field → Type 0
-AreSized [] = ⊤
-AreSized (Octets n ∷ fs) = (sizes (fixed_of n) ≡ n) × AreSized fs
-AreSized (f ∷ fs) = AreSized fs
-
 pub record DataText (fields : List Field) (octets : List ℕ) : Type 0 where
   pub words : List Word
   pub texts : map written words ≡ data_words fields octets
   pub each : AllByRecursion IsWritten words
   pub means : (origin : Labels) → IsDataText origin fields words octets
 
-fixed_part : (n : ℕ) (fs : List Field) (octets front rest : List ℕ) → octets ≡ front ++ rest → length front ≡ n → FixedText (fixed_of n) front → DataText fs rest → DataText (Octets n ∷ fs) octets
-fixed_part n fs octets front rest e size first inner =
-    let here : take n octets ≡ front = ap (take n) e ∙ take_at front rest n size in
-    let behind : drop n octets ≡ rest = ap (drop n) e ∙ drop_at front rest n size in
+fixed_part : (vs : List Value) (fs : List Field) (octets front rest : List ℕ) → octets ≡ front ++ rest → length front ≡ octet_count vs → ValuesText vs front → DataText fs rest → DataText (Values vs ∷ fs) octets
+fixed_part vs fs octets front rest e size first inner =
+    let here : take (octet_count vs) octets ≡ front = ap (take (octet_count vs)) e ∙ take_at front rest (octet_count vs) size in
+    let behind : drop (octet_count vs) octets ≡ rest = ap (drop (octet_count vs)) e ∙ drop_at front rest (octet_count vs) size in
     record {
       words = first.words ++ inner.words;
       texts =
           written_append first.words inner.words
-          ∙ ap (λ (x : List (List ℕ)). x ++ map written inner.words) (first.texts ∙ ap (fixed_words (fixed_of n)) (sym here))
-          ∙ ap (λ (x : List (List ℕ)). fixed_words (fixed_of n) (take n octets) ++ x) (inner.texts ∙ ap (data_words fs) (sym behind));
+          ∙ ap (λ (x : List (List ℕ)). x ++ map written inner.words) (first.texts ∙ ap (value_words vs) (sym here))
+          ∙ ap (λ (x : List (List ℕ)). value_words vs (take (octet_count vs) octets) ++ x) (inner.texts ∙ ap (data_words fs) (sym behind));
       each = all_append IsWritten first.words inner.words first.each inner.each;
       means = λ origin. (first.words, inner.words, front, rest, refl, e, first.means, inner.means origin);
     }
@@ -146,10 +136,10 @@ name_part fs octets front rest name e is valid inner = record {
   means = λ origin. (Bare (printed_name name) ∷ [], inner.words, front, rest, refl, e, (Bare (printed_name name), name, refl, name_reads_back origin name valid, is), inner.means origin);
 }
 
-target_part : (fs : List Field) (octets : List ℕ) → DataText (Name ∷ fs) octets → DataText (Target ∷ fs) octets
+target_part : (fs : List Field) (octets : List ℕ) → DataText (Name ∷ fs) octets → DataText (UncompressedName ∷ fs) octets
 target_part fs octets d = record { words = d.words; texts = d.texts; each = d.each; means = λ origin. target_means origin (d.means origin) }
   where
-    target_means : (origin : Labels) → IsDataText origin (Name ∷ fs) d.words octets → IsDataText origin (Target ∷ fs) d.words octets
+    target_means : (origin : Labels) → IsDataText origin (Name ∷ fs) d.words octets → IsDataText origin (UncompressedName ∷ fs) d.words octets
     target_means origin (here, more, front, rest, w, o, field, others) = (here, more, front, rest, w, o, field, others)
 
 strings_part : (octets front rest : List ℕ) (strings : List (List ℕ)) → FitOctets octets → length octets ≤ 4096 → octets ≡ front ++ rest → front ≡ flat_map string strings → rest ≡ [] → strings ≢ [] → AllByRecursion (λ s. length s < 256) strings → DataText (Strings ∷ []) octets
@@ -166,28 +156,27 @@ strings_part octets front rest strings h size e flat none some short =
     }
 
 -- data in print has words, which mean it whatever the origin
-pub data_text : (fields : List Field) (octets : List ℕ) → AreSized fields → StringsLast fields → FitOctets octets → length octets ≤ 4096 → AreFields fields octets → DataText fields octets
-data_text [] octets sized last h size e = record { words = []; texts = refl; each = tt; means = λ origin. (refl, e) }
-data_text (Octets n ∷ fs) octets sized last h size (front, rest, e, long, others) =
+pub data_text : (fields : List Field) (octets : List ℕ) → StringsLast fields → FitOctets octets → length octets ≤ 4096 → AreFields fields octets → DataText fields octets
+data_text [] octets last h size e = record { words = []; texts = refl; each = tt; means = λ origin. (refl, e) }
+data_text (Values vs ∷ fs) octets last h size (front, rest, e, long, others) =
     let fit = all_parts (λ c. c < 256) front rest (subst FitOctets e h) in
     let whole : length octets ≡ length (front ++ rest) = ap length e in
-    fixed_part n fs octets front rest e long (fixed_text (fixed_of n) front fit.0 (long ∙ sym sized.0)) (data_text fs rest sized.1 last fit.1 (omega (arith, size, whole, length-append front rest)) others)
-data_text (Name ∷ fs) octets sized last h size (front, rest, e, (name, valid, is), others) =
+    fixed_part vs fs octets front rest e long (fixed_text vs front fit.0 long) (data_text fs rest last fit.1 (omega (arith, size, whole, length-append front rest)) others)
+data_text (Name ∷ fs) octets last h size (front, rest, e, (name, valid, is), others) =
     let fit = all_parts (λ c. c < 256) front rest (subst FitOctets e h) in
     let whole : length octets ≡ length (front ++ rest) = ap length e in
-    name_part fs octets front rest name e is valid (data_text fs rest sized last fit.1 (omega (arith, size, whole, length-append front rest)) others)
-data_text (Target ∷ fs) octets sized last h size (front, rest, e, (name, valid, is), others) =
+    name_part fs octets front rest name e is valid (data_text fs rest last fit.1 (omega (arith, size, whole, length-append front rest)) others)
+data_text (UncompressedName ∷ fs) octets last h size (front, rest, e, (name, valid, is), others) =
     let fit = all_parts (λ c. c < 256) front rest (subst FitOctets e h) in
     let whole : length octets ≡ length (front ++ rest) = ap length e in
-    target_part fs octets (name_part fs octets front rest name e is valid (data_text fs rest sized last fit.1 (omega (arith, size, whole, length-append front rest)) others))
-data_text (Strings ∷ []) octets sized last h size (front, rest, e, (strings, some, short, flat), none) = strings_part octets front rest strings h size e flat none some short
-data_text (Strings ∷ f ∷ fs) octets sized last h size parts = absurd last
+    target_part fs octets (name_part fs octets front rest name e is valid (data_text fs rest last fit.1 (omega (arith, size, whole, length-append front rest)) others))
+data_text (Strings ∷ []) octets last h size (front, rest, e, (strings, some, short, flat), none) = strings_part octets front rest strings h size e flat none some short
+data_text (Strings ∷ f ∷ fs) octets last h size parts = absurd last
 
 -- What the types that have a form have: parts, and a word.
 pub record KnownType (t : ℕ) : Type 0 where
   pub fields : List Field
   pub of_type : form t ≡ Some fields
-  pub sized : AreSized fields
   pub last : StringsLast fields
   pub text : List ℕ
   pub word : word_of_type t ≡ text
@@ -206,31 +195,31 @@ known_type t n x rest here others h = go (t == n) refl h
     go false p h = others h
 
 known_a : KnownType 1
-known_a = record { fields = Octets 4 ∷ []; of_type = refl; sized = (refl, tt); last = tt; text = codes "A"; word = refl; read = refl; written = (omega arith, plain_text (codes "A") (refl, tt)) }
+known_a = record { fields = Values (Ipv4 ∷ []) ∷ []; of_type = refl; last = tt; text = codes "A"; word = refl; read = refl; written = (omega arith, plain_text (codes "A") (refl, tt)) }
 
 known_ns : KnownType 2
-known_ns = record { fields = Name ∷ []; of_type = refl; sized = tt; last = tt; text = codes "NS"; word = refl; read = refl; written = (omega arith, plain_text (codes "NS") (refl, (refl, tt))) }
+known_ns = record { fields = Name ∷ []; of_type = refl; last = tt; text = codes "NS"; word = refl; read = refl; written = (omega arith, plain_text (codes "NS") (refl, (refl, tt))) }
 
 known_cname : KnownType 5
-known_cname = record { fields = Name ∷ []; of_type = refl; sized = tt; last = tt; text = codes "CNAME"; word = refl; read = refl; written = (omega arith, plain_text (codes "CNAME") (refl, (refl, (refl, (refl, (refl, tt)))))) }
+known_cname = record { fields = Name ∷ []; of_type = refl; last = tt; text = codes "CNAME"; word = refl; read = refl; written = (omega arith, plain_text (codes "CNAME") (refl, (refl, (refl, (refl, (refl, tt)))))) }
 
 known_soa : KnownType 6
-known_soa = record { fields = Name ∷ Name ∷ Octets 20 ∷ []; of_type = refl; sized = (refl, tt); last = tt; text = codes "SOA"; word = refl; read = refl; written = (omega arith, plain_text (codes "SOA") (refl, (refl, (refl, tt)))) }
+known_soa = record { fields = Name ∷ Name ∷ Values (U32 ∷ U32 ∷ U32 ∷ U32 ∷ U32 ∷ []) ∷ []; of_type = refl; last = tt; text = codes "SOA"; word = refl; read = refl; written = (omega arith, plain_text (codes "SOA") (refl, (refl, (refl, tt)))) }
 
 known_ptr : KnownType 12
-known_ptr = record { fields = Name ∷ []; of_type = refl; sized = tt; last = tt; text = codes "PTR"; word = refl; read = refl; written = (omega arith, plain_text (codes "PTR") (refl, (refl, (refl, tt)))) }
+known_ptr = record { fields = Name ∷ []; of_type = refl; last = tt; text = codes "PTR"; word = refl; read = refl; written = (omega arith, plain_text (codes "PTR") (refl, (refl, (refl, tt)))) }
 
 known_mx : KnownType 15
-known_mx = record { fields = Octets 2 ∷ Name ∷ []; of_type = refl; sized = (refl, tt); last = tt; text = codes "MX"; word = refl; read = refl; written = (omega arith, plain_text (codes "MX") (refl, (refl, tt))) }
+known_mx = record { fields = Values (U16 ∷ []) ∷ Name ∷ []; of_type = refl; last = tt; text = codes "MX"; word = refl; read = refl; written = (omega arith, plain_text (codes "MX") (refl, (refl, tt))) }
 
 known_txt : KnownType 16
-known_txt = record { fields = Strings ∷ []; of_type = refl; sized = tt; last = tt; text = codes "TXT"; word = refl; read = refl; written = (omega arith, plain_text (codes "TXT") (refl, (refl, (refl, tt)))) }
+known_txt = record { fields = Strings ∷ []; of_type = refl; last = tt; text = codes "TXT"; word = refl; read = refl; written = (omega arith, plain_text (codes "TXT") (refl, (refl, (refl, tt)))) }
 
 known_aaaa : KnownType 28
-known_aaaa = record { fields = Octets 16 ∷ []; of_type = refl; sized = (refl, tt); last = tt; text = codes "AAAA"; word = refl; read = refl; written = (omega arith, plain_text (codes "AAAA") (refl, (refl, (refl, (refl, tt))))) }
+known_aaaa = record { fields = Values (Ipv6 ∷ []) ∷ []; of_type = refl; last = tt; text = codes "AAAA"; word = refl; read = refl; written = (omega arith, plain_text (codes "AAAA") (refl, (refl, (refl, (refl, tt))))) }
 
 known_srv : KnownType 33
-known_srv = record { fields = Octets 6 ∷ Target ∷ []; of_type = refl; sized = (refl, tt); last = tt; text = codes "SRV"; word = refl; read = refl; written = (omega arith, plain_text (codes "SRV") (refl, (refl, (refl, tt)))) }
+known_srv = record { fields = Values (U16 ∷ U16 ∷ U16 ∷ []) ∷ UncompressedName ∷ []; of_type = refl; last = tt; text = codes "SRV"; word = refl; read = refl; written = (omega arith, plain_text (codes "SRV") (refl, (refl, (refl, tt)))) }
 
 -- each type that is known
 pub known : (t : ℕ) → is_known t ≡ true → KnownType t
@@ -378,7 +367,7 @@ rdata_text rtype octets h short formed = go (form rtype) refl formed
     go (Some fields) e formed =
         (let k = known rtype (ap is_some e) in
         let same : fields ≡ k.fields = some_same fields k.fields (sym e ∙ k.of_type) in
-        let d = data_text fields octets (subst AreSized (sym same) k.sized) (subst StringsLast (sym same) k.last) h short formed in
+        let d = data_text fields octets (subst StringsLast (sym same) k.last) h short formed in
         record {
           words = d.words;
           texts = d.texts ∙ ap (λ (f : Option (List Field)). words_by_form f octets) (sym e);

@@ -8,14 +8,16 @@ use Rattle.std.proofs.lemmas.List.{length-map}
 use Rattle.std.proofs.Math.Seq.{drop-cons}
 use Rattle.dns_names.specs.Name.{Labels}
 use Rattle.dns_names.specs.Text.{Letter, letters, octet_of}
-use Rattle.dns_records.specs.Types.{Field}
+use Rattle.dns_records.specs.Types.{Field, Value}
 use Rattle.dns_records.specs.Record.{string}
+use Rattle.dns_records.specs.declared.parts.Field.{Field as Part}
+use Rattle.dns_records.specs.declared.parts.Field.TheVariants as part
 use Rattle.dns_masterfile.specs.declared.FileError.{FileError}
 use Rattle.dns_masterfile.specs.declared.FileError.TheVariants.{BadData}
 use Rattle.dns_masterfile.specs.Text.{string_of_text}
 use Rattle.dns_masterfile.specs.Pieces.{Word, text_of}
-use Rattle.dns_masterfile.specs.Data.{Fixed, octets_of_text}
-use Rattle.dns_masterfile.specs.Reading.{Outcome, Taken, ◌>>=◌, next_word, take_fixed, take_field, take_data, take_strings, fault_of, fits_data, is_or_bad, digits_in}
+use Rattle.dns_masterfile.specs.Data.{octets_of_text}
+use Rattle.dns_masterfile.specs.Reading.{Outcome, Taken, ◌>>=◌, next_word, take_values, take_field, take_data, take_strings, fault_of, fits_data, is_or_bad, digits_in}
 use Rattle.dns_masterfile.specs.Taking.{FitField, FitFields, Refuses, string_at, strings_in}
 
 -- octets before those that are taken
@@ -35,23 +37,23 @@ pub joined_end : (all : Taken (List ℕ)) (front : List ℕ) (words : List Word)
 joined_end all front words h = h ∙ ap (λ (octets : List ℕ). Ok (octets, words)) (append-nil front)
 
 -- one more number or address
-pub fixed_more : (f : Fixed) (fs : List Fixed) (all : Taken (List ℕ)) (front more : List ℕ) (words rest : List Word) (w : Word) → all ≡ joined front (take_fixed (f ∷ fs) words) → next_word words ≡ Ok (w, rest) → octets_of_text f (text_of w) ≡ Some more → all ≡ joined (front ++ more) (take_fixed fs rest)
+pub fixed_more : (f : Value) (fs : List Value) (all : Taken (List ℕ)) (front more : List ℕ) (words rest : List Word) (w : Word) → all ≡ joined front (take_values (f ∷ fs) words) → next_word words ≡ Ok (w, rest) → octets_of_text f (text_of w) ≡ Some more → all ≡ joined (front ++ more) (take_values fs rest)
 fixed_more f fs all front more words rest w h word octets =
-    let read : List ℕ → Taken (List ℕ) = λ o. take_fixed fs rest >>= λ r. Ok (o ++ r.0, r.1) in
-    let taken : take_fixed (f ∷ fs) words ≡ joined more (take_fixed fs rest) =
-    ap (λ (r : Taken Word). r >>= λ w. ok_or (octets_of_text f (text_of w.0)) (fault_of f) >>= λ o. take_fixed fs w.1 >>= λ r. Ok (o ++ r.0, r.1)) word
+    let read : List ℕ → Taken (List ℕ) = λ o. take_values fs rest >>= λ r. Ok (o ++ r.0, r.1) in
+    let taken : take_values (f ∷ fs) words ≡ joined more (take_values fs rest) =
+    ap (λ (r : Taken Word). r >>= λ w. ok_or (octets_of_text f (text_of w.0)) (fault_of f) >>= λ o. take_values fs w.1 >>= λ r. Ok (o ++ r.0, r.1)) word
     ∙ ap (λ (o : Option (List ℕ)). ok_or o (fault_of f) >>= read) octets
-    ∙ bind_joined more (take_fixed fs rest) in
-    h ∙ ap (joined front) taken ∙ joined_twice front more (take_fixed fs rest)
+    ∙ bind_joined more (take_values fs rest) in
+    h ∙ ap (joined front) taken ∙ joined_twice front more (take_values fs rest)
 
-pub fixed_missing : (f : Fixed) (fs : List Fixed) (all : Taken (List ℕ)) (front : List ℕ) (words : List Word) (e : FileError) → all ≡ joined front (take_fixed (f ∷ fs) words) → next_word words ≡ Err e → all ≡ Err e
+pub fixed_missing : (f : Value) (fs : List Value) (all : Taken (List ℕ)) (front : List ℕ) (words : List Word) (e : FileError) → all ≡ joined front (take_values (f ∷ fs) words) → next_word words ≡ Err e → all ≡ Err e
 fixed_missing f fs all front words e h word =
-    h ∙ ap (λ (r : Taken Word). joined front (r >>= λ w. ok_or (octets_of_text f (text_of w.0)) (fault_of f) >>= λ o. take_fixed fs w.1 >>= λ r. Ok (o ++ r.0, r.1))) word
+    h ∙ ap (λ (r : Taken Word). joined front (r >>= λ w. ok_or (octets_of_text f (text_of w.0)) (fault_of f) >>= λ o. take_values fs w.1 >>= λ r. Ok (o ++ r.0, r.1))) word
 
-pub fixed_refused : (f : Fixed) (fs : List Fixed) (all : Taken (List ℕ)) (front : List ℕ) (words rest : List Word) (w : Word) → all ≡ joined front (take_fixed (f ∷ fs) words) → next_word words ≡ Ok (w, rest) → octets_of_text f (text_of w) ≡ None → all ≡ Err (fault_of f)
+pub fixed_refused : (f : Value) (fs : List Value) (all : Taken (List ℕ)) (front : List ℕ) (words rest : List Word) (w : Word) → all ≡ joined front (take_values (f ∷ fs) words) → next_word words ≡ Ok (w, rest) → octets_of_text f (text_of w) ≡ None → all ≡ Err (fault_of f)
 fixed_refused f fs all front words rest w h word none =
-    h ∙ ap (λ (r : Taken Word). joined front (r >>= λ w. ok_or (octets_of_text f (text_of w.0)) (fault_of f) >>= λ o. take_fixed fs w.1 >>= λ r. Ok (o ++ r.0, r.1))) word
-    ∙ ap (λ (o : Option (List ℕ)). joined front (ok_or o (fault_of f) >>= λ o. take_fixed fs rest >>= λ r. Ok (o ++ r.0, r.1))) none
+    h ∙ ap (λ (r : Taken Word). joined front (r >>= λ w. ok_or (octets_of_text f (text_of w.0)) (fault_of f) >>= λ o. take_values fs w.1 >>= λ r. Ok (o ++ r.0, r.1))) word
+    ∙ ap (λ (o : Option (List ℕ)). joined front (ok_or o (fault_of f) >>= λ o. take_values fs rest >>= λ r. Ok (o ++ r.0, r.1))) none
 
 -- one more part of data
 pub fields_more : (origin : Labels) (f : Field) (fs : List Field) (all : Taken (List ℕ)) (front more : List ℕ) (words rest : List Word) → all ≡ joined front (take_data origin (f ∷ fs) words) → take_field origin f words ≡ Ok (more, rest) → all ≡ joined (front ++ more) (take_data origin fs rest)
@@ -189,3 +191,7 @@ digits_refused all front text words rest w h at same digits =
     let passed : list_all is_hex_digit (text_of w) ≡ false = ap (list_all is_hex_digit) (sym same) ∙ digits in
     h ∙ ap (λ (ws : List Word). strung front (digits_in ws)) at
     ∙ ap (λ (b : Bool). strung front (is_or_bad b >>= λ _. digits_in rest >>= λ more. Ok (text_of w ++ more))) passed
+
+-- what stands behind the last part of data
+abbrev pub no_field : Part
+no_field = part.Values (record { ref_ptr = (0, 0); now = [] })

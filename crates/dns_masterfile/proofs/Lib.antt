@@ -3,7 +3,7 @@ mod Complete
 mod Covered
 mod DataText
 mod Files
-mod FixedBack
+mod ValuesBack
 mod Means
 mod OneSet
 mod OnlyPieces

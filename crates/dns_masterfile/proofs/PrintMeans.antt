@@ -9,7 +9,6 @@ use Rattle.dns_names.proofs.ReadsBack.{name_reads_back}
 use Rattle.dns_records.specs.Record.{Record, IsRecord}
 use Rattle.dns_masterfile.specs.Pieces.{Word, Bare, Quoted, Piece, Gap, LineEnd, Text, EndsWord, ArePieces}
 use Rattle.dns_masterfile.specs.Entries.{Entry, begun, entries_from}
-use Rattle.dns_masterfile.specs.Data.{word_of_type}
 use Rattle.dns_masterfile.specs.Meaning.{Context, at_start, Nothing, Item, after, IsItem, Says, Mean, FileMeans}
 use Rattle.dns_masterfile.specs.Reading.{read_file}
 use Rattle.dns_masterfile.specs.Printed.{rdata_words, spaced, printed_record, is_wanted, in_print_order, printed_zone}

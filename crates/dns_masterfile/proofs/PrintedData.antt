@@ -11,7 +11,7 @@ use Rattle.dns_records.specs.Typed.{a_data, aaaa_data, mx_data, srv_data, soa_da
 use Rattle.dns_records.specs.declared.typed.Mx.{Mx}
 use Rattle.dns_records.specs.declared.typed.Srv.{Srv}
 use Rattle.dns_records.specs.declared.typed.Soa.{Soa}
-use Rattle.dns_records.specs.Types.{Field, Name, Octets}
+use Rattle.dns_records.specs.Types.{Field, Name, Values, U32}
 use Rattle.dns_records.specs.Laws.{name_form}
 use Rattle.dns_records.specs.Typed.{is_name_type, name_of}
 use Rattle.dns_records.specs.Record.{Data}
@@ -64,14 +64,14 @@ pub record FitNumbers (s : Soa) : Type 0 where
   pub expire : s.expire < 2 ^ 32
   pub minimum : s.minimum < 2 ^ 32
 
-soa_number_words : (s : Soa) → FitNumbers s → data_words (Octets 20 ∷ []) (soa_numbers s) ≡ decimal s.serial ∷ decimal s.refresh ∷ decimal s.retry ∷ decimal s.expire ∷ decimal s.minimum ∷ []
+soa_number_words : (s : Soa) → FitNumbers s → data_words (Values (U32 ∷ U32 ∷ U32 ∷ U32 ∷ U32 ∷ []) ∷ []) (soa_numbers s) ≡ decimal s.serial ∷ decimal s.refresh ∷ decimal s.retry ∷ decimal s.expire ∷ decimal s.minimum ∷ []
 soa_number_words s fit = rw (number_4 s.serial fit.serial, number_4 s.refresh fit.refresh, number_4 s.retry fit.retry, number_4 s.expire fit.expire, number_4 s.minimum fit.minimum) refl
 
 pub soa_words : (s : Soa) → IsName s.mname → IsName s.rname → FitNumbers s → printed_data (soa_data s) ≡ spaced (printed_name s.mname ∷ printed_name s.rname ∷ decimal s.serial ∷ decimal s.refresh ∷ decimal s.retry ∷ decimal s.expire ∷ decimal s.minimum ∷ [])
 soa_words s m r fit =
-    ap (λ (x : List ℕ). spaced (data_words (Name ∷ Name ∷ Octets 20 ∷ []) x)) (append_assoc (wire s.mname) (wire s.rname) (soa_numbers s))
-    ∙ ap spaced (name_step (Name ∷ Octets 20 ∷ []) s.mname (wire s.rname ++ soa_numbers s) m
-    ∙ ap (λ (ws : List (List ℕ)). printed_name s.mname ∷ ws) (name_step (Octets 20 ∷ []) s.rname (soa_numbers s) r
+    ap (λ (x : List ℕ). spaced (data_words (Name ∷ Name ∷ Values (U32 ∷ U32 ∷ U32 ∷ U32 ∷ U32 ∷ []) ∷ []) x)) (append_assoc (wire s.mname) (wire s.rname) (soa_numbers s))
+    ∙ ap spaced (name_step (Name ∷ Values (U32 ∷ U32 ∷ U32 ∷ U32 ∷ U32 ∷ []) ∷ []) s.mname (wire s.rname ++ soa_numbers s) m
+    ∙ ap (λ (ws : List (List ℕ)). printed_name s.mname ∷ ws) (name_step (Values (U32 ∷ U32 ∷ U32 ∷ U32 ∷ U32 ∷ []) ∷ []) s.rname (soa_numbers s) r
     ∙ ap (λ (ws : List (List ℕ)). printed_name s.rname ∷ ws) (soa_number_words s fit)))
 
 pub txt_words : (strings : List (List ℕ)) → printed_data (txt_data strings) ≡ spaced (map printed_string strings)

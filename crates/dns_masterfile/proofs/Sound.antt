@@ -9,7 +9,7 @@ use Rattle.std.proofs.lemmas.Bool.Decides.{nat_tests}
 use Rattle.std.proofs.lemmas.List.{length-append, append-nil}
 use Rattle.dns_names.specs.Name.{Labels, wire}
 use Rattle.dns_names.specs.declared.NameError.{NameError}
-use Rattle.dns_records.specs.Types.{Field, Octets, Name, Target, Strings, form}
+use Rattle.dns_records.specs.Types.{Field, Name, UncompressedName, Strings, form, Value, Values}
 use Rattle.dns_records.specs.Record.{Record, string}
 use Rattle.dns_masterfile.specs.declared.FileError.{FileError}
 use Rattle.dns_masterfile.specs.declared.FileError.TheVariants.{BadNumber, BadData, UnknownType, NoOwner, NoTtl}
@@ -17,10 +17,10 @@ use Rattle.dns_names.specs.Text.{name_of_text}
 use Rattle.dns_masterfile.specs.Text.{number_of_text, is_decimal, string_of_text, each_of}
 use Rattle.dns_masterfile.specs.Pieces.{Word, Bare, Quoted, text_of}
 use Rattle.dns_masterfile.specs.Entries.{Entry}
-use Rattle.dns_masterfile.specs.Data.{Fixed, fixed_of, octets_of_text, is_keyword, type_of_word, IsNameWord, AreFixed, IsFieldText, IsDataText, IsRDataText}
+use Rattle.dns_masterfile.specs.Data.{octets_of_text, is_keyword, type_of_word, IsNameWord, AreValues, IsFieldText, IsDataText, IsRDataText}
 use Rattle.dns_masterfile.specs.Opaque.{is_opaque_mark, IsOpaqueText}
 use Rattle.dns_masterfile.specs.Meaning.{Context, Said, Nothing, Origin, Default, Item, after, records_in, ttl_in, is_class, begins_with_dollar, IsTtl, IsMiddle, IsOwner, IsItem, Says, Mean}
-use Rattle.dns_masterfile.specs.Reading.{Outcome, ◌>>=◌, or_bad_name, name_in, take_name, take_number, take_fixed, fault_of, take_strings, fits_data, take_wire, take_field, take_data, take_type, is_or_bad, no_mark, take_mark, take_size, digits_in, sized, take_opaque, take_by_form, take_rdata, take_ttl, ttl_or_not, skip_class, either_first, take_middle, take_owner, only_if, ended, item_in, which_directive, directive_or_item, said_by, on_line, before, read_entries}
+use Rattle.dns_masterfile.specs.Reading.{Outcome, ◌>>=◌, or_bad_name, name_in, take_name, take_number, take_values, fault_of, take_strings, fits_data, take_wire, take_field, take_data, take_type, is_or_bad, no_mark, take_mark, take_size, digits_in, sized, take_opaque, take_by_form, take_rdata, take_ttl, ttl_or_not, skip_class, either_first, take_middle, take_owner, only_if, ended, item_in, which_directive, directive_or_item, said_by, on_line, before, read_entries}
 
 pub bind_ok : {A B E : Type 0} (r : Result A E) (f : A → Result B E) (y : B) → (r >>= f) ≡ Ok y → (x : A) × (r ≡ Ok x) × (f x ≡ Ok y)
 bind_ok (Ok x) f y h = (x, refl, h)
@@ -121,12 +121,12 @@ take_middle_ok [] written rest h =
     ([], p.1, sym p.0)
 take_middle_ok (w ∷ more) written rest h = either_first_ok (is_class w) w more written rest refl h
 
-take_fixed_ok : (fs : List Fixed) (words : List Word) (octets : List ℕ) (rest : List Word) → take_fixed fs words ≡ Ok (octets, rest) → (here : List Word) × (words ≡ here ++ rest) × AreFixed fs here octets
+take_fixed_ok : (fs : List Value) (words : List Word) (octets : List ℕ) (rest : List Word) → take_values fs words ≡ Ok (octets, rest) → (here : List Word) × (words ≡ here ++ rest) × AreValues fs here octets
 take_fixed_ok [] words octets rest h = let p = ok_pair [] octets words rest h in ([], p.1, (refl, sym p.0))
 take_fixed_ok (f ∷ fs) [] octets rest h = absurd cc
 take_fixed_ok (f ∷ fs) (w ∷ more) octets rest h =
-    let got = bind_ok (ok_or (octets_of_text f (text_of w)) (fault_of f)) (λ front. take_fixed fs more >>= λ r. Ok (front ++ r.0, r.1)) (octets, rest) h in
-    let then = bind_ok (take_fixed fs more) (λ r. Ok (got.0 ++ r.0, r.1)) (octets, rest) got.2 in
+    let got = bind_ok (ok_or (octets_of_text f (text_of w)) (fault_of f)) (λ front. take_values fs more >>= λ r. Ok (front ++ r.0, r.1)) (octets, rest) h in
+    let then = bind_ok (take_values fs more) (λ r. Ok (got.0 ++ r.0, r.1)) (octets, rest) got.2 in
     let tail = (then.0).0 in
     let p = ok_pair (got.0 ++ tail) octets (then.0).1 rest then.2 in
     let inner = take_fixed_ok fs more tail (then.0).1 then.1 in
@@ -181,9 +181,9 @@ name_field_ok origin words octets rest h =
     (read.0 ∷ [], read.1 ∙ ap (λ (xs : List Word). read.0 ∷ xs) p.1, (read.0, name, refl, read.2, sym p.0))
 
 take_field_ok : (origin : Labels) (f : Field) (words : List Word) (octets : List ℕ) (rest : List Word) → take_field origin f words ≡ Ok (octets, rest) → Front words (λ here. IsFieldText origin f here octets) rest
-take_field_ok origin (Octets n) words octets rest h = take_fixed_ok (fixed_of n) words octets rest h
+take_field_ok origin (Values vs) words octets rest h = take_fixed_ok vs words octets rest h
 take_field_ok origin Name words octets rest h = name_field_ok origin words octets rest h
-take_field_ok origin Target words octets rest h = name_field_ok origin words octets rest h
+take_field_ok origin UncompressedName words octets rest h = name_field_ok origin words octets rest h
 take_field_ok origin Strings [] octets rest h = absurd cc
 take_field_ok origin Strings (w ∷ words) octets rest h =
     let got = bind_ok (take_strings 0 (w ∷ words)) (λ o. Ok (o, [])) (octets, rest) h in

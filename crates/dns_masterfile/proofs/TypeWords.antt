@@ -1,6 +1,6 @@
 -- What a word of a type names is a type of which a zone can have records.
 use Rattle.std.proofs.Common.{◌≡◌, ℕ, ◌^◌, Bool, true, false, List, [], ◌∷◌, Option, Some, None, drop, refl}
-use Rattle.std.specs.Prelude.{IfSome, IfOk, Result, ok_or, ◌&&◌, option_map, cond}
+use Rattle.std.specs.Prelude.{IfSome, IfOk, Result, ok_or, option_map, cond}
 use Rattle.std.specs.Option.{option_or}
 use Rattle.std.specs.List.{AllByRecursion, find}
 use Rattle.std.specs.Cmp.{first_so}

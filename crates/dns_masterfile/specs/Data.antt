@@ -1,11 +1,11 @@
 -- The data of a record in text, by the one table of the parts of each type.
-use Rattle.std.specs.Prelude.{◌≡◌, ◌≢◌, ℕ, ◌^◌, ◌≤◌, Bool, false, ◌==◌, MatchOption, List, [], ◌∷◌, ◌++◌, length, map, flat_map, option_map, unwrap_or, Option, Some, Ok, bytes_eq, codes, if◌then◌else◌}
+use Rattle.std.specs.Prelude.{◌≡◌, ◌≢◌, ℕ, ◌^◌, ◌≤◌, Bool, false, ◌==◌, MatchOption, List, [], ◌∷◌, ◌++◌, length, map, flat_map, option_map, unwrap_or, Option, Some, Ok, bytes_eq, codes}
 use Rattle.std.specs.List.{find}
 use Rattle.std.specs.Option.{option_or}
 use Rattle.std.specs.Int.{w16, w32, to_be_bytes}
 use Rattle.std.specs.Char.{to_ascii_uppercase}
 use Rattle.dns_names.specs.Name.{Labels, wire}
-use Rattle.dns_records.specs.Types.{Field, Octets, Name, Target, Strings, form, type_a, type_ns, type_cname, type_soa, type_ptr, type_mx, type_txt, type_aaaa, type_srv}
+use Rattle.dns_records.specs.Types.{Field, Name, UncompressedName, Strings, form, type_a, type_ns, type_cname, type_soa, type_ptr, type_mx, type_txt, type_aaaa, type_srv, Ipv4, Ipv6, U16, U32, Value, Values}
 use Rattle.dns_records.specs.Record.{string}
 use Rattle.dns_names.specs.Text.{name_of_text}
 use Rattle.dns_policy.specs.Address.{ipv4_of_text, ipv6_of_text}
@@ -13,25 +13,10 @@ use Rattle.dns_masterfile.specs.Text.{number_of_text, string_of_text, each_of}
 use Rattle.dns_masterfile.specs.Pieces.{Word, Bare, Quoted, text_of}
 use Rattle.dns_masterfile.specs.Opaque.{type_of_number, word_of_number, IsOpaqueText}
 
--- What the table needs beside: how so many octets are written.
-pub data Fixed : Type 0 where
-  Number16 : Fixed
-  Number32 : Fixed
-  Ipv4 : Fixed
-  Ipv6 : Fixed
-
-abbrev pub fixed_of : ℕ → List Fixed
-fixed_of n =
-    if n == 2 then Number16 ∷ []
-    else if n == 4 then Ipv4 ∷ []
-    else if n == 6 then Number16 ∷ Number16 ∷ Number16 ∷ []
-    else if n == 16 then Ipv6 ∷ []
-    else if n == 20 then Number32 ∷ Number32 ∷ Number32 ∷ Number32 ∷ Number32 ∷ []
-    else []
-
-abbrev pub octets_of_text : Fixed → List ℕ → Option (List ℕ)
-octets_of_text Number16 text = option_map (to_be_bytes w16) (number_of_text (2 ^ 16) text)
-octets_of_text Number32 text = option_map (to_be_bytes w32) (number_of_text (2 ^ 32) text)
+-- A number or an address.
+abbrev pub octets_of_text : Value → List ℕ → Option (List ℕ)
+octets_of_text U16 text = option_map (to_be_bytes w16) (number_of_text (2 ^ 16) text)
+octets_of_text U32 text = option_map (to_be_bytes w32) (number_of_text (2 ^ 32) text)
 octets_of_text Ipv4 text = ipv4_of_text text
 octets_of_text Ipv6 text = ipv6_of_text text
 
@@ -41,16 +26,16 @@ IsNameWord origin (Bare text) name = name_of_text origin text ≡ Ok name
 IsNameWord origin (Quoted text) name = ⊥
 
 -- The words are the octets, one each.
-abbrev pub AreFixed : List Fixed → List Word → List ℕ → Type 0
-AreFixed [] words octets = (words ≡ []) × (octets ≡ [])
-AreFixed (f ∷ fs) words octets =
+abbrev pub AreValues : List Value → List Word → List ℕ → Type 0
+AreValues [] words octets = (words ≡ []) × (octets ≡ [])
+AreValues (f ∷ fs) words octets =
     (word : Word) × (more : List Word) × (front rest : List ℕ) × (words ≡ word ∷ more) × (octets ≡ front ++ rest)
-    × (octets_of_text f (text_of word) ≡ Some front) × AreFixed fs more rest
+    × (octets_of_text f (text_of word) ≡ Some front) × AreValues fs more rest
 
 abbrev pub IsFieldText : Labels → Field → List Word → List ℕ → Type 0
-IsFieldText origin (Octets n) words octets = AreFixed (fixed_of n) words octets
+IsFieldText origin (Values vs) words octets = AreValues vs words octets
 IsFieldText origin Name words octets = (word : Word) × (name : Labels) × (words ≡ word ∷ []) × IsNameWord origin word name × (octets ≡ wire name)
-IsFieldText origin Target words octets = (word : Word) × (name : Labels) × (words ≡ word ∷ []) × IsNameWord origin word name × (octets ≡ wire name)
+IsFieldText origin UncompressedName words octets = (word : Word) × (name : Labels) × (words ≡ word ∷ []) × IsNameWord origin word name × (octets ≡ wire name)
 IsFieldText origin Strings words octets =
     (strings : List (List ℕ)) × (words ≢ []) × (each_of (λ w. string_of_text (text_of w)) words ≡ Some strings)
     × (octets ≡ flat_map string strings) × (length octets ≤ 4096)

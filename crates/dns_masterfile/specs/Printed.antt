@@ -3,35 +3,29 @@ use Rattle.std.specs.Prelude.{ℕ, Option, None, Some, Bool, true, false, not, �
 use Rattle.std.specs.Net.Text.{ipv4_text}
 use Rattle.dns_names.specs.Name.{labels_of, wire}
 use Rattle.dns_names.specs.Text.{printed_name}
-use Rattle.dns_records.specs.Types.{Field, Octets, Name, Target, Strings, form, type_soa}
+use Rattle.dns_records.specs.Types.{Field, Name, UncompressedName, Strings, form, type_soa, Ipv4, Ipv6, U16, U32, Value, Values, octet_count, size_of}
 use Rattle.dns_records.specs.Record.{Record, Data, data_of, number_of}
 use Rattle.dns_records.specs.TextStrings.{strings_of}
 use Rattle.dns_masterfile.specs.Text.{printed_string, printed_ipv6}
-use Rattle.dns_masterfile.specs.Data.{Fixed, Number16, Number32, Ipv4, Ipv6, fixed_of, word_of_type}
+use Rattle.dns_masterfile.specs.Data.{word_of_type}
 use Rattle.dns_masterfile.specs.Opaque.{opaque_words}
 
-abbrev pub size_of : Fixed → ℕ
-size_of Number16 = 2
-size_of Number32 = 4
-size_of Ipv4 = 4
-size_of Ipv6 = 16
-
-abbrev pub printed_as : Fixed → List ℕ → List ℕ
-printed_as Number16 octets = decimal (number_of octets)
-printed_as Number32 octets = decimal (number_of octets)
+abbrev pub printed_as : Value → List ℕ → List ℕ
+printed_as U16 octets = decimal (number_of octets)
+printed_as U32 octets = decimal (number_of octets)
 printed_as Ipv4 octets = ipv4_text octets
 printed_as Ipv6 octets = printed_ipv6 octets
 
-abbrev pub fixed_words : List Fixed → List ℕ → List (List ℕ)
-fixed_words [] octets = []
-fixed_words (f ∷ fs) octets = printed_as f (take (size_of f) octets) ∷ fixed_words fs (drop (size_of f) octets)
+abbrev pub value_words : List Value → List ℕ → List (List ℕ)
+value_words [] octets = []
+value_words (f ∷ fs) octets = printed_as f (take (size_of f) octets) ∷ value_words fs (drop (size_of f) octets)
 
 -- The words of data in plain form.
 abbrev pub data_words : List Field → List ℕ → List (List ℕ)
 data_words [] octets = []
-data_words (Octets n ∷ fs) octets = fixed_words (fixed_of n) (take n octets) ++ data_words fs (drop n octets)
+data_words (Values vs ∷ fs) octets = value_words vs (take (octet_count vs) octets) ++ data_words fs (drop (octet_count vs) octets)
 data_words (Name ∷ fs) octets = let name = labels_of octets in printed_name name ∷ data_words fs (drop (length (wire name)) octets)
-data_words (Target ∷ fs) octets = let name = labels_of octets in printed_name name ∷ data_words fs (drop (length (wire name)) octets)
+data_words (UncompressedName ∷ fs) octets = let name = labels_of octets in printed_name name ∷ data_words fs (drop (length (wire name)) octets)
 data_words (Strings ∷ fs) octets = map printed_string (strings_of octets)
 
 -- The words of the data of a type: of the parts of its form, or of its octets where it has none.

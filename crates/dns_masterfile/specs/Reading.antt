@@ -5,7 +5,7 @@ use Rattle.hex.specs.Hex.{decode_of, is_hex_digit}
 use Rattle.hex.specs.declared.error.FromHexError.{FromHexError}
 use Rattle.dns_names.specs.Name.{Labels, wire}
 use Rattle.dns_names.specs.declared.NameError.{NameError}
-use Rattle.dns_records.specs.Types.{Field, Octets, Name, Target, Strings, form}
+use Rattle.dns_records.specs.Types.{Field, Name, UncompressedName, Strings, form, Ipv4, Ipv6, U16, U32, Value, Values}
 use Rattle.dns_records.specs.Record.{Record, string}
 use Rattle.dns_masterfile.specs.declared.FileError.{FileError}
 use Rattle.dns_masterfile.specs.declared.FileError.TheVariants.{Syntax, BadName, BadNumber, BadData, NoTtl, NoOwner, UnknownType, TooLong}
@@ -13,7 +13,7 @@ use Rattle.dns_names.specs.Text.{name_of_text}
 use Rattle.dns_masterfile.specs.Text.{number_of_text, string_of_text, is_decimal}
 use Rattle.dns_masterfile.specs.Pieces.{Word, Bare, Quoted, text_of, pieces_of}
 use Rattle.dns_masterfile.specs.Entries.{Entry, entries_of}
-use Rattle.dns_masterfile.specs.Data.{Fixed, Number16, Number32, Ipv4, Ipv6, fixed_of, octets_of_text, is_keyword, type_of_word}
+use Rattle.dns_masterfile.specs.Data.{octets_of_text, is_keyword, type_of_word}
 use Rattle.dns_masterfile.specs.Opaque.{is_opaque_mark}
 use Rattle.dns_masterfile.specs.Meaning.{Context, at_start, Said, Nothing, Origin, Default, Item, after, records_in, ttl_in, is_class, begins_with_dollar}
 
@@ -47,18 +47,18 @@ take_name origin words = next_word words >>= λ w. name_in origin w.0 >>= λ nam
 abbrev pub take_number : List Word → Taken ℕ
 take_number words = next_word words >>= λ w. ok_or (number_of_text (2 ^ 32) (text_of w.0)) BadNumber >>= λ n. Ok (n, w.1)
 
-abbrev pub fault_of : Fixed → FileError
-fault_of Number16 = BadNumber
-fault_of Number32 = BadNumber
+abbrev pub fault_of : Value → FileError
+fault_of U16 = BadNumber
+fault_of U32 = BadNumber
 fault_of Ipv4 = BadData
 fault_of Ipv6 = BadData
 
-abbrev pub take_fixed : List Fixed → List Word → Taken (List ℕ)
-take_fixed [] words = Ok ([], words)
-take_fixed (f ∷ fs) words = do
+abbrev pub take_values : List Value → List Word → Taken (List ℕ)
+take_values [] words = Ok ([], words)
+take_values (f ∷ fs) words = do
   w ← next_word words
   front ← ok_or (octets_of_text f (text_of w.0)) (fault_of f)
-  rest ← take_fixed fs w.1
+  rest ← take_values fs w.1
   Ok (front ++ rest.0, rest.1)
 
 abbrev pub fits_data : Bool → Outcome Bool
@@ -78,9 +78,9 @@ abbrev pub take_wire : Labels → List Word → Taken (List ℕ)
 take_wire origin words = take_name origin words >>= λ name. Ok (wire name.0, name.1)
 
 abbrev pub take_field : Labels → Field → List Word → Taken (List ℕ)
-take_field origin (Octets n) words = take_fixed (fixed_of n) words
+take_field origin (Values vs) words = take_values vs words
 take_field origin Name words = take_wire origin words
-take_field origin Target words = take_wire origin words
+take_field origin UncompressedName words = take_wire origin words
 take_field origin Strings words = next_word words >>= λ first. take_strings 0 words >>= λ octets. Ok (octets, [])
 
 abbrev pub take_data : Labels → List Field → List Word → Taken (List ℕ)

@@ -1,16 +1,13 @@
 -- What a reader takes from the words of an entry.
-use Rattle.std.specs.Prelude.{◌≡◌, ◌⊎◌, ℕ, ◌+◌, ◌<◌, ◌≤◌, Bool, false, nat_lt, List, [], ◌∷◌, ◌++◌, length, map, Some, None, Ok, Err, ok_or}
-use Rattle.dns_records.specs.Types.{Field, Octets, Name, Target, Strings}
+use Rattle.std.specs.Prelude.{◌≡◌, ◌⊎◌, ℕ, ◌+◌, ◌<◌, ◌≤◌, Bool, false, nat_lt, List, [], ◌∷◌, ◌++◌, length, Some, None, Ok, Err, ok_or}
+use Rattle.dns_records.specs.Types.{Field, Name, UncompressedName, Strings, Value, Values, octet_count, size_of}
 use Rattle.dns_records.specs.Record.{IsField, string}
 use Rattle.dns_masterfile.specs.declared.FileError.{FileError}
 use Rattle.dns_masterfile.specs.declared.FileError.TheVariants.{OutOfMemory, BadData}
-use Rattle.dns_masterfile.specs.declared.rdata.Fixed.{Fixed as Part}
-use Rattle.dns_masterfile.specs.declared.rdata.Fixed.TheVariants as part
 use Rattle.dns_masterfile.specs.Pieces.{Word}
 use Rattle.dns_masterfile.specs.Text.{string_of_text}
-use Rattle.dns_masterfile.specs.Data.{Fixed, Number16, Number32, Ipv4, Ipv6, fixed_of, octets_of_text}
+use Rattle.dns_masterfile.specs.Data.{octets_of_text}
 use Rattle.dns_masterfile.specs.Meaning.{is_class}
-use Rattle.dns_masterfile.specs.Printed.{size_of}
 use Rattle.dns_masterfile.specs.Reading.{Outcome, Taken, ◌>>=◌, fault_of, fits_data, next_word, take_strings}
 use Rattle.dns_masterfile.specs.Left.{Left}
 
@@ -34,30 +31,16 @@ abbrev pub starts_with_class : List Word → Bool
 starts_with_class [] = false
 starts_with_class (w ∷ rest) = is_class w
 
-abbrev pub stated_fixed : Part → Fixed
-stated_fixed part.Number16 = Number16
-stated_fixed part.Number32 = Number32
-stated_fixed part.Ipv4 = Ipv4
-stated_fixed part.Ipv6 = Ipv6
-
-abbrev pub stated_fixeds : List Part → List Fixed
-stated_fixeds parts = map stated_fixed parts
-
--- How many octets they are.
-abbrev pub size_of_all : List Fixed → ℕ
-size_of_all [] = 0
-size_of_all (f ∷ fs) = size_of f + size_of_all fs
-
 -- The octets are so many.
-abbrev pub IsSized : List Fixed → List ℕ → Type 0
-IsSized fs octets = length octets ≡ size_of_all fs
+abbrev pub IsSized : List Value → List ℕ → Type 0
+IsSized fs octets = length octets ≡ octet_count fs
 
 -- The text is a number or an address, whose octets stand behind those before.
-abbrev pub PutsFixed : Fixed → List ℕ → List ℕ → List ℕ → Type 0
-PutsFixed f text before after = (octets : List ℕ) × (octets_of_text f text ≡ Some octets) × (after ≡ before ++ octets) × (length octets ≡ size_of f)
+abbrev pub PutsValue : Value → List ℕ → List ℕ → List ℕ → Type 0
+PutsValue f text before after = (octets : List ℕ) × (octets_of_text f text ≡ Some octets) × (after ≡ before ++ octets) × (length octets ≡ size_of f)
 
-abbrev pub RefusesFixed : Fixed → List ℕ → FileError → Type 0
-RefusesFixed f text e = (e ≡ OutOfMemory) ⊎ ((octets_of_text f text ≡ None) × (e ≡ fault_of f))
+abbrev pub RefusesValue : Value → List ℕ → FileError → Type 0
+RefusesValue f text e = (e ≡ OutOfMemory) ⊎ ((octets_of_text f text ≡ None) × (e ≡ fault_of f))
 
 -- The octets of a string behind so many octets of strings.
 abbrev pub string_at : ℕ → List ℕ → Outcome (List ℕ)
@@ -81,9 +64,9 @@ abbrev pub FitStrings : List ℕ → Type 0
 FitStrings octets = IsField Strings octets × (length octets ≤ 4096)
 
 abbrev pub FitField : Field → List ℕ → Type 0
-FitField (Octets n) octets = IsSized (fixed_of n) octets
+FitField (Values vs) octets = IsSized vs octets
 FitField Name octets = FitName octets
-FitField Target octets = FitName octets
+FitField UncompressedName octets = FitName octets
 FitField Strings octets = FitStrings octets
 
 abbrev pub FitFields : List Field → List ℕ → Type 0

@@ -1,11 +1,11 @@
 //! Data in the words of an entry.
 ghost use Rattle.std.specs.Prelude.{◌≡◌, ◌≤◌, Some, true, MatchResult};
 ghost use Rattle.dns_policy.specs.Address.{ipv4_of_text, ipv6_of_text};
-ghost use Rattle.dns_records.specs.Fields.{stated_field, stated_fields};
-ghost use Rattle.dns_records.specs.Types.{form as form_of, is_data_type};
-ghost use Rattle.dns_masterfile.specs.Data.{Number16, Number32, fixed_of, octets_of_text};
-ghost use Rattle.dns_masterfile.specs.Reading.{take_data, take_field, take_fixed, take_rdata, take_wire};
-ghost use Rattle.dns_masterfile.specs.Taking.{FitField, FitFields, FitName, FitStrings, IsSized, Puts, PutsFixed, PutsString, Refuses, RefusesFixed, Takes, stated_fixed, stated_fixeds, string_at, strings_in};
+ghost use Rattle.dns_records.specs.Fields.{stated_field, stated_fields, stated_value, stated_values};
+ghost use Rattle.dns_records.specs.Types.{form as form_of, is_data_type, U16, U32};
+ghost use Rattle.dns_masterfile.specs.Data.{octets_of_text};
+ghost use Rattle.dns_masterfile.specs.Reading.{take_data, take_field, take_values, take_rdata, take_wire};
+ghost use Rattle.dns_masterfile.specs.Taking.{FitField, FitFields, FitName, FitStrings, IsSized, Puts, PutsValue, PutsString, Refuses, RefusesValue, Takes, string_at, strings_in};
 
 use crate::FileError;
 use crate::scanner::Scanner;
@@ -13,55 +13,26 @@ use crate::values::{Octets, number, small_number, string};
 use dns_memory::Heap;
 use dns_names::Name;
 use dns_policy::address;
-use dns_records::{Field, RData, RecordError, form};
+use dns_records::{Field, RData, RecordError, Value, form};
 use smallvec::SmallVec;
 use std::net::IpAddr;
 
-/// How octets of data are written.
-#[derive(Clone, Copy, Drop)]
-pub(crate) enum Fixed {
-    Number16,
-    Number32,
-    Ipv4,
-    Ipv6,
-}
-
-/// How so many octets of data are written.
-fn fixed_of(size: usize) -> &'static [Fixed]
-    ensures { stated_fixeds result.now ≡ fixed_of size }
-{
-    match size {
-        2 => &[Fixed::Number16],
-        4 => &[Fixed::Ipv4],
-        6 => &[Fixed::Number16, Fixed::Number16, Fixed::Number16],
-        16 => &[Fixed::Ipv6],
-        20 => &[
-            Fixed::Number32,
-            Fixed::Number32,
-            Fixed::Number32,
-            Fixed::Number32,
-            Fixed::Number32,
-        ],
-        _ => &[],
-    }
-}
-
 /// The octets of a number of 16 bits.
 fn number16(text: &[u8]) -> Option<[u8; 2]>
-    ensures { result ≡ octets_of_text Number16 text.now }
+    ensures { result ≡ octets_of_text U16 text.now }
 {
     match small_number(text) {
-        Some(value) => Some(value.to_be_bytes()),
+        Some(found) => Some(found.to_be_bytes()),
         None => None,
     }
 }
 
 /// The octets of a number of 32 bits.
 fn number32(text: &[u8]) -> Option<[u8; 4]>
-    ensures { result ≡ octets_of_text Number32 text.now }
+    ensures { result ≡ octets_of_text U32 text.now }
 {
     match number(text) {
-        Some(value) => Some(value.to_be_bytes()),
+        Some(found) => Some(found.to_be_bytes()),
         None => None,
     }
 }
@@ -89,23 +60,23 @@ fn ipv6(text: &[u8]) -> Option<[u8; 16]>
 }
 
 /// Puts the octets of a number or an address behind those before.
-fn put_fixed(fixed: Fixed, text: &[u8], octets: &mut Octets) -> Result<(), FileError>
-    ensures { MatchResult result (λ _. PutsFixed (stated_fixed fixed) text.now octets.old.items octets.new.items) (RefusesFixed (stated_fixed fixed) text.now) }
+fn put_value(value: Value, text: &[u8], octets: &mut Octets) -> Result<(), FileError>
+    ensures { MatchResult result (λ _. PutsValue (stated_value value) text.now octets.old.items octets.new.items) (RefusesValue (stated_value value) text.now) }
 {
-    match fixed {
-        Fixed::Number16 => match number16(text) {
+    match value {
+        Value::U16 => match number16(text) {
             Some(front) => Ok(octets.extend_from_slice(&front)?),
             None => Err(FileError::BadNumber),
         },
-        Fixed::Number32 => match number32(text) {
+        Value::U32 => match number32(text) {
             Some(front) => Ok(octets.extend_from_slice(&front)?),
             None => Err(FileError::BadNumber),
         },
-        Fixed::Ipv4 => match ipv4(text) {
+        Value::Ipv4 => match ipv4(text) {
             Some(front) => Ok(octets.extend_from_slice(&front)?),
             None => Err(FileError::BadData),
         },
-        Fixed::Ipv6 => match ipv6(text) {
+        Value::Ipv6 => match ipv6(text) {
             Some(front) => Ok(octets.extend_from_slice(&front)?),
             None => Err(FileError::BadData),
         },
@@ -133,13 +104,13 @@ fn put_string(
 }
 
 impl<'a> Scanner<'a> {
-    /// Takes numbers and addresses that are so many octets.
-    fn take_fixed(&mut self, size: usize, octets: &mut Octets) -> Result<(), FileError>
-        ensures { MatchResult result (λ _. Puts (take_fixed (fixed_of size)) (IsSized (fixed_of size)) self.old self.new octets.old.items octets.new.items) (Refuses (take_fixed (fixed_of size) self.old.words)) }
+    /// Takes numbers and addresses.
+    fn take_values(&mut self, values: &[Value], octets: &mut Octets) -> Result<(), FileError>
+        ensures { MatchResult result (λ _. Puts (take_values (stated_values values.now)) (IsSized (stated_values values.now)) self.old self.new octets.old.items octets.new.items) (Refuses (take_values (stated_values values.now) self.old.words)) }
     {
-        'parts: for fixed in fixed_of(size) {
+        'parts: for value in values {
             let word = self.take_word()?;
-            put_fixed(*fixed, word.text(), octets)?;
+            put_value(*value, word.text(), octets)?;
         }
         Ok(())
     }
@@ -183,9 +154,9 @@ impl<'a> Scanner<'a> {
         ensures { MatchResult result (λ _. Puts (take_field origin.now (stated_field field)) (FitField (stated_field field)) self.old self.new octets.old.items octets.new.items) (Refuses (take_field origin.now (stated_field field) self.old.words)) }
     {
         match field {
-            Field::Octets(size) => self.take_fixed(size, octets),
+            Field::Values(values) => self.take_values(values, octets),
             Field::Name => self.take_wire(alloc, origin, octets),
-            Field::Target => self.take_wire(alloc, origin, octets),
+            Field::UncompressedName => self.take_wire(alloc, origin, octets),
             Field::Strings => self.take_strings(alloc, octets),
         }
     }

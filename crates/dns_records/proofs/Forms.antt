@@ -6,20 +6,20 @@ use Rattle.std.proofs.lemmas.List.{drop_at, length-take-le}
 use Rattle.std.proofs.lemmas.Bool.Decides.{nat_tests}
 use Rattle.dns_names.specs.Name.{Labels, IsName, wire}
 use Rattle.dns_names.specs.PlainLaws.{wire_first}
-use Rattle.dns_records.specs.Types.{Field, Octets, Name, Target, Strings}
+use Rattle.dns_records.specs.Types.{Field, Value, Values, octet_count, Name, UncompressedName, Strings}
 use Rattle.dns_records.specs.Record.{string, IsField, AreFields}
 use Rattle.dns_records.specs.Fields.{StringsLast, stated_field, stated_fields}
 use Rattle.dns_records.specs.declared.parts.Field.{Field as Part}
 
 -- so many octets, and the other parts
-pub octets_first : (n : ℕ) (fields : List Field) (o : List ℕ) → n ≤ length o → AreFields fields (drop n o) ↔ AreFields (Octets n ∷ fields) o
-octets_first n fields o long = (
-  λ h. (take n o, drop n o, sym (take-append-drop n o), length-take-le n o long, h),
-  λ h. (let at : drop n o ≡ h.1 = ap (drop n) h.2 ∙ drop_at h.0 h.1 n h.3 in subst (AreFields fields) (sym at) h.4),
+pub octets_first : (vs : List Value) (n : ℕ) (fields : List Field) (o : List ℕ) → octet_count vs ≡ n → n ≤ length o → AreFields fields (drop n o) ↔ AreFields (Values vs ∷ fields) o
+octets_first vs n fields o count long = (
+  λ h. (take n o, drop n o, sym (take-append-drop n o), length-take-le n o long ∙ sym count, h),
+  λ h. (let at : drop n o ≡ h.1 = ap (drop n) h.2 ∙ drop_at h.0 h.1 n (h.3 ∙ count) in subst (AreFields fields) (sym at) h.4),
 )
 
-pub octets_none : (n : ℕ) (fields : List Field) (o : List ℕ) → length o < n → AreFields (Octets n ∷ fields) o → ⊥
-octets_none n fields o short h = (let size = ap length h.2 ∙ length-append h.0 h.1 in let front : length h.0 ≡ n = h.3 in omega (arith, size))
+pub octets_none : (vs : List Value) (fields : List Field) (o : List ℕ) → length o < octet_count vs → AreFields (Values vs ∷ fields) o → ⊥
+octets_none vs fields o short h = (let size = ap length h.2 ∙ length-append h.0 h.1 in let front : length h.0 ≡ octet_count vs = h.3 in omega (arith, size))
 
 -- a name, and the other parts
 name_behind : (fields : List Field) (o : List ℕ) (name : Labels) (rest : List ℕ) → IsName name → o ≡ wire name ++ rest → (h : (front back : List ℕ) × (o ≡ front ++ back) × ((other : Labels) × IsName other × (front ≡ wire other)) × AreFields fields back) → AreFields fields rest
@@ -32,7 +32,7 @@ name_behind fields o name rest valid e h =
 pub name_first : (fields : List Field) (o : List ℕ) (name : Labels) (rest : List ℕ) → IsName name → o ≡ wire name ++ rest → AreFields fields rest ↔ AreFields (Name ∷ fields) o
 name_first fields o name rest valid e = (λ h. (wire name, rest, e, (name, valid, refl), h), name_behind fields o name rest valid e)
 
-pub target_first : (fields : List Field) (o : List ℕ) (name : Labels) (rest : List ℕ) → IsName name → o ≡ wire name ++ rest → AreFields fields rest ↔ AreFields (Target ∷ fields) o
+pub target_first : (fields : List Field) (o : List ℕ) (name : Labels) (rest : List ℕ) → IsName name → o ≡ wire name ++ rest → AreFields fields rest ↔ AreFields (UncompressedName ∷ fields) o
 target_first fields o name rest valid e = (λ h. (wire name, rest, e, (name, valid, refl), h), name_behind fields o name rest valid e)
 
 -- no name, and so not the parts
@@ -42,7 +42,7 @@ name_lacks o fields none h = none h.3.0 h.1 h.3.1 (h.2 ∙ ap (λ (x : List ℕ)
 pub name_none : (fields : List Field) (o : List ℕ) → ((name : Labels) (rest : List ℕ) → IsName name → o ≡ wire name ++ rest → ⊥) → AreFields (Name ∷ fields) o → ⊥
 name_none fields o none h = name_lacks o fields none h
 
-pub target_none : (fields : List Field) (o : List ℕ) → ((name : Labels) (rest : List ℕ) → IsName name → o ≡ wire name ++ rest → ⊥) → AreFields (Target ∷ fields) o → ⊥
+pub target_none : (fields : List Field) (o : List ℕ) → ((name : Labels) (rest : List ℕ) → IsName name → o ≡ wire name ++ rest → ⊥) → AreFields (UncompressedName ∷ fields) o → ⊥
 target_none fields o none h = name_lacks o fields none h
 
 -- strings alone

@@ -6,7 +6,7 @@ use Rattle.std.specs.List.{AllByRecursion}
 use Rattle.dns_names.specs.PlainOctets.{octets-append}
 use Rattle.dns_names.specs.Name.{Labels, IsName, wire, labels_of}
 use Rattle.dns_names.specs.Plain.{IsPlain}
-use Rattle.dns_records.specs.Types.{Field, Octets, Name, Target, form}
+use Rattle.dns_records.specs.Types.{Field, Value, Values, U16, U32, Ipv4, Ipv6, octet_count, Name, UncompressedName, form}
 use Rattle.dns_records.specs.Record.{Data, IsData, AreFields, IsRData}
 use Rattle.dns_records.specs.Typed.{mx_data, srv_data, soa_with, FitsMx, FitsSrv}
 use Rattle.dns_records.specs.declared.typed.Soa.{Soa}
@@ -26,14 +26,14 @@ parts_of d t fields valid h f =
     rw f at there
 
 -- an address
-pub whole_address : (t n : ℕ) (d : Data) (o front : List ℕ) → form t ≡ Some (Octets n ∷ []) → IsData d → d.rtype ≡ t → o ≡ d.octets → front ≡ take n o → d ≡ of t front
-whole_address t n d o front f valid h e cut =
-    let size : length o ≡ n = ap length e ∙ address_whole n d.octets (parts_of d t (Octets n ∷ []) valid h f) in
-    data_is d t front h (sym e ∙ sym (take_all n o (omega (arith, size))) ∙ sym cut)
+pub whole_address : (t : ℕ) (vs : List Value) (d : Data) (o front : List ℕ) → form t ≡ Some (Values vs ∷ []) → IsData d → d.rtype ≡ t → o ≡ d.octets → front ≡ take (octet_count vs) o → d ≡ of t front
+whole_address t vs d o front f valid h e cut =
+    let size : length o ≡ octet_count vs = ap length e ∙ address_whole vs d.octets (parts_of d t (Values vs ∷ []) valid h f) in
+    data_is d t front h (sym e ∙ sym (take_all (octet_count vs) o (omega (arith, size))) ∙ sym cut)
 
 -- an MX
 pub mx_behind : (d : Data) (n : ℕ) (behind : List ℕ) → IsData d → d.rtype ≡ 15 → d.octets ≡ to_be_bytes w16 n ++ behind → IsPlain behind
-mx_behind d n behind valid h e = name_alone behind (behind_octets 2 (Name ∷ []) d.octets (to_be_bytes w16 n) behind (parts_of d 15 (Octets 2 ∷ Name ∷ []) valid h refl) e refl)
+mx_behind d n behind valid h e = name_alone behind (behind_octets (U16 ∷ []) (Name ∷ []) d.octets (to_be_bytes w16 n) behind (parts_of d 15 (Values (U16 ∷ []) ∷ Name ∷ []) valid h refl) e refl)
 
 pub mx_whole : (d : Data) (n : ℕ) (behind : List ℕ) (name : Labels) → IsPlain behind → d.rtype ≡ 15 → d.octets ≡ to_be_bytes w16 n ++ behind → name ≡ labels_of behind → n < 2 ^ 16 → (d ≡ mx_data (record { preference = n; exchange = name })) × FitsMx (record { preference = n; exchange = name })
 mx_whole d n behind name plain h e same fits = (
@@ -48,7 +48,7 @@ srv_octets o p w q a b c x y z =
 
 pub srv_behind : (d : Data) (p w q : ℕ) (behind : List ℕ) → IsData d → d.rtype ≡ 33 → d.octets ≡ (to_be_bytes w16 p ++ to_be_bytes w16 w ++ to_be_bytes w16 q) ++ behind → IsPlain behind
 srv_behind d p w q behind valid h e =
-    target_alone behind (behind_octets 6 (Target ∷ []) d.octets (to_be_bytes w16 p ++ to_be_bytes w16 w ++ to_be_bytes w16 q) behind (parts_of d 33 (Octets 6 ∷ Target ∷ []) valid h refl) e refl)
+    target_alone behind (behind_octets (U16 ∷ U16 ∷ U16 ∷ []) (UncompressedName ∷ []) d.octets (to_be_bytes w16 p ++ to_be_bytes w16 w ++ to_be_bytes w16 q) behind (parts_of d 33 (Values (U16 ∷ U16 ∷ U16 ∷ []) ∷ UncompressedName ∷ []) valid h refl) e refl)
 
 pub srv_whole : (d : Data) (p w q : ℕ) (behind : List ℕ) (name : Labels) → IsPlain behind → d.rtype ≡ 33 → d.octets ≡ (to_be_bytes w16 p ++ to_be_bytes w16 w ++ to_be_bytes w16 q) ++ behind → name ≡ labels_of behind → p < 2 ^ 16 → w < 2 ^ 16 → q < 2 ^ 16 → (d ≡ srv_data (record { priority = p; weight = w; port = q; target = name })) × FitsSrv (record { priority = p; weight = w; port = q; target = name })
 srv_whole d p w q behind name plain h e same x y z = (
@@ -57,15 +57,15 @@ srv_whole d p w q behind name plain h e same x y z = (
 )
 
 -- a SOA
-pub soa_behind : (d : Data) (name : Labels) (behind : List ℕ) → IsData d → d.rtype ≡ 6 → IsName name → d.octets ≡ wire name ++ behind → AreFields (Name ∷ Octets 20 ∷ []) behind
-soa_behind d name behind valid h named e = (name_first (Name ∷ Octets 20 ∷ []) d.octets name behind named e).1 (parts_of d 6 (Name ∷ Name ∷ Octets 20 ∷ []) valid h refl)
+pub soa_behind : (d : Data) (name : Labels) (behind : List ℕ) → IsData d → d.rtype ≡ 6 → IsName name → d.octets ≡ wire name ++ behind → AreFields (Name ∷ Values (U32 ∷ U32 ∷ U32 ∷ U32 ∷ U32 ∷ []) ∷ []) behind
+soa_behind d name behind valid h named e = (name_first (Name ∷ Values (U32 ∷ U32 ∷ U32 ∷ U32 ∷ U32 ∷ []) ∷ []) d.octets name behind named e).1 (parts_of d 6 (Name ∷ Name ∷ Values (U32 ∷ U32 ∷ U32 ∷ U32 ∷ U32 ∷ []) ∷ []) valid h refl)
 
 pub soa_second : (d : Data) (name : Labels) (behind : List ℕ) → IsData d → d.rtype ≡ 6 → IsName name → d.octets ≡ wire name ++ behind → ((other : Labels) (rest : List ℕ) → IsName other → behind ≡ wire other ++ rest → ⊥) → ⊥
-soa_second d name behind valid h named e none = name_none (Octets 20 ∷ []) behind none (soa_behind d name behind valid h named e)
+soa_second d name behind valid h named e none = name_none (Values (U32 ∷ U32 ∷ U32 ∷ U32 ∷ U32 ∷ []) ∷ []) behind none (soa_behind d name behind valid h named e)
 
 pub soa_twenty : (d : Data) (name other : Labels) (behind numbers : List ℕ) → IsData d → d.rtype ≡ 6 → IsName name → d.octets ≡ wire name ++ behind → IsName other → behind ≡ wire other ++ numbers → length numbers ≡ 20
 soa_twenty d name other behind numbers valid h named e second f =
-    address_whole 20 numbers ((name_first (Octets 20 ∷ []) behind other numbers second f).1 (soa_behind d name behind valid h named e))
+    address_whole (U32 ∷ U32 ∷ U32 ∷ U32 ∷ U32 ∷ []) numbers ((name_first (Values (U32 ∷ U32 ∷ U32 ∷ U32 ∷ U32 ∷ []) ∷ []) behind other numbers second f).1 (soa_behind d name behind valid h named e))
 
 pub soa_whole : (d : Data) (soa : Soa) (behind numbers five : List ℕ) → d.rtype ≡ 6 → d.octets ≡ wire soa.mname ++ behind → behind ≡ wire soa.rname ++ numbers → numbers ≡ five → d ≡ of 6 (wire soa.mname ++ wire soa.rname ++ five)
 soa_whole d soa behind numbers five h e f g =
@@ -91,7 +91,7 @@ behind_fits (suc n) (x ∷ xs) h = behind_fits n xs h.1
 -- names and numbers of a SOA with another serial
 pub soa_with-valid : (d : Data) (serial : ℕ) → IsData d → d.rtype ≡ 6 → IsData (soa_with d serial)
 soa_with-valid d serial valid h =
-    let p = parts_of d 6 (Name ∷ Name ∷ Octets 20 ∷ []) valid h refl in
+    let p = parts_of d 6 (Name ∷ Name ∷ Values (U32 ∷ U32 ∷ U32 ∷ U32 ∷ U32 ∷ []) ∷ []) valid h refl in
     let mname = p.0 in
     let rname = p.4.0 in
     let numbers = p.4.4.0 in
@@ -113,7 +113,7 @@ soa_with-valid d serial valid h =
         let made : (soa_with d serial).octets ≡ mname ++ (rname ++ five) =
         ap (λ (x : List ℕ). x ++ number ++ drop (length d.octets - 20 + 4) d.octets) front ∙ ap (λ (x : List ℕ). names ++ number ++ x) back ∙ append_assoc names number rest ∙ append_assoc mname rname five in
         let long : length five ≡ 20 = omega (arith, length-drop 4 numbers) in
-        let parts : AreFields (Name ∷ Name ∷ Octets 20 ∷ []) (mname ++ (rname ++ five)) = (mname, rname ++ five, refl, m, (rname, five, refl, r, (five, [], sym (append-nil five), long, refl))) in
+        let parts : AreFields (Name ∷ Name ∷ Values (U32 ∷ U32 ∷ U32 ∷ U32 ∷ U32 ∷ []) ∷ []) (mname ++ (rname ++ five)) = (mname, rname ++ five, refl, m, (rname, five, refl, r, (five, [], sym (append-nil five), long, refl))) in
         let old : Octal ((mname ++ rname) ++ numbers) = subst Octal whole valid.octets in
         let fit : Octal (mname ++ (rname ++ five)) =
         octets-append mname (rname ++ five) (front_fits mname rname (front_fits names numbers old)) (octets-append rname five (back_fits mname rname (front_fits names numbers old)) (octets-append number rest (number_octets w32 serial) (behind_fits 4 numbers (back_fits names numbers old)))) in
@@ -127,10 +127,10 @@ last_four o = take_all 4 (drop (length o - 4) o) (omega (arith, length-drop (len
 
 -- the hosts of a record
 pub mx_host : (d : Data) → IsData d → d.rtype ≡ 15 → IsPlain (drop 2 d.octets)
-mx_host d valid h = (let p = parts_of d 15 (Octets 2 ∷ Name ∷ []) valid h refl in let cut : drop 2 d.octets ≡ p.1 = ap (drop 2) p.2 ∙ drop_at p.0 p.1 2 p.3 in subst IsPlain (sym cut) (name_alone p.1 p.4))
+mx_host d valid h = (let p = parts_of d 15 (Values (U16 ∷ []) ∷ Name ∷ []) valid h refl in let cut : drop 2 d.octets ≡ p.1 = ap (drop 2) p.2 ∙ drop_at p.0 p.1 2 p.3 in subst IsPlain (sym cut) (name_alone p.1 p.4))
 
 pub srv_host : (d : Data) → IsData d → d.rtype ≡ 33 → IsPlain (drop 6 d.octets)
-srv_host d valid h = (let p = parts_of d 33 (Octets 6 ∷ Target ∷ []) valid h refl in let cut : drop 6 d.octets ≡ p.1 = ap (drop 6) p.2 ∙ drop_at p.0 p.1 6 p.3 in subst IsPlain (sym cut) (target_alone p.1 p.4))
+srv_host d valid h = (let p = parts_of d 33 (Values (U16 ∷ U16 ∷ U16 ∷ []) ∷ UncompressedName ∷ []) valid h refl in let cut : drop 6 d.octets ≡ p.1 = ap (drop 6) p.2 ∙ drop_at p.0 p.1 6 p.3 in subst IsPlain (sym cut) (target_alone p.1 p.4))
 
 pub ns_host : (d : Data) → IsData d → d.rtype ≡ 2 → IsPlain d.octets
 ns_host d valid h = name_alone d.octets (parts_of d 2 (Name ∷ []) valid h refl)

@@ -9,7 +9,7 @@ use Rattle.dns_names.specs.Lower.{AreOctets}
 use Rattle.dns_names.specs.Plain.{IsPlain}
 use Rattle.dns_names.specs.PlainLaws.{plain_of, parts_same}
 use Rattle.dns_names.specs.PlainOctets.{octets-append, wire_octets}
-use Rattle.dns_records.specs.Types.{Field, Octets, Name, Target, form, is_known, is_data_type, type_a, type_ns, type_cname, type_soa, type_ptr, type_mx, type_txt, type_aaaa, type_srv}
+use Rattle.dns_records.specs.Types.{Field, Value, Values, U16, U32, Ipv4, Ipv6, octet_count, size_of, Name, UncompressedName, form, is_known, is_data_type, type_a, type_ns, type_cname, type_soa, type_ptr, type_mx, type_txt, type_aaaa, type_srv}
 use Rattle.dns_records.specs.Fields.{StringsLast}
 use Rattle.dns_records.specs.Record.{Data, IsData, AreFields}
 use Rattle.dns_records.specs.Typed.{name_data, is_name_type, soa_data, soa_numbers, mx_data, srv_data, srv_numbers}
@@ -60,7 +60,7 @@ name_alone o parts =
     let whole : o ≡ wire name = parts.2 ∙ ap (λ (x : List ℕ). parts.0 ++ x) none ∙ append-nil parts.0 ∙ front in
     (plain_of o name parts.3.1 whole).1
 
-pub target_alone : (o : List ℕ) → AreFields (Target ∷ []) o → IsPlain o
+pub target_alone : (o : List ℕ) → AreFields (UncompressedName ∷ []) o → IsPlain o
 target_alone o parts = name_alone o (parts.0, parts.1, parts.2, parts.3, parts.4)
 
 -- the data of such a type is a name
@@ -71,9 +71,9 @@ name_data-plain d valid h =
     name_alone d.octets parts
 
 -- octets before the other parts
-pub behind_octets : (n : ℕ) (fields : List Field) (o front behind : List ℕ) → AreFields (Octets n ∷ fields) o → o ≡ front ++ behind → length front ≡ n → AreFields fields behind
-behind_octets n fields o front behind parts e size =
-    let first : length parts.0 ≡ n = parts.3 in
+pub behind_octets : (vs : List Value) (fields : List Field) (o front behind : List ℕ) → AreFields (Values vs ∷ fields) o → o ≡ front ++ behind → length front ≡ octet_count vs → AreFields fields behind
+behind_octets vs fields o front behind parts e size =
+    let first : length parts.0 ≡ octet_count vs = parts.3 in
     let both = parts_same parts.0 front parts.1 behind (sym parts.2 ∙ e) (first ∙ sym size) in
     subst (AreFields fields) both.1 parts.4
 
@@ -96,8 +96,8 @@ soa_data-valid soa m r =
     let numbers = soa_numbers soa in
     let first_short : length first ≤ 255 = m.short in
     let second_short : length second ≤ 255 = r.short in
-    let last : AreFields (Octets 20 ∷ []) numbers = (numbers, [], sym (append-nil numbers), refl, refl) in
-    let parts : AreFields (Name ∷ Name ∷ Octets 20 ∷ []) (first ++ second ++ numbers) =
+    let last : AreFields (Values (U32 ∷ U32 ∷ U32 ∷ U32 ∷ U32 ∷ []) ∷ []) numbers = (numbers, [], sym (append-nil numbers), refl, refl) in
+    let parts : AreFields (Name ∷ Name ∷ Values (U32 ∷ U32 ∷ U32 ∷ U32 ∷ U32 ∷ []) ∷ []) (first ++ second ++ numbers) =
     (first, second ++ numbers, append_assoc first second numbers, (soa.mname, m, refl), (second, numbers, refl, (soa.rname, r, refl), last)) in
     let number = number_octets w32 in
     let fit : AllByRecursion (λ octet. octet < 256) numbers =
@@ -118,7 +118,7 @@ mx_data-valid mx valid =
     let name = wire mx.exchange in
     let name_short : length name ≤ 255 = valid.short in
     let last : AreFields (Name ∷ []) name = (name, [], sym (append-nil name), (mx.exchange, valid, refl), refl) in
-    let parts : AreFields (Octets 2 ∷ Name ∷ []) (number ++ name) = (number, name, refl, refl, last) in
+    let parts : AreFields (Values (U16 ∷ []) ∷ Name ∷ []) (number ++ name) = (number, name, refl, refl, last) in
     record {
       rtype = refl;
       octets = octets-append number name (number_octets w16 mx.preference) (wire_octets mx.exchange valid.labels);
@@ -131,8 +131,8 @@ srv_data-valid srv valid =
     let numbers = srv_numbers srv in
     let name = wire srv.target in
     let name_short : length name ≤ 255 = valid.short in
-    let last : AreFields (Target ∷ []) name = (name, [], sym (append-nil name), (srv.target, valid, refl), refl) in
-    let parts : AreFields (Octets 6 ∷ Target ∷ []) (numbers ++ name) = (numbers, name, refl, refl, last) in
+    let last : AreFields (UncompressedName ∷ []) name = (name, [], sym (append-nil name), (srv.target, valid, refl), refl) in
+    let parts : AreFields (Values (U16 ∷ U16 ∷ U16 ∷ []) ∷ UncompressedName ∷ []) (numbers ++ name) = (numbers, name, refl, refl, last) in
     let number = number_octets w16 in
     let fit = octets-append (to_be_bytes w16 srv.priority ++ to_be_bytes w16 srv.weight) (to_be_bytes w16 srv.port) (octets-append (to_be_bytes w16 srv.priority) (to_be_bytes w16 srv.weight) (number srv.priority) (number srv.weight)) (number srv.port) in
     record {
@@ -147,14 +147,22 @@ octets_all : (o : List ℕ) → AreOctets o → AllByRecursion (λ octet. octet 
 octets_all [] h = tt
 octets_all (x ∷ o) h = (h 0, octets_all o (λ i. h (suc i)))
 
-pub address-valid : (t : ℕ) (o : List ℕ) → form t ≡ Some (Octets (length o) ∷ []) → AreOctets o → length o ≤ 24 → IsData (record { rtype = t; octets = o })
-address-valid t o f fits size =
-    let parts : AreFields (Octets (length o) ∷ []) o = (o, [], sym (append-nil o), refl, refl) in
-    record { rtype = formed_is_data t (Octets (length o) ∷ []) f; octets = octets_all o fits; short = omega arith; form = rw f parts }
+value_short : (v : Value) (n : ℕ) → n ≡ size_of v → n ≤ 16
+value_short U16 n h = omega (arith, h)
+value_short U32 n h = omega (arith, h)
+value_short Ipv4 n h = omega (arith, h)
+value_short Ipv6 n h = omega (arith, h)
+
+pub address-valid : (t : ℕ) (v : Value) (o : List ℕ) → form t ≡ Some (Values (v ∷ []) ∷ []) → AreOctets o → length o ≡ size_of v → IsData (record { rtype = t; octets = o })
+address-valid t v o f fits size =
+    let whole : length o ≡ octet_count (v ∷ []) = omega (arith, size) in
+    let parts : AreFields (Values (v ∷ []) ∷ []) o = (o, [], sym (append-nil o), whole, refl) in
+    let short : length o ≤ 16 = value_short v (length o) size in
+    record { rtype = formed_is_data t (Values (v ∷ []) ∷ []) f; octets = octets_all o fits; short = omega arith; form = rw f parts }
 
 -- an address is so many octets
-pub address_whole : (n : ℕ) (o : List ℕ) → AreFields (Octets n ∷ []) o → length o ≡ n
-address_whole n o parts =
+pub address_whole : (vs : List Value) (o : List ℕ) → AreFields (Values vs ∷ []) o → length o ≡ octet_count vs
+address_whole vs o parts =
     let none : parts.1 ≡ [] = parts.4 in
     ap length (parts.2 ∙ ap (λ (x : List ℕ). parts.0 ++ x) none ∙ append-nil parts.0) ∙ parts.3
 

@@ -4,7 +4,7 @@ ghost use Rattle.dns_records.specs.Record.{IsField, AreFields};
 ghost use Rattle.dns_records.specs.Types.{Strings};
 ghost use Rattle.dns_records.specs.Fields.{stated_fields, StringsLast};
 
-use crate::Field;
+use crate::{Field, count_within};
 use dns_names::NameRef;
 
 /// Whether the octets are one string or more.
@@ -31,12 +31,15 @@ pub(crate) fn fit(fields: &[Field], octets: &[u8]) -> bool
         return octets.is_empty();
     };
     match field {
-        Field::Octets(n) => *n <= octets.len() && fit(more, &octets[*n..]),
+        Field::Values(values) => match count_within(values, octets.len()) {
+            Some(count) => fit(more, &octets[count..]),
+            None => false,
+        },
         Field::Name => match NameRef::first(octets) {
             Some((_, rest)) => fit(more, rest),
             None => false,
         },
-        Field::Target => match NameRef::first(octets) {
+        Field::UncompressedName => match NameRef::first(octets) {
             Some((_, rest)) => fit(more, rest),
             None => false,
         },

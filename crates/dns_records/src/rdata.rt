@@ -155,7 +155,7 @@ impl RData {
 
 impl RData {
     ghost use Rattle.std.specs.Prelude.{true, length, ◌≤◌, [], ◌∷◌, Some};
-    ghost use Rattle.dns_records.specs.Types.{form, Octets, type_soa};
+    ghost use Rattle.dns_records.specs.Types.{form, size_of, type_soa, Value, Values};
     ghost use Rattle.dns_records.specs.Typed.{soa_with};
 
     /// A SOA with another serial.
@@ -176,7 +176,7 @@ impl RData {
 
     /// Data that is an address, which takes no memory.
     fn of_address(alloc: Heap, rtype: u16, octets: &[u8]) -> RData
-        requires form { form rtype ≡ Some (Octets (length octets.now) ∷ []) }
+        requires form { (v : Value) × (form rtype ≡ Some (Values (v ∷ []) ∷ [])) × (length octets.now ≡ size_of v) }
         requires short { length octets.now ≤ 24 }
         ensures { result ≡ record { rtype = rtype; octets = octets.now } }
     {

@@ -5,7 +5,7 @@ use Rattle.std.specs.List.{AllByRecursion}
 use Rattle.std.proofs.Common.{length-take, length-drop}
 use Rattle.std.proofs.lemmas.Bool.Decides.{nat_tests}
 use Rattle.dns_names.specs.Name.{Labels, under}
-use Rattle.dns_records.specs.Types.{Field, Octets, Name, Target, Strings, form, is_known, is_data_type, type_ns, type_any, class_in}
+use Rattle.dns_records.specs.Types.{Field, Values, octet_count, Name, UncompressedName, Strings, form, is_known, is_data_type, type_ns, type_any, class_in}
 use Rattle.dns_records.specs.Record.{IsField, AreFields, IsRData}
 use Rattle.dns_zone.specs.Order.{number_itself}
 use Rattle.dns_zone.proofs.OneSoa.{past, untrue}
@@ -21,9 +21,9 @@ width : (m : List ℕ) (at stop n : ℕ) → stop ≡ at + n → stop ≤ length
 width m at stop n last inside = simp (length-take, length-drop) (omega (arith, last, inside))
 
 field_formed : (m : List ℕ) (at : ℕ) (f : Field) (plain : List ℕ) (stop : ℕ) → FieldAt m at f plain stop → IsField f plain
-field_formed m at (Octets n) plain stop (last, inside, is) = ap length is ∙ width m at stop n last inside
+field_formed m at (Values vs) plain stop (last, inside, is) = ap length is ∙ width m at stop (octet_count vs) last inside
 field_formed m at Name plain stop (name, stands, is) = (name, stands.valid, is)
-field_formed m at Target plain stop (name, stands, is) = (name, stands.valid, is)
+field_formed m at UncompressedName plain stop (name, stands, is) = (name, stands.valid, is)
 field_formed m at Strings plain stop (inside, is, strings) = strings
 
 fields_formed : (m : List ℕ) (at : ℕ) (fields : List Field) (plain : List ℕ) (stop : ℕ) → FieldsAt m at fields plain stop → AreFields fields plain

@@ -4,7 +4,7 @@ use Rattle.std.specs.Prelude.{nat_lt}
 use Rattle.std.proofs.lemmas.List.{take_at, drop_at, length-drop, length-take}
 use Rattle.std.specs.Int.{w32, to_be_bytes}
 use Rattle.std.specs.List.{AllByRecursion}
-use Rattle.dns_records.specs.Types.{Octets, Name, type_soa}
+use Rattle.dns_records.specs.Types.{Values, U32, Name, type_soa}
 use Rattle.dns_records.specs.Record.{Record, IsData, IsRecord, data_of, number_of, serial_of, with_serial}
 use Rattle.dns_records.proofs.Readings.{parts_of, soa_with-valid}
 use Rattle.dns_wire.proofs.NumbersBack.{four_back}
@@ -54,7 +54,7 @@ data_valid r h = record { rtype = h.rtype; octets = h.octets; short = h.short; f
 -- behind the two names stand five numbers
 pub soa_long : (r : Record) → IsRecord r → r.rtype ≡ type_soa → 20 ≤ length r.rdata
 soa_long r h e =
-    let p = parts_of (data_of r) 6 (Name ∷ Name ∷ Octets 20 ∷ []) (data_valid r h) e refl in
+    let p = parts_of (data_of r) 6 (Name ∷ Name ∷ Values (U32 ∷ U32 ∷ U32 ∷ U32 ∷ U32 ∷ []) ∷ []) (data_valid r h) e refl in
     let size : length p.4.4.0 ≡ 20 = p.4.4.3 in
     omega (arith, ap length p.2, ap length p.4.2, ap length p.4.4.2, length-append p.0 p.1, length-append p.4.0 p.4.1, length-append p.4.4.0 p.4.4.1, size)
 

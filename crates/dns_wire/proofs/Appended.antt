@@ -3,17 +3,17 @@ use Rattle.std.proofs.Common.{◌≡◌, ℕ, ◌+◌, ◌≤◌, List, ◌∷�
 use Rattle.std.specs.Prelude.{slice_range}
 use Rattle.std.proofs.lemmas.List.{append_assoc}
 use Rattle.dns_names.specs.Name.{Labels, wire}
-use Rattle.dns_records.specs.Types.{Field, Octets, Name, Target, Strings}
+use Rattle.dns_records.specs.Types.{Field, Value, Values, octet_count, Name, UncompressedName, Strings}
 use Rattle.dns_wire.specs.NameAt.{FullNameAt}
 use Rattle.dns_wire.specs.Reads.{FieldsAt}
 use Rattle.dns_wire.specs.Fields.{SomeField}
 use Rattle.dns_wire.proofs.NameRead.{name_unique}
 
-pub octets_appended : (m : List ℕ) (at n mid stop : ℕ) (old new : List ℕ) → SomeField m at (Octets n) mid stop → stop ≤ length m → new ≡ old ++ slice_range m at (at + n) → (part : SomeField m at (Octets n) (at + n) stop) × (new ≡ old ++ part.plain)
-octets_appended m at n mid stop old new h inside e =
-    let end : mid ≡ at + n = h.stands.0 in
+pub values_appended : (m : List ℕ) (vs : List Value) (at n mid stop : ℕ) (old new : List ℕ) → n ≡ octet_count vs → SomeField m at (Values vs) mid stop → stop ≤ length m → new ≡ old ++ slice_range m at (at + n) → (part : SomeField m at (Values vs) (at + n) stop) × (new ≡ old ++ part.plain)
+values_appended m vs at n mid stop old new count h inside e =
+    let end : mid ≡ at + octet_count vs = h.stands.0 in
     let low : mid ≤ stop = h.within in
-    (record { plain = slice_range m at (at + n); stands = (refl, omega (arith, end, low, inside), refl); within = omega (arith, end, low) }, e)
+    (record { plain = slice_range m at (at + n); stands = (ap (λ (k : ℕ). at + k) count, omega (arith, count, end, low, inside), refl); within = omega (arith, count, end, low) }, e)
 
 pub name_appended : (m : List ℕ) (at mid stop end : ℕ) (old new : List ℕ) → SomeField m at Name mid stop → (x : Labels) × FullNameAt m at x end × (new ≡ old ++ wire x) → (part : SomeField m at Name end stop) × (new ≡ old ++ part.plain)
 name_appended m at mid stop end old new h (x, full, e) =
@@ -21,7 +21,7 @@ name_appended m at mid stop end old new h (x, full, e) =
     let low : mid ≤ stop = h.within in
     (record { plain = wire x; stands = (x, full, refl); within = omega (arith, same, low) }, e)
 
-pub target_appended : (m : List ℕ) (at mid stop end : ℕ) (old new : List ℕ) → SomeField m at Target mid stop → (x : Labels) × FullNameAt m at x end × (new ≡ old ++ wire x) → (part : SomeField m at Target end stop) × (new ≡ old ++ part.plain)
+pub target_appended : (m : List ℕ) (at mid stop end : ℕ) (old new : List ℕ) → SomeField m at UncompressedName mid stop → (x : Labels) × FullNameAt m at x end × (new ≡ old ++ wire x) → (part : SomeField m at UncompressedName end stop) × (new ≡ old ++ part.plain)
 target_appended m at mid stop end old new h (x, full, e) =
     let same : mid ≡ end = (name_unique m at h.stands.0 x mid end h.stands.1 full).1 in
     let low : mid ≤ stop = h.within in

@@ -3,7 +3,7 @@ use Rattle.std.proofs.Common.{◌≡◌, ℕ, zero, suc, ◌+◌, ◌≤◌, Lis
 use Rattle.std.specs.Prelude.{MatchOption, IfSome, slice_range}
 use Rattle.std.proofs.lemmas.List.{length-append, length-take-le, drop_at}
 use Rattle.dns_names.specs.Name.{Labels, IsName, wire, labels_of}
-use Rattle.dns_records.specs.Types.{Field, Octets, Name, Target, Strings, form}
+use Rattle.dns_records.specs.Types.{Field, Values, octet_count, Name, UncompressedName, Strings, form}
 use Rattle.dns_records.specs.Record.{IsRData, Record, IsField, AreFields}
 use Rattle.dns_wire.specs.Pack.{Place, Packing, pack_name, packed_name, packed_fields, packed_rdata}
 use Rattle.dns_wire.specs.NameAt.{FullNameAt}
@@ -19,10 +19,10 @@ plain_at : (text : List ℕ) (at : ℕ) (octets back : List ℕ) → Rest text a
 plain_at text at octets back h = let p = piece text at octets back h in (p.here.inside, sym p.here.read)
 
 field_back : (text : List ℕ) (at : ℕ) (field : Field) (front back : List ℕ) → IsField field front → Rest text at (front ++ back) → FieldAt text at field front (at + length front)
-field_back text at (Octets n) front back is h = let p = plain_at text at front back h in (ap (λ (k : ℕ). at + k) is, p.0, p.1)
+field_back text at (Values vs) front back is h = let p = plain_at text at front back h in (ap (λ (k : ℕ). at + k) is, p.0, p.1)
 field_back text at Name front back (name, valid, is) h =
     (name, subst (λ (xs : List ℕ). FullNameAt text at name (at + length xs)) (sym is) (full_back text at name back valid (rest_as text at at (front ++ back) (wire name ++ back) refl (ap (λ (xs : List ℕ). xs ++ back) is) h)), is)
-field_back text at Target front back (name, valid, is) h =
+field_back text at UncompressedName front back (name, valid, is) h =
     (name, subst (λ (xs : List ℕ). FullNameAt text at name (at + length xs)) (sym is) (full_back text at name back valid (rest_as text at at (front ++ back) (wire name ++ back) refl (ap (λ (xs : List ℕ). xs ++ back) is) h)), is)
 field_back text at Strings front back is h = let p = plain_at text at front back h in (p.0, p.1, is)
 
@@ -51,25 +51,25 @@ pub record FieldsBack (text : List ℕ) (places : List Place) (at : ℕ) (fields
 
 pub fields_back : (text : List ℕ) (places : List Place) (at : ℕ) (fields : List Field) (rdata back : List ℕ) → AreFields fields rdata → Readable text places at → 12 ≤ at → Rest text at ((packed_fields places at fields rdata).octets ++ back) → FieldsBack text places at fields rdata
 fields_back text places at [] rdata back form table far h = record { stand = plain_back text at [] rdata back form h; table = readable_more text places at (at + length rdata) (omega arith) table }
-fields_back text places at (Target ∷ fields) rdata back form table far h = record { stand = plain_back text at (Target ∷ fields) rdata back form h; table = readable_more text places at (at + length rdata) (omega arith) table }
+fields_back text places at (UncompressedName ∷ fields) rdata back form table far h = record { stand = plain_back text at (UncompressedName ∷ fields) rdata back form h; table = readable_more text places at (at + length rdata) (omega arith) table }
 fields_back text places at (Strings ∷ fields) rdata back form table far h = record { stand = plain_back text at (Strings ∷ fields) rdata back form h; table = readable_more text places at (at + length rdata) (omega arith) table }
-fields_back text places at (Octets n ∷ fields) rdata back form table far h =
-    let after = packed_fields places (at + n) fields (drop n rdata) in
-    let front = take n rdata in
+fields_back text places at (Values vs ∷ fields) rdata back form table far h =
+    let after = packed_fields places (at + octet_count vs) fields (drop (octet_count vs) rdata) in
+    let front = take (octet_count vs) rdata in
     let here = rest_as text at at ((front ++ after.octets) ++ back) (front ++ (after.octets ++ back)) refl (append_assoc front after.octets back) h in
     let p = piece text at front (after.octets ++ back) here in
-    let width : length front ≡ n = length-take-le n rdata (octets_room n fields rdata form) in
-    let place : at + length front ≡ at + n = ap (λ (k : ℕ). at + k) width in
-    let more = fields_back text places (at + n) fields (drop n rdata) back (octets_behind n fields rdata form) (readable_more text places at (at + n) (omega arith) table) (omega arith) (rest_as text (at + length front) (at + n) (after.octets ++ back) (after.octets ++ back) place refl p.behind) in
-    let stop : at + n + length after.octets ≡ at + length (front ++ after.octets) = omega (arith, width, length-append front after.octets) in
+    let width : length front ≡ octet_count vs = length-take-le (octet_count vs) rdata (octets_room vs fields rdata form) in
+    let place : at + length front ≡ at + octet_count vs = ap (λ (k : ℕ). at + k) width in
+    let more = fields_back text places (at + octet_count vs) fields (drop (octet_count vs) rdata) back (octets_behind vs fields rdata form) (readable_more text places at (at + octet_count vs) (omega arith) table) (omega arith) (rest_as text (at + length front) (at + octet_count vs) (after.octets ++ back) (after.octets ++ back) place refl p.behind) in
+    let stop : at + octet_count vs + length after.octets ≡ at + length (front ++ after.octets) = omega (arith, width, length-append front after.octets) in
     record {
       stand = (
         front,
-        drop n rdata,
-        at + n,
-        split n rdata,
-        subst (λ (k : ℕ). FieldAt text at (Octets n) front k) place (field_back text at (Octets n) front (after.octets ++ back) width here),
-        subst (λ (k : ℕ). FieldsAt text (at + n) fields (drop n rdata) k) stop more.stand,
+        drop (octet_count vs) rdata,
+        at + octet_count vs,
+        split (octet_count vs) rdata,
+        subst (λ (k : ℕ). FieldAt text at (Values vs) front k) place (field_back text at (Values vs) front (after.octets ++ back) width here),
+        subst (λ (k : ℕ). FieldsAt text (at + octet_count vs) fields (drop (octet_count vs) rdata) k) stop more.stand,
       );
       table = subst (Readable text after.places) stop more.table;
     }
@@ -107,18 +107,18 @@ nothing (x ∷ xs) e = absurd (omega (arith, e))
 -- nothing is written for no data alone
 none_written : (places : List Place) (at : ℕ) (fields : List Field) (rdata : List ℕ) → length (packed_fields places at fields rdata).octets ≡ 0 → rdata ≡ []
 none_written places at [] rdata e = nothing rdata e
-none_written places at (Target ∷ fields) rdata e = nothing rdata e
+none_written places at (UncompressedName ∷ fields) rdata e = nothing rdata e
 none_written places at (Strings ∷ fields) rdata e = nothing rdata e
 none_written places at (Name ∷ fields) rdata e =
     let here = packed_name places at (labels_of rdata) in
     let after = packed_fields here.places (at + length here.octets) fields (drop (length (wire (labels_of rdata))) rdata) in
     absurd (omega (arith, e, length-append here.octets after.octets, some_written places (labels_of rdata)))
-none_written places at (Octets n ∷ fields) rdata e =
-    let after = packed_fields places (at + n) fields (drop n rdata) in
-    let sum = length-append (take n rdata) after.octets in
-    let first : take n rdata ≡ [] = nothing (take n rdata) (omega (arith, e, sum)) in
-    let rest : drop n rdata ≡ [] = none_written places (at + n) fields (drop n rdata) (omega (arith, e, sum)) in
-    sym (take-append-drop n rdata) ∙ ap (λ (xs : List ℕ). xs ++ drop n rdata) first ∙ rest
+none_written places at (Values vs ∷ fields) rdata e =
+    let after = packed_fields places (at + octet_count vs) fields (drop (octet_count vs) rdata) in
+    let sum = length-append (take (octet_count vs) rdata) after.octets in
+    let first : take (octet_count vs) rdata ≡ [] = nothing (take (octet_count vs) rdata) (omega (arith, e, sum)) in
+    let rest : drop (octet_count vs) rdata ≡ [] = none_written places (at + octet_count vs) fields (drop (octet_count vs) rdata) (omega (arith, e, sum)) in
+    sym (take-append-drop (octet_count vs) rdata) ∙ ap (λ (xs : List ℕ). xs ++ drop (octet_count vs) rdata) first ∙ rest
 
 pub record DataBack (text : List ℕ) (places : List Place) (at : ℕ) (r : Record) : Type 0 where
   pub stands : RDataAt text at r.rtype (length (packed_rdata places at r).octets) r.rdata

@@ -2,7 +2,7 @@
 use Rattle.std.proofs.Common.{◌≡◌, ℕ, ◌+◌, ◌≤◌, List, ◌∷◌, ◌++◌, length, take, drop, refl, sym, ap, subst, ◌∙◌, arith}
 use Rattle.std.proofs.lemmas.List.{length-append, length-take-le, drop_at}
 use Rattle.dns_names.specs.Name.{Labels, wire, labels_of}
-use Rattle.dns_records.specs.Types.{Field, Octets, Name}
+use Rattle.dns_records.specs.Types.{Field, Value, Values, octet_count, Name}
 use Rattle.dns_records.specs.Record.{AreFields}
 use Rattle.dns_wire.specs.Pack.{Place, Packing, packed_name, packed_fields}
 use Rattle.dns_wire.specs.Puts.{RefusesUpTo, BeginsWithName}
@@ -16,11 +16,11 @@ FieldsLeft before whole octets places fields rdata =
     let tail = packed_fields places (length octets) fields rdata in
     Leaves before whole octets tail.octets tail.places
 
-pub octets_room : (n : ℕ) (fields : List Field) (rdata : List ℕ) → AreFields (Octets n ∷ fields) rdata → n ≤ length rdata
-octets_room n fields rdata (front, rest, is, size, more) = omega (arith, ap length is, length-append front rest, size)
+pub octets_room : (vs : List Value) (fields : List Field) (rdata : List ℕ) → AreFields (Values vs ∷ fields) rdata → octet_count vs ≤ length rdata
+octets_room vs fields rdata (front, rest, is, size, more) = omega (arith, ap length is, length-append front rest, size)
 
-pub octets_behind : (n : ℕ) (fields : List Field) (rdata : List ℕ) → AreFields (Octets n ∷ fields) rdata → AreFields fields (drop n rdata)
-octets_behind n fields rdata (front, rest, is, size, more) = subst (AreFields fields) (sym (ap (drop n) is ∙ drop_at front rest n size)) more
+pub octets_behind : (vs : List Value) (fields : List Field) (rdata : List ℕ) → AreFields (Values vs ∷ fields) rdata → AreFields fields (drop (octet_count vs) rdata)
+octets_behind vs fields rdata (front, rest, is, size, more) = subst (AreFields fields) (sym (ap (drop (octet_count vs)) is ∙ drop_at front rest (octet_count vs) size)) more
 
 pub name_front : (fields : List Field) (rdata : List ℕ) → AreFields (Name ∷ fields) rdata → BeginsWithName rdata
 name_front fields rdata (front, rest, is, (name, valid, plain), more) = record { name = name; rest = rest; valid = valid; is = is ∙ ap (λ (xs : List ℕ). xs ++ rest) plain }
@@ -33,15 +33,15 @@ name_behind fields rdata (front, rest, is, (name, valid, plain), more) =
     subst (AreFields fields) (sym back) more
 
 -- octets are written
-pub octets_next : (before : List ℕ) (whole : Packing) (octets : List ℕ) (places : List Place) (n : ℕ) (fields : List Field) (rdata front after : List ℕ) (places' : List Place) → n ≤ length rdata → front ≡ take n rdata → after ≡ octets ++ front → places' ≡ places
-    → FieldsLeft before whole octets places (Octets n ∷ fields) rdata → FieldsLeft before whole after places' fields (drop n rdata)
-octets_next before whole octets places n fields rdata front after places' room is grown same h =
-    let size : length octets + n ≡ length after = sym (ap length grown ∙ length-append octets front ∙ ap (λ (k : ℕ). length octets + k) (ap length is ∙ length-take-le n rdata room)) in
-    let tail = packed_fields places (length octets + n) fields (drop n rdata) in
-    let next : Leaves before whole after tail.octets tail.places = leaves_next before whole octets (take n rdata ++ tail.octets) tail.places (take n rdata) tail.octets after refl (grown ∙ ap (λ (xs : List ℕ). octets ++ xs) is) h in
-    let placed : Leaves before whole after (packed_fields places' (length octets + n) fields (drop n rdata)).octets (packed_fields places' (length octets + n) fields (drop n rdata)).places =
-    subst (λ (ps : List Place). Leaves before whole after (packed_fields ps (length octets + n) fields (drop n rdata)).octets (packed_fields ps (length octets + n) fields (drop n rdata)).places) (sym same) next in
-    subst (λ (k : ℕ). Leaves before whole after (packed_fields places' k fields (drop n rdata)).octets (packed_fields places' k fields (drop n rdata)).places) size placed
+pub octets_next : (before : List ℕ) (whole : Packing) (octets : List ℕ) (places : List Place) (vs : List Value) (fields : List Field) (rdata front after : List ℕ) (places' : List Place) → octet_count vs ≤ length rdata → front ≡ take (octet_count vs) rdata → after ≡ octets ++ front → places' ≡ places
+    → FieldsLeft before whole octets places (Values vs ∷ fields) rdata → FieldsLeft before whole after places' fields (drop (octet_count vs) rdata)
+octets_next before whole octets places vs fields rdata front after places' room is grown same h =
+    let size : length octets + octet_count vs ≡ length after = sym (ap length grown ∙ length-append octets front ∙ ap (λ (k : ℕ). length octets + k) (ap length is ∙ length-take-le (octet_count vs) rdata room)) in
+    let tail = packed_fields places (length octets + octet_count vs) fields (drop (octet_count vs) rdata) in
+    let next : Leaves before whole after tail.octets tail.places = leaves_next before whole octets (take (octet_count vs) rdata ++ tail.octets) tail.places (take (octet_count vs) rdata) tail.octets after refl (grown ∙ ap (λ (xs : List ℕ). octets ++ xs) is) h in
+    let placed : Leaves before whole after (packed_fields places' (length octets + octet_count vs) fields (drop (octet_count vs) rdata)).octets (packed_fields places' (length octets + octet_count vs) fields (drop (octet_count vs) rdata)).places =
+    subst (λ (ps : List Place). Leaves before whole after (packed_fields ps (length octets + octet_count vs) fields (drop (octet_count vs) rdata)).octets (packed_fields ps (length octets + octet_count vs) fields (drop (octet_count vs) rdata)).places) (sym same) next in
+    subst (λ (k : ℕ). Leaves before whole after (packed_fields places' k fields (drop (octet_count vs) rdata)).octets (packed_fields places' k fields (drop (octet_count vs) rdata)).places) size placed
 
 -- a name is written
 pub names_next : (before : List ℕ) (whole : Packing) (octets : List ℕ) (places : List Place) (fields : List Field) (rdata after : List ℕ) (places' : List Place) → after ≡ octets ++ (packed_name places (length octets) (labels_of rdata)).octets → places' ≡ (packed_name places (length octets) (labels_of rdata)).places
@@ -57,11 +57,11 @@ names_next before whole octets places fields rdata after places' grown same h =
     subst (λ (k : ℕ). Leaves before whole after (packed_fields places' k fields behind).octets (packed_fields places' k fields behind).places) size placed
 
 -- they are refused
-pub octets_refused : (limit : ℕ) (before : List ℕ) (whole : Packing) (octets : List ℕ) (places : List Place) (now n : ℕ) (fields : List Field) (rdata front : List ℕ) (e : WireError) → front ≡ take n rdata → now ≡ limit
-    → FieldsLeft before whole octets places (Octets n ∷ fields) rdata → RefusesUpTo now (length octets + length front) e → RefusesUpTo limit (length before + length whole.octets) e
-octets_refused limit before whole octets places now n fields rdata front e is same h r =
-    let tail = packed_fields places (length octets + n) fields (drop n rdata) in
-    refuses_part limit before whole octets (take n rdata ++ tail.octets) tail.places now front tail.octets e (ap (λ (xs : List ℕ). xs ++ tail.octets) (sym is)) same h r
+pub octets_refused : (limit : ℕ) (before : List ℕ) (whole : Packing) (octets : List ℕ) (places : List Place) (now : ℕ) (vs : List Value) (fields : List Field) (rdata front : List ℕ) (e : WireError) → front ≡ take (octet_count vs) rdata → now ≡ limit
+    → FieldsLeft before whole octets places (Values vs ∷ fields) rdata → RefusesUpTo now (length octets + length front) e → RefusesUpTo limit (length before + length whole.octets) e
+octets_refused limit before whole octets places now vs fields rdata front e is same h r =
+    let tail = packed_fields places (length octets + octet_count vs) fields (drop (octet_count vs) rdata) in
+    refuses_part limit before whole octets (take (octet_count vs) rdata ++ tail.octets) tail.places now front tail.octets e (ap (λ (xs : List ℕ). xs ++ tail.octets) (sym is)) same h r
 
 pub names_refused : (limit : ℕ) (before : List ℕ) (whole : Packing) (octets : List ℕ) (places : List Place) (now : ℕ) (fields : List Field) (rdata : List ℕ) (e : WireError) → now ≡ limit
     → FieldsLeft before whole octets places (Name ∷ fields) rdata → RefusesUpTo now (length octets + length (packed_name places (length octets) (labels_of rdata)).octets) e → RefusesUpTo limit (length before + length whole.octets) e

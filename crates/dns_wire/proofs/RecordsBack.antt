@@ -5,7 +5,7 @@ use Rattle.std.specs.Int.{w16, w32, to_be_bytes}
 use Rattle.std.specs.List.{AllByRecursion}
 use Rattle.std.proofs.lemmas.List.{length-append}
 use Rattle.dns_names.specs.Name.{Labels, wire, labels_of}
-use Rattle.dns_records.specs.Types.{Field, Octets, Name, Target, Strings, form, class_in}
+use Rattle.dns_records.specs.Types.{Field, Values, octet_count, Name, UncompressedName, Strings, form, class_in}
 use Rattle.dns_records.specs.Record.{Record, AreFields, IsRData, IsRecord, number_of}
 use Rattle.dns_wire.specs.Pack.{Place, Packing, place_of, pack_name, packed_name, packed_fields, packed_rdata, packed_record}
 use Rattle.dns_wire.specs.Puts.{packed_all}
@@ -45,12 +45,12 @@ name_short places (label ∷ rest) = go (place_of places (label ∷ rest)) refl 
 
 fields_short : (places : List Place) (at : ℕ) (fields : List Field) (rdata : List ℕ) → AreFields fields rdata → length (packed_fields places at fields rdata).octets ≤ length rdata
 fields_short places at [] rdata h = omega arith
-fields_short places at (Target ∷ fields) rdata h = omega arith
+fields_short places at (UncompressedName ∷ fields) rdata h = omega arith
 fields_short places at (Strings ∷ fields) rdata h = omega arith
-fields_short places at (Octets n ∷ fields) rdata h =
-    let after = packed_fields places (at + n) fields (drop n rdata) in
-    let room : n ≤ length rdata = octets_room n fields rdata h in
-    omega (arith, length-append (take n rdata) after.octets, length-take-le n rdata room, length-drop n rdata, fields_short places (at + n) fields (drop n rdata) (octets_behind n fields rdata h))
+fields_short places at (Values vs ∷ fields) rdata h =
+    let after = packed_fields places (at + octet_count vs) fields (drop (octet_count vs) rdata) in
+    let room : (octet_count vs) ≤ length rdata = octets_room vs fields rdata h in
+    omega (arith, length-append (take (octet_count vs) rdata) after.octets, length-take-le (octet_count vs) rdata room, length-drop (octet_count vs) rdata, fields_short places (at + octet_count vs) fields (drop (octet_count vs) rdata) (octets_behind vs fields rdata h))
 fields_short places at (Name ∷ fields) rdata h =
     let name = labels_of rdata in
     let here = packed_name places at name in

@@ -5,7 +5,7 @@ use Rattle.std.specs.Int.{w16, w32, to_be_bytes}
 use Rattle.std.specs.List.{AllByRecursion}
 use Rattle.std.proofs.lemmas.List.{length-append, length-take-le, take_at, drop_at}
 use Rattle.dns_names.specs.Name.{Labels, wire, labels_of}
-use Rattle.dns_records.specs.Types.{Field, Octets, Name, Target, Strings, form, class_in}
+use Rattle.dns_records.specs.Types.{Field, Values, octet_count, Name, UncompressedName, Strings, form, class_in}
 use Rattle.dns_records.specs.Record.{Record, AreFields, IsRecord}
 use Rattle.dns_wire.specs.Pack.{Place, Packing, pack_name, new_places, packed_name, packed_fields, packed_rdata, packed_record, packed_records}
 use Rattle.dns_wire.specs.Packed.{Used, StandsAt, AreThePlaces, OctetsAt, FieldPacked, and_field, PartsPacked, RecordPacked, RecordsPacked, question_fields, IsPacked}
@@ -87,25 +87,25 @@ pub parts_done : (text : List ℕ) (earlier : List Used) (places : List Place) (
 parts_done text earlier places at [] rdata back form table under h =
     let p = piece text at rdata back h in
     record { later = earlier; packed = (p.here, refl); table = table; under = under_more earlier at (at + length rdata) (omega arith) under; behind = p.behind }
-parts_done text earlier places at (Target ∷ fields) rdata back form table under h =
+parts_done text earlier places at (UncompressedName ∷ fields) rdata back form table under h =
     let p = piece text at rdata back h in
     record { later = earlier; packed = (p.here, refl); table = table; under = under_more earlier at (at + length rdata) (omega arith) under; behind = p.behind }
 parts_done text earlier places at (Strings ∷ fields) rdata back form table under h =
     let p = piece text at rdata back h in
     record { later = earlier; packed = (p.here, refl); table = table; under = under_more earlier at (at + length rdata) (omega arith) under; behind = p.behind }
-parts_done text earlier places at (Octets n ∷ fields) rdata back form table under h =
-    let after = packed_fields places (at + n) fields (drop n rdata) in
-    let p = piece text at (take n rdata) (after.octets ++ back) (rest_as text at at ((take n rdata ++ after.octets) ++ back) (take n rdata ++ (after.octets ++ back)) refl (append_assoc (take n rdata) after.octets back) h) in
-    let width : length (take n rdata) ≡ n = length-take-le n rdata (octets_room n fields rdata form) in
-    let place : at + length (take n rdata) ≡ at + n = ap (λ (k : ℕ). at + k) width in
-    let more = parts_done text earlier places (at + n) fields (drop n rdata) back (octets_behind n fields rdata form) table (under_more earlier at (at + n) (omega arith) under) (rest_as text (at + length (take n rdata)) (at + n) (after.octets ++ back) (after.octets ++ back) place refl p.behind) in
-    let stop : at + n + length after.octets ≡ at + length (take n rdata ++ after.octets) = omega (arith, width, length-append (take n rdata) after.octets) in
+parts_done text earlier places at (Values vs ∷ fields) rdata back form table under h =
+    let after = packed_fields places (at + octet_count vs) fields (drop (octet_count vs) rdata) in
+    let p = piece text at (take (octet_count vs) rdata) (after.octets ++ back) (rest_as text at at ((take (octet_count vs) rdata ++ after.octets) ++ back) (take (octet_count vs) rdata ++ (after.octets ++ back)) refl (append_assoc (take (octet_count vs) rdata) after.octets back) h) in
+    let width : length (take (octet_count vs) rdata) ≡ octet_count vs = length-take-le (octet_count vs) rdata (octets_room vs fields rdata form) in
+    let place : at + length (take (octet_count vs) rdata) ≡ at + octet_count vs = ap (λ (k : ℕ). at + k) width in
+    let more = parts_done text earlier places (at + octet_count vs) fields (drop (octet_count vs) rdata) back (octets_behind vs fields rdata form) table (under_more earlier at (at + octet_count vs) (omega arith) under) (rest_as text (at + length (take (octet_count vs) rdata)) (at + octet_count vs) (after.octets ++ back) (after.octets ++ back) place refl p.behind) in
+    let stop : at + octet_count vs + length after.octets ≡ at + length (take (octet_count vs) rdata ++ after.octets) = omega (arith, width, length-append (take (octet_count vs) rdata) after.octets) in
     record {
       later = more.later;
       packed = (
-        at + n,
-        subst (λ (k : ℕ). OctetsAt text at (take n rdata) k) place p.here,
-        subst (λ (k : ℕ). PartsPacked text earlier (at + n) fields (drop n rdata) k more.later) stop more.packed,
+        at + octet_count vs,
+        subst (λ (k : ℕ). OctetsAt text at (take (octet_count vs) rdata) k) place p.here,
+        subst (λ (k : ℕ). PartsPacked text earlier (at + octet_count vs) fields (drop (octet_count vs) rdata) k more.later) stop more.packed,
       );
       table = more.table;
       under = subst (Under more.later) stop more.under;

@@ -2,7 +2,7 @@
 use Rattle.std.specs.Prelude.{◌≡◌, ℕ, zero, suc, ◌+◌, ◌-◌, ◌<◌, ◌≤◌, ◌⊎◌, List, [], ◌∷◌, length, Some, slice_get, slice_range}
 use Rattle.dns_names.specs.Name.{Labels}
 use Rattle.dns_names.specs.Octets.{LabelsAt, IsCutAt}
-use Rattle.dns_records.specs.Types.{Field, Octets, Name, Target, Strings, form}
+use Rattle.dns_records.specs.Types.{Field, Values, octet_count, Name, UncompressedName, Strings, form}
 use Rattle.dns_records.specs.Record.{IsField}
 use Rattle.dns_wire.specs.NameAt.{IsPointer, FullNameAt}
 use Rattle.dns_wire.specs.Reads.{NumberAt}
@@ -47,9 +47,9 @@ abbrev pub NoNamePart : List ℕ → ℕ → ℕ → WireError → Type 0
 NoNamePart message at stop e = NoName message at e ⊎ ((name : Labels) × (end : ℕ) × FullNameAt message at name end × (stop < end) × (e ≡ BadData))
 
 abbrev pub FieldRefused : List ℕ → ℕ → Field → ℕ → WireError → Type 0
-FieldRefused message at (Octets n) stop e = (stop < at + n) × (e ≡ BadData)
+FieldRefused message at (Values vs) stop e = (stop < at + octet_count vs) × (e ≡ BadData)
 FieldRefused message at Name stop e = NoNamePart message at stop e
-FieldRefused message at Target stop e = NoNamePart message at stop e
+FieldRefused message at UncompressedName stop e = NoNamePart message at stop e
 FieldRefused message at Strings stop e = (IsField Strings (slice_range message at stop) → ⊥) × (e ≡ BadData)
 
 -- The parts of data up to an offset: the first that is no such part, or octets that are left.

@@ -9,7 +9,7 @@ ghost use Rattle.dns_wire.specs.Fields.{SomeField, SomeFields};
 use crate::name::name_end;
 use crate::plain::copy_plain;
 use dns_memory::Heap;
-use dns_records::{Field, form};
+use dns_records::{Field, count_within, form};
 use std::alloc::AllocError;
 
 /// Appends the name at an offset, and gives where it ends.
@@ -41,12 +41,15 @@ fn append_field(
     ensures { IfOk result (λ mid. (part : SomeField message.now at (stated_field field) mid stop) × (out.new.items ≡ out.old.items ++ part.plain)) }
 {
     match field {
-        Field::Octets(n) => {
-            out.extend_from_slice(&message[at..at + n])?;
-            Ok(at + n)
-        }
+        Field::Values(values) => match count_within(values, stop - at) {
+            Some(count) => {
+                out.extend_from_slice(&message[at..at + count])?;
+                Ok(at + count)
+            }
+            None => unreachable!(),
+        },
         Field::Name => append_name(message, at, out),
-        Field::Target => append_name(message, at, out),
+        Field::UncompressedName => append_name(message, at, out),
         Field::Strings => {
             out.extend_from_slice(&message[at..stop])?;
             Ok(stop)

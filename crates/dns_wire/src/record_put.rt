@@ -9,7 +9,7 @@ ghost use Rattle.dns_wire.specs.Puts.{Wrote, RefusesUpTo, BeginsWithName, fixed_
 
 use crate::packer::Packer;
 use crate::{ReplyRecord, WireError};
-use dns_records::{Field, form};
+use dns_records::{Field, count_within, form};
 
 /// The name at the front of plain octets, and the octets behind it.
 fn split_name(octets: &[u8]) -> (&[u8], &[u8])
@@ -35,7 +35,8 @@ fn fixed(rtype: u16, ttl: u32) -> [u8; 10]
 }
 
 impl<'a> Packer<'a> {
-    /// Writes the parts of the data of a record. Targets stand in full, and no pointer names them (RFC 2782).
+    /// Writes the parts of the data of a record. Uncompressed names stand in full, and no
+    /// pointer names them (RFC 2782).
     fn put_fields(&mut self, fields: &[Field], rdata: &'a [u8]) -> Result<(), WireError>
         requires form { AreFields (stated_fields fields.now) rdata.now }
         requires room { length self.old.octets.items ≤ self.old.limit }
@@ -45,8 +46,11 @@ impl<'a> Packer<'a> {
         let mut rest = rdata;
         for field in fields.iter() {
             match *field {
-                Field::Octets(n) => {
-                    let (front, behind) = rest.split_at(n);
+                Field::Values(values) => {
+                    let Some(count) = count_within(values, rest.len()) else {
+                        unreachable!()
+                    };
+                    let (front, behind) = rest.split_at(count);
                     self.put(front)?;
                     rest = behind;
                 }
@@ -55,7 +59,7 @@ impl<'a> Packer<'a> {
                     self.put_name(name)?;
                     rest = behind;
                 }
-                Field::Target => return self.put(rest),
+                Field::UncompressedName => return self.put(rest),
                 Field::Strings => return self.put(rest),
             }
         }

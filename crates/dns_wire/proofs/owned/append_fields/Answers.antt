@@ -1,11 +1,10 @@
 use Rattle.std.proofs.Common.{◌≡◌, ◌∷◌, ◌+◌, List, get_or, drop, subst, arith}
 use Rattle.dns_records.specs.Types.{Field}
 use Rattle.dns_records.specs.Fields.{StringsLast, stated_field, stated_fields}
-use Rattle.dns_records.specs.declared.parts.Field.TheVariants as part
 use Rattle.dns_wire.specs.Fields.{SomeFields}
 use Rattle.dns_wire.proofs.Appended.{Joins, joined_next}
 use Rattle.dns_wire.proofs.FieldSteps.{field_low, fields_less, fields_first, last_behind}
-use Rattle.dns_wire.proofs.Parts.{parts_left}
+use Rattle.dns_wire.proofs.Parts.{no_field, parts_left}
 use Rattle.dns_wire.proofs.owned.append_fields.Goals as goal
 
 pub append_field-requires-clause-there : goal.append_field-requires-clause-there
@@ -13,9 +12,9 @@ append_field-requires-clause-there c =
     let m = c.args.message.now in
     let parts = c.args.fields.now in
     let i = c.loop-field.field-index in
-    let first : Field = stated_field (get_or parts i (part.Octets 0)) in
+    let first : Field = stated_field (get_or parts i no_field) in
     let rest : List Field = stated_fields (drop (i + 1) parts) in
-    let left : stated_fields (drop i parts) ≡ first ∷ rest = parts_left parts i (part.Octets 0) (omega arith) in
+    let left : stated_fields (drop i parts) ≡ first ∷ rest = parts_left parts i no_field (omega arith) in
     let one = fields_first m c.loop-field.next first rest c.args.stop (subst StringsLast left c.loop-field.invariant.last) (subst (λ (fs : List Field). SomeFields m c.loop-field.next fs c.args.stop) left c.loop-field.invariant.left) in
     (one.0, one.1)
 
@@ -27,9 +26,9 @@ loop-field-preserved c =
     let at = c.loop-field.next in
     let next = c.in_ok-next.next in
     let stop = c.args.stop in
-    let first : Field = stated_field (get_or parts i (part.Octets 0)) in
+    let first : Field = stated_field (get_or parts i no_field) in
     let rest : List Field = stated_fields (drop (i + 1) parts) in
-    let left : stated_fields (drop i parts) ≡ first ∷ rest = parts_left parts i (part.Octets 0) (omega arith) in
+    let left : stated_fields (drop i parts) ≡ first ∷ rest = parts_left parts i no_field (omega arith) in
     let last : StringsLast (first ∷ rest) = subst StringsLast left c.loop-field.invariant.last in
     let found = c.in_ok-next.ensures in
     record {

@@ -1,4 +1,4 @@
-use Rattle.std.proofs.Common.{ℕ, List, ◌<◌, ◌^◌, arith, subst, rules, false}
+use Rattle.std.proofs.Common.{ℕ, List, ◌<◌, subst, rules}
 use Rattle.std.specs.Fmt.{HasWritten}
 use Rattle.dns_masterfile.proofs.Hexadecimal.{hex_written_as}
 use Rattle.dns_masterfile.proofs.print.HexOctetDisplay.fmt.Goals as goal

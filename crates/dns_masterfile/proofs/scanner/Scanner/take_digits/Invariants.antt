@@ -1,5 +1,4 @@
-use Rattle.std.proofs.Common.{◌≡◌, ℕ, ◌++◌, length}
-use Rattle.std.specs.Prelude.{Ok}
+use Rattle.std.proofs.Common.{◌≡◌, length}
 use Rattle.dns_masterfile.specs.Reading.{digits_in}
 use Rattle.dns_masterfile.proofs.Joins.{strung}
 use Rattle.dns_masterfile.proofs.scanner.Scanner.take_digits.Given as goal

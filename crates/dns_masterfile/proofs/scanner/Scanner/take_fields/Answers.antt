@@ -1,13 +1,12 @@
 use Rattle.std.proofs.Common.{◌≡◌, ℕ, ◌+◌, List, ◌∷◌, ◌++◌, drop, get_or, ap, subst, ◌∙◌, append_assoc}
 use Rattle.dns_records.specs.declared.parts.Field.{Field as Part}
-use Rattle.dns_records.specs.declared.parts.Field.TheVariants as part
 use Rattle.dns_records.specs.Fields.{stated_field, stated_fields}
 use Rattle.dns_records.specs.Types.{Field}
 use Rattle.dns_names.specs.Name.{Labels}
 use Rattle.dns_masterfile.specs.Pieces.{Word}
 use Rattle.dns_masterfile.specs.Left.{Left}
 use Rattle.dns_masterfile.specs.Reading.{Taken, take_data}
-use Rattle.dns_masterfile.proofs.Joins.{drop_next, joined, fields_more, Completes, completes_more}
+use Rattle.dns_masterfile.proofs.Joins.{drop_next, no_field, joined, fields_more, Completes, completes_more}
 use Rattle.dns_masterfile.proofs.scanner.Scanner.take_fields.Goals as goal
 
 pub fields-preserved : goal.fields-preserved
@@ -15,9 +14,9 @@ fields-preserved c =
     let fields : List Part = c.args.fields.now in
     let origin : Labels = c.args.origin.now in
     let i : ℕ = c.fields.field-index in
-    let f : Field = stated_field (get_or fields i (part.Octets 0)) in
+    let f : Field = stated_field (get_or fields i no_field) in
     let fs : List Field = stated_fields (drop (i + 1) fields) in
-    let at : stated_fields (drop i fields) ≡ f ∷ fs = ap stated_fields (drop_next fields i (part.Octets 0) c.fields-test.true) in
+    let at : stated_fields (drop i fields) ≡ f ∷ fs = ap stated_fields (drop_next fields i no_field c.fields-test.true) in
     let so_far = c.fields.invariant.so_far in
     let words : List Word = c.fields.self.words in
     let rest : List Word = c.take_field.new.self.words in

@@ -6,4 +6,5 @@ use Rattle.dns_records.proofs.rdata.RData.of_address.Goals as goal
 pub invariant_of-result : goal.invariant_of-result
 invariant_of-result c =
     let same = IfOk-at_ok (λ v. v.items ≡ c.args.octets.now) c.unwrap.ensures c.from_slice.ensures.ok in
-    rw same (address-valid c.args.rtype c.args.octets.now c.requires.form (λ i. omega (arith, c.type_inv.octets i)) c.requires.short)
+    let f = c.requires.form in
+    rw same (address-valid c.args.rtype f.0 c.args.octets.now f.1 (λ i. omega (arith, c.type_inv.octets i)) f.2)

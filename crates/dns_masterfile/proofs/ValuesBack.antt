@@ -1,29 +1,25 @@
 -- Numbers and addresses in data read back from print.
-use Rattle.std.proofs.Common.{◌≡◌, ℕ, zero, suc, ◌+◌, ◌*◌, ◌/◌, ◌%◌, ◌^◌, ◌<◌, ◌≤◌, inl, Bool, true, false, List, [], ◌∷◌, ◌++◌, length, get_or, decimal, Some, refl, ap, ◌∙◌, arith, length-append}
-use Rattle.std.specs.Prelude.{◌==◌, ◌||◌, option_map, cond, codes}
+use Rattle.std.proofs.Common.{◌≡◌, ℕ, zero, suc, ◌+◌, ◌*◌, ◌/◌, ◌%◌, ◌^◌, ◌<◌, inl, List, [], ◌∷◌, ◌++◌, length, get_or, decimal, Some, refl, ap, ◌∙◌, arith, length-append}
+use Rattle.std.specs.Prelude.{option_map, codes}
 use Rattle.std.specs.List.{AllByRecursion}
 use Rattle.std.specs.Int.{w16, w32, to_be_bytes}
-use Rattle.std.specs.Fmt.{digits, digits_onto, digit_glyph}
-use Rattle.std.specs.Str.Parse.{AllDigits}
 use Rattle.std.specs.Net.Addr.{segments_of, octets_of}
 use Rattle.std.specs.Net.Text.{ipv4_text}
-use Rattle.std.specs.Net.Grammar.{IsGroup, IsGroupsAfter, IsGroups, IsColonHex}
+use Rattle.std.specs.Net.Grammar.{IsColonHex}
 use Rattle.std.proofs.lemmas.Nat.{be_bytes_2, be_bytes_4}
-use Rattle.std.proofs.lemmas.Fmt.{digits_is_IsNumeral}
-use Rattle.std.proofs.lemmas.List.Folds.{list_any-append}
 use Rattle.std.proofs.NetLemmas.Texts.{IsDotted-ipv4_text}
-use Rattle.dns_policy.specs.Address.{has_dot}
 use Rattle.dns_policy.specs.Printed.{printed_group, further_groups, printed_groups}
 use Rattle.dns_policy.proofs.Addresses.{ipv4_read, ipv6_read}
 use Rattle.dns_policy.proofs.PrintedBack.{FitSegments, group_is, groups_are, groups_no_dot}
 use Rattle.dns_records.specs.Record.{number_of}
 use Rattle.dns_masterfile.specs.Pieces.{Bare, IsWord}
-use Rattle.dns_masterfile.specs.Data.{Fixed, Number16, Number32, Ipv4, Ipv6, octets_of_text}
-use Rattle.dns_masterfile.specs.Printed.{size_of, printed_as}
+use Rattle.dns_masterfile.specs.Data.{octets_of_text}
+use Rattle.dns_masterfile.specs.Printed.{printed_as}
 use Rattle.dns_masterfile.proofs.OnlyPieces.{IsPlain}
 use Rattle.dns_masterfile.proofs.Covered.{empty_word}
 use Rattle.dns_masterfile.proofs.Written.{IsWritten, word_append, digits_word, number_written}
 use Rattle.dns_masterfile.proofs.StringsBack.{number_reads_back}
+use Rattle.dns_records.specs.Types.{Ipv4, Ipv6, U16, U32, Value, size_of}
 
 abbrev pub FitOctets : List ℕ → Type 0
 FitOctets octets = AllByRecursion (λ c. c < 256) octets
@@ -34,11 +30,11 @@ fits_at (c ∷ cs) zero h = h.0
 fits_at (c ∷ cs) (suc i) h = fits_at cs i h.1
 
 -- What the text of octets of a form gives: a word, which is read as them.
-pub record ReadsAs (f : Fixed) (octets : List ℕ) : Type 0 where
+pub record ReadsAs (f : Value) (octets : List ℕ) : Type 0 where
   pub word : IsWritten (Bare (printed_as f octets))
   pub read : octets_of_text f (printed_as f octets) ≡ Some octets
 
-number16_as : (o : List ℕ) → FitOctets o → length o ≡ 2 → ReadsAs Number16 o
+number16_as : (o : List ℕ) → FitOctets o → length o ≡ 2 → ReadsAs U16 o
 number16_as [] h e = absurd (omega (arith, e))
 number16_as (a ∷ []) h e = absurd (omega (arith, e))
 number16_as (a ∷ b ∷ c ∷ o) h e = absurd (omega (arith, e))
@@ -52,7 +48,7 @@ number16_as (a ∷ b ∷ []) h e =
       read = ap (option_map (to_be_bytes w16)) (number_reads_back (2 ^ 16) n small wide) ∙ ap (λ (x : List ℕ). Some x) octets;
     }
 
-number32_as : (o : List ℕ) → FitOctets o → length o ≡ 4 → ReadsAs Number32 o
+number32_as : (o : List ℕ) → FitOctets o → length o ≡ 4 → ReadsAs U32 o
 number32_as [] h e = absurd (omega (arith, e))
 number32_as (a ∷ []) h e = absurd (omega (arith, e))
 number32_as (a ∷ b ∷ []) h e = absurd (omega (arith, e))
@@ -133,8 +129,8 @@ ipv6_as o h e =
     }
 
 -- octets of each form are printed as a word that is read as them
-pub reads_as : (f : Fixed) (octets : List ℕ) → FitOctets octets → length octets ≡ size_of f → ReadsAs f octets
-reads_as Number16 octets h e = number16_as octets h e
-reads_as Number32 octets h e = number32_as octets h e
+pub reads_as : (f : Value) (octets : List ℕ) → FitOctets octets → length octets ≡ size_of f → ReadsAs f octets
+reads_as U16 octets h e = number16_as octets h e
+reads_as U32 octets h e = number32_as octets h e
 reads_as Ipv4 octets h e = ipv4_as octets h e
 reads_as Ipv6 octets h e = ipv6_as octets h e
