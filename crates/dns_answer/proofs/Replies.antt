@@ -1,33 +1,18 @@
 -- The reply to a query, put together.
-use Rattle.std.proofs.Common.{◌≡◌, ℕ, Bool, true, false, List, [], ◌∷◌, ◌++◌, length, refl, sym, ap, ◌∙◌, arith}
-use Rattle.std.specs.Prelude.{Option, Some, None, is_none, if◌then◌else◌}
+use Rattle.std.proofs.Common.{◌≡◌, ◌<◌, ◌≤◌, inl, inr, ℕ, Bool, true, false, List, [], ◌∷◌, ◌++◌, length, refl, sym, ap, ◌∙◌, arith}
+use Rattle.std.proofs.lemmas.Bool.Decides.{nat_tests}
+use Rattle.dns_zone.specs.Sets.{told}
+use Rattle.std.specs.Prelude.{nat_le, Option, Some, None, is_none, if◌then◌else◌}
 use Rattle.dns_names.specs.Name.{Labels}
 use Rattle.dns_zone.specs.Zone.{Zone}
 use Rattle.dns_lookup.specs.Lookup.{Found, chain, next_name, outcome, resolve, zone_of}
 use Rattle.dns_wire.specs.Message.{Message, Question}
 use Rattle.dns_wire.specs.Text.{Reply}
 use Rattle.dns_request.specs.Request.{rcode_refused}
-use Rattle.dns_answer.specs.Sections.{records_of, answer_of, authority_of, additional_of, is_name_error, is_authoritative}
-use Rattle.dns_answer.specs.Added.{AreSections, reply_with}
-use Rattle.dns_answer.specs.Answer.{with_question, looked_up, answered, rcode_nxdomain}
-use Rattle.dns_answer.specs.declared.additional.Sections.{Sections}
-
--- the reply to what was found
-abbrev reply_for : List ℕ → Message → Question → List Found → Reply
-reply_for octets m q fs =
-    record (with_question octets m q (if is_name_error fs then rcode_nxdomain else 0)) {
-      aa = is_authoritative fs;
-      answer = records_of (answer_of q.qtype fs);
-      authority = records_of (authority_of fs);
-      additional = additional_of (answer_of q.qtype fs ++ authority_of fs);
-    }
-
-looked_up-is : (zones : List Zone) (octets : List ℕ) (m : Message) (q : Question) (fs : List Found) (s : Sections) (aa : Bool) (rcode : ℕ) (r : Reply) → fs ≡ resolve zones q.name q.qtype → AreSections q.qtype fs s → aa ≡ is_authoritative fs
-    → rcode ≡ (if is_name_error fs then rcode_nxdomain else 0) → r ≡ with_question octets m q rcode → reply_with r aa s ≡ looked_up zones octets m q
-looked_up-is zones octets m q fs s aa rcode r found sections authority code bare =
-    let base : r ≡ with_question octets m q (if is_name_error fs then rcode_nxdomain else 0) = bare ∙ ap (with_question octets m q) code in
-    let whole : reply_with r aa s ≡ reply_for octets m q fs = λ i. record (base i) { aa = authority i; answer = sections.answer i; authority = sections.authority i; additional = sections.additional i } in
-    whole ∙ ap (reply_for octets m q) found
+use Rattle.dns_records.specs.Record.{Record}
+use Rattle.dns_answer.specs.Added.{IsWithoutAdditional, IsWithoutRecords}
+use Rattle.dns_answer.specs.Sections.{additional_of, answer_of, authority_of, is_authoritative, is_name_error, records_of}
+use Rattle.dns_answer.specs.Answer.{with_question, reply_for, answered, rcode_nxdomain}
 
 -- something is found exactly where the name is under a held apex
 abbrev found_from : Option Zone → (Zone → Found) → (Zone → List Found) → List Found
@@ -56,10 +41,25 @@ module _ (zones : List Zone) (name : Labels) (t : ℕ) where
 
 -- the reply where nothing is found, and where something is
 pub refused : (zones : List Zone) (octets : List ℕ) (m : Message) (q : Question) → length (resolve zones q.name q.qtype) ≡ 0 → with_question octets m q rcode_refused ≡ answered zones octets m q
-refused zones octets m q e = ap (λ (b : Bool). if b then with_question octets m q rcode_refused else looked_up zones octets m q) (sym (outside zones q.name q.qtype e))
+refused zones octets m q e = ap (λ (b : Bool). if b then with_question octets m q rcode_refused else reply_for octets m q (resolve zones q.name q.qtype)) (sym (outside zones q.name q.qtype e))
 
-pub answered-is : (zones : List Zone) (octets : List ℕ) (m : Message) (q : Question) (fs : List Found) (s : Sections) (aa : Bool) (rcode : ℕ) (r : Reply) → fs ≡ resolve zones q.name q.qtype → (length fs ≡ 0 → ⊥) → AreSections q.qtype fs s → aa ≡ is_authoritative fs
-    → rcode ≡ (if is_name_error fs then rcode_nxdomain else 0) → r ≡ with_question octets m q rcode → reply_with r aa s ≡ answered zones octets m q
-answered-is zones octets m q fs s aa rcode r found some sections authority code bare =
-    looked_up-is zones octets m q fs s aa rcode r found sections authority code bare
-    ∙ ap (λ (b : Bool). if b then with_question octets m q rcode_refused else looked_up zones octets m q) (sym (inside zones q.name q.qtype (λ e. some (ap length found ∙ e))))
+pub answered-is : (zones : List Zone) (octets : List ℕ) (m : Message) (q : Question) → (length (resolve zones q.name q.qtype) ≡ 0 → ⊥) → reply_for octets m q (resolve zones q.name q.qtype) ≡ answered zones octets m q
+answered-is zones octets m q some = ap (λ (b : Bool). if b then with_question octets m q rcode_refused else reply_for octets m q (resolve zones q.name q.qtype)) (sym (inside zones q.name q.qtype some))
+
+-- the reply to what was found, of a reply with the question alone
+module _ (octets : List ℕ) (m : Message) (q : Question) (fs : List Found) (b : Reply) (rcode : ℕ) (aa : Bool) (bare : b ≡ with_question octets m q rcode) (code : rcode ≡ (if is_name_error fs then rcode_nxdomain else 0)) (authority : aa ≡ is_authoritative fs) where
+  base : b ≡ with_question octets m q (if is_name_error fs then rcode_nxdomain else 0)
+  base = bare ∙ ap (with_question octets m q) code
+
+  pub without_records : IsWithoutRecords (record b { aa = aa }) (reply_for octets m q fs)
+  without_records = λ i. record (base i) { aa = authority i }
+
+  pub without_additional : (answers authorities : List Record) → answers ≡ records_of (answer_of q.qtype fs) → authorities ≡ records_of (authority_of fs) → b.additional ≡ [] → IsWithoutAdditional (record b { aa = aa; answer = answers; authority = authorities }) (reply_for octets m q fs)
+  without_additional answers authorities first second none = λ i. record (base i) { aa = authority i; answer = first i; authority = second i }
+
+  pub whole : (answers authorities additionals : List Record) → answers ≡ records_of (answer_of q.qtype fs) → authorities ≡ records_of (authority_of fs) → additionals ≡ additional_of (answer_of q.qtype fs ++ authority_of fs) → record b { aa = aa; answer = answers; authority = authorities; additional = additionals } ≡ reply_for octets m q fs
+  whole answers authorities additionals first second third = λ i. record (base i) { aa = authority i; answer = first i; authority = second i; additional = third i }
+
+-- what is not more
+pub at_most : (most count : ℕ) → (most < count → ⊥) → count ≤ most
+at_most most count h = elim (told (nat_le count most)) [ inl e ↦ grind (arith, nat_tests, e) | inr e ↦ absurd (let over : most < count = grind (arith, nat_tests, e) in h over) ]

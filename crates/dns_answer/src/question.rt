@@ -4,14 +4,17 @@ ghost use Rattle.dns_wire.specs.Message.{Question};
 ghost use Rattle.dns_wire.specs.Codes.{number_of_rcode};
 ghost use Rattle.dns_wire.specs.Reply.{stated};
 ghost use Rattle.dns_wire.specs.Text.{question_octets};
-ghost use Rattle.dns_answer.specs.Answer.{with_question, answered, fitted};
-ghost use Rattle.dns_answer.specs.Added.{reply_with};
+ghost use Rattle.dns_lookup.specs.Lookup.{Found as Stated};
+ghost use Rattle.dns_lookup.specs.Told.{AreTold};
+ghost use Rattle.dns_lookup.specs.Held.{AreHeld};
+ghost use Rattle.dns_answer.specs.Answer.{with_question, answered, fitted, reply_for};
 ghost use Rattle.dns_answer.specs.Asked.{IsAsked};
 
 use crate::additional::Sections;
 use crate::codes::{is_authoritative, rcode_of};
-use crate::fit::fit;
-use dns_lookup::resolve;
+use crate::fit::{fit, fit_first_sections, fit_question, most_records};
+use crate::sections::{answer_count, server_count};
+use dns_lookup::{Found, resolve};
 use dns_memory::Heap;
 use dns_names::{Name, NameRef};
 use dns_request::{RequestMessage, Transport};
@@ -50,6 +53,7 @@ fn reply_with_question<'a>(
 ) -> Reply<'a>
     ensures stated { (q : Question) → IsAsked message.now.octets q asked.entry → stated result ≡ with_question message.now.octets message.now.message q (number_of_rcode rcode) }
     ensures question { question_octets (stated result) ≡ asked.entry.octets.now }
+    ensures bare { result.additional.items ≡ [] }
 {
     Reply {
         id: message.id(),
@@ -68,39 +72,58 @@ fn reply_with_question<'a>(
     }
 }
 
-/// The reply with its sections.
-fn with_sections<'a>(mut reply: Reply<'a>, aa: bool, sections: Sections<'a>) -> Reply<'a>
-    ensures { stated result ≡ reply_with (stated reply.entry) aa sections.entry }
-{
-    reply.aa = aa;
-    reply.answer = sections.answer;
-    reply.authority = sections.authority;
-    reply.additional = sections.additional;
-    reply
-}
-
-/// The reply to a question (RFC 1034 section 4.3.2): REFUSED where its name is under no held apex.
-fn look_up<'a, I: ZoneIndex>(
+/// The reply to what a question finds (RFC 1034 section 4.3.2). A section that can't go out is not built.
+fn reply_to<'a, I: ZoneIndex>(
     alloc: Heap,
     zones: &'a [Zone<I>],
     message: &Message<'_>,
     asked: Asked<'a>,
-) -> Result<Reply<'a>, AllocError>
-    ensures stated { IfOk result (λ reply. (q : Question) → IsAsked message.now.octets q asked.entry → stated reply ≡ answered zones.now message.now.octets message.now.message q) }
-    ensures question { IfOk result (λ reply. question_octets (stated reply) ≡ asked.entry.octets.now) }
+    transport: Transport,
+    found: &[Found<'a>],
+) -> Result<Vec<u8, Heap>, AllocError>
+    requires question { length asked.octets.now < 65524 }
+    requires found { (fs : List Stated) × AreTold zones.now fs found.now }
+    ensures { IfOk result (λ octets. (q : Question) (fs : List Stated) → IsAsked message.now.octets q asked.entry → AreTold zones.now fs found.now → AreHeld zones.now q.qtype found.now → octets.items ≡ fitted transport (reply_for message.now.octets message.now.message q fs)) }
+{
+    let most = most_records(transport);
+    let aa = is_authoritative(found);
+    let rcode = rcode_of(found);
+    let mut reply = reply_with_question(alloc, message, asked, rcode);
+    reply.aa = aa;
+    if answer_count(found) > most as usize {
+        return fit_question(alloc, reply, transport);
+    }
+    if server_count(found) > most as usize {
+        return fit_question(alloc, reply, transport);
+    }
+    let sections = Sections::new(alloc, zones, found, most)?;
+    let is_over = sections.has_more(most);
+    reply.answer = sections.answer;
+    reply.authority = sections.authority;
+    if is_over {
+        return fit_first_sections(alloc, reply, transport);
+    }
+    reply.additional = sections.additional;
+    fit(alloc, reply, transport)
+}
+
+/// The reply to a question: REFUSED where its name is under no held apex.
+fn answer<'a, I: ZoneIndex>(
+    alloc: Heap,
+    zones: &'a [Zone<I>],
+    message: &Message<'_>,
+    asked: Asked<'a>,
+    transport: Transport,
+) -> Result<Vec<u8, Heap>, AllocError>
+    requires { length asked.octets.now < 65524 }
+    ensures { IfOk result (λ octets. (q : Question) → IsAsked message.now.octets q asked.entry → octets.items ≡ fitted transport (answered zones.now message.now.octets message.now.message q)) }
 {
     let found = resolve(alloc, zones, asked.name.again(), asked.qtype)?;
     if found.is_empty() {
-        return Ok(reply_with_question(alloc, message, asked, Rcode::Refused));
+        let reply = reply_with_question(alloc, message, asked, Rcode::Refused);
+        return fit(alloc, reply, transport);
     }
-    let sections = Sections::new(alloc, zones, found.as_slice())?;
-    let aa = is_authoritative(found.as_slice());
-    let rcode = rcode_of(found.as_slice());
-    Ok(with_sections(
-        reply_with_question(alloc, message, asked, rcode),
-        aa,
-        sections,
-    ))
+    reply_to(alloc, zones, message, asked, transport, found.as_slice())
 }
 
 /// The reply to a query, octet for octet as it is defined, with its question: what the lookup finds, or REFUSED where its name is under
@@ -116,8 +139,7 @@ pub fn reply<I: ZoneIndex>(
     let name = query.question.name().to_name(alloc)?;
     let octets = query.message.question_octets();
     let asked = Asked::new(octets, &name, query.question.qtype());
-    let reply = look_up(alloc, zones, &query.message, asked)?;
-    fit(alloc, reply, transport)
+    answer(alloc, zones, &query.message, asked, transport)
 }
 
 /// The reply to a query that is not served: its question, and the response code.

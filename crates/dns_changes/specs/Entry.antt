@@ -1,5 +1,5 @@
 -- The octets of a change in a journal.
-use Rattle.std.specs.Prelude.{ℕ, ◌+◌, ◌-◌, ◌/◌, List, ◌++◌, length}
+use Rattle.std.specs.Prelude.{ℕ, List, ◌++◌, length}
 use Rattle.std.specs.List.{AllByRecursion, flat_map}
 use Rattle.std.specs.Int.{w32, to_be_bytes}
 use Rattle.dns_records.specs.Record.{Record, IsRecord, plain}
@@ -20,7 +20,3 @@ pub record HasEntry (c : Change) : Type 0 where
   pub removed : AllByRecursion IsRecord c.removed
   pub added : AllByRecursion IsRecord c.added
   pub few : AreFew c.removed c.added
-
--- An entry takes one sector, and above 484 octets one more for each 488 begun.
-abbrev pub entry_sectors : ℕ → ℕ
-entry_sectors octets = 1 + (octets - 484 + 487) / 488

@@ -4,7 +4,7 @@ ghost use Rattle.std.specs.Int.{w32, to_be_bytes};
 ghost use Rattle.std.specs.List.{AllByRecursion};
 ghost use Rattle.dns_records.specs.Record.{Record as Stated, IsRecord, plain};
 ghost use Rattle.dns_changes.specs.Change.{Change as StatedChange};
-ghost use Rattle.dns_changes.specs.Entry.{counted, entry, entry_sectors, HasEntry};
+ghost use Rattle.dns_changes.specs.Entry.{counted, entry, HasEntry};
 
 use crate::{Change, ChangeError};
 use dns_memory::Heap;
@@ -41,13 +41,13 @@ impl Change {
         Ok(Change::new(old_soa, removed, new_soa, added))
     }
 
-    /// How many sectors of a journal the octets take: one, and above 484 octets one more for each 488 begun.
-    pub fn sectors(&self) -> usize
-        ensures { result ≡ entry_sectors (length (entry self.now)) }
+    /// How many octets `encode` gives.
+    pub fn encoded_len(&self) -> usize
+        ensures octets { result ≡ length (entry self.now) }
+        ensures valid { HasEntry self.now }
     {
         let soas = plain_len(self.old_soa()) + plain_len(self.new_soa());
-        let octets = soas + counted_len(self.removed()) + counted_len(self.added());
-        1 + (octets.saturating_sub(484) + 487) / 488
+        soas + counted_len(self.removed()) + counted_len(self.added())
     }
 }
 
@@ -64,7 +64,7 @@ fn write_counted(out: &mut Vec<u8, Heap>, records: &[Record]) -> Result<(), Allo
 }
 
 /// The record in plain form at the front of octets, and what is behind it.
-fn split_record(alloc: Heap, octets: &[u8]) -> Result<(Record, &[u8]), ChangeError>
+pub fn split_record(alloc: Heap, octets: &[u8]) -> Result<(Record, &[u8]), ChangeError>
     ensures found { IfOk result (λ r. IsRecord r.0 × (octets.now ≡ plain r.0 ++ r.1.now)) }
     ensures refused { IfErr result (λ e. (e ≡ ChangeError.OutOfMemory) ⊎ (e ≡ ChangeError.BadBytes)) }
     ensures only { (r : Stated) (rest : List ℕ) → IsRecord r → octets.now ≡ plain r ++ rest → IfErr result (λ e. e ≡ ChangeError.OutOfMemory) }
@@ -120,6 +120,7 @@ fn split_counted(alloc: Heap, octets: &[u8]) -> Result<(Vec<Record, Heap>, &[u8]
 /// How many octets the record has in plain form.
 fn plain_len(r: &Record) -> usize
     ensures value { result ≡ length (plain r.now) }
+    ensures valid { IsRecord r.now }
     ensures short { result ≤ 4359 }
 {
     r.owner().as_wire().len() + 8 + r.rdata().len()
@@ -129,6 +130,7 @@ fn plain_len(r: &Record) -> usize
 fn counted_len(records: &[Record]) -> usize
     requires { length records.now < 2 ^ 32 }
     ensures value { result ≡ length (counted records.now) }
+    ensures valid { AllByRecursion IsRecord records.now }
     ensures short { result ≤ 4 + 4359 * length records.now }
 {
     let mut octets = 4;

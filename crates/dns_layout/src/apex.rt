@@ -1,5 +1,5 @@
 // A zone's name as a root holds it.
-ghost use Rattle.std.specs.Prelude.{◌≡◌, ◌≤◌, ⊤, ℕ, List, take, MatchOption};
+ghost use Rattle.std.specs.Prelude.{◌≡◌, ◌≤◌, ◌↔◌, ⊤, ℕ, List, take, IsTrue, MatchOption};
 ghost use Rattle.dns_layout.specs.Apex.{IsPlain, apex_octets};
 
 use crate::fields::put;
@@ -54,6 +54,13 @@ impl Apex {
         ensures plain { IsPlain self.now }
     {
         &self.field[..self.len]
+    }
+
+    /// Whether it is the same name.
+    pub fn is(&self, other: &Apex) -> bool
+        ensures { IsTrue result ↔ (apex_octets self.now ≡ apex_octets other.now) }
+    {
+        self.field() == other.field()
     }
 
     // The name with zeros behind it.

@@ -1,14 +1,23 @@
 // The fields that every sector has, as octets.
-ghost use Rattle.std.specs.Prelude.{◌≡◌, ◌≢◌, ◌≤◌, ◌<◌, ◌+◌, ◌^◌, ◌++◌, take, drop, length, replicate, ◌-◌, IfOk, IfErr};
+ghost use Rattle.std.specs.Prelude.{◌≡◌, ◌≢◌, ◌≤◌, ◌<◌, ◌+◌, ◌^◌, ◌++◌, take, drop, length, replicate, ◌-◌, ◌↔◌, IsTrue, IfOk, IfErr};
 ghost use Rattle.byteorder.specs.Endian.{big_bytes, big_number};
-ghost use Rattle.dns_layout.specs.Sector.{tag, sector_of, HasFields};
+ghost use Rattle.dns_layout.specs.Sector.{AreZeros, tag, sector_of, HasFields, head_room, payload_room};
 
 use crate::LayoutError;
 use byteorder::{BigEndian, ByteOrder};
 use dns_sectors::Sector;
 
+/// How many octets a sector holds beside its tag and its three numbers.
+pub const PAYLOAD_ROOM: usize = 488;
+
+/// How many octets of an entry its head holds.
+pub const HEAD_ROOM: usize = 484;
+
 /// What a sector holds beside its tag and its three numbers.
 pub type Payload = [u8; 488];
+
+/// An entry's octets in its head.
+pub type First = [u8; 484];
 
 // A sector's numbers and its payload.
 #[derive(Clone, Copy)]
@@ -83,12 +92,29 @@ impl Fields {
     }
 }
 
+/// The octets as they stand in a head, with zeros behind them.
+pub fn first_padded(octets: &[u8]) -> First
+    requires { length octets.now ≤ head_room }
+    ensures { result ≡ octets.now ++ replicate (head_room - length octets.now) 0 }
+{
+    let mut first = [0; 484];
+    put(&mut first, 0, octets);
+    first
+}
+
 /// A payload with these octets, and zeros behind them.
 pub fn padded(octets: &[u8]) -> Payload
-    requires { length octets.now ≤ 488 }
-    ensures { result ≡ octets.now ++ replicate (488 - length octets.now) 0 }
+    requires { length octets.now ≤ payload_room }
+    ensures { result ≡ octets.now ++ replicate (payload_room - length octets.now) 0 }
 {
     let mut payload = [0; 488];
     put(&mut payload, 0, octets);
     payload
+}
+
+/// Whether there is nothing but zeros.
+pub fn are_zeros(octets: &[u8]) -> bool
+    ensures { IsTrue result ↔ AreZeros octets.now }
+{
+    octets.iter().all(|octet| *octet == 0)
 }

@@ -5,7 +5,7 @@ ghost use Rattle.dns_layout.specs.Forms.{SaysHead, head_octets, HeadRefused};
 
 use crate::LayoutError;
 use crate::counts::entry_sectors;
-use crate::fields::{Fields, put, u32_octets};
+use crate::fields::{Fields, First, put, u32_octets};
 use byteorder::{BigEndian, ByteOrder};
 use dns_sectors::Sector;
 
@@ -21,7 +21,7 @@ pub struct Head {
     /// How many octets the entry has.
     pub length: u32,
     /// Its first octets. What stands behind the entry's end is not looked at.
-    pub first: [u8; 484],
+    pub first: First,
 }
 
 #[tactic(auto, unfolding(crate::specs::Sector::head_tag))]
@@ -31,7 +31,7 @@ impl Head {
     pub fn bodies(&self) -> u32
         ensures { result + 1 ≡ sectors_of_entry self.now.length }
     {
-        entry_sectors(self.length) - 1
+        (entry_sectors(self.length as usize) - 1) as u32
     }
 
     /// The sector that says this.

@@ -1,5 +1,5 @@
 // Sectors in memory, with a record of the writes and syncs that were made, so that each crash can be tried.
-ghost use Rattle.std.specs.Prelude.{◌≡◌, ◌≤◌, ◌<◌, ◌+◌, ◌-◌, ◌^◌, ◌⊎◌, ◌++◌, [], ◌∷◌, List, length, replicate, vec_len, vec_capacity, slice_set, false, if◌then◌else◌, IfOk, OnOk, OnErr, IsErr};
+ghost use Rattle.std.specs.Prelude.{◌≡◌, ◌≤◌, ◌<◌, ◌+◌, ◌-◌, ◌^◌, ◌⊎◌, ◌++◌, [], ◌∷◌, List, length, replicate, vec_len, vec_capacity, slice_set, slice_get, Some, false, if◌then◌else◌, IfOk, OnOk, OnErr, IsErr};
 ghost use Rattle.dns_sectors.specs.Device.{CountsFailure};
 ghost use Rattle.dns_sectors.specs.Crash.{applied, contents, MayBeLeft};
 ghost use Rattle.dns_sectors.specs.Record.{disk_of, noted, counted, LeftSince};
@@ -261,7 +261,14 @@ impl Sectors for MemorySectors {
         self.failures
     }
 
-    fn read(&mut self, at: usize) -> Result<Sector, DeviceError> {
+    /// A read leaves the record as it is.
+    fn read(&mut self, at: usize) -> Result<Sector, DeviceError>
+        requires { at < length self.old.start }
+        ensures octets { IfOk result (λ octets. slice_get (contents (disk_of self.old)) at ≡ Some octets) }
+        ensures failed { CountsFailure result self.old.failures self.new.failures }
+        ensures ok { OnOk result (self.new ≡ self.old) }
+        ensures err { OnErr result (self.new ≡ counted self.old) }
+    {
         if self.plan.stopped() {
             return Err(self.fail());
         }
@@ -276,6 +283,7 @@ impl Sectors for MemorySectors {
         ensures failed { CountsFailure result self.old.failures self.new.failures }
         ensures ok { OnOk result (self.new ≡ noted self.old (Call.Wrote at octets.now)) }
         ensures err { OnErr result ((self.new ≡ counted self.old) ⊎ (self.new ≡ counted (noted self.old Call.Failed)) ⊎ (self.new ≡ counted (noted self.old (Call.Wrote at octets.now)))) }
+        ensures told { length self.old.calls < self.old.room → OnErr result ((self.new ≡ counted (noted self.old Call.Failed)) ⊎ (self.new ≡ counted (noted self.old (Call.Wrote at octets.now)))) }
     {
         let turn = self.plan.turn();
         if self.is_full() {
@@ -298,6 +306,7 @@ impl Sectors for MemorySectors {
         ensures failed { CountsFailure result self.old.failures self.new.failures }
         ensures ok { OnOk result (self.new ≡ noted self.old Call.Synced) }
         ensures err { OnErr result ((self.new ≡ counted self.old) ⊎ (self.new ≡ counted (noted self.old Call.Failed))) }
+        ensures told { length self.old.calls < self.old.room → OnErr result (self.new ≡ counted (noted self.old Call.Failed)) }
     {
         let turn = self.plan.turn();
         if self.is_full() {

@@ -1,5 +1,5 @@
 ghost use Rattle.std.specs.Int.{w16, to_be_bytes as be_octets};
-ghost use Rattle.std.specs.Prelude.{◌≡◌, ℕ, List, [], ◌+◌, ◌++◌, ◌<◌, ◌≤◌, Err, IfOk, IfErr, OnOk, length};
+ghost use Rattle.std.specs.Prelude.{◌≡◌, ℕ, List, [], ◌+◌, ◌*◌, ◌++◌, ◌<◌, ◌≤◌, Err, IfOk, IfErr, OnOk, length};
 ghost use Rattle.dns_wire.specs.Puts.{Wrote, RefusesUpTo, asked};
 ghost use Rattle.dns_wire.specs.Reply.{echo, stated};
 ghost use Rattle.dns_wire.specs.Reads.{Reads};
@@ -104,11 +104,12 @@ impl Writer {
     }
 }
 
-/// A reply has at most one packed text, and the computed text is that, and reads as the reply. The computed packing writes a name as
+/// A reply has at most one packed text, and the computed text is that, and reads as the reply. Each record takes ten octets or more. The computed packing writes a name as
 /// it is to be written, and keeps its table of places right.
 pub fn one_packed_text()
     ensures once { (t u : List ℕ) (r : Stated) → IsPacked t r → IsPacked u r → t ≡ u }
     ensures packed { (r : Stated) → IsReply r → IsPacked (text r) r }
+    ensures long { (r : Stated) → 12 + 10 * (length r.answer + length r.authority + length r.additional) ≤ length (text r) }
     ensures reads_back { (r : Stated) → IsReply r → Reads (text r) (message_of_reply r) }
     ensures written { (earlier : List Used) (places : List Place) (name : Labels) → AreThePlaces (StandsAt earlier) places → IsWritten (StandsAt earlier) name (pack_name places name) }
     ensures first { AreThePlaces (StandsAt []) [] }

@@ -25,14 +25,14 @@ pub(crate) fn sort(records: &mut Vec<Record, Heap>) -> Result<(), AllocError>
 }
 
 /// Whether each record is above the one before it.
-pub(crate) fn rises(records: &[Record]) -> bool
+pub fn rises(records: &[Record]) -> bool
     ensures { result ≡ is_ordered records.now }
 {
     records.is_sorted_by(|a, b| a.compare(b).is_lt())
 }
 
 /// The set of records in order.
-pub(crate) fn set_of<I: ZoneIndex>(alloc: Heap, records: Vec<Record, Heap>) -> Result<I, AllocError>
+pub fn set_of<I: ZoneIndex>(alloc: Heap, records: Vec<Record, Heap>) -> Result<I, AllocError>
     requires { is_ordered records.items ≡ true }
     ensures { IfOk result (λ index. I.records index ≡ records.entry.items) }
 {

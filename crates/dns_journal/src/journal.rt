@@ -1,0 +1,296 @@
+// Staged entries become durable in two phases: their bodies, and then their heads.
+ghost use Rattle.std.specs.Prelude.{length, take, drop, replicate, ◌≤◌, ◌+◌, ◌-◌, ◌^◌, ◌++◌, ◌∷◌, ◌≡◌, ◌≢◌, ◌<◌, ◌↔◌, [], ℕ, List, true, false, IsOk, OnOk, OnErr};
+ghost use Rattle.dns_sectors.specs.Device.{Only, LeavesOnly, CountsFailure};
+ghost use Rattle.dns_sectors.specs.Crash.{applied, CrashOf};
+ghost use Rattle.dns_sectors.specs.Phase.{pairs, AllWithin};
+ghost use Rattle.dns_layout.specs.Sector.{sector_at, head_room, entry_sectors as sectors_of_entry};
+ghost use Rattle.dns_changes.specs.Entry.{HasEntry, entry};
+ghost use Rattle.dns_journal.specs.Phases.{LeftByBatch};
+ghost use Rattle.dns_journal.specs.Staging.{Stages, PushesBodies};
+
+use crate::Cursor;
+use dns_changes::Change;
+use dns_layout::{Body, HEAD_ROOM, Head, PAYLOAD_ROOM, entry_sectors, first_padded, padded};
+use dns_memory::Heap;
+use dns_sectors::{DeviceError, SectorWrite, Sectors, write_phase};
+use std::alloc::AllocError;
+
+/// Why a change was not staged.
+#[derive(Clone, Copy, Debug, PartialEq, Eq)]
+pub enum StageError {
+    /// Its entry takes more sectors than are left.
+    Full,
+    /// The device has failed before: the store is to be opened again.
+    Closed,
+    /// Memory was refused.
+    OutOfMemory,
+}
+
+impl From<AllocError> for StageError {
+    ghost use Rattle.dns_journal.specs.declared.journal.StageError.TheVariants.{OutOfMemory};
+
+    ghost from_gives = { λ _ e. e ≡ OutOfMemory };
+
+    fn from(_error: AllocError) -> StageError {
+        StageError::OutOfMemory
+    }
+}
+
+/// Why staged entries were not made durable.
+#[derive(Clone, Copy, Debug, PartialEq, Eq)]
+pub enum FlushError {
+    /// The device failed.
+    Device,
+    /// The device has failed before: the store is to be opened again.
+    Closed,
+}
+
+#[derive(Drop)]
+pub struct Journal<D: Sectors> {
+    device: D,
+    bodies: Vec<SectorWrite, Heap>,
+    heads: Vec<SectorWrite, Heap>,
+    is_closed: bool,
+    // where the next entry goes, behind those that are staged, and the store's open count
+    next: Cursor,
+    ghost bodies_within: { AllWithin (D.count device) bodies.items },
+    ghost heads_within: { AllWithin (D.count device) heads.items },
+    ghost next_within: { next.until ≤ D.count device },
+    ghost next_until: { next.at ≤ next.until },
+    ghost next_small: { next.until ≤ 2 ^ 20 },
+}
+
+impl<D: Sectors> Journal<D> {
+    ghost use Rattle.dns_layout.specs.Sector.{open_count, bank_open, number};
+    ghost use Rattle.dns_layout.specs.Journal.{Entry, size_of, octets_of, AllBehind, place_behind};
+    ghost use Rattle.dns_layout.specs.Store.{Shape, Stored, OpensBy, with_more, bank_end, journal_place, version_of};
+    ghost use Rattle.dns_journal.specs.State.{Keeps, LeavesPart, JournalLeavesOnly, HasFailed, is_closed, device_of, left_of, newest_of};
+
+    /// A journal on a device that was opened, with nothing staged. It makes no device operation.
+    pub fn over(alloc: Heap, device: D, next: Cursor) -> Journal<D>
+        requires within { next.until ≤ D.count device }
+        requires until { next.at ≤ next.until }
+        requires small { next.until ≤ 2 ^ 20 }
+        ensures keeps { (shape : Shape) (k : Stored) (root : List ℕ) (parts : List (List ℕ)) → D.is_honest device → Only (D.seen device) (D.may_leave device)
+            → OpensBy shape (D.seen device) root parts k → bank_open root ≤ open_count root → AllBehind (open_count root) (version_of k) (D.seen device)
+            → next.until ≡ bank_end shape (number root) → next.at ≡ place_behind (journal_place shape (number root)) k.entries → next.version ≡ version_of k → next.opened ≡ open_count root
+            → Keeps shape result k [] }
+        ensures device { device_of result ≡ device }
+    {
+        Journal {
+            device,
+            bodies: Vec::new(alloc),
+            heads: Vec::new(alloc),
+            is_closed: false,
+            next,
+        }
+    }
+
+    /// The device has failed.
+    pub fn is_closed(&self) -> bool
+        ensures { result ≡ is_closed self.now }
+    {
+        self.is_closed
+    }
+
+    /// The number of the newest version, staged ones among them.
+    pub fn newest(&self) -> u64
+        ensures { result ≡ newest_of self.now }
+    {
+        self.next.version
+    }
+
+    /// How many sectors are left for entries.
+    pub fn left(&self) -> usize
+        ensures left { result ≡ left_of self.now }
+        ensures kept { (shape : Shape) (k : Stored) (staged : List Entry) → Keeps shape self.now k staged
+            → (root : List ℕ) × (sector_at (D.seen (device_of self.now)) 0 ≡ root) × (result ≡ bank_end shape (number root) - place_behind (place_behind (journal_place shape (number root)) k.entries) staged) }
+    {
+        self.next.until - self.next.at
+    }
+
+    /// Puts a change behind the newest entry, in memory. Nothing is written.
+    pub fn stage(&mut self, alloc: Heap, change: &Change) -> Result<(), StageError>
+        requires { newest_of self.old < 2 ^ 64 - 1 }
+        ensures staged { (shape : Shape) (k : Stored) (staged : List Entry) → Keeps shape self.old k staged
+            → OnOk result ((e : Entry) × (octets_of e ≡ entry change.now) × (size_of e ≡ sectors_of_entry (length (entry change.now))) × Keeps shape self.new k (staged ++ e ∷ [])) }
+        ensures written { OnOk result (HasEntry change.now) }
+        ensures stays { (shape : Shape) (k : Stored) (staged : List Entry) → Keeps shape self.old k staged → OnErr result (Keeps shape self.new k staged) }
+        ensures left { OnErr result (left_of self.new ≡ left_of self.old) }
+        ensures newest { OnErr result (newest_of self.new ≡ newest_of self.old) }
+        ensures full { result ≡ Err StageError.Full → left_of self.old < sectors_of_entry (length (entry change.now)) }
+        ensures fits { OnOk result (left_of self.new + sectors_of_entry (length (entry change.now)) ≡ left_of self.old) }
+        ensures closed { result ≡ Err StageError.Closed ↔ is_closed self.old ≡ true }
+        ensures stays_open { is_closed self.new ≡ is_closed self.old }
+        ensures device { device_of self.new ≡ device_of self.old }
+    {
+        if self.is_closed {
+            return Err(StageError::Closed);
+        }
+        if entry_sectors(change.encoded_len()) > self.left() {
+            return Err(StageError::Full);
+        }
+        let octets = change.encode(alloc)?;
+        stage_octets(&mut self.next, &mut self.bodies, &mut self.heads, &octets)?;
+        Ok(())
+    }
+
+    /// Makes the staged entries durable. After an error every call answers Closed, until the store is opened again.
+    pub fn flush(&mut self) -> Result<(), FlushError>
+        // A crash at any moment of it leaves a first part of the staged entries behind what was stored.
+        ensures any_moment { (shape : Shape) (k : Stored) (staged : List Entry) → Keeps shape self.old k staged → JournalLeavesOnly self.old self.new (LeavesPart shape k staged) }
+        ensures flushed { (shape : Shape) (k : Stored) (staged : List Entry) → Keeps shape self.old k staged → OnOk result (Keeps shape self.new (with_more k staged) []) }
+        ensures closes { OnErr result (is_closed self.new ≡ true) }
+        ensures closed { is_closed self.old ≡ true → (result ≡ Err FlushError.Closed) × (device_of self.new ≡ device_of self.old) }
+
+        // Nothing staged is no device operation.
+        ensures idle { (shape : Shape) (k : Stored) → Keeps shape self.old k [] → result ≡ Err FlushError.Device → ⊥ }
+        ensures left { left_of self.new ≡ left_of self.old }
+        ensures newest { newest_of self.new ≡ newest_of self.old }
+        ensures honest { D.is_honest (device_of self.new) ↔ D.is_honest (device_of self.old) }
+
+        // It doesn't give up by itself.
+        ensures device { result ≡ Err FlushError.Device → HasFailed self.old self.new }
+        ensures only_closed { result ≡ Err FlushError.Closed → is_closed self.old ≡ true }
+    {
+        if self.is_closed {
+            return Err(FlushError::Closed);
+        }
+        match write_batch(&mut self.device, &self.bodies, &self.heads) {
+            Ok(()) => {
+                self.bodies.clear();
+                self.heads.clear();
+                Ok(())
+            }
+            Err(_) => {
+                self.is_closed = true;
+                Err(FlushError::Device)
+            }
+        }
+    }
+
+    /// The device, in whatever state it is. What was staged is forgotten.
+    pub fn into_device(self) -> D
+        ensures { result ≡ device_of self }
+    {
+        let Journal {
+            device,
+            bodies: _,
+            heads: _,
+            is_closed: _,
+            next: _,
+        } = self;
+        device
+    }
+}
+
+// Puts the sectors of an entry with these octets behind those that are to be written. Where memory is refused, nothing
+// changes.
+fn stage_octets(
+    next: &mut Cursor,
+    bodies: &mut Vec<SectorWrite, Heap>,
+    heads: &mut Vec<SectorWrite, Heap>,
+    octets: &[u8],
+) -> Result<(), AllocError>
+    requires room { next.old.at + sectors_of_entry (length octets.now) ≤ next.old.until }
+    requires number { next.old.version < 2 ^ 64 - 1 }
+    requires small { next.old.until ≤ 2 ^ 20 }
+    requires len { length octets.now < 2 ^ 32 }
+    ensures staged { OnOk result (Stages next.old next.new bodies.old.items bodies.new.items heads.old.items heads.new.items octets.now) }
+    ensures stays { OnErr result ((next.new ≡ next.old) × (bodies.new.items ≡ bodies.old.items) × (heads.new.items ≡ heads.old.items)) }
+    ensures within { (n : ℕ) → next.old.until ≤ n → AllWithin n bodies.old.items → AllWithin n bodies.new.items }
+    ensures heads_within { (n : ℕ) → next.old.until ≤ n → AllWithin n heads.old.items → AllWithin n heads.new.items }
+{
+    let len = octets.len();
+    let in_head = len.min(HEAD_ROOM);
+    let first = first_padded(&octets[..in_head]);
+    let head = Head {
+        open_count: next.opened,
+        version: next.version + 1,
+        length: len as u32,
+        first,
+    };
+    heads.reserve(1)?;
+    push_bodies(bodies, next.at + 1, &head, &octets[in_head..])?;
+    let write = SectorWrite {
+        at: next.at,
+        octets: head.encode(),
+    };
+    heads.push_reserved(write);
+    next.at += 1 + head.bodies() as usize;
+    next.version += 1;
+    Ok(())
+}
+
+// Puts the bodies of an entry with this head, from this place on, behind those that are to be written.
+fn push_bodies(
+    bodies: &mut Vec<SectorWrite, Heap>,
+    at: usize,
+    head: &Head,
+    rest: &[u8],
+) -> Result<(), AllocError>
+    requires len { length rest.now ≡ head.now.length - head_room }
+    requires fits { at + sectors_of_entry head.now.length < 2 ^ 32 }
+    ensures pushed { OnOk result (PushesBodies at head.now rest.now (sectors_of_entry head.now.length - 1) (pairs bodies.old.items) (pairs bodies.new.items)) }
+    ensures stays { OnErr result (bodies.new.items ≡ bodies.old.items) }
+    ensures within { (n : ℕ) → at + sectors_of_entry head.now.length ≤ n + 1 → AllWithin n bodies.old.items → AllWithin n bodies.new.items }
+{
+    let count = head.bodies();
+    bodies.reserve(count as usize)?;
+    let mut left = rest;
+    for i in 0..count {
+        let size = left.len().min(PAYLOAD_ROOM);
+        let (part, behind) = left.split_at(size);
+        left = behind;
+        let body = Body {
+            open_count: head.open_count,
+            version: head.version,
+            index: i,
+            octets: padded(part),
+        };
+        let write = SectorWrite {
+            at: at + i as usize,
+            octets: body.encode(),
+        };
+        bodies.push_reserved(write);
+    }
+    Ok(())
+}
+
+// A phase, if there is a write to be made.
+fn write_some<D: Sectors>(device: &mut D, writes: &[SectorWrite]) -> Result<(), DeviceError>
+    requires { AllWithin (D.count device.old) writes.now }
+    ensures idle { writes.now ≡ [] → (device.new ≡ device.old) × IsOk result }
+    ensures written { D.is_honest device.old → OnOk result (D.seen device.new ≡ applied (pairs writes.now) (D.seen device.old)) }
+    ensures durable { D.is_honest device.old → Only (D.seen device.old) (D.may_leave device.old) → OnOk result (Only (D.seen device.new) (D.may_leave device.new)) }
+    ensures any_moment { D.is_honest device.old → LeavesOnly D.moment D.left_since device.old device.new (CrashOf (D.may_leave device.old) (pairs writes.now)) }
+    ensures failed { CountsFailure result (D.failed device.old) (D.failed device.new) }
+    ensures honest { D.is_honest device.new ↔ D.is_honest device.old }
+    ensures count { D.count device.new ≡ D.count device.old }
+{
+    if writes.is_empty() {
+        return Ok(());
+    }
+    write_phase(device, writes)
+}
+
+// The two phases. With nothing to write there is no device operation.
+fn write_batch<D: Sectors>(
+    device: &mut D,
+    bodies: &[SectorWrite],
+    heads: &[SectorWrite],
+) -> Result<(), DeviceError>
+    requires bodies { AllWithin (D.count device.old) bodies.now }
+    requires heads { AllWithin (D.count device.old) heads.now }
+    ensures idle { bodies.now ≡ [] → heads.now ≡ [] → (device.new ≡ device.old) × IsOk result }
+    ensures written { D.is_honest device.old → OnOk result (D.seen device.new ≡ applied (pairs heads.now) (applied (pairs bodies.now) (D.seen device.old))) }
+    ensures durable { D.is_honest device.old → Only (D.seen device.old) (D.may_leave device.old) → OnOk result (Only (D.seen device.new) (D.may_leave device.new)) }
+    ensures any_moment { D.is_honest device.old → Only (D.seen device.old) (D.may_leave device.old)
+        → LeavesOnly D.moment D.left_since device.old device.new (LeftByBatch (pairs bodies.now) (pairs heads.now) (D.seen device.old)) }
+    ensures failed { CountsFailure result (D.failed device.old) (D.failed device.new) }
+    ensures honest { D.is_honest device.new ↔ D.is_honest device.old }
+    ensures count { D.count device.new ≡ D.count device.old }
+{
+    write_some(device, bodies)?;
+    write_some(device, heads)
+}

@@ -1,0 +1,70 @@
+use Rattle.std.proofs.Common.{rules, inl, inr, refl, ◌≡◌, ◌⊎◌, MatchOption, List, [], ◌∷◌, ◌++◌, sym, ◌∙◌, ap, subst}
+use Rattle.std.specs.Prelude.{Option}
+use Rattle.std.proofs.lemmas.Result.{err_from_is_err_and}
+use Rattle.dns_zone.specs.Zone.{IsZone}
+use Rattle.dns_changes.specs.Change.{Change}
+use Rattle.dns_journal.specs.declared.read.Found.{Found}
+use Rattle.dns_journal.specs.declared.read.Cursor.{Cursor}
+use Rattle.dns_journal.specs.Reads.{Ends, Finds, IsRefusal}
+use Rattle.dns_journal.proofs.Looking.{none_read, reads_then}
+use Rattle.dns_store.specs.Recovered.{IsRecovered}
+use Rattle.dns_store.proofs.Recovering.{Goes, begins, next_is, all_recovered, not_refused}
+use Rattle.dns_store.proofs.versions.read_versions.Goals as goal
+
+pub entries-init : goal.entries-init
+entries-init g c = record {
+  reads = none_read c.args.device.now (λ honest left since. g.met.D.Sectors.only_now c.args.device.now left honest since);
+  until = refl;
+  apex = refl;
+  goes = λ honest vs es reads are.
+      subst (λ (l : List Change). Goes c.args.cursor.now c.args.cursor.now (g.D.Sectors.seen c.args.device.now) c.args.base.apex c.args.base.records vs es c.args.base.records l) (sym c.new-changes.ensures.items)
+      (begins c.args.cursor.now (g.D.Sectors.seen c.args.device.now) c.args.base.apex c.args.base.records vs es reads are);
+}
+
+pub returns-in_err-found-clause-reads_all : goal.returns-in_err-found-clause-reads_all
+returns-in_err-found-clause-reads_all g c honest vs es reads are =
+    let p = err_from_is_err_and c.from_residual.result c.from_residual.ensures.1 in
+    let so = c.entries.invariant.goes honest vs es reads are in
+    let refusal = subst (λ s. IsRefusal c.entries.cursor s c.in_err-found.field-0.0) (c.entries.invariant.reads.seen honest) (c.in_err-found.ensures.damaged (c.entries.invariant.reads.honest.1 honest)) in
+    rw p.1 (not_refused c.in_err-found.field-0.0 p.0 p.2 c.entries.cursor (g.D.Sectors.seen c.args.device.now) refusal so.left so.reads)
+
+pub returns-in-Err-clause-reads_all : goal.returns-in-Err-clause-reads_all
+returns-in-Err-clause-reads_all g c honest vs es reads are =
+    let so = c.entries.invariant.goes honest vs es reads are in
+    let same = c.entries.invariant.reads.seen honest in
+    let finds = subst (λ (r : Option Found). MatchOption r (Ends c.entries.cursor (g.D.Sectors.seen c.entries.device)) (λ e. Finds c.entries.cursor c.next_entry.new.cursor (g.D.Sectors.seen c.entries.device) e.octets.items × (e.head ≡ c.entries.cursor.at))) c.in-Some.is
+        (c.in_ok-found.ensures.found (c.entries.invariant.reads.honest.1 honest)) in
+    let here = subst (λ s. Finds c.entries.cursor c.next_entry.new.cursor s c.in-Some.found.octets.items) same finds.0 in
+    let next = next_is c.args.cursor.now c.entries.cursor c.next_entry.new.cursor (g.D.Sectors.seen c.args.device.now) c.args.base.apex c.args.base.records vs es c.entries.zone.records c.entries.changes.items c.in-Some.found.octets.items here so in
+    let valid = subst (λ a. IsZone (record { apex = a; records = next.after })) (sym c.entries.invariant.apex) next.valid in
+    inr (c.fault_at.ensures.memory (c.in-Err.ensures.only next.after next.change next.leads next.written (next.octets_are ∙ sym c.deref.ensures.value) valid))
+
+pub entries-preserved : goal.entries-preserved
+entries-preserved g c = record {
+  reads = reads_then _ _ _ c.entries.invariant.reads c.next_entry.ensures.reads;
+  until = c.next_entry.ensures.until ∙ c.entries.invariant.until;
+  apex = c.in-Ok.ensures.found.3 ∙ c.entries.invariant.apex;
+  goes = λ honest vs es reads are.
+      let so = c.entries.invariant.goes honest vs es reads are in
+      let same = c.entries.invariant.reads.seen honest in
+      let finds = subst (λ (r : Option Found). MatchOption r (Ends c.entries.cursor (g.D.Sectors.seen c.entries.device)) (λ e. Finds c.entries.cursor c.next_entry.new.cursor (g.D.Sectors.seen c.entries.device) e.octets.items × (e.head ≡ c.entries.cursor.at))) c.in-Some.is
+          (c.in_ok-found.ensures.found (c.entries.invariant.reads.honest.1 honest)) in
+      let here = subst (λ s. Finds c.entries.cursor c.next_entry.new.cursor s c.in-Some.found.octets.items) same finds.0 in
+      let next = next_is c.args.cursor.now c.entries.cursor c.next_entry.new.cursor (g.D.Sectors.seen c.args.device.now) c.args.base.apex c.args.base.records vs es c.entries.zone.records c.entries.changes.items c.in-Some.found.octets.items here so in
+      let valid = subst (λ a. IsZone (record { apex = a; records = next.after })) (sym c.entries.invariant.apex) next.valid in
+      let is = c.in-Ok.ensures.only next.after next.change next.leads next.written (next.octets_are ∙ sym c.deref.ensures.value) valid in
+      let pushed : c.push.new.self.items ≡ c.entries.changes.items ++ c.in-Ok.step.0 ∷ [] = search rules in
+      subst (λ (l : List Change). Goes c.args.cursor.now c.next_entry.new.cursor (g.D.Sectors.seen c.args.device.now) c.args.base.apex c.args.base.records vs es c.in-Ok.step.1.records l) (sym (pushed ∙ ap (λ (d : Change). c.entries.changes.items ++ d ∷ []) is.0))
+      (subst (λ rs. Goes c.args.cursor.now c.next_entry.new.cursor (g.D.Sectors.seen c.args.device.now) c.args.base.apex c.args.base.records vs es rs (c.entries.changes.items ++ next.change ∷ [])) (sym is.1) next.goes);
+}
+
+pub returns-clause-reads_all : goal.returns-clause-reads_all
+returns-clause-reads_all g c honest vs es reads are =
+    let so = c.entries.invariant.goes honest vs es reads are in
+    let same = c.entries.invariant.reads.seen honest in
+    let ends = subst (λ (r : Option Found). MatchOption r (Ends c.entries.cursor (g.D.Sectors.seen c.entries.device)) (λ e. Finds c.entries.cursor c.next_entry.new.cursor (g.D.Sectors.seen c.entries.device) e.octets.items × (e.head ≡ c.entries.cursor.at))) c.in_default.is
+        (c.in_ok-found.ensures.found (c.entries.invariant.reads.honest.1 honest)) in
+    let here = subst (λ s. Ends c.entries.cursor s) same ends in
+    let still : c.next_entry.new.cursor ≡ c.entries.cursor = search rules in
+    subst (λ (n : Cursor). IsRecovered c.args.cursor.now n c.args.base.records vs es c.entries.zone.records c.entries.changes.items) (sym still)
+    (all_recovered c.args.cursor.now c.entries.cursor (g.D.Sectors.seen c.args.device.now) c.args.base.apex c.args.base.records vs es c.entries.zone.records c.entries.changes.items here so)

@@ -1,0 +1,84 @@
+//! The versions behind the base, read from the journal.
+ghost use Rattle.std.specs.Prelude.{◌≡◌, ◌⊎◌, ◌≤◌, ◌<◌, List, true, IfOk, IfErr, MatchResult};
+ghost use Rattle.std.specs.List.{AllByRecursion, flat_map};
+ghost use Rattle.dns_records.specs.Record.{Record as Stated};
+ghost use Rattle.dns_zone.specs.Zone.{Zone as StatedZone, IsZone};
+ghost use Rattle.dns_layout.specs.Journal.{Entry};
+ghost use Rattle.dns_changes.specs.Change.{Change as StatedChange, IsChange, applied};
+ghost use Rattle.dns_changes.specs.Entry.{HasEntry, entry};
+ghost use Rattle.dns_journal.specs.Reads.{OnlyReads, HasRisen, ReadsFrom};
+ghost use Rattle.dns_store.specs.Versions.{Versions};
+ghost use Rattle.dns_store.specs.Opens.{AreChanges};
+ghost use Rattle.dns_store.specs.Recovered.{IsRecovered};
+
+use crate::OpenError;
+use dns_changes::{Change, ChangeError};
+use dns_journal::{Cursor, ReadError, next_entry};
+use dns_memory::Heap;
+use dns_sectors::Sectors;
+use dns_zone::{Zone, ZoneIndex};
+use std::alloc::AllocError;
+
+// The change with these octets, and the zone that it makes of another; an error other than `OutOfMemory` where there is
+// no such change, or it makes no zone.
+fn take_step<I: ZoneIndex>(
+    alloc: Heap,
+    zone: &Zone<I>,
+    octets: &[u8],
+) -> Result<(Change, Zone<I>), ChangeError>
+    ensures found { IfOk result (λ r. HasEntry r.0 × (entry r.0 ≡ octets.now) × (applied r.0 zone.now.records ≡ r.1.records) × (r.1.apex ≡ zone.now.apex) × IsZone r.1) }
+    ensures only { (after : List Stated) (c : StatedChange) → IsChange zone.now.records after c → HasEntry c → entry c ≡ octets.now → IsZone (record { apex = zone.now.apex; records = after })
+        → MatchResult result (λ r. (r.0 ≡ c) × (r.1.records ≡ after)) (λ e. e ≡ ChangeError.OutOfMemory) }
+{
+    let change = Change::decode(alloc, octets)?;
+    let apex = zone.apex().clone()?;
+    let mut set = zone.index().fork()?;
+    change.apply(&mut set)?;
+    match Zone::from_index(apex, set) {
+        Ok(next) => Ok((change, next)),
+        Err(_) => Err(ChangeError::BadBytes),
+    }
+}
+
+// The newest version, and the changes that lead to it from the base, by the entries from the cursor on. The cursor goes
+// behind them.
+pub(crate) fn read_versions<D: Sectors, I: ZoneIndex>(
+    alloc: Heap,
+    device: &mut D,
+    cursor: &mut Cursor,
+    base: Zone<I>,
+) -> Result<(Zone<I>, Vec<Change, Heap>), OpenError>
+    requires { cursor.old.until ≤ D.count device.old }
+    ensures apex { IfOk result (λ r. r.0.apex ≡ base.apex) }
+    ensures reads_all { D.is_honest device.old → (vs : Versions) (es : List Entry) → ReadsFrom cursor.old (D.seen device.old) es → AreChanges base.apex base.records vs es
+        → MatchResult result (λ r. IsRecovered cursor.old cursor.new base.records vs es r.0.records r.1.items) (λ e. (e ≡ OpenError.Device) ⊎ (e ≡ OpenError.OutOfMemory)) }
+    ensures until { cursor.new.until ≡ cursor.old.until }
+    ensures device { result ≡ Err OpenError.Device → HasRisen (D.failed device.old) (D.failed device.new) }
+    ensures reads { OnlyReads D.Sectors device.old device.new }
+{
+    let mut zone = base;
+    let mut changes = Vec::new(alloc);
+    'entries: while let Some(found) = next_entry(alloc, device, cursor)? {
+        let (change, next) = match take_step(alloc, &zone, &found.octets) {
+            Ok(step) => step,
+            Err(error) => return Err(fault_at(found.head, error)),
+        };
+        changes.push(change).map_err(AllocError::from)?;
+        zone = next;
+    }
+    Ok((zone, changes))
+}
+
+// What is said of an entry, with its head there, that makes no zone.
+fn fault_at(head: usize, error: ChangeError) -> OpenError
+    ensures memory { error ≡ ChangeError.OutOfMemory → result ≡ OpenError.OutOfMemory }
+    ensures other { (result ≡ OpenError.OutOfMemory) ⊎ (result ≡ OpenError.Damaged head) }
+{
+    match error {
+        ChangeError::OutOfMemory => OpenError::OutOfMemory,
+        ChangeError::WrongSoa => OpenError::Damaged(head),
+        ChangeError::RemovesAbsent => OpenError::Damaged(head),
+        ChangeError::AddsPresent => OpenError::Damaged(head),
+        ChangeError::BadBytes => OpenError::Damaged(head),
+    }
+}
