@@ -10,7 +10,7 @@ use Rattle.dns_names.specs.Name.{Labels, IsName, wire}
 use Rattle.dns_names.specs.PlainLaws.{parts_same, wire_first}
 use Rattle.dns_records.specs.Record.{Record, IsRecord, plain}
 use Rattle.dns_records.proofs.Frames.{known_small}
-use Rattle.dns_changes.specs.Change.{Change, AreFew}
+use Rattle.dns_changes.specs.Change.{Change, AreFew, is_formed}
 use Rattle.dns_changes.specs.Entry.{counted, entry, HasEntry}
 
 plain_parts : (r : Record) (rest : List ℕ) → plain r ++ rest ≡ wire r.owner ++ (to_be_bytes w16 r.rtype ++ (to_be_bytes w32 r.ttl ++ (to_be_bytes w16 (length r.rdata) ++ (r.rdata ++ rest))))
@@ -163,9 +163,10 @@ empty_is : (xs : List ℕ) → (length xs == 0) ≡ true → xs ≡ []
 empty_is [] e = refl
 empty_is (x ∷ xs) e = absurd (grind (arith, nat_tests))
 
-pub has_entry : (o a b d rest : List ℕ) (old new : Record) (rs ss : List Record) → Reads o old a → Reads a new b → ReadsAll b rs d → ReadsAll d ss rest → (length rest == 0) ≡ true → HasEntry (change_of old rs new ss) × (entry (change_of old rs new ss) ≡ o)
-has_entry o a b d rest old new rs ss f g k m none =
-    (record { old_soa = f.0; new_soa = g.0; removed = k.0; added = m.0; few = record { going = k.1; coming = m.1 } }, entry_of old new rs ss o a b d rest f.1 g.1 k.2 m.2 (empty_is rest none))
+pub has_entry : (o a b d rest : List ℕ) (old new : Record) (rs ss : List Record) → Reads o old a → Reads a new b → ReadsAll b rs d → ReadsAll d ss rest → (length rest == 0) ≡ true → is_formed (change_of old rs new ss) ≡ true
+    → HasEntry (change_of old rs new ss) × (entry (change_of old rs new ss) ≡ o)
+has_entry o a b d rest old new rs ss f g k m none form =
+    (record { old_soa = f.0; new_soa = g.0; removed = k.0; added = m.0; few = record { going = k.1; coming = m.1 }; formed = form }, entry_of old new rs ss o a b d rest f.1 g.1 k.2 m.2 (empty_is rest none))
 
 pub left_over : (rest : List ℕ) (r : Bool) → r ≡ (length rest == 0) → r ≡ false → rest ≡ [] → ⊥
 left_over rest r e f none = let full : (length rest == 0) ≡ true = ap (λ (xs : List ℕ). length xs == 0) none in absurd cc

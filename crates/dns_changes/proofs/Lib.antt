@@ -1,3 +1,4 @@
 pub mod Steps
 pub mod Entries
 pub mod Walking
+pub mod Formed

@@ -3,7 +3,7 @@ use Rattle.std.specs.Prelude.{◌≡◌, ◌<◌, ◌^◌, length, Bool, not, �
 use Rattle.std.specs.List.{list_any, list_all}
 use Rattle.dns_records.specs.Types.{type_soa}
 use Rattle.dns_records.specs.Record.{Record}
-use Rattle.dns_zone.specs.Records.{has, contains, united}
+use Rattle.dns_zone.specs.Records.{has, contains, is_ordered, united}
 use Rattle.dns_zone.specs.Zone.{has_twice, soas}
 use Rattle.dns_changes.specs.declared.ChangeError.{ChangeError}
 use Rattle.dns_changes.specs.declared.ChangeError.TheVariants.{WrongSoa, RemovesAbsent, AddsPresent}
@@ -22,6 +22,10 @@ pub record AreFew (removed added : List Record) : Type 0 where
 
 abbrev pub is_soa : Record → Bool
 is_soa r = r.rtype == type_soa
+
+-- The SOAs are SOAs and no other record is one, and each list is in order.
+abbrev pub is_formed : Change → Bool
+is_formed c = is_soa c.old_soa && is_soa c.new_soa && not (list_any is_soa c.removed) && not (list_any is_soa c.added) && is_ordered c.removed && is_ordered c.added
 
 -- The record is no SOA, and not in the others. A record whose TTL changed is not in the others.
 abbrev pub is_lone : List Record → Record → Bool

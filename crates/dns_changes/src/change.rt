@@ -1,6 +1,6 @@
 ghost use Rattle.std.specs.Prelude.{◌≡◌, ◌⊎◌, true, false, not, ◌∷◌, Some, None, IfOk, IfErr, OnOk, OnErr};
 ghost use Rattle.dns_zone.specs.Records.{contains, has, put, united, without};
-ghost use Rattle.dns_changes.specs.Change.{AreFew, applied, are_held, are_new, change_fault, removed_from};
+ghost use Rattle.dns_changes.specs.Change.{AreFew, is_formed, applied, are_held, are_new, change_fault, removed_from};
 
 use crate::ChangeError;
 use dns_memory::Heap;
@@ -20,24 +20,26 @@ pub struct Change {
 }
 
 impl Model for Change {
-    ghost use Rattle.dns_changes.specs.Change.{Change as Stated, AreFew};
+    ghost use Rattle.std.specs.Prelude.{◌≡◌, true};
+    ghost use Rattle.dns_changes.specs.Change.{Change as Stated, AreFew, is_formed};
 
     ghost Value = { Stated };
 
     ghost view = { λ c. record { old_soa = c.old_soa; removed = c.removed.items; new_soa = c.new_soa; added = c.added.items } };
 
-    ghost invariant = { λ c. AreFew c.removed.items c.added.items };
+    ghost invariant = { λ c. AreFew c.removed.items c.added.items × (is_formed (record { old_soa = c.old_soa; removed = c.removed.items; new_soa = c.new_soa; added = c.added.items }) ≡ true) };
 }
 
 impl Change {
-    /// The change of these records, of which there are so few on each side that their number has 32 bits.
+    /// The change of these records, of which the two SOAs alone are SOAs. Each list is in order, and so short that its length has 32 bits.
     pub fn new(
         old_soa: Record,
         removed: Vec<Record, Heap>,
         new_soa: Record,
         added: Vec<Record, Heap>,
     ) -> Change
-        requires { AreFew removed.items added.items }
+        requires few { AreFew removed.items added.items }
+        requires formed { is_formed (record { old_soa = old_soa; removed = removed.items; new_soa = new_soa; added = added.items }) ≡ true }
         ensures { result ≡ record { old_soa = old_soa; removed = removed.entry.items; new_soa = new_soa; added = added.entry.items } }
     {
         Change {
@@ -59,6 +61,7 @@ impl Change {
     pub fn removed(&self) -> &[Record]
         ensures records { result.now ≡ self.now.removed }
         ensures few { AreFew self.now.removed self.now.added }
+        ensures formed { is_formed self.now ≡ true }
     {
         &self.removed
     }

@@ -6,6 +6,7 @@ ghost use Rattle.dns_records.specs.Record.{Record as Stated, IsRecord, plain};
 ghost use Rattle.dns_changes.specs.Change.{Change as StatedChange};
 ghost use Rattle.dns_changes.specs.Entry.{counted, entry, HasEntry};
 
+use crate::form::is_formed;
 use crate::{Change, ChangeError};
 use dns_memory::Heap;
 use dns_records::{Record, RecordError};
@@ -36,6 +37,9 @@ impl Change {
         let (removed, rest) = split_counted(alloc, rest)?;
         let (added, rest) = split_counted(alloc, rest)?;
         if !rest.is_empty() {
+            return Err(ChangeError::BadBytes);
+        }
+        if !is_formed(&old_soa, &removed, &new_soa, &added) {
             return Err(ChangeError::BadBytes);
         }
         Ok(Change::new(old_soa, removed, new_soa, added))

@@ -6,6 +6,7 @@ ghost use Rattle.std.specs.Prelude.{◌≡◌};
 mod between;
 mod change;
 mod entry;
+mod form;
 pub mod laws;
 
 pub use change::Change;

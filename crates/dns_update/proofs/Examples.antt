@@ -6,8 +6,9 @@ use Rattle.dns_records.specs.Record.{Record, string}
 use Rattle.dns_zone.specs.Records.{rrset}
 use Rattle.dns_zone.specs.Zone.{soas}
 use Rattle.dns_wire.specs.Message.{Item}
-use Rattle.dns_update.specs.declared.Rcode.TheVariants.{NxDomain, Refused, YxDomain, YxRrset, NxRrset, NotZone}
-use Rattle.dns_update.specs.Verdict.{Verdict, Refuses, Keeps, Leaves, verdict, serial_in}
+use Rattle.dns_wire.specs.declared.codes.Rcode.TheVariants.{NxDomain, Refused, YxDomain, YxRrset, NxRrset, NotZone}
+use Rattle.dns_changes.specs.Version.{serial_in}
+use Rattle.dns_update.specs.Verdict.{Verdict, Refuses, Keeps, Leaves, verdict}
 use Rattle.dns_update.proofs.ExampleZone.{example_zone, example, host1, host2, ns_com, ns_net, soa_data}
 
 abbrev records_in : Verdict → List Record

@@ -12,8 +12,8 @@ use Rattle.dns_zone.proofs.OneSoa.{past, untrue}
 use Rattle.dns_zone.specs.Zone.{is_wildcard}
 use Rattle.dns_wire.specs.Message.{Item, Message}
 use Rattle.dns_wire.specs.Reads.{FieldAt, FieldsAt, RDataAt, ItemAt, ItemsAt, Reads}
-use Rattle.dns_update.specs.declared.Rcode.{Rcode}
-use Rattle.dns_update.specs.declared.Rcode.TheVariants.{FormErr, Refused, NotZone}
+use Rattle.dns_wire.specs.declared.codes.Rcode.{Rcode}
+use Rattle.dns_wire.specs.declared.codes.Rcode.TheVariants.{FormErr, Refused, NotZone}
 use Rattle.dns_update.specs.Item.{HasForm, is_empty, is_meta}
 use Rattle.dns_update.specs.Prescan.{prescan_fault, addition_fault}
 

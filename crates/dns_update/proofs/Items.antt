@@ -11,7 +11,7 @@ use Rattle.dns_zone.specs.Twice.{alike_is, any_by}
 use Rattle.dns_changes.proofs.Steps.{tied_here}
 use Rattle.dns_wire.specs.Message.{Item}
 use Rattle.dns_update.specs.Item.{HasForm, first_fault, otherwise}
-use Rattle.dns_update.specs.declared.Rcode.{Rcode}
+use Rattle.dns_wire.specs.declared.codes.Rcode.{Rcode}
 use Rattle.dns_zone.proofs.Kept.{find_kept, numbers_same}
 
 -- one of the RRset is alike exactly where one of the zone is

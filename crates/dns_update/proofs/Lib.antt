@@ -8,6 +8,5 @@ pub mod Sound
 pub mod SoundEffects
 pub mod Serials
 pub mod Versions
-pub mod SameSets
 pub mod ExampleZone
 pub mod Examples

@@ -3,18 +3,7 @@ use Rattle.std.specs.Prelude.{◌≡◌, ◌⊎◌, ℕ, Bool, ◌||◌, ◌==�
 use Rattle.dns_records.specs.Types.{type_ixfr, type_axfr, type_mailb, type_maila}
 use Rattle.dns_records.specs.Record.{Record, IsRData}
 use Rattle.dns_wire.specs.Message.{Item}
-use Rattle.dns_update.specs.declared.Rcode.{Rcode}
-use Rattle.dns_update.specs.declared.Rcode.TheVariants.{FormErr, NxDomain, Refused, YxDomain, YxRrset, NxRrset, NotZone}
-
--- The response codes of updates by their numbers (RFC 2136 2.2).
-abbrev pub number_of_rcode : Rcode → ℕ
-number_of_rcode FormErr = 1
-number_of_rcode NxDomain = 3
-number_of_rcode Refused = 5
-number_of_rcode YxDomain = 6
-number_of_rcode YxRrset = 7
-number_of_rcode NxRrset = 8
-number_of_rcode NotZone = 10
+use Rattle.dns_wire.specs.declared.codes.Rcode.{Rcode}
 
 -- The item as a record of the zone.
 abbrev pub as_record : Item → Record

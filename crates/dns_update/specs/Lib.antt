@@ -3,4 +3,3 @@ pub mod Prerequisites
 pub mod Prescan
 pub mod Effect
 pub mod Verdict
-pub mod Version

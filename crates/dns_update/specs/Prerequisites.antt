@@ -8,8 +8,8 @@ use Rattle.dns_zone.specs.Records.{alike, has, owns, owns_type, rrset}
 use Rattle.dns_zone.specs.Zone.{Zone}
 use Rattle.dns_wire.specs.Message.{Item}
 use Rattle.dns_update.specs.Item.{as_record, is_empty, first_fault, otherwise}
-use Rattle.dns_update.specs.declared.Rcode.{Rcode}
-use Rattle.dns_update.specs.declared.Rcode.TheVariants.{FormErr, NxDomain, YxDomain, YxRrset, NxRrset, NotZone}
+use Rattle.dns_wire.specs.declared.codes.Rcode.{Rcode}
+use Rattle.dns_wire.specs.declared.codes.Rcode.TheVariants.{FormErr, NxDomain, YxDomain, YxRrset, NxRrset, NotZone}
 
 -- Class ANY: the name is in use, or the RRset exists (RFC 2136 3.2.1). An empty nonterminal owns no record.
 abbrev pub in_use_fault : List Record → Item → Option Rcode

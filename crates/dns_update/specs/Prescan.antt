@@ -5,8 +5,8 @@ use Rattle.dns_records.specs.Types.{type_ns, type_any, class_in, class_none, cla
 use Rattle.dns_zone.specs.Zone.{is_wildcard}
 use Rattle.dns_wire.specs.Message.{Item}
 use Rattle.dns_update.specs.Item.{is_empty, is_meta}
-use Rattle.dns_update.specs.declared.Rcode.{Rcode}
-use Rattle.dns_update.specs.declared.Rcode.TheVariants.{FormErr, Refused, NotZone}
+use Rattle.dns_wire.specs.declared.codes.Rcode.{Rcode}
+use Rattle.dns_wire.specs.declared.codes.Rcode.TheVariants.{FormErr, Refused, NotZone}
 
 -- Class IN: a record is to be added. Refused are types of which a zone has no records, data of over 4,096 octets, and an NS at a wildcard.
 abbrev pub addition_fault : Item → Option Rcode

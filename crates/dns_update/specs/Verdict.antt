@@ -1,17 +1,18 @@
 -- What becomes of an update (RFC 2136 3.2 to 3.6).
-use Rattle.std.specs.Prelude.{◌≡◌, ℕ, Bool, true, false, ◌&&◌, ◌==◌, List, [], ◌∷◌, Option, Some, None, if◌then◌else◌}
+use Rattle.std.specs.Prelude.{◌≡◌, Bool, true, false, ◌&&◌, ◌==◌, List, [], ◌∷◌, Option, Some, None, if◌then◌else◌}
 use Rattle.dns_records.specs.Record.{Record, serial_of, with_serial}
 use Rattle.dns_zone.specs.Records.{put, without, same}
 use Rattle.dns_zone.specs.Zone.{Zone, soas}
 use Rattle.dns_serial.specs.Serial.{greater, next_serial}
 use Rattle.dns_wire.specs.Message.{Item}
 use Rattle.dns_changes.specs.Change.{Change, IsChange}
+use Rattle.dns_changes.specs.Version.{serial_in}
 use Rattle.dns_update.specs.Item.{first_fault, otherwise}
 use Rattle.dns_update.specs.Prerequisites.{prerequisites_fault}
 use Rattle.dns_update.specs.Prescan.{prescan_fault}
 use Rattle.dns_update.specs.Effect.{effects}
-use Rattle.dns_update.specs.declared.Rcode.{Rcode}
-use Rattle.dns_update.specs.declared.Rcode.TheVariants.{Refused}
+use Rattle.dns_wire.specs.declared.codes.Rcode.{Rcode}
+use Rattle.dns_wire.specs.declared.codes.Rcode.TheVariants.{Refused}
 use Rattle.dns_update.specs.declared.Judged.{Judged}
 use Rattle.dns_update.specs.declared.Judged.TheVariants as told
 
@@ -21,22 +22,12 @@ pub data Verdict : Type 0 where
   Keeps : Verdict
   Leaves : List Record → Verdict
 
--- There is a record, and it is that one.
-abbrev pub is_next : Option Record → Record → Bool
-is_next None r = false
-is_next (Some s) r = same r s
-
 -- The two sets are the same, with all TTLs.
 abbrev pub same_set : List Record → List Record → Bool
 same_set [] [] = true
 same_set [] (b ∷ bs) = false
 same_set (a ∷ as') [] = false
 same_set (a ∷ as') (b ∷ bs) = same a b && same_set as' bs
-
--- The serial of a zone's one SOA.
-abbrev pub serial_in : List Record → ℕ
-serial_in [] = 0
-serial_in (soa ∷ rest) = serial_of soa
 
 -- The records with the next serial in their SOA.
 abbrev pub with_next_serial : List Record → List Record → List Record
@@ -62,12 +53,12 @@ verdict z prerequisites items =
     unless (otherwise (prerequisites_fault z prerequisites) (first_fault (prescan_fault z.apex) items))
     (versioned z.records (effects z.apex z.records items))
 
--- The verdict as it is told: in place of the set that is left, the change to it.
-abbrev pub IsTold : List Record → Verdict → Judged → Type 0
-IsTold before (Refuses rcode) j = j ≡ told.Refused rcode
-IsTold before Keeps j = j ≡ told.NoChange
-IsTold before (Leaves after) j = (c : Change) × (j ≡ told.Accepted c) × IsChange before after c
+-- The verdict as it is told: with the set that is left stands the change to it. `records` is what a set of the code contains.
+abbrev pub IsTold : {X : Type 0} → (X → List Record) → List Record → Verdict → Judged X → Type 0
+IsTold records before (Refuses rcode) j = j ≡ told.Refused rcode
+IsTold records before Keeps j = j ≡ told.NoChange
+IsTold {X} records before (Leaves after) j = (c : Change) × (next : X) × (j ≡ told.Accepted c next) × (records next ≡ after) × IsChange before after c
 
 -- The answer section of an update is its prerequisites, the authority section what is to be done (RFC 2136 2).
-abbrev pub IsJudged : Zone → List Item → List Item → Judged → Type 0
-IsJudged z prerequisites items j = IsTold z.records (verdict z prerequisites items) j
+abbrev pub IsJudged : {X : Type 0} → (X → List Record) → Zone → List Item → List Item → Judged X → Type 0
+IsJudged records z prerequisites items j = IsTold records z.records (verdict z prerequisites items) j

@@ -6,11 +6,11 @@ ghost use Rattle.dns_zone.specs.Records.{alike, has, owns, rrset};
 ghost use Rattle.dns_update.specs.Item.{as_record, first_fault};
 ghost use Rattle.dns_update.specs.Prerequisites.{are_rrsets, in_use_fault, is_rrset, lists, prerequisite_fault, prerequisites_fault, unused_fault};
 
-use crate::Rcode;
 use crate::item::Item;
 use dns_names::NameRef;
 use dns_records::Record;
 use dns_records::types::{ANY, CLASS_ANY, CLASS_IN, CLASS_NONE};
+use dns_wire::Rcode;
 use dns_zone::{Zone, ZoneIndex, owns_type};
 
 /// Whether the name owns a record.

@@ -3,11 +3,11 @@ ghost use Rattle.std.specs.Prelude.{◌≡◌};
 ghost use Rattle.dns_update.specs.Item.{first_fault};
 ghost use Rattle.dns_update.specs.Prescan.{addition_fault, deletion_fault, prescan_fault, set_deletion_fault};
 
-use crate::Rcode;
 use crate::item::Item;
 use dns_names::Name;
 use dns_records::is_data_type;
 use dns_records::types::{ANY, CLASS_ANY, CLASS_IN, CLASS_NONE, NS};
+use dns_wire::Rcode;
 
 /// What fails a record that is to be added.
 fn addition_fault(item: &Item) -> Option<Rcode>

@@ -1,37 +1,45 @@
 //! The verdict on an update.
-ghost use Rattle.std.specs.Prelude.{◌≡◌, ◌<◌, ◌+◌, ◌^◌, [], ◌∷◌, length, IfOk, OnOk};
+ghost use Rattle.std.specs.Prelude.{◌≡◌, ◌<◌, ◌+◌, ◌^◌, true, false, List, [], ◌∷◌, length, IfOk, OnOk};
 ghost use Rattle.std.specs.List.{AllByRecursion};
-ghost use Rattle.std.specs.Option.{option_copied};
 ghost use Rattle.dns_records.specs.Types.{type_soa};
-ghost use Rattle.dns_zone.specs.Records.{next_after};
+ghost use Rattle.dns_records.specs.Record.{Record as Stated};
+ghost use Rattle.dns_zone.specs.Records.{same};
 ghost use Rattle.dns_zone.specs.Zone.{soas};
-ghost use Rattle.dns_changes.specs.Change.{Change as Stated};
+ghost use Rattle.dns_changes.specs.Change.{Change as StatedChange};
 ghost use Rattle.dns_update.specs.Item.{HasForm, first_fault, otherwise};
 ghost use Rattle.dns_update.specs.Prerequisites.{prerequisites_fault};
 ghost use Rattle.dns_update.specs.Prescan.{prescan_fault};
 ghost use Rattle.dns_zone.specs.Soa.{HasSoa};
-ghost use Rattle.dns_update.specs.Version.{IsNext};
-ghost use Rattle.dns_update.specs.Verdict.{IsTold, IsJudged, Leaves, is_next, same_set, versioned, with_next_serial};
+ghost use Rattle.dns_changes.specs.Version.{IsNext};
+ghost use Rattle.dns_update.specs.Verdict.{IsTold, IsJudged, Leaves, same_set, versioned, with_next_serial};
 
+use crate::Judged;
 use crate::effect::take_effects;
 use crate::item::{Item, items_of};
 use crate::prerequisites::prerequisites_fault;
 use crate::prescan::prescan;
-use crate::{Judged, Rcode};
 use dns_changes::Change;
 use dns_memory::Heap;
 use dns_records::Record;
 use dns_serial::Serial;
-use dns_wire::Message;
-use dns_zone::{Zone, ZoneIndex, soa_of};
+use dns_wire::{Message, Rcode};
+use dns_zone::{Records, Zone, ZoneIndex, soa_of};
 use std::alloc::AllocError;
 
-/// Whether the record is the first of the set, or the first behind another.
-fn is_next<I: ZoneIndex>(set: &I, after: Option<&Record>, r: &Record) -> bool
-    ensures { result ≡ is_next (next_after (option_copied after.entry) (I.records set.now)) r.now }
+/// Whether two records are the same, with their TTLs.
+fn is_same(a: &Record, b: &Record) -> bool
+    ensures { result ≡ same a.now b.now }
 {
-    match set.walk(after) {
-        Some(next) => r == next,
+    a == b
+}
+
+/// Whether the first of the records that are left is that one.
+fn is_next<I: ZoneIndex>(rest: &mut Records<'_, I>, r: &Record) -> bool
+    ensures same { result ≡ true → rest.old ≡ r.now ∷ rest.new }
+    ensures other { (others : List Stated) → result ≡ false → same_set (r.now ∷ others) rest.old ≡ false }
+{
+    match rest.next() {
+        Some(next) => is_same(r, next),
         None => false,
     }
 }
@@ -40,14 +48,13 @@ fn is_next<I: ZoneIndex>(set: &I, after: Option<&Record>, r: &Record) -> bool
 fn is_same_set<I: ZoneIndex>(a: &I, b: &I) -> bool
     ensures { result ≡ same_set (I.records a.now) (I.records b.now) }
 {
-    let mut last: Option<&Record> = None;
-    'records: while let Some(record) = a.walk(last) {
-        if !is_next(b, last, record) {
+    let mut others = Records::of(b);
+    for record in Records::of(a) {
+        if !is_next(&mut others, record) {
             return false;
         }
-        last = Some(record);
     }
-    b.walk(last).is_none()
+    others.next().is_none()
 }
 
 /// Advances the serial of a zone by one (RFC 2136 section 3.6).
@@ -62,14 +69,14 @@ fn advance<I: ZoneIndex>(set: &mut I, soa: &Record) -> Result<(), AllocError>
 }
 
 /// The change of a zone to a set with one SOA.
-fn change_to<I: ZoneIndex>(alloc: Heap, zone: &Zone<I>, after: &I) -> Result<Judged, AllocError>
-    requires one { HasSoa zone.now.apex (I.records after.now) }
-    requires few { length (I.records after.now) < 2 ^ 32 }
-    ensures { IfOk result (IsTold zone.now.records (Leaves (I.records after.now))) }
+fn change_to<I: ZoneIndex>(alloc: Heap, zone: &Zone<I>, after: I) -> Result<Judged<I>, AllocError>
+    requires one { HasSoa zone.now.apex (I.records after) }
+    requires few { length (I.records after) < 2 ^ 32 }
+    ensures { IfOk result (IsTold I.records zone.now.records (Leaves (I.records after))) }
 {
-    let new = soa_of(after, &zone.apex().lend());
-    let change = Change::between(alloc, zone.index(), zone.soa(), after, new)?;
-    Ok(Judged::Accepted(change))
+    let new = soa_of(&after, &zone.apex().lend());
+    let change = Change::between(alloc, zone.index(), zone.soa(), &after, new)?;
+    Ok(Judged::Accepted(change, after))
 }
 
 /// The change of a zone to a set with one SOA, once its serial is advanced.
@@ -77,22 +84,22 @@ fn advanced_change<I: ZoneIndex>(
     alloc: Heap,
     zone: &Zone<I>,
     after: I,
-) -> Result<Judged, AllocError>
+) -> Result<Judged<I>, AllocError>
     requires one { HasSoa zone.now.apex (I.records after) }
     requires few { length (I.records after) + 1 < 2 ^ 32 }
-    ensures { IfOk result (IsTold zone.now.records (Leaves (with_next_serial (soas (I.records after)) (I.records after)))) }
+    ensures { IfOk result (IsTold I.records zone.now.records (Leaves (with_next_serial (soas (I.records after)) (I.records after)))) }
 {
     let mut after = after;
     let soa = soa_of(&after, &zone.apex().lend()).clone()?;
     advance(&mut after, &soa)?;
-    change_to(alloc, zone, &after)
+    change_to(alloc, zone, after)
 }
 
 /// What becomes of a zone by what an update left of its records.
-fn versioned<I: ZoneIndex>(alloc: Heap, zone: &Zone<I>, after: I) -> Result<Judged, AllocError>
+fn versioned<I: ZoneIndex>(alloc: Heap, zone: &Zone<I>, after: I) -> Result<Judged<I>, AllocError>
     requires one { HasSoa zone.now.apex (I.records after) }
     requires few { length (I.records after) + 1 < 2 ^ 32 }
-    ensures { IfOk result (IsTold zone.now.records (versioned zone.now.records (I.records after))) }
+    ensures { IfOk result (IsTold I.records zone.now.records (versioned zone.now.records (I.records after))) }
 {
     if is_same_set(zone.index(), &after) {
         return Ok(Judged::NoChange);
@@ -103,7 +110,7 @@ fn versioned<I: ZoneIndex>(alloc: Heap, zone: &Zone<I>, after: I) -> Result<Judg
         return advanced_change(alloc, zone, after);
     }
     if new.greater(old) {
-        return change_to(alloc, zone, &after);
+        return change_to(alloc, zone, after);
     }
     Ok(Judged::Refused(Rcode::Refused))
 }
@@ -125,11 +132,11 @@ fn judge_items<I: ZoneIndex>(
     zone: &Zone<I>,
     prerequisites: &[Item],
     items: &[Item],
-) -> Result<Judged, AllocError>
+) -> Result<Judged<I>, AllocError>
     requires few { length items.now < 2 ^ 16 }
     requires form { AllByRecursion HasForm items.now }
-    ensures verdict { IfOk result (IsJudged zone.now prerequisites.now items.now) }
-    ensures next { IfOk result (λ judged. (change : Stated) → judged ≡ Judged.Accepted change → IsNext zone.now change) }
+    ensures verdict { IfOk result (IsJudged I.records zone.now prerequisites.now items.now) }
+    ensures next { IfOk result (λ judged. (change : StatedChange) (next : I) → judged ≡ Judged.Accepted change next → IsNext zone.now change (I.records next)) }
 {
     if let Some(rcode) = fault(zone, prerequisites, items) {
         return Ok(Judged::Refused(rcode));
@@ -139,15 +146,15 @@ fn judge_items<I: ZoneIndex>(
     versioned(alloc, zone, after)
 }
 
-/// What becomes of an update of the zone, which stays as it is (RFC 2136 sections 3.2 to 3.6). A change that is accepted can be applied to
-/// it and leaves a valid zone with a greater serial, but that the caller sees to its room: it may have more than 65,536 records.
+/// What becomes of an update of the zone, which stays as it is (RFC 2136 sections 3.2 to 3.6). What is accepted is the change and the records that
+/// it leads to: a valid zone with a greater serial, but that the caller sees to its room, as there may be more than 65,536 of them.
 pub fn judge<I: ZoneIndex>(
     alloc: Heap,
     zone: &Zone<I>,
     message: &Message<'_>,
-) -> Result<Judged, AllocError>
-    ensures verdict { IfOk result (IsJudged zone.now message.now.message.answers message.now.message.authorities) }
-    ensures next { IfOk result (λ judged. (change : Stated) → judged ≡ Judged.Accepted change → IsNext zone.now change) }
+) -> Result<Judged<I>, AllocError>
+    ensures verdict { IfOk result (IsJudged I.records zone.now message.now.message.answers message.now.message.authorities) }
+    ensures next { IfOk result (λ judged. (change : StatedChange) (next : I) → judged ≡ Judged.Accepted change next → IsNext zone.now change (I.records next)) }
 {
     let _reads = message.octets();
     let prerequisites = items_of(alloc, message.answers())?;

@@ -121,18 +121,18 @@ fn changes_that_do_not_fit(rt: HostRuntime) -> Result<(), Fail> {
     Ok(())
 }
 
-/// The octets of a change that was decoded, and how many sectors they take.
+/// The octets of a change that was decoded, and how many they were to be.
 fn encoded(alloc: Heap, octets: &[u8]) -> Option<(Vec<u8, Heap>, usize)> {
     let change = Change::decode(alloc, octets).ok()?;
-    let sectors = change.sectors();
-    Some((change.encode(alloc).ok()?, sectors))
+    let expected = change.encoded_len();
+    Some((change.encode(alloc).ok()?, expected))
 }
 
-/// Whether they are those that were decoded, in one sector.
+/// Whether they are those that were decoded.
 fn reads_back(alloc: Heap, removed: &str, added: &str) -> Option<bool> {
     let octets = octets(alloc, removed, added)?;
-    let (again, sectors) = encoded(alloc, &octets)?;
-    Some(again.as_slice() == octets.as_slice() && sectors == 1)
+    let (again, expected) = encoded(alloc, &octets)?;
+    Some(again.as_slice() == octets.as_slice() && expected == octets.len())
 }
 
 // A change is encoded as it was decoded.
@@ -178,6 +178,47 @@ fn octets_of_no_change(rt: HostRuntime) -> Result<(), Fail> {
     assert!(rt; fronts_are_bad(alloc, HOUR, MINUTE) == Some(true));
     assert!(rt; fault_of_more(alloc, HOUR, MINUTE) == Some(ChangeError::BadBytes));
     assert!(rt; fault_of(alloc, HOUR, "00000002") == Some(ChangeError::BadBytes));
+    Ok(())
+}
+
+/// A SOA of `a.` as octets behind a count of one, and two addresses of `h.a.` in order and turned round.
+const SOA_AMONG: &str =
+    "00000001016100000600000e1000160000000000070000000100000001000000010000000100000000";
+
+const TWO: &str = "000000020168016100000100000e100004c00002010168016100000100000e100004c0000202";
+
+const TURNED: &str = "000000020168016100000100000e100004c00002020168016100000100000e100004c0000201";
+
+const TWICE: &str = "000000020168016100000100000e100004c00002010168016100000100000e100004c0000201";
+
+/// The octets of a change whose SOA before is the address of `h.a.`
+fn with_address_as_soa(alloc: Heap) -> Option<Vec<u8, Heap>> {
+    let mut octets = Vec::new(alloc);
+    for part in [&HOUR[8..], SOA_FRONT, EIGHT, SOA_BACK, NONE, NONE] {
+        octets
+            .extend_from_slice(hex::decode(alloc, part).ok()?.as_slice())
+            .ok()?;
+    }
+    Some(octets)
+}
+
+// Records of another form than a change's: an address in place of a SOA, a SOA among the others, records out of order or twice.
+#[test]
+fn records_of_no_change(rt: HostRuntime) -> Result<(), Fail> {
+    let alloc = heap(rt.alloc())?;
+    let bad = with_address_as_soa(alloc).and_then(|octets| fault(alloc, &octets));
+    assert!(rt; bad == Some(ChangeError::BadBytes));
+    assert!(rt; fault_of(alloc, TWO, HOUR).is_none());
+    for records in [SOA_AMONG, TURNED, TWICE] {
+        assert!(rt;
+            fault_of(alloc, records, NONE) == Some(ChangeError::BadBytes),
+            "{records}"
+        );
+        assert!(rt;
+            fault_of(alloc, NONE, records) == Some(ChangeError::BadBytes),
+            "{records}"
+        );
+    }
     Ok(())
 }
 

@@ -1,8 +1,8 @@
 //! Updates as octets, and what becomes of them.
 use crate::given::zone;
 use dns_memory::{Heap, heap};
-use dns_update::{Judged, Rcode, judge};
-use dns_wire::Message;
+use dns_update::{Judged, judge};
+use dns_wire::{Message, Rcode};
 use dns_zone::{RecordList, Zone};
 use std::test::Fail;
 
@@ -89,11 +89,11 @@ fn octets(alloc: Heap, counts: &str, items: &str) -> Option<Vec<u8, Heap>> {
 }
 
 /// A verdict in short.
-fn in_short(judged: &Judged) -> Told {
+fn in_short(judged: &Judged<RecordList>) -> Told {
     match judged {
         Judged::Refused(rcode) => Told::Refused(*rcode),
         Judged::NoChange => Told::NoChange,
-        Judged::Accepted(change) => {
+        Judged::Accepted(change, _) => {
             let serial = change.new_soa().data().as_soa().map_or(0, |soa| soa.serial);
             Told::Accepted(change.removed().len(), change.added().len(), serial)
         }

@@ -64,6 +64,14 @@ impl<I: ZoneIndex> Zone<I> {
         }
     }
 
+    /// The zone of a set that is known to be one, as the next version of a zone is: nothing is searched.
+    pub fn of_valid(apex: Name, index: I) -> Zone<I>
+        requires { zone_fault apex (I.records index) ≡ None }
+        ensures { result ≡ record { apex = apex; records = I.records index } }
+    {
+        Zone { apex, index }
+    }
+
     /// The name that all owners are at or under.
     pub fn apex(&self) -> &Name
         ensures name { result.now ≡ self.now.apex }

@@ -1,20 +1,10 @@
-use Rattle.std.proofs.Common.{◌≡◌, ℕ, length, drop}
-use Rattle.std.specs.Option.{option_copied}
-use Rattle.dns_zone.specs.Survey.{behind}
+use Rattle.std.proofs.Common.{◌≡◌}
 use Rattle.dns_update.specs.Verdict.{same_set}
 use Rattle.dns_update.proofs.verdict.is_same_set.Given as goal
 
-abbrev pub invariant-records : goal.invariant-records
-invariant-records g l =
-    let left = g.I.ZoneIndex.records l.a in
-    let right = g.I.ZoneIndex.records l.b in
-    let rest = behind (option_copied l.last) left in
-    let others = behind (option_copied l.last) right in
-    record {
-      same : same_set rest others ≡ same_set left right;
-      from : (k : ℕ) × (rest ≡ drop k left);
-      other : (k : ℕ) × (others ≡ drop k right);
-    }
-
-abbrev pub decreases-records : goal.decreases-records
-decreases-records g l = length (behind (option_copied l.last) (g.I.ZoneIndex.records l.a))
+abbrev pub invariant-loop-record : goal.invariant-loop-record
+invariant-loop-record g l = record {
+  can : (goal.iterator-loop-record g).can_next l.record-iterator;
+  ends : (goal.iterator-loop-record g).is_finite l.record-iterator;
+  same : same_set l.record-iterator l.others ≡ same_set (g.I.ZoneIndex.records l.a) (g.I.ZoneIndex.records l.b);
+}

@@ -39,4 +39,4 @@ returns-clause-next g c =
     let left = c.in_ok-take_effects.ensures ∙ (λ i. effects ((c.lend.ensures ∙ c.apex.ensures.name) i) ((c.in_ok-after.ensures ∙ c.index.ensures) i) items) in
     let pass = (no_fault (prerequisites_fault zone c.args.prerequisites.now) (first_fault (prescan_fault zone.apex) items) (sym c.fault.ensures ∙ c.in_default.is)).1 in
     let sound = subst (IsSound zone.apex) (sym left) (sound_after zone valid items pass c.requires.form) in
-    next_told zone valid set sound (g.met.I.ZoneIndex.valid c.take_effects.new.set) c.versioned.result c.versioned.ensures
+    next_told g.I.ZoneIndex.records zone valid set sound (g.met.I.ZoneIndex.valid c.take_effects.new.set) c.versioned.result c.versioned.ensures
