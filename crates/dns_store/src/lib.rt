@@ -2,6 +2,7 @@
 #![tactic(auto)]
 
 mod device_store;
+mod open;
 mod records;
 mod root;
 mod snapshot;
