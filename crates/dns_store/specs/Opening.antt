@@ -12,7 +12,10 @@ use Rattle.dns_journal.specs.declared.read.Cursor.{Cursor}
 use Rattle.dns_store.specs.declared.root.OpenError.{OpenError}
 use Rattle.dns_store.specs.declared.root.OpenError.TheVariants.{Device, Damaged, OutOfMemory}
 use Rattle.dns_store.specs.Versions.{Shape, Opened, newest_after}
-use Rattle.dns_store.specs.Opens.{base_of, opens}
+use Rattle.dns_sectors.specs.declared.device.Sectors.{Ghosts}
+use Rattle.dns_journal.specs.State.{device_of}
+use Rattle.dns_store.specs.declared.device_store.DeviceStore.{DeviceStore}
+use Rattle.dns_store.specs.Opens.{base_of, fresh, opens, keeps as keeps_versions}
 use Rattle.dns_store.specs.Recovered.{AreLed}
 
 -- sizes that a store may have
@@ -33,3 +36,25 @@ pub record IsRead (sizes : Sizes) (c : Content) (o : Opened) (s : Stored) (root 
 -- Why a store that is there is not opened: the device failed, memory was refused, or it was opened too often.
 abbrev pub IsStopped : Content → OpenError → Type 0
 IsStopped c e = (e ≡ Device) ⊎ (e ≡ OutOfMemory) ⊎ ((e ≡ Damaged 0) × (2 ^ 64 - 1 ≤ open_count (sector_at c 0)))
+
+-- A crash might have left a store that opens as this.
+abbrev pub WasPossible : {D : Type 0} → Ghosts D → Shape → D → Opened → Type 0
+WasPossible g shape device o = (c : Content) × g.may_leave device c × opens shape o c
+
+-- Each crash leaves a store that opens.
+abbrev pub MayOpen : {D : Type 0} → Ghosts D → Shape → D → Type 0
+MayOpen g shape device = (c : Content) → g.may_leave device c → (o : Opened) × opens shape o c
+
+-- It opens as a store that a crash might have left of the device before: a version and a base that were possible together.
+abbrev pub OpensAsPossible : {D : Type 0} → Ghosts D → Shape → D → Content → Type 0
+OpensAsPossible g shape device c = (o : Opened) × WasPossible g shape device o × opens shape o c
+
+abbrev pub store_device : {D : Type 0} {g : Ghosts D} → DeviceStore D g → D
+store_device store = device_of store.journal
+
+-- The store keeps these versions from here on, and these are its base, the changes from there, and the newest version.
+pub record IsTaken {D : Type 0} {g : Ghosts D} (shape : Shape) (o : Opened) (store : DeviceStore D g) (base : List Record) (changes : List Change) (newest : List Record) : Type 0 where
+  pub keeps : keeps_versions store.journal (fresh shape o)
+  pub base_is : base ≡ base_of o
+  pub led : AreLed (base_of o) (drop o.base o.versions) changes
+  pub newest_is : newest ≡ newest_after o.loaded o.versions

@@ -2,8 +2,8 @@
 #![tactic(auto)]
 
 mod device_store;
-mod open;
 mod records;
+mod recovery;
 mod root;
 mod snapshot;
 mod unkept;
@@ -12,6 +12,7 @@ mod zone_store;
 
 pub use device_store::DeviceStore;
 pub use dns_journal::{FlushError, StageError};
+pub use recovery::{MOST_SECTORS, OpenStore, open};
 pub use root::OpenError;
 pub use unkept::Unkept;
 pub use zone_store::ZoneStore;

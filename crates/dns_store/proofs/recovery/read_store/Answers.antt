@@ -22,7 +22,7 @@ use Rattle.dns_store.proofs.Leaves.{newest_split}
 use Rattle.dns_store.proofs.Plains.{zones_same}
 use Rattle.dns_store.proofs.Parts.{snapshot_is}
 use Rattle.dns_store.proofs.Opening.{stands_first, root_there, snapshot_there, journal_there, place_of}
-use Rattle.dns_store.proofs.open.read_store.Goals as goal
+use Rattle.dns_store.proofs.recovery.read_store.Goals as goal
 
 pub returns-in_err-root-clause-found : goal.returns-in_err-root-clause-found
 returns-in_err-root-clause-found g c honest range o s opens part =
