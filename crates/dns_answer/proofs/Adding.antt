@@ -13,17 +13,14 @@ use Rattle.dns_zone.specs.Zone.{Zone}
 use Rattle.dns_lookup.specs.Lookup.{Found}
 use Rattle.dns_answer.specs.Sections.{Shown, from_zone, addresses_for, unseen, records_of, answer_of, authority_of}
 use Rattle.dns_answer.specs.Added.{AddsUnseen, AreSections}
+use Rattle.dns_answer.specs.Known.{stood}
 use Rattle.dns_answer.specs.declared.additional.Sections.{Sections}
 
--- what stands in a reply
-abbrev pub stood : Sections → List Record
-stood s = (s.answer.items ++ s.authority.items) ++ s.additional.items
-
-abbrev chosen : Bool → List Record → List Record → List Record
+abbrev pub chosen : Bool → List Record → List Record → List Record
 chosen true a b = a
 chosen false a b = b
 
-opened : (seen : List Record) (r : Record) (rest : List Record) → unseen seen (r ∷ rest) ≡ chosen (list_any (same r) seen) (unseen seen rest) (r ∷ unseen (r ∷ seen) rest)
+pub opened : (seen : List Record) (r : Record) (rest : List Record) → unseen seen (r ∷ rest) ≡ chosen (list_any (same r) seen) (unseen seen rest) (r ∷ unseen (r ∷ seen) rest)
 opened seen r rest = of_test (list_any (same r) seen)
   where
     of_test : (b : Bool) → elim b [ true ↦ unseen seen rest | false ↦ r ∷ unseen (r ∷ seen) rest ] ≡ chosen b (unseen seen rest) (r ∷ unseen (r ∷ seen) rest)
@@ -43,10 +40,10 @@ turned true true c = refl
 turned true false c = refl
 turned false b c = refl
 
-moved : (q r : Record) (s t : List Record) → list_any (same q) ((r ∷ s) ++ t) ≡ list_any (same q) (s ++ r ∷ t)
+pub moved : (q r : Record) (s t : List Record) → list_any (same q) ((r ∷ s) ++ t) ≡ list_any (same q) (s ++ r ∷ t)
 moved q r s t = list_any-append (same q) (r ∷ s) t ∙ turned (same q r) (list_any (same q) s) (list_any (same q) t) ∙ sym (list_any-append (same q) s (r ∷ t))
 
-unseen_append : (s xs ys : List Record) → unseen s (xs ++ ys) ≡ unseen s xs ++ unseen (s ++ unseen s xs) ys
+pub unseen_append : (s xs ys : List Record) → unseen s (xs ++ ys) ≡ unseen s xs ++ unseen (s ++ unseen s xs) ys
 unseen_append s [] ys = ap (λ (t : List Record). unseen t ys) (sym (append-nil s))
 unseen_append s (r ∷ xs) ys =
     opened s r (xs ++ ys)

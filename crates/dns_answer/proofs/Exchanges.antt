@@ -1,6 +1,6 @@
 -- Requests and their replies, octet for octet, at the example zone of RFC 4592.
 use Rattle.std.specs.Prelude.{◌≡◌, [], ◌∷◌, refl, codes}
-use Rattle.dns_answer.specs.declared.Transport.TheVariants.{Udp}
+use Rattle.dns_request.specs.declared.request.Transport.TheVariants.{Udp}
 use Rattle.dns_answer.specs.Answer.{NoReply, Replies, handled}
 use Rattle.dns_answer.proofs.Hex.{hex}
 use Rattle.dns_lookup.specs.ExampleZone.{example_zone}

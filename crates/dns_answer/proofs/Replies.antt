@@ -1,58 +1,65 @@
--- The reply to a lookup, put together.
-use Rattle.std.proofs.Common.{◌≡◌, inl, inr, ℕ, ◌≤◌, Bool, true, false, List, [], ◌∷◌, ◌++◌, length, sym, ap, ◌∙◌, arith}
-use Rattle.std.specs.Prelude.{Some, if◌then◌else◌, ◌||◌, ◌==◌, nat_lt}
+-- The reply to a query, put together.
+use Rattle.std.proofs.Common.{◌≡◌, ◌<◌, ◌≤◌, inl, inr, ℕ, Bool, true, false, List, [], ◌∷◌, ◌++◌, length, refl, sym, ap, ◌∙◌, arith}
 use Rattle.std.proofs.lemmas.Bool.Decides.{nat_tests}
-use Rattle.dns_records.specs.Types.{type_ixfr, type_axfr}
 use Rattle.dns_zone.specs.Sets.{told}
+use Rattle.std.specs.Prelude.{nat_le, Option, Some, None, is_none, if◌then◌else◌}
+use Rattle.dns_names.specs.Name.{Labels}
 use Rattle.dns_zone.specs.Zone.{Zone}
-use Rattle.dns_lookup.specs.Lookup.{Found, resolve}
-use Rattle.dns_wire.specs.Message.{Header, Message, Question, header_of}
-use Rattle.dns_wire.specs.Reads.{Reads}
-use Rattle.dns_wire.specs.Text.{Reply, text}
-use Rattle.dns_answer.specs.Sections.{records_of, answer_of, authority_of, additional_of, is_name_error, is_authoritative}
-use Rattle.dns_answer.specs.Added.{AreSections, reply_with}
-use Rattle.dns_answer.specs.Answer.{Handled, NoReply, Replies, Update, Transfer, bare_reply, with_question, looked_up, answered, is_request, fitted, to_question, read_as, answerable, handled_as, IsForReply, opcode_query, opcode_update, rcode_formerr, rcode_nxdomain}
-use Rattle.dns_answer.specs.declared.Transport.{Transport}
-use Rattle.dns_answer.specs.declared.additional.Sections.{Sections}
+use Rattle.dns_lookup.specs.Lookup.{Found, chain, next_name, outcome, resolve, zone_of}
+use Rattle.dns_wire.specs.Message.{Message, Question}
+use Rattle.dns_wire.specs.Text.{Reply}
+use Rattle.dns_request.specs.Request.{rcode_refused}
+use Rattle.dns_records.specs.Record.{Record}
+use Rattle.dns_answer.specs.Added.{IsWithoutAdditional, IsWithoutRecords}
+use Rattle.dns_answer.specs.Sections.{additional_of, answer_of, authority_of, is_authoritative, is_name_error, records_of}
+use Rattle.dns_answer.specs.Answer.{with_question, reply_for, answered, rcode_nxdomain}
 
--- the reply to what was found
-abbrev reply_for : List ℕ → Message → Question → List Found → Reply
-reply_for octets m q fs =
-    record (with_question octets m q (if is_name_error fs then rcode_nxdomain else 0)) {
-      aa = is_authoritative fs;
-      answer = records_of (answer_of q.qtype fs);
-      authority = records_of (authority_of fs);
-      additional = additional_of (answer_of q.qtype fs ++ authority_of fs);
-    }
+-- something is found exactly where the name is under a held apex
+abbrev found_from : Option Zone → (Zone → Found) → (Zone → List Found) → List Found
+found_from o f rest = elim o as (λ _. List Found) [ None ↦ [] | Some z ↦ f z ∷ rest z ]
 
-pub looked_up-is : (zones : List Zone) (octets : List ℕ) (m : Message) (q : Question) (fs : List Found) (s : Sections) (aa : Bool) (rcode : ℕ) (r : Reply) → fs ≡ resolve zones q.name q.qtype → AreSections q.qtype fs s → aa ≡ is_authoritative fs
-    → rcode ≡ (if is_name_error fs then rcode_nxdomain else 0) → r ≡ with_question octets m q rcode → reply_with r aa s ≡ looked_up zones octets m q
-looked_up-is zones octets m q fs s aa rcode r found sections authority code bare =
-    let base : r ≡ with_question octets m q (if is_name_error fs then rcode_nxdomain else 0) = bare ∙ ap (with_question octets m q) code in
-    let whole : reply_with r aa s ≡ reply_for octets m q fs = λ i. record (base i) { aa = authority i; answer = sections.answer i; authority = sections.authority i; additional = sections.additional i } in
-    whole ∙ ap (reply_for octets m q) found
+none_from : (o : Option Zone) (f : Zone → Found) (rest : Zone → List Found) → length (found_from o f rest) ≡ 0 → is_none o ≡ true
+none_from None f rest e = refl
+none_from (Some z) f rest e = absurd cc
 
--- a message that is read as a request
-read_request : (f : Message → Question → Handled) (h : Header) (m : Message) (q : Question) → is_request m ≡ true → m.questions ≡ q ∷ [] → read_as f h (Some m) ≡ f m q
-read_request f h m q request one =
-    ap (λ (b : Bool). elim b as (λ _. Handled) [ false ↦ Replies (text (bare_reply h rcode_formerr)) | true ↦ elim (m.questions) as (λ _. Handled) [ [] ↦ NoReply | q ∷ rest ↦ f m q ] ]) request
-    ∙ ap (λ (qs : List Question). elim qs as (λ _. Handled) [ [] ↦ NoReply | q ∷ rest ↦ f m q ]) one
+some_from : (o : Option Zone) (f : Zone → Found) (rest : Zone → List Found) → (length (found_from o f rest) ≡ 0 → ⊥) → is_none o ≡ false
+some_from None f rest e = absurd (e refl)
+some_from (Some z) f rest e = refl
 
-differs : (a b : ℕ) → (a ≡ b → ⊥) → (a == b) ≡ false
-differs a b apart = elim (told (a == b)) [ inl e ↦ (let is : a ≡ b = grind (arith, nat_tests, e) in absurd (apart is)) | inr e ↦ e ]
+module _ (zones : List Zone) (name : Labels) (t : ℕ) where
+  abbrev first : Zone → Found
+  first z = record { zone = z; name = name; outcome = outcome z name t }
 
--- a request that gets its reply here
-pub for_reply : (zones : List Zone) (octets : List ℕ) (transport : Transport) (m : Message) (q : Question) → IsForReply (record { octets = octets; message = m }) transport → Reads octets m → 12 ≤ length octets → m.questions ≡ q ∷ []
-    → (q.qtype ≡ type_ixfr → ⊥) → (q.qtype ≡ type_axfr → ⊥) → handled_as zones octets transport (Some m) ≡ Replies (fitted transport (answered zones octets m q))
-for_reply zones octets transport m q here reads whole one no_ixfr no_axfr =
-    let f = to_question zones octets transport in
-    let h = header_of octets in
-    let asks : h.opcode ≡ opcode_query = ap (λ (x : Header). x.opcode) (sym reads.header) ∙ here.opcode in
-    let long : nat_lt (length octets) 12 ≡ false = grind (arith, nat_tests) in
-    let unanswered : (nat_lt (length octets) 12 || h.qr) ≡ false = λ i. long i || (ap (λ (x : Header). x.qr) (sym reads.header) ∙ here.query) i in
-    let kind : (h.opcode == opcode_query || h.opcode == opcode_update) ≡ true = ap (λ (n : ℕ). n == opcode_query || n == opcode_update) asks in
-    let no_update : (m.header.opcode == opcode_update) ≡ false = ap (λ (n : ℕ). n == opcode_update) here.opcode in
-    let no_transfer : (q.qtype == type_ixfr || q.qtype == type_axfr) ≡ false = λ i. differs q.qtype type_ixfr no_ixfr i || differs q.qtype type_axfr no_axfr i in
-    (λ i. answerable f h (unanswered i) (kind i) (here.short i) (Some m))
-    ∙ read_request f h m q here.request one
-    ∙ (λ i. if no_update i then Update m else if no_transfer i then Transfer m else Replies (fitted transport (answered zones octets m q)))
+  abbrev others : Zone → List Found
+  others z = elim (next_name (first z) ([] ++ name ∷ [])) as (λ _. List Found) [ None ↦ [] | Some target ↦ chain 7 zones ([] ++ name ∷ []) target t ]
+
+  pub outside : length (resolve zones name t) ≡ 0 → is_none (zone_of zones name) ≡ true
+  outside e = none_from (zone_of zones name) first others e
+
+  pub inside : (length (resolve zones name t) ≡ 0 → ⊥) → is_none (zone_of zones name) ≡ false
+  inside e = some_from (zone_of zones name) first others e
+
+-- the reply where nothing is found, and where something is
+pub refused : (zones : List Zone) (octets : List ℕ) (m : Message) (q : Question) → length (resolve zones q.name q.qtype) ≡ 0 → with_question octets m q rcode_refused ≡ answered zones octets m q
+refused zones octets m q e = ap (λ (b : Bool). if b then with_question octets m q rcode_refused else reply_for octets m q (resolve zones q.name q.qtype)) (sym (outside zones q.name q.qtype e))
+
+pub answered-is : (zones : List Zone) (octets : List ℕ) (m : Message) (q : Question) → (length (resolve zones q.name q.qtype) ≡ 0 → ⊥) → reply_for octets m q (resolve zones q.name q.qtype) ≡ answered zones octets m q
+answered-is zones octets m q some = ap (λ (b : Bool). if b then with_question octets m q rcode_refused else reply_for octets m q (resolve zones q.name q.qtype)) (sym (inside zones q.name q.qtype some))
+
+-- the reply to what was found, of a reply with the question alone
+module _ (octets : List ℕ) (m : Message) (q : Question) (fs : List Found) (b : Reply) (rcode : ℕ) (aa : Bool) (bare : b ≡ with_question octets m q rcode) (code : rcode ≡ (if is_name_error fs then rcode_nxdomain else 0)) (authority : aa ≡ is_authoritative fs) where
+  base : b ≡ with_question octets m q (if is_name_error fs then rcode_nxdomain else 0)
+  base = bare ∙ ap (with_question octets m q) code
+
+  pub without_records : IsWithoutRecords (record b { aa = aa }) (reply_for octets m q fs)
+  without_records = λ i. record (base i) { aa = authority i }
+
+  pub without_additional : (answers authorities : List Record) → answers ≡ records_of (answer_of q.qtype fs) → authorities ≡ records_of (authority_of fs) → b.additional ≡ [] → IsWithoutAdditional (record b { aa = aa; answer = answers; authority = authorities }) (reply_for octets m q fs)
+  without_additional answers authorities first second none = λ i. record (base i) { aa = authority i; answer = first i; authority = second i }
+
+  pub whole : (answers authorities additionals : List Record) → answers ≡ records_of (answer_of q.qtype fs) → authorities ≡ records_of (authority_of fs) → additionals ≡ additional_of (answer_of q.qtype fs ++ authority_of fs) → record b { aa = aa; answer = answers; authority = authorities; additional = additionals } ≡ reply_for octets m q fs
+  whole answers authorities additionals first second third = λ i. record (base i) { aa = authority i; answer = first i; authority = second i; additional = third i }
+
+-- what is not more
+pub at_most : (most count : ℕ) → (most < count → ⊥) → count ≤ most
+at_most most count h = elim (told (nat_le count most)) [ inl e ↦ grind (arith, nat_tests, e) | inr e ↦ absurd (let over : most < count = grind (arith, nat_tests, e) in h over) ]

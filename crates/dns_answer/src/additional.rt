@@ -1,10 +1,12 @@
 //! The additional section of a reply.
-ghost use Rattle.std.specs.Prelude.{◌≡◌, [], ◌∷◌, ◌++◌, OnOk};
+ghost use Rattle.std.specs.Prelude.{◌≡◌, ◌<◌, ◌↔◌, [], ◌∷◌, ◌++◌, IsTrue, OnOk};
+ghost use Rattle.dns_names.specs.Name.{names_eq};
 ghost use Rattle.std.specs.List.{list_any, flat_map};
 ghost use Rattle.dns_records.specs.Types.{type_a, type_aaaa};
 ghost use Rattle.dns_zone.specs.Records.{rrset, same};
 ghost use Rattle.dns_answer.specs.Sections.{from_zone, addresses_for, as_owner};
-ghost use Rattle.dns_answer.specs.Added.{AddsUnseen};
+ghost use Rattle.dns_answer.specs.Known.{AreKnown};
+ghost use Rattle.dns_answer.specs.Added.{AddsUnseen, AddsUpTo, count_of};
 
 use dns_memory::Heap;
 use dns_names::NameRef;
@@ -38,7 +40,29 @@ fn is_among(shown: &[ReplyRecord<'_>], held: &Record) -> bool
     shown.iter().any(|one| is_same(one, held))
 }
 
+/// Whether the two hosts are one.
+fn is_host(one: &NameRef<'_>, host: &NameRef<'_>) -> bool
+    ensures { result ≡ names_eq host.now one.now }
+{
+    host.is(one)
+}
+
+/// Whether the host is one of those.
+fn is_known(known: &[NameRef<'_>], host: &NameRef<'_>) -> bool
+    ensures { result ≡ list_any (names_eq host.now) known.now }
+{
+    known.iter().any(|one| is_host(one, host))
+}
+
 impl<'a> Sections<'a> {
+    /// Whether there are more records than so many.
+    pub(crate) fn has_more(&self, most: u16) -> bool
+        ensures { IsTrue result ↔ (most < count_of self.now) }
+    {
+        let count = self.answer.len().saturating_add(self.authority.len());
+        count.saturating_add(self.additional.len()) > most as usize
+    }
+
     /// Puts a record behind the others, unless it stands in the reply already.
     fn add_record(&mut self, held: &'a Record) -> Result<(), AllocError>
         ensures { OnOk result (AddsUnseen self.old self.new (held.now ∷ [])) }
@@ -54,11 +78,14 @@ impl<'a> Sections<'a> {
         Ok(())
     }
 
-    /// Puts records behind the others, but those that stand in the reply already.
-    fn add_records(&mut self, records: &'a [Record]) -> Result<(), AllocError>
-        ensures { OnOk result (AddsUnseen self.old self.new records.now) }
+    /// Puts records behind the others, but those that stand in the reply already, until there are more than so many.
+    fn add_records(&mut self, records: &'a [Record], most: u16) -> Result<(), AllocError>
+        ensures { OnOk result (AddsUpTo most self.old self.new records.now) }
     {
         for held in records {
+            if self.has_more(most) {
+                return Ok(());
+            }
             self.add_record(held)?;
         }
         Ok(())
@@ -69,36 +96,57 @@ impl<'a> Sections<'a> {
         &mut self,
         zone: &'a Zone<I>,
         host: &NameRef<'_>,
+        most: u16,
     ) -> Result<(), AllocError>
-        ensures { OnOk result (AddsUnseen self.old self.new (rrset zone.now.records host.now type_a ++ rrset zone.now.records host.now type_aaaa)) }
+        ensures { OnOk result (AddsUpTo most self.old self.new (rrset zone.now.records host.now type_a ++ rrset zone.now.records host.now type_aaaa)) }
     {
         let _ordered = zone.apex();
-        let there = zone.index().spot(host, None);
-        self.add_records(of_type(there.records, types::A))?;
-        self.add_records(of_type(there.records, types::AAAA))
+        let owned = zone.index().records_at(host);
+        self.add_records(of_type(owned, types::A), most)?;
+        self.add_records(of_type(owned, types::AAAA), most)
     }
 
     /// Puts in the addresses that go with a record of the zone: those of the host of an NS, an MX or an SRV (RFC 1034 section
-    /// 4.3.2, step 6; RFC 2782).
-    fn add_for<I: ZoneIndex>(&mut self, zone: &'a Zone<I>, held: &Record) -> Result<(), AllocError>
-        ensures { OnOk result (AddsUnseen self.old self.new (addresses_for (record { zone = zone.now; shown = held.now }))) }
-    {
-        match held.host() {
-            Some(host) => self.add_host(zone, &host),
-            None => Ok(()),
-        }
-    }
-
-    /// Puts in the addresses that go with records of the zone.
-    pub(crate) fn add_addresses<I: ZoneIndex>(
+    /// 4.3.2, step 6; RFC 2782). A host that stands among the known ones is not looked up again.
+    fn add_for<'b, I: ZoneIndex>(
         &mut self,
         zone: &'a Zone<I>,
-        records: &[Record],
+        held: &'b Record,
+        known: &mut Vec<NameRef<'b>, Heap>,
+        most: u16,
     ) -> Result<(), AllocError>
-        ensures { OnOk result (AddsUnseen self.old self.new (flat_map addresses_for (from_zone zone.now records.now))) }
+        ensures added { OnOk result (AreKnown zone.now known.old.items self.old → AddsUpTo most self.old self.new (addresses_for (record { zone = zone.now; shown = held.now }))) }
+        ensures known { OnOk result (AreKnown zone.now known.old.items self.old → AreKnown zone.now known.new.items self.new) }
     {
+        let Some(host) = held.host() else {
+            return Ok(());
+        };
+        if self.has_more(most) {
+            return Ok(());
+        }
+        if is_known(known.as_slice(), &host) {
+            return Ok(());
+        }
+        self.add_host(zone, &host, most)?;
+        if !self.has_more(most) {
+            known.push(host)?;
+        }
+        Ok(())
+    }
+
+    /// Puts in the addresses that go with records of the zone, until there are more than so many.
+    pub(crate) fn add_addresses<I: ZoneIndex>(
+        &mut self,
+        alloc: Heap,
+        zone: &'a Zone<I>,
+        records: &[Record],
+        most: u16,
+    ) -> Result<(), AllocError>
+        ensures { OnOk result (AddsUpTo most self.old self.new (flat_map addresses_for (from_zone zone.now records.now))) }
+    {
+        let mut known = Vec::new(alloc);
         for held in records {
-            self.add_for(zone, held)?;
+            self.add_for(zone, held, &mut known, most)?;
         }
         Ok(())
     }

@@ -1,12 +1,14 @@
 //! The response code and the bit AA of the reply to a lookup.
-ghost use Rattle.std.specs.Prelude.{◌≡◌, ◌<◌, List, if◌then◌else◌};
+ghost use Rattle.std.specs.Prelude.{◌≡◌, List, if◌then◌else◌};
 ghost use Rattle.dns_zone.specs.Zone.{Zone as Held};
 ghost use Rattle.dns_lookup.specs.Lookup.{Found as Stated};
 ghost use Rattle.dns_lookup.specs.Told.{AreTold};
+ghost use Rattle.dns_wire.specs.Codes.{number_of_rcode};
 ghost use Rattle.dns_answer.specs.Sections.{is_name_error, is_authoritative};
 ghost use Rattle.dns_answer.specs.Answer.{rcode_nxdomain};
 
 use dns_lookup::{Found, Kind};
+use dns_wire::Rcode;
 
 /// Whether the last of the names that were searched does not exist (RFC 1035 section 4.1.1, RFC 2308 section 2.1).
 fn is_name_error(found: &[Found<'_>]) -> bool
@@ -34,13 +36,12 @@ pub(crate) fn is_authoritative(found: &[Found<'_>]) -> bool
     }
 }
 
-/// The response code of a name that does not exist (RFC 1035 section 4.1.1).
-const NXDOMAIN: u8 = 3;
-
 /// The response code of the reply to what was found.
-pub(crate) fn rcode_of(found: &[Found<'_>]) -> u8
-    ensures value { (zones : List Held) (fs : List Stated) → AreTold zones fs found.now → result ≡ (if is_name_error fs then rcode_nxdomain else 0) }
-    ensures bound { result < 16 }
+pub(crate) fn rcode_of(found: &[Found<'_>]) -> Rcode
+    ensures { (zones : List Held) (fs : List Stated) → AreTold zones fs found.now → number_of_rcode result ≡ (if is_name_error fs then rcode_nxdomain else 0) }
 {
-    if is_name_error(found) { NXDOMAIN } else { 0 }
+    if is_name_error(found) {
+        return Rcode::NxDomain;
+    }
+    Rcode::NoError
 }

@@ -1,23 +1,19 @@
 //! Replies fitted to their transport.
-ghost use Rattle.std.specs.Prelude.{◌≡◌, ◌==◌, ◌<◌, ◌≤◌, [], true, length, IfOk, MatchOption};
+ghost use Rattle.std.specs.Prelude.{◌≡◌, ◌==◌, ◌+◌, ◌<◌, ◌≤◌, [], true, length, IfOk, MatchOption};
 ghost use Rattle.std.specs.List.{list_all};
 ghost use Rattle.dns_records.specs.Types.{type_ns};
 ghost use Rattle.dns_wire.specs.Reply.{stated};
-ghost use Rattle.dns_wire.specs.Text.{question_octets, text};
-ghost use Rattle.dns_answer.specs.Fit.{is_referral, by_udp, by_tcp};
+ghost use Rattle.dns_wire.specs.Text.{Reply as Stated, question_octets, text};
+ghost use Rattle.dns_answer.specs.Fit.{is_referral, by_udp, by_udp_without_additional, by_tcp, failed, most_records, truncated};
 ghost use Rattle.dns_answer.specs.Answer.{fitted};
+ghost use Rattle.dns_answer.specs.Added.{IsWithoutAdditional, IsWithoutRecords};
 
-use crate::Transport;
 use dns_memory::Heap;
 use dns_records::types;
-use dns_wire::{Reply, ReplyRecord, WireError, Writer};
+use dns_request::Transport;
+use dns_wire::limits::{MOST_BY_TCP, MOST_BY_UDP};
+use dns_wire::{Rcode, Reply, ReplyRecord, WireError, Writer, one_packed_text};
 use std::alloc::AllocError;
-
-/// A datagram has at most so many octets (RFC 1035 section 4.2.1).
-const MOST_BY_UDP: usize = 512;
-
-/// A message on a stream has at most so many octets (RFC 1035 section 4.2.2).
-const MOST_BY_TCP: usize = 65535;
 
 /// The text of the reply, if it has at most so many octets.
 fn text_within(
@@ -25,9 +21,7 @@ fn text_within(
     reply: &Reply<'_>,
     limit: usize,
 ) -> Result<Option<Vec<u8, Heap>>, AllocError>
-    requires opcode { reply.now.opcode < 16 }
-    requires rcode { reply.now.rcode < 16 }
-    requires limit { limit < 65536 }
+    requires { limit < 65536 }
     ensures { IfOk result (λ fits. MatchOption fits (limit < length (text (stated reply.now))) (λ octets. (octets.items ≡ text (stated reply.now)) × (length octets.items ≤ limit))) }
 {
     match Writer::write(alloc, reply, limit) {
@@ -42,9 +36,7 @@ fn text_within(
 
 /// The text of a reply that fits any transport.
 fn short_text(alloc: Heap, reply: &Reply<'_>) -> Result<Vec<u8, Heap>, AllocError>
-    requires opcode { reply.now.opcode < 16 }
-    requires rcode { reply.now.rcode < 16 }
-    requires short { length (text (stated reply.now)) < 65536 }
+    requires { length (text (stated reply.now)) < 65536 }
     ensures { IfOk result (λ octets. octets.items ≡ text (stated reply.now)) }
 {
     match text_within(alloc, reply, MOST_BY_TCP)? {
@@ -67,12 +59,10 @@ fn is_referral(reply: &Reply<'_>) -> bool
     !reply.authority.is_empty() & are_servers(reply.authority.as_slice())
 }
 
-/// The header and the question of a reply, with TC.
-fn cut_down(alloc: Heap, mut reply: Reply<'_>) -> Result<Vec<u8, Heap>, AllocError>
-    requires opcode { reply.opcode < 16 }
-    requires rcode { reply.rcode < 16 }
-    requires question { length (question_octets (stated reply)) < 65524 }
-    ensures { IfOk result (λ octets. octets.items ≡ text (record (stated reply.entry) { tc = true; answer = []; authority = []; additional = [] })) }
+/// The header and the question of a reply, with TC (RFC 1035 section 4.1.1).
+fn truncated(alloc: Heap, mut reply: Reply<'_>) -> Result<Vec<u8, Heap>, AllocError>
+    requires { length (question_octets (stated reply)) < 65524 }
+    ensures { IfOk result (λ octets. octets.items ≡ truncated (stated reply.entry)) }
 {
     reply.tc = true;
     reply.answer.clear();
@@ -81,42 +71,55 @@ fn cut_down(alloc: Heap, mut reply: Reply<'_>) -> Result<Vec<u8, Heap>, AllocErr
     short_text(alloc, &reply)
 }
 
-/// A reply by UDP: whole, else without its additional section unless it is a referral, else cut down.
-fn fit_to_udp(alloc: Heap, mut reply: Reply<'_>) -> Result<Vec<u8, Heap>, AllocError>
-    requires opcode { reply.opcode < 16 }
-    requires rcode { reply.rcode < 16 }
+/// SERVFAIL with the question of a reply.
+fn failed(alloc: Heap, mut reply: Reply<'_>) -> Result<Vec<u8, Heap>, AllocError>
+    requires { length (question_octets (stated reply)) < 65524 }
+    ensures { IfOk result (λ octets. octets.items ≡ failed (stated reply.entry)) }
+{
+    reply.aa = false;
+    reply.rcode = Rcode::ServFail;
+    reply.answer.clear();
+    reply.authority.clear();
+    reply.additional.clear();
+    short_text(alloc, &reply)
+}
+
+/// A reply by UDP that doesn't fit whole: without its additional section, which is gone, unless it is a referral; else truncated.
+fn fit_without_additional(alloc: Heap, reply: Reply<'_>) -> Result<Vec<u8, Heap>, AllocError>
     requires question { length (question_octets (stated reply)) < 65524 }
+    requires gone { reply.additional.items ≡ [] }
+    ensures { IfOk result (λ octets. octets.items ≡ by_udp_without_additional (stated reply.entry)) }
+{
+    if is_referral(&reply) {
+        return truncated(alloc, reply);
+    }
+    if let Some(less) = text_within(alloc, &reply, MOST_BY_UDP)? {
+        return Ok(less);
+    }
+    truncated(alloc, reply)
+}
+
+/// A reply by UDP: whole, else without its additional section unless it is a referral, else truncated.
+fn fit_to_udp(alloc: Heap, mut reply: Reply<'_>) -> Result<Vec<u8, Heap>, AllocError>
+    requires { length (question_octets (stated reply)) < 65524 }
     ensures { IfOk result (λ octets. octets.items ≡ by_udp (stated reply.entry)) }
 {
     if let Some(whole) = text_within(alloc, &reply, MOST_BY_UDP)? {
         return Ok(whole);
     }
-    if is_referral(&reply) {
-        return cut_down(alloc, reply);
-    }
     reply.additional.clear();
-    if let Some(less) = text_within(alloc, &reply, MOST_BY_UDP)? {
-        return Ok(less);
-    }
-    cut_down(alloc, reply)
+    fit_without_additional(alloc, reply)
 }
 
 /// A reply by TCP: whole, else SERVFAIL with the question.
-fn fit_to_tcp(alloc: Heap, mut reply: Reply<'_>) -> Result<Vec<u8, Heap>, AllocError>
-    requires opcode { reply.opcode < 16 }
-    requires rcode { reply.rcode < 16 }
-    requires question { length (question_octets (stated reply)) < 65524 }
+fn fit_to_tcp(alloc: Heap, reply: Reply<'_>) -> Result<Vec<u8, Heap>, AllocError>
+    requires { length (question_octets (stated reply)) < 65524 }
     ensures { IfOk result (λ octets. octets.items ≡ by_tcp (stated reply.entry)) }
 {
     if let Some(whole) = text_within(alloc, &reply, MOST_BY_TCP)? {
         return Ok(whole);
     }
-    reply.aa = false;
-    reply.rcode = 2;
-    reply.answer.clear();
-    reply.authority.clear();
-    reply.additional.clear();
-    short_text(alloc, &reply)
+    failed(alloc, reply)
 }
 
 /// The text of a reply that goes out by the transport.
@@ -125,13 +128,54 @@ pub(crate) fn fit(
     reply: Reply<'_>,
     transport: Transport,
 ) -> Result<Vec<u8, Heap>, AllocError>
-    requires opcode { reply.opcode < 16 }
-    requires rcode { reply.rcode < 16 }
-    requires question { length (question_octets (stated reply)) < 65524 }
+    requires { length (question_octets (stated reply)) < 65524 }
     ensures { IfOk result (λ octets. octets.items ≡ fitted transport (stated reply.entry)) }
 {
     match transport {
         Transport::Udp => fit_to_udp(alloc, reply),
         Transport::Tcp => fit_to_tcp(alloc, reply),
+    }
+}
+
+/// How many records a text that fits the transport has at the most, each of ten octets or more.
+pub(crate) fn most_records(transport: Transport) -> u16
+    ensures { result ≡ most_records transport }
+{
+    match transport {
+        Transport::Udp => 50,
+        Transport::Tcp => 6552,
+    }
+}
+
+/// The text of a reply with too many records for the transport, of which the additional ones are left out here.
+pub(crate) fn fit_first_sections(
+    alloc: Heap,
+    reply: Reply<'_>,
+    transport: Transport,
+) -> Result<Vec<u8, Heap>, AllocError>
+    requires question { length (question_octets (stated reply)) < 65524 }
+    requires gone { reply.additional.items ≡ [] }
+    ensures { IfOk result (λ octets. (whole : Stated) → IsWithoutAdditional (stated reply.entry) whole → most_records transport < length whole.answer + length whole.authority + length whole.additional → octets.items ≡ fitted transport whole) }
+{
+    one_packed_text();
+    match transport {
+        Transport::Udp => fit_without_additional(alloc, reply),
+        Transport::Tcp => failed(alloc, reply),
+    }
+}
+
+/// The text of a reply with too many records for the transport in its first two sections, all of which are left out here.
+pub(crate) fn fit_question(
+    alloc: Heap,
+    reply: Reply<'_>,
+    transport: Transport,
+) -> Result<Vec<u8, Heap>, AllocError>
+    requires { length (question_octets (stated reply)) < 65524 }
+    ensures { IfOk result (λ octets. (whole : Stated) → IsWithoutRecords (stated reply.entry) whole → most_records transport < length whole.answer + length whole.authority → octets.items ≡ fitted transport whole) }
+{
+    one_packed_text();
+    match transport {
+        Transport::Udp => truncated(alloc, reply),
+        Transport::Tcp => failed(alloc, reply),
     }
 }

@@ -5,7 +5,7 @@ ghost use Rattle.dns_lookup.specs.Lookup.{Found as Stated};
 ghost use Rattle.dns_lookup.specs.Told.{AreTold};
 ghost use Rattle.dns_lookup.specs.Held.{AreHeld};
 ghost use Rattle.dns_answer.specs.Sections.{records_of, answer_of, authority_of, addresses_for};
-ghost use Rattle.dns_answer.specs.Added.{AddsUnseen, AreSections};
+ghost use Rattle.dns_answer.specs.Added.{AddsUpTo, AreSectionsUpTo};
 
 use crate::additional::Sections;
 use crate::sections::{answer_section, answers, authority_section, searched, servers};
@@ -54,14 +54,16 @@ impl<'a> Sections<'a> {
     /// Puts in the addresses that go with the answer section.
     fn add_for_answers<I: ZoneIndex>(
         &mut self,
+        alloc: Heap,
         zones: &'a [Zone<I>],
         found: &[Found<'a>],
+        most: u16,
     ) -> Result<(), AllocError>
         requires { (fs : List Stated) × AreTold zones.now fs found.now }
-        ensures { OnOk result ((t : ℕ) (fs : List Stated) → AreTold zones.now fs found.now → AreHeld zones.now t found.now → AddsUnseen self.old self.new (flat_map addresses_for (answer_of t fs))) }
+        ensures { OnOk result ((t : ℕ) (fs : List Stated) → AreTold zones.now fs found.now → AreHeld zones.now t found.now → AddsUpTo most self.old self.new (flat_map addresses_for (answer_of t fs))) }
     {
         for one in found {
-            self.add_addresses(searched(zones, one), answers(one))?;
+            self.add_addresses(alloc, searched(zones, one), answers(one), most)?;
         }
         Ok(())
     }
@@ -69,31 +71,34 @@ impl<'a> Sections<'a> {
     /// Puts in the addresses that go with the authority section.
     fn add_for_authority<I: ZoneIndex>(
         &mut self,
+        alloc: Heap,
         zones: &'a [Zone<I>],
         found: &[Found<'a>],
+        most: u16,
     ) -> Result<(), AllocError>
         requires { (fs : List Stated) × AreTold zones.now fs found.now }
-        ensures { OnOk result ((t : ℕ) (fs : List Stated) → AreTold zones.now fs found.now → AreHeld zones.now t found.now → AddsUnseen self.old self.new (flat_map addresses_for (authority_of fs))) }
+        ensures { OnOk result ((t : ℕ) (fs : List Stated) → AreTold zones.now fs found.now → AreHeld zones.now t found.now → AddsUpTo most self.old self.new (flat_map addresses_for (authority_of fs))) }
     {
         match found.last() {
-            Some(last) => self.add_addresses(searched(zones, last), servers(last)),
+            Some(last) => self.add_addresses(alloc, searched(zones, last), servers(last), most),
             None => Ok(()),
         }
     }
 
     /// The sections of the reply to what a question found: what each name puts into the answer section, what the last puts
-    /// into the authority section, and the addresses that go with both.
+    /// into the authority section, and the addresses that go with both, until there are more records than so many.
     pub(crate) fn new<I: ZoneIndex>(
         alloc: Heap,
         zones: &'a [Zone<I>],
         found: &[Found<'a>],
+        most: u16,
     ) -> Result<Sections<'a>, AllocError>
         requires { (fs : List Stated) × AreTold zones.now fs found.now }
-        ensures { IfOk result (λ s. (t : ℕ) (fs : List Stated) → AreTold zones.now fs found.now → AreHeld zones.now t found.now → AreSections t fs s) }
+        ensures { IfOk result (λ s. (t : ℕ) (fs : List Stated) → AreTold zones.now fs found.now → AreHeld zones.now t found.now → AreSectionsUpTo most t fs s) }
     {
         let mut sections = without_addresses(alloc, zones, found)?;
-        sections.add_for_answers(zones, found)?;
-        sections.add_for_authority(zones, found)?;
+        sections.add_for_answers(alloc, zones, found, most)?;
+        sections.add_for_authority(alloc, zones, found, most)?;
         Ok(sections)
     }
 }

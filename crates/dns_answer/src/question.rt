@@ -1,30 +1,26 @@
-//! The reply to the one question of a request.
-ghost use Rattle.std.specs.Prelude.{◌≡◌, ◌<◌, [], ◌∷◌, Some, is_none, IfOk};
+//! The reply to the one question of a query.
+ghost use Rattle.std.specs.Prelude.{◌≡◌, ◌<◌, [], ◌∷◌, List, length, IfOk};
 ghost use Rattle.dns_wire.specs.Message.{Question};
+ghost use Rattle.dns_wire.specs.Codes.{number_of_rcode};
 ghost use Rattle.dns_wire.specs.Reply.{stated};
 ghost use Rattle.dns_wire.specs.Text.{question_octets};
-ghost use Rattle.dns_answer.specs.Answer.{with_question, looked_up, answered, fitted, Replies, handled_as, IsForReply};
-ghost use Rattle.dns_lookup.specs.Lookup.{zone_of};
-ghost use Rattle.dns_answer.specs.Added.{reply_with};
+ghost use Rattle.dns_lookup.specs.Lookup.{Found as Stated};
+ghost use Rattle.dns_lookup.specs.Told.{AreTold};
+ghost use Rattle.dns_lookup.specs.Held.{AreHeld};
+ghost use Rattle.dns_answer.specs.Answer.{with_question, answered, fitted, reply_for};
 ghost use Rattle.dns_answer.specs.Asked.{IsAsked};
 
-use crate::Transport;
 use crate::additional::Sections;
 use crate::codes::{is_authoritative, rcode_of};
-use crate::fit::fit;
-use dns_lookup::{nearest, resolve};
+use crate::fit::{fit, fit_first_sections, fit_question, most_records};
+use crate::sections::{answer_count, server_count};
+use dns_lookup::{Found, resolve};
 use dns_memory::Heap;
 use dns_names::{Name, NameRef};
-use dns_records::types;
-use dns_wire::{Echo, Message, QuestionView, Reply};
+use dns_request::{RequestMessage, Transport};
+use dns_wire::{Echo, Message, Opcode, Rcode, Reply};
 use dns_zone::{Zone, ZoneIndex};
 use std::alloc::AllocError;
-
-/// The response code of what is not served (RFC 1035 section 4.1.1).
-const NOTIMP: u8 = 4;
-
-/// The response code of what is not held (RFC 1035 section 4.1.1).
-const REFUSED: u8 = 5;
 
 /// A question: its octets as they came, its name in lower case, and its type.
 #[derive(Drop)]
@@ -53,19 +49,18 @@ fn reply_with_question<'a>(
     alloc: Heap,
     message: &Message<'_>,
     asked: Asked<'a>,
-    rcode: u8,
+    rcode: Rcode,
 ) -> Reply<'a>
-    ensures stated { (q : Question) → IsAsked message.now.octets q asked.entry → stated result ≡ with_question message.now.octets message.now.message q rcode }
+    ensures stated { (q : Question) → IsAsked message.now.octets q asked.entry → stated result ≡ with_question message.now.octets message.now.message q (number_of_rcode rcode) }
     ensures question { question_octets (stated result) ≡ asked.entry.octets.now }
-    ensures opcode { result.opcode ≡ message.now.message.header.opcode }
-    ensures rcode { result.rcode ≡ rcode }
+    ensures bare { result.additional.items ≡ [] }
 {
     Reply {
         id: message.id(),
-        opcode: message.opcode(),
+        opcode: Opcode::Query,
         aa: false,
         tc: false,
-        rd: message.is_recursion_desired() & (message.opcode() == 0),
+        rd: message.is_recursion_desired(),
         rcode,
         question: Some(Echo {
             octets: asked.octets,
@@ -77,101 +72,88 @@ fn reply_with_question<'a>(
     }
 }
 
-/// The reply with its sections.
-fn with_sections<'a>(mut reply: Reply<'a>, aa: bool, sections: Sections<'a>) -> Reply<'a>
-    ensures { stated result ≡ reply_with (stated reply.entry) aa sections.entry }
-{
-    reply.aa = aa;
-    reply.answer = sections.answer;
-    reply.authority = sections.authority;
-    reply.additional = sections.additional;
-    reply
-}
-
-/// The reply to a question for a name that is under a held apex (RFC 1034 section 4.3.2).
-fn look_up<'a, I: ZoneIndex>(
-    alloc: Heap,
-    zones: &'a [Zone<I>],
-    message: &Message<'_>,
-    asked: Asked<'a>,
-) -> Result<Reply<'a>, AllocError>
-    ensures stated { IfOk result (λ reply. (q : Question) → IsAsked message.now.octets q asked.entry → stated reply ≡ looked_up zones.now message.now.octets message.now.message q) }
-    ensures question { IfOk result (λ reply. question_octets (stated reply) ≡ asked.entry.octets.now) }
-    ensures opcode { IfOk result (λ reply. reply.opcode ≡ message.now.message.header.opcode) }
-    ensures rcode { IfOk result (λ reply. reply.rcode < 16) }
-{
-    let found = resolve(alloc, zones, asked.name.again(), asked.qtype)?;
-    let sections = Sections::new(alloc, zones, found.as_slice())?;
-    let aa = is_authoritative(found.as_slice());
-    let rcode = rcode_of(found.as_slice());
-    Ok(with_sections(
-        reply_with_question(alloc, message, asked, rcode),
-        aa,
-        sections,
-    ))
-}
-
-/// Whether the name is under no held apex.
-fn is_outside<I: ZoneIndex>(zones: &[Zone<I>], name: &NameRef<'_>) -> bool
-    ensures { result ≡ is_none (zone_of zones.now name.now) }
-{
-    nearest(zones, name).is_none()
-}
-
-/// The reply to a question of a class.
+/// The reply to what a question finds (RFC 1034 section 4.3.2). A section that can't go out is not built.
 fn reply_to<'a, I: ZoneIndex>(
     alloc: Heap,
     zones: &'a [Zone<I>],
     message: &Message<'_>,
     asked: Asked<'a>,
-    qclass: u16,
-) -> Result<Reply<'a>, AllocError>
-    ensures stated { IfOk result (λ reply. (q : Question) → IsAsked message.now.octets q asked.entry → qclass ≡ q.qclass → stated reply ≡ answered zones.now message.now.octets message.now.message q) }
-    ensures question { IfOk result (λ reply. question_octets (stated reply) ≡ asked.entry.octets.now) }
-    ensures opcode { IfOk result (λ reply. reply.opcode ≡ message.now.message.header.opcode) }
-    ensures rcode { IfOk result (λ reply. reply.rcode < 16) }
-{
-    if (asked.qtype == types::MAILB) | (asked.qtype == types::MAILA) {
-        return Ok(reply_with_question(alloc, message, asked, NOTIMP));
-    }
-    if (qclass != types::CLASS_IN) | is_outside(zones, &asked.name) {
-        return Ok(reply_with_question(alloc, message, asked, REFUSED));
-    }
-    look_up(alloc, zones, message, asked)
-}
-
-/// The reply to the question that the message has.
-fn answer_question<I: ZoneIndex>(
-    alloc: Heap,
-    zones: &[Zone<I>],
-    message: &Message<'_>,
-    question: &QuestionView<'_>,
     transport: Transport,
+    found: &[Found<'a>],
 ) -> Result<Vec<u8, Heap>, AllocError>
-    requires one { message.now.message.questions ≡ question.now ∷ [] }
-    requires kind { message.now.message.header.opcode < 16 }
-    ensures { IfOk result (λ octets. octets.items ≡ fitted transport (answered zones.now message.now.octets message.now.message question.now)) }
+    requires question { length asked.octets.now < 65524 }
+    requires found { (fs : List Stated) × AreTold zones.now fs found.now }
+    ensures { IfOk result (λ octets. (q : Question) (fs : List Stated) → IsAsked message.now.octets q asked.entry → AreTold zones.now fs found.now → AreHeld zones.now q.qtype found.now → octets.items ≡ fitted transport (reply_for message.now.octets message.now.message q fs)) }
 {
-    let name = question.name().to_name(alloc)?;
-    let asked = Asked::new(message.question_octets(), &name, question.qtype());
-    let reply = reply_to(alloc, zones, message, asked, question.qclass())?;
+    let most = most_records(transport);
+    let aa = is_authoritative(found);
+    let rcode = rcode_of(found);
+    let mut reply = reply_with_question(alloc, message, asked, rcode);
+    reply.aa = aa;
+    if answer_count(found) > most as usize {
+        return fit_question(alloc, reply, transport);
+    }
+    if server_count(found) > most as usize {
+        return fit_question(alloc, reply, transport);
+    }
+    let sections = Sections::new(alloc, zones, found, most)?;
+    let is_over = sections.has_more(most);
+    reply.answer = sections.answer;
+    reply.authority = sections.authority;
+    if is_over {
+        return fit_first_sections(alloc, reply, transport);
+    }
+    reply.additional = sections.additional;
     fit(alloc, reply, transport)
 }
 
-/// The reply to a request that asks one question and is no update and no transfer, octet for octet as it is defined. NOTIMP and
-/// REFUSED repeat the question.
+/// The reply to a question: REFUSED where its name is under no held apex.
+fn answer<'a, I: ZoneIndex>(
+    alloc: Heap,
+    zones: &'a [Zone<I>],
+    message: &Message<'_>,
+    asked: Asked<'a>,
+    transport: Transport,
+) -> Result<Vec<u8, Heap>, AllocError>
+    requires { length asked.octets.now < 65524 }
+    ensures { IfOk result (λ octets. (q : Question) → IsAsked message.now.octets q asked.entry → octets.items ≡ fitted transport (answered zones.now message.now.octets message.now.message q)) }
+{
+    let found = resolve(alloc, zones, asked.name.again(), asked.qtype)?;
+    if found.is_empty() {
+        let reply = reply_with_question(alloc, message, asked, Rcode::Refused);
+        return fit(alloc, reply, transport);
+    }
+    reply_to(alloc, zones, message, asked, transport, found.as_slice())
+}
+
+/// The reply to a query, octet for octet as it is defined, with its question: what the lookup finds, or REFUSED where its name is under
+/// no held apex.
 pub fn reply<I: ZoneIndex>(
     alloc: Heap,
     zones: &[Zone<I>],
-    message: &Message<'_>,
+    query: &RequestMessage<'_>,
     transport: Transport,
 ) -> Result<Vec<u8, Heap>, AllocError>
-    requires { IsForReply message.now transport }
-    ensures { IfOk result (λ octets. handled_as zones.now message.now.octets transport (Some message.now.message) ≡ Replies octets.items) }
+    ensures { IfOk result (λ octets. octets.items ≡ fitted transport (answered zones.now query.now.message.octets query.now.message.message query.now.question)) }
 {
-    let Some(question) = message.question() else {
-        unreachable!();
-    };
-    let _read = message.octets();
-    answer_question(alloc, zones, message, &question, transport)
+    let name = query.question.name().to_name(alloc)?;
+    let octets = query.message.question_octets();
+    let asked = Asked::new(octets, &name, query.question.qtype());
+    answer(alloc, zones, &query.message, asked, transport)
+}
+
+/// The reply to a query that is not served: its question, and the response code.
+pub fn refuse(
+    alloc: Heap,
+    query: &RequestMessage<'_>,
+    rcode: Rcode,
+    transport: Transport,
+) -> Result<Vec<u8, Heap>, AllocError>
+    ensures { IfOk result (λ octets. octets.items ≡ fitted transport (with_question query.now.message.octets query.now.message.message query.now.question (number_of_rcode rcode))) }
+{
+    let name = query.question.name().to_name(alloc)?;
+    let octets = query.message.question_octets();
+    let asked = Asked::new(octets, &name, query.question.qtype());
+    let reply = reply_with_question(alloc, &query.message, asked, rcode);
+    fit(alloc, reply, transport)
 }

@@ -1,11 +1,11 @@
 //! The answer section and the authority section of a reply.
-ghost use Rattle.std.specs.Prelude.{◌≡◌, ℕ, ◌<◌, ◌++◌, List, length, IfOk, OnOk};
+ghost use Rattle.std.specs.Prelude.{◌≡◌, ℕ, ◌<◌, ◌≤◌, ◌++◌, List, length, IfOk, OnOk};
 ghost use Rattle.std.specs.List.{flat_map};
 ghost use Rattle.dns_zone.specs.Zone.{Zone as Held};
 ghost use Rattle.dns_lookup.specs.Lookup.{Found as Stated};
 ghost use Rattle.dns_lookup.specs.Told.{IsTold, AreTold};
 ghost use Rattle.dns_lookup.specs.Held.{IsHeld, AreHeld};
-ghost use Rattle.dns_answer.specs.Sections.{from_zone, as_owner, records_of, answers_of, answer_of, negative_soa, authority_at, addresses_for};
+ghost use Rattle.dns_answer.specs.Sections.{from_zone, as_owner, records_of, answers_of, answer_of, negative_soa, authority_at, authority_of, addresses_for};
 
 use dns_lookup::{Found, Kind};
 use dns_memory::Heap;
@@ -36,11 +36,33 @@ pub(crate) fn answers<'a>(one: &Found<'a>) -> &'a [Record]
 
 /// The name servers that the last name puts into the authority section: those of a cut (RFC 1034 section 4.3.2, step 3b).
 pub(crate) fn servers<'a>(last: &Found<'a>) -> &'a [Record]
-    ensures { (zones : List Held) (t : ℕ) (f : Stated) → IsTold zones f last.now → IsHeld zones t last.now → flat_map addresses_for (authority_at f) ≡ flat_map addresses_for (from_zone f.zone result.now) }
+    ensures few { (zones : List Held) (t : ℕ) (f : Stated) → IsTold zones f last.now → IsHeld zones t last.now → length result.now ≤ length (records_of (authority_at f)) }
+    ensures hosts { (zones : List Held) (t : ℕ) (f : Stated) → IsTold zones f last.now → IsHeld zones t last.now → flat_map addresses_for (authority_at f) ≡ flat_map addresses_for (from_zone f.zone result.now) }
 {
     match last.kind {
         Kind::Referral => last.records,
         _ => &[],
+    }
+}
+
+/// How many records the answer section has.
+pub(crate) fn answer_count(found: &[Found<'_>]) -> usize
+    ensures { (zones : List Held) (t : ℕ) (fs : List Stated) → AreTold zones fs found.now → AreHeld zones t found.now → result ≤ length (records_of (answer_of t fs)) }
+{
+    let mut count = 0usize;
+    for one in found {
+        count = count.saturating_add(answers(one).len());
+    }
+    count
+}
+
+/// How many name servers the authority section has.
+pub(crate) fn server_count(found: &[Found<'_>]) -> usize
+    ensures { (zones : List Held) (t : ℕ) (fs : List Stated) → AreTold zones fs found.now → AreHeld zones t found.now → result ≤ length (records_of (authority_of fs)) }
+{
+    match found.last() {
+        Some(last) => servers(last).len(),
+        None => 0,
     }
 }
 
@@ -94,9 +116,8 @@ fn start_of_authority<'a, I: ZoneIndex>(
     ensures { IfOk result (λ shown. shown.items ≡ negative_soa zone.now) }
 {
     let mut shown = Vec::new(alloc);
-    // The apex comes first in the order of names.
-    let apex = zone.index().spot(&zone.apex().lend(), Some(0));
-    for record in of_type(apex.records, types::SOA) {
+    let owned = zone.index().records_at(&zone.apex().lend());
+    for record in of_type(owned, types::SOA) {
         let ttl = record.ttl().min(record.minimum());
         shown.push(ReplyRecord::new(record.owner().lend(), ttl, record))?;
     }

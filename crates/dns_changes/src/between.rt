@@ -8,7 +8,7 @@ use crate::change::holds;
 use dns_memory::Heap;
 use dns_records::Record;
 use dns_records::types::SOA;
-use dns_zone::ZoneIndex;
+use dns_zone::{Records, ZoneIndex};
 use std::alloc::AllocError;
 
 /// Whether the record is no SOA, and not in the other set with its TTL.
@@ -23,12 +23,10 @@ fn only_in<I: ZoneIndex>(alloc: Heap, set: &I, other: &I) -> Result<Vec<Record, 
     ensures { IfOk result (λ lone. lone.items ≡ only_in (I.records set.now) (I.records other.now)) }
 {
     let mut lone = Vec::new(alloc);
-    let mut last: Option<&Record> = None;
-    'records: while let Some(record) = set.walk(last) {
+    for record in Records::of(set) {
         if is_lone(record, other) {
             lone.push(record.clone()?)?;
         }
-        last = Some(record);
     }
     Ok(lone)
 }

@@ -1,4 +1,4 @@
--- The nearest zone, and the walk up the ancestors.
+-- The closest zone, and the walk up the ancestors.
 use Rattle.std.proofs.Common.{◌≡◌, inl, inr, ℕ, suc, ◌+◌, ◌<◌, Bool, true, false, List, [], ◌∷◌, length, get_or, drop, sym, ap, subst, ◌∙◌, arith, cond}
 use Rattle.std.specs.Prelude.{◌||◌, Option, Some, None, slice_get}
 use Rattle.std.specs.List.{list_any, find}
@@ -50,23 +50,23 @@ abbrev pub zone_at : List Zone → Option Labels → Option Zone
 zone_at zones None = None
 zone_at zones (Some a) = find (has_apex a) zones
 
-pub nearest_here : (zones : List Zone) (name : Labels) → among zones name ≡ true → zone_of zones name ≡ find (has_apex name) zones
-nearest_here zones [] e = ap (λ (b : Bool). zone_at zones (cond b (Some []) None)) e
-nearest_here zones (l ∷ rest) e = ap (λ (b : Bool). zone_at zones (cond b (Some (l ∷ rest)) (find (among zones) (ancestors rest)))) e
+pub closest_here : (zones : List Zone) (name : Labels) → among zones name ≡ true → zone_of zones name ≡ find (has_apex name) zones
+closest_here zones [] e = ap (λ (b : Bool). zone_at zones (cond b (Some []) None)) e
+closest_here zones (l ∷ rest) e = ap (λ (b : Bool). zone_at zones (cond b (Some (l ∷ rest)) (find (among zones) (ancestors rest)))) e
 
-pub nearest_up : (zones : List Zone) (l : List ℕ) (rest : Labels) → among zones (l ∷ rest) ≡ false → zone_of zones (l ∷ rest) ≡ zone_of zones rest
-nearest_up zones l rest e = ap (λ (b : Bool). zone_at zones (cond b (Some (l ∷ rest)) (find (among zones) (ancestors rest)))) e
+pub closest_up : (zones : List Zone) (l : List ℕ) (rest : Labels) → among zones (l ∷ rest) ≡ false → zone_of zones (l ∷ rest) ≡ zone_of zones rest
+closest_up zones l rest e = ap (λ (b : Bool). zone_at zones (cond b (Some (l ∷ rest)) (find (among zones) (ancestors rest)))) e
 
-pub nearest_none : (zones : List Zone) → among zones [] ≡ false → zone_of zones [] ≡ None
-nearest_none zones e = ap (λ (b : Bool). zone_at zones (cond b (Some []) None)) e
+pub closest_none : (zones : List Zone) → among zones [] ≡ false → zone_of zones [] ≡ None
+closest_none zones e = ap (λ (b : Bool). zone_at zones (cond b (Some []) None)) e
 
-pub nearest_step : (zones : List Zone) (here above : Labels) → Some above ≡ parent here → among zones here ≡ false → zone_of zones here ≡ zone_of zones above
-nearest_step zones [] above e none = absurd cc
-nearest_step zones (l ∷ rest) above e none = let same : above ≡ rest = cc in nearest_up zones l rest none ∙ ap (zone_of zones) (sym same)
+pub closest_step : (zones : List Zone) (here above : Labels) → Some above ≡ parent here → among zones here ≡ false → zone_of zones here ≡ zone_of zones above
+closest_step zones [] above e none = absurd cc
+closest_step zones (l ∷ rest) above e none = let same : above ≡ rest = cc in closest_up zones l rest none ∙ ap (zone_of zones) (sym same)
 
-pub nearest_end : (zones : List Zone) (here : Labels) → None ≡ parent here → among zones here ≡ false → zone_of zones here ≡ None
-nearest_end zones [] e none = nearest_none zones none
-nearest_end zones (l ∷ rest) e none = absurd cc
+pub closest_end : (zones : List Zone) (here : Labels) → None ≡ parent here → among zones here ≡ false → zone_of zones here ≡ None
+closest_end zones [] e none = closest_none zones none
+closest_end zones (l ∷ rest) e none = absurd cc
 
 pub shorter : (here above : Labels) → Some above ≡ parent here → length above < length here
 shorter [] above e = absurd cc

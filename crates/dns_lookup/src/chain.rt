@@ -11,7 +11,7 @@ ghost use Rattle.dns_lookup.specs.Held.{IsHeld, AreHeld};
 
 use crate::node::Node;
 use crate::outcome::{Kind, outcome};
-use crate::zones::nearest;
+use crate::zones::closest_zone;
 use dns_memory::Heap;
 use dns_names::NameRef;
 use dns_records::Record;
@@ -39,7 +39,7 @@ pub type Outcome<'a> = Vec<Found<'a>, Heap>;
 /// At most so many names are searched.
 const MOST: usize = 8;
 
-/// What the name finds in the nearest of the zones.
+/// What the name finds in the closest zone.
 fn search<'a, I: ZoneIndex>(
     zones: &'a [Zone<I>],
     name: NameRef<'a>,
@@ -49,7 +49,7 @@ fn search<'a, I: ZoneIndex>(
     ensures held { IfSome result (IsHeld zones.now qtype) }
     ensures none { IfNone result (zone_of zones.now name.entry ≡ None) }
 {
-    let zone = nearest(zones, &name)?;
+    let zone = closest_zone(zones, &name)?;
     let (kind, node, records) = outcome(&zones[zone], &name, qtype);
     Some(Found {
         zone,
@@ -94,7 +94,7 @@ fn next_name<'a>(last: &Found<'a>, before: &[Found<'a>]) -> Option<NameRef<'a>>
     Some(next)
 }
 
-/// What a question finds: the name, and then the target of each alias, each in the nearest of the zones (RFC 1034 section
+/// What a question finds: the name, and then the target of each alias, each in the closest zone (RFC 1034 section
 /// 4.3.2). The list ends behind a name that is no alias, before a target that was searched already, before a name under no
 /// apex, and behind eight names; it is empty where the question's name is under no apex. Memory is taken for the list alone.
 pub fn resolve<'a, I: ZoneIndex>(

@@ -1,6 +1,11 @@
 -- Entries that mean records are read as those records.
 use Rattle.std.proofs.Common.{◌≡◌, ℕ, ◌+◌, ◌^◌, ◌<◌, ◌≤◌, inl, inr, Bool, true, false, List, [], ◌∷◌, ◌++◌, length, map, Some, None, Ok, refl, sym, ap, ◌∙◌, arith, append_assoc, append-nil, length-append}
-use Rattle.std.specs.Prelude.{Option, Result, ok_or, flat_map, nat_lt, ◌==◌, ◌&&◌, codes, option_and_then, option_map, bytes_eq, cond}
+use Rattle.std.specs.Prelude.{Option, Result, ok_or, flat_map, nat_lt, ◌==◌, ◌&&◌, codes, option_and_then, option_map, MatchOption, bytes_eq, take, drop, cond, if◌then◌else◌}
+use Rattle.std.specs.Option.{option_or}
+use Rattle.std.specs.Cmp.{first_so, second_so}
+use Rattle.std.proofs.lemmas.List.Sums.{list_all-from_AllPass}
+use Rattle.hex.specs.Hex.{decode_of, is_hex_digit}
+use Rattle.hex.proofs.HexLemmas.{decode_of-ok}
 use Rattle.std.specs.List.{AllByRecursion, find, list_all}
 use Rattle.std.specs.Char.{is_ascii_digit, to_ascii_uppercase}
 use Rattle.std.specs.Str.Parse.{digits_value}
@@ -15,9 +20,10 @@ use Rattle.dns_masterfile.specs.declared.FileError.{FileError}
 use Rattle.dns_masterfile.specs.Text.{number_of_text, is_decimal, string_of_text, each_of, before_each}
 use Rattle.dns_masterfile.specs.Pieces.{Word, Bare, Quoted, text_of}
 use Rattle.dns_masterfile.specs.Entries.{Entry}
-use Rattle.dns_masterfile.specs.Data.{Fixed, fixed_of, octets_of_text, is_keyword, type_words, type_of_word, IsNameWord, AreFixed, IsFieldText, IsDataText}
+use Rattle.dns_masterfile.specs.Data.{Fixed, fixed_of, octets_of_text, is_keyword, type_words, type_by_name, type_of_word, IsNameWord, AreFixed, IsFieldText, IsDataText, IsRDataText}
+use Rattle.dns_masterfile.specs.Opaque.{is_numbered, opaque_only, type_of_number, is_opaque_mark, IsOpaqueText}
 use Rattle.dns_masterfile.specs.Meaning.{Context, Said, Nothing, Origin, Default, Item, after, records_in, ttl_in, is_class, begins_with_dollar, IsTtl, IsMiddle, IsOwner, IsItem, Says, Mean}
-use Rattle.dns_masterfile.specs.Reading.{Outcome, ◌>>=◌, or_bad_name, name_in, take_name, take_number, take_fixed, fault_of, take_strings, fits_data, take_wire, take_field, take_data, take_ttl, ttl_or_not, class_or_not, skip_class, ttl_then_class, either_first, take_middle, take_owner, only_if, ended, item_in, which_directive, directive_or_item, said_by, on_line, before, read_entries}
+use Rattle.dns_masterfile.specs.Reading.{Outcome, ◌>>=◌, or_bad_name, name_in, take_name, take_number, take_fixed, fault_of, take_strings, fits_data, take_wire, take_field, take_data, take_type, is_or_bad, take_mark, take_size, digits_in, sized, take_opaque, take_by_form, take_rdata, take_ttl, ttl_or_not, class_or_not, skip_class, ttl_then_class, either_first, take_middle, take_owner, only_if, ended, item_in, which_directive, directive_or_item, said_by, on_line, before, read_entries}
 
 pub bind_is : {A B E : Type 0} (r : Result A E) (f : A → Result B E) (x : A) (y : B) → r ≡ Ok x → f x ≡ Ok y → (r >>= f) ≡ Ok y
 bind_is r f x y h k = rw h k
@@ -254,8 +260,29 @@ found_type : (types : List (ℕ × List ℕ)) (word : Word) (rtype : ℕ) → Al
 found_type [] word rtype good h = absurd cc
 found_type (t ∷ types) word rtype good h = found_first t types word rtype good.0 (λ k. found_type types word rtype good.1 k) h
 
+-- a type's number
+numbered_word : (text : List ℕ) → map to_ascii_uppercase (take 4 text) ≡ codes "TYPE" → IsTypeWord (Bare text)
+numbered_word [] h = absurd cc
+numbered_word (c ∷ cs) h =
+    let first : to_ascii_uppercase c ≡ 84 = cc in record {
+      letters = letters_of (Bare (c ∷ cs)) (c ∷ cs) (to_ascii_uppercase c) (map to_ascii_uppercase cs) refl refl (omega (arith, first));
+      no_class = ap (λ (k : ℕ). bytes_eq (k ∷ map to_ascii_uppercase cs) (codes "IN")) first;
+    }
+
+number_word_is : (word : Word) (rtype : ℕ) → type_of_number word ≡ Some rtype → IsTypeWord word
+number_word_is (Quoted text) rtype h = absurd cc
+number_word_is (Bare text) rtype h = go (is_numbered text) refl h
+  where
+    go : (b : Bool) → is_numbered text ≡ b → cond b (opaque_only (number_of_text (2 ^ 32) (drop 4 text))) None ≡ Some rtype → IsTypeWord (Bare text)
+    go true p h = numbered_word text ((bytes_eq-Decides (map to_ascii_uppercase (take 4 text)) (codes "TYPE")).0 (first_so (bytes_eq (map to_ascii_uppercase (take 4 text)) (codes "TYPE")) _ p))
+    go false p h = absurd cc
+
 type_word_is : (word : Word) (rtype : ℕ) → type_of_word word ≡ Some rtype → IsTypeWord word
-type_word_is word rtype h = found_type type_words word rtype type_keywords h
+type_word_is word rtype h = go (type_by_name word) refl h
+  where
+    go : (o : Option ℕ) → type_by_name word ≡ o → option_or o (type_of_number word) ≡ Some rtype → IsTypeWord word
+    go None p h = number_word_is word rtype h
+    go (Some t) p h = found_type type_words word t type_keywords p
 
 -- The TTL and the class.
 ttl_is_taken : (word : Word) (rest : List Word) (ttl : ℕ) → IsTtl word ttl → take_ttl (word ∷ rest) ≡ Ok (Some ttl, rest)
@@ -322,18 +349,65 @@ said_plain ctx e (w ∷ rest) h = ap (λ (b : Bool). directive_or_item b ctx e w
 ended_is : {A : Type 0} (e : Entry) (x : A) → e.whole ≡ true → ended e [] x ≡ Ok x
 ended_is e x h = ap (λ (b : Bool). only_if b x) h
 
+-- The word of a type.
+take_type_is : (word : Word) (rest : List Word) (rtype : ℕ) → type_of_word word ≡ Some rtype → take_type (word ∷ rest) ≡ Ok (rtype, rest)
+take_type_is word rest rtype h = bind_is (ok_or (type_of_word word) _) (λ t. Ok (t, rest)) rtype (rtype, rest) (some_or (type_of_word word) _ rtype h) refl
+
+-- Data of a type without a form.
+all_front : (p : ℕ → Bool) (xs ys : List ℕ) → list_all p (xs ++ ys) ≡ true → (list_all p xs ≡ true) × (list_all p ys ≡ true)
+all_front p [] ys h = (refl, h)
+all_front p (x ∷ xs) ys h =
+    let inner = all_front p xs ys (second_so (p x) (list_all p (xs ++ ys)) h) in
+    (both_so (p x) (list_all p xs) (first_so (p x) (list_all p (xs ++ ys)) h) inner.0, inner.1)
+  where
+    both_so : (a b : Bool) → a ≡ true → b ≡ true → (a && b) ≡ true
+    both_so a b h k = rw (h, k) refl
+
+digits_are : (words : List Word) → list_all is_hex_digit (flat_map text_of words) ≡ true → digits_in words ≡ Ok (flat_map text_of words)
+digits_are [] h = refl
+digits_are (w ∷ words) h =
+    let both = all_front is_hex_digit (text_of w) (flat_map text_of words) h in
+    bind_is (is_or_bad (list_all is_hex_digit (text_of w))) _ true (text_of w ++ flat_map text_of words) (ap is_or_bad both.0)
+    (bind_is (digits_in words) (λ rest. Ok (text_of w ++ rest)) (flat_map text_of words) (text_of w ++ flat_map text_of words) (digits_are words both.1) refl)
+
+take_size_is : (word : Word) (rest : List Word) (size : ℕ) → number_of_text (2 ^ 16) (text_of word) ≡ Some size → size ≤ 4096 → take_size (word ∷ rest) ≡ Ok (size, rest)
+take_size_is word rest size h short =
+    bind_is (ok_or (number_of_text (2 ^ 16) (text_of word)) _) _ size (size, rest) (some_or (number_of_text (2 ^ 16) (text_of word)) _ size h)
+    (bind_is (fits_data (nat_lt 4096 size)) (λ _. Ok (size, rest)) true (size, rest) (fits_is size short) refl)
+
+sized_is : (octets digits : List ℕ) → decode_of digits ≡ Ok octets → sized (length octets) (decode_of digits) ≡ Some octets
+sized_is octets digits h = ap (sized (length octets)) h ∙ ap (λ (b : Bool). if b then Some octets else None) (number_itself (length octets))
+  where
+    number_itself : (n : ℕ) → (n == n) ≡ true
+    number_itself n = grind (arith, nat_tests)
+
+take_opaque_is : (words : List Word) (octets : List ℕ) → IsOpaqueText words octets → take_opaque true words ≡ Ok (octets, [])
+take_opaque_is words octets (mark, size, digits, e, is, n, short, decoded) =
+    let text : List ℕ = flat_map text_of digits in
+    let passed : list_all is_hex_digit text ≡ true = list_all-from_AllPass is_hex_digit text (decode_of-ok text octets decoded).1 in
+    rw e (bind_is (take_mark true (mark ∷ size ∷ digits)) _ (size ∷ digits) (octets, []) (bind_is (is_or_bad (is_opaque_mark mark)) (λ _. Ok (size ∷ digits)) true (size ∷ digits) (ap is_or_bad is) refl)
+    (bind_is (take_size (size ∷ digits)) _ (length octets, digits) (octets, []) (take_size_is size digits (length octets) n short)
+    (bind_is (digits_in digits) _ text (octets, []) (digits_are digits passed)
+    (bind_is (ok_or (sized (length octets) (decode_of text)) _) (λ o. Ok (o, [])) octets (octets, []) (some_or (sized (length octets) (decode_of text)) _ octets (sized_is octets text decoded)) refl))))
+
+take_rdata_is : (origin : Labels) (rtype : ℕ) (words : List Word) (octets : List ℕ) → IsRDataText origin rtype words octets → take_rdata origin true rtype words ≡ Ok (octets, [])
+take_rdata_is origin rtype words octets h = go (form rtype) refl h
+  where
+    go : (f : Option (List Field)) → form rtype ≡ f → MatchOption f (IsOpaqueText words octets) (λ fields. IsDataText origin fields words octets) → take_by_form origin true f words ≡ Ok (octets, [])
+    go None e h = take_opaque_is words octets h
+    go (Some fields) e h = take_data_is origin fields words octets (form_last rtype fields e) h
+
 -- an entry that says a record is read as it
-item_read : (ctx : Context) (e : Entry) (front middle data' : List Word) (word : Word) (fields : List Field) (r : Record) (written : Option ℕ) → IsOwner ctx e.blank front r.owner → IsMiddle middle written → ttl_in ctx written ≡ Some r.ttl → type_of_word word ≡ Some r.rtype → form r.rtype ≡ Some fields → IsDataText ctx.origin fields data' r.rdata → e.whole ≡ true → item_in ctx e (front ++ (middle ++ word ∷ data')) ≡ Ok (Item r written)
-item_read ctx e front middle data' word fields r written owner middle_is ttl rtype of_type rdata whole =
+item_read : (ctx : Context) (e : Entry) (front middle data' : List Word) (word : Word) (r : Record) (written : Option ℕ) → IsOwner ctx e.blank front r.owner → IsMiddle middle written → ttl_in ctx written ≡ Some r.ttl → type_of_word word ≡ Some r.rtype → IsRDataText ctx.origin r.rtype data' r.rdata → e.whole ≡ true → item_in ctx e (front ++ (middle ++ word ∷ data')) ≡ Ok (Item r written)
+item_read ctx e front middle data' word r written owner middle_is ttl rtype rdata whole =
     let behind : List Word = middle ++ word ∷ data' in
     let typed = type_word_is word r.rtype rtype in
     bind_is (take_owner ctx e.blank (front ++ behind)) _ (r.owner, behind) (Item r written) (take_owner_is ctx e.blank front behind r.owner owner)
     (bind_is (take_middle behind) _ (written, word ∷ data') (Item r written) (take_middle_is middle written word data' typed middle_is)
-    (bind_is (ok_or (type_of_word word) _) _ r.rtype (Item r written) (some_or (type_of_word word) _ r.rtype rtype)
-    (bind_is (ok_or (form r.rtype) _) _ fields (Item r written) (some_or (form r.rtype) _ fields of_type)
+    (bind_is (take_type (word ∷ data')) _ (r.rtype, data') (Item r written) (take_type_is word data' r.rtype rtype)
     (bind_is (ok_or (ttl_in ctx written) _) _ r.ttl (Item r written) (some_or (ttl_in ctx written) _ r.ttl ttl)
-    (bind_is (take_data ctx.origin fields data') _ (r.rdata, []) (Item r written) (take_data_is ctx.origin fields data' r.rdata (form_last r.rtype fields of_type) rdata)
-    (ended_is e (Item r written) whole))))))
+    (bind_is (take_rdata ctx.origin e.whole r.rtype data') _ (r.rdata, []) (Item r written) (ap (λ (b : Bool). take_rdata ctx.origin b r.rtype data') whole ∙ take_rdata_is ctx.origin r.rtype data' r.rdata rdata)
+    (ended_is e (Item r written) whole)))))
 
 item_said : (ctx : Context) (e : Entry) (r : Record) (written : Option ℕ) → IsItem ctx e.blank e.words r written → e.whole ≡ true → said_by ctx e e.words ≡ Ok (Item r written)
 item_said ctx e r written h whole =
@@ -343,7 +417,7 @@ item_said ctx e r written h whole =
     let plain : FirstPlain (h.front ++ behind) = owner_plain ctx e.blank h.front behind r.owner h.owner (middle_plain h.middle written h.type_word h.data_words typed h.ttl_written) in
     ap (said_by ctx e) words
     ∙ said_plain ctx e (h.front ++ behind) plain
-    ∙ item_read ctx e h.front h.middle h.data_words h.type_word h.fields r written h.owner h.ttl_written h.ttl h.rtype h.of_type h.rdata whole
+    ∙ item_read ctx e h.front h.middle h.data_words h.type_word r written h.owner h.ttl_written h.ttl h.rtype h.rdata whole
 
 -- A directive.
 directive_dollar : (keyword : List ℕ) (word : Word) → IsKeyword (36 ∷ keyword) word → begins_with_dollar word ≡ true

@@ -1,7 +1,8 @@
 -- Data made of parts that fit has the form of its type.
 use Rattle.std.proofs.Common.{◌≡◌, ℕ, ◌+◌, ◌<◌, ◌≤◌, Bool, true, false, List, [], ◌∷◌, length, refl, sym, ap, subst, ◌∙◌, arith, length-append, Option, cond}
 use Rattle.std.specs.Prelude.{Some, IfSome, ◌==◌}
-use Rattle.dns_records.specs.Types.{Field, Octets, Name, Target, Strings, form, is_known, type_a, type_ns, type_cname, type_soa, type_ptr, type_mx, type_txt, type_aaaa, type_srv}
+use Rattle.dns_records.specs.Types.{Field, Octets, Name, Target, Strings, form, type_a, type_ns, type_cname, type_soa, type_ptr, type_mx, type_txt, type_aaaa, type_srv}
+use Rattle.dns_records.specs.Laws.{formed_is_data}
 use Rattle.dns_records.specs.Record.{IsField, AreFields, IsRData}
 use Rattle.dns_records.specs.Refusals.{RefusesData}
 use Rattle.dns_records.specs.declared.record.RecordError.{RecordError}
@@ -73,9 +74,6 @@ short_data t fields octets e h = (fits t fields octets e h).1
 pub formed_data : (t : ℕ) (fields : List Field) (octets : List ℕ) → form t ≡ Some fields → FitFields fields octets → IsRData t octets
 formed_data t fields octets e h = subst (λ (o : Option (List Field)). IfSome o (λ fs. AreFields fs octets)) (sym e) (fits t fields octets e h).0
 
-pub known_type : (t : ℕ) (fields : List Field) → form t ≡ Some fields → is_known t ≡ true
-known_type t fields e = rw e refl
-
 -- data of that form is refused for memory alone
 pub only_memory : (t : ℕ) (fields : List Field) (octets all : List ℕ) (e : RecordError) → form t ≡ Some fields → FitFields fields octets → all ≡ octets → RefusesData (record { rtype = t; octets = all }) e → e ≡ OutOfMemory
 only_memory t fields octets all OutOfMemory f h same refused = refl
@@ -84,7 +82,7 @@ only_memory t fields octets all TooLong f h same refused =
     let large : 4096 < length all = refused.1 in
     let short : length octets ≤ 4096 = short_data t fields octets f h in
     absurd (omega (arith, ap length same))
-only_memory t fields octets all UnknownType f h same refused = let known : is_known t ≡ true = known_type t fields f in absurd (true_is_false (sym known ∙ refused))
+only_memory t fields octets all UnknownType f h same refused = absurd (true_is_false (sym (formed_is_data t fields f) ∙ refused))
   where
     true_is_false : true ≡ false → ⊥
     true_is_false e = cc

@@ -2,57 +2,39 @@
 use Rattle.std.proofs.Common.{◌≡◌, ℕ, Bool, true, false, List, [], ◌∷◌, ◌++◌, refl, sym, ap, ◌∙◌, append_assoc}
 use Rattle.std.specs.Prelude.{Option, Some, None, Result, Ok, Err, codes, ok_or}
 use Rattle.dns_names.specs.Name.{Labels}
-use Rattle.dns_records.specs.Types.{Field, form}
 use Rattle.dns_records.specs.Record.{Record}
 use Rattle.dns_masterfile.specs.declared.FileError.{FileError}
-use Rattle.dns_masterfile.specs.declared.FileError.TheVariants.{Syntax, NoTtl, UnknownType}
+use Rattle.dns_masterfile.specs.declared.FileError.TheVariants.{Syntax, NoTtl}
 use Rattle.dns_masterfile.specs.Pieces.{Word}
 use Rattle.dns_masterfile.specs.Entries.{Entry}
-use Rattle.dns_masterfile.specs.Data.{is_keyword, type_of_word}
+use Rattle.dns_masterfile.specs.Data.{is_keyword}
 use Rattle.dns_masterfile.specs.Meaning.{Context, Said, Item, Origin, Default, after, begins_with_dollar, records_in, ttl_in}
-use Rattle.dns_masterfile.specs.Reading.{Outcome, Taken, ◌>>=◌, next_word, take_owner, take_middle, take_data, ended, only_if, item_in, said_by, on_line, before, read_entries, take_name, take_number, which_directive, directive_or_item, directive_in}
-use Rattle.dns_masterfile.specs.Contexts.{ended_at, type_in}
-
--- the type and its parts at once
-typed : (words : List Word) (Then : (ℕ × List Field) × List Word → Outcome Said) → (next_word words >>= λ w. ok_or (type_of_word w.0) UnknownType >>= λ rtype. ok_or (form rtype) UnknownType >>= λ fields. Then ((rtype, fields), w.1)) ≡ (type_in words >>= Then)
-typed words Then = go (next_word words)
-  where
-    parts : (o : Option (List Field)) (rtype : ℕ) (rest : List Word) → (ok_or o UnknownType >>= λ fields. Then ((rtype, fields), rest)) ≡ ((ok_or o UnknownType >>= λ fields. Ok ((rtype, fields), rest)) >>= Then)
-    parts None rtype rest = refl
-    parts (Some fields) rtype rest = refl
-
-    types : (o : Option ℕ) (rest : List Word) → (ok_or o UnknownType >>= λ rtype. ok_or (form rtype) UnknownType >>= λ fields. Then ((rtype, fields), rest)) ≡ ((ok_or o UnknownType >>= λ rtype. ok_or (form rtype) UnknownType >>= λ fields. Ok ((rtype, fields), rest)) >>= Then)
-    types None rest = refl
-    types (Some rtype) rest = parts (form rtype) rtype rest
-
-    go : (r : Taken Word) → (r >>= λ w. ok_or (type_of_word w.0) UnknownType >>= λ rtype. ok_or (form rtype) UnknownType >>= λ fields. Then ((rtype, fields), w.1)) ≡ ((r >>= λ w. ok_or (type_of_word w.0) UnknownType >>= λ rtype. ok_or (form rtype) UnknownType >>= λ fields. Ok ((rtype, fields), w.1)) >>= Then)
-    go (Ok w) = types (type_of_word w.0) w.1
-    go (Err e) = refl
+use Rattle.dns_masterfile.specs.Reading.{Outcome, Taken, ◌>>=◌, take_owner, take_middle, take_type, take_rdata, ended, only_if, item_in, said_by, on_line, before, read_entries, take_name, take_number, which_directive, directive_or_item, directive_in}
+use Rattle.dns_masterfile.specs.Contexts.{ended_at}
 
 abbrev with_data : Entry → Labels → ℕ → ℕ → Option ℕ → List ℕ × List Word → Outcome Said
 with_data e owner rtype ttl written rdata = ended e rdata.1 (Item (record { owner = owner; rtype = rtype; ttl = ttl; rdata = rdata.0 }) written)
 
 -- a record, as far as its data
-pub item_data : (ctx : Context) (e : Entry) (words first second third : List Word) (owner : Labels) (written : Option ℕ) (rtype ttl : ℕ) (fields : List Field) → take_owner ctx e.blank words ≡ Ok (owner, first) → take_middle first ≡ Ok (written, second) → type_in second ≡ Ok ((rtype, fields), third) → ttl_in ctx written ≡ Some ttl → item_in ctx e words ≡ (take_data ctx.origin fields third >>= with_data e owner rtype ttl written)
-item_data ctx e words first second third owner written rtype ttl fields a b c d =
-    let rest : Labels → Option ℕ → (ℕ × List Field) × List Word → Outcome Said = λ owner written t. ok_or (ttl_in ctx written) NoTtl >>= λ ttl. take_data ctx.origin t.0.1 t.1 >>= with_data e owner t.0.0 ttl written in
-    let typing : Labels → Option ℕ × List Word → Outcome Said = λ owner middle. next_word middle.1 >>= λ w. ok_or (type_of_word w.0) UnknownType >>= λ rtype. ok_or (form rtype) UnknownType >>= λ fields. rest owner middle.0 ((rtype, fields), w.1) in
+pub item_data : (ctx : Context) (e : Entry) (words first second third : List Word) (owner : Labels) (written : Option ℕ) (rtype ttl : ℕ) → take_owner ctx e.blank words ≡ Ok (owner, first) → take_middle first ≡ Ok (written, second) → take_type second ≡ Ok (rtype, third) → ttl_in ctx written ≡ Some ttl → item_in ctx e words ≡ (take_rdata ctx.origin e.whole rtype third >>= with_data e owner rtype ttl written)
+item_data ctx e words first second third owner written rtype ttl a b c d =
+    let rest : Labels → Option ℕ → ℕ × List Word → Outcome Said = λ owner written t. ok_or (ttl_in ctx written) NoTtl >>= λ ttl. take_rdata ctx.origin e.whole t.0 t.1 >>= with_data e owner t.0 ttl written in
+    let typing : Labels → Option ℕ × List Word → Outcome Said = λ owner middle. take_type middle.1 >>= rest owner middle.0 in
     ap (λ (r : Taken Labels). r >>= λ owner. take_middle owner.1 >>= typing owner.0) a
     ∙ ap (λ (r : Taken (Option ℕ)). r >>= typing owner) b
-    ∙ typed second (rest owner written)
-    ∙ ap (λ (r : Taken (ℕ × List Field)). r >>= rest owner written) c
-    ∙ ap (λ (o : Option ℕ). ok_or o NoTtl >>= λ ttl. take_data ctx.origin fields third >>= with_data e owner rtype ttl written) d
+    ∙ ap (λ (r : Taken ℕ). r >>= rest owner written) c
+    ∙ ap (λ (o : Option ℕ). ok_or o NoTtl >>= λ ttl. take_rdata ctx.origin e.whole rtype third >>= with_data e owner rtype ttl written) d
 
 not_ended : {A : Type 0} (e : Entry) (words : List Word) (x : A) → ended_at e.whole words ≡ false → ended e words x ≡ Err Syntax
 not_ended e [] x h = ap (λ (b : Bool). only_if b x) h
 not_ended e (w ∷ rest) x h = refl
 
 -- the data is refused, or something is left behind it
-pub data_refused : (ctx : Context) (e : Entry) (third : List Word) (all : Outcome Said) (owner : Labels) (written : Option ℕ) (rtype ttl : ℕ) (fields : List Field) (fault : FileError) → all ≡ (take_data ctx.origin fields third >>= with_data e owner rtype ttl written) → take_data ctx.origin fields third ≡ Err fault → all ≡ Err fault
-data_refused ctx e third all owner written rtype ttl fields fault h no_data = h ∙ ap (λ (r : Taken (List ℕ)). r >>= with_data e owner rtype ttl written) no_data
+pub data_refused : (ctx : Context) (e : Entry) (third : List Word) (all : Outcome Said) (owner : Labels) (written : Option ℕ) (rtype ttl : ℕ) (fault : FileError) → all ≡ (take_rdata ctx.origin e.whole rtype third >>= with_data e owner rtype ttl written) → take_rdata ctx.origin e.whole rtype third ≡ Err fault → all ≡ Err fault
+data_refused ctx e third all owner written rtype ttl fault h no_data = h ∙ ap (λ (r : Taken (List ℕ)). r >>= with_data e owner rtype ttl written) no_data
 
-pub data_left : (ctx : Context) (e : Entry) (third fourth : List Word) (all : Outcome Said) (owner : Labels) (written : Option ℕ) (rtype ttl : ℕ) (fields : List Field) (octets : List ℕ) (fault : FileError) → all ≡ (take_data ctx.origin fields third >>= with_data e owner rtype ttl written) → take_data ctx.origin fields third ≡ Ok (octets, fourth) → ended_at e.whole fourth ≡ false → fault ≡ Syntax → all ≡ Err fault
-data_left ctx e third fourth all owner written rtype ttl fields octets fault h read left syntax =
+pub data_left : (ctx : Context) (e : Entry) (third fourth : List Word) (all : Outcome Said) (owner : Labels) (written : Option ℕ) (rtype ttl : ℕ) (octets : List ℕ) (fault : FileError) → all ≡ (take_rdata ctx.origin e.whole rtype third >>= with_data e owner rtype ttl written) → take_rdata ctx.origin e.whole rtype third ≡ Ok (octets, fourth) → ended_at e.whole fourth ≡ false → fault ≡ Syntax → all ≡ Err fault
+data_left ctx e third fourth all owner written rtype ttl octets fault h read left syntax =
     h ∙ ap (λ (r : Taken (List ℕ)). r >>= with_data e owner rtype ttl written) read
     ∙ not_ended e fourth (Item (record { owner = owner; rtype = rtype; ttl = ttl; rdata = octets }) written) left
     ∙ ap (λ (f : FileError). Err f) (sym syntax)

@@ -1,7 +1,8 @@
 -- Octets taken one behind the other.
 use Rattle.std.proofs.Common.{◌≡◌, ℕ, ◌+◌, ◌<◌, ◌≤◌, inl, inr, Bool, true, false, List, [], ◌∷◌, ◌++◌, length, refl, sym, ap, subst, ◌∙◌, arith, append_assoc, append-nil, length-append, suc, drop, get_or}
 use Rattle.std.specs.Prelude.{Option, Some, None, Ok, Err, map, flat_map, nat_lt, ok_or, option_and_then, if◌then◌else◌}
-use Rattle.std.specs.List.{AllByRecursion}
+use Rattle.std.specs.List.{AllByRecursion, list_all}
+use Rattle.hex.specs.Hex.{is_hex_digit}
 use Rattle.std.proofs.lemmas.Bool.Decides.{nat_tests}
 use Rattle.std.proofs.lemmas.List.{length-map}
 use Rattle.std.proofs.Math.Seq.{drop-cons}
@@ -14,7 +15,7 @@ use Rattle.dns_masterfile.specs.declared.FileError.TheVariants.{BadData}
 use Rattle.dns_masterfile.specs.Text.{string_of_text}
 use Rattle.dns_masterfile.specs.Pieces.{Word, text_of}
 use Rattle.dns_masterfile.specs.Data.{Fixed, octets_of_text}
-use Rattle.dns_masterfile.specs.Reading.{Outcome, Taken, ◌>>=◌, next_word, take_fixed, take_field, take_data, take_strings, fault_of, fits_data}
+use Rattle.dns_masterfile.specs.Reading.{Outcome, Taken, ◌>>=◌, next_word, take_fixed, take_field, take_data, take_strings, fault_of, fits_data, is_or_bad, digits_in}
 use Rattle.dns_masterfile.specs.Taking.{FitField, FitFields, Refuses, string_at, strings_in}
 
 -- octets before those that are taken
@@ -171,3 +172,20 @@ length_both front more size rest left total p q r = omega (arith, length-append 
 
 pub drop_next : {A : Type 0} (xs : List A) (i : ℕ) (d : A) → i < length xs → drop i xs ≡ get_or xs i d ∷ drop (i + 1) xs
 drop_next xs i d h = let e : suc i ≡ i + 1 = omega arith in drop-cons xs i d h ∙ ap (λ n. get_or xs i d ∷ drop n xs) e
+
+-- the digits of one more word
+pub digits_more : (all : Outcome (List ℕ)) (front text : List ℕ) (words rest : List Word) (w : Word) → all ≡ strung front (digits_in words) → words ≡ w ∷ rest → text ≡ text_of w → list_all is_hex_digit text ≡ true → all ≡ strung (front ++ text) (digits_in rest)
+digits_more all front text words rest w h at same digits =
+    let passed : list_all is_hex_digit (text_of w) ≡ true = ap (list_all is_hex_digit) (sym same) ∙ digits in
+    h ∙ ap (λ (ws : List Word). strung front (digits_in ws)) at
+    ∙ ap (λ (b : Bool). strung front (is_or_bad b >>= λ _. digits_in rest >>= λ more. Ok (text_of w ++ more))) passed
+    ∙ ap (strung front) (bind_strung (text_of w) (digits_in rest))
+    ∙ strung_twice front (text_of w) (digits_in rest)
+    ∙ ap (λ (x : List ℕ). strung (front ++ x) (digits_in rest)) (sym same)
+
+-- a word that is no digits
+pub digits_refused : (all : Outcome (List ℕ)) (front text : List ℕ) (words rest : List Word) (w : Word) → all ≡ strung front (digits_in words) → words ≡ w ∷ rest → text ≡ text_of w → list_all is_hex_digit text ≡ false → all ≡ Err BadData
+digits_refused all front text words rest w h at same digits =
+    let passed : list_all is_hex_digit (text_of w) ≡ false = ap (list_all is_hex_digit) (sym same) ∙ digits in
+    h ∙ ap (λ (ws : List Word). strung front (digits_in ws)) at
+    ∙ ap (λ (b : Bool). strung front (is_or_bad b >>= λ _. digits_in rest >>= λ more. Ok (text_of w ++ more))) passed

@@ -24,3 +24,5 @@ pub mod PrintedZone
 pub mod Scanning
 pub mod Strings
 pub mod FileRead
+mod Hexadecimal
+mod TypeWords

@@ -1,23 +1,22 @@
 -- Records in print mean the records, whatever the origin.
 use Rattle.std.proofs.Common.{◌≡◌, ℕ, suc, ◌^◌, inl, inr, Bool, true, false, List, [], ◌∷◌, ◌++◌, map, decimal, Some, Ok, refl, sym, ap, subst, ◌∙◌, arith, append_assoc, append-nil}
-use Rattle.std.specs.Prelude.{IfSome, Option, cond, filter, flat_map, unwrap_or, codes}
+use Rattle.std.specs.Prelude.{cond, filter, flat_map, codes}
 use Rattle.std.specs.List.{AllByRecursion}
 use Rattle.std.proofs.lemmas.List.Concat.{flat_map-append}
 use Rattle.dns_names.specs.Name.{Labels}
 use Rattle.dns_names.specs.Text.{printed_name}
 use Rattle.dns_names.proofs.ReadsBack.{name_reads_back}
-use Rattle.dns_records.specs.Types.{Field, form}
-use Rattle.dns_records.specs.Record.{Record, IsRecord, AreFields}
+use Rattle.dns_records.specs.Record.{Record, IsRecord}
 use Rattle.dns_masterfile.specs.Pieces.{Word, Bare, Quoted, Piece, Gap, LineEnd, Text, EndsWord, ArePieces}
 use Rattle.dns_masterfile.specs.Entries.{Entry, begun, entries_from}
 use Rattle.dns_masterfile.specs.Data.{word_of_type}
 use Rattle.dns_masterfile.specs.Meaning.{Context, at_start, Nothing, Item, after, IsItem, Says, Mean, FileMeans}
 use Rattle.dns_masterfile.specs.Reading.{read_file}
-use Rattle.dns_masterfile.specs.Printed.{data_words, spaced, printed_record, is_wanted, in_print_order, printed_zone}
+use Rattle.dns_masterfile.specs.Printed.{rdata_words, spaced, printed_record, is_wanted, in_print_order, printed_zone}
 use Rattle.dns_masterfile.proofs.Agree.{means_is_read}
 use Rattle.dns_masterfile.proofs.Written.{written, IsWritten, name_written, name_no_dollar, number_written}
 use Rattle.dns_masterfile.proofs.StringsBack.{number_reads_back}
-use Rattle.dns_masterfile.proofs.DataText.{all_append, DataText, data_text, KnownType, known}
+use Rattle.dns_masterfile.proofs.DataText.{all_append, TypeText, type_text, RDataText, rdata_text}
 
 -- Words behind a first one, as pieces.
 abbrev spaced_pieces : List Word → List Piece
@@ -71,39 +70,30 @@ line_text : (owner : List ℕ) (texts more : List (List ℕ)) (end : List ℕ) �
 line_text owner texts more end =
     ap (λ (x : List ℕ). x ++ end) (append_assoc owner (spaced texts) (spaced more) ∙ ap (λ (x : List ℕ). owner ++ x) (sym (flat_map-append (λ (word : List ℕ). 32 ∷ word) texts more)))
 
-fields_of : (f : Option (List Field)) (fields : List Field) (octets : List ℕ) → f ≡ Some fields → IfSome f (λ fs. AreFields fs octets) → AreFields fields octets
-fields_of f fields octets e h = rw e at h
-
-some_is : {A : Type 0} (o : Option A) (x d : A) → o ≡ Some x → unwrap_or o d ≡ x
-some_is o x d e = rw e refl
-
-item_of : (r : Record) → IsRecord r → (t : KnownType r.rtype) (d : DataText t.fields r.rdata) (ctx : Context) → IsItem ctx false (Bare (printed_name r.owner) ∷ words_of r t.text d.words) r (Some r.ttl)
+item_of : (r : Record) → IsRecord r → (t : TypeText r.rtype) (d : RDataText r.rtype r.rdata) (ctx : Context) → IsItem ctx false (Bare (printed_name r.owner) ∷ words_of r t.text d.words) r (Some r.ttl)
 item_of r h t d ctx = record {
   front = Bare (printed_name r.owner) ∷ [];
   middle = Bare (decimal r.ttl) ∷ Bare (codes "IN") ∷ [];
   type_word = Bare t.text;
   data_words = d.words;
-  fields = t.fields;
   parts = refl;
   owner = (Bare (printed_name r.owner), refl, name_no_dollar r.owner h.owner, name_reads_back ctx.origin r.owner h.owner);
   ttl_written = inl (number_reads_back (2 ^ 32) r.ttl h.ttl (omega (arith, h.ttl)), refl);
   ttl = refl;
   rtype = t.read;
-  of_type = t.of_type;
   rdata = d.means ctx.origin;
 }
 
 abbrev three_texts : Record → List ℕ → List (List ℕ)
 three_texts r type_text = decimal r.ttl ∷ codes "IN" ∷ type_text ∷ []
 
-text_is : (r : Record) (t : KnownType r.rtype) (d : DataText t.fields r.rdata) → printed_record r ≡ (printed_name r.owner ++ spaced (map written (words_of r t.text d.words))) ++ 10 ∷ []
+text_is : (r : Record) (t : TypeText r.rtype) (d : RDataText r.rtype r.rdata) → printed_record r ≡ (printed_name r.owner ++ spaced (map written (words_of r t.text d.words))) ++ 10 ∷ []
 text_is r t d =
-    ap (λ (x : List ℕ). ((printed_name r.owner ++ spaced (three_texts r x)) ++ spaced (data_words (unwrap_or (form r.rtype) []) r.rdata)) ++ 10 ∷ []) (some_is (word_of_type r.rtype) t.text [] t.word)
-    ∙ ap (λ (fs : List Field). ((printed_name r.owner ++ spaced (three_texts r t.text)) ++ spaced (data_words fs r.rdata)) ++ 10 ∷ []) (some_is (form r.rtype) t.fields [] t.of_type)
+    ap (λ (x : List ℕ). ((printed_name r.owner ++ spaced (three_texts r x)) ++ spaced (rdata_words r.rtype r.rdata)) ++ 10 ∷ []) t.word
     ∙ ap (λ (texts : List (List ℕ)). ((printed_name r.owner ++ spaced (three_texts r t.text)) ++ spaced texts) ++ 10 ∷ []) (sym d.texts)
     ∙ line_text (printed_name r.owner) (three_texts r t.text) (map written d.words) (10 ∷ [])
 
-made : (r : Record) → IsRecord r → (t : KnownType r.rtype) → DataText t.fields r.rdata → RecordText r
+made : (r : Record) → IsRecord r → (t : TypeText r.rtype) → RDataText r.rtype r.rdata → RecordText r
 made r h t d = record {
   words = words_of r t.text d.words;
   text = text_is r t d;
@@ -113,9 +103,7 @@ made r h t d = record {
 }
 
 record_text : (r : Record) → IsRecord r → RecordText r
-record_text r h =
-    let t = known r.rtype h.rtype in
-    made r h t (data_text t.fields r.rdata t.sized t.last h.octets h.short (fields_of (form r.rtype) t.fields r.rdata t.of_type h.rdata))
+record_text r h = made r h (type_text r.rtype h.rtype) (rdata_text r.rtype r.rdata h.octets h.short h.rdata)
 
 -- The lines of records, whatever the context and the line on which they begin.
 record FileText (records : List Record) : Type 0 where

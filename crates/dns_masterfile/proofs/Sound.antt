@@ -1,6 +1,10 @@
 -- What is computed of a file is what it means.
 use Rattle.std.proofs.Common.{◌≡◌, ℕ, ◌+◌, ◌^◌, ◌≤◌, ◌⊎◌, inl, inr, Bool, true, false, List, [], ◌∷◌, ◌++◌, length, Some, None, Ok, Err, refl, sym, ap, subst, ◌∙◌, arith, append_assoc}
-use Rattle.std.specs.Prelude.{Option, Result, ok_or, flat_map, nat_lt, ⊤, codes}
+use Rattle.std.specs.Prelude.{Option, Result, MatchOption, ok_or, flat_map, nat_lt, ◌==◌, ⊤, codes, cond}
+use Rattle.std.specs.List.{list_all}
+use borrow.Author.Tests.{eqb-true}
+use Rattle.hex.specs.Hex.{decode_of, is_hex_digit}
+use Rattle.hex.specs.declared.error.FromHexError.{FromHexError}
 use Rattle.std.proofs.lemmas.Bool.Decides.{nat_tests}
 use Rattle.std.proofs.lemmas.List.{length-append, append-nil}
 use Rattle.dns_names.specs.Name.{Labels, wire}
@@ -13,9 +17,10 @@ use Rattle.dns_names.specs.Text.{name_of_text}
 use Rattle.dns_masterfile.specs.Text.{number_of_text, is_decimal, string_of_text, each_of}
 use Rattle.dns_masterfile.specs.Pieces.{Word, Bare, Quoted, text_of}
 use Rattle.dns_masterfile.specs.Entries.{Entry}
-use Rattle.dns_masterfile.specs.Data.{Fixed, fixed_of, octets_of_text, is_keyword, type_of_word, IsNameWord, AreFixed, IsFieldText, IsDataText}
+use Rattle.dns_masterfile.specs.Data.{Fixed, fixed_of, octets_of_text, is_keyword, type_of_word, IsNameWord, AreFixed, IsFieldText, IsDataText, IsRDataText}
+use Rattle.dns_masterfile.specs.Opaque.{is_opaque_mark, IsOpaqueText}
 use Rattle.dns_masterfile.specs.Meaning.{Context, Said, Nothing, Origin, Default, Item, after, records_in, ttl_in, is_class, begins_with_dollar, IsTtl, IsMiddle, IsOwner, IsItem, Says, Mean}
-use Rattle.dns_masterfile.specs.Reading.{Outcome, ◌>>=◌, next_word, or_bad_name, name_in, take_name, take_number, take_fixed, fault_of, take_strings, fits_data, take_wire, take_field, take_data, take_ttl, ttl_or_not, skip_class, either_first, take_middle, take_owner, only_if, ended, item_in, which_directive, directive_or_item, said_by, on_line, before, read_entries}
+use Rattle.dns_masterfile.specs.Reading.{Outcome, ◌>>=◌, or_bad_name, name_in, take_name, take_number, take_fixed, fault_of, take_strings, fits_data, take_wire, take_field, take_data, take_type, is_or_bad, no_mark, take_mark, take_size, digits_in, sized, take_opaque, take_by_form, take_rdata, take_ttl, ttl_or_not, skip_class, either_first, take_middle, take_owner, only_if, ended, item_in, which_directive, directive_or_item, said_by, on_line, before, read_entries}
 
 pub bind_ok : {A B E : Type 0} (r : Result A E) (f : A → Result B E) (y : B) → (r >>= f) ≡ Ok y → (x : A) × (r ≡ Ok x) × (f x ≡ Ok y)
 bind_ok (Ok x) f y h = (x, refl, h)
@@ -33,10 +38,6 @@ ok_same x y h = cc
 
 ok_pair : {A B E : Type 0} (a c : A) (b d : B) → is_ok_of {A = A × B} {E = E} (a, b) ≡ Ok (c, d) → (a ≡ c) × (b ≡ d)
 ok_pair {A} {B} a c b d h = let pair : (a, b) ≡ (c, d) = ok_same {A = A × B} (a, b) (c, d) h in (ap (λ (p : A × B). p.0) pair, ap (λ (p : A × B). p.1) pair)
-
-next_word_ok : (words : List Word) (w : Word) (rest : List Word) → next_word words ≡ Ok (w, rest) → words ≡ w ∷ rest
-next_word_ok [] w rest h = absurd cc
-next_word_ok (v ∷ more) w rest h = let p = ok_pair v w more rest h in ap (λ (x : Word). x ∷ more) p.0 ∙ ap (λ (xs : List Word). w ∷ xs) p.1
 
 or_bad_name_ok : (r : Result Labels NameError) (name : Labels) → or_bad_name r ≡ Ok name → r ≡ Ok name
 or_bad_name_ok (Ok n) name h = cc
@@ -233,35 +234,108 @@ ended_ok : {A : Type 0} (e : Entry) (words : List Word) (x y : A) → ended e wo
 ended_ok e [] x y h = let p = only_if_ok e.whole x y h in (refl, p.0, p.1)
 ended_ok e (w ∷ rest) x y h = absurd cc
 
+-- The word of a type.
+take_type_ok : (words : List Word) (rtype : ℕ) (rest : List Word) → take_type words ≡ Ok (rtype, rest) → (word : Word) × (words ≡ word ∷ rest) × (type_of_word word ≡ Some rtype)
+take_type_ok [] rtype rest h = absurd cc
+take_type_ok (w ∷ more) rtype rest h =
+    let got = bind_ok (ok_or (type_of_word w) UnknownType) (λ t. Ok (t, more)) (rtype, rest) h in
+    let p = ok_pair got.0 rtype more rest got.2 in
+    (w, ap (λ (xs : List Word). w ∷ xs) p.1, ok_or_ok _ UnknownType got.0 got.1 ∙ ap Some p.0)
+
+-- Data of a type without a form.
+is_or_bad_ok : (b x : Bool) → is_or_bad b ≡ Ok x → b ≡ true
+is_or_bad_ok true x h = refl
+is_or_bad_ok false x h = absurd cc
+
+no_mark_ok : (whole : Bool) (behind : List Word) → no_mark whole ≡ Ok behind → ⊥
+no_mark_ok true behind h = cc
+no_mark_ok false behind h = cc
+
+take_mark_ok : (whole : Bool) (words behind : List Word) → take_mark whole words ≡ Ok behind → (mark : Word) × (words ≡ mark ∷ behind) × (is_opaque_mark mark ≡ true)
+take_mark_ok whole [] behind h = absurd (no_mark_ok whole behind h)
+take_mark_ok whole (w ∷ rest) behind h =
+    let got = bind_ok (is_or_bad (is_opaque_mark w)) (λ _. Ok rest) behind h in
+    (w, ap (λ (xs : List Word). w ∷ xs) (ok_same rest behind got.2), is_or_bad_ok (is_opaque_mark w) got.0 got.1)
+
+take_size_ok : (words : List Word) (size : ℕ) (rest : List Word) → take_size words ≡ Ok (size, rest) → (word : Word) × (words ≡ word ∷ rest) × (number_of_text (2 ^ 16) (text_of word) ≡ Some size) × (size ≤ 4096)
+take_size_ok [] size rest h = absurd cc
+take_size_ok (w ∷ more) size rest h =
+    let got = bind_ok (ok_or (number_of_text (2 ^ 16) (text_of w)) BadNumber) (λ n. fits_data (nat_lt 4096 n) >>= λ _. Ok (n, more)) (size, rest) h in
+    let fit = bind_ok (fits_data (nat_lt 4096 got.0)) (λ _. Ok (got.0, more)) (size, rest) got.2 in
+    let p = ok_pair got.0 size more rest fit.2 in
+    let room = room_is got.0 (fits_data_ok (nat_lt 4096 got.0) fit.0 fit.1) in
+    (w, ap (λ (xs : List Word). w ∷ xs) p.1, ok_or_ok _ BadNumber got.0 got.1 ∙ ap Some p.0, subst (λ (n : ℕ). n ≤ 4096) p.0 room)
+
+digits_ok : (words : List Word) (digits : List ℕ) → digits_in words ≡ Ok digits → digits ≡ flat_map text_of words
+digits_ok [] digits h = sym (ok_same [] digits h)
+digits_ok (w ∷ words) digits h =
+    let here = bind_ok (is_or_bad (list_all is_hex_digit (text_of w))) (λ _. digits_in words >>= λ rest. Ok (text_of w ++ rest)) digits h in
+    let more = bind_ok (digits_in words) (λ rest. Ok (text_of w ++ rest)) digits here.2 in
+    sym (ok_same (text_of w ++ more.0) digits more.2) ∙ ap (λ (xs : List ℕ). text_of w ++ xs) (digits_ok words more.0 more.1)
+
+sized_ok : (size : ℕ) (r : Result (List ℕ) FromHexError) (octets : List ℕ) → sized size r ≡ Some octets → (r ≡ Ok octets) × (length octets ≡ size)
+sized_ok size (Err e) octets h = absurd cc
+sized_ok size (Ok x) octets h = go (length x == size) refl h
+  where
+    go : (b : Bool) → (length x == size) ≡ b → cond b (Some x) None ≡ Some octets → (is_ok_of {E = FromHexError} x ≡ Ok octets) × (length octets ≡ size)
+    go true p h = (let same : x ≡ octets = cc in (ap (λ (o : List ℕ). Ok o) same, ap length (sym same) ∙ eqb-true (length x) size p))
+    go false p h = absurd cc
+
+take_opaque_ok : (whole : Bool) (words : List Word) (octets : List ℕ) (rest : List Word) → take_opaque whole words ≡ Ok (octets, rest) → IsOpaqueText words octets × (rest ≡ [])
+take_opaque_ok whole words octets rest h =
+    let a = bind_ok (take_mark whole words) _ (octets, rest) h in
+    let b = bind_ok (take_size a.0) _ (octets, rest) a.2 in
+    let c = bind_ok (digits_in (b.0).1) _ (octets, rest) b.2 in
+    let d = bind_ok (only_if whole true) _ (octets, rest) c.2 in
+    let f = bind_ok (ok_or (sized (b.0).0 (decode_of c.0)) BadData) _ (octets, rest) d.2 in
+    let p = ok_pair f.0 octets [] rest f.2 in
+    let mark = take_mark_ok whole words a.0 a.1 in
+    let size = take_size_ok a.0 (b.0).0 (b.0).1 b.1 in
+    let read = sized_ok (b.0).0 (decode_of c.0) octets (ok_or_ok _ BadData f.0 f.1 ∙ ap Some p.0) in (
+      (
+        mark.0,
+        size.0,
+        (b.0).1,
+        mark.1 ∙ ap (λ (xs : List Word). mark.0 ∷ xs) size.1,
+        mark.2,
+        size.2 ∙ ap Some (sym read.1),
+        subst (λ (n : ℕ). n ≤ 4096) (sym read.1) size.3,
+        ap decode_of (sym (digits_ok (b.0).1 c.0 c.1)) ∙ read.0,
+      ),
+      sym p.1,
+    )
+
+take_rdata_ok : (origin : Labels) (whole : Bool) (f : Option (List Field)) (words : List Word) (octets : List ℕ) (rest : List Word) → take_by_form origin whole f words ≡ Ok (octets, rest) → Front words (λ here. MatchOption f (IsOpaqueText here octets) (λ fields. IsDataText origin fields here octets)) rest
+take_rdata_ok origin whole (Some fields) words octets rest h = take_data_ok origin fields words octets rest h
+take_rdata_ok origin whole None words octets rest h =
+    let opaque = take_opaque_ok whole words octets rest h in
+    (words, sym (append-nil words) ∙ ap (λ (xs : List Word). words ++ xs) (sym opaque.1), opaque.0)
+
 item_ok : (ctx : Context) (e : Entry) (words : List Word) (said : Said) → NoDollar words → words ≡ e.words → item_in ctx e words ≡ Ok said → Says ctx e said × (e.whole ≡ true)
 item_ok ctx e words said plain same h =
     let a = bind_ok (take_owner ctx e.blank words) _ said h in
     let b = bind_ok (take_middle (a.0).1) _ said a.2 in
-    let c = bind_ok (next_word (b.0).1) _ said b.2 in
-    let d = bind_ok (ok_or (type_of_word (c.0).0) UnknownType) _ said c.2 in
-    let f = bind_ok (ok_or (form d.0) UnknownType) _ said d.2 in
-    let t = bind_ok (ok_or (ttl_in ctx (b.0).0) NoTtl) _ said f.2 in
-    let g = bind_ok (take_data ctx.origin f.0 (c.0).1) _ said t.2 in
-    let r : Record = record { owner = (a.0).0; rtype = d.0; ttl = t.0; rdata = (g.0).0 } in
+    let c = bind_ok (take_type (b.0).1) _ said b.2 in
+    let t = bind_ok (ok_or (ttl_in ctx (b.0).0) NoTtl) _ said c.2 in
+    let g = bind_ok (take_rdata ctx.origin e.whole (c.0).0 (c.0).1) _ said t.2 in
+    let r : Record = record { owner = (a.0).0; rtype = (c.0).0; ttl = t.0; rdata = (g.0).0 } in
     let z = ended_ok e (g.0).1 (Item r (b.0).0) said g.2 in
     let front = take_owner_ok ctx e.blank words (a.0).0 (a.0).1 plain a.1 in
     let middle = take_middle_ok (a.0).1 (b.0).0 (b.0).1 b.1 in
-    let typed = next_word_ok (b.0).1 (c.0).0 (c.0).1 c.1 in
-    let data' = take_data_ok ctx.origin f.0 (c.0).1 (g.0).0 (g.0).1 g.1 in
+    let typed = take_type_ok (b.0).1 (c.0).0 (c.0).1 c.1 in
+    let data' = take_rdata_ok ctx.origin e.whole (form (c.0).0) (c.0).1 (g.0).0 (g.0).1 g.1 in
     let all : (c.0).1 ≡ data'.0 = data'.1 ∙ ap (λ (xs : List Word). data'.0 ++ xs) z.0 ∙ append-nil data'.0 in
     let item : IsItem ctx e.blank e.words r (b.0).0 = record {
       front = front.0;
       middle = middle.0;
-      type_word = (c.0).0;
+      type_word = typed.0;
       data_words = (c.0).1;
-      fields = f.0;
-      parts = sym same ∙ front.1 ∙ ap (λ (xs : List Word). front.0 ++ xs) (middle.1 ∙ ap (λ (xs : List Word). middle.0 ++ xs) typed) ∙ sym (append_assoc front.0 middle.0 ((c.0).0 ∷ (c.0).1));
+      parts = sym same ∙ front.1 ∙ ap (λ (xs : List Word). front.0 ++ xs) (middle.1 ∙ ap (λ (xs : List Word). middle.0 ++ xs) typed.1) ∙ sym (append_assoc front.0 middle.0 (typed.0 ∷ (c.0).1));
       owner = front.2;
       ttl_written = middle.2;
       ttl = ok_or_ok _ NoTtl t.0 t.1;
-      rtype = ok_or_ok _ UnknownType d.0 d.1;
-      of_type = ok_or_ok _ UnknownType f.0 f.1;
-      rdata = subst (λ (xs : List Word). IsDataText ctx.origin f.0 xs (g.0).0) (sym all) data'.2;
+      rtype = typed.2;
+      rdata = subst (λ (xs : List Word). IsRDataText ctx.origin (c.0).0 xs (g.0).0) (sym all) data'.2;
     } in
     (subst (λ (s : Said). Says ctx e s) z.2 item, z.1)
 

@@ -75,7 +75,7 @@ digit_plain d h = plain_kind (48 + d) (omega arith) (omega arith) (λ e. omega (
 one_word : (Stands : Kind → Type 0) (c : ℕ) → Stands (kind c) → IsWord Stands (c ∷ [])
 one_word Stands c h = ((c ∷ []) ∷ [], refl, ((c, inl (refl, h)), tt))
 
-escape_word : (Stands : Kind → Type 0) (c : ℕ) → IsVisible (kind c) → IsWord Stands (92 ∷ c ∷ [])
+pub escape_word : (Stands : Kind → Type 0) (c : ℕ) → IsVisible (kind c) → IsWord Stands (92 ∷ c ∷ [])
 escape_word Stands c h = ((92 ∷ c ∷ []) ∷ [], refl, ((c, inr (refl, h)), tt))
 
 escaped_word : (Stands : Kind → Type 0) → Stands Plain → (c : ℕ) → c < 256 → IsWord Stands (escaped c)

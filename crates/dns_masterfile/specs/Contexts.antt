@@ -1,13 +1,11 @@
 -- What entries say and leave, as it is stated.
-use Rattle.std.specs.Prelude.{◌≡◌, ◌⊎◌, ℕ, Bool, true, false, List, [], ◌∷◌, Ok, Err, ok_or}
-use Rattle.dns_records.specs.Types.{Field, form}
+use Rattle.std.specs.Prelude.{◌≡◌, ◌⊎◌, ℕ, Bool, true, false, List, [], ◌∷◌, Ok, Err}
 use Rattle.dns_masterfile.specs.declared.FileError.{FileError}
-use Rattle.dns_masterfile.specs.declared.FileError.TheVariants.{OutOfMemory, UnknownType}
+use Rattle.dns_masterfile.specs.declared.FileError.TheVariants.{OutOfMemory}
 use Rattle.dns_masterfile.specs.Pieces.{Word}
 use Rattle.dns_masterfile.specs.Entries.{Entry}
-use Rattle.dns_masterfile.specs.Data.{type_of_word}
 use Rattle.dns_masterfile.specs.Left.{Left, no_words, entry_at}
-use Rattle.dns_masterfile.specs.Reading.{Outcome, Taken, ◌>>=◌, next_word}
+use Rattle.dns_masterfile.specs.Reading.{Outcome}
 use Rattle.dns_masterfile.specs.Meaning.{Context, Said, Nothing, Origin, Default, Item}
 use Rattle.dns_masterfile.specs.declared.context.Context.{Context as Kept}
 use Rattle.dns_masterfile.specs.declared.context.Said.{Said as Found}
@@ -37,11 +35,3 @@ ended_at whole (w ∷ rest) = false
 -- No word is left, and no fault.
 abbrev pub has_ended : Left → Bool
 has_ended left = ended_at left.whole left.words
-
--- A word of a type, and the parts of its data.
-abbrev pub type_in : List Word → Taken (ℕ × List Field)
-type_in words = do
-  w ← next_word words
-  rtype ← ok_or (type_of_word w.0) UnknownType
-  fields ← ok_or (form rtype) UnknownType
-  Ok ((rtype, fields), w.1)

@@ -1,15 +1,17 @@
 -- The data of a record in text, by the one table of the parts of each type.
-use Rattle.std.specs.Prelude.{◌≡◌, ◌≢◌, ℕ, ◌^◌, ◌≤◌, Bool, false, ◌==◌, List, [], ◌∷◌, ◌++◌, length, map, flat_map, option_map, Option, Some, Ok, bytes_eq, codes, if◌then◌else◌}
+use Rattle.std.specs.Prelude.{◌≡◌, ◌≢◌, ℕ, ◌^◌, ◌≤◌, Bool, false, ◌==◌, MatchOption, List, [], ◌∷◌, ◌++◌, length, map, flat_map, option_map, unwrap_or, Option, Some, Ok, bytes_eq, codes, if◌then◌else◌}
 use Rattle.std.specs.List.{find}
+use Rattle.std.specs.Option.{option_or}
 use Rattle.std.specs.Int.{w16, w32, to_be_bytes}
 use Rattle.std.specs.Char.{to_ascii_uppercase}
 use Rattle.dns_names.specs.Name.{Labels, wire}
-use Rattle.dns_records.specs.Types.{Field, Octets, Name, Target, Strings, type_a, type_ns, type_cname, type_soa, type_ptr, type_mx, type_txt, type_aaaa, type_srv}
+use Rattle.dns_records.specs.Types.{Field, Octets, Name, Target, Strings, form, type_a, type_ns, type_cname, type_soa, type_ptr, type_mx, type_txt, type_aaaa, type_srv}
 use Rattle.dns_records.specs.Record.{string}
 use Rattle.dns_names.specs.Text.{name_of_text}
 use Rattle.dns_policy.specs.Address.{ipv4_of_text, ipv6_of_text}
 use Rattle.dns_masterfile.specs.Text.{number_of_text, string_of_text, each_of}
 use Rattle.dns_masterfile.specs.Pieces.{Word, Bare, Quoted, text_of}
+use Rattle.dns_masterfile.specs.Opaque.{type_of_number, word_of_number, IsOpaqueText}
 
 -- What the table needs beside: how so many octets are written.
 pub data Fixed : Type 0 where
@@ -60,20 +62,31 @@ IsDataText origin (f ∷ fs) words rdata =
     (here more : List Word) × (front rest : List ℕ) × (words ≡ here ++ more) × (rdata ≡ front ++ rest)
     × IsFieldText origin f here front × IsDataText origin fs more rest
 
+-- The words are the data of the type: the parts of its form, or octets where it has none.
+abbrev pub IsRDataText : Labels → ℕ → List Word → List ℕ → Type 0
+IsRDataText origin rtype words rdata = MatchOption (form rtype) (IsOpaqueText words rdata) (λ fields. IsDataText origin fields words rdata)
+
 -- Words that are read without case.
 abbrev pub is_keyword : List ℕ → Word → Bool
 is_keyword keyword (Quoted text) = false
 is_keyword keyword (Bare text) = bytes_eq (map to_ascii_uppercase text) keyword
 
--- The types that are known, and their words (RFC 1035 3.2.2, RFC 3596 2.1, RFC 2782).
+-- The types that have a form, and their words (RFC 1035 3.2.2, RFC 3596 2.1, RFC 2782).
 abbrev pub type_words : List (ℕ × List ℕ)
 type_words =
     (type_a, codes "A") ∷ (type_ns, codes "NS") ∷ (type_cname, codes "CNAME") ∷ (type_soa, codes "SOA")
     ∷ (type_ptr, codes "PTR") ∷ (type_mx, codes "MX") ∷ (type_txt, codes "TXT") ∷ (type_aaaa, codes "AAAA")
     ∷ (type_srv, codes "SRV") ∷ []
 
-abbrev pub type_of_word : Word → Option ℕ
-type_of_word word = option_map (λ t. t.0) (find (λ t. is_keyword t.1 word) type_words)
+abbrev pub type_by_name : Word → Option ℕ
+type_by_name word = option_map (λ t. t.0) (find (λ t. is_keyword t.1 word) type_words)
 
-abbrev pub word_of_type : ℕ → Option (List ℕ)
-word_of_type rtype = option_map (λ t. t.1) (find (λ t. t.0 == rtype) type_words)
+abbrev pub name_of_type : ℕ → Option (List ℕ)
+name_of_type rtype = option_map (λ t. t.1) (find (λ t. t.0 == rtype) type_words)
+
+-- Every other type of which a zone can have records is written by its number.
+abbrev pub type_of_word : Word → Option ℕ
+type_of_word word = option_or (type_by_name word) (type_of_number word)
+
+abbrev pub word_of_type : ℕ → List ℕ
+word_of_type rtype = unwrap_or (name_of_type rtype) (word_of_number rtype)

@@ -5,6 +5,7 @@ pub mod Steps
 pub mod Scan
 pub mod Entries
 pub mod Left
+pub mod Opaque
 pub mod Data
 pub mod Meaning
 pub mod Reading

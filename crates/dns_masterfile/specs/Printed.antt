@@ -1,5 +1,5 @@
 -- The printed form of a zone.
-use Rattle.std.specs.Prelude.{ℕ, Bool, true, false, not, ◌==◌, List, [], ◌∷◌, ◌++◌, length, take, drop, filter, map, flat_map, unwrap_or, decimal, codes}
+use Rattle.std.specs.Prelude.{ℕ, Option, None, Some, Bool, true, false, not, ◌==◌, List, [], ◌∷◌, ◌++◌, length, take, drop, filter, map, flat_map, decimal, codes}
 use Rattle.std.specs.Net.Text.{ipv4_text}
 use Rattle.dns_names.specs.Name.{labels_of, wire}
 use Rattle.dns_names.specs.Text.{printed_name}
@@ -8,6 +8,7 @@ use Rattle.dns_records.specs.Record.{Record, Data, data_of, number_of}
 use Rattle.dns_records.specs.TextStrings.{strings_of}
 use Rattle.dns_masterfile.specs.Text.{printed_string, printed_ipv6}
 use Rattle.dns_masterfile.specs.Data.{Fixed, Number16, Number32, Ipv4, Ipv6, fixed_of, word_of_type}
+use Rattle.dns_masterfile.specs.Opaque.{opaque_words}
 
 abbrev pub size_of : Fixed → ℕ
 size_of Number16 = 2
@@ -33,17 +34,25 @@ data_words (Name ∷ fs) octets = let name = labels_of octets in printed_name na
 data_words (Target ∷ fs) octets = let name = labels_of octets in printed_name name ∷ data_words fs (drop (length (wire name)) octets)
 data_words (Strings ∷ fs) octets = map printed_string (strings_of octets)
 
+-- The words of the data of a type: of the parts of its form, or of its octets where it has none.
+abbrev pub words_by_form : Option (List Field) → List ℕ → List (List ℕ)
+words_by_form None octets = opaque_words octets
+words_by_form (Some fields) octets = data_words fields octets
+
+abbrev pub rdata_words : ℕ → List ℕ → List (List ℕ)
+rdata_words rtype octets = words_by_form (form rtype) octets
+
 -- Words, each behind a blank.
 abbrev pub spaced : List (List ℕ) → List ℕ
 spaced words = flat_map (λ word. 32 ∷ word) words
 
 abbrev pub printed_data : Data → List ℕ
-printed_data d = spaced (data_words (unwrap_or (form d.rtype) []) d.octets)
+printed_data d = spaced (rdata_words d.rtype d.octets)
 
 -- `owner TTL IN TYPE RDATA`, ended by LF.
 abbrev pub printed_record : Record → List ℕ
 printed_record r =
-    printed_name r.owner ++ spaced (decimal r.ttl ∷ codes "IN" ∷ unwrap_or (word_of_type r.rtype) [] ∷ []) ++ printed_data (data_of r) ++ 10 ∷ []
+    printed_name r.owner ++ spaced (decimal r.ttl ∷ codes "IN" ∷ word_of_type r.rtype ∷ []) ++ printed_data (data_of r) ++ 10 ∷ []
 
 -- The SOA, or the others.
 abbrev pub is_wanted : Bool → Record → Bool

@@ -1,5 +1,8 @@
 -- Reading computed: the records of a file, or its first fault and the line on which the entry of the fault begins.
-use Rattle.std.specs.Prelude.{ℕ, ◌+◌, ◌^◌, Bool, true, false, nat_lt, List, [], ◌∷◌, ◌++◌, length, Option, Some, None, Result, Ok, Err, codes, ok_or}
+use Rattle.std.specs.Prelude.{ℕ, ◌+◌, ◌^◌, Bool, true, false, nat_lt, ◌==◌, List, [], ◌∷◌, ◌++◌, length, Option, Some, None, Result, Ok, Err, codes, ok_or, if◌then◌else◌}
+use Rattle.std.specs.List.{list_all}
+use Rattle.hex.specs.Hex.{decode_of, is_hex_digit}
+use Rattle.hex.specs.declared.error.FromHexError.{FromHexError}
 use Rattle.dns_names.specs.Name.{Labels, wire}
 use Rattle.dns_names.specs.declared.NameError.{NameError}
 use Rattle.dns_records.specs.Types.{Field, Octets, Name, Target, Strings, form}
@@ -11,6 +14,7 @@ use Rattle.dns_masterfile.specs.Text.{number_of_text, string_of_text, is_decimal
 use Rattle.dns_masterfile.specs.Pieces.{Word, Bare, Quoted, text_of, pieces_of}
 use Rattle.dns_masterfile.specs.Entries.{Entry, entries_of}
 use Rattle.dns_masterfile.specs.Data.{Fixed, Number16, Number32, Ipv4, Ipv6, fixed_of, octets_of_text, is_keyword, type_of_word}
+use Rattle.dns_masterfile.specs.Opaque.{is_opaque_mark}
 use Rattle.dns_masterfile.specs.Meaning.{Context, at_start, Said, Nothing, Origin, Default, Item, after, records_in, ttl_in, is_class, begins_with_dollar}
 
 abbrev pub Outcome : Type 0 → Type 0
@@ -127,16 +131,70 @@ abbrev pub ended : {A : Type 0} → Entry → List Word → A → Outcome A
 ended e [] x = only_if e.whole x
 ended e (w ∷ rest) x = Err Syntax
 
+abbrev pub take_type : List Word → Taken ℕ
+take_type words = do
+  w ← next_word words
+  rtype ← ok_or (type_of_word w.0) UnknownType
+  Ok (rtype, w.1)
+
+abbrev pub is_or_bad : Bool → Outcome Bool
+is_or_bad true = Ok true
+is_or_bad false = Err BadData
+
+-- `\#`. Where no word is left, a fault that stands there is told.
+abbrev pub no_mark : Bool → Outcome (List Word)
+no_mark true = Err BadData
+no_mark false = Err Syntax
+
+abbrev pub take_mark : Bool → List Word → Outcome (List Word)
+take_mark whole [] = no_mark whole
+take_mark whole (w ∷ rest) = is_or_bad (is_opaque_mark w) >>= λ _. Ok rest
+
+-- How many octets follow.
+abbrev pub take_size : List Word → Taken ℕ
+take_size words = do
+  w ← next_word words
+  size ← ok_or (number_of_text (2 ^ 16) (text_of w.0)) BadNumber
+  _ ← fits_data (nat_lt 4096 size)
+  Ok (size, w.1)
+
+-- All words, which are digits.
+abbrev pub digits_in : List Word → Outcome (List ℕ)
+digits_in [] = Ok []
+digits_in (w ∷ words) = do
+  _ ← is_or_bad (list_all is_hex_digit (text_of w))
+  rest ← digits_in words
+  Ok (text_of w ++ rest)
+
+abbrev pub sized : ℕ → Result (List ℕ) FromHexError → Option (List ℕ)
+sized size (Ok octets) = if length octets == size then Some octets else None
+sized size (Err e) = None
+
+-- Octets, and all words: a fault behind the digits comes before their count.
+abbrev pub take_opaque : Bool → List Word → Taken (List ℕ)
+take_opaque whole words = do
+  behind ← take_mark whole words
+  size ← take_size behind
+  digits ← digits_in size.1
+  _ ← only_if whole true
+  octets ← ok_or (sized size.0 (decode_of digits)) BadData
+  Ok (octets, [])
+
+abbrev pub take_by_form : Labels → Bool → Option (List Field) → List Word → Taken (List ℕ)
+take_by_form origin whole None words = take_opaque whole words
+take_by_form origin whole (Some fields) words = take_data origin fields words
+
+abbrev pub take_rdata : Labels → Bool → ℕ → List Word → Taken (List ℕ)
+take_rdata origin whole rtype words = take_by_form origin whole (form rtype) words
+
 abbrev pub item_in : Context → Entry → List Word → Outcome Said
 item_in ctx e words = do
   owner ← take_owner ctx e.blank words
   middle ← take_middle owner.1
-  w ← next_word middle.1
-  rtype ← ok_or (type_of_word w.0) UnknownType
-  fields ← ok_or (form rtype) UnknownType
+  typed ← take_type middle.1
   ttl ← ok_or (ttl_in ctx middle.0) NoTtl
-  rdata ← take_data ctx.origin fields w.1
-  ended e rdata.1 (Item (record { owner = owner.0; rtype = rtype; ttl = ttl; rdata = rdata.0 }) middle.0)
+  rdata ← take_rdata ctx.origin e.whole typed.0 typed.1
+  ended e rdata.1 (Item (record { owner = owner.0; rtype = typed.0; ttl = ttl; rdata = rdata.0 }) middle.0)
 
 abbrev pub which_directive : Bool → Bool → Context → Entry → List Word → Outcome Said
 which_directive true _ ctx e rest = take_name ctx.origin rest >>= λ name. ended e name.1 (Origin name.0)

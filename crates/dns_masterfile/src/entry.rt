@@ -1,10 +1,9 @@
 //! One entry of a file.
-ghost use Rattle.std.specs.Prelude.{◌≡◌, true, false, Some, Err, IfOk, MatchResult};
-ghost use Rattle.dns_records.specs.Fields.{stated_fields};
-ghost use Rattle.dns_records.specs.Types.{form as form_of};
-ghost use Rattle.dns_masterfile.specs.Reading.{directive_in, item_in, said_by, take_owner};
+ghost use Rattle.std.specs.Prelude.{◌≡◌, true, false, Err, IfOk, MatchResult};
+ghost use Rattle.dns_records.specs.Types.{is_data_type};
+ghost use Rattle.dns_masterfile.specs.Reading.{directive_in, item_in, said_by, take_owner, take_type};
 ghost use Rattle.dns_masterfile.specs.Scan.{stated_word};
-ghost use Rattle.dns_masterfile.specs.Contexts.{Faults, Says, has_ended, stated_context, type_in};
+ghost use Rattle.dns_masterfile.specs.Contexts.{Faults, Says, has_ended, stated_context};
 ghost use Rattle.dns_masterfile.specs.Taking.{Refuses, Takes};
 
 use crate::FileError;
@@ -13,11 +12,11 @@ use crate::pieces::Word;
 use crate::scanner::{Next, Scanner};
 use dns_memory::Heap;
 use dns_names::Name;
-use dns_records::{Field, Record, form};
+use dns_records::Record;
 
 impl<'a> Scanner<'a> {
     /// Nothing is left of the entry.
-    fn end(&self) -> Result<(), FileError>
+    pub(crate) fn end(&self) -> Result<(), FileError>
         ensures { MatchResult result (λ _. has_ended self.now ≡ true) (λ e. (has_ended self.now ≡ false) × (e ≡ FileError.Syntax)) }
     {
         match self.next() {
@@ -41,19 +40,13 @@ impl<'a> Scanner<'a> {
         }
     }
 
-    /// Takes the word of a type, and tells the parts of its data.
-    fn take_type(&mut self) -> Result<(u16, &'static [Field]), FileError>
-        ensures taken { MatchResult result (λ t. Takes type_in self.old self.new (t.0, stated_fields t.1.now)) (λ e. type_in self.old.words ≡ Err e) }
-        ensures form { IfOk result (λ t. form_of t.0 ≡ Some (stated_fields t.1.now)) }
+    /// Takes the word of a type.
+    fn take_type(&mut self) -> Result<u16, FileError>
+        ensures taken { MatchResult result (Takes take_type self.old self.new) (λ e. take_type self.old.words ≡ Err e) }
+        ensures rtype { IfOk result (λ rtype. is_data_type rtype ≡ true) }
     {
         let word = self.take_word()?;
-        let Some(rtype) = word.rtype() else {
-            return Err(FileError::UnknownType);
-        };
-        match form(rtype) {
-            Some(fields) => Ok((rtype, fields)),
-            None => Err(FileError::UnknownType),
-        }
+        word.rtype().ok_or(FileError::UnknownType)
     }
 
     /// Takes a record.
@@ -62,11 +55,11 @@ impl<'a> Scanner<'a> {
     {
         let owner = self.take_owner(alloc, context, blank)?;
         let written = self.take_middle()?;
-        let (rtype, fields) = self.take_type()?;
+        let rtype = self.take_type()?;
         let Some(ttl) = ttl_in(context, written) else {
             return Err(FileError::NoTtl);
         };
-        let rdata = self.take_rdata(alloc, &context.origin, rtype, fields)?;
+        let rdata = self.take_rdata(alloc, &context.origin, rtype)?;
         self.end()?;
         Ok(Said::Item(Record::new(owner, ttl, rdata), written))
     }

@@ -9,6 +9,7 @@ mod context;
 mod entry;
 mod kind;
 pub mod laws;
+mod opaque;
 mod pieces;
 mod print;
 mod rdata;
@@ -34,13 +35,14 @@ pub enum FileError {
     BadName,
     /// A word in a number's place is no number, or over what its field holds.
     BadNumber,
-    /// A word is no address, or no string.
+    /// A word is no address, or no string; or data of a type without a form isn't `\#`, a length, and the digits of so many octets.
     BadData,
     /// No TTL is written, and none was so far.
     NoTtl,
     /// The line begins with a blank, and no record stands before it.
     NoOwner,
-    /// The word in the type's place is no type that is known.
+    /// The word in the type's place is no type that has a form here, and no `TYPE` with the number of another type of which a zone can
+    /// have records.
     UnknownType,
     /// The data has more than 4,096 octets.
     TooLong,

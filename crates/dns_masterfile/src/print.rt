@@ -1,8 +1,9 @@
 //! Records in print.
-ghost use Rattle.std.specs.Prelude.{Some, [], ◌∷◌, decimal, map, ◌≡◌, unwrap_or};
+ghost use Rattle.std.specs.Prelude.{Some, [], ◌∷◌, decimal, map, flat_map, ◌≡◌, unwrap_or};
 ghost use Rattle.std.specs.Fmt.{DisplaysOnOk};
 ghost use Rattle.dns_masterfile.specs.Text.{printed_string_octet, printed_string};
-ghost use Rattle.dns_masterfile.specs.Data.{word_of_type};
+ghost use Rattle.dns_masterfile.specs.Data.{name_of_type, word_of_type};
+ghost use Rattle.dns_masterfile.specs.Opaque.{hex_octet, opaque_words};
 ghost use Rattle.dns_masterfile.specs.Printed.{spaced, printed_data, printed_record};
 ghost use Rattle.dns_names.specs.Text.{printed_name};
 
@@ -101,6 +102,51 @@ fn write_strings<W: fmt::Write>(strings: Strings<'_>, f: &mut fmt::Formatter<W>)
     Ok(())
 }
 
+/// An octet as two hexadecimal digits in lower case.
+#[derive(Drop)]
+struct HexOctet(u8);
+
+impl fmt::Display for HexOctet {
+    ghost output = { λ o. Some (hex_octet o.0) };
+
+    fn fmt<W: fmt::Write>(&self, f: &mut fmt::Formatter<W>) -> fmt::Result {
+        let octet = self.0;
+        write!(f, "{octet:02x}")
+    }
+}
+
+/// Octets in hexadecimal digits.
+#[derive(Drop)]
+struct HexOctets<'a>(&'a [u8]);
+
+impl fmt::Display for HexOctets<'_> {
+    ghost output = { λ o. Some (flat_map hex_octet o.0.now) };
+
+    fn fmt<W: fmt::Write>(&self, f: &mut fmt::Formatter<W>) -> fmt::Result {
+        for octet in self.0 {
+            write!(f, "{}", HexOctet(*octet))?;
+        }
+        Ok(())
+    }
+}
+
+/// The words of opaque data, each behind a blank (RFC 3597 section 5).
+#[derive(Drop)]
+struct OpaqueWords<'a>(&'a [u8]);
+
+impl fmt::Display for OpaqueWords<'_> {
+    ghost output = { λ o. Some (spaced (opaque_words o.0.now)) };
+
+    fn fmt<W: fmt::Write>(&self, f: &mut fmt::Formatter<W>) -> fmt::Result {
+        let octets = self.0;
+        write!(f, " \\# {}", octets.len())?;
+        if octets.is_empty() {
+            return Ok(());
+        }
+        write!(f, " {}", HexOctets(octets))
+    }
+}
+
 /// The data of a record, each word behind a blank.
 #[derive(Drop)]
 struct DataWords<'a>(&'a RData);
@@ -128,17 +174,16 @@ impl fmt::Display for DataWords<'_> {
         if let Some(soa) = data.as_soa() {
             return write!(f, "{}", SoaWords(&soa));
         }
-        let _octets = data.octets();
-        match data.as_txt() {
-            Some(strings) => write_strings(strings, f),
-            None => unreachable!(),
+        if let Some(strings) = data.as_txt() {
+            return write_strings(strings, f);
         }
+        write!(f, "{}", OpaqueWords(data.octets()))
     }
 }
 
-/// The word of a type that is known.
+/// The word of a type that has one of its own.
 pub(crate) fn type_word(rtype: u16) -> &'static str
-    ensures { result.now ≡ unwrap_or (word_of_type rtype) [] }
+    ensures { result.now ≡ unwrap_or (name_of_type rtype) [] }
 {
     match rtype {
         types::A => "A",
@@ -154,6 +199,23 @@ pub(crate) fn type_word(rtype: u16) -> &'static str
     }
 }
 
+/// The word of a type: its own, or `TYPE` and its number (RFC 3597 section 5).
+#[derive(Drop)]
+struct TypeWord(u16);
+
+impl fmt::Display for TypeWord {
+    ghost output = { λ t. Some (word_of_type t.0) };
+
+    fn fmt<W: fmt::Write>(&self, f: &mut fmt::Formatter<W>) -> fmt::Result {
+        let rtype = self.0;
+        let word = type_word(rtype);
+        if word.is_empty() {
+            return write!(f, "TYPE{rtype}");
+        }
+        write!(f, "{word}")
+    }
+}
+
 /// A record as a line of a master file.
 #[derive(Drop)]
 pub(crate) struct Line<'a>(pub &'a Record);
@@ -163,8 +225,8 @@ impl fmt::Display for Line<'_> {
 
     fn fmt<W: fmt::Write>(&self, f: &mut fmt::Formatter<W>) -> fmt::Result {
         let record = self.0;
-        let rtype = type_word(record.rtype());
-        write!(f, "{} {} IN {rtype}", record.owner(), record.ttl())?;
+        write!(f, "{} {} IN", record.owner(), record.ttl())?;
+        write!(f, " {}", TypeWord(record.rtype()))?;
         write!(f, "{}\n", DataWords(record.data()))
     }
 }

@@ -1,19 +1,19 @@
 //! Data in the words of an entry.
-ghost use Rattle.std.specs.Prelude.{◌≡◌, ◌≤◌, Some, MatchResult};
+ghost use Rattle.std.specs.Prelude.{◌≡◌, ◌≤◌, Some, true, MatchResult};
 ghost use Rattle.dns_policy.specs.Address.{ipv4_of_text, ipv6_of_text};
 ghost use Rattle.dns_records.specs.Fields.{stated_field, stated_fields};
-ghost use Rattle.dns_records.specs.Types.{form as form_of};
+ghost use Rattle.dns_records.specs.Types.{form as form_of, is_data_type};
 ghost use Rattle.dns_masterfile.specs.Data.{Number16, Number32, fixed_of, octets_of_text};
-ghost use Rattle.dns_masterfile.specs.Reading.{take_data, take_field, take_fixed, take_wire};
+ghost use Rattle.dns_masterfile.specs.Reading.{take_data, take_field, take_fixed, take_rdata, take_wire};
 ghost use Rattle.dns_masterfile.specs.Taking.{FitField, FitFields, FitName, FitStrings, IsSized, Puts, PutsFixed, PutsString, Refuses, RefusesFixed, Takes, stated_fixed, stated_fixeds, string_at, strings_in};
 
 use crate::FileError;
 use crate::scanner::Scanner;
-use crate::values::{Octets, number, string};
+use crate::values::{Octets, number, small_number, string};
 use dns_memory::Heap;
 use dns_names::Name;
 use dns_policy::address;
-use dns_records::{Field, RData, RecordError};
+use dns_records::{Field, RData, RecordError, form};
 use smallvec::SmallVec;
 use std::net::IpAddr;
 
@@ -50,9 +50,9 @@ fn fixed_of(size: usize) -> &'static [Fixed]
 fn number16(text: &[u8]) -> Option<[u8; 2]>
     ensures { result ≡ octets_of_text Number16 text.now }
 {
-    match u16::try_from(number(text)?) {
-        Ok(value) => Some(value.to_be_bytes()),
-        Err(_) => None,
+    match small_number(text) {
+        Some(value) => Some(value.to_be_bytes()),
+        None => None,
     }
 }
 
@@ -207,7 +207,7 @@ impl<'a> Scanner<'a> {
     }
 
     /// Takes the data of a type, which has these parts.
-    pub(crate) fn take_rdata(
+    fn take_formed(
         &mut self,
         alloc: Heap,
         origin: &Name,
@@ -225,6 +225,22 @@ impl<'a> Scanner<'a> {
             Err(RecordError::BadData) => unreachable!(),
             Err(RecordError::TooLong) => unreachable!(),
             Err(RecordError::UnknownType) => unreachable!(),
+        }
+    }
+
+    /// Takes the data of a type.
+    pub(crate) fn take_rdata(
+        &mut self,
+        alloc: Heap,
+        origin: &Name,
+        rtype: u16,
+    ) -> Result<RData, FileError>
+        requires { is_data_type rtype ≡ true }
+        ensures { MatchResult result (λ d. (d.rtype ≡ rtype) × Takes (take_rdata origin.now self.old.whole rtype) self.old self.new d.octets) (Refuses (take_rdata origin.now self.old.whole rtype self.old.words)) }
+    {
+        match form(rtype) {
+            Some(fields) => self.take_formed(alloc, origin, rtype, fields),
+            None => self.take_opaque_data(alloc, rtype),
         }
     }
 }

@@ -5,7 +5,7 @@ ghost use Rattle.std.specs.List.{list_all};
 ghost use Rattle.dns_records.specs.Types.{is_known};
 ghost use Rattle.dns_masterfile.specs.Text.{is_decimal, number_of_text, string_of_text};
 ghost use Rattle.dns_masterfile.specs.Pieces.{Bare, Word as Stated, text_of};
-ghost use Rattle.dns_masterfile.specs.Data.{is_keyword, type_of_word, word_of_type};
+ghost use Rattle.dns_masterfile.specs.Data.{is_keyword, name_of_type, type_of_word};
 ghost use Rattle.dns_masterfile.specs.Meaning.{begins_with_dollar, is_class};
 ghost use Rattle.dns_masterfile.specs.Reading.{name_in, take_ttl};
 ghost use Rattle.dns_masterfile.specs.Scan.{stated_word};
@@ -49,6 +49,13 @@ pub(crate) fn number(text: &[u8]) -> Option<u32>
         Ok(digits) => digits.parse::<u32>().ok(),
         Err(_) => None,
     }
+}
+
+/// The number below 2^16 that the text is, in decimal digits.
+pub(crate) fn small_number(text: &[u8]) -> Option<u16>
+    ensures { result ≡ number_of_text (2 ^ 16) text.now }
+{
+    u16::try_from(number(text)?).ok()
 }
 
 /// The octets of a string.
@@ -113,7 +120,7 @@ impl<'a> Word<'a> {
     /// Whether it is the word of a type that is known.
     fn names(&self, rtype: u16) -> bool
         requires { is_known rtype ≡ true }
-        ensures { result ≡ is_keyword (unwrap_or (word_of_type rtype) []) (stated_word self.now) }
+        ensures { result ≡ is_keyword (unwrap_or (name_of_type rtype) []) (stated_word self.now) }
     {
         self.is_keyword(type_word(rtype).as_bytes())
     }
@@ -141,7 +148,7 @@ impl<'a> Word<'a> {
         } else if self.names(types::SRV) {
             Some(types::SRV)
         } else {
-            None
+            self.type_by_number()
         }
     }
 

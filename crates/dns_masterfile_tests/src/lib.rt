@@ -8,6 +8,8 @@ mod given;
 #[cfg(test)]
 mod memory;
 #[cfg(test)]
+mod opaque;
+#[cfg(test)]
 mod refused;
 #[cfg(test)]
 mod writers;

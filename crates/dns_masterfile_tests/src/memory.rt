@@ -10,6 +10,7 @@ $TTL 60
  NS ns
  TXT \"a string that takes more than twenty-four octets\"
 ns A 192.0.2.53
+   TYPE257 \\# 22 000569737375656361312e6578616d706c652e6e6574
 ";
 
 #[test]

@@ -7,7 +7,8 @@ use Rattle.std.proofs.lemmas.Nat.{from_be_bytes-to_be_bytes_2}
 use Rattle.std.proofs.lemmas.List.{take-append-drop}
 use Rattle.dns_names.specs.Name.{Labels, IsName, wire}
 use Rattle.dns_names.specs.PlainLaws.{parts_same, wire_first}
-use Rattle.dns_records.specs.Types.{Field, is_known}
+use Rattle.std.proofs.lemmas.Bool.Decides.{nat_tests}
+use Rattle.dns_records.specs.Types.{is_data_type}
 use Rattle.dns_records.specs.Record.{Record, Data, IsRecord, plain, data_of}
 use Rattle.dns_records.specs.Refusals.{IsFramed, RefusesData}
 use Rattle.dns_records.specs.declared.record.RecordError.{RecordError}
@@ -70,14 +71,9 @@ framed octets r n valid small fits e =
     let short : length r.rdata ≤ 4096 = valid.short in
     (drop n octets, record { owner = valid.owner; rtype = small; ttl = valid.ttl; size = omega arith; whole = sym (take-append-drop n octets) ∙ ap (λ (x : List ℕ). x ++ drop n octets) e })
 
--- types that are known are numbers of 16 bits
-known_step : (b : Bool) (t k : ℕ) (fields : List Field) (others : Option (List Field)) → (t == k) ≡ b → k < 2 ^ 16 → (is_some others ≡ true → t < 2 ^ 16) → is_some (cond b (Some fields) others) ≡ true → t < 2 ^ 16
-known_step true t k fields others e small h known = subst (λ (n : ℕ). n < 2 ^ 16) (sym (eqb-true t k e)) small
-known_step false t k fields others e small h known = h known
-
-pub known_small : (t : ℕ) → is_known t ≡ true → t < 2 ^ 16
-known_small t =
-    known_step (t == 1) t 1 _ _ refl (omega arith) (known_step (t == 2) t 2 _ _ refl (omega arith) (known_step (t == 5) t 5 _ _ refl (omega arith) (known_step (t == 6) t 6 _ _ refl (omega arith) (known_step (t == 12) t 12 _ _ refl (omega arith) (known_step (t == 15) t 15 _ _ refl (omega arith) (known_step (t == 16) t 16 _ _ refl (omega arith) (known_step (t == 28) t 28 _ _ refl (omega arith) (known_step (t == 33) t 33 _ _ refl (omega arith) (λ h. absurd (cc))))))))))
+-- types of data are numbers of 16 bits
+pub known_small : (t : ℕ) → is_data_type t ≡ true → t < 2 ^ 16
+known_small t h = grind (arith, nat_tests)
 
 abbrev made : ℕ → List ℕ → Data
 made t o = record { rtype = t; octets = o }
@@ -96,7 +92,7 @@ frames_once octets r s x y f g =
 -- nothing but memory refuses valid data
 refused_valid : (r : Record) → IsRecord r → (e : RecordError) → RefusesData (data_of r) e → e ≡ OutOfMemory
 refused_valid r h OutOfMemory w = refl
-refused_valid r h UnknownType w = (let known : is_known r.rtype ≡ true = h.rtype in absurd (cc))
+refused_valid r h UnknownType w = (let known : is_data_type r.rtype ≡ true = h.rtype in absurd (cc))
 refused_valid r h TooLong w = (let short : length r.rdata ≤ 4096 = h.short in let long : 4096 < length r.rdata = w.1 in absurd (omega arith))
 refused_valid r h BadData w = absurd (w.2 h.rdata)
 

@@ -1,5 +1,5 @@
 -- Strings that are put one behind the other.
-use Rattle.std.proofs.Common.{◌≡◌, ℕ, ◌<◌, List, [], ◌∷◌, ◌++◌, length, map, refl, sym, ap, subst, ◌∙◌, append_assoc, append-nil}
+use Rattle.std.proofs.Common.{◌≡◌, ℕ, ◌<◌, List, [], ◌∷◌, ◌++◌, length, map, refl, sym, ap, subst, ◌∙◌, append_assoc, append-nil, arith}
 use Rattle.std.specs.List.{AllByRecursion, flat_map}
 use Rattle.dns_records.specs.Types.{type_txt}
 use Rattle.dns_records.specs.Record.{Data, IsData, string}
@@ -54,11 +54,13 @@ txt_found d o texts e valid flat short =
     let t = txt_of d o valid (ap (λ (x : Data). x.rtype) e) (sym (ap (λ (x : Data). x.octets) e)) in
     (e ∙ ap data_at flat, record { some = λ none. t.fits.some (strings_of-flat o texts flat ∙ none); short = short })
 
-pub txt_refused : (o : List ℕ) (texts : List (List ℕ)) (e : RecordError) → o ≡ flat_map string texts → RefusesData (data_at o) e → RefusesTxt texts e
-txt_refused o texts OutOfMemory flat h = tt
-txt_refused o texts UnknownType flat h = absurd cc
-txt_refused o texts TooLong flat h = subst (λ (x : List ℕ). 4096 < length x) flat h.1
-txt_refused o texts BadData flat h = λ fits. h.2 (o, [], sym (append-nil o), (texts, fits.some, fits.short, flat), refl)
+pub txt_refused : (o : List ℕ) (texts : List (List ℕ)) (e : RecordError) → o ≡ flat_map string texts → AreShort texts → RefusesData (data_at o) e → RefusesTxt texts e
+txt_refused o texts OutOfMemory flat short h = tt
+txt_refused o texts UnknownType flat short h = absurd cc
+txt_refused o texts TooLong flat short h =
+    let long : 4096 < length (flat_map string texts) = subst (λ (x : List ℕ). 4096 < length x) flat h.1 in
+    (record { some = λ none. (let zero : 4096 < 0 = subst (λ (xs : List (List ℕ)). 4096 < length (flat_map string xs)) none long in omega (arith, zero)); short = short }, long)
+txt_refused o texts BadData flat short h = λ fits. h.2 (o, [], sym (append-nil o), (texts, fits.some, fits.short, flat), refl)
 
 pub txt_once : (a b : List (List ℕ)) → txt_data a ≡ txt_data b → a ≡ b
 txt_once a b e = sym (strings_of-flat (flat_map string a) a refl) ∙ strings_of-flat (flat_map string a) b (ap (λ (d : Data). d.octets) e)

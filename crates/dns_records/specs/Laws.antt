@@ -1,6 +1,6 @@
 -- Laws of data made of its parts.
 use Rattle.std.proofs.Common.{◌≡◌, ℕ, ◌<◌, ◌≤◌, zero, suc, Bool, true, false, List, [], ◌∷◌, ◌++◌, length, refl, sym, ap, subst, ◌∙◌, arith, append-nil, length-append, append_assoc, Option, cond}
-use Rattle.std.specs.Prelude.{◌==◌, ◌||◌, Some, IfSome}
+use Rattle.std.specs.Prelude.{◌==◌, ◌||◌, Some, None, IfSome, is_some}
 use Rattle.std.specs.List.{AllByRecursion}
 use Rattle.std.specs.Int.{Width, w16, w32, to_be_bytes, bytes_high_first, byte_at, byte_len}
 use borrow.Author.Tests.{eqb-true}
@@ -9,13 +9,25 @@ use Rattle.dns_names.specs.Lower.{AreOctets}
 use Rattle.dns_names.specs.Plain.{IsPlain}
 use Rattle.dns_names.specs.PlainLaws.{plain_of, parts_same}
 use Rattle.dns_names.specs.PlainOctets.{octets-append, wire_octets}
-use Rattle.dns_records.specs.Types.{Field, Octets, Name, Target, form, type_a, type_ns, type_cname, type_soa, type_ptr, type_mx, type_txt, type_aaaa, type_srv}
+use Rattle.dns_records.specs.Types.{Field, Octets, Name, Target, form, is_known, is_data_type, type_a, type_ns, type_cname, type_soa, type_ptr, type_mx, type_txt, type_aaaa, type_srv}
 use Rattle.dns_records.specs.Fields.{StringsLast}
 use Rattle.dns_records.specs.Record.{Data, IsData, AreFields}
 use Rattle.dns_records.specs.Typed.{name_data, is_name_type, soa_data, soa_numbers, mx_data, srv_data, srv_numbers}
 use Rattle.dns_records.specs.declared.typed.Soa.{Soa}
 use Rattle.dns_records.specs.declared.typed.Mx.{Mx}
 use Rattle.dns_records.specs.declared.typed.Srv.{Srv}
+
+-- a zone can have records of each type that has a form
+data_step : (b : Bool) (t k : ℕ) (fields : List Field) (others : Option (List Field)) → (t == k) ≡ b → is_data_type k ≡ true → (is_some others ≡ true → is_data_type t ≡ true) → is_some (cond b (Some fields) others) ≡ true → is_data_type t ≡ true
+data_step true t k fields others e is h known = ap is_data_type (eqb-true t k e) ∙ is
+data_step false t k fields others e is h known = h known
+
+pub known_is_data : (t : ℕ) → is_known t ≡ true → is_data_type t ≡ true
+known_is_data t =
+    data_step (t == 1) t 1 _ _ refl refl (data_step (t == 2) t 2 _ _ refl refl (data_step (t == 5) t 5 _ _ refl refl (data_step (t == 6) t 6 _ _ refl refl (data_step (t == 12) t 12 _ _ refl refl (data_step (t == 15) t 15 _ _ refl refl (data_step (t == 16) t 16 _ _ refl refl (data_step (t == 28) t 28 _ _ refl refl (data_step (t == 33) t 33 _ _ refl refl (λ h. absurd cc)))))))))
+
+pub formed_is_data : (t : ℕ) (fields : List Field) → form t ≡ Some fields → is_data_type t ≡ true
+formed_is_data t fields f = known_is_data t (ap is_some f)
 
 -- the form of data that is one name
 pub name_form : (t : ℕ) → is_name_type t ≡ true → form t ≡ Some (Name ∷ [])
@@ -33,7 +45,7 @@ name_data-valid t name h valid =
     let short : length (wire name) ≤ 255 = valid.short in
     let parts : AreFields (Name ∷ []) (wire name) = (wire name, [], sym (append-nil (wire name)), (name, valid, refl), refl) in
     record {
-      rtype = rw f refl;
+      rtype = formed_is_data t (Name ∷ []) f;
       octets = wire_octets name valid.labels;
       short = omega arith;
       form = rw f parts;
@@ -138,7 +150,7 @@ octets_all (x ∷ o) h = (h 0, octets_all o (λ i. h (suc i)))
 pub address-valid : (t : ℕ) (o : List ℕ) → form t ≡ Some (Octets (length o) ∷ []) → AreOctets o → length o ≤ 24 → IsData (record { rtype = t; octets = o })
 address-valid t o f fits size =
     let parts : AreFields (Octets (length o) ∷ []) o = (o, [], sym (append-nil o), refl, refl) in
-    record { rtype = rw f refl; octets = octets_all o fits; short = omega arith; form = rw f parts }
+    record { rtype = formed_is_data t (Octets (length o) ∷ []) f; octets = octets_all o fits; short = omega arith; form = rw f parts }
 
 -- an address is so many octets
 pub address_whole : (n : ℕ) (o : List ℕ) → AreFields (Octets n ∷ []) o → length o ≡ n

@@ -1,7 +1,7 @@
 -- Why octets are no data of a record, and why no plain record stands at their front.
 use Rattle.std.specs.Prelude.{◌≡◌, ℕ, ◌<◌, ◌≤◌, ◌^◌, ◌⊎◌, true, false, List, ◌++◌, length}
 use Rattle.dns_names.specs.Name.{IsName}
-use Rattle.dns_records.specs.Types.{is_known}
+use Rattle.dns_records.specs.Types.{is_data_type}
 use Rattle.dns_records.specs.Record.{Record, Data, data_of, plain, IsRData}
 use Rattle.dns_records.specs.declared.record.RecordError.{RecordError}
 use Rattle.dns_records.specs.declared.record.RecordError.TheVariants.{OutOfMemory, BadData, TooLong, UnknownType}
@@ -9,9 +9,9 @@ use Rattle.dns_records.specs.declared.record.RecordError.TheVariants.{OutOfMemor
 -- The first that applies: the type, the length, the form.
 abbrev pub RefusesData : Data → RecordError → Type 0
 RefusesData d OutOfMemory = Unit {0}
-RefusesData d UnknownType = is_known d.rtype ≡ false
-RefusesData d TooLong = (is_known d.rtype ≡ true) × (4096 < length d.octets)
-RefusesData d BadData = (is_known d.rtype ≡ true) × (length d.octets ≤ 4096) × (IsRData d.rtype d.octets → ⊥)
+RefusesData d UnknownType = is_data_type d.rtype ≡ false
+RefusesData d TooLong = (is_data_type d.rtype ≡ true) × (4096 < length d.octets)
+RefusesData d BadData = (is_data_type d.rtype ≡ true) × (length d.octets ≤ 4096) × (IsRData d.rtype d.octets → ⊥)
 
 -- Octets begin as a plain record does: an owner, a type, a TTL, a length, and so many octets, whatever they are.
 pub record IsFramed (octets : List ℕ) (r : Record) (rest : List ℕ) : Type 0 where

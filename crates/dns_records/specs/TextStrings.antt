@@ -32,5 +32,5 @@ pub record FitsTxt (strings : List (List ℕ)) : Type 0 where
 abbrev pub RefusesTxt : List (List ℕ) → RecordError → Type 0
 RefusesTxt strings OutOfMemory = Unit {0}
 RefusesTxt strings BadData = FitsTxt strings → ⊥
-RefusesTxt strings TooLong = 4096 < length (flat_map string strings)
+RefusesTxt strings TooLong = FitsTxt strings × (4096 < length (flat_map string strings))
 RefusesTxt strings UnknownType = ⊥

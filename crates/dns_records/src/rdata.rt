@@ -15,7 +15,8 @@ use std::alloc::AllocError;
 use std::cmp::Ordering;
 use std::marker::Model;
 
-/// The data of a record of a known type, in plain form: names in full and in lower case.
+/// The type and the data of a record, in plain form: names in full and in lower case, and octets as they are where the type has no
+/// form (RFC 3597).
 #[derive(Debug, Drop)]
 pub struct RData {
     rtype: u16,

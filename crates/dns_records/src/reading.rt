@@ -1,11 +1,11 @@
 //! Reading of data and of plain records.
-ghost use Rattle.std.specs.Prelude.{◌≡◌, ℕ, List, ◌++◌, ◌≤◌, length, take, IfOk, IfErr, IfSome, IfNone};
-ghost use Rattle.dns_records.specs.Record.{Record as Stated, IsRecord, plain};
+ghost use Rattle.std.specs.Prelude.{◌≡◌, ◌↔◌, IsTrue, ℕ, List, ◌++◌, ◌≤◌, length, take, IfOk, IfErr, IfSome, IfNone};
+ghost use Rattle.dns_records.specs.Record.{Record as Stated, IsRData, IsRecord, plain};
 ghost use Rattle.dns_records.specs.Refusals.{RefusesData, IsFramed, RefusesPlain};
 
 use crate::fields::fit;
 use crate::numbers::{split_u16, split_u32};
-use crate::{RData, Record, RecordError, form};
+use crate::{RData, Record, RecordError, form, is_data_type};
 use dns_memory::Heap;
 use dns_names::NameRef;
 
@@ -38,22 +38,33 @@ fn split_plain(octets: &[u8]) -> Option<Framed<'_>>
     })
 }
 
+/// Whether the octets have the form of the type, if it has one.
+fn have_form(rtype: u16, octets: &[u8]) -> bool
+    ensures { IsTrue result ↔ IsRData rtype octets.now }
+{
+    match form(rtype) {
+        Some(fields) => fit(fields, octets),
+        None => true,
+    }
+}
+
 impl RData {
     ghost use Rattle.dns_records.specs.Record.{Data, IsData};
 
-    /// The data of a type, whose plain form the octets are. Refused are, in this order, a type that is not known, octets
-    /// beyond 4,096, and octets that have not the form of the type.
+    /// The data of a type, whose plain form the octets are. Refused are, in this order, a type of which a zone can
+    /// have no records, octets beyond 4,096, and octets that have not the form of the type. Data of a type without a form is any
+    /// octets (RFC 3597 section 3).
     pub fn new(alloc: Heap, rtype: u16, octets: &[u8]) -> Result<RData, RecordError>
         ensures found { IfOk result (λ d. (d ≡ record { rtype = rtype; octets = octets.now }) × IsData d) }
         ensures refused { IfErr result (RefusesData (record { rtype = rtype; octets = octets.now })) }
     {
-        let Some(fields) = form(rtype) else {
+        if !is_data_type(rtype) {
             return Err(RecordError::UnknownType);
-        };
+        }
         if octets.len() > 4096 {
             return Err(RecordError::TooLong);
         }
-        if !fit(fields, octets) {
+        if !have_form(rtype, octets) {
             return Err(RecordError::BadData);
         }
         Ok(RData::known(alloc, rtype, octets)?)

@@ -18,7 +18,7 @@ pub enum RecordError {
     BadData,
     /// The data has more than 4,096 octets.
     TooLong,
-    /// The type is none that a record here can have.
+    /// The type is none of which a zone can have records.
     UnknownType,
 }
 
@@ -32,7 +32,7 @@ impl From<AllocError> for RecordError {
     }
 }
 
-/// A record of class IN: an owner, a TTL in seconds, and data of a known type (RFC 1035 section 3.2.1).
+/// A record of class IN: an owner, a TTL in seconds, a type, and data (RFC 1035 section 3.2.1).
 #[derive(Debug, Drop)]
 pub struct Record {
     owner: Name,

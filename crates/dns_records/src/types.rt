@@ -19,6 +19,9 @@ pub const AAAA: u16 = 28;
 /// Where a service runs (RFC 2782).
 pub const SRV: u16 = 33;
 
+/// The extensions of a message; a zone has none (RFC 6891 section 6.1).
+pub const OPT: u16 = 41;
+
 /// The changes of a zone since a version; of questions alone (RFC 1995 section 2).
 pub const IXFR: u16 = 251;
 /// A whole zone; of questions alone (RFC 5936 section 2).

@@ -1,6 +1,5 @@
 pub mod Ended
 pub mod Ports
-pub mod Requests
 pub mod Running
 pub mod Soas
 pub mod Words

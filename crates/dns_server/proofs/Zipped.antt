@@ -1,5 +1,5 @@
 -- Lists of what is written and what is read.
-use Rattle.std.proofs.Common.{◌≡◌, ℕ, zero, suc, ◌<◌, Bool, false, List, [], ◌∷◌, ◌++◌, length, length-append, take, get_or, arith}
+use Rattle.std.proofs.Common.{◌≡◌, ℕ, zero, suc, ◌<◌, Bool, true, false, ◌||◌, refl, List, [], ◌∷◌, ◌++◌, length, length-append, take, get_or, arith}
 use Rattle.std.specs.Prelude.{◌≢◌, map, All}
 use Rattle.std.specs.List.{AllZip, list_any}
 use Rattle.std.proofs.lemmas.Slice.Zip.{all_zipped_more}
@@ -9,7 +9,10 @@ use Rattle.dns_server.specs.declared.configuration.Configuration.{Configuration}
 use Rattle.dns_server.specs.declared.configuration.WrittenZone.{WrittenZone}
 use Rattle.dns_server.specs.declared.configuration.Written.{Written}
 use Rattle.dns_server.specs.Settings.{AreApart, AreSettings, HasCounts, IsConfiguration, IsSettings, Says, are_alike}
-use Rattle.dns_server.proofs.Requests.{neither}
+
+neither : (a b : Bool) → (a || b) ≡ false → (a ≡ false) × (b ≡ false)
+neither true b e = absurd cc
+neither false b e = (refl, e)
 
 -- one more of each
 pub zipped_more : {A B C : Type 0} (f : A → B) (R : B → C → Type 0) (xs : List A) (i : ℕ) (d : A) (ys : List C) (y : C) → i < length xs → AllZip R (map f (take i xs)) ys → R (f (get_or xs i d)) y → AllZip R (map f (take (suc i) xs)) (ys ++ y ∷ [])

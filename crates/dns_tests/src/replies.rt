@@ -1,8 +1,9 @@
 //! Replies to queries, octet for octet, over zones of RFC 4592 and chains of aliases.
 use crate::given::{example, put, records, zone};
-use dns_answer::{Transport, is_for_reply, reply};
+use dns_answer::{refuse, reply};
 use dns_memory::{Heap, heap};
 use dns_records::types;
+use dns_request::{Request, Transport, classify};
 use dns_wire::Message;
 use dns_zone::{RecordList, Zone};
 use std::test::Fail;
@@ -79,11 +80,11 @@ fn reply_to(
     transport: Transport,
 ) -> Result<String<Heap>, Fail> {
     let octets = hex::decode(heap, request)?;
-    let message = Message::read(&octets)?;
-    if !is_for_reply(&message, transport) {
-        return Err(Fail::from("no request that is answered"));
-    }
-    let octets = reply(heap, zones, &message, transport)?;
+    let octets = match classify(&octets, transport) {
+        Request::Query(query) => reply(heap, zones, &query, transport)?,
+        Request::NotServed(query, rcode) => refuse(heap, &query, rcode, transport)?,
+        _ => return Err(Fail::from("no request that is answered")),
+    };
     Ok(hex::encode(heap, octets.as_slice())?)
 }
 
@@ -306,15 +307,14 @@ fn a_reply_of_a_lookup_that_is_refused_memory(rt: HostRuntime) -> Result<(), Fai
         heap,
         "00020000000100000000000005686f737433076578616d706c6500000f0001",
     )?;
-    let message = Message::read(&octets)?;
-    if !is_for_reply(&message, Transport::Udp) {
-        return Err(Fail::from("no request that is answered"));
-    }
-    let whole = reply(heap, &zones, &message, Transport::Udp)?;
+    let Request::Query(query) = classify(&octets, Transport::Udp) else {
+        return Err(Fail::from("no query"));
+    };
+    let whole = reply(heap, &zones, &query, Transport::Udp)?;
     let mut refusals = 0u64;
     for n in 1..50u64 {
         heap.refuse(n);
-        match reply(heap, &zones, &message, Transport::Udp) {
+        match reply(heap, &zones, &query, Transport::Udp) {
             Err(_) => refusals = n,
             Ok(again) => {
                 heap.refuse(0);

@@ -1,11 +1,11 @@
 -- The data of the records of a message has the form of its type.
-use Rattle.std.proofs.Common.{◌≡◌, ℕ, zero, suc, ◌+◌, ◌≤◌, Bool, true, false, not, ◌&&◌, ◌||◌, ◌⊎◌, inl, inr, List, [], ◌∷◌, Option, Some, None, length, refl, ap, ◌∙◌, arith}
-use Rattle.std.specs.Prelude.{◌==◌, nat_lt, MatchOption, IfSome, slice_range, if◌then◌else◌}
+use Rattle.std.proofs.Common.{◌≡◌, ℕ, zero, suc, ◌+◌, ◌≤◌, Bool, true, false, not, ◌&&◌, ◌||◌, ◌⊎◌, inl, inr, List, [], ◌∷◌, Option, Some, None, length, refl, sym, ap, subst, ◌∙◌, arith}
+use Rattle.std.specs.Prelude.{◌==◌, nat_lt, is_some, MatchOption, IfSome, slice_range, if◌then◌else◌}
 use Rattle.std.specs.List.{AllByRecursion}
 use Rattle.std.proofs.Common.{length-take, length-drop}
 use Rattle.std.proofs.lemmas.Bool.Decides.{nat_tests}
 use Rattle.dns_names.specs.Name.{Labels, under}
-use Rattle.dns_records.specs.Types.{Field, Octets, Name, Target, Strings, form, is_known, type_ns, type_any, class_in}
+use Rattle.dns_records.specs.Types.{Field, Octets, Name, Target, Strings, form, is_known, is_data_type, type_ns, type_any, class_in}
 use Rattle.dns_records.specs.Record.{IsField, AreFields, IsRData}
 use Rattle.dns_zone.specs.Order.{number_itself}
 use Rattle.dns_zone.proofs.OneSoa.{past, untrue}
@@ -64,11 +64,20 @@ within : (n : ℕ) → nat_lt 4096 n ≡ false → n ≤ 4096
 within n e = grind (arith, nat_tests)
 
 pub record IsFit (apex : Labels) (i : Item) : Type 0 where
-  pub known : is_known i.rtype ≡ true
+  pub rtype : is_data_type i.rtype ≡ true
   pub short : length i.rdata ≤ 4096
   pub form : IsRData i.rtype i.rdata
   pub inside : under i.owner apex ≡ true
   pub server : (i.rtype == type_ns && is_wildcard i.owner) ≡ false
+
+-- data that may be empty only where it has no form
+formed : (i : Item) → HasForm i → (is_known i.rtype && is_empty i) ≡ false → IsRData i.rtype i.rdata
+formed i (inr form) e = form
+formed i (inl none) e = go (form i.rtype) refl
+  where
+    go : (f : Option (List Field)) → form i.rtype ≡ f → IsRData i.rtype i.rdata
+    go None f = subst (λ (o : Option (List Field)). IfSome o (λ fields. AreFields fields i.rdata)) (sym f) tt
+    go (Some fields) f = (let some = filled (is_known i.rtype) (is_empty i) (ap is_some f) e in let empty : is_empty i ≡ true = ap (λ (n : ℕ). n == 0) none in absurd cc)
 
 pub fit : (apex : Labels) (i : Item) → i.class ≡ class_in → prescan_fault apex i ≡ None → HasForm i → IsFit apex i
 fit apex i c e h =
@@ -76,18 +85,13 @@ fit apex i c e h =
     let class : (i.class == class_in) ≡ true = ap (λ (n : ℕ). n == class_in) c ∙ number_itself class_in in
     let added = chosen (i.class == class_in) (addition_fault i) _ class inside.1 in
     let one = past (i.rtype == type_any || is_meta i.rtype || is_known i.rtype && is_empty i) FormErr _ added in
-    let two = past (not (is_known i.rtype) || nat_lt 4096 (length i.rdata) || i.rtype == type_ns && is_wildcard i.owner) Refused _ one.1 in
-    let refused = neither (not (is_known i.rtype) || nat_lt 4096 (length i.rdata)) _ two.0 in
-    let limits = neither (not (is_known i.rtype)) (nat_lt 4096 (length i.rdata)) refused.0 in
-    let known = untrue (is_known i.rtype) limits.0 in
-    let some = filled (is_known i.rtype) (is_empty i) known (neither (i.rtype == type_any || is_meta i.rtype) _ one.0).1 in
+    let two = past (not (is_data_type i.rtype) || nat_lt 4096 (length i.rdata) || i.rtype == type_ns && is_wildcard i.owner) Refused _ one.1 in
+    let refused = neither (not (is_data_type i.rtype) || nat_lt 4096 (length i.rdata)) _ two.0 in
+    let limits = neither (not (is_data_type i.rtype)) (nat_lt 4096 (length i.rdata)) refused.0 in
     record {
-      known = known;
+      rtype = untrue (is_data_type i.rtype) limits.0;
       short = within (length i.rdata) limits.1;
-      form = elim h [
-        | inl none ↦ (let empty : is_empty i ≡ true = ap (λ (n : ℕ). n == 0) none in absurd cc)
-        | inr form ↦ form
-      ];
+      form = formed i h (neither (i.rtype == type_any || is_meta i.rtype) _ one.0).1;
       inside = untrue (under i.owner apex) inside.0;
       server = refused.1;
     }

@@ -1,18 +1,18 @@
 -- What of an update section can't be done, whatever the zone contains (RFC 2136 3.4.1).
 use Rattle.std.specs.Prelude.{not, ◌&&◌, ◌||◌, ◌==◌, nat_lt, length, Option, Some, None, if◌then◌else◌}
 use Rattle.dns_names.specs.Name.{Labels, under}
-use Rattle.dns_records.specs.Types.{type_ns, type_any, class_in, class_none, class_any, is_known}
+use Rattle.dns_records.specs.Types.{type_ns, type_any, class_in, class_none, class_any, is_known, is_data_type}
 use Rattle.dns_zone.specs.Zone.{is_wildcard}
 use Rattle.dns_wire.specs.Message.{Item}
 use Rattle.dns_update.specs.Item.{is_empty, is_meta}
 use Rattle.dns_update.specs.declared.Rcode.{Rcode}
 use Rattle.dns_update.specs.declared.Rcode.TheVariants.{FormErr, Refused, NotZone}
 
--- Class IN: a record is to be added. Refused are types that a zone here can't have, data of over 4,096 octets, and an NS at a wildcard.
+-- Class IN: a record is to be added. Refused are types of which a zone has no records, data of over 4,096 octets, and an NS at a wildcard.
 abbrev pub addition_fault : Item → Option Rcode
 addition_fault i =
     if i.rtype == type_any || is_meta i.rtype || is_known i.rtype && is_empty i then Some FormErr
-    else if not (is_known i.rtype) || nat_lt 4096 (length i.rdata) || i.rtype == type_ns && is_wildcard i.owner then Some Refused
+    else if not (is_data_type i.rtype) || nat_lt 4096 (length i.rdata) || i.rtype == type_ns && is_wildcard i.owner then Some Refused
     else None
 
 -- Class ANY: an RRset is to be deleted, or all records of a name.

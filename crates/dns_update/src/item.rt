@@ -2,7 +2,7 @@ ghost use Rattle.std.specs.Prelude.{◌≡◌, ◌<◌, ◌≤◌, ◌^◌, true
 ghost use Rattle.dns_names.specs.Name.{names_eq, under};
 ghost use Rattle.dns_records.specs.Record.{IsRData, data_of};
 ghost use Rattle.dns_records.specs.Refusals.{RefusesData};
-ghost use Rattle.dns_records.specs.Types.{is_known};
+ghost use Rattle.dns_records.specs.Types.{is_data_type, is_known};
 ghost use Rattle.dns_zone.specs.Records.{alike};
 ghost use Rattle.dns_update.specs.Item.{as_record, is_empty, is_meta};
 ghost use Rattle.dns_update.specs.Prerequisites.{lists};
@@ -103,7 +103,7 @@ impl Item {
         self.owner().lend().is(name)
     }
 
-    /// Whether a zone can have records of its type.
+    /// Whether the data of its type has a form here.
     pub(crate) fn is_of_known_type(&self) -> bool
         ensures { result ≡ is_known self.now.rtype }
     {
@@ -134,7 +134,7 @@ impl Item {
 
     /// The item as a record of the zone.
     pub(crate) fn to_record(&self, alloc: Heap) -> Result<Record, AllocError>
-        requires known { is_known self.now.rtype ≡ true }
+        requires rtype { is_data_type self.now.rtype ≡ true }
         requires short { length self.now.rdata ≤ 4096 }
         requires form { IsRData self.now.rtype self.now.rdata }
         ensures { IfOk result (λ r. r ≡ as_record self.now) }
@@ -145,7 +145,7 @@ impl Item {
 
     /// The type and the data, where a zone can have them.
     fn data(&self, alloc: Heap) -> Result<RData, AllocError>
-        requires known { is_known self.now.rtype ≡ true }
+        requires rtype { is_data_type self.now.rtype ≡ true }
         requires short { length self.now.rdata ≤ 4096 }
         requires form { IsRData self.now.rtype self.now.rdata }
         ensures { IfOk result (λ d. d ≡ data_of (as_record self.now)) }
@@ -159,7 +159,7 @@ impl Item {
 
 /// What is said of data that is refused though it has the form of its type: memory was.
 fn refused_memory(error: RecordError, item: &Item) -> AllocError
-    requires known { is_known item.now.rtype ≡ true }
+    requires rtype { is_data_type item.now.rtype ≡ true }
     requires short { length item.now.rdata ≤ 4096 }
     requires form { IsRData item.now.rtype item.now.rdata }
     requires refused { RefusesData (data_of (as_record item.now)) error }

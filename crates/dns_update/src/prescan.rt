@@ -6,18 +6,19 @@ ghost use Rattle.dns_update.specs.Prescan.{addition_fault, deletion_fault, presc
 use crate::Rcode;
 use crate::item::Item;
 use dns_names::Name;
+use dns_records::is_data_type;
 use dns_records::types::{ANY, CLASS_ANY, CLASS_IN, CLASS_NONE, NS};
 
 /// What fails a record that is to be added.
 fn addition_fault(item: &Item) -> Option<Rcode>
     ensures { result ≡ addition_fault item.now }
 {
-    let known = item.is_of_known_type();
-    if item.rtype() == ANY || item.is_of_meta_type() || known && item.is_empty() {
+    let empty = item.is_of_known_type() && item.is_empty();
+    if item.rtype() == ANY || item.is_of_meta_type() || empty {
         return Some(Rcode::FormErr);
     }
     let wildcard_ns = item.rtype() == NS && item.owner().lend().begins_with_asterisk();
-    if !known || item.rdata().len() > 4096 || wildcard_ns {
+    if !is_data_type(item.rtype()) || item.rdata().len() > 4096 || wildcard_ns {
         return Some(Rcode::Refused);
     }
     None

@@ -1,10 +1,10 @@
 -- The data of a record that is written reads back.
-use Rattle.std.proofs.Common.{◌≡◌, ℕ, zero, suc, ◌+◌, ◌≤◌, List, [], ◌∷◌, ◌++◌, length, take, drop, Option, Some, refl, sym, ap, subst, ◌∙◌, arith, append_assoc, take-append-drop}
-use Rattle.std.specs.Prelude.{MatchOption, slice_range}
+use Rattle.std.proofs.Common.{◌≡◌, ℕ, zero, suc, ◌+◌, ◌≤◌, List, [], ◌∷◌, ◌++◌, length, take, drop, Option, Some, None, refl, sym, ap, subst, ◌∙◌, arith, append_assoc, take-append-drop}
+use Rattle.std.specs.Prelude.{MatchOption, IfSome, slice_range}
 use Rattle.std.proofs.lemmas.List.{length-append, length-take-le, drop_at}
 use Rattle.dns_names.specs.Name.{Labels, IsName, wire, labels_of}
 use Rattle.dns_records.specs.Types.{Field, Octets, Name, Target, Strings, form}
-use Rattle.dns_records.specs.Record.{Record, IsField, AreFields}
+use Rattle.dns_records.specs.Record.{IsRData, Record, IsField, AreFields}
 use Rattle.dns_wire.specs.Pack.{Place, Packing, pack_name, packed_name, packed_fields, packed_rdata}
 use Rattle.dns_wire.specs.NameAt.{FullNameAt}
 use Rattle.dns_wire.specs.Reads.{FieldAt, FieldsAt, RDataAt}
@@ -128,8 +128,8 @@ rdata_known : (text : List ℕ) (at rtype size : ℕ) (fields : List Field) (rda
 rdata_known text at rtype zero fields rdata e none inside h = none refl
 rdata_known text at rtype (suc n) fields rdata e none inside h = (inside, subst (λ (f : Option (List Field)). MatchOption f (rdata ≡ slice_range text at (at + suc n)) (λ fs. FieldsAt text at fs rdata (at + suc n))) (sym e) h)
 
-pub rdata_back : (text : List ℕ) (places : List Place) (at : ℕ) (r : Record) (back : List ℕ) (fields : List Field) → form r.rtype ≡ Some fields → AreFields fields r.rdata → Readable text places at → 12 ≤ at → Rest text at ((packed_rdata places at r).octets ++ back) → DataBack text places at r
-rdata_back text places at r back fields e fits table far h =
+formed_back : (text : List ℕ) (places : List Place) (at : ℕ) (r : Record) (back : List ℕ) (fields : List Field) → form r.rtype ≡ Some fields → AreFields fields r.rdata → Readable text places at → 12 ≤ at → Rest text at ((packed_rdata places at r).octets ++ back) → DataBack text places at r
+formed_back text places at r back fields e fits table far h =
     let parts = packed_fields places at fields r.rdata in
     let same : parts ≡ packed_rdata places at r = sym (rw (e, packed_rdata) refl) in
     let stands = rest_as text at at ((packed_rdata places at r).octets ++ back) (parts.octets ++ back) refl (ap (λ (p : Packing). p.octets ++ back) (sym same)) h in
@@ -140,3 +140,26 @@ rdata_back text places at r back fields e fits table far h =
       stands = subst (λ (p : Packing). RDataAt text at r.rtype (length p.octets) r.rdata) same known;
       table = subst (λ (p : Packing). Readable text p.places (at + length p.octets)) same b.table;
     }
+
+rdata_opaque : (text : List ℕ) (at rtype size : ℕ) (rdata : List ℕ) → form rtype ≡ None → (size ≡ 0 → rdata ≡ []) → at + size ≤ length text → rdata ≡ slice_range text at (at + size) → RDataAt text at rtype size rdata
+rdata_opaque text at rtype zero rdata e none inside h = none refl
+rdata_opaque text at rtype (suc n) rdata e none inside h = (inside, subst (λ (f : Option (List Field)). MatchOption f (rdata ≡ slice_range text at (at + suc n)) (λ fs. FieldsAt text at fs rdata (at + suc n))) (sym e) h)
+
+opaque_back : (text : List ℕ) (places : List Place) (at : ℕ) (r : Record) (back : List ℕ) → form r.rtype ≡ None → Readable text places at → Rest text at ((packed_rdata places at r).octets ++ back) → DataBack text places at r
+opaque_back text places at r back e table h =
+    let whole : Packing = record { octets = r.rdata; places = places } in
+    let same : whole ≡ packed_rdata places at r = sym (rw (e, packed_rdata) refl) in
+    let stands = rest_as text at at ((packed_rdata places at r).octets ++ back) (r.rdata ++ back) refl (ap (λ (p : Packing). p.octets ++ back) (sym same)) h in
+    let here = (piece text at r.rdata back stands).here in
+    let opaque = rdata_opaque text at r.rtype (length r.rdata) r.rdata e (nothing r.rdata) here.inside (sym here.read) in
+    record {
+      stands = subst (λ (p : Packing). RDataAt text at r.rtype (length p.octets) r.rdata) same opaque;
+      table = subst (λ (p : Packing). Readable text p.places (at + length p.octets)) same (readable_more text places at (at + length r.rdata) (omega arith) table);
+    }
+
+pub rdata_back : (text : List ℕ) (places : List Place) (at : ℕ) (r : Record) (back : List ℕ) → IsRData r.rtype r.rdata → Readable text places at → 12 ≤ at → Rest text at ((packed_rdata places at r).octets ++ back) → DataBack text places at r
+rdata_back text places at r back fits table far h = go (form r.rtype) refl fits
+  where
+    go : (f : Option (List Field)) → form r.rtype ≡ f → IfSome f (λ fields. AreFields fields r.rdata) → DataBack text places at r
+    go None e formed = opaque_back text places at r back e table h
+    go (Some fields) e formed = formed_back text places at r back fields e formed table far h

@@ -2,7 +2,7 @@
 use Rattle.std.proofs.Common.{◌≡◌, ℕ, ◌+◌, ◌*◌, ◌/◌, ◌%◌, ◌<◌, ◌^◌, Bool, true, false, arith}
 use Rattle.std.specs.Int.{w16, w32, to_be_bytes}
 use Rattle.std.proofs.lemmas.Bool.Decides.{nat_tests}
-use Rattle.dns_records.specs.Types.{is_known}
+use Rattle.dns_records.specs.Types.{is_data_type}
 use Rattle.dns_records.specs.Record.{number_of}
 use Rattle.dns_wire.specs.Message.{bit}
 use Rattle.dns_wire.specs.Text.{one_if}
@@ -13,7 +13,7 @@ two_back n h = omega arith
 pub four_back : (n : ℕ) → n < 2 ^ 32 → number_of (to_be_bytes w32 n) ≡ n
 four_back n h = omega arith
 
-pub known_small : (t : ℕ) → is_known t ≡ true → t < 2 ^ 16
+pub known_small : (t : ℕ) → is_data_type t ≡ true → t < 2 ^ 16
 known_small t h = grind (arith, nat_tests)
 
 abbrev pub flags : ℕ → Bool → Bool → Bool → ℕ

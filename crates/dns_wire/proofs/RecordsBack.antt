@@ -1,12 +1,12 @@
 -- Records that are written read back.
-use Rattle.std.proofs.Common.{◌≡◌, ℕ, ◌+◌, ◌<◌, ◌≤◌, ◌^◌, true, false, List, [], ◌∷◌, ◌++◌, length, map, take, drop, Option, Some, None, refl, sym, ap, subst, ◌∙◌, arith, append_assoc}
-use Rattle.std.specs.Prelude.{IfSome, slice_range, is_some}
+use Rattle.std.proofs.Common.{◌≡◌, ℕ, ◌+◌, ◌<◌, ◌≤◌, ◌^◌, List, [], ◌∷◌, ◌++◌, length, map, take, drop, Option, Some, None, refl, sym, ap, subst, ◌∙◌, arith, append_assoc}
+use Rattle.std.specs.Prelude.{IfSome, slice_range}
 use Rattle.std.specs.Int.{w16, w32, to_be_bytes}
 use Rattle.std.specs.List.{AllByRecursion}
 use Rattle.std.proofs.lemmas.List.{length-append}
 use Rattle.dns_names.specs.Name.{Labels, wire, labels_of}
-use Rattle.dns_records.specs.Types.{Field, Octets, Name, Target, Strings, form, is_known, class_in}
-use Rattle.dns_records.specs.Record.{Record, AreFields, IsRecord, number_of}
+use Rattle.dns_records.specs.Types.{Field, Octets, Name, Target, Strings, form, class_in}
+use Rattle.dns_records.specs.Record.{Record, AreFields, IsRData, IsRecord, number_of}
 use Rattle.dns_wire.specs.Pack.{Place, Packing, place_of, pack_name, packed_name, packed_fields, packed_rdata, packed_record}
 use Rattle.dns_wire.specs.Puts.{packed_all}
 use Rattle.dns_wire.specs.Reads.{NumberAt, ItemAt, ItemsAt}
@@ -59,12 +59,12 @@ fields_short places at (Name ∷ fields) rdata h =
     let split = ap length (name_split fields rdata h).1 in
     omega (arith, length-append here.octets after.octets, name_short places name, split, length-append (wire name) behind, fields_short here.places (at + length here.octets) fields behind (name_behind fields rdata h))
 
-known_form : (t : ℕ) → is_known t ≡ true → (fields : List Field) × (form t ≡ Some fields)
-known_form t h = go (form t) refl h
+rdata_short : (places : List Place) (at : ℕ) (r : Record) → IsRData r.rtype r.rdata → length (packed_rdata places at r).octets ≤ length r.rdata
+rdata_short places at r fits = go (form r.rtype) refl fits
   where
-    go : (f : Option (List Field)) → form t ≡ f → is_some f ≡ true → (fields : List Field) × (form t ≡ Some fields)
-    go None e known = absurd (let no : false ≡ true = known in cc)
-    go (Some fields) e known = (fields, e)
+    go : (f : Option (List Field)) → form r.rtype ≡ f → IfSome f (λ fields. AreFields fields r.rdata) → length (packed_rdata places at r).octets ≤ length r.rdata
+    go None e formed = (let same : packed_rdata places at r ≡ record { octets = r.rdata; places = places } = rw (e, packed_rdata) refl in omega (arith, ap (λ (p : Packing). length p.octets) same))
+    go (Some fields) e formed = (let same : packed_rdata places at r ≡ packed_fields places at fields r.rdata = rw (e, packed_rdata) refl in omega (arith, ap (λ (p : Packing). length p.octets) same, fields_short places at fields r.rdata formed))
 
 pub record ItemBack (text : List ℕ) (places : List Place) (at : ℕ) (r : Record) : Type 0 where
   pub stands : ItemAt text at (item_of r) (at + length (packed_record places at r).octets)
@@ -83,11 +83,7 @@ item_back text places at r back valid table far h =
     let c = to_be_bytes w16 class_in in
     let l = to_be_bytes w32 r.ttl in
     let s = to_be_bytes w16 (length d.octets) in
-    let f = known_form r.rtype valid.rtype in
-    let fits : AreFields f.0 r.rdata = subst (λ (o : Option (List Field)). IfSome o (λ fields. AreFields fields r.rdata)) f.1 valid.rdata in
-    let same : packed_fields here.places (mid + 10) f.0 r.rdata ≡ d = packed_as here.places (mid + 10) r f.0 f.1 in
-    let size : length d.octets < 2 ^ 16 = (let up = fields_short here.places (mid + 10) f.0 r.rdata fits in
-    let short : length r.rdata ≤ 4096 = valid.short in omega (arith, up, ap (λ (p : Packing). length p.octets) same)) in
+    let size : length d.octets < 2 ^ 16 = (let short : length r.rdata ≤ 4096 = valid.short in omega (arith, rdata_short here.places (mid + 10) r valid.rdata)) in
     let h0 = rest_as text at at ((packed_record places at r).octets ++ back) (owner ++ (t ++ (c ++ (l ++ (s ++ (d.octets ++ back)))))) refl (regroup owner t c l s d.octets back) h in
     let h1 = (piece text at owner (t ++ (c ++ (l ++ (s ++ (d.octets ++ back))))) h0).behind in
     let h2 = (piece text mid t (c ++ (l ++ (s ++ (d.octets ++ back)))) h1).behind in
@@ -95,7 +91,7 @@ item_back text places at r back valid table far h =
     let h4 = rest_as text (mid + 4 + 4) (mid + 8) (s ++ (d.octets ++ back)) (s ++ (d.octets ++ back)) (omega arith) refl (piece text (mid + 4) l (s ++ (d.octets ++ back)) h3).behind in
     let h5 = rest_as text (mid + 8 + 2) (mid + 10) (d.octets ++ back) (d.octets ++ back) (omega arith) refl (piece text (mid + 8) s (d.octets ++ back) h4).behind in
     let owned = readable_next text places at r.owner (t ++ (c ++ (l ++ (s ++ (d.octets ++ back))))) table far valid.owner.labels h0 in
-    let e = rdata_back text here.places (mid + 10) r back f.0 f.1 fits (readable_more text here.places mid (mid + 10) (omega arith) owned) (omega arith) h5 in
+    let e = rdata_back text here.places (mid + 10) r back valid.rdata (readable_more text here.places mid (mid + 10) (omega arith) owned) (omega arith) h5 in
     let stop : mid + 10 + length d.octets ≡ at + length (packed_record places at r).octets = omega (arith, record_size places at r) in
     record {
       stands = record {
@@ -111,9 +107,6 @@ item_back text places at r back valid table far h =
       };
       table = subst (Readable text d.places) stop e.table;
     }
-  where
-    packed_as : (places : List Place) (at : ℕ) (r : Record) (fields : List Field) → form r.rtype ≡ Some fields → packed_fields places at fields r.rdata ≡ packed_rdata places at r
-    packed_as places at r fields e = sym (rw (e, packed_rdata) refl)
 
 pub record AllBack (text : List ℕ) (places : List Place) (at : ℕ) (rs : List Record) : Type 0 where
   pub stand : ItemsAt text at (map item_of rs) (at + length (packed_all places at rs).octets)

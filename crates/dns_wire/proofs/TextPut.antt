@@ -1,5 +1,5 @@
 -- A whole text, written part by part.
-use Rattle.std.proofs.Common.{◌≡◌, ℕ, ◌+◌, ◌≤◌, List, [], ◌∷◌, ◌++◌, length, Option, Some, None, refl, sym, ap, subst, ◌∙◌, arith, append_assoc}
+use Rattle.std.proofs.Common.{◌≡◌, ℕ, ◌+◌, ◌*◌, ◌≤◌, List, [], ◌∷◌, ◌++◌, length, Option, Some, None, refl, sym, ap, subst, ◌∙◌, arith, append_assoc}
 use Rattle.std.proofs.lemmas.List.{length-append}
 use Rattle.dns_records.specs.Record.{Record}
 use Rattle.dns_wire.specs.Pack.{Place, Packing, packed_record, packed_records}
@@ -35,6 +35,14 @@ all_long places at (r ∷ rs) =
     let here = packed_record places at r in
     let after = packed_all here.places (at + length here.octets) rs in
     omega (arith, all_long here.places (at + length here.octets) rs, record_size places at r, length-append here.octets after.octets)
+
+-- a record takes at least ten octets
+pub all_longer : (places : List Place) (at : ℕ) (rs : List Record) → 10 * length rs ≤ length (packed_all places at rs).octets
+all_longer places at [] = omega arith
+all_longer places at (r ∷ rs) =
+    let here = packed_record places at r in
+    let after = packed_all here.places (at + length here.octets) rs in
+    omega (arith, all_longer here.places (at + length here.octets) rs, record_size places at r, length-append here.octets after.octets)
 
 -- the packings of the three sections
 unfoldable pub first_all : Reply → Packing
@@ -79,6 +87,14 @@ text_long r =
     let one : length r.answer ≤ length (first_all r).octets = all_long (question_places r) (12 + length (question_octets r)) r.answer in
     let two : length r.authority ≤ length (second_all r).octets = all_long (first_all r).places (12 + length (question_octets r) + length (first_all r).octets) r.authority in
     let three : length r.additional ≤ length (third_all r).octets = all_long (second_all r).places (12 + length (question_octets r) + length (first_all r).octets + length (second_all r).octets) r.additional in
+    omega (arith, text_size r, one, two, three)
+
+pub text_longer : (r : Reply) → 12 + 10 * (length r.answer + length r.authority + length r.additional) ≤ length (text r)
+unfolding first_all second_all third_all
+text_longer r =
+    let one : 10 * length r.answer ≤ length (first_all r).octets = all_longer (question_places r) (12 + length (question_octets r)) r.answer in
+    let two : 10 * length r.authority ≤ length (second_all r).octets = all_longer (first_all r).places (12 + length (question_octets r) + length (first_all r).octets) r.authority in
+    let three : 10 * length r.additional ≤ length (third_all r).octets = all_longer (second_all r).places (12 + length (question_octets r) + length (first_all r).octets + length (second_all r).octets) r.additional in
     omega (arith, text_size r, one, two, three)
 
 pub asked_octets : (r : Reply) → (asked r.question).octets ≡ question_octets r

@@ -1,6 +1,7 @@
 ghost use Rattle.std.specs.Prelude.{◌≡◌};
 ghost use Rattle.dns_records.specs.Record.{IsRecord};
 
+use crate::{Opcode, Rcode};
 use dns_memory::Heap;
 use dns_names::NameRef;
 use dns_records::Record;
@@ -83,16 +84,16 @@ pub struct Echo<'a> {
 pub struct Reply<'a> {
     /// The number of the request.
     pub id: u16,
-    /// The kind of the request, below 16.
-    pub opcode: u8,
+    /// The kind of the request.
+    pub opcode: Opcode,
     /// Whether the answer is authoritative.
     pub aa: bool,
     /// Whether records are left out for want of room.
     pub tc: bool,
     /// Whether recursion was desired.
     pub rd: bool,
-    /// The response code, below 16.
-    pub rcode: u8,
+    /// The response code.
+    pub rcode: Rcode,
     pub question: Option<Echo<'a>>,
     pub answer: Vec<ReplyRecord<'a>, Heap>,
     pub authority: Vec<ReplyRecord<'a>, Heap>,

@@ -1,5 +1,5 @@
 ghost use Rattle.std.specs.Int.{w16, to_be_bytes as be_octets};
-ghost use Rattle.std.specs.Prelude.{◌≡◌, ℕ, List, [], ◌+◌, ◌++◌, ◌<◌, ◌≤◌, Err, IfOk, IfErr, OnOk, length};
+ghost use Rattle.std.specs.Prelude.{◌≡◌, ℕ, List, [], ◌+◌, ◌*◌, ◌++◌, ◌<◌, ◌≤◌, Err, IfOk, IfErr, OnOk, length};
 ghost use Rattle.dns_wire.specs.Puts.{Wrote, RefusesUpTo, asked};
 ghost use Rattle.dns_wire.specs.Reply.{echo, stated};
 ghost use Rattle.dns_wire.specs.Reads.{Reads};
@@ -29,7 +29,6 @@ fn count(records: &[ReplyRecord<'_>]) -> Result<[u8; 2], WireError>
 
 /// The header of a reply (RFC 1035 section 4.1.1).
 fn header(reply: &Reply<'_>) -> Result<[u8; 12], WireError>
-    requires { reply.now.opcode < 16 }
     ensures found { IfOk result (λ octets. octets ≡ header_octets (stated reply.now)) }
     ensures refused { IfErr result (λ e. (e ≡ WireError.DoesNotFit) × (65535 < length reply.now.answer.items + length reply.now.authority.items + length reply.now.additional.items)) }
 {
@@ -38,12 +37,16 @@ fn header(reply: &Reply<'_>) -> Result<[u8; 12], WireError>
     let answers = count(reply.answer.as_slice())?;
     let authorities = count(reply.authority.as_slice())?;
     let additionals = count(reply.additional.as_slice())?;
-    let flags = 128 + 8 * reply.opcode + 4 * reply.aa as u8 + 2 * reply.tc as u8 + reply.rd as u8;
+    let flags = 128
+        + 8 * reply.opcode.number()
+        + 4 * reply.aa as u8
+        + 2 * reply.tc as u8
+        + reply.rd as u8;
     Ok([
         id[0],
         id[1],
         flags,
-        reply.rcode,
+        reply.rcode.number(),
         0,
         questions,
         answers[0],
@@ -78,9 +81,7 @@ impl Writer {
     /// and the length before a message on a stream tells at most 65,535 (RFC 1035 section 4.2). It refuses with `DoesNotFit`
     /// where the text is longer, and with `OutOfMemory` where memory is wanting.
     pub fn write(alloc: Heap, reply: &Reply<'_>, limit: usize) -> Result<Vec<u8, Heap>, WireError>
-        requires opcode { reply.now.opcode < 16 }
-        requires rcode { reply.now.rcode < 16 }
-        requires limit { limit < 65536 }
+        requires { limit < 65536 }
         ensures found { IfOk result (λ octets. (octets.items ≡ text (stated reply.now)) × (length octets.items ≤ limit)) }
         ensures refused { IfErr result (RefusesUpTo limit (length (text (stated reply.now)))) }
     {
@@ -103,11 +104,12 @@ impl Writer {
     }
 }
 
-/// A reply has at most one packed text, and the computed text is that, and reads as the reply. The computed packing writes a name as
+/// A reply has at most one packed text, and the computed text is that, and reads as the reply. Each record takes ten octets or more. The computed packing writes a name as
 /// it is to be written, and keeps its table of places right.
 pub fn one_packed_text()
     ensures once { (t u : List ℕ) (r : Stated) → IsPacked t r → IsPacked u r → t ≡ u }
     ensures packed { (r : Stated) → IsReply r → IsPacked (text r) r }
+    ensures long { (r : Stated) → 12 + 10 * (length r.answer + length r.authority + length r.additional) ≤ length (text r) }
     ensures reads_back { (r : Stated) → IsReply r → Reads (text r) (message_of_reply r) }
     ensures written { (earlier : List Used) (places : List Place) (name : Labels) → AreThePlaces (StandsAt earlier) places → IsWritten (StandsAt earlier) name (pack_name places name) }
     ensures first { AreThePlaces (StandsAt []) [] }

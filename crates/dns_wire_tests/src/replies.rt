@@ -1,10 +1,8 @@
 //! Replies at their limits.
-ghost use Rattle.std.specs.Prelude.{◌≡◌};
-
 use dns_memory::{Heap, heap};
 use dns_names::Name;
 use dns_records::{RData, Record, types};
-use dns_wire::{Message, Reply, ReplyRecord, WireError, Writer};
+use dns_wire::{Message, Opcode, Rcode, Reply, ReplyRecord, WireError, Writer};
 use std::alloc::AllocError;
 use std::test::Fail;
 
@@ -23,17 +21,14 @@ fn text_of(alloc: Heap, lengths: &[u8]) -> Result<Record, WireError> {
 }
 
 /// A response with these answers and no question.
-fn response<'a>(alloc: Heap, answer: Vec<ReplyRecord<'a>, Heap>) -> Reply<'a>
-    ensures opcode { result.opcode ≡ 0 }
-    ensures rcode { result.rcode ≡ 0 }
-{
+fn response<'a>(alloc: Heap, answer: Vec<ReplyRecord<'a>, Heap>) -> Reply<'a> {
     Reply {
         id: 7,
-        opcode: 0,
+        opcode: Opcode::Query,
         aa: true,
         tc: false,
         rd: false,
-        rcode: 0,
+        rcode: Rcode::NoError,
         question: None,
         answer,
         authority: Vec::new(alloc),

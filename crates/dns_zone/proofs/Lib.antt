@@ -7,3 +7,8 @@ pub mod Under
 pub mod Surveying
 pub mod Gathering
 pub mod OneSoa
+pub mod Cuts
+pub mod Enclosers
+pub mod Starred
+pub mod Beside
+pub mod Uncut

@@ -40,7 +40,7 @@ then_less Less b e = inl refl
 then_less Equal b e = inr refl
 then_less Greater b e = absurd cc
 
-less_true : (o : Ordering) → is_lt o ≡ true → o ≡ Less
+pub less_true : (o : Ordering) → is_lt o ≡ true → o ≡ Less
 less_true Less e = refl
 less_true Equal e = absurd cc
 less_true Greater e = absurd cc
@@ -146,7 +146,7 @@ gt_apart Less e = refl
 gt_apart Equal e = absurd cc
 gt_apart Greater e = refl
 
-above : (o : Ordering) → is_lt o ≡ false → is_eq o ≡ false → is_gt o ≡ true
+pub above : (o : Ordering) → is_lt o ≡ false → is_eq o ≡ false → is_gt o ≡ true
 above Less e f = absurd cc
 above Equal e f = absurd cc
 above Greater e f = refl

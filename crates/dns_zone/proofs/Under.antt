@@ -61,7 +61,7 @@ convex a b n low order e =
     let back : a ≡ reverse found.0 ++ n = sym (reverse-reverse a) ∙ ap reverse found.1 ∙ reverse-append (reverse n) found.0 ∙ ap (λ (x : Labels). reverse found.0 ++ x) (reverse-reverse n) in
     under_with a n (reverse found.0, back)
 
-none_under : (s : Record) (n : Labels) (rest : List Record) → Below s rest → is_lt (name_cmp s.owner n) ≡ false → under s.owner n ≡ false → exists rest n ≡ false
+pub none_under : (s : Record) (n : Labels) (rest : List Record) → Below s rest → is_lt (name_cmp s.owner n) ≡ false → under s.owner n ≡ false → exists rest n ≡ false
 none_under s n [] h low e = refl
 none_under s n (x ∷ rest) h low e =
     let here : under x.owner n ≡ false = elim (told (under x.owner n)) [

@@ -1,5 +1,8 @@
--- The place of a record in a list in order.
-use Rattle.std.specs.Prelude.{◌≡◌, ℕ, ◌<◌, ◌≤◌, true, false, List, length, insert, remove, slice_set}
+-- The place of a record, or of a name, in a list in order.
+use Rattle.std.specs.Prelude.{◌≡◌, ℕ, ◌-◌, ◌<◌, ◌≤◌, nat_lt, Bool, true, false, ◌&&◌, ◌||◌, List, length, insert, remove, slice_set, slice_get, Some, None}
+use Rattle.std.specs.List.{AllWithin}
+use Rattle.std.specs.Ordering.{is_lt}
+use Rattle.dns_names.specs.Name.{Labels, name_cmp, under}
 use Rattle.dns_records.specs.Record.{Record}
 use Rattle.dns_zone.specs.Records.{put, without, has}
 
@@ -16,3 +19,17 @@ pub record BelongsAt (r : Record) (records : List Record) (at : ℕ) : Type 0 wh
   pub absent : has r records ≡ false
   pub put_is : put r records ≡ insert records at r
   pub without_is : without r records ≡ records
+
+-- The place of a name: so many records stand before it.
+pub record IsPlaceOf (name : Labels) (records : List Record) (place : ℕ) : Type 0 where
+  pub inside : place ≤ length records
+  pub before : AllWithin (λ r. is_lt (name_cmp r.owner name) ≡ true) records 0 place
+  pub behind : AllWithin (λ r. is_lt (name_cmp r.owner name) ≡ false) records place (length records)
+
+-- The record at a place has an owner at the name or under it.
+abbrev pub is_owned_at : List Record → ℕ → Labels → Bool
+is_owned_at records place name = elim (slice_get records place) [ Some r ↦ under r.owner name | None ↦ false ]
+
+-- One of the two records beside a place has.
+abbrev pub is_owned_beside : List Record → ℕ → Labels → Bool
+is_owned_beside records place name = is_owned_at records place name || nat_lt 0 place && is_owned_at records (place - 1) name

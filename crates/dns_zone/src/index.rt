@@ -1,24 +1,17 @@
-ghost use Rattle.std.specs.Prelude.{◌≡◌, List, [], true, IfOk, OnOk, OnErr};
+//! What a set of records is.
+ghost use Rattle.std.specs.Prelude.{◌≡◌, List, [], true, length, drop, IfOk, OnOk, OnErr};
 ghost use Rattle.std.specs.Option.{option_copied};
 ghost use Rattle.std.specs.List.{AllByRecursion};
 ghost use Rattle.dns_records.specs.Record.{Record as Stated, IsRecord};
 ghost use Rattle.dns_zone.specs.Records.{is_ordered, put, without, records_at, rrset, exists, next_after, has};
+ghost use Rattle.dns_zone.specs.Places.{IsRun};
+ghost use Rattle.dns_zone.specs.Node.{IsMatch};
 
+use crate::Match;
 use dns_memory::Heap;
 use dns_names::NameRef;
 use dns_records::Record;
 use std::alloc::AllocError;
-
-/// What a set holds at a name.
-#[derive(Drop)]
-pub struct Spot<'a> {
-    /// The records that the name owns, in order of type and data.
-    pub records: &'a [Record],
-    /// Whether the name or one under it owns a record (RFC 4592 section 2.2.2).
-    pub exists: bool,
-    /// A place before the name, from which names near it are found sooner.
-    pub place: usize,
-}
 
 /// A finite set of records, seen as the list of its records in order of owner, type and data.
 pub trait ZoneIndex: Drop {
@@ -45,11 +38,10 @@ pub trait ZoneIndex: Drop {
     fn exists(&self, name: &NameRef<'_>) -> bool
         ensures { result ≡ exists (records self.now) name.now };
 
-    /// The records that the name owns, and whether it exists. What a place tells is no more than where the search begins: the
-    /// answer is the same from each, and from none, and comes soonest from the place of a name near it.
-    fn spot(&self, name: &NameRef<'_>, near: Option<usize>) -> Spot<'_>
-        ensures records { result.records.now ≡ records_at (records self.now) name.now }
-        ensures exists { result.exists ≡ exists (records self.now) name.now };
+    /// All that a lookup asks of a name in the zone of that apex: the cut above it, the name itself, or the wildcard for it (RFC
+    /// 1034 section 4.3.2, step 3; RFC 4592 section 3.3).
+    fn find_node<'n>(&self, apex: &NameRef<'_>, name: &NameRef<'n>) -> Match<'n, '_>
+        ensures { IsMatch (record { apex = apex.now; records = records self.now }) name.now result };
 
     /// Puts a record in. It replaces one of equal owner, type and data, and so its TTL.
     fn insert(&mut self, added: Record) -> Result<(), AllocError>
@@ -61,6 +53,15 @@ pub trait ZoneIndex: Drop {
         ensures found { IfOk result (λ found. found ≡ has removed.now (records self.old)) }
         ensures ok { OnOk result (records self.new ≡ without removed.now (records self.old)) }
         ensures err { OnErr result (records self.new ≡ records self.old) };
+
+    /// How many records there are.
+    fn len(&self) -> usize
+        ensures { result ≡ length (records self.now) };
+
+    /// Records one behind another from the place-th on, as many as the set can lend in one piece, and none only where none is left.
+    fn run_from(&self, place: usize) -> &[Record]
+        ensures run { IsRun (records self.now) place result.now }
+        ensures some { result.now ≡ [] → drop place (records self.now) ≡ [] };
 
     /// The first record, or the first behind one.
     fn walk(&self, after: Option<&Record>) -> Option<&Record>

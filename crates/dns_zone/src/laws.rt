@@ -1,10 +1,13 @@
 //! What the calls of an index do one behind the other.
-ghost use Rattle.std.specs.Prelude.{◌≡◌, IfOk, OnOk};
+ghost use Rattle.std.specs.Prelude.{◌≡◌, drop, IfOk, OnOk};
 ghost use Rattle.std.specs.Option.{option_copied};
-ghost use Rattle.dns_zone.specs.Records.{next_after, put};
-ghost use Rattle.dns_zone.specs.Run.{reply_of, set_after, replies_of, set_left};
+ghost use Rattle.dns_names.specs.Name.{Labels};
+ghost use Rattle.dns_zone.specs.Zone.{Zone as Stated};
+ghost use Rattle.dns_zone.specs.Node.{IsMatch};
+ghost use Rattle.dns_zone.specs.Records.{next_after, put, records_at};
+ghost use Rattle.dns_zone.specs.Run.{matched, reply_of, set_after, replies_of, set_left};
 
-use crate::ZoneIndex;
+use crate::{Match, Records, ZoneIndex};
 use dns_memory::Heap;
 use dns_names::Name;
 use dns_records::Record;
@@ -26,7 +29,12 @@ pub enum Command {
     Remove(Record),
     /// Asks for the first record, or the first behind one.
     Walk(Option<Record>),
-    /// Takes a fork, puts the record into what the fork was taken from, and goes on with the fork.
+    /// Asks for the records from a place on.
+    From(usize),
+    /// Asks what the zone of an apex has for a name.
+    Match(Name, Name),
+    /// Takes a fork, puts the record into what the fork was taken from, asks there for the records of its owner, and goes on with the
+    /// fork.
     Fork(Record),
 }
 
@@ -39,6 +47,14 @@ pub enum Reply {
     Found(bool),
     /// A copy of the record that was asked for, if there is one.
     Next(Option<Record>),
+    /// The cut above the name or at it, and copies of its records.
+    Cut(Name, Copies),
+    /// The name exists: copies of its records.
+    Owner(Copies),
+    /// The wildcard for the name exists: its closest encloser, and copies of the wildcard's records.
+    Wildcard(Name, Copies),
+    /// Neither the name nor a wildcard for it exists.
+    Nothing,
     /// It is done.
     Done,
 }
@@ -88,6 +104,32 @@ fn next<I: ZoneIndex>(index: &I, after: Option<&Record>) -> Result<Reply, AllocE
     }
 }
 
+/// Copies of the records from a place on.
+fn copies_from<I: ZoneIndex>(alloc: Heap, index: &I, place: usize) -> Result<Copies, AllocError>
+    ensures { IfOk result (λ copies. copies ≡ drop place (I.records index.now)) }
+{
+    let mut items = Vec::new(alloc);
+    for record in Records::from_place(index, place) {
+        items.push(record.clone()?)?;
+    }
+    Ok(Copies { items })
+}
+
+/// What is replied of a match.
+fn reply_of_match(alloc: Heap, found: Match<'_, '_>) -> Result<Reply, AllocError>
+    ensures { IfOk result (λ reply. (z : Stated) (name : Labels) → IsMatch z name found.entry → reply ≡ matched z name) }
+{
+    Ok(match found {
+        Match::Cut(cut, owned) => Reply::Cut(cut.to_name(alloc)?, Copies::of(alloc, owned)?),
+        Match::Name(owned) => Reply::Owner(Copies::of(alloc, owned)?),
+        Match::Wildcard(above, owned) => Reply::Wildcard(
+            above.to_name(alloc)?,
+            Copies::of(alloc, owned)?,
+        ),
+        Match::Nothing => Reply::Nothing,
+    })
+}
+
 /// Puts a copy of the record in.
 fn insert_copy<I: ZoneIndex>(index: &mut I, added: &Record) -> Result<(), AllocError>
     ensures { OnOk result (I.records index.new ≡ put added.now (I.records index.old)) }
@@ -95,14 +137,20 @@ fn insert_copy<I: ZoneIndex>(index: &mut I, added: &Record) -> Result<(), AllocE
     index.insert(added.clone()?)
 }
 
-/// Takes a fork, puts a copy of the record into the index, and puts the fork in its place.
-fn go_on_with_fork<I: ZoneIndex>(index: &mut I, added: &Record) -> Result<(), AllocError>
-    ensures { OnOk result (I.records index.new ≡ I.records index.old) }
+/// Takes a fork, puts a copy of the record into the index, copies what its owner owns there, and puts the fork in its place.
+fn go_on_with_fork<I: ZoneIndex>(
+    alloc: Heap,
+    index: &mut I,
+    added: &Record,
+) -> Result<Copies, AllocError>
+    ensures left { OnOk result (I.records index.new ≡ I.records index.old) }
+    ensures told { IfOk result (λ copies. copies ≡ records_at (put added.now (I.records index.old)) added.now.owner) }
 {
     let fork = index.fork()?;
     insert_copy(index, added)?;
+    let copies = Copies::of(alloc, index.records_at(&added.owner().lend()))?;
     *index = fork;
-    Ok(())
+    Ok(copies)
 }
 
 /// Makes one call.
@@ -126,9 +174,14 @@ fn call<I: ZoneIndex>(alloc: Heap, index: &mut I, command: &Command) -> Result<R
         }
         Command::Remove(record) => Ok(Reply::Found(index.remove(record)?)),
         Command::Walk(after) => next(index, after.as_ref()),
+        Command::From(place) => Ok(Reply::Held(copies_from(alloc, index, *place)?)),
+        Command::Match(apex, name) => reply_of_match(
+            alloc,
+            index.find_node(&apex.lend(), &name.lend()),
+        ),
         Command::Fork(record) => {
-            go_on_with_fork(index, record)?;
-            Ok(Reply::Done)
+            let copies = go_on_with_fork(alloc, index, record)?;
+            Ok(Reply::Held(copies))
         }
     }
 }

@@ -4,8 +4,9 @@ ghost use Rattle.std.specs.List.{AllByRecursion};
 ghost use Rattle.dns_records.specs.Record.{IsRecord};
 ghost use Rattle.dns_zone.specs.Records.{is_ordered};
 
-use crate::search::{Key, find, first_behind, is_owned_under, matching, spot};
-use crate::{Spot, ZoneIndex};
+use crate::lookup::{exists, find_node, records_near};
+use crate::search::{Key, find, first_behind, matching};
+use crate::{Match, ZoneIndex};
 use dns_memory::Heap;
 use dns_names::NameRef;
 use dns_records::Record;
@@ -17,6 +18,17 @@ pub struct RecordList {
     items: Vec<Record, Heap>,
     ghost in_order: { is_ordered items.items ≡ true },
     ghost each_valid: { ∥ AllByRecursion IsRecord items.items ∥₁ },
+}
+
+impl RecordList {
+    /// Where a search for the name begins, which makes no difference to what it finds: at the front, where the records of a zone's
+    /// apex stand, if they are the name's.
+    fn near(&self, name: &NameRef<'_>) -> Option<usize> {
+        if self.items.first()?.owner().lend().is(name) {
+            return Some(0);
+        }
+        None
+    }
 }
 
 impl ZoneIndex for RecordList {
@@ -33,19 +45,20 @@ impl ZoneIndex for RecordList {
     }
 
     fn records_at(&self, name: &NameRef<'_>) -> &[Record] {
-        matching(&self.items, &Key::Owner(name.again()))
+        records_near(&self.items, name, self.near(name))
     }
 
     fn rrset(&self, name: &NameRef<'_>, rtype: u16) -> &[Record] {
-        matching(&self.items, &Key::Type(name.again(), rtype))
+        let key = Key::Type(name.again(), rtype);
+        matching(&self.items, &key, self.near(name))
     }
 
     fn exists(&self, name: &NameRef<'_>) -> bool {
-        is_owned_under(&self.items, name)
+        exists(&self.items, name)
     }
 
-    fn spot(&self, name: &NameRef<'_>, near: Option<usize>) -> Spot<'_> {
-        spot(&self.items, name, near)
+    fn find_node<'n>(&self, apex: &NameRef<'_>, name: &NameRef<'n>) -> Match<'n, '_> {
+        find_node(&self.items, apex, name)
     }
 
     fn insert(&mut self, added: Record) -> Result<(), AllocError> {
@@ -65,6 +78,14 @@ impl ZoneIndex for RecordList {
             }
             Err(_) => Ok(false),
         }
+    }
+
+    fn len(&self) -> usize {
+        self.items.len()
+    }
+
+    fn run_from(&self, place: usize) -> &[Record] {
+        &self.items[place.min(self.items.len())..]
     }
 
     fn walk(&self, after: Option<&Record>) -> Option<&Record> {

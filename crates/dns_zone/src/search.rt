@@ -1,14 +1,12 @@
 //! Searching by halves in a list of records in order.
 ghost use Rattle.std.specs.Prelude.{◌≡◌, ◌<◌, ◌≤◌, true, false, length, filter, Some, IfOk, IfErr};
 ghost use Rattle.std.specs.List.{AllWithin};
-ghost use Rattle.std.specs.Ordering.{is_lt, is_eq, is_gt};
+ghost use Rattle.std.specs.Ordering.{is_lt, is_eq};
 ghost use Rattle.std.specs.Option.{option_copied};
-ghost use Rattle.dns_names.specs.Name.{name_cmp};
-ghost use Rattle.dns_zone.specs.Records.{is_ordered, next_after, records_at, exists};
+ghost use Rattle.dns_zone.specs.Records.{is_ordered, next_after};
 ghost use Rattle.dns_zone.specs.Place.{StandsAt, BelongsAt};
 ghost use Rattle.dns_zone.specs.Side.{side_of};
 
-use crate::Spot;
 use dns_names::NameRef;
 use dns_records::Record;
 use std::cmp::Ordering;
@@ -85,29 +83,9 @@ pub(crate) fn count_before(records: &[Record], key: &Key<'_>, near: Option<usize
     low
 }
 
-/// How many records stand before what is looked for or are it.
-pub(crate) fn count_through(records: &[Record], key: &Key<'_>) -> usize
-    requires { is_ordered records.now ≡ true }
-    ensures bound { result ≤ length records.now }
-    ensures before { AllWithin (λ r. is_gt (side_of key.now r) ≡ false) records.now 0 result }
-    ensures behind { AllWithin (λ r. is_gt (side_of key.now r) ≡ true) records.now result (length records.now) }
-{
-    let mut low = 0;
-    let mut high = records.len();
-    'halves: while low < high {
-        let middle = low + (high - low) / 2;
-        if side(key, &records[middle]).is_gt() {
-            high = middle;
-        } else {
-            low = middle + 1;
-        }
-    }
-    low
-}
-
 /// Where the records end that are what is looked for, none of which stands before the place. The search goes away from the place in
 /// steps that double, and then by halves.
-fn end_of_match(records: &[Record], key: &Key<'_>, begin: usize) -> usize
+pub(crate) fn end_of_match(records: &[Record], key: &Key<'_>, begin: usize) -> usize
     requires order { is_ordered records.now ≡ true }
     requires inside { begin ≤ length records.now }
     requires behind { AllWithin (λ r. is_lt (side_of key.now r) ≡ false) records.now begin (length records.now) }
@@ -135,12 +113,16 @@ fn end_of_match(records: &[Record], key: &Key<'_>, begin: usize) -> usize
     low
 }
 
-/// The records that are what is looked for. They stand one behind the other.
-pub(crate) fn matching<'r>(records: &'r [Record], key: &Key<'_>) -> &'r [Record]
+/// The records that are what is looked for, which stand one behind the other. A place near them is where the search begins.
+pub(crate) fn matching<'r>(
+    records: &'r [Record],
+    key: &Key<'_>,
+    near: Option<usize>,
+) -> &'r [Record]
     requires { is_ordered records.now ≡ true }
     ensures { result.now ≡ filter (λ r. is_eq (side_of key.now r)) records.now }
 {
-    let begin = count_before(records, key, None);
+    let begin = count_before(records, key, near);
     &records[begin..end_of_match(records, key, begin)]
 }
 
@@ -162,47 +144,11 @@ pub(crate) fn first_behind<'r>(records: &'r [Record], after: &Record) -> Option<
     requires { is_ordered records.now ≡ true }
     ensures { option_copied result ≡ next_after (Some after.now) records.now }
 {
-    let at = count_through(records, &Key::Data(after));
-    if at < records.len() {
-        return Some(&records[at]);
+    let key = Key::Data(after);
+    let begin = count_before(records, &key, None);
+    let end = end_of_match(records, &key, begin);
+    if end < records.len() {
+        return Some(&records[end]);
     }
     None
-}
-
-/// Whether a record has an owner at the name or under it: the first that does not stand before the name has one, or none has.
-fn is_owned_from(records: &[Record], name: &NameRef<'_>, at: usize) -> bool
-    requires order { is_ordered records.now ≡ true }
-    requires before { AllWithin (λ r. is_lt (name_cmp r.owner name.now) ≡ true) records.now 0 at }
-    requires behind { AllWithin (λ r. is_lt (name_cmp r.owner name.now) ≡ false) records.now at (length records.now) }
-    ensures { result ≡ exists records.now name.now }
-{
-    if at < records.len() {
-        return records[at].owner().lend().is_under(name);
-    }
-    false
-}
-
-/// Whether a record has an owner at the name or under it.
-pub(crate) fn is_owned_under(records: &[Record], name: &NameRef<'_>) -> bool
-    requires { is_ordered records.now ≡ true }
-    ensures { result ≡ exists records.now name.now }
-{
-    let at = count_before(records, &Key::Owner(name.again()), None);
-    is_owned_from(records, name, at)
-}
-
-/// What stands at the name, which is looked for near a place if one is given.
-pub(crate) fn spot<'r>(records: &'r [Record], name: &NameRef<'_>, near: Option<usize>) -> Spot<'r>
-    requires { is_ordered records.now ≡ true }
-    ensures records { result.records.now ≡ records_at records.now name.now }
-    ensures exists { result.exists ≡ exists records.now name.now }
-{
-    let key = Key::Owner(name.again());
-    let place = count_before(records, &key, near);
-    let end = end_of_match(records, &key, place);
-    Spot {
-        records: &records[place..end],
-        exists: is_owned_from(records, name, place),
-        place: place.saturating_sub(1),
-    }
 }

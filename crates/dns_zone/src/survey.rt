@@ -1,13 +1,11 @@
 //! One pass over the records of a set.
-ghost use Rattle.std.specs.Prelude.{◌≡◌, ◌∷◌, ◌+◌, ◌==◌, ◌&&◌, nat_lt, min, List, [], length, if◌then◌else◌};
-ghost use Rattle.dns_names.specs.Name.{Labels};
+ghost use Rattle.std.specs.Prelude.{◌≡◌, ◌∷◌, ◌+◌, ◌==◌, ◌&&◌, min, List, [], if◌then◌else◌};
 ghost use Rattle.dns_records.specs.Record.{Record as Stated};
-ghost use Rattle.dns_records.specs.Types.{type_ns, type_cname, type_soa};
-ghost use Rattle.dns_zone.specs.Records.{records_at};
+ghost use Rattle.dns_records.specs.Types.{type_ns, type_soa};
 ghost use Rattle.dns_zone.specs.Zone.{is_wildcard};
-ghost use Rattle.dns_zone.specs.Survey.{Surveys};
+ghost use Rattle.dns_zone.specs.Survey.{Surveys, is_shared_alias};
 
-use crate::ZoneIndex;
+use crate::{Records, ZoneIndex};
 use dns_names::NameRef;
 use dns_records::Record;
 use dns_records::types::{CNAME, NS, SOA};
@@ -29,11 +27,11 @@ fn is_wildcard_ns(r: &Record) -> bool
     r.rtype() == NS && r.owner().lend().begins_with_asterisk()
 }
 
-/// Whether the record is a CNAME at an owner of so many records, more than one.
-fn is_shared_alias(r: &Record, owned: usize) -> bool
-    ensures { result ≡ (r.now.rtype == type_cname && nat_lt 1 owned) }
+/// Whether the record is a CNAME whose owner owns another record too.
+fn is_shared_alias<I: ZoneIndex>(index: &I, r: &Record) -> bool
+    ensures { result ≡ is_shared_alias (I.records index.now) r.now }
 {
-    r.rtype() == CNAME && owned > 1
+    r.rtype() == CNAME && index.records_at(&r.owner().lend()).len() > 1
 }
 
 /// How many SOAs there are with one record more, two standing for any number above one.
@@ -46,16 +44,16 @@ fn soas_with(soas: usize, r: &Record) -> usize
     soas
 }
 
-/// What is told with one record more, whose owner owns so many.
-fn with_record(survey: Survey, r: &Record, apex: &NameRef<'_>, owned: usize) -> Survey
-    ensures { (records rest : List Stated) → owned ≡ length (records_at records r.now.owner) → Surveys apex.now records (r.now ∷ rest) survey → Surveys apex.now records rest result }
+/// What is told with one record more, of which it is known whether it is an alias that shares its owner.
+fn with_record(survey: Survey, r: &Record, apex: &NameRef<'_>, shared: bool) -> Survey
+    ensures { (records rest : List Stated) → shared ≡ is_shared_alias records r.now → Surveys apex.now records (r.now ∷ rest) survey → Surveys apex.now records rest result }
 {
     let stands_under = r.owner().lend().is_under(apex);
     Survey {
         soas: soas_with(survey.soas, r),
         count: survey.count.min(65536) + 1,
         inside: survey.inside & stands_under,
-        shared_alias: survey.shared_alias | is_shared_alias(r, owned),
+        shared_alias: survey.shared_alias | shared,
         wildcard_ns: survey.wildcard_ns | is_wildcard_ns(r),
     }
 }
@@ -71,11 +69,9 @@ pub(crate) fn survey_of<I: ZoneIndex>(index: &I, apex: &NameRef<'_>) -> Survey
         shared_alias: false,
         wildcard_ns: false,
     };
-    let mut last: Option<&Record> = None;
-    'records: while let Some(record) = index.walk(last) {
-        let owned = index.records_at(&record.owner().lend()).len();
-        survey = with_record(survey, record, apex, owned);
-        last = Some(record);
+    for record in Records::of(index) {
+        let shared = is_shared_alias(index, record);
+        survey = with_record(survey, record, apex, shared);
     }
     survey
 }

@@ -1,13 +1,14 @@
 ghost use Rattle.std.specs.Prelude.{◌≡◌, ◌⊎◌, Some, None, IfOk, IfErr, OnOk};
 ghost use Rattle.dns_zone.specs.Zone.{IsZone, zone_fault};
 ghost use Rattle.dns_zone.specs.Made.{IsSetOf};
+ghost use Rattle.dns_zone.specs.Node.{IsMatch};
 ghost use Rattle.dns_zone.specs.Survey.{fault_told};
 
 use crate::gather::{refusal_of_doubles, rises, set_of, sort};
 use crate::survey::{Survey, survey_of};
-use crate::{ZoneError, ZoneIndex};
+use crate::{Match, Records, ZoneError, ZoneIndex};
 use dns_memory::Heap;
-use dns_names::Name;
+use dns_names::{Name, NameRef};
 use dns_records::Record;
 use dns_records::types::{NS, SOA};
 use std::marker::Model;
@@ -76,6 +77,21 @@ impl<I: ZoneIndex> Zone<I> {
         ensures { I.records result.now ≡ self.now.records }
     {
         &self.index
+    }
+
+    /// The records one by one, in order of owner, type and data.
+    pub fn records(&self) -> Records<'_, I>
+        ensures { result ≡ self.now.records }
+    {
+        Records::of(&self.index)
+    }
+
+    /// All that a lookup asks of a name: the cut above it, the name itself, or the wildcard for it (RFC 1034 section 4.3.2, step 3; RFC
+    /// 4592 section 3.3).
+    pub fn find_node<'n>(&self, name: &NameRef<'n>) -> Match<'n, '_>
+        ensures { IsMatch self.now name.now result }
+    {
+        self.index.find_node(&self.apex.lend(), name)
     }
 
     /// The records alone.

@@ -1,8 +1,9 @@
 use crate::given::{Kind, name, record};
 use dns_memory::{Heap, heap};
-use dns_names::Name;
+use dns_names::{Name, NameRef};
 use dns_records::Record;
-use dns_zone::laws::{Command, Reply, run_index};
+use dns_records::types::NS;
+use dns_zone::laws::{Command, Copies, Reply, run_index};
 use dns_zone::{RecordList, ZoneIndex};
 use std::cmp::Ordering;
 use std::test::Fail;
@@ -34,6 +35,17 @@ fn owner(numbers: &mut Numbers) -> &'static [u8] {
     }
 }
 
+/// A name that may be absent, below a cut, or under no wildcard.
+fn asked(numbers: &mut Numbers) -> &'static [u8] {
+    match numbers.next(6) {
+        0 => b"x.b.a.",
+        1 => b"y.x.c.b.a.",
+        2 => b"x.a.",
+        3 => b"d.aa.",
+        _ => owner(numbers),
+    }
+}
+
 fn some_record(heap: Heap, numbers: &mut Numbers) -> Result<Record, Fail> {
     let owner = owner(numbers);
     let ttl = u32::from(numbers.next(3));
@@ -45,7 +57,7 @@ fn some_record(heap: Heap, numbers: &mut Numbers) -> Result<Record, Fail> {
 }
 
 fn some_command(heap: Heap, numbers: &mut Numbers) -> Result<Command, Fail> {
-    Ok(match numbers.next(12) {
+    Ok(match numbers.next(18) {
         0 => Command::RecordsAt(name(heap, owner(numbers))?),
         1 => Command::Rrset(name(heap, owner(numbers))?, u16::from(numbers.next(6))),
         2 => Command::Exists(name(heap, owner(numbers))?),
@@ -53,6 +65,8 @@ fn some_command(heap: Heap, numbers: &mut Numbers) -> Result<Command, Fail> {
         4 => Command::Walk(Some(some_record(heap, numbers)?)),
         5 => Command::Fork(some_record(heap, numbers)?),
         6 | 7 => Command::Remove(some_record(heap, numbers)?),
+        8 => Command::From(usize::from(numbers.next(12))),
+        9 => Command::Match(name(heap, b"a.")?, name(heap, asked(numbers))?),
         _ => Command::Insert(some_record(heap, numbers)?),
     })
 }
@@ -103,8 +117,95 @@ fn is_next(found: &Option<Record>, plain: &[Record], after: &Option<Record>) -> 
     }
 }
 
+/// Whether one of the records is owned at the name or under it.
+fn exists(plain: &[Record], name: &NameRef<'_>) -> bool {
+    plain.iter().any(|r| r.owner().lend().is_under(name))
+}
+
+/// Whether the copies are the records of the name.
+fn are_all(copies: &Copies, plain: &[Record], name: &Name) -> bool {
+    are_those_of(copies.records(), plain, name, None)
+}
+
+/// The shortest name below the apex that owns NS, of a name and those above it.
+fn shortest_cut<'n>(plain: &[Record], apex: &Name, name: &NameRef<'n>) -> Option<NameRef<'n>> {
+    let mut shortest = None;
+    let mut rest = Some(name.again());
+    for _ in 0..128u8 {
+        let Some(here) = rest else { break };
+        rest = here.parent();
+        let owns_ns = plain
+            .iter()
+            .any(|r| r.owner().lend().is(&here) && r.rtype() == NS);
+        if owns_ns && here.is_under(&apex.lend()) && !here.is(&apex.lend()) {
+            shortest = Some(here);
+        }
+    }
+    shortest
+}
+
+/// The longest name that exists, of a name and those above it.
+fn encloser<'n>(plain: &[Record], name: &NameRef<'n>) -> NameRef<'n> {
+    let mut here = name.again();
+    for _ in 0..128u8 {
+        if exists(plain, &here) {
+            break;
+        }
+        match here.parent() {
+            Some(above) => here = above,
+            None => break,
+        }
+    }
+    here
+}
+
+/// Whether the reply is what the zone of the apex has for the name.
+fn is_match(
+    heap: Heap,
+    plain: &[Record],
+    apex: &Name,
+    name: &Name,
+    reply: &Reply,
+) -> Result<bool, Fail> {
+    let above = encloser(plain, &name.lend()).to_name(heap)?;
+    let source = above.wildcard_of(heap)?;
+    let expected = match shortest_cut(plain, apex, &name.lend()) {
+        Some(cut) => match reply {
+            Reply::Cut(at, copies) => at.lend().is(&cut) && are_all(copies, plain, at),
+            _ => false,
+        },
+        None => match reply {
+            Reply::Owner(copies) => exists(plain, &name.lend()) && are_all(copies, plain, name),
+            Reply::Wildcard(at, copies) => {
+                !exists(plain, &name.lend())
+                    && *at == above
+                    && exists(plain, &source.lend())
+                    && are_all(copies, plain, &source)
+            }
+            Reply::Nothing => !exists(plain, &name.lend()) && !exists(plain, &source.lend()),
+            _ => false,
+        },
+    };
+    Ok(expected)
+}
+
+/// Whether the copies are what is left of the records in order behind so many.
+fn is_rest(heap: Heap, plain: &[Record], place: usize, copies: &Copies) -> Result<bool, Fail> {
+    let mut sorted: Vec<Record, Heap> = Vec::new(heap);
+    for record in plain {
+        sorted.push(record.clone()?)?;
+    }
+    sorted.sort_by(|a, b| a.compare(b))?;
+    Ok(copies.records() == &sorted[place.min(sorted.len())..])
+}
+
 /// Makes the call of a plain list, and says whether the reply is its.
-fn agrees(plain: &mut Vec<Record, Heap>, command: &Command, reply: &Reply) -> Result<bool, Fail> {
+fn agrees(
+    heap: Heap,
+    plain: &mut Vec<Record, Heap>,
+    command: &Command,
+    reply: &Reply,
+) -> Result<bool, Fail> {
     Ok(match (command, reply) {
         (Command::RecordsAt(name), Reply::Held(copies)) => are_those_of(
             copies.records(),
@@ -131,7 +232,17 @@ fn agrees(plain: &mut Vec<Record, Heap>, command: &Command, reply: &Reply) -> Re
         }
         (Command::Remove(gone), Reply::Found(found)) => *found == take_out(plain, gone),
         (Command::Walk(after), Reply::Next(next)) => is_next(next, plain, after),
-        (Command::Fork(_), Reply::Done) => true,
+        (Command::From(place), Reply::Held(copies)) => is_rest(heap, plain, *place, copies)?,
+        (Command::Match(apex, name), reply) => is_match(heap, plain, apex, name, reply)?,
+        (Command::Fork(added), Reply::Held(copies)) => {
+            let mut other: Vec<Record, Heap> = Vec::new(heap);
+            for record in plain.iter() {
+                other.push(record.clone()?)?;
+            }
+            take_out(&mut other, added);
+            other.push(added.clone()?)?;
+            are_all(copies, &other, added.owner())
+        }
         _ => false,
     })
 }
@@ -149,7 +260,7 @@ fn four_hundred_calls(rt: HostRuntime) -> Result<(), Fail> {
     assert_eq!(rt; replies.len(), commands.len());
     let mut plain: Vec<Record, Heap> = Vec::new(heap);
     for (command, reply) in commands.iter().zip(replies.iter()) {
-        assert!(rt; agrees(&mut plain, command, reply)?);
+        assert!(rt; agrees(heap, &mut plain, command, reply)?);
     }
     assert!(rt;
         plain

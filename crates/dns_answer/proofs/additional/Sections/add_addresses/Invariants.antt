@@ -1,8 +1,12 @@
 use Rattle.std.proofs.Common.{take}
 use Rattle.std.specs.List.{flat_map}
 use Rattle.dns_answer.specs.Sections.{from_zone, addresses_for}
-use Rattle.dns_answer.specs.Added.{AddsUnseen}
+use Rattle.dns_answer.specs.Added.{AddsUpTo}
+use Rattle.dns_answer.specs.Known.{AreKnown}
 use Rattle.dns_answer.proofs.additional.Sections.add_addresses.Given as goal
 
 abbrev pub invariant-loop-held : goal.invariant-loop-held
-invariant-loop-held g l = AddsUnseen l.initial.self l.self (flat_map addresses_for (from_zone l.zone (take l.held-index l.records)))
+invariant-loop-held g l = record {
+  added : AddsUpTo l.most l.initial.self l.self (flat_map addresses_for (from_zone l.zone (take l.held-index l.records)));
+  known : AreKnown l.zone l.known.items l.self;
+}

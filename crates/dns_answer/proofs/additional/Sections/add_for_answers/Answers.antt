@@ -7,8 +7,8 @@ use Rattle.dns_zone.specs.Zone.{Zone}
 use Rattle.dns_lookup.specs.Lookup.{Found as Stated}
 use Rattle.dns_lookup.specs.ToldLaws.{told_at, told_length}
 use Rattle.dns_answer.specs.Sections.{addresses_for, answer_of, from_zone}
-use Rattle.dns_answer.specs.Added.{AddsUnseen}
-use Rattle.dns_answer.proofs.Adding.{adds_then}
+use Rattle.dns_answer.specs.Added.{AddsUpTo}
+use Rattle.dns_answer.proofs.UpTo.{up_to_then}
 use Rattle.dns_answer.proofs.Shown.{held_one, next_hosts}
 use Rattle.dns_answer.proofs.additional.Sections.add_for_answers.Goals as goal
 
@@ -29,11 +29,11 @@ loop-one-preserved g c t fs are holds =
     let at = told_at zones fs c.args.found.now i one are inside c.one-item.is in
     let zone = c.searched.ensures at.found at.is in
     let rs = c.answers.result.now in
-    let added = subst (λ (z : Zone). AddsUnseen c.loop-one.self c.add_addresses.new.self (flat_map addresses_for (from_zone z rs))) zone c.in_ok-add_addresses.ensures in
-    let both = adds_then c.args.self.now c.loop-one.self c.add_addresses.new.self (flat_map addresses_for (answer_of t (take i fs))) (flat_map addresses_for (from_zone at.found.zone rs)) (c.loop-one.invariant t fs are holds) added in
-    subst (λ (hosts : List Record). AddsUnseen c.args.self.now c.add_addresses.new.self hosts) (sym (next_hosts t fs i at.found rs at.next (c.answers.ensures zones t at.found at.is (held_one zones t c.args.found.now i one holds inside c.one-item.is)))) both
+    let added = subst (λ (z : Zone). AddsUpTo c.args.most c.loop-one.self c.add_addresses.new.self (flat_map addresses_for (from_zone z rs))) zone c.in_ok-add_addresses.ensures in
+    let both = up_to_then c.args.most c.args.self.now c.loop-one.self c.add_addresses.new.self (flat_map addresses_for (answer_of t (take i fs))) (flat_map addresses_for (from_zone at.found.zone rs)) (c.loop-one.invariant t fs are holds) added in
+    subst (λ (hosts : List Record). AddsUpTo c.args.most c.args.self.now c.add_addresses.new.self hosts) (sym (next_hosts t fs i at.found rs at.next (c.answers.ensures zones t at.found at.is (held_one zones t c.args.found.now i one holds inside c.one-item.is)))) both
 
 pub returns : goal.returns
 returns g c t fs are holds =
     let all : length fs ≤ c.loop-one.one-index = omega (arith, told_length c.args.zones.now fs c.args.found.now are, c.loop-one-test.false) in
-    subst (λ (xs : List Stated). AddsUnseen c.args.self.now c.loop-one.self (flat_map addresses_for (answer_of t xs))) (take_all c.loop-one.one-index fs all) (c.loop-one.invariant t fs are holds)
+    subst (λ (xs : List Stated). AddsUpTo c.args.most c.args.self.now c.loop-one.self (flat_map addresses_for (answer_of t xs))) (take_all c.loop-one.one-index fs all) (c.loop-one.invariant t fs are holds)

@@ -4,8 +4,8 @@ use Rattle.dns_lookup.specs.Lookup.{Found as Stated}
 use Rattle.dns_lookup.specs.Told.{AreTold}
 use Rattle.dns_lookup.specs.Held.{AreHeld}
 use Rattle.dns_answer.specs.Sections.{addresses_for, answer_of}
-use Rattle.dns_answer.specs.Added.{AddsUnseen}
+use Rattle.dns_answer.specs.Added.{AddsUpTo}
 use Rattle.dns_answer.proofs.additional.Sections.add_for_answers.Given as goal
 
 abbrev pub invariant-loop-one : goal.invariant-loop-one
-invariant-loop-one g l = (t : ℕ) (fs : List Stated) → AreTold l.zones fs l.found → AreHeld l.zones t l.found → AddsUnseen l.initial.self l.self (flat_map addresses_for (answer_of t (take l.one-index fs)))
+invariant-loop-one g l = (t : ℕ) (fs : List Stated) → AreTold l.zones fs l.found → AreHeld l.zones t l.found → AddsUpTo l.most l.initial.self l.self (flat_map addresses_for (answer_of t (take l.one-index fs)))

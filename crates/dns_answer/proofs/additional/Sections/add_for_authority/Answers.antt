@@ -5,8 +5,8 @@ use Rattle.dns_records.specs.Record.{Record}
 use Rattle.dns_zone.specs.Zone.{Zone}
 use Rattle.dns_lookup.specs.Lookup.{Found as Stated}
 use Rattle.dns_answer.specs.Sections.{addresses_for, authority_of, from_zone}
-use Rattle.dns_answer.specs.Added.{AddsUnseen}
-use Rattle.dns_answer.proofs.Adding.{adds_none}
+use Rattle.dns_answer.specs.Added.{AddsUpTo}
+use Rattle.dns_answer.proofs.UpTo.{up_to_none}
 use Rattle.dns_answer.proofs.Shown.{last_told, held_last, none_told}
 use Rattle.std.proofs.lemmas.Result.{IfOk-weaker}
 use Rattle.dns_answer.proofs.additional.Sections.add_for_authority.Goals as goal
@@ -24,10 +24,10 @@ returns-in-Some g c = IfOk-weaker c.add_addresses.result _ _ (λ done e t fs are
     let last = c.in-Some.last.now in
     let l = last_told zones fs c.args.found.now last are c.in-Some.ensures.value in
     let zone = c.searched.ensures l.0 l.1 in
-    let hosts = ap (λ (z : Zone). flat_map addresses_for (from_zone z c.servers.result.now)) zone ∙ sym (c.servers.ensures zones t l.0 l.1 (held_last zones t c.args.found.now last holds c.in-Some.ensures.value)) ∙ ap (flat_map addresses_for) (sym l.2) in
-    subst (λ (rs : List Record). AddsUnseen c.args.self.now c.add_addresses.new.self rs) hosts e) c.add_addresses.ensures
+    let hosts = ap (λ (z : Zone). flat_map addresses_for (from_zone z c.servers.result.now)) zone ∙ sym (c.servers.ensures.hosts zones t l.0 l.1 (held_last zones t c.args.found.now last holds c.in-Some.ensures.value)) ∙ ap (flat_map addresses_for) (sym l.2) in
+    subst (λ (rs : List Record). AddsUpTo c.args.most c.args.self.now c.add_addresses.new.self rs) hosts e) c.add_addresses.ensures
 
 pub returns-in-None : goal.returns-in-None
 returns-in-None g c t fs are holds =
     let none = none_told c.args.zones.now fs c.args.found.now are c.in-None.ensures.value in
-    subst (λ (xs : List Stated). AddsUnseen c.args.self.now c.args.self.now (flat_map addresses_for (authority_of xs))) (sym none) (adds_none c.args.self.now)
+    subst (λ (xs : List Stated). AddsUpTo c.args.most c.args.self.now c.args.self.now (flat_map addresses_for (authority_of xs))) (sym none) (up_to_none c.args.most c.args.self.now)

@@ -1,6 +1,6 @@
 use Rattle.std.specs.List.{flat_map}
 use Rattle.dns_answer.specs.Sections.{addresses_for, answer_of, authority_of}
-use Rattle.dns_answer.proofs.Adding.{adds_then, gathered}
+use Rattle.dns_answer.proofs.UpTo.{up_to_then, gathered_up_to}
 use Rattle.dns_answer.proofs.additional.Sections.new.Goals as goal
 
 pub returns : goal.returns
@@ -9,5 +9,5 @@ returns g c t fs are holds =
     let told = c.in_ok-sections.ensures in
     let mid = c.add_for_answers.new.self in
     let whole = c.add_for_authority.new.self in
-    gathered t fs bare whole (told.answer t fs are holds) (told.authority t fs are holds) told.additional
-    (adds_then bare mid whole (flat_map addresses_for (answer_of t fs)) (flat_map addresses_for (authority_of fs)) (c.in_ok-add_for_answers.ensures t fs are holds) (c.in_ok-add_for_authority.ensures t fs are holds))
+    gathered_up_to c.args.most t fs bare whole (told.answer t fs are holds) (told.authority t fs are holds) told.additional
+    (up_to_then c.args.most bare mid whole (flat_map addresses_for (answer_of t fs)) (flat_map addresses_for (authority_of fs)) (c.in_ok-add_for_answers.ensures t fs are holds) (c.in_ok-add_for_authority.ensures t fs are holds))

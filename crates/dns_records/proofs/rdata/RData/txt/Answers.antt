@@ -50,4 +50,4 @@ returns-clause-found c =
     IfOk-weaker c.new.result (λ d. (d ≡ data_at c.as_slice.result.now) × IsData d) _ (λ d h. txt_found d c.as_slice.result.now (map text c.args.strings.now) h.0 h.1 both.0 both.1) c.new.ensures.found
 
 pub returns-clause-refused : goal.returns-clause-refused
-returns-clause-refused c = IfErr-weaker c.new.result (RefusesData (data_at c.as_slice.result.now)) _ (λ e h. txt_refused c.as_slice.result.now (map text c.args.strings.now) e (all c).0 h) c.new.ensures.refused
+returns-clause-refused c = IfErr-weaker c.new.result (RefusesData (data_at c.as_slice.result.now)) _ (λ e h. txt_refused c.as_slice.result.now (map text c.args.strings.now) e (all c).0 (all c).1 h) c.new.ensures.refused

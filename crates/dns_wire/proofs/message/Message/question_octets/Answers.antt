@@ -37,3 +37,13 @@ returns-clause-one c = λ q e.
     let stop : s.answers ≡ 12 + length (slice_range s.octets.now 12 s.answers) = h.ends in
     let size = one_question_size s.octets.now q s.answers (subst (λ (qs : List Question). QuestionsAt s.octets.now 12 qs s.answers) (questions_of_message s.octets.now c.args.self.now c.self.view_is ∙ e) c.self.invariant.questions) in
     omega (arith, stop, size))
+
+pub returns-clause-section : goal.returns-clause-section
+returns-clause-section c =
+    let s = c.self.inside in
+    let x = (received s.octets.now).message in
+    let h = behind_header s.octets.now x s.answers s.authorities s.additionals c.self.invariant in
+    let stop : s.answers ≡ 12 + length (slice_range s.octets.now 12 s.answers) = h.ends in
+    let first : QuestionsAt s.octets.now 12 x.questions (12 + length (slice_range s.octets.now 12 s.answers)) = subst (λ (k : ℕ). QuestionsAt s.octets.now 12 x.questions k) stop c.self.invariant.questions in
+    subst (λ (m : List ℕ). QuestionsAt m 12 c.args.self.now.message.questions (12 + length (slice_range s.octets.now 12 s.answers))) (octets_of s.octets.now c.args.self.now c.self.view_is)
+    (subst (λ (qs : List Question). QuestionsAt s.octets.now 12 qs (12 + length (slice_range s.octets.now 12 s.answers))) (questions_of_message s.octets.now c.args.self.now c.self.view_is) first)

@@ -13,7 +13,7 @@ returns-in_err-header-clause-refused c =
     let r = stated c.args.reply.now in
     let h = c.in_err-header.ensures.refused in
     let long : 65535 < length r.answer + length r.authority + length r.additional = h.1 in
-    let over : c.args.limit < length (text r) = omega (arith, long, text_long r, c.requires.limit) in
+    let over : c.args.limit < length (text r) = omega (arith, long, text_long r, c.requires) in
     err_exit c.from_residual-in_err-header.result _ (RefusesUpTo c.args.limit (length (text r))) c.from_residual-in_err-header.ensures.1
     (λ y same. subst (RefusesUpTo c.args.limit (length (text r))) (sym (same ∙ h.0)) over)
 

@@ -1,0 +1,114 @@
+//! The tests of a request, in their order.
+ghost use Rattle.std.specs.Prelude.{◌≡◌, ◌==◌, ◌<◌, ◌≤◌, length};
+ghost use Rattle.dns_wire.specs.Message.{header_of};
+ghost use Rattle.dns_request.specs.Request.{has_counts, message_as, question_as, request_of, too_long};
+ghost use Rattle.dns_request.specs.Shown.{IsOf, request_shown};
+
+use crate::{Request, RequestMessage, Transport};
+use dns_records::types;
+use dns_wire::limits::MOST_BY_UDP;
+use dns_wire::{Message, Opcode, QuestionView, Rcode, at_most_one};
+
+/// Whether the octets are more than the transport takes (RFC 1035 section 4.2.1).
+fn is_too_long(octets: &[u8], transport: Transport) -> bool
+    ensures { result ≡ too_long transport octets.now }
+{
+    match transport {
+        Transport::Udp => octets.len() > MOST_BY_UDP,
+        Transport::Tcp => false,
+    }
+}
+
+/// Whether the header is that of a response, the bit QR (RFC 1035 section 4.1.1).
+fn is_response(octets: &[u8]) -> bool
+    requires { 12 ≤ length octets.now }
+    ensures { result ≡ (header_of octets.now).qr }
+{
+    octets[2] / 128 % 2 == 1
+}
+
+/// The number of the kind of request, OPCODE (RFC 1035 section 4.1.1).
+fn opcode_number(octets: &[u8]) -> u8
+    requires { 12 ≤ length octets.now }
+    ensures { result ≡ (header_of octets.now).opcode }
+{
+    octets[2] / 8 % 16
+}
+
+/// Whether the message has the counts of a request: no additional records, and in a query no others but those of an IXFR (RFC 1995
+/// section 3).
+fn has_counts(message: &Message<'_>, question: &QuestionView<'_>) -> bool
+    ensures { result ≡ has_counts message.now.message question.now }
+{
+    let is_update = message.opcode() == Opcode::Update.number();
+    let is_ixfr = question.qtype() == types::IXFR;
+    let is_bare = (message.answer_count() == 0) & ((message.authority_count() == 0) | is_ixfr);
+    (message.additional_count() == 0) & (is_update | is_bare)
+}
+
+/// A message with its one question, by its kind, its type and its class.
+fn by_question(request: RequestMessage<'_>) -> Request<'_>
+    ensures request { request_shown result ≡ question_as request.entry.message.message request.entry.question }
+    ensures of { IsOf request.entry.message.octets result }
+{
+    if request.message.opcode() == Opcode::Update.number() {
+        return Request::Update(request);
+    }
+    let qtype = request.question.qtype();
+    if (qtype == types::IXFR) | (qtype == types::AXFR) {
+        return Request::Transfer(request);
+    }
+    if (qtype == types::MAILB) | (qtype == types::MAILA) {
+        return Request::NotServed(request, Rcode::NotImp);
+    }
+    if request.question.qclass() != types::CLASS_IN {
+        return Request::NotServed(request, Rcode::Refused);
+    }
+    Request::Query(request)
+}
+
+/// A message, by its questions and its counts.
+fn by_message<'a>(message: Message<'a>, header: &'a [u8; 12]) -> Request<'a>
+    requires { header_of header.now ≡ header_of message.octets }
+    ensures request { request_shown result ≡ message_as message.entry.message message.entry.message.questions }
+    ensures of { IsOf message.entry.octets result }
+{
+    match message.question() {
+        Some(question) if has_counts(&message, &question) => {
+            by_question(RequestMessage { message, question })
+        }
+        _ => Request::Refused(header, Rcode::FormErr),
+    }
+}
+
+/// What the octets are as a request: the tests stand in their order, the first that applies decides.
+///
+/// - Fewer than 12 octets, or a response: ignored.
+/// - An OPCODE other than QUERY and UPDATE: NOTIMP.
+/// - More than 512 octets by UDP; no message; another number of questions than one; additional records; in a query records in the
+///   answer section, or in the authority section unless the type is IXFR: FORMERR.
+/// - An update; a question of type IXFR or AXFR: as they are called.
+/// - A question of type MAILB or MAILA: NOTIMP. In another class than IN: REFUSED.
+/// - Else a query.
+pub fn classify(octets: &[u8], transport: Transport) -> Request<'_>
+    ensures request { request_shown result ≡ request_of octets.now transport }
+    ensures of { IsOf octets.now result }
+{
+    let Some(header) = octets.first_chunk::<12>() else {
+        return Request::Ignored;
+    };
+    if is_response(octets) {
+        return Request::Ignored;
+    }
+    if Opcode::from_number(opcode_number(octets)).is_none() {
+        return Request::Refused(header, Rcode::NotImp);
+    }
+    if is_too_long(octets, transport) {
+        return Request::Refused(header, Rcode::FormErr);
+    }
+    at_most_one();
+    match Message::read(octets) {
+        Ok(message) => by_message(message, header),
+        Err(_) => Request::Refused(header, Rcode::FormErr),
+    }
+}
