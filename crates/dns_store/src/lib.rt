@@ -1,4 +1,4 @@
-//! A zone's store, as the layer above sees it: in versions and a base.
+//! A zone's store, as the layer above sees it: in versions and a base. `open` gives the store of a device.
 #![tactic(auto)]
 
 mod device_store;
