@@ -1,4 +1,5 @@
-// Staged entries become durable in two phases: their bodies, and then their heads.
+//! A journal that is written: staged entries become durable in two phases, first their bodies and then their heads. Its
+//! entries are `stage` and `flush`.
 ghost use Rattle.std.specs.Prelude.{length, take, drop, replicate, ◌≤◌, ◌+◌, ◌-◌, ◌^◌, ◌++◌, ◌∷◌, ◌≡◌, ◌≢◌, ◌<◌, ◌↔◌, [], ℕ, List, true, false, IsOk, OnOk, OnErr};
 ghost use Rattle.dns_sectors.specs.Device.{Only, LeavesOnly, CountsFailure};
 ghost use Rattle.dns_sectors.specs.Crash.{applied, CrashOf};
@@ -45,6 +46,8 @@ pub enum FlushError {
     Closed,
 }
 
+/// The journal of a bank, on the device of a store whose root was raised. Between two calls all but the staged entries is
+/// durable. Where the device fails it is closed for good.
 #[derive(Drop)]
 pub struct Journal<D: Sectors> {
     device: D,
@@ -109,7 +112,8 @@ impl<D: Sectors> Journal<D> {
         self.next.until - self.next.at
     }
 
-    /// Puts a change behind the newest entry, in memory. Nothing is written.
+    /// Puts a change behind the newest entry, in memory. Nothing is written. `Full` where its entry takes more sectors than
+    /// are left, `Closed` where the device has failed; neither changes anything, nor does memory that is refused.
     pub fn stage(&mut self, alloc: Heap, change: &Change) -> Result<(), StageError>
         requires { newest_of self.old < 2 ^ 64 - 1 }
         ensures staged { (shape : Shape) (k : Stored) (staged : List Entry) → Keeps shape self.old k staged
@@ -135,7 +139,8 @@ impl<D: Sectors> Journal<D> {
         Ok(())
     }
 
-    /// Makes the staged entries durable. After an error every call answers Closed, until the store is opened again.
+    /// Makes the staged entries durable: writes all bodies, syncs, writes all heads, and syncs; where no entry has a body, one
+    /// sync is enough. `Device` where the device fails; every later call answers `Closed`, until the store is opened again.
     pub fn flush(&mut self) -> Result<(), FlushError>
         // A crash at any moment of it leaves a first part of the staged entries behind what was stored.
         ensures any_moment { (shape : Shape) (k : Stored) (staged : List Entry) → Keeps shape self.old k staged → JournalLeavesOnly self.old self.new (LeavesPart shape k staged) }

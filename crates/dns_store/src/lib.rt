@@ -1,8 +1,9 @@
-//! A zone's store, as the layer above sees it: in versions and a base.
+//! A zone's store, as the layer above sees it: in versions and a base. `open` gives the store of a device.
 #![tactic(auto)]
 
 mod device_store;
 mod records;
+mod recovery;
 mod root;
 mod snapshot;
 mod unkept;
@@ -11,6 +12,7 @@ mod zone_store;
 
 pub use device_store::DeviceStore;
 pub use dns_journal::{FlushError, StageError};
+pub use recovery::{MOST_SECTORS, OpenStore, open};
 pub use root::OpenError;
 pub use unkept::Unkept;
 pub use zone_store::ZoneStore;

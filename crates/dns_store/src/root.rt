@@ -1,5 +1,5 @@
 //! The first sector of a device: read when a store is opened, and written again with its open count raised.
-ghost use Rattle.std.specs.Prelude.{◌≡◌, ◌≤◌, ◌<◌, ◌+◌, ◌-◌, ◌^◌, ◌⊎◌, ◌↔◌, List, ℕ, length, IsTrue, IfOk, IfErr, OnOk};
+ghost use Rattle.std.specs.Prelude.{◌≡◌, ◌≤◌, ◌<◌, ◌+◌, ◌-◌, ◌*◌, ◌^◌, ◌⊎◌, ◌↔◌, List, ℕ, length, IsTrue, IfOk, IfErr, OnOk};
 ghost use Rattle.dns_sectors.specs.Device.{Only, LeavesOnly, CountsFailure};
 ghost use Rattle.dns_layout.specs.Apex.{apex_octets};
 ghost use Rattle.dns_layout.specs.Sector.{sector_at, open_count, bank_open, snapshot_sectors as sectors_of_snapshot};
@@ -73,6 +73,7 @@ pub(crate) fn read_root<D: Sectors>(
 ) -> Result<Root, OpenError>
     requires { 0 < D.count device.old }
     ensures found { D.is_honest device.old → IfOk result (IsFoundRoot (record { snapshot = snapshot; journal = journal; apex = apex.now }) (D.count device.old) (sector_at (D.seen device.old) 0)) }
+    ensures fits { IfOk result (λ root. (sectors_of_snapshot root.snapshot_length ≤ snapshot) × (D.count device.old ≡ 1 + 2 * (snapshot + journal)) × (root.open_count < 2 ^ 64 - 1)) }
     ensures refused { D.is_honest device.old → IfErr result (λ e. (e ≡ OpenError.Device) ⊎ RootRefusal (record { snapshot = snapshot; journal = journal; apex = apex.now }) (D.count device.old) (sector_at (D.seen device.old) 0) e) }
     ensures device { result ≡ Err OpenError.Device → HasRisen (D.failed device.old) (D.failed device.new) }
     ensures reads { OnlyReads D.Sectors device.old device.new }

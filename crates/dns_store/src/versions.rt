@@ -48,7 +48,9 @@ pub(crate) fn read_versions<D: Sectors, I: ZoneIndex>(
     cursor: &mut Cursor,
     base: Zone<I>,
 ) -> Result<(Zone<I>, Vec<Change, Heap>), OpenError>
-    requires { cursor.old.until ≤ D.count device.old }
+    requires until { cursor.old.until ≤ D.count device.old }
+    requires at { cursor.old.at ≤ cursor.old.until }
+    ensures within { cursor.new.at ≤ cursor.new.until }
     ensures apex { IfOk result (λ r. r.0.apex ≡ base.apex) }
     ensures reads_all { D.is_honest device.old → (vs : Versions) (es : List Entry) → ReadsFrom cursor.old (D.seen device.old) es → AreChanges base.apex base.records vs es
         → MatchResult result (λ r. IsRecovered cursor.old cursor.new base.records vs es r.0.records r.1.items) (λ e. (e ≡ OpenError.Device) ⊎ (e ≡ OpenError.OutOfMemory)) }
@@ -70,7 +72,7 @@ pub(crate) fn read_versions<D: Sectors, I: ZoneIndex>(
 }
 
 // What is said of an entry, with its head there, that makes no zone.
-fn fault_at(head: usize, error: ChangeError) -> OpenError
+pub(crate) fn fault_at(head: usize, error: ChangeError) -> OpenError
     ensures memory { error ≡ ChangeError.OutOfMemory → result ≡ OpenError.OutOfMemory }
     ensures other { (result ≡ OpenError.OutOfMemory) ⊎ (result ≡ OpenError.Damaged head) }
 {

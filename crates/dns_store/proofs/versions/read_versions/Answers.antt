@@ -1,4 +1,4 @@
-use Rattle.std.proofs.Common.{rules, inl, inr, refl, ◌≡◌, ◌⊎◌, MatchOption, List, [], ◌∷◌, ◌++◌, sym, ◌∙◌, ap, subst}
+use Rattle.std.proofs.Common.{rules, arith, inl, inr, refl, ◌≡◌, ◌⊎◌, MatchOption, List, [], ◌∷◌, ◌++◌, sym, ◌∙◌, ap, subst}
 use Rattle.std.specs.Prelude.{Option}
 use Rattle.std.proofs.lemmas.Result.{err_from_is_err_and}
 use Rattle.dns_zone.specs.Zone.{IsZone}
@@ -15,6 +15,7 @@ pub entries-init : goal.entries-init
 entries-init g c = record {
   reads = none_read c.args.device.now (λ honest left since. g.met.D.Sectors.only_now c.args.device.now left honest since);
   until = refl;
+  within = c.requires.at;
   apex = refl;
   goes = λ honest vs es reads are.
       subst (λ (l : List Change). Goes c.args.cursor.now c.args.cursor.now (g.D.Sectors.seen c.args.device.now) c.args.base.apex c.args.base.records vs es c.args.base.records l) (sym c.new-changes.ensures.items)
@@ -33,7 +34,7 @@ returns-in-Err-clause-reads_all g c honest vs es reads are =
     let so = c.entries.invariant.goes honest vs es reads are in
     let same = c.entries.invariant.reads.seen honest in
     let finds = subst (λ (r : Option Found). MatchOption r (Ends c.entries.cursor (g.D.Sectors.seen c.entries.device)) (λ e. Finds c.entries.cursor c.next_entry.new.cursor (g.D.Sectors.seen c.entries.device) e.octets.items × (e.head ≡ c.entries.cursor.at))) c.in-Some.is
-        (c.in_ok-found.ensures.found (c.entries.invariant.reads.honest.1 honest)) in
+    (c.in_ok-found.ensures.found (c.entries.invariant.reads.honest.1 honest)) in
     let here = subst (λ s. Finds c.entries.cursor c.next_entry.new.cursor s c.in-Some.found.octets.items) same finds.0 in
     let next = next_is c.args.cursor.now c.entries.cursor c.next_entry.new.cursor (g.D.Sectors.seen c.args.device.now) c.args.base.apex c.args.base.records vs es c.entries.zone.records c.entries.changes.items c.in-Some.found.octets.items here so in
     let valid = subst (λ a. IsZone (record { apex = a; records = next.after })) (sym c.entries.invariant.apex) next.valid in
@@ -43,12 +44,13 @@ pub entries-preserved : goal.entries-preserved
 entries-preserved g c = record {
   reads = reads_then _ _ _ c.entries.invariant.reads c.next_entry.ensures.reads;
   until = c.next_entry.ensures.until ∙ c.entries.invariant.until;
+  within = search (rules, arith);
   apex = c.in-Ok.ensures.found.3 ∙ c.entries.invariant.apex;
   goes = λ honest vs es reads are.
       let so = c.entries.invariant.goes honest vs es reads are in
       let same = c.entries.invariant.reads.seen honest in
       let finds = subst (λ (r : Option Found). MatchOption r (Ends c.entries.cursor (g.D.Sectors.seen c.entries.device)) (λ e. Finds c.entries.cursor c.next_entry.new.cursor (g.D.Sectors.seen c.entries.device) e.octets.items × (e.head ≡ c.entries.cursor.at))) c.in-Some.is
-          (c.in_ok-found.ensures.found (c.entries.invariant.reads.honest.1 honest)) in
+      (c.in_ok-found.ensures.found (c.entries.invariant.reads.honest.1 honest)) in
       let here = subst (λ s. Finds c.entries.cursor c.next_entry.new.cursor s c.in-Some.found.octets.items) same finds.0 in
       let next = next_is c.args.cursor.now c.entries.cursor c.next_entry.new.cursor (g.D.Sectors.seen c.args.device.now) c.args.base.apex c.args.base.records vs es c.entries.zone.records c.entries.changes.items c.in-Some.found.octets.items here so in
       let valid = subst (λ a. IsZone (record { apex = a; records = next.after })) (sym c.entries.invariant.apex) next.valid in
@@ -63,7 +65,7 @@ returns-clause-reads_all g c honest vs es reads are =
     let so = c.entries.invariant.goes honest vs es reads are in
     let same = c.entries.invariant.reads.seen honest in
     let ends = subst (λ (r : Option Found). MatchOption r (Ends c.entries.cursor (g.D.Sectors.seen c.entries.device)) (λ e. Finds c.entries.cursor c.next_entry.new.cursor (g.D.Sectors.seen c.entries.device) e.octets.items × (e.head ≡ c.entries.cursor.at))) c.in_default.is
-        (c.in_ok-found.ensures.found (c.entries.invariant.reads.honest.1 honest)) in
+    (c.in_ok-found.ensures.found (c.entries.invariant.reads.honest.1 honest)) in
     let here = subst (λ s. Ends c.entries.cursor s) same ends in
     let still : c.next_entry.new.cursor ≡ c.entries.cursor = search rules in
     subst (λ (n : Cursor). IsRecovered c.args.cursor.now n c.args.base.records vs es c.entries.zone.records c.entries.changes.items) (sym still)

@@ -1,4 +1,4 @@
-use Rattle.std.proofs.Common.{◌≡◌, ◌-◌, List}
+use Rattle.std.proofs.Common.{◌≡◌, ◌≤◌, ◌-◌, List}
 use Rattle.dns_layout.specs.Journal.{Entry}
 use Rattle.dns_journal.specs.Reads.{OnlyReads, ReadsFrom}
 use Rattle.dns_store.specs.Versions.{Versions}
@@ -10,6 +10,7 @@ abbrev pub invariant-entries : goal.invariant-entries
 invariant-entries g l = record {
   reads : OnlyReads g.D.Sectors l.fn.device l.device;
   until : l.cursor.until ≡ l.fn.cursor.until;
+  within : l.cursor.at ≤ l.cursor.until;
   apex : l.zone.apex ≡ l.fn.base.apex;
   goes : g.D.Sectors.is_honest l.fn.device → (vs : Versions) (es : List Entry) → ReadsFrom l.fn.cursor (g.D.Sectors.seen l.fn.device) es → AreChanges l.fn.base.apex l.fn.base.records vs es
       → Goes l.fn.cursor l.cursor (g.D.Sectors.seen l.fn.device) l.fn.base.apex l.fn.base.records vs es l.zone.records l.changes.items;

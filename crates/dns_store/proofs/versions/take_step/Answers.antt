@@ -31,3 +31,13 @@ returns-in-Err-clause-only g c after change leads written is valid =
     let set = c.in_ok-apply.ensures.applied ∙ (λ i. applied (same i) (records i)) ∙ led.result in
     let none : Some c.in-Err.field-0.1 ≡ None = sym c.in-Err.ensures.refused.0 ∙ (λ i. zone_fault (name i) (set i)) ∙ valid.valid in
     absurd cc
+
+pub returns-in_err-apex-clause-only : goal.returns-in_err-apex-clause-only
+returns-in_err-apex-clause-only g c after change leads written is valid =
+    let p = err_from_is_err_and c.from_residual-in_err-apex.result c.from_residual-in_err-apex.ensures.1 in
+    rw p.1 p.2
+
+pub returns-in_err-set-clause-only : goal.returns-in_err-set-clause-only
+returns-in_err-set-clause-only g c after change leads written is valid =
+    let p = err_from_is_err_and c.from_residual-in_err-set.result c.from_residual-in_err-set.ensures.1 in
+    rw p.1 p.2

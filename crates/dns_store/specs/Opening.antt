@@ -1,0 +1,60 @@
+-- What opening a store finds, and what it leaves of the device.
+use Rattle.std.specs.Prelude.{◌≡◌, ◌⊎◌, ◌≤◌, ◌<◌, ◌-◌, ◌^◌, ℕ, List, drop}
+use Rattle.dns_records.specs.Record.{Record}
+use Rattle.dns_changes.specs.Change.{Change}
+use Rattle.dns_sectors.specs.Device.{Content}
+use Rattle.dns_layout.specs.Sector.{sector_at, open_count, number}
+use Rattle.dns_layout.specs.Forms.{SaysRoot}
+use Rattle.dns_layout.specs.Journal.{place_behind}
+use Rattle.dns_layout.specs.Store.{Shape as Sizes, Stored, journal_place, bank_end, version_of}
+use Rattle.dns_layout.specs.declared.root.Root.{Root}
+use Rattle.dns_journal.specs.declared.read.Cursor.{Cursor}
+use Rattle.dns_store.specs.declared.root.OpenError.{OpenError}
+use Rattle.dns_store.specs.declared.root.OpenError.TheVariants.{Device, Damaged, OutOfMemory}
+use Rattle.dns_store.specs.Versions.{Shape, Opened, newest_after}
+use Rattle.dns_sectors.specs.declared.device.Sectors.{Ghosts}
+use Rattle.dns_journal.specs.State.{device_of}
+use Rattle.dns_store.specs.declared.device_store.DeviceStore.{DeviceStore}
+use Rattle.dns_store.specs.Opens.{base_of, fresh, opens, keeps as keeps_versions}
+use Rattle.dns_store.specs.Recovered.{AreLed}
+
+-- sizes that a store may have
+pub record IsInRange (snapshot journal : ℕ) : Type 0 where
+  pub parts : snapshot ≤ 65536
+  pub entries : journal ≤ 65536
+
+-- What was read is what is stored.
+pub record IsRead (sizes : Sizes) (c : Content) (o : Opened) (s : Stored) (root : Root) (end : Cursor) (base : List Record) (changes : List Change) (newest : List Record) : Type 0 where
+  pub says : SaysRoot (sector_at c 0) root
+  pub until_is : end.until ≡ bank_end sizes (number (sector_at c 0))
+  pub at_is : end.at ≡ place_behind (journal_place sizes (number (sector_at c 0))) s.entries
+  pub version_is : end.version ≡ version_of s
+  pub base_is : base ≡ base_of o
+  pub led : AreLed (base_of o) (drop o.base o.versions) changes
+  pub newest_is : newest ≡ newest_after o.loaded o.versions
+
+-- Why a store that is there is not opened: the device failed, memory was refused, or it was opened too often.
+abbrev pub IsStopped : Content → OpenError → Type 0
+IsStopped c e = (e ≡ Device) ⊎ (e ≡ OutOfMemory) ⊎ ((e ≡ Damaged 0) × (2 ^ 64 - 1 ≤ open_count (sector_at c 0)))
+
+-- A crash might have left a store that opens as this.
+abbrev pub WasPossible : {D : Type 0} → Ghosts D → Shape → D → Opened → Type 0
+WasPossible g shape device o = (c : Content) × g.may_leave device c × opens shape o c
+
+-- Each crash leaves a store that opens.
+abbrev pub MayOpen : {D : Type 0} → Ghosts D → Shape → D → Type 0
+MayOpen g shape device = (c : Content) → g.may_leave device c → (o : Opened) × opens shape o c
+
+-- It opens as a store that a crash might have left of the device before: a version and a base that were possible together.
+abbrev pub OpensAsPossible : {D : Type 0} → Ghosts D → Shape → D → Content → Type 0
+OpensAsPossible g shape device c = (o : Opened) × WasPossible g shape device o × opens shape o c
+
+abbrev pub store_device : {D : Type 0} {g : Ghosts D} → DeviceStore D g → D
+store_device store = device_of store.journal
+
+-- The store keeps these versions from here on, and these are its base, the changes from there, and the newest version.
+pub record IsTaken {D : Type 0} {g : Ghosts D} (shape : Shape) (o : Opened) (store : DeviceStore D g) (base : List Record) (changes : List Change) (newest : List Record) : Type 0 where
+  pub keeps : keeps_versions store.journal (fresh shape o)
+  pub base_is : base ≡ base_of o
+  pub led : AreLed (base_of o) (drop o.base o.versions) changes
+  pub newest_is : newest ≡ newest_after o.loaded o.versions
