@@ -54,9 +54,13 @@ fn asked<'a>(alloc: Global, words: &'a [&'a str]) -> Result<Option<Task<'a>>, Er
     })
 }
 
-/// The octets of the file at a path, if it can be read.
-fn octets(rt: &HostRuntime, path: &str) -> Option<Vec<u8>> {
-    fs::read(rt, path).ok()
+/// The octets of the file at a path, if it can be read. Refused memory is an error, and does not make a file unreadable.
+fn octets(rt: &HostRuntime, path: &str) -> io::Result<Option<Vec<u8>>> {
+    match fs::read(rt, path) {
+        Ok(octets) => Ok(Some(octets)),
+        Err(error) if error.kind() == io::ErrorKind::OutOfMemory => Err(error),
+        Err(_) => Ok(None),
+    }
 }
 
 /// The file of a path and its octets.
@@ -82,7 +86,7 @@ fn master_files(
     };
     if let Ok(configuration) = Configuration::read(rt.alloc(), heap, text) {
         for zone in configuration.zones {
-            let octets = octets(rt, &zone.file);
+            let octets = octets(rt, &zone.file)?;
             files.push((zone.file, octets))?;
         }
     }
@@ -96,11 +100,11 @@ fn run(rt: &HostRuntime, task: Task<'_>) -> io::Result<u8> {
     let mut err = rt.stderr();
     let status = match task {
         Task::Check(path, origin) => {
-            let text = octets(rt, path);
+            let text = octets(rt, path)?;
             check(heap, &file(path, &text), origin, &mut out, &mut err)
         }
         Task::Replay(config, script) => {
-            let (config_text, script_text) = (octets(rt, config), octets(rt, script));
+            let (config_text, script_text) = (octets(rt, config)?, octets(rt, script)?);
             let config = file(config, &config_text);
             let texts = master_files(rt, heap, &config)?;
             let mut files = Vec::new(rt.alloc());
@@ -123,7 +127,7 @@ fn run(rt: &HostRuntime, task: Task<'_>) -> io::Result<u8> {
     Ok(status)
 }
 
-/// Does what the words say, and gives the exit status. An error is that of a stream or of memory.
+/// Does what the words say, and gives the exit status. An error is that of a stream, of memory, or of a word that is no UTF-8.
 fn start(rt: &HostRuntime) -> io::Result<u8> {
     let mut words = Vec::new(rt.alloc());
     for word in env::args(rt)? {
@@ -151,9 +155,22 @@ fn start(rt: &HostRuntime) -> io::Result<u8> {
     }
 }
 
+/// Tells in one line what kept the program from its task, and gives the exit status. Of a stream that fails nothing can be told.
+fn tell(rt: &HostRuntime, kind: io::ErrorKind) -> u8 {
+    let (line, status) = match kind {
+        io::ErrorKind::InvalidData => ("a word is no UTF-8", USAGE),
+        io::ErrorKind::OutOfMemory => ("out of memory", FAILED),
+        _ => return FAILED,
+    };
+    match eprintln!(rt; "{line}") {
+        Ok(()) => status,
+        Err(_) => FAILED,
+    }
+}
+
 fn main(rt: HostRuntime) -> ExitCode {
     match start(&rt) {
         Ok(status) => ExitCode::from(status),
-        Err(_) => ExitCode::from(FAILED),
+        Err(error) => ExitCode::from(tell(&rt, error.kind())),
     }
 }
