@@ -171,7 +171,8 @@ impl Name {
 
     /// The name above it, if it is not the root.
     pub fn parent(&self, alloc: Heap) -> Result<Option<Name>, AllocError>
-        ensures { IfOk result (λ above. above ≡ parent self.now) }
+        ensures above { IfOk result (λ above. above ≡ parent self.now) }
+        ensures root { self.now ≡ [] → result ≡ Ok None }
     {
         let octets = self.octets.as_slice();
         if octets.len() < 2 {
