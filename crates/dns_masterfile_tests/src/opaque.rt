@@ -125,8 +125,6 @@ fn zeros(heap: Heap, octets: usize) -> Result<Vec<u8, Heap>, Fail> {
 fn sizes_of_data_without_a_form(rt: HostRuntime) -> Result<(), Fail> {
     let heap = heap(rt.alloc())?;
     assert!(rt; refusal(heap, &zeros(heap, 4096)?)?.is_none());
-    assert!(rt;
-        refusal(heap, &zeros(heap, 4095)?)? == Some((1, FileError::BadData))
-    );
+    assert!(rt; refusal(heap, &zeros(heap, 4095)?)? == Some((1, FileError::BadData)));
     Ok(())
 }
