@@ -168,6 +168,9 @@ fn is_match(
     reply: &Reply,
 ) -> Result<bool, Fail> {
     let above = encloser(plain, &name.lend()).to_name(heap)?;
+    if above.as_wire().len() > 253 {
+        return Err(Fail::from("no room for a label before the name"));
+    }
     let source = above.wildcard_of(heap)?;
     let expected = match shortest_cut(plain, apex, &name.lend()) {
         Some(cut) => match reply {
