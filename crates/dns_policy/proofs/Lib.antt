@@ -1,5 +1,6 @@
 pub mod Addresses
 pub mod Bits
 pub mod Decimals
+pub mod Prefixes
 pub mod PrintedBack
 mod Examples

@@ -1,4 +1,5 @@
 pub mod Checks
+pub mod Replays
 pub mod Scripts
 pub mod Served
 pub mod Settings

@@ -1,8 +1,8 @@
 -- What a configuration says.
-use Rattle.std.specs.Prelude.{◌≡◌, ℕ, ◌<◌, ◌≤◌, ◌^◌, Bool, false, ◌||◌, List, [], ◌∷◌, ◌++◌, length, Ok, Option, Some, option_and_then, decimal, All, AllPairs, bytes_eq, codes, ℤ, pos, Vec}
+use Rattle.std.specs.Prelude.{◌≡◌, ◌≢◌, ⊤, ℕ, suc, ◌<◌, ◌≤◌, ◌==◌, ◌^◌, Bool, true, false, ◌||◌, List, [], ◌∷◌, ◌++◌, length, Result, Ok, Err, Option, Some, None, option_and_then, decimal, All, AllPairs, bytes_eq, codes, get_or, ℤ, pos, String, Vec}
 use Rattle.std.specs.Global.{Global}
 use Rattle.std.specs.Str.{IsUtf8}
-use Rattle.toml.specs.Data.{Data, Items, Members, as_array, as_integer, as_str, get, table}
+use Rattle.toml.specs.Data.{Data, Items, Members, no_members, member, as_array, as_integer, as_str, get, table}
 use Rattle.toml.specs.View.{items_of}
 use Rattle.toml.specs.Parse.{parse_document}
 use Rattle.std.specs.List.{AllZip}
@@ -18,6 +18,8 @@ use Rattle.dns_policy.specs.Address.{IsAddress}
 use Rattle.dns_policy.specs.Prefix.{IsPrefix}
 use Rattle.dns_server.specs.declared.configuration.ZoneSettings.{ZoneSettings}
 use Rattle.dns_server.specs.declared.configuration.Configuration.{Configuration}
+use Rattle.dns_server.specs.declared.configuration.ConfigurationError.{ConfigurationError}
+use Rattle.dns_server.specs.declared.configuration.ConfigurationError.TheVariants.{OutOfMemory, BadConfig}
 
 -- A port in text: from 1 to 65,535, without leading zeros.
 abbrev pub IsPort : List ℕ → ℕ → Type 0
@@ -35,6 +37,13 @@ pub record IsListener (text : List ℕ) (a : SocketAddr) : Type 0 where
   pub spelled : text ≡ host ++ 58 ∷ port
   pub host_is : IsHost host (socket_ip a)
   pub port_is : IsPort port (socket_port a)
+
+-- The last colon of a text parts an address and a port.
+abbrev pub HasNone : ℕ → List ℕ → Type 0
+HasNone octet text = (i : ℕ) → i < length text → get_or text i 0 ≢ octet
+
+abbrev pub IsLastParted : ℕ → List ℕ → List ℕ × List ℕ → Type 0
+IsLastParted octet text parts = (text ≡ parts.0 ++ octet ∷ parts.1) × HasNone octet parts.1
 
 -- The counts of a zone are within their bounds: sectors of a snapshot and of the journal, versions that are kept.
 pub record AreCounts (sectors entries versions : ℕ) : Type 0 where
@@ -60,6 +69,25 @@ pub record IsConfiguration (c : Configuration) : Type 0 where
   pub counts : All HasCounts c.zones.items
   pub apart : AllPairs AreApart c.zones.items
 
+-- How many keys a table has.
+abbrev pub key_count : Members → ℕ
+key_count no_members = 0
+key_count (member key d ms) = suc (key_count ms)
+
+abbrev pub has_keys : ℕ → Data → Bool
+has_keys n (table ms) = key_count ms == n
+has_keys n _ = false
+
+-- What is read is such a thing; where nothing is, there is no such thing.
+abbrev pub Finds : {A : Type 0} → (A → Type 0) → Option A → Type 0
+Finds {A} P None = (x : A) → ¬ (P x)
+Finds P (Some x) = P x
+
+abbrev pub Reads : {A : Type 0} → (A → Type 0) → Result A ConfigurationError → Type 0
+Reads P (Ok x) = P x
+Reads P (Err OutOfMemory) = ⊤
+Reads {A} P (Err BadConfig) = (x : A) → ¬ (P x)
+
 -- The values at the keys of a table.
 abbrev pub text_at : List ℕ → Data → Option (List ℕ)
 text_at key d = option_and_then as_str (get key d)
@@ -77,15 +105,27 @@ HasPrefix d prefix = (text : List ℕ) × (as_str d ≡ Some text) × IsPrefix t
 abbrev pub ArePrefixes : List Data → List (IpAddr × ℕ) → Type 0
 ArePrefixes texts prefixes = AllZip HasPrefix texts prefixes
 
--- The table has, at the key, the texts of the prefixes; the text of the name.
-abbrev pub HasPrefixes : List ℕ → Data → Vec (IpAddr × ℕ) Global → Type 0
-HasPrefixes key d prefixes = (texts : List Data) × (list_at key d ≡ Some (items_of texts)) × ArePrefixes texts prefixes.items
+-- The table has, at the key, the texts of the prefixes.
+pub record HasPrefixes (key : List ℕ) (d : Data) (prefixes : Vec (IpAddr × ℕ) Global) : Type 0 where
+  pub texts : List Data
+  pub stand : list_at key d ≡ Some (items_of texts)
+  pub are : ArePrefixes texts prefixes.items
 
-abbrev pub HasName : List ℕ → Data → Labels → Type 0
-HasName key d name = (text : List ℕ) × (text_at key d ≡ Some text) × (name_of_text [] text ≡ Ok name)
+-- The table has, at the key, a path; a number from low to high; the text of a name.
+abbrev pub HasPath : List ℕ → Data → String Global → Type 0
+HasPath key d path = text_at key d ≡ Some (string_bytes path)
 
--- The table describes the settings of a zone, each by its own key.
+abbrev pub HasCount : List ℕ → Data → ℕ → ℕ → ℕ → Type 0
+HasCount key d low high n = (number_at key d ≡ Some (pos n)) × (low ≤ n) × (n ≤ high)
+
+pub record HasName (key : List ℕ) (d : Data) (name : Labels) : Type 0 where
+  pub text : List ℕ
+  pub stands : text_at key d ≡ Some text
+  pub is : name_of_text [] text ≡ Ok name
+
+-- The table describes the settings of a zone, each by its own key, and has no other key.
 pub record IsSettings (d : Data) (z : ZoneSettings) : Type 0 where
+  pub keys : has_keys 8 d ≡ true
   pub origin : HasName (codes "origin") d z.origin
   pub file : text_at (codes "file") d ≡ Some (string_bytes z.file)
   pub device : text_at (codes "device") d ≡ Some (string_bytes z.device)
@@ -101,8 +141,9 @@ pub record AreSettings (tables : List Data) (zs : List ZoneSettings) : Type 0 wh
   pub few : length zs ≤ 16
   pub apart : AllPairs AreApart zs
 
--- The document describes the configuration.
+-- The document describes the configuration, and has no other key.
 pub record Describes (d : Data) (c : Configuration) : Type 0 where
+  pub keys : has_keys 2 d ≡ true
   pub listen : (text : List ℕ) × (text_at (codes "listen") d ≡ Some text) × IsListener text c.listen
   pub zones : (tables : List Data) × (list_at (codes "zone") d ≡ Some (items_of tables)) × AreSettings tables c.zones.items
   pub some : 0 < length c.zones.items

@@ -1,18 +1,19 @@
 //! The configuration: the zones that are held, their files, and who may change and copy them.
-ghost use Rattle.std.specs.Prelude.{◌≡◌, ◌↔◌, ◌≤◌, Some, IfSome, IfOk, map, option_map, pos};
+ghost use Rattle.std.specs.Prelude.{◌≡◌, ◌≢◌, ℕ, ◌<◌, ◌^◌, List, [], ◌∷◌, ◌++◌, Ok, Some, MatchOption, IfOk, map, option_map, pos};
 ghost use Rattle.std.specs.List.{list_any};
 ghost use Rattle.std.specs.Option.{option_copied};
-ghost use Rattle.std.specs.String.{string_bytes};
 ghost use Rattle.toml.specs.View.{array_view, view};
-ghost use Rattle.dns_names.specs.declared.NameError.TheVariants as name;
+ghost use Rattle.dns_names.specs.Text.{name_of_text};
+ghost use Rattle.dns_policy.specs.Address.{IsAddress};
+ghost use Rattle.std.specs.declared.net.ip_addr.IpAddr.TheVariants.{V4, V6};
 ghost use Rattle.dns_server.specs.declared.configuration.ConfigurationError.TheVariants as told;
-ghost use Rattle.dns_server.specs.Settings.{ArePrefixes, AreSettings, Describes, HasName, HasPrefixes, IsConfiguration, IsDescribedBy, IsHost, IsListener, IsPort, IsSettings, are_alike, list_at, number_at, text_at};
+ghost use Rattle.dns_server.specs.Settings.{ArePrefixes, AreSettings, Describes, Finds, HasCount, HasName, HasNone, HasPath, HasPrefixes, IsConfiguration, IsDescribedBy, IsHost, IsLastParted, IsListener, IsPort, IsSettings, Reads, are_alike, has_keys, list_at, number_at, text_at};
 
 use dns_memory::Heap;
 use dns_names::{Name, NameError};
 use dns_policy::{Prefix, address};
 use std::alloc::{AllocError, AllocFailed, Global};
-use std::net::{IpAddr, SocketAddr};
+use std::net::{IpAddr, Ipv4Addr, Ipv6Addr, SocketAddr};
 use toml::Value;
 
 /// At most so many zones are held.
@@ -76,20 +77,9 @@ impl<T: Drop> From<AllocFailed<T>> for ConfigurationError {
     }
 }
 
-impl From<NameError> for ConfigurationError {
-    ghost from_gives = { λ error e. (e ≡ told.OutOfMemory) ↔ (error ≡ name.OutOfMemory) };
-
-    fn from(error: NameError) -> ConfigurationError {
-        match error {
-            NameError::OutOfMemory => ConfigurationError::OutOfMemory,
-            _ => ConfigurationError::BadConfig,
-        }
-    }
-}
-
 /// A port: a decimal number from 1 to 65,535, without leading zeros.
 fn port(text: &str) -> Option<u16>
-    ensures { IfSome result (IsPort text.now) }
+    ensures { Finds (IsPort text.now) result }
 {
     let first = *text.as_bytes().first()?;
     if first == b'0' || first == b'+' {
@@ -98,27 +88,71 @@ fn port(text: &str) -> Option<u16>
     text.parse().ok()
 }
 
-/// An IPv4 address, or an IPv6 address between brackets.
-fn host(text: &[u8]) -> Option<IpAddr>
-    ensures { IfSome result (IsHost text.now) }
+/// What stands between brackets.
+fn between_brackets(text: &[u8]) -> Option<&[u8]>
+    ensures { MatchOption result ((inner : List ℕ) → text.now ≢ 91 ∷ inner ++ 93 ∷ []) (λ inner. text.now ≡ 91 ∷ inner.now ++ 93 ∷ []) }
 {
     match text {
-        [b'[', inner @ .., b']'] => match address(inner) {
-            Some(IpAddr::V6(ip)) => Some(IpAddr::V6(ip)),
-            _ => None,
-        },
-        _ => match address(text) {
-            Some(IpAddr::V4(ip)) => Some(IpAddr::V4(ip)),
-            _ => None,
+        [b'[', inner @ .., b']'] => Some(inner),
+        _ => None,
+    }
+}
+
+/// An IPv4 address.
+fn ipv4(text: &[u8]) -> Option<Ipv4Addr>
+    ensures { Finds (λ a. IsHost text.now (V4 a)) result }
+{
+    match address(text) {
+        Some(IpAddr::V4(ip)) => Some(ip),
+        _ => None,
+    }
+}
+
+/// An IPv6 address.
+fn ipv6(text: &[u8]) -> Option<Ipv6Addr>
+    ensures { Finds (λ a. IsAddress text.now (V6 a)) result }
+{
+    match address(text) {
+        Some(IpAddr::V6(ip)) => Some(ip),
+        _ => None,
+    }
+}
+
+/// An IPv6 address between brackets.
+fn bracketed_ipv6(text: &[u8]) -> Option<Ipv6Addr>
+    ensures { Finds (λ a. IsHost text.now (V6 a)) result }
+{
+    match between_brackets(text) {
+        Some(inner) => ipv6(inner),
+        None => None,
+    }
+}
+
+/// An IPv4 address, or an IPv6 address between brackets.
+fn host(text: &[u8]) -> Option<IpAddr>
+    ensures { Finds (IsHost text.now) result }
+{
+    match ipv4(text) {
+        Some(ip) => Some(IpAddr::V4(ip)),
+        None => match bracketed_ipv6(text) {
+            Some(ip) => Some(IpAddr::V6(ip)),
+            None => None,
         },
     }
 }
 
+/// What stands before the last colon, and behind it.
+fn split_at_last_colon(text: &str) -> Option<(&str, &str)>
+    ensures { MatchOption result (HasNone 58 text.now) (λ parts. IsLastParted 58 text.now (parts.0.now, parts.1.now)) }
+{
+    text.rsplit_once(':')
+}
+
 /// An address, and behind a colon a port.
 fn listener(text: &str) -> Option<SocketAddr>
-    ensures { IfSome result (IsListener text.now) }
+    ensures { Finds (IsListener text.now) result }
 {
-    let (front, digits) = text.rsplit_once(':')?;
+    let (front, digits) = split_at_last_colon(text)?;
     let ip = host(front.as_bytes())?;
     Some(SocketAddr::new(ip, port(digits)?))
 }
@@ -135,7 +169,7 @@ fn text_at<'a>(table: &'a Value, key: &str) -> Option<&'a str>
 
 /// The number at a key of a table.
 fn number_at(table: &Value, key: &str) -> Option<u32>
-    ensures { IfSome result (λ n. number_at key.now (view table.now) ≡ Some (pos n)) }
+    ensures { MatchOption result ((n : ℕ) → n < 2 ^ 32 → number_at key.now (view table.now) ≢ Some (pos n)) (λ n. number_at key.now (view table.now) ≡ Some (pos n)) }
 {
     match table.get(key) {
         Some(value) => u32::try_from(value.as_integer()?).ok(),
@@ -154,7 +188,9 @@ fn list_at<'a>(table: &'a Value, key: &str) -> Option<&'a Vec<Value>>
 }
 
 /// Whether a table has so many keys.
-fn has_keys(table: &Value, count: usize) -> bool {
+fn has_keys(table: &Value, count: usize) -> bool
+    ensures { result ≡ has_keys count (view table.now) }
+{
     match table.as_table() {
         Some(table) => table.len() == count,
         None => false,
@@ -163,7 +199,7 @@ fn has_keys(table: &Value, count: usize) -> bool {
 
 /// The prefixes of a list of texts.
 fn prefixes(alloc: Global, texts: &[Value]) -> Result<Vec<Prefix>, ConfigurationError>
-    ensures { IfOk result (λ ps. ArePrefixes (map view texts.now) ps.items) }
+    ensures { Reads (λ ps. ArePrefixes (map view texts.now) ps.items) result }
 {
     let mut prefixes = Vec::new(alloc);
     'texts: for value in texts {
@@ -180,7 +216,7 @@ fn prefixes(alloc: Global, texts: &[Value]) -> Result<Vec<Prefix>, Configuration
 
 /// The prefixes at a key of a table.
 fn prefixes_at(alloc: Global, table: &Value, key: &str) -> Result<Vec<Prefix>, ConfigurationError>
-    ensures { IfOk result (HasPrefixes key.now (view table.now)) }
+    ensures { Reads (HasPrefixes key.now (view table.now)) result }
 {
     match list_at(table, key) {
         Some(texts) => prefixes(alloc, texts.as_slice()),
@@ -190,7 +226,7 @@ fn prefixes_at(alloc: Global, table: &Value, key: &str) -> Result<Vec<Prefix>, C
 
 /// The path at a key of a table.
 fn path_at(alloc: Global, table: &Value, key: &str) -> Result<String, ConfigurationError>
-    ensures { IfOk result (λ path. text_at key.now (view table.now) ≡ Some (string_bytes path)) }
+    ensures { Reads (HasPath key.now (view table.now)) result }
 {
     match text_at(table, key) {
         Some(path) => Ok(String::from_str(alloc, path)?),
@@ -200,7 +236,7 @@ fn path_at(alloc: Global, table: &Value, key: &str) -> Result<String, Configurat
 
 /// The number at a key of a table, where it is in the range.
 fn count_at(table: &Value, key: &str, low: u32, high: u32) -> Result<u32, ConfigurationError>
-    ensures { IfOk result (λ n. (number_at key.now (view table.now) ≡ Some (pos n)) × (low ≤ n) × (n ≤ high)) }
+    ensures { Reads (HasCount key.now (view table.now) low high) result }
 {
     match number_at(table, key) {
         Some(number) if low <= number && number <= high => Ok(number),
@@ -208,19 +244,30 @@ fn count_at(table: &Value, key: &str, low: u32, high: u32) -> Result<u32, Config
     }
 }
 
+/// The name of a text, under the root if no dot ends it.
+fn name(heap: Heap, text: &str) -> Result<Name, ConfigurationError>
+    ensures { Reads (λ name. name_of_text [] text.now ≡ Ok name) result }
+{
+    match Name::from_text(heap, text.as_bytes(), &Name::root(heap)) {
+        Ok(name) => Ok(name),
+        Err(NameError::OutOfMemory) => Err(ConfigurationError::OutOfMemory),
+        Err(_) => Err(ConfigurationError::BadConfig),
+    }
+}
+
 /// The name at a key of a table, under the root if no dot ends it.
 fn name_at(heap: Heap, table: &Value, key: &str) -> Result<Name, ConfigurationError>
-    ensures { IfOk result (HasName key.now (view table.now)) }
+    ensures { Reads (HasName key.now (view table.now)) result }
 {
     match text_at(table, key) {
-        Some(text) => Ok(Name::from_text(heap, text.as_bytes(), &Name::root(heap))?),
+        Some(text) => name(heap, text),
         None => Err(ConfigurationError::BadConfig),
     }
 }
 
 /// The settings of a zone by its table.
 fn settings(alloc: Global, heap: Heap, zone: &Value) -> Result<ZoneSettings, ConfigurationError>
-    ensures { IfOk result (IsSettings (view zone.now)) }
+    ensures { Reads (IsSettings (view zone.now)) result }
 {
     if !has_keys(zone, 8) {
         return Err(ConfigurationError::BadConfig);
@@ -257,12 +304,15 @@ fn all_settings(
     heap: Heap,
     tables: &[Value],
 ) -> Result<Vec<ZoneSettings>, ConfigurationError>
-    ensures { IfOk result (λ zones. AreSettings (map view tables.now) zones.items) }
+    ensures { Reads (λ zones. AreSettings (map view tables.now) zones.items) result }
 {
     let mut zones = Vec::new(alloc);
     'zones: for table in tables {
         let zone = settings(alloc, heap, table)?;
-        if zones.len() == MOST_ZONES || is_double(&zones, &zone) {
+        if zones.len() == MOST_ZONES {
+            return Err(ConfigurationError::BadConfig);
+        }
+        if is_double(&zones, &zone) {
             return Err(ConfigurationError::BadConfig);
         }
         zones.push(zone)?;
@@ -276,8 +326,11 @@ fn configuration_of(
     heap: Heap,
     document: &Value,
 ) -> Result<Configuration, ConfigurationError>
-    ensures { IfOk result (Describes (view document.now)) }
+    ensures { Reads (Describes (view document.now)) result }
 {
+    if !has_keys(document, 2) {
+        return Err(ConfigurationError::BadConfig);
+    }
     let Some(text) = text_at(document, "listen") else {
         return Err(ConfigurationError::BadConfig);
     };
@@ -288,7 +341,7 @@ fn configuration_of(
         return Err(ConfigurationError::BadConfig);
     };
     let zones = all_settings(alloc, heap, tables.as_slice())?;
-    if zones.is_empty() || !has_keys(document, 2) {
+    if zones.is_empty() {
         return Err(ConfigurationError::BadConfig);
     }
     Ok(Configuration { listen, zones })
@@ -302,7 +355,7 @@ impl Configuration {
         heap: Heap,
         octets: &[u8],
     ) -> Result<Configuration, ConfigurationError>
-        ensures described { IfOk result (IsDescribedBy octets.now) }
+        ensures described { Reads (IsDescribedBy octets.now) result }
         ensures valid { IfOk result IsConfiguration }
     {
         let Ok(text) = std::str::from_utf8(octets) else {

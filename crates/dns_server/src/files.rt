@@ -142,7 +142,7 @@ pub(crate) fn load(
     octets: Option<&[u8]>,
     apex: Name,
 ) -> Result<(Zone<RecordList>, usize), Fault>
-    ensures found { IfOk result (λ z. (records : List Record) × (loaded (option_copied octets.entry) apex ≡ Ok records) × (z.1 ≡ length records) × IsSetOf records z.0.records) }
+    ensures found { IfOk result (λ z. (records : List Record) × (loaded (option_copied octets.entry) apex ≡ Ok records) × (z.1 ≡ length records) × (z.0.apex ≡ apex) × IsSetOf records z.0.records) }
     ensures refused { IfErr result (λ f. (is_memory f ≡ true) ⊎ (loaded (option_copied octets.entry) apex ≡ Err f)) }
 {
     let Some(octets) = octets else {

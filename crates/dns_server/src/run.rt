@@ -1,5 +1,12 @@
 //! A script over the zones of a configuration.
-use crate::configuration::{Configuration, ConfigurationError};
+ghost use Rattle.std.specs.Prelude.{◌≡◌, ◌⊎◌, true, MatchResult, IfOk};
+ghost use Rattle.std.specs.List.{AllZip};
+ghost use Rattle.std.specs.Option.{option_copied};
+ghost use Rattle.std.specs.String.{string_bytes};
+ghost use Rattle.dns_server.specs.Checks.{is_memory};
+ghost use Rattle.dns_server.specs.Replays.{Holds, IsFirstFault, IsLoaded, ReplayEnds, ScriptEnds, octets_at};
+
+use crate::configuration::{Configuration, ConfigurationError, ZoneSettings};
 use crate::files::{DONE, FAILED, Fault, File, load, tell};
 use crate::script::{Ending, run_script};
 use dns_memory::Heap;
@@ -8,7 +15,9 @@ use std::alloc::Global;
 use std::io::{self, Write};
 
 /// The configuration that a file holds.
-fn configuration(alloc: Global, heap: Heap, file: &File<'_>) -> Result<Configuration, Fault> {
+fn configuration(alloc: Global, heap: Heap, file: &File<'_>) -> Result<Configuration, Fault>
+    ensures { Holds (option_copied file.now.octets) result }
+{
     let Some(octets) = file.octets else {
         return Err(Fault::Unreadable);
     };
@@ -20,13 +29,57 @@ fn configuration(alloc: Global, heap: Heap, file: &File<'_>) -> Result<Configura
 }
 
 /// The octets of the file of a path, if it is given and can be read.
-fn octets_of<'a>(files: &[File<'a>], path: &str) -> Option<&'a [u8]> {
+fn octets_at<'a>(files: &[File<'a>], path: &str) -> Option<&'a [u8]>
+    ensures { option_copied result ≡ octets_at files.now path.now }
+{
     for file in files {
         if file.path == path {
             return file.octets;
         }
     }
     None
+}
+
+/// The zones of these settings, each with what its file holds, or the first file, with its path, that holds none.
+fn load_all(
+    alloc: Global,
+    heap: Heap,
+    files: &[File<'_>],
+    settings: Vec<ZoneSettings>,
+) -> Result<Vec<Zone<RecordList>>, (String, Fault)>
+    ensures { MatchResult result (λ zones. AllZip (IsLoaded files.now) settings.items zones.items) (λ e. (is_memory e.1 ≡ true) ⊎ IsFirstFault files.now settings.items (string_bytes e.0) e.1) }
+{
+    let mut zones = Vec::new(alloc);
+    'zones: for zone in settings {
+        match load(heap, octets_at(files, &zone.file), zone.origin) {
+            Ok((loaded, _)) => match zones.push(loaded) {
+                Ok(()) => {}
+                Err(_) => return Err((zone.file, Fault::OutOfMemory)),
+            },
+            Err(fault) => return Err((zone.file, fault)),
+        }
+    }
+    Ok(zones)
+}
+
+/// Runs a script that a file holds over the zones, and gives the exit status.
+fn run<W: Write, E: Write>(
+    heap: Heap,
+    zones: &[Zone<RecordList>],
+    script: &File<'_>,
+    out: &mut W,
+    err: &mut E,
+) -> io::Result<u8>
+    ensures { IfOk result (ScriptEnds zones.now script.now (W.contents out.old) (W.contents out.new) (E.contents err.old) (E.contents err.new)) }
+{
+    let Some(lines) = script.octets else {
+        return tell(err, script.path, Fault::Unreadable);
+    };
+    match run_script(heap, zones, lines, out) {
+        Ending::Done => Ok(DONE),
+        Ending::Syntax(line) => tell(err, script.path, Fault::Syntax(line)),
+        Ending::Failed => Ok(FAILED),
+    }
 }
 
 /// Reads the files, runs the script, and gives the exit status.
@@ -38,25 +91,16 @@ fn replayed<W: Write, E: Write>(
     script: &File<'_>,
     out: &mut W,
     err: &mut E,
-) -> io::Result<u8> {
+) -> io::Result<u8>
+    ensures { IfOk result (ReplayEnds config.now files.now script.now (W.contents out.old) (W.contents out.new) (E.contents err.old) (E.contents err.new)) }
+{
     let settings = match configuration(alloc, heap, config) {
         Ok(configuration) => configuration.zones,
         Err(fault) => return tell(err, config.path, fault),
     };
-    let mut zones: Vec<Zone<RecordList>> = Vec::new(alloc);
-    for zone in settings {
-        match load(heap, octets_of(files, &zone.file), zone.origin) {
-            Ok((zone, _)) => zones.push(zone)?,
-            Err(fault) => return tell(err, &zone.file, fault),
-        }
-    }
-    let Some(lines) = script.octets else {
-        return tell(err, script.path, Fault::Unreadable);
-    };
-    match run_script(heap, &zones, lines, out) {
-        Ending::Done => Ok(DONE),
-        Ending::Syntax(line) => tell(err, script.path, Fault::Syntax(line)),
-        Ending::Failed => Ok(FAILED),
+    match load_all(alloc, heap, files, settings) {
+        Ok(zones) => run(heap, &zones, script, out, err),
+        Err((path, fault)) => tell(err, &path, fault),
     }
 }
 
@@ -71,6 +115,8 @@ pub fn replay<W: Write, E: Write>(
     script: &File<'_>,
     out: &mut W,
     err: &mut E,
-) -> u8 {
+) -> u8
+    ensures { ReplayEnds config.now files.now script.now (W.contents out.old) (W.contents out.new) (E.contents err.old) (E.contents err.new) result }
+{
     replayed(alloc, heap, config, files, script, out, err).unwrap_or(FAILED)
 }

@@ -1,8 +1,10 @@
-use Rattle.std.proofs.Common.{◌≡◌, Some, add-one, get_or, sym, ap, ◌∙◌, arith, rules}
+use Rattle.std.proofs.Common.{◌≡◌, Some, add-one, get_or, sym, ap, subst, ◌∙◌, arith, rules}
 use Rattle.toml.specs.Data.{as_str}
 use Rattle.toml.specs.View.{view}
+use Rattle.toml.specs.declared.value.Value.{Value}
 use Rattle.dns_policy.specs.Prefix.{IsPrefix}
 use Rattle.dns_server.specs.Settings.{HasPrefix}
+use Rattle.dns_server.proofs.Unread.{misfit, no_prefix_there, no_text}
 use Rattle.dns_server.proofs.Zipped.{zipped_more}
 use Rattle.dns_server.proofs.configuration.prefixes.Goals as goal
 
@@ -15,3 +17,9 @@ texts-preserved c =
     (c.in-Some.text.now, ap (λ v. as_str (view v)) (sym c.value-item.is) ∙ text, prefix)) in
     let more = zipped_more view HasPrefix c.args.texts.now c.texts.value-index value c.texts.prefixes.items c.in-Ok.prefix (omega arith) c.texts.invariant here in
     rw (add-one, c.in_ok-push-in-Ok.ensures.items) more
+
+pub returns-in_default : goal.returns-in_default
+returns-in_default c = λ ps h. misfit view HasPrefix c.args.texts.now c.texts.value-index c.value-item.result ps.items (omega arith) (λ p q. no_text (view c.value-item.result) p c.in_default.ensures (subst (λ (v : Value). HasPrefix (view v) p) (sym c.value-item.is) q)) h
+
+pub returns-in-Err : goal.returns-in-Err
+returns-in-Err c = λ ps h. misfit view HasPrefix c.args.texts.now c.texts.value-index c.value-item.result ps.items (omega arith) (λ p q. no_prefix_there (view c.value-item.result) c.in-Some.text.now _ _ p c.in-Some.ensures c.as_bytes.ensures.value c.in-Err.ensures (subst (λ (v : Value). HasPrefix (view v) p) (sym c.value-item.is) q)) h

@@ -1,7 +1,6 @@
-use Rattle.std.proofs.Common.{◌≡◌, ℕ, List, sym, ap, subst, ◌∙◌}
+use Rattle.std.proofs.Common.{◌≡◌, ℕ, List, sym, ap, ◌∙◌}
 use Rattle.dns_wire.specs.Message.{header_of}
 use Rattle.dns_request.specs.Request.{Request, Query, request_of}
-use Rattle.dns_request.specs.Shown.{IsOf}
 use Rattle.dns_request.specs.declared.request.Transport.TheVariants.{Udp}
 use Rattle.dns_answer.specs.Answer.{Replies, answered, fitted, handled_as}
 use Rattle.dns_server.specs.Served.{for_now}

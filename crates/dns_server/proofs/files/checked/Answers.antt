@@ -9,7 +9,7 @@ returns-in_ok-print_good-in-Ok-load g c =
     let soa = c.soa.result.now in
     let octets = option_copied c.args.file.now.octets in
     good octets c.args.file.now.path.now c.args.origin.now _ _ (g.E.Write.contents c.args.err.now) c.in-Ok.apex found.0 soa c.in-Ok-load.count c.serial.result
-    c.in-Ok.ensures found.1 (soa_among found.0 _ soa found.3 c.soa.ensures.one) c.soa.ensures.soa found.2 c.serial.ensures c.in_ok-print_good-in-Ok-load.ensures
+    c.in-Ok.ensures found.1 (soa_among found.0 _ soa found.4 c.soa.ensures.one) c.soa.ensures.soa found.2 c.serial.ensures c.in_ok-print_good-in-Ok-load.ensures
 
 pub returns-in-Err-load : goal.returns-in-Err-load
 returns-in-Err-load g c =

@@ -1,11 +1,13 @@
-use Rattle.std.proofs.Common.{IfOk, Result, Ok, Err}
+use Rattle.std.proofs.Common.{Result, Ok, Err}
+use Rattle.std.specs.Prelude.{IfOk}
 use Rattle.toml.specs.Data.{Data}
 use Rattle.dns_server.specs.declared.configuration.Configuration.{Configuration}
-use Rattle.dns_server.specs.Settings.{Describes, IsConfiguration}
+use Rattle.dns_server.specs.declared.configuration.ConfigurationError.{ConfigurationError}
+use Rattle.dns_server.specs.Settings.{Describes, IsConfiguration, Reads}
 use Rattle.dns_server.proofs.Zipped.{described_valid}
 use Rattle.dns_server.proofs.configuration.Configuration.read.Goals as goal
 
-valid : {E : Type 0} (d : Data) (r : Result Configuration E) → IfOk r (Describes d) → IfOk r IsConfiguration
+valid : (d : Data) (r : Result Configuration ConfigurationError) → Reads (Describes d) r → IfOk r IsConfiguration
 valid d (Ok c) h = described_valid d c h
 valid d (Err e) h = tt
 

@@ -1,0 +1,85 @@
+-- How a run of a script over the zones of a configuration ends.
+use Rattle.std.specs.Prelude.{◌≡◌, ⊤, ◌⊎◌, ℕ, ◌≤◌, List, [], ◌∷◌, Option, Some, None, Result, Ok, Err, bytes_eq, if◌then◌else◌}
+use Rattle.std.specs.List.{AllZip}
+use Rattle.std.specs.Option.{option_copied}
+use Rattle.std.specs.String.{string_bytes}
+use Rattle.std.specs.Io.KnownBytes.{Appends, Keeps}
+use Rattle.dns_records.specs.Record.{Record}
+use Rattle.dns_zone.specs.Made.{IsSetOf}
+use Rattle.dns_zone.specs.Zone.{Zone}
+use Rattle.dns_server.specs.declared.configuration.ZoneSettings.{ZoneSettings}
+use Rattle.dns_server.specs.declared.configuration.Configuration.{Configuration}
+use Rattle.dns_server.specs.declared.files.File.{File}
+use Rattle.dns_server.specs.declared.files.Fault.{Fault}
+use Rattle.dns_server.specs.declared.files.Fault.TheVariants.{OutOfMemory, Unreadable, BadConfig, Syntax}
+use Rattle.dns_server.specs.declared.script.Ending.TheVariants as ending
+use Rattle.dns_server.specs.Checks.{line, loaded, told}
+use Rattle.dns_server.specs.Scripts.{RunsInto, lines}
+use Rattle.dns_server.specs.Settings.{IsDescribedBy}
+
+-- The configuration that a file holds, or why it holds none.
+abbrev pub Holds : Option (List ℕ) → Result Configuration Fault → Type 0
+Holds None (Err Unreadable) = ⊤
+Holds (Some octets) (Ok c) = IsDescribedBy octets c
+Holds (Some octets) (Err BadConfig) = (c : Configuration) → ¬ (IsDescribedBy octets c)
+Holds octets (Err OutOfMemory) = ⊤
+Holds octets r = ⊥
+
+-- The octets of the first file with that path, if it is given and can be read.
+abbrev pub octets_at : List File → List ℕ → Option (List ℕ)
+octets_at [] path = None
+octets_at (f ∷ files) path = if bytes_eq f.path.now path then option_copied f.octets else octets_at files path
+
+-- What the file of a zone holds; the zone that it is.
+abbrev pub held : List File → ZoneSettings → Result (List Record) Fault
+held files z = loaded (octets_at files (string_bytes z.file)) z.origin
+
+pub record IsLoaded (files : List File) (settings : ZoneSettings) (zone : Zone) : Type 0 where
+  pub records : List Record
+  pub read : held files settings ≡ Ok records
+  pub apex : zone.apex ≡ settings.origin
+  pub same : IsSetOf records zone.records
+
+-- The first zone, in order, whose file holds none, its path and why.
+abbrev pub IsFirstFault : List File → List ZoneSettings → List ℕ → Fault → Type 0
+IsFirstFault files [] path fault = ⊥
+IsFirstFault files (z ∷ rest) path fault =
+    ((path ≡ string_bytes z.file) × (held files z ≡ Err fault))
+    ⊎ ((records : List Record) × (held files z ≡ Ok records) × IsFirstFault files rest path fault)
+
+-- The zones of the configuration that a file holds.
+pub record AreHeld (config : Option (List ℕ)) (files : List File) (zones : List Zone) : Type 0 where
+  pub configuration : Configuration
+  pub described : Holds config (Ok configuration)
+  pub loaded : AllZip (IsLoaded files) configuration.zones.items zones
+
+-- What a run of a script over zones wrote, by its exit status: with 0 what all its lines print, with 1 what those before the first
+-- print that is no command, and that line is told; or that the script can't be read. With 3 a writer failed or memory was refused.
+abbrev pub IsScriptFault : List Zone → Option (List ℕ) → Fault → Option (List ℕ) → Option (List ℕ) → Type 0
+IsScriptFault zones None Unreadable out out_after = Keeps out out_after
+IsScriptFault zones (Some octets) (Syntax number) out out_after = RunsInto zones (lines octets) (ending.Syntax number) out out_after
+IsScriptFault zones octets fault out out_after = ⊥
+
+abbrev pub Ran : List Zone → Option (List ℕ) → Option (List ℕ) → Option (List ℕ) → Type 0
+Ran zones None out out_after = ⊥
+Ran zones (Some octets) out out_after = RunsInto zones (lines octets) ending.Done out out_after
+
+pub record ScriptEnds (zones : List Zone) (script : File) (out out_after err err_after : Option (List ℕ)) (status : ℕ) : Type 0 where
+  pub done : status ≡ 0 → Ran zones (option_copied script.octets) out out_after × Keeps err err_after
+  pub refused : status ≡ 1 → (fault : Fault) × IsScriptFault zones (option_copied script.octets) fault out out_after × Appends err err_after (line (told script.path.now fault))
+  pub others : status ≤ 1 ⊎ (status ≡ 3)
+
+-- The fault that is told, behind a path, before the script runs: of the configuration, or else of the first master file that holds no
+-- zone, in the order of the zones.
+abbrev pub IsFault : File → List File → List ℕ → Fault → Type 0
+IsFault config files path fault =
+    ((path ≡ config.path.now) × Holds (option_copied config.octets) (Err fault))
+    ⊎ ((c : Configuration) × Holds (option_copied config.octets) (Ok c) × IsFirstFault files c.zones.items path fault)
+
+-- How a run with a configuration, files and a script ends: nothing runs, and the first fault is told; or the script ran over the
+-- zones that are held; or, with status 3, a writer failed or memory was refused.
+abbrev pub ReplayEnds : File → List File → File → Option (List ℕ) → Option (List ℕ) → Option (List ℕ) → Option (List ℕ) → ℕ → Type 0
+ReplayEnds config files script out out_after err err_after status =
+    ((status ≡ 1) × Keeps out out_after × ((path : List ℕ) × (fault : Fault) × IsFault config files path fault × Appends err err_after (line (told path fault))))
+    ⊎ ((zones : List Zone) × AreHeld (option_copied config.octets) files zones × ScriptEnds zones script out out_after err err_after status)
+    ⊎ (status ≡ 3)
