@@ -1,4 +1,4 @@
-// What a plan counts can be seen by no clause, and neither can it that a call succeeds.
+//! What a plan counts can be seen by no clause, and neither can it that a call succeeds.
 use dns_memory::{Heap, heap};
 use dns_sectors::{Keep, MemorySectors, Plan, SectorWrite, Sectors, write_all, write_phase};
 use std::process::Abort;

@@ -1,4 +1,4 @@
-// The octets of each kind of sector, against the format's table.
+//! The octets of each kind of sector, against the format's table.
 use dns_layout::{
     Apex, Bank, Body, Head, LayoutError, Root, SnapshotPart, entry_sectors, padded,
     snapshot_sectors,

@@ -1,4 +1,4 @@
-// A zone's name as a root holds it.
+//! A zone's name as a root holds it.
 ghost use Rattle.std.specs.Prelude.{◌≡◌, ◌≤◌, ◌↔◌, ⊤, ℕ, List, take, IsTrue, MatchOption};
 ghost use Rattle.dns_layout.specs.Apex.{IsPlain, apex_octets};
 

@@ -1,4 +1,4 @@
-// A body of an entry.
+//! A body of an entry.
 ghost use Rattle.std.specs.Prelude.{◌≡◌, ◌≢◌, IfOk, IfErr, Ok};
 ghost use Rattle.dns_layout.specs.Sector.{blank, tag, body_tag};
 ghost use Rattle.dns_layout.specs.Forms.{SaysBody, body_octets};

@@ -1,4 +1,4 @@
-// How many sectors octets take.
+//! How many sectors octets take.
 ghost use Rattle.std.specs.Prelude.{◌≡◌};
 ghost use Rattle.dns_layout.specs.Sector.{entry_sectors as sectors_of_entry, snapshot_sectors as sectors_of_snapshot};
 

@@ -1,4 +1,4 @@
-// The fields that every sector has, as octets.
+//! The fields that every sector has, as octets.
 ghost use Rattle.std.specs.Prelude.{◌≡◌, ◌≢◌, ◌≤◌, ◌<◌, ◌+◌, ◌^◌, ◌++◌, take, drop, length, replicate, ◌-◌, ◌↔◌, IsTrue, IfOk, IfErr};
 ghost use Rattle.byteorder.specs.Endian.{big_bytes, big_number};
 ghost use Rattle.dns_layout.specs.Sector.{AreZeros, tag, sector_of, HasFields, head_room, payload_room};

@@ -1,4 +1,4 @@
-// The head of an entry.
+//! The head of an entry.
 ghost use Rattle.std.specs.Prelude.{◌≡◌, ◌≢◌, ◌+◌, IfOk, IfErr, Ok};
 ghost use Rattle.dns_layout.specs.Sector.{blank, entry_sectors as sectors_of_entry};
 ghost use Rattle.dns_layout.specs.Forms.{SaysHead, head_octets, HeadRefused};

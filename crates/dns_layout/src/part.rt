@@ -1,4 +1,4 @@
-// A part of a snapshot.
+//! A part of a snapshot.
 ghost use Rattle.std.specs.Prelude.{◌≡◌, ◌≢◌, IfOk, IfErr, Ok};
 ghost use Rattle.dns_layout.specs.Sector.{blank, tag, snapshot_tag};
 ghost use Rattle.dns_layout.specs.Forms.{SaysPart, part_octets};

@@ -1,4 +1,4 @@
-// The root of a store.
+//! The root of a store.
 ghost use Rattle.std.specs.Prelude.{◌≡◌, ◌≢◌, ◌≤◌, ◌-◌, IfOk, IfErr, MatchOption, Ok};
 ghost use Rattle.dns_layout.specs.Sector.{blank};
 ghost use Rattle.dns_layout.specs.Forms.{SaysRoot, root_octets, RootRefused, bank_number};

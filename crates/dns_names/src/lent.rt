@@ -1,3 +1,4 @@
+//! A name that is lent: octets that stand elsewhere, as a message or a zone holds them.
 ghost use Rattle.std.specs.Prelude.{◌≡◌, ℕ, List, ◌∷◌, ◌++◌, ◌↔◌, Some, None, IfOk, IfSome, IfNone, IsTrue, length, map};
 ghost use Rattle.std.specs.Char.{to_ascii_lowercase};
 ghost use Rattle.dns_names.specs.Name.{Labels, IsName, IsUnder, wire, parent, is_wildcard, name_cmp};

@@ -1,3 +1,4 @@
+//! Names of their own: read from text or from wire form, lower case, within 255 octets (RFC 1035 section 2.3.4).
 ghost use Rattle.std.specs.Prelude.{◌≡◌, ℕ, ◌+◌, ◌≤◌, List, length, map, take, slice_get, Some, None, IfOk, IfErr, IsTrue, ◌↔◌, [], Ok, Err, ◌⊎◌, MatchResult};
 ghost use Rattle.dns_names.specs.Text.{name_of_text, printed_name};
 ghost use Rattle.std.specs.Char.{to_ascii_lowercase};

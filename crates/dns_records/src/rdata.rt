@@ -1,3 +1,4 @@
+//! The data of a record, as octets that have the form of its type.
 ghost use Rattle.std.specs.Prelude.{◌≡◌, ◌↔◌, IsTrue, IfOk, IfSome, refl};
 ghost use Rattle.std.specs.Ordering.{as_partial_cmp};
 ghost use Rattle.dns_records.specs.Compare.{same_data, same_data-per, same_data-equiv, data_cmp, data_cmp-po, data_cmp-total, data_cmp-ties};

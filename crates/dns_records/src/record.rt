@@ -1,3 +1,4 @@
+//! A record: owner, TTL and data, and its plain form.
 ghost use Rattle.std.specs.Prelude.{◌≡◌, ◌++◌, ◌↔◌, IsTrue, OnOk};
 ghost use Rattle.dns_records.specs.Compare.{same_record, same_record-per, same_record-equiv};
 ghost use Rattle.dns_records.specs.Record.{Record as Stated, plain, IsRecord, record_of, data_of, record_cmp};

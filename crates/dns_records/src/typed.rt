@@ -1,3 +1,4 @@
+//! The data of some types by its fields.
 use dns_names::NameRef;
 
 /// The start of a zone of authority (RFC 1035 section 3.3.13). Times are seconds.

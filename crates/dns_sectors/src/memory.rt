@@ -1,4 +1,4 @@
-// Sectors in memory, with a record of the writes and syncs that were made, so that each crash can be tried.
+//! Sectors in memory, with a record of the writes and syncs that were made, so that each crash can be tried.
 ghost use Rattle.std.specs.Prelude.{◌≡◌, ◌≤◌, ◌<◌, ◌+◌, ◌-◌, ◌^◌, ◌⊎◌, ◌++◌, [], ◌∷◌, List, length, replicate, vec_len, vec_capacity, slice_set, slice_get, Some, false, if◌then◌else◌, IfOk, OnOk, OnErr, IsErr};
 ghost use Rattle.dns_sectors.specs.Device.{CountsFailure};
 ghost use Rattle.dns_sectors.specs.Crash.{applied, contents, MayBeLeft};

@@ -1,3 +1,4 @@
+//! Requests and replies whose octets were worked out by hand.
 use crate::given::small;
 use dns_memory::{Heap, heap};
 use dns_server::answer_datagram;

@@ -1,3 +1,4 @@
+//! Calls with each allocation refused in turn.
 use crate::given::small;
 use dns_memory::{Heap, heap};
 use dns_server::{DONE, FAILED, File, answer_datagram, check};

@@ -1,3 +1,4 @@
+//! Scripts: their lines, and what is printed of them.
 use crate::given::{Full, small};
 use dns_memory::{Heap, heap};
 use dns_server::{Ending, run_script};

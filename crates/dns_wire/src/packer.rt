@@ -1,3 +1,4 @@
+//! The compression of names: where a suffix was written before (RFC 1035 section 4.1.4).
 ghost use Rattle.std.specs.Prelude.{◌≡◌, ◌+◌, ◌<◌, ◌≤◌, [], ◌++◌, length, IfErr, IfSome, OnOk};
 ghost use Rattle.std.specs.Option.{option_map};
 ghost use Rattle.dns_names.specs.Name.{labels_of, names_eq};

@@ -1,3 +1,4 @@
+//! A record written behind a message's octets, its names compressed.
 ghost use Rattle.std.specs.Prelude.{◌≡◌, ◌+◌, ◌-◌, ◌<◌, ◌≤◌, ◌++◌, length, take, drop, IfErr, OnOk};
 ghost use Rattle.std.specs.Int.{w16, to_be_bytes as be_octets};
 ghost use Rattle.dns_names.specs.Name.{labels_of, wire};

@@ -1,3 +1,4 @@
+//! A record of a message: its fields, and the record that it is.
 ghost use Rattle.std.specs.Prelude.{◌≡◌, ◌+◌, ◌≤◌, [], ◌∷◌, ◌++◌, length, IfOk, IfErr, IfSome, IfNone};
 ghost use Rattle.dns_records.specs.Refusals.{RefusesData};
 ghost use Rattle.dns_wire.specs.Message.{record_of_item, data_of_item};

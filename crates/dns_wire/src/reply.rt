@@ -1,3 +1,4 @@
+//! What a reply says, before it is written.
 ghost use Rattle.std.specs.Prelude.{◌≡◌};
 ghost use Rattle.dns_records.specs.Record.{IsRecord};
 

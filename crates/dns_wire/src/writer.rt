@@ -1,3 +1,4 @@
+//! Replies written as messages, within a limit (RFC 1035 section 4.1).
 ghost use Rattle.std.specs.Int.{w16, to_be_bytes as be_octets};
 ghost use Rattle.std.specs.Prelude.{◌≡◌, ℕ, List, [], ◌+◌, ◌*◌, ◌++◌, ◌<◌, ◌≤◌, Err, IfOk, IfErr, OnOk, length};
 ghost use Rattle.dns_wire.specs.Puts.{Wrote, RefusesUpTo, asked};

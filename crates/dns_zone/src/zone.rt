@@ -1,3 +1,4 @@
+//! A valid zone: its apex and its records (RFC 1034 section 4.2).
 ghost use Rattle.std.specs.Prelude.{◌≡◌, ◌⊎◌, Some, None, IfOk, IfErr, OnOk};
 ghost use Rattle.dns_zone.specs.Zone.{IsZone, zone_fault};
 ghost use Rattle.dns_zone.specs.Made.{IsSetOf};

@@ -1,3 +1,4 @@
+//! Random commands on sets of records, against a plain list.
 use crate::given::{Kind, name, record};
 use dns_memory::{Heap, heap};
 use dns_names::{Name, NameRef};

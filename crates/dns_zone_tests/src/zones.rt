@@ -1,3 +1,4 @@
+//! Lists of records that are zones or are refused, with the refusal.
 use crate::given::{Kind, name, record};
 use dns_memory::{Heap, heap};
 use dns_records::{RData, Record};
