@@ -103,5 +103,9 @@ pub record IsBad (octets : Option (List ℕ)) (path origin text : List ℕ) : Ty
 -- What a run of `check` wrote to the two writers, by its exit status. With status 3 a writer failed or memory was refused.
 pub record CheckEnds (octets : Option (List ℕ)) (path origin : List ℕ) (out out_after err err_after : Option (List ℕ)) (status : ℕ) : Type 0 where
   pub done : status ≡ 0 → (text : List ℕ) × IsGood octets origin text × Appends out out_after (line text) × Keeps err err_after
-  pub refused : status ≡ 1 → (text : List ℕ) × (IsUnnamed origin text ⊎ IsBad octets path origin text) × Appends err err_after (line text) × Keeps out out_after
+  pub refused : status ≡ 1
+      → (text : List ℕ)
+      × (IsUnnamed origin text ⊎ IsBad octets path origin text)
+      × Appends err err_after (line text)
+      × Keeps out out_after
   pub others : status ≤ 1 ⊎ (status ≡ 3)

@@ -66,7 +66,10 @@ Ran zones (Some octets) out out_after = RunsInto zones (lines octets) ending.Don
 
 pub record ScriptEnds (zones : List Zone) (script : File) (out out_after err err_after : Option (List ℕ)) (status : ℕ) : Type 0 where
   pub done : status ≡ 0 → Ran zones (option_copied script.octets) out out_after × Keeps err err_after
-  pub refused : status ≡ 1 → (fault : Fault) × IsScriptFault zones (option_copied script.octets) fault out out_after × Appends err err_after (line (told script.path.now fault))
+  pub refused : status ≡ 1
+      → (fault : Fault)
+      × IsScriptFault zones (option_copied script.octets) fault out out_after
+      × Appends err err_after (line (told script.path.now fault))
   pub others : status ≤ 1 ⊎ (status ≡ 3)
 
 -- The fault that is told, behind a path, before the script runs: of the configuration, or else of the first master file that holds no

@@ -90,7 +90,8 @@ fn port(text: &str) -> Option<u16>
 
 /// What stands between brackets.
 fn between_brackets(text: &[u8]) -> Option<&[u8]>
-    ensures { MatchOption result ((inner : List ℕ) → text.now ≢ 91 ∷ inner ++ 93 ∷ []) (λ inner. text.now ≡ 91 ∷ inner.now ++ 93 ∷ []) }
+    ensures { MatchOption result ((inner : List ℕ) → text.now ≢ 91 ∷ inner ++ 93 ∷ [])
+        (λ inner. text.now ≡ 91 ∷ inner.now ++ 93 ∷ []) }
 {
     match text {
         [b'[', inner @ .., b']'] => Some(inner),
@@ -169,7 +170,8 @@ fn text_at<'a>(table: &'a Value, key: &str) -> Option<&'a str>
 
 /// The number at a key of a table.
 fn number_at(table: &Value, key: &str) -> Option<u32>
-    ensures { MatchOption result ((n : ℕ) → n < 2 ^ 32 → number_at key.now (view table.now) ≢ Some (pos n)) (λ n. number_at key.now (view table.now) ≡ Some (pos n)) }
+    ensures { MatchOption result ((n : ℕ) → n < 2 ^ 32 → number_at key.now (view table.now) ≢ Some (pos n))
+        (λ n. number_at key.now (view table.now) ≡ Some (pos n)) }
 {
     match table.get(key) {
         Some(value) => u32::try_from(value.as_integer()?).ok(),

@@ -19,7 +19,9 @@ fn header_alone(
     header: &[u8; 12],
     rcode: Rcode,
 ) -> Result<Option<Vec<u8, Heap>>, AllocError>
-    ensures { IfOk result (λ reply. Replies (text (bare_reply (header_of header.now) (number_of_rcode rcode))) ≡ sent (option_map (λ v. v.items) reply)) }
+    ensures { IfOk result
+        (λ reply. Replies (text (bare_reply (header_of header.now) (number_of_rcode rcode)))
+        ≡ sent (option_map (λ v. v.items) reply)) }
 {
     Ok(Some(Vec::from_slice(alloc, &header_only(header, rcode))?))
 }

@@ -116,7 +116,9 @@ impl fmt::Display for Told<'_> {
 
 /// Tells in one line what is wrong with the file or the word, and gives the exit status. Of refused memory nothing is told.
 pub(crate) fn tell<E: Write>(err: &mut E, what: &str, fault: Fault) -> io::Result<u8>
-    ensures { IfOk result (λ status. MatchBool (is_memory fault) (status ≡ FAILED) ((status ≡ REFUSED) × Appends (E.contents err.old) (E.contents err.new) (line (told what.now fault)))) }
+    ensures { IfOk result
+        (λ status. MatchBool (is_memory fault) (status ≡ FAILED)
+        ((status ≡ REFUSED) × Appends (E.contents err.old) (E.contents err.new) (line (told what.now fault)))) }
 {
     if is_memory(fault) {
         return Ok(FAILED);
@@ -127,7 +129,8 @@ pub(crate) fn tell<E: Write>(err: &mut E, what: &str, fault: Fault) -> io::Resul
 
 /// The name that a text is, under the root.
 pub(crate) fn apex(alloc: Heap, text: &str) -> Result<Name, Fault>
-    ensures { MatchResult result (λ name. name_of_text [] text.now ≡ Ok name) (λ f. (f ≡ Fault.OutOfMemory) ⊎ ((f ≡ Fault.BadOrigin) × ((e : StatedError) × (name_of_text [] text.now ≡ Err e)))) }
+    ensures { MatchResult result (λ name. name_of_text [] text.now ≡ Ok name)
+        (λ f. (f ≡ Fault.OutOfMemory) ⊎ ((f ≡ Fault.BadOrigin) × ((e : StatedError) × (name_of_text [] text.now ≡ Err e)))) }
 {
     match Name::from_text(alloc, text.as_bytes(), &Name::root(alloc)) {
         Ok(name) => Ok(name),
@@ -142,7 +145,12 @@ pub(crate) fn load(
     octets: Option<&[u8]>,
     apex: Name,
 ) -> Result<(Zone<RecordList>, usize), Fault>
-    ensures found { IfOk result (λ z. (records : List Record) × (loaded (option_copied octets.entry) apex ≡ Ok records) × (z.1 ≡ length records) × (z.0.apex ≡ apex) × IsSetOf records z.0.records) }
+    ensures found { IfOk result
+        (λ z. (records : List Record)
+        × (loaded (option_copied octets.entry) apex ≡ Ok records)
+        × (z.1 ≡ length records)
+        × (z.0.apex ≡ apex)
+        × IsSetOf records z.0.records) }
     ensures refused { IfErr result (λ f. (is_memory f ≡ true) ⊎ (loaded (option_copied octets.entry) apex ≡ Err f)) }
 {
     let Some(octets) = octets else {
@@ -174,7 +182,9 @@ fn checked<W: Write, E: Write>(
     out: &mut W,
     err: &mut E,
 ) -> io::Result<u8>
-    ensures { IfOk result (λ status. CheckEnds (option_copied file.now.octets) file.now.path.now origin.now (W.contents out.old) (W.contents out.new) (E.contents err.old) (E.contents err.new) status) }
+    ensures { IfOk result
+        (λ status. CheckEnds (option_copied file.now.octets) file.now.path.now origin.now (W.contents out.old)
+        (W.contents out.new) (E.contents err.old) (E.contents err.new) status) }
 {
     let apex = match apex(alloc, origin) {
         Ok(apex) => apex,
@@ -199,7 +209,8 @@ pub fn check<W: Write, E: Write>(
     out: &mut W,
     err: &mut E,
 ) -> u8
-    ensures { CheckEnds (option_copied file.now.octets) file.now.path.now origin.now (W.contents out.old) (W.contents out.new) (E.contents err.old) (E.contents err.new) result }
+    ensures { CheckEnds (option_copied file.now.octets) file.now.path.now origin.now (W.contents out.old) (W.contents out.new)
+        (E.contents err.old) (E.contents err.new) result }
 {
     checked(alloc, file, origin, out, err).unwrap_or(FAILED)
 }

@@ -47,7 +47,8 @@ fn load_all(
     files: &[File<'_>],
     settings: Vec<ZoneSettings>,
 ) -> Result<Vec<Zone<RecordList>>, (String, Fault)>
-    ensures { MatchResult result (λ zones. AllZip (IsLoaded files.now) settings.items zones.items) (λ e. (is_memory e.1 ≡ true) ⊎ IsFirstFault files.now settings.items (string_bytes e.0) e.1) }
+    ensures { MatchResult result (λ zones. AllZip (IsLoaded files.now) settings.items zones.items)
+        (λ e. (is_memory e.1 ≡ true) ⊎ IsFirstFault files.now settings.items (string_bytes e.0) e.1) }
 {
     let mut zones = Vec::new(alloc);
     'zones: for zone in settings {
@@ -70,7 +71,8 @@ fn run<W: Write, E: Write>(
     out: &mut W,
     err: &mut E,
 ) -> io::Result<u8>
-    ensures { IfOk result (ScriptEnds zones.now script.now (W.contents out.old) (W.contents out.new) (E.contents err.old) (E.contents err.new)) }
+    ensures { IfOk result
+        (ScriptEnds zones.now script.now (W.contents out.old) (W.contents out.new) (E.contents err.old) (E.contents err.new)) }
 {
     let Some(lines) = script.octets else {
         return tell(err, script.path, Fault::Unreadable);
@@ -92,7 +94,9 @@ fn replayed<W: Write, E: Write>(
     out: &mut W,
     err: &mut E,
 ) -> io::Result<u8>
-    ensures { IfOk result (ReplayEnds config.now files.now script.now (W.contents out.old) (W.contents out.new) (E.contents err.old) (E.contents err.new)) }
+    ensures { IfOk result
+        (ReplayEnds config.now files.now script.now (W.contents out.old) (W.contents out.new) (E.contents err.old)
+        (E.contents err.new)) }
 {
     let settings = match configuration(alloc, heap, config) {
         Ok(configuration) => configuration.zones,
@@ -116,7 +120,8 @@ pub fn replay<W: Write, E: Write>(
     out: &mut W,
     err: &mut E,
 ) -> u8
-    ensures { ReplayEnds config.now files.now script.now (W.contents out.old) (W.contents out.new) (E.contents err.old) (E.contents err.new) result }
+    ensures { ReplayEnds config.now files.now script.now (W.contents out.old) (W.contents out.new) (E.contents err.old)
+        (E.contents err.new) result }
 {
     replayed(alloc, heap, config, files, script, out, err).unwrap_or(FAILED)
 }

@@ -56,7 +56,8 @@ fn first_blank(text: &[u8]) -> Option<usize>
 
 /// What stands before the first blank, and behind it.
 fn cut_at_blank(text: &[u8]) -> (&[u8], &[u8])
-    ensures parts { MatchOption (position is_blank text.now) ((result.0.now ≡ text.now) × (result.1.now ≡ [])) (λ _. (result.0.now ≡ before_first is_blank text.now) × (result.1.now ≡ after_first is_blank text.now)) }
+    ensures parts { MatchOption (position is_blank text.now) ((result.0.now ≡ text.now) × (result.1.now ≡ []))
+        (λ _. (result.0.now ≡ before_first is_blank text.now) × (result.1.now ≡ after_first is_blank text.now)) }
     ensures shorter { 0 < length text.now → length result.1.now < length text.now }
 {
     match first_blank(text) {
@@ -103,7 +104,9 @@ fn read_command(line: &[u8]) -> Option<Command<'_>>
 
 /// The octets that a datagram's text says: 1 to 65,535 of them.
 fn read_octets(alloc: Heap, text: &[u8]) -> Result<Option<Vec<u8, Heap>>, AllocError>
-    ensures { IfOk result (λ read. MatchOption read ((octets : List ℕ) → ¬ (HasOctets text.now octets)) (λ octets. HasOctets text.now octets.items)) }
+    ensures { IfOk result
+        (λ read. MatchOption read ((octets : List ℕ) → ¬ (HasOctets text.now octets))
+        (λ octets. HasOctets text.now octets.items)) }
 {
     match hex::decode(alloc, text) {
         Ok(octets) if octets.is_empty() || octets.len() > MOST => Ok(None),
@@ -144,7 +147,9 @@ fn run_line<I: ZoneIndex, W: Write>(
     line: &[u8],
     out: &mut W,
 ) -> io::Result<bool>
-    ensures { IfOk result (λ is_command. MatchBool is_command (PrintsInto zones.now line.now (W.contents out.old) (W.contents out.new)) (PrintsNone zones.now line.now (W.contents out.old) (W.contents out.new))) }
+    ensures { IfOk result
+        (λ is_command. MatchBool is_command (PrintsInto zones.now line.now (W.contents out.old) (W.contents out.new))
+        (PrintsNone zones.now line.now (W.contents out.old) (W.contents out.new))) }
 {
     match read_command(line) {
         None => Ok(false),
@@ -168,7 +173,8 @@ fn first_feed(text: &[u8]) -> Option<usize>
 
 /// What stands before the first line feed, and behind it if there is one.
 fn cut_at_feed(text: &[u8]) -> (&[u8], Option<&[u8]>)
-    ensures { MatchOption (position is_feed text.now) ((result.0.now ≡ text.now) × (option_copied result.1 ≡ None)) (λ _. (result.0.now ≡ before_first is_feed text.now) × (option_copied result.1 ≡ Some (after_first is_feed text.now))) }
+    ensures { MatchOption (position is_feed text.now) ((result.0.now ≡ text.now) × (option_copied result.1 ≡ None))
+        (λ _. (result.0.now ≡ before_first is_feed text.now) × (option_copied result.1 ≡ Some (after_first is_feed text.now))) }
 {
     match first_feed(text) {
         Some(end) => (&text[..end], Some(&text[end + 1..])),
