@@ -1,22 +1,22 @@
 -- What is read of a store that is there.
-use Rattle.std.proofs.Common.{◌≡◌, ◌≢◌, ◌⊎◌, inl, inr, ⊎_elim, ℕ, ◌+◌, ◌*◌, ◌-◌, ◌^◌, ◌≤◌, ◌<◌, List, [], ◌∷◌, ◌++◌, length, take, replicate, refl, sym, ◌∙◌, ap, subst, arith, append_assoc}
+use Rattle.std.proofs.Common.{◌≡◌, inl, inr, ⊎_elim, ℕ, ◌+◌, ◌*◌, ◌-◌, ◌^◌, ◌<◌, List, [], ◌∷◌, ◌++◌, length, take, replicate, refl, sym, ◌∙◌, ap, subst, arith, append_assoc}
 use Rattle.std.specs.Prelude.{get_or}
 use Rattle.std.proofs.lemmas.Bool.{cases_lt}
 use Rattle.std.specs.List.{AllByRecursion}
 use Rattle.dns_names.specs.Name.{Labels, IsName, IsLabel as IsLower, wire}
 use Rattle.dns_sectors.specs.Device.{Content}
 use Rattle.dns_layout.specs.Apex.{IsLabel, IsPlain, labels_plain}
-use Rattle.dns_layout.specs.Sector.{blank, tag, root_tag, sector_at, open_count, sequence, number, bank_open}
+use Rattle.dns_layout.specs.Sector.{blank, tag, root_tag, sector_at, open_count, number}
 use Rattle.dns_layout.specs.Forms.{SaysRoot, bank_number}
 use Rattle.dns_layout.specs.Journal.{Reads}
-use Rattle.dns_layout.specs.Store.{Shape, Stored, OpensBy, OpensAs, all_sectors, snapshot_place, journal_place, bank_end}
+use Rattle.dns_layout.specs.Store.{Shape, Stored, OpensBy, OpensAs, snapshot_place, journal_place, bank_end}
 use Rattle.dns_layout.specs.declared.root.Root.{Root}
 use Rattle.dns_journal.specs.declared.read.ReadError.{ReadError}
 use Rattle.dns_journal.specs.declared.read.Cursor.{Cursor}
 use Rattle.dns_journal.specs.Reads.{ReadsFrom}
 use Rattle.dns_store.specs.declared.root.OpenError.{OpenError}
 use Rattle.dns_store.specs.declared.root.OpenError.TheVariants.{Device, Blank, Damaged, Geometry, OutOfMemory}
-use Rattle.dns_store.specs.Root.{IsSound, RootRefusal, open_error}
+use Rattle.dns_store.specs.Root.{RootRefusal, open_error}
 use Rattle.dns_store.specs.Snapshot.{IsBadSnapshot}
 use Rattle.dns_store.specs.Opening.{IsStopped}
 use Rattle.dns_store.proofs.Parts.{no_wrong_part, no_wrong_tail}

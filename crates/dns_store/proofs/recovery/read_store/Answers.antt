@@ -1,9 +1,7 @@
-use Rattle.std.proofs.Common.{rules, arith, inl, inr, ⊎_elim, refl, ◌≡◌, ◌+◌, ◌*◌, List, ℕ, sym, ◌∙◌, ap, subst}
+use Rattle.std.proofs.Common.{inl, inr, ⊎_elim, refl, ◌≡◌, ◌+◌, ◌*◌, List, sym, ◌∙◌, ap, subst}
 use Rattle.std.specs.Prelude.{drop}
-use Rattle.std.specs.List.{flat_map}
 use Rattle.std.proofs.lemmas.Result.{err_from_is_err_and}
-use Rattle.dns_names.specs.Name.{wire}
-use Rattle.dns_records.specs.Record.{Record, plain}
+use Rattle.dns_records.specs.Record.{Record}
 use Rattle.dns_zone.specs.Zone.{IsZone}
 use Rattle.dns_layout.specs.Sector.{sector_at, number}
 use Rattle.dns_layout.specs.Journal.{place_behind, version_behind}
@@ -12,10 +10,9 @@ use Rattle.dns_layout.specs.Store.{snapshot_place}
 use Rattle.dns_journal.specs.declared.read.Cursor.{Cursor}
 use Rattle.dns_journal.specs.Reads.{ReadsFrom}
 use Rattle.dns_journal.proofs.Looking.{reads_then}
-use Rattle.dns_store.specs.Root.{RootRefusal, IsFoundRoot}
+use Rattle.dns_store.specs.Root.{RootRefusal}
 use Rattle.dns_store.specs.Snapshot.{IsBadSnapshot, HoldsSnapshot}
 use Rattle.dns_store.specs.Opens.{AreChanges, base_of, sizes_of}
-use Rattle.dns_store.specs.Opening.{IsStopped}
 use Rattle.dns_store.specs.Versions.{Shape, newest_after}
 use Rattle.dns_store.specs.Recovered.{AreLed}
 use Rattle.dns_store.proofs.Leaves.{newest_split}
