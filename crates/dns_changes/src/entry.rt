@@ -122,7 +122,7 @@ fn split_counted(alloc: Heap, octets: &[u8]) -> Result<(Vec<Record, Heap>, &[u8]
 }
 
 /// How many octets the record has in plain form.
-fn plain_len(r: &Record) -> usize
+pub fn plain_len(r: &Record) -> usize
     ensures value { result ≡ length (plain r.now) }
     ensures valid { IsRecord r.now }
     ensures short { result ≤ 4359 }

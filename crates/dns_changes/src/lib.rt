@@ -10,7 +10,7 @@ mod form;
 pub mod laws;
 
 pub use change::Change;
-pub use entry::split_record;
+pub use entry::{plain_len, split_record};
 use std::alloc::AllocError;
 
 /// Why a change can't be applied, or octets are none. Of the first three `WrongSoa` comes before `RemovesAbsent`, and that

@@ -33,7 +33,7 @@ octets_back octets zs m is = ⊎_elim
     ∙ take-append_seam octets zs)
     (least (length octets))
 
-are_zeros : (k : ℕ) → AreZeros (replicate k 0)
+pub are_zeros : (k : ℕ) → AreZeros (replicate k 0)
 are_zeros k = ap (λ n. replicate {A = ℕ} n 0) (sym (length-replicate k 0))
 
 enough : (n octets rest : ℕ) → n + 1 ≡ entry_sectors octets → rest ≡ octets - head_room → rest ≤ payload_room * n

@@ -1,6 +1,7 @@
 //! A journal that is written: staged entries become durable in two phases, first their bodies and then their heads. Its
 //! entries are `stage` and `flush`.
-ghost use Rattle.std.specs.Prelude.{length, take, drop, replicate, ◌≤◌, ◌+◌, ◌-◌, ◌^◌, ◌++◌, ◌∷◌, ◌≡◌, ◌≢◌, ◌<◌, ◌↔◌, [], ℕ, List, true, false, IsOk, OnOk, OnErr};
+ghost use Rattle.std.specs.Prelude.{length, take, drop, replicate, ◌≤◌, ◌+◌, ◌-◌, ◌^◌, ◌++◌, ◌∷◌, ◌≡◌, ◌≢◌, ◌<◌, ◌↔◌, [], ℕ, List};
+ghost use Rattle.std.specs.Prelude.{true, false, IsOk, OnOk, OnErr};
 ghost use Rattle.dns_sectors.specs.Device.{Only, LeavesOnly, CountsFailure};
 ghost use Rattle.dns_sectors.specs.Crash.{applied, CrashOf};
 ghost use Rattle.dns_sectors.specs.Phase.{pairs, AllWithin};
@@ -67,16 +68,20 @@ impl<D: Sectors> Journal<D> {
     ghost use Rattle.dns_layout.specs.Sector.{open_count, bank_open, number};
     ghost use Rattle.dns_layout.specs.Journal.{Entry, size_of, octets_of, AllBehind, place_behind};
     ghost use Rattle.dns_layout.specs.Store.{Shape, Stored, OpensBy, with_more, bank_end, journal_place, version_of};
-    ghost use Rattle.dns_journal.specs.State.{Keeps, LeavesPart, JournalLeavesOnly, HasFailed, is_closed, device_of, left_of, newest_of};
+    ghost use Rattle.dns_journal.specs.State.{Keeps, LeavesPart, JournalLeavesOnly, HasFailed, is_closed, device_of, left_of};
+    ghost use Rattle.dns_journal.specs.State.{newest_of};
 
     /// A journal on a device that was opened, with nothing staged. It makes no device operation.
     pub fn over(alloc: Heap, device: D, next: Cursor) -> Journal<D>
         requires within { next.until ≤ D.count device }
         requires until { next.at ≤ next.until }
         requires small { next.until ≤ 2 ^ 20 }
-        ensures keeps { (shape : Shape) (k : Stored) (root : List ℕ) (parts : List (List ℕ)) → D.is_honest device → Only (D.seen device) (D.may_leave device)
-            → OpensBy shape (D.seen device) root parts k → bank_open root ≤ open_count root → AllBehind (open_count root) (version_of k) (D.seen device)
-            → next.until ≡ bank_end shape (number root) → next.at ≡ place_behind (journal_place shape (number root)) k.entries → next.version ≡ version_of k → next.opened ≡ open_count root
+        ensures keeps { (shape : Shape) (k : Stored) (root : List ℕ) (parts : List (List ℕ)) → D.is_honest device
+            → Only (D.seen device) (D.may_leave device)
+            → OpensBy shape (D.seen device) root parts k → bank_open root ≤ open_count root
+            → AllBehind (open_count root) (version_of k) (D.seen device)
+            → next.until ≡ bank_end shape (number root) → next.at ≡ place_behind (journal_place shape (number root)) k.entries
+            → next.version ≡ version_of k → next.opened ≡ open_count root
             → Keeps shape result k [] }
         ensures device { device_of result ≡ device }
     {
@@ -107,7 +112,9 @@ impl<D: Sectors> Journal<D> {
     pub fn left(&self) -> usize
         ensures left { result ≡ left_of self.now }
         ensures kept { (shape : Shape) (k : Stored) (staged : List Entry) → Keeps shape self.now k staged
-            → (root : List ℕ) × (sector_at (D.seen (device_of self.now)) 0 ≡ root) × (result ≡ bank_end shape (number root) - place_behind (place_behind (journal_place shape (number root)) k.entries) staged) }
+            → (root : List ℕ) × (sector_at (D.seen (device_of self.now)) 0 ≡ root)
+            × (result ≡ bank_end shape (number root) - place_behind
+            (place_behind (journal_place shape (number root)) k.entries) staged) }
     {
         self.next.until - self.next.at
     }
@@ -117,9 +124,11 @@ impl<D: Sectors> Journal<D> {
     pub fn stage(&mut self, alloc: Heap, change: &Change) -> Result<(), StageError>
         requires { newest_of self.old < 2 ^ 64 - 1 }
         ensures staged { (shape : Shape) (k : Stored) (staged : List Entry) → Keeps shape self.old k staged
-            → OnOk result ((e : Entry) × (octets_of e ≡ entry change.now) × (size_of e ≡ sectors_of_entry (length (entry change.now))) × Keeps shape self.new k (staged ++ e ∷ [])) }
+            → OnOk result ((e : Entry) × (octets_of e ≡ entry change.now)
+            × (size_of e ≡ sectors_of_entry (length (entry change.now))) × Keeps shape self.new k (staged ++ e ∷ [])) }
         ensures written { OnOk result (HasEntry change.now) }
-        ensures stays { (shape : Shape) (k : Stored) (staged : List Entry) → Keeps shape self.old k staged → OnErr result (Keeps shape self.new k staged) }
+        ensures stays { (shape : Shape) (k : Stored) (staged : List Entry) → Keeps shape self.old k staged
+            → OnErr result (Keeps shape self.new k staged) }
         ensures left { OnErr result (left_of self.new ≡ left_of self.old) }
         ensures newest { OnErr result (newest_of self.new ≡ newest_of self.old) }
         ensures full { result ≡ Err StageError.Full → left_of self.old < sectors_of_entry (length (entry change.now)) }
@@ -143,8 +152,10 @@ impl<D: Sectors> Journal<D> {
     /// sync is enough. `Device` where the device fails; every later call answers `Closed`, until the store is opened again.
     pub fn flush(&mut self) -> Result<(), FlushError>
         // A crash at any moment of it leaves a first part of the staged entries behind what was stored.
-        ensures any_moment { (shape : Shape) (k : Stored) (staged : List Entry) → Keeps shape self.old k staged → JournalLeavesOnly self.old self.new (LeavesPart shape k staged) }
-        ensures flushed { (shape : Shape) (k : Stored) (staged : List Entry) → Keeps shape self.old k staged → OnOk result (Keeps shape self.new (with_more k staged) []) }
+        ensures any_moment { (shape : Shape) (k : Stored) (staged : List Entry) → Keeps shape self.old k staged
+            → JournalLeavesOnly self.old self.new (LeavesPart shape k staged) }
+        ensures flushed { (shape : Shape) (k : Stored) (staged : List Entry) → Keeps shape self.old k staged
+            → OnOk result (Keeps shape self.new (with_more k staged) []) }
         ensures closes { OnErr result (is_closed self.new ≡ true) }
         ensures closed { is_closed self.old ≡ true → (result ≡ Err FlushError.Closed) × (device_of self.new ≡ device_of self.old) }
 
@@ -201,8 +212,10 @@ fn stage_octets(
     requires number { next.old.version < 2 ^ 64 - 1 }
     requires small { next.old.until ≤ 2 ^ 20 }
     requires len { length octets.now < 2 ^ 32 }
-    ensures staged { OnOk result (Stages next.old next.new bodies.old.items bodies.new.items heads.old.items heads.new.items octets.now) }
-    ensures stays { OnErr result ((next.new ≡ next.old) × (bodies.new.items ≡ bodies.old.items) × (heads.new.items ≡ heads.old.items)) }
+    ensures staged { OnOk result (Stages next.old next.new bodies.old.items bodies.new.items heads.old.items heads.new.items
+        octets.now) }
+    ensures stays { OnErr result ((next.new ≡ next.old) × (bodies.new.items ≡ bodies.old.items)
+        × (heads.new.items ≡ heads.old.items)) }
     ensures within { (n : ℕ) → next.old.until ≤ n → AllWithin n bodies.old.items → AllWithin n bodies.new.items }
     ensures heads_within { (n : ℕ) → next.old.until ≤ n → AllWithin n heads.old.items → AllWithin n heads.new.items }
 {
@@ -236,9 +249,11 @@ fn push_bodies(
 ) -> Result<(), AllocError>
     requires len { length rest.now ≡ head.now.length - head_room }
     requires fits { at + sectors_of_entry head.now.length < 2 ^ 32 }
-    ensures pushed { OnOk result (PushesBodies at head.now rest.now (sectors_of_entry head.now.length - 1) (pairs bodies.old.items) (pairs bodies.new.items)) }
+    ensures pushed { OnOk result (PushesBodies at head.now rest.now (sectors_of_entry head.now.length - 1) (pairs bodies.old.items)
+        (pairs bodies.new.items)) }
     ensures stays { OnErr result (bodies.new.items ≡ bodies.old.items) }
-    ensures within { (n : ℕ) → at + sectors_of_entry head.now.length ≤ n + 1 → AllWithin n bodies.old.items → AllWithin n bodies.new.items }
+    ensures within { (n : ℕ) → at + sectors_of_entry head.now.length ≤ n + 1 → AllWithin n bodies.old.items
+        → AllWithin n bodies.new.items }
 {
     let count = head.bodies();
     bodies.reserve(count as usize)?;
@@ -267,8 +282,10 @@ fn write_some<D: Sectors>(device: &mut D, writes: &[SectorWrite]) -> Result<(), 
     requires { AllWithin (D.count device.old) writes.now }
     ensures idle { writes.now ≡ [] → (device.new ≡ device.old) × IsOk result }
     ensures written { D.is_honest device.old → OnOk result (D.seen device.new ≡ applied (pairs writes.now) (D.seen device.old)) }
-    ensures durable { D.is_honest device.old → Only (D.seen device.old) (D.may_leave device.old) → OnOk result (Only (D.seen device.new) (D.may_leave device.new)) }
-    ensures any_moment { D.is_honest device.old → LeavesOnly D.moment D.left_since device.old device.new (CrashOf (D.may_leave device.old) (pairs writes.now)) }
+    ensures durable { D.is_honest device.old → Only (D.seen device.old) (D.may_leave device.old)
+        → OnOk result (Only (D.seen device.new) (D.may_leave device.new)) }
+    ensures any_moment { D.is_honest device.old → LeavesOnly D.moment D.left_since device.old device.new
+        (CrashOf (D.may_leave device.old) (pairs writes.now)) }
     ensures failed { CountsFailure result (D.failed device.old) (D.failed device.new) }
     ensures honest { D.is_honest device.new ↔ D.is_honest device.old }
     ensures count { D.count device.new ≡ D.count device.old }
@@ -288,10 +305,13 @@ fn write_batch<D: Sectors>(
     requires bodies { AllWithin (D.count device.old) bodies.now }
     requires heads { AllWithin (D.count device.old) heads.now }
     ensures idle { bodies.now ≡ [] → heads.now ≡ [] → (device.new ≡ device.old) × IsOk result }
-    ensures written { D.is_honest device.old → OnOk result (D.seen device.new ≡ applied (pairs heads.now) (applied (pairs bodies.now) (D.seen device.old))) }
-    ensures durable { D.is_honest device.old → Only (D.seen device.old) (D.may_leave device.old) → OnOk result (Only (D.seen device.new) (D.may_leave device.new)) }
+    ensures written { D.is_honest device.old → OnOk result (D.seen device.new
+        ≡ applied (pairs heads.now) (applied (pairs bodies.now) (D.seen device.old))) }
+    ensures durable { D.is_honest device.old → Only (D.seen device.old) (D.may_leave device.old)
+        → OnOk result (Only (D.seen device.new) (D.may_leave device.new)) }
     ensures any_moment { D.is_honest device.old → Only (D.seen device.old) (D.may_leave device.old)
-        → LeavesOnly D.moment D.left_since device.old device.new (LeftByBatch (pairs bodies.now) (pairs heads.now) (D.seen device.old)) }
+        → LeavesOnly D.moment D.left_since device.old device.new
+        (LeftByBatch (pairs bodies.now) (pairs heads.now) (D.seen device.old)) }
     ensures failed { CountsFailure result (D.failed device.old) (D.failed device.new) }
     ensures honest { D.is_honest device.new ↔ D.is_honest device.old }
     ensures count { D.count device.new ≡ D.count device.old }

@@ -1,6 +1,5 @@
 -- What opening leaves of the device.
-use Rattle.std.proofs.Common.{◌≡◌, ℕ, List, sym, subst}
-use Rattle.dns_sectors.specs.Device.{Content, LeavesOnly}
+use Rattle.dns_sectors.specs.Device.{LeavesOnly}
 use Rattle.dns_sectors.specs.declared.device.Sectors.{Ghosts}
 use Rattle.dns_sectors.proofs.Moments.{joined, weaker}
 use Rattle.dns_layout.specs.Store.{Stored, OpensAs, IsTidy}

@@ -1,22 +1,22 @@
 -- What is read of a store that is there.
-use Rattle.std.proofs.Common.{◌≡◌, ◌≢◌, ◌⊎◌, inl, inr, ⊎_elim, ℕ, ◌+◌, ◌*◌, ◌-◌, ◌^◌, ◌≤◌, ◌<◌, List, [], ◌∷◌, ◌++◌, length, take, replicate, refl, sym, ◌∙◌, ap, subst, arith, append_assoc}
+use Rattle.std.proofs.Common.{◌≡◌, inl, inr, ⊎_elim, ℕ, ◌+◌, ◌*◌, ◌-◌, ◌^◌, ◌<◌, List, [], ◌∷◌, ◌++◌, length, take, replicate, refl, sym, ◌∙◌, ap, subst, arith, append_assoc, ◌⊎◌}
 use Rattle.std.specs.Prelude.{get_or}
 use Rattle.std.proofs.lemmas.Bool.{cases_lt}
 use Rattle.std.specs.List.{AllByRecursion}
 use Rattle.dns_names.specs.Name.{Labels, IsName, IsLabel as IsLower, wire}
 use Rattle.dns_sectors.specs.Device.{Content}
 use Rattle.dns_layout.specs.Apex.{IsLabel, IsPlain, labels_plain}
-use Rattle.dns_layout.specs.Sector.{blank, tag, root_tag, sector_at, open_count, sequence, number, bank_open}
+use Rattle.dns_layout.specs.Sector.{blank, tag, root_tag, sector_at, open_count, number}
 use Rattle.dns_layout.specs.Forms.{SaysRoot, bank_number}
 use Rattle.dns_layout.specs.Journal.{Reads}
-use Rattle.dns_layout.specs.Store.{Shape, Stored, OpensBy, OpensAs, all_sectors, snapshot_place, journal_place, bank_end}
+use Rattle.dns_layout.specs.Store.{Shape, Stored, IsRoot, OpensBy, OpensAs, snapshot_place, journal_place, bank_end, all_sectors}
 use Rattle.dns_layout.specs.declared.root.Root.{Root}
 use Rattle.dns_journal.specs.declared.read.ReadError.{ReadError}
 use Rattle.dns_journal.specs.declared.read.Cursor.{Cursor}
 use Rattle.dns_journal.specs.Reads.{ReadsFrom}
 use Rattle.dns_store.specs.declared.root.OpenError.{OpenError}
 use Rattle.dns_store.specs.declared.root.OpenError.TheVariants.{Device, Blank, Damaged, Geometry, OutOfMemory}
-use Rattle.dns_store.specs.Root.{IsSound, RootRefusal, open_error}
+use Rattle.dns_store.specs.Root.{RootRefusal, open_error, IsFoundRoot, OpenRefusal, IsOfBank}
 use Rattle.dns_store.specs.Snapshot.{IsBadSnapshot}
 use Rattle.dns_store.specs.Opening.{IsStopped}
 use Rattle.dns_store.proofs.Parts.{no_wrong_part, no_wrong_tail}
@@ -80,3 +80,37 @@ module _ (s : Shape) (c : Content) (k : Stored) (parts : List (List ℕ)) (by : 
 
 pub place_of : (s : Shape) (c : Content) (root : Root) (n : ℕ) → SaysRoot (sector_at c 0) root → n ≡ bank_number root.bank → 1 + n * (s.snapshot + s.journal) ≡ snapshot_place s (number (sector_at c 0))
 place_of s c root n says is = ap (λ b. 1 + b * (s.snapshot + s.journal)) (is ∙ sym says.bank_is)
+
+-- What a refusal says on any device.
+pub of_reading : (e : ReadError) (r : OpenError) → r ≡ open_error e → IsOfBank r
+of_reading ReadError.Device r is = subst (λ e. IsOfBank e) (sym is) tt
+of_reading (ReadError.Damaged place) r is = subst (λ e. IsOfBank e) (sym is) tt
+of_reading ReadError.OutOfMemory r is = subst (λ e. IsOfBank e) (sym is) tt
+
+pub of_fault : (head : ℕ) (r : OpenError) → (r ≡ OutOfMemory) ⊎ (r ≡ Damaged head) → IsOfBank r
+of_fault head r (inl memory) = subst (λ e. IsOfBank e) (sym memory) tt
+of_fault head r (inr damaged) = subst (λ e. IsOfBank e) (sym damaged) tt
+
+pub bank_refused : (s : Shape) (count : ℕ) (x : List ℕ) → IsRoot s x × (count ≡ all_sectors s) → (r : OpenError) → IsOfBank r → OpenRefusal s count x r
+bank_refused s count x root Device is = tt
+bank_refused s count x root Blank is = absurd is
+bank_refused s count x root (Damaged place) is = inr root
+bank_refused s count x root Geometry is = absurd is
+bank_refused s count x root OutOfMemory is = tt
+
+pub root_refused : (s : Shape) (count : ℕ) (x : List ℕ) (r : OpenError) → (r ≡ Device) ⊎ RootRefusal s count x r → OpenRefusal s count x r
+root_refused s count x Device why = tt
+root_refused s count x Blank (inl failed) = absurd cc
+root_refused s count x Blank (inr is) = is
+root_refused s count x (Damaged place) (inl failed) = absurd cc
+root_refused s count x (Damaged place) (inr is) = inl is
+root_refused s count x Geometry (inl failed) = absurd cc
+root_refused s count x Geometry (inr is) = inr (inr (inr is))
+root_refused s count x OutOfMemory why = tt
+
+pub found_there : (snapshot journal : ℕ) (a b : List ℕ) (count count' : ℕ) (c d : Content) (r : Root) → a ≡ b → count' ≡ count → c ≡ d → IsFoundRoot (record { snapshot = snapshot; journal = journal; apex = a }) count' (sector_at c 0) r
+    → IsRoot (record { snapshot = snapshot; journal = journal; apex = b }) (sector_at d 0) × (count ≡ all_sectors (record { snapshot = snapshot; journal = journal; apex = b }))
+found_there snapshot journal a b count count' c d r name size seen found = (
+  subst (λ e. IsRoot (record { snapshot = snapshot; journal = journal; apex = b }) (sector_at e 0)) seen (subst (λ n. IsRoot (record { snapshot = snapshot; journal = journal; apex = n }) (sector_at c 0)) name found.valid),
+  sym size ∙ found.size,
+)

@@ -1,12 +1,12 @@
 -- Records in plain form, one behind the other, are read in one way.
-use Rattle.std.proofs.Common.{◌≡◌, ◌≢◌, ◌<◌, true, ℕ, List, [], ◌∷◌, ◌++◌, length, refl, sym, ◌∙◌, ap, subst, arith, append-nil, append_assoc, length-append, Bool, false}
+use Rattle.std.proofs.Common.{◌≡◌, ◌<◌, ℕ, List, [], ◌∷◌, ◌++◌, length, refl, sym, ◌∙◌, ap, arith, append-nil, append_assoc, length-append, Bool, false}
 use Rattle.std.proofs.Math.Logic.{∥∥₁_elim}
 use Rattle.std.proofs.Props.{props}
 use Rattle.std.specs.Prelude.{◌==◌}
 use Rattle.std.specs.List.{AllByRecursion, flat_map}
 use Rattle.dns_names.specs.Name.{Labels}
 use Rattle.dns_records.specs.Record.{Record, IsRecord, plain}
-use Rattle.dns_zone.specs.Zone.{Zone, IsZone}
+use Rattle.dns_zone.specs.Zone.{IsZone}
 use Rattle.dns_changes.proofs.Entries.{plain_first, OneMore, IsRead, plain_length}
 use Rattle.dns_store.specs.Snapshot.{AreStored}
 

@@ -6,8 +6,8 @@ use Rattle.dns_zone.specs.Zone.{IsZone}
 use Rattle.dns_changes.specs.Change.{Change, IsChange}
 use Rattle.dns_changes.specs.Entry.{HasEntry, entry}
 use Rattle.dns_sectors.specs.Device.{Content}
-use Rattle.dns_layout.specs.Sector.{sector_at, open_count, number}
-use Rattle.dns_layout.specs.Journal.{Entry, IsNextHead, size_of, octets_of, place_behind, version_behind, open_behind}
+use Rattle.dns_layout.specs.Sector.{open_count, number}
+use Rattle.dns_layout.specs.Journal.{Entry, size_of, octets_of, place_behind, version_behind, open_behind}
 use Rattle.dns_journal.specs.declared.read.Cursor.{Cursor}
 use Rattle.dns_journal.specs.declared.read.ReadError.{ReadError}
 use Rattle.dns_journal.specs.Reads.{Ends, Finds, ReadsFrom, IsRefusal}
@@ -15,7 +15,7 @@ use Rattle.dns_journal.proofs.Heads.{first_read, none_is_read, refused_read}
 use Rattle.dns_store.specs.declared.root.OpenError.{OpenError}
 use Rattle.dns_store.specs.Root.{open_error}
 use Rattle.dns_store.specs.Versions.{Versions, newest_after}
-use Rattle.dns_store.specs.Opens.{AreChanges, IsStep}
+use Rattle.dns_store.specs.Opens.{AreChanges}
 use Rattle.dns_store.specs.Recovered.{AreLed, IsRecovered}
 use Rattle.dns_store.proofs.Leaves.{newest_append}
 

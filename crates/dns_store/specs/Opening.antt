@@ -1,5 +1,5 @@
 -- What opening a store finds, and what it leaves of the device.
-use Rattle.std.specs.Prelude.{◌≡◌, ◌⊎◌, ◌≤◌, ◌<◌, ◌-◌, ◌^◌, ℕ, List, drop}
+use Rattle.std.specs.Prelude.{◌≡◌, ◌⊎◌, ◌≤◌, ◌-◌, ◌^◌, ℕ, List, drop}
 use Rattle.dns_records.specs.Record.{Record}
 use Rattle.dns_changes.specs.Change.{Change}
 use Rattle.dns_sectors.specs.Device.{Content}

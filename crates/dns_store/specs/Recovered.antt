@@ -1,5 +1,5 @@
 -- What is recovered from a journal.
-use Rattle.std.specs.Prelude.{◌≡◌, ℕ, List, [], ◌∷◌, ◌++◌}
+use Rattle.std.specs.Prelude.{◌≡◌, List, [], ◌∷◌}
 use Rattle.dns_records.specs.Record.{Record}
 use Rattle.dns_changes.specs.Change.{Change, IsChange}
 use Rattle.dns_layout.specs.Journal.{Entry, place_behind, version_behind, open_behind}

@@ -1,5 +1,5 @@
 -- What stands in a device's first sector.
-use Rattle.std.specs.Prelude.{◌≡◌, ◌≢◌, ◌≤◌, ◌<◌, ◌-◌, ◌^◌, ℕ, List}
+use Rattle.std.specs.Prelude.{◌≡◌, ◌≢◌, ◌⊎◌, ◌≤◌, ◌<◌, ◌-◌, ◌^◌, ℕ, List}
 use Rattle.dns_layout.specs.Apex.{IsPlain, apex_octets}
 use Rattle.dns_layout.specs.Sector.{blank, tag, open_count, number, snapshot_length, snapshot_room, apex_field, snapshot_sectors, root_tag}
 use Rattle.dns_layout.specs.Forms.{SaysRoot}
@@ -33,6 +33,23 @@ RootRefusal s count x Blank = x ≡ blank
 RootRefusal s count x (Damaged place) = (place ≡ 0) × (x ≢ blank) × (IsSound x → ⊥)
 RootRefusal s count x Geometry = IsSound x × (IsRoot s x → count ≡ all_sectors s → ⊥)
 RootRefusal s count x OutOfMemory = ⊥
+
+-- Why a device isn't opened as a store of this shape: sizes that no store has, what its first sector is; or another sector isn't
+-- what it should be, behind a root of that shape.
+abbrev pub OpenRefusal : Shape → ℕ → List ℕ → OpenError → Type 0
+OpenRefusal s count x Device = Unit {0}
+OpenRefusal s count x Blank = x ≡ blank
+OpenRefusal s count x (Damaged place) = RootRefusal s count x (Damaged place) ⊎ (IsRoot s x × (count ≡ all_sectors s))
+OpenRefusal s count x Geometry = (count ≡ 0) ⊎ (65536 < s.snapshot) ⊎ (65536 < s.journal) ⊎ RootRefusal s count x Geometry
+OpenRefusal s count x OutOfMemory = Unit {0}
+
+-- what is said of a snapshot or a journal
+abbrev pub IsOfBank : OpenError → Type 0
+IsOfBank Device = Unit {0}
+IsOfBank Blank = ⊥
+IsOfBank (Damaged place) = Unit {0}
+IsOfBank Geometry = ⊥
+IsOfBank OutOfMemory = Unit {0}
 
 abbrev pub open_error : ReadError → OpenError
 open_error ReadError.Device = Device

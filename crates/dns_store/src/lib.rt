@@ -2,6 +2,7 @@
 #![tactic(auto)]
 
 mod device_store;
+mod formatting;
 mod records;
 mod recovery;
 mod root;
@@ -12,6 +13,7 @@ mod zone_store;
 
 pub use device_store::DeviceStore;
 pub use dns_journal::{FlushError, StageError};
+pub use formatting::{FEWEST_ENTRIES, FormatError, format};
 pub use recovery::{MOST_SECTORS, OpenStore, open};
 pub use root::OpenError;
 pub use unkept::Unkept;

@@ -20,7 +20,8 @@ pub(crate) fn zone_of<I: ZoneIndex>(
     octets: &[u8],
 ) -> Result<Zone<I>, ChangeError>
     ensures found { IfOk result (λ z. IsZone z × (z.apex ≡ apex.now) × (octets.now ≡ flat_map plain z.records)) }
-    ensures refused { IfErr result (λ e. (e ≡ ChangeError.OutOfMemory) ⊎ ((e ≡ ChangeError.BadBytes) × IsNoSnapshot apex.now octets.now)) }
+    ensures refused { IfErr result (λ e. (e ≡ ChangeError.OutOfMemory)
+        ⊎ ((e ≡ ChangeError.BadBytes) × IsNoSnapshot apex.now octets.now)) }
 {
     let records = read_records(alloc, octets)?;
     if !rises(&records) {
@@ -37,7 +38,8 @@ pub(crate) fn zone_of<I: ZoneIndex>(
 // The records whose plain forms the octets are, one behind the other.
 fn read_records(alloc: Heap, octets: &[u8]) -> Result<Vec<Record, Heap>, ChangeError>
     ensures found { IfOk result (λ records. AreStored octets.now records.items) }
-    ensures refused { IfErr result (λ e. (e ≡ ChangeError.OutOfMemory) ⊎ ((e ≡ ChangeError.BadBytes) × ((records : List Stated) → AreStored octets.now records → ⊥))) }
+    ensures refused { IfErr result (λ e. (e ≡ ChangeError.OutOfMemory)
+        ⊎ ((e ≡ ChangeError.BadBytes) × ((records : List Stated) → AreStored octets.now records → ⊥))) }
 {
     let mut records = Vec::new(alloc);
     let mut rest = octets;

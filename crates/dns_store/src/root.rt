@@ -72,9 +72,14 @@ pub(crate) fn read_root<D: Sectors>(
     journal: u32,
 ) -> Result<Root, OpenError>
     requires { 0 < D.count device.old }
-    ensures found { D.is_honest device.old → IfOk result (IsFoundRoot (record { snapshot = snapshot; journal = journal; apex = apex.now }) (D.count device.old) (sector_at (D.seen device.old) 0)) }
-    ensures fits { IfOk result (λ root. (sectors_of_snapshot root.snapshot_length ≤ snapshot) × (D.count device.old ≡ 1 + 2 * (snapshot + journal)) × (root.open_count < 2 ^ 64 - 1)) }
-    ensures refused { D.is_honest device.old → IfErr result (λ e. (e ≡ OpenError.Device) ⊎ RootRefusal (record { snapshot = snapshot; journal = journal; apex = apex.now }) (D.count device.old) (sector_at (D.seen device.old) 0) e) }
+    ensures found { D.is_honest device.old → IfOk result (IsFoundRoot
+        (record { snapshot = snapshot; journal = journal; apex = apex.now }) (D.count device.old)
+        (sector_at (D.seen device.old) 0)) }
+    ensures fits { IfOk result (λ root. (sectors_of_snapshot root.snapshot_length ≤ snapshot)
+        × (D.count device.old ≡ 1 + 2 * (snapshot + journal)) × (root.open_count < 2 ^ 64 - 1)) }
+    ensures refused { D.is_honest device.old → IfErr result
+        (λ e. (e ≡ OpenError.Device) ⊎ RootRefusal (record { snapshot = snapshot; journal = journal; apex = apex.now })
+        (D.count device.old) (sector_at (D.seen device.old) 0) e) }
     ensures device { result ≡ Err OpenError.Device → HasRisen (D.failed device.old) (D.failed device.new) }
     ensures reads { OnlyReads D.Sectors device.old device.new }
 {
@@ -94,8 +99,10 @@ fn root_of(
     journal: u32,
     count: usize,
 ) -> Result<Root, OpenError>
-    ensures found { IfOk result (IsFoundRoot (record { snapshot = snapshot; journal = journal; apex = apex.now }) count sector.now) }
-    ensures refused { IfErr result (RootRefusal (record { snapshot = snapshot; journal = journal; apex = apex.now }) count sector.now) }
+    ensures found { IfOk result
+        (IsFoundRoot (record { snapshot = snapshot; journal = journal; apex = apex.now }) count sector.now) }
+    ensures refused { IfErr result (RootRefusal (record { snapshot = snapshot; journal = journal; apex = apex.now }) count
+        sector.now) }
 {
     if *sector == [0; 512] {
         return Err(OpenError::Blank);
@@ -117,7 +124,8 @@ fn root_of(
 
 // The snapshot fits, and the store can be opened once more.
 fn is_sound(root: &Root) -> bool
-    ensures { IsTrue result ↔ ((sectors_of_snapshot root.now.snapshot_length ≤ root.now.snapshot_room) × (root.now.open_count < 2 ^ 64 - 1)) }
+    ensures { IsTrue result ↔ ((sectors_of_snapshot root.now.snapshot_length ≤ root.now.snapshot_room)
+        × (root.now.open_count < 2 ^ 64 - 1)) }
 {
     let sectors = snapshot_sectors(root.snapshot_length as usize);
     sectors <= root.snapshot_room as usize && root.open_count < u64::MAX
@@ -125,7 +133,8 @@ fn is_sound(root: &Root) -> bool
 
 // It is the root of a store of this zone and these sizes.
 fn is_of_shape(root: &Root, apex: &Apex, snapshot: u32, journal: u32) -> bool
-    ensures { IsTrue result ↔ ((root.now.snapshot_room ≡ snapshot) × (root.now.journal_room ≡ journal) × (apex_octets root.now.apex ≡ apex_octets apex.now)) }
+    ensures { IsTrue result ↔ ((root.now.snapshot_room ≡ snapshot) × (root.now.journal_room ≡ journal)
+        × (apex_octets root.now.apex ≡ apex_octets apex.now)) }
 {
     root.snapshot_room == snapshot && root.journal_room == journal && root.apex.is(apex)
 }
@@ -134,12 +143,15 @@ fn is_of_shape(root: &Root, apex: &Apex, snapshot: u32, journal: u32) -> bool
 pub(crate) fn raise_root<D: Sectors>(device: &mut D, root: &mut Root) -> Result<(), DeviceError>
     requires count { 0 < D.count device.old }
     requires more { root.old.open_count < 2 ^ 64 - 1 }
-    ensures any_moment { (s : Shape) (k : Stored) (x : List ℕ) (parts : List (List ℕ)) → D.is_honest device.old → Only (D.seen device.old) (D.may_leave device.old)
+    ensures any_moment { (s : Shape) (k : Stored) (x : List ℕ) (parts : List (List ℕ)) → D.is_honest device.old
+        → Only (D.seen device.old) (D.may_leave device.old)
         → OpensBy s (D.seen device.old) x parts k → IsTidy (D.seen device.old) → SaysRoot x root.old
         → LeavesOnly D.moment D.left_since device.old device.new (λ c. OpensAs s c k × IsTidy c) }
-    ensures raised { (s : Shape) (k : Stored) (x : List ℕ) (parts : List (List ℕ)) → D.is_honest device.old → Only (D.seen device.old) (D.may_leave device.old)
+    ensures raised { (s : Shape) (k : Stored) (x : List ℕ) (parts : List (List ℕ)) → D.is_honest device.old
+        → Only (D.seen device.old) (D.may_leave device.old)
         → OpensBy s (D.seen device.old) x parts k → IsTidy (D.seen device.old) → SaysRoot x root.old
-        → OnOk result ((y : List ℕ) × SaysRoot y root.new × IsRaised x y × OpensBy s (D.seen device.new) y parts k × (bank_open y ≤ open_count y) × ((version : ℕ) → AllBehind (open_count y) version (D.seen device.new))) }
+        → OnOk result ((y : List ℕ) × SaysRoot y root.new × IsRaised x y × OpensBy s (D.seen device.new) y parts k
+        × (bank_open y ≤ open_count y) × ((version : ℕ) → AllBehind (open_count y) version (D.seen device.new))) }
     ensures durable { D.is_honest device.old → OnOk result (Only (D.seen device.new) (D.may_leave device.new)) }
     ensures failed { CountsFailure result (D.failed device.old) (D.failed device.new) }
     ensures honest { D.is_honest device.new ↔ D.is_honest device.old }

@@ -1,7 +1,9 @@
 //! The snapshot that a root names, read from its sectors.
-ghost use Rattle.std.specs.Prelude.{◌≡◌, ◌⊎◌, ◌≤◌, ◌<◌, ◌+◌, ◌-◌, ◌*◌, ◌++◌, ◌^◌, ◌↔◌, List, ℕ, length, drop, IsTrue, IfOk, IfErr, OnOk, IfSome, MatchOption};
+ghost use Rattle.std.specs.Prelude.{◌≡◌, ◌⊎◌, ◌≤◌, ◌<◌, ◌+◌, ◌-◌, ◌*◌, ◌++◌, ◌^◌, ◌↔◌, List, ℕ, length, drop, IsTrue, IfOk, IfErr};
+ghost use Rattle.std.specs.Prelude.{OnOk, IfSome, MatchOption};
 ghost use Rattle.std.specs.List.{flat_map};
-ghost use Rattle.dns_layout.specs.Sector.{AreZeros, payload, snapshot_length, snapshot_sectors as sectors_of_snapshot, payload_room};
+ghost use Rattle.dns_layout.specs.Sector.{AreZeros, payload, snapshot_length, snapshot_sectors as sectors_of_snapshot};
+ghost use Rattle.dns_layout.specs.Sector.{payload_room};
 ghost use Rattle.dns_layout.specs.Forms.{SaysRoot};
 ghost use Rattle.dns_layout.specs.Store.{IsPart, AreParts};
 ghost use Rattle.dns_journal.specs.Reads.{OnlyReads, HasRisen, sectors_from};
@@ -21,8 +23,10 @@ pub(crate) fn read_snapshot<D: Sectors>(
 ) -> Result<Vec<u8, Heap>, ReadError>
     requires within { at + sectors_of_snapshot root.now.snapshot_length ≤ D.count device.old }
     requires fits { at + sectors_of_snapshot root.now.snapshot_length < 2 ^ 64 }
-    ensures found { D.is_honest device.old → (x : List ℕ) → SaysRoot x root.now → IfOk result (λ octets. HoldsSnapshot x at (D.seen device.old) octets.items) }
-    ensures damaged { D.is_honest device.old → (x : List ℕ) → SaysRoot x root.now → IfErr result (λ e. IsBadSnapshot x at (D.seen device.old) e) }
+    ensures found { D.is_honest device.old → (x : List ℕ) → SaysRoot x root.now
+        → IfOk result (λ octets. HoldsSnapshot x at (D.seen device.old) octets.items) }
+    ensures damaged { D.is_honest device.old → (x : List ℕ) → SaysRoot x root.now
+        → IfErr result (λ e. IsBadSnapshot x at (D.seen device.old) e) }
     ensures device { result ≡ Err ReadError.Device → HasRisen (D.failed device.old) (D.failed device.new) }
     ensures reads { OnlyReads D.Sectors device.old device.new }
 {
@@ -45,10 +49,15 @@ fn read_parts<D: Sectors>(
 ) -> Result<(), ReadError>
     requires within { at + sectors_of_snapshot root.now.snapshot_length ≤ D.count device.old }
     requires fits { at + sectors_of_snapshot root.now.snapshot_length < 2 ^ 64 }
-    ensures parts { D.is_honest device.old → (x : List ℕ) → SaysRoot x root.now → OnOk result (AreParts x 0 (sectors_from (D.seen device.old) at (sectors_of_snapshot root.now.snapshot_length))) }
-    ensures size { OnOk result (length octets.new.items ≡ length octets.old.items + payload_room * sectors_of_snapshot root.now.snapshot_length) }
-    ensures octets { D.is_honest device.old → OnOk result (octets.new.items ≡ octets.old.items ++ flat_map payload (sectors_from (D.seen device.old) at (sectors_of_snapshot root.now.snapshot_length))) }
-    ensures damaged { D.is_honest device.old → (x : List ℕ) → SaysRoot x root.now → IfErr result (λ e. IsBadPart x at (D.seen device.old) e) }
+    ensures parts { D.is_honest device.old → (x : List ℕ) → SaysRoot x root.now
+        → OnOk result (AreParts x 0 (sectors_from (D.seen device.old) at (sectors_of_snapshot root.now.snapshot_length))) }
+    ensures size { OnOk result (length octets.new.items ≡ length octets.old.items + payload_room * sectors_of_snapshot
+        root.now.snapshot_length) }
+    ensures octets { D.is_honest device.old → OnOk result (octets.new.items
+        ≡ octets.old.items ++ flat_map payload (sectors_from (D.seen device.old) at
+        (sectors_of_snapshot root.now.snapshot_length))) }
+    ensures damaged { D.is_honest device.old → (x : List ℕ) → SaysRoot x root.now
+        → IfErr result (λ e. IsBadPart x at (D.seen device.old) e) }
     ensures device { result ≡ Err ReadError.Device → HasRisen (D.failed device.old) (D.failed device.new) }
     ensures reads { OnlyReads D.Sectors device.old device.new }
 {
@@ -65,7 +74,8 @@ fn read_parts<D: Sectors>(
 
 // What the sector holds, where it is this part of the snapshot that the root names.
 fn part_octets(root: &Root, index: usize, sector: &Sector) -> Option<Payload>
-    ensures part { (x : List ℕ) → SaysRoot x root.now → MatchOption result (IsPart x index sector.now → ⊥) (λ octets. IsPart x index sector.now × (octets ≡ payload sector.now)) }
+    ensures part { (x : List ℕ) → SaysRoot x root.now → MatchOption result (IsPart x index sector.now → ⊥)
+        (λ octets. IsPart x index sector.now × (octets ≡ payload sector.now)) }
     ensures octets { IfSome result (λ octets. octets ≡ payload sector.now) }
 {
     let Ok(part) = SnapshotPart::decode(sector) else {

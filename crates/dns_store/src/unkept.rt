@@ -19,7 +19,8 @@ pub struct Unkept {
 impl Unkept {
     /// The store of a zone that was loaded, with room for so many sectors of entries.
     pub fn new(journal: u32) -> Unkept
-        ensures { (k : Kept) → k.shape.journal ≡ journal → k.shown ≡ [] → k.staged ≡ [] → k.base ≡ 0 → k.closed ≡ false → IsUnkept result.left result.newest k }
+        ensures { (k : Kept) → k.shape.journal ≡ journal → k.shown ≡ [] → k.staged ≡ [] → k.base ≡ 0 → k.closed ≡ false
+            → IsUnkept result.left result.newest k }
     {
         Unkept {
             left: journal as usize,

@@ -10,6 +10,7 @@ ghost use Rattle.dns_journal.specs.Reads.{OnlyReads, HasRisen, ReadsFrom};
 ghost use Rattle.dns_store.specs.Versions.{Versions};
 ghost use Rattle.dns_store.specs.Opens.{AreChanges};
 ghost use Rattle.dns_store.specs.Recovered.{IsRecovered};
+ghost use Rattle.dns_store.specs.Root.{IsOfBank};
 
 use crate::OpenError;
 use dns_changes::{Change, ChangeError};
@@ -26,8 +27,10 @@ fn take_step<I: ZoneIndex>(
     zone: &Zone<I>,
     octets: &[u8],
 ) -> Result<(Change, Zone<I>), ChangeError>
-    ensures found { IfOk result (λ r. HasEntry r.0 × (entry r.0 ≡ octets.now) × (applied r.0 zone.now.records ≡ r.1.records) × (r.1.apex ≡ zone.now.apex) × IsZone r.1) }
-    ensures only { (after : List Stated) (c : StatedChange) → IsChange zone.now.records after c → HasEntry c → entry c ≡ octets.now → IsZone (record { apex = zone.now.apex; records = after })
+    ensures found { IfOk result (λ r. HasEntry r.0 × (entry r.0 ≡ octets.now) × (applied r.0 zone.now.records ≡ r.1.records)
+        × (r.1.apex ≡ zone.now.apex) × IsZone r.1) }
+    ensures only { (after : List Stated) (c : StatedChange) → IsChange zone.now.records after c → HasEntry c → entry c ≡ octets.now
+        → IsZone (record { apex = zone.now.apex; records = after })
         → MatchResult result (λ r. (r.0 ≡ c) × (r.1.records ≡ after)) (λ e. e ≡ ChangeError.OutOfMemory) }
 {
     let change = Change::decode(alloc, octets)?;
@@ -52,9 +55,12 @@ pub(crate) fn read_versions<D: Sectors, I: ZoneIndex>(
     requires at { cursor.old.at ≤ cursor.old.until }
     ensures within { cursor.new.at ≤ cursor.new.until }
     ensures apex { IfOk result (λ r. r.0.apex ≡ base.apex) }
-    ensures reads_all { D.is_honest device.old → (vs : Versions) (es : List Entry) → ReadsFrom cursor.old (D.seen device.old) es → AreChanges base.apex base.records vs es
-        → MatchResult result (λ r. IsRecovered cursor.old cursor.new base.records vs es r.0.records r.1.items) (λ e. (e ≡ OpenError.Device) ⊎ (e ≡ OpenError.OutOfMemory)) }
+    ensures reads_all { D.is_honest device.old → (vs : Versions) (es : List Entry) → ReadsFrom cursor.old (D.seen device.old) es
+        → AreChanges base.apex base.records vs es
+        → MatchResult result (λ r. IsRecovered cursor.old cursor.new base.records vs es r.0.records r.1.items)
+        (λ e. (e ≡ OpenError.Device) ⊎ (e ≡ OpenError.OutOfMemory)) }
     ensures until { cursor.new.until ≡ cursor.old.until }
+    ensures refused { IfErr result IsOfBank }
     ensures device { result ≡ Err OpenError.Device → HasRisen (D.failed device.old) (D.failed device.new) }
     ensures reads { OnlyReads D.Sectors device.old device.new }
 {

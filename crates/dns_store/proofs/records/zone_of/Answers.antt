@@ -1,4 +1,4 @@
-use Rattle.std.proofs.Common.{rules, Some, None, ◌≡◌, true, inl, inr, ⊎_elim, refl, sym, ◌∙◌, ap, subst}
+use Rattle.std.proofs.Common.{rules, Some, None, ◌≡◌, true, inl, inr, ⊎_elim, refl, sym, ◌∙◌, ap}
 use Rattle.std.proofs.Math.Logic.{∥∥₁_elim}
 use Rattle.std.proofs.lemmas.Result.{err_from_is_err_and}
 use Rattle.dns_zone.specs.Records.{is_ordered}

@@ -1,4 +1,4 @@
-use Rattle.std.proofs.Common.{◌≡◌, List, refl, sym, ◌∙◌, ap, subst}
+use Rattle.std.proofs.Common.{sym, ◌∙◌, ap, subst}
 use Rattle.dns_sectors.specs.Device.{Content, Only, LeavesOnly}
 use Rattle.dns_layout.specs.Sector.{sector_at}
 use Rattle.dns_layout.specs.Journal.{place_behind}

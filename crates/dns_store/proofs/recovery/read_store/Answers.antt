@@ -1,27 +1,26 @@
-use Rattle.std.proofs.Common.{rules, arith, inl, inr, ⊎_elim, refl, ◌≡◌, ◌+◌, ◌*◌, List, ℕ, sym, ◌∙◌, ap, subst}
+use Rattle.std.proofs.Common.{inl, inr, ⊎_elim, refl, ◌≡◌, ◌⊎◌, ◌+◌, ◌*◌, List, sym, ◌∙◌, ap, subst}
 use Rattle.std.specs.Prelude.{drop}
-use Rattle.std.specs.List.{flat_map}
 use Rattle.std.proofs.lemmas.Result.{err_from_is_err_and}
 use Rattle.dns_names.specs.Name.{wire}
-use Rattle.dns_records.specs.Record.{Record, plain}
+use Rattle.dns_records.specs.Record.{Record}
 use Rattle.dns_zone.specs.Zone.{IsZone}
 use Rattle.dns_layout.specs.Sector.{sector_at, number}
 use Rattle.dns_layout.specs.Journal.{place_behind, version_behind}
 use Rattle.dns_layout.specs.Forms.{SaysRoot}
-use Rattle.dns_layout.specs.Store.{snapshot_place}
+use Rattle.dns_layout.specs.Store.{Shape as Sizes, snapshot_place}
 use Rattle.dns_journal.specs.declared.read.Cursor.{Cursor}
 use Rattle.dns_journal.specs.Reads.{ReadsFrom}
 use Rattle.dns_journal.proofs.Looking.{reads_then}
-use Rattle.dns_store.specs.Root.{RootRefusal, IsFoundRoot}
+use Rattle.dns_store.specs.declared.root.OpenError.{OpenError}
+use Rattle.dns_store.specs.Root.{RootRefusal}
 use Rattle.dns_store.specs.Snapshot.{IsBadSnapshot, HoldsSnapshot}
 use Rattle.dns_store.specs.Opens.{AreChanges, base_of, sizes_of}
-use Rattle.dns_store.specs.Opening.{IsStopped}
 use Rattle.dns_store.specs.Versions.{Shape, newest_after}
 use Rattle.dns_store.specs.Recovered.{AreLed}
 use Rattle.dns_store.proofs.Leaves.{newest_split}
 use Rattle.dns_store.proofs.Plains.{zones_same}
 use Rattle.dns_store.proofs.Parts.{snapshot_is}
-use Rattle.dns_store.proofs.Opening.{stands_first, root_there, snapshot_there, journal_there, place_of}
+use Rattle.dns_store.proofs.Opening.{stands_first, root_there, snapshot_there, journal_there, place_of, of_reading, of_fault, bank_refused, root_refused, found_there}
 use Rattle.dns_store.proofs.recovery.read_store.Goals as goal
 
 pub returns-in_err-root-clause-found : goal.returns-in_err-root-clause-found
@@ -140,3 +139,49 @@ returns-clause-durable g c honest x left =
 
 pub returns-clause-reads : goal.returns-clause-reads
 returns-clause-reads g c = reads_then _ _ _ (reads_then _ _ _ (reads_then _ _ _ c.settle.ensures.reads c.read_root.ensures.reads) c.read_snapshot.ensures.reads) c.read_versions.ensures.reads
+
+pub returns-in_err-root-clause-refused : goal.returns-in_err-root-clause-refused
+returns-in_err-root-clause-refused g c honest =
+    let one = c.settle.ensures.reads in
+    let s : Sizes = record { snapshot = c.args.snapshot; journal = c.args.journal; apex = wire c.args.apex.now } in
+    let p = err_from_is_err_and c.from_residual-in_err-root.result c.from_residual-in_err-root.ensures.1 in
+    rw (p.1, p.2)
+    (root_refused s (g.D.Sectors.count c.args.device.now) (sector_at (g.D.Sectors.seen c.args.device.now) 0) c.in_err-root.field-0.0
+    (subst (λ a. (c.in_err-root.field-0.0 ≡ OpenError.Device) ⊎ RootRefusal (record { snapshot = c.args.snapshot; journal = c.args.journal; apex = a }) (g.D.Sectors.count c.args.device.now) (sector_at (g.D.Sectors.seen c.args.device.now) 0) c.in_err-root.field-0.0) c.apex_of.ensures.octets
+    (subst (λ n. (c.in_err-root.field-0.0 ≡ OpenError.Device) ⊎ RootRefusal (record { snapshot = c.args.snapshot; journal = c.args.journal; apex = c.apex_of.result }) n (sector_at (g.D.Sectors.seen c.args.device.now) 0) c.in_err-root.field-0.0) one.count
+    (subst (λ e. (c.in_err-root.field-0.0 ≡ OpenError.Device) ⊎ RootRefusal (record { snapshot = c.args.snapshot; journal = c.args.journal; apex = c.apex_of.result }) (g.D.Sectors.count c.settle.new.device) (sector_at e 0) c.in_err-root.field-0.0) (one.seen honest)
+    (c.in_err-root.ensures.refused (one.honest.1 honest))))))
+
+pub returns-in_err-octets-clause-refused : goal.returns-in_err-octets-clause-refused
+returns-in_err-octets-clause-refused g c honest =
+    let one = c.settle.ensures.reads in
+    let s : Sizes = record { snapshot = c.args.snapshot; journal = c.args.journal; apex = wire c.args.apex.now } in
+    let root = found_there c.args.snapshot c.args.journal c.apex_of.result (wire c.args.apex.now) (g.D.Sectors.count c.args.device.now) (g.D.Sectors.count c.settle.new.device) (g.D.Sectors.seen c.settle.new.device) (g.D.Sectors.seen c.args.device.now) c.in_ok-root.root
+    c.apex_of.ensures.octets one.count (one.seen honest) (c.in_ok-root.ensures.found (one.honest.1 honest)) in
+    let p = err_from_is_err_and c.from_residual-in_err-octets.result c.from_residual-in_err-octets.ensures.1 in
+    rw p.1 (bank_refused s (g.D.Sectors.count c.args.device.now) (sector_at (g.D.Sectors.seen c.args.device.now) 0) root p.0 (of_reading c.in_err-octets.field-0.0 p.0 p.2))
+
+pub returns-in-Err-clause-refused : goal.returns-in-Err-clause-refused
+returns-in-Err-clause-refused g c honest =
+    let one = c.settle.ensures.reads in
+    let s : Sizes = record { snapshot = c.args.snapshot; journal = c.args.journal; apex = wire c.args.apex.now } in
+    let root = found_there c.args.snapshot c.args.journal c.apex_of.result (wire c.args.apex.now) (g.D.Sectors.count c.args.device.now) (g.D.Sectors.count c.settle.new.device) (g.D.Sectors.seen c.settle.new.device) (g.D.Sectors.seen c.args.device.now) c.in_ok-root.root
+    c.apex_of.ensures.octets one.count (one.seen honest) (c.in_ok-root.ensures.found (one.honest.1 honest)) in
+    bank_refused s (g.D.Sectors.count c.args.device.now) (sector_at (g.D.Sectors.seen c.args.device.now) 0) root c.fault_at.result (of_fault _ c.fault_at.result c.fault_at.ensures.other)
+
+pub returns-in_err-newest-clause-refused : goal.returns-in_err-newest-clause-refused
+returns-in_err-newest-clause-refused g c honest =
+    let one = c.settle.ensures.reads in
+    let s : Sizes = record { snapshot = c.args.snapshot; journal = c.args.journal; apex = wire c.args.apex.now } in
+    let root = found_there c.args.snapshot c.args.journal c.apex_of.result (wire c.args.apex.now) (g.D.Sectors.count c.args.device.now) (g.D.Sectors.count c.settle.new.device) (g.D.Sectors.seen c.settle.new.device) (g.D.Sectors.seen c.args.device.now) c.in_ok-root.root
+    c.apex_of.ensures.octets one.count (one.seen honest) (c.in_ok-root.ensures.found (one.honest.1 honest)) in
+    let p = err_from_is_err_and c.from_residual-in_err-newest.result c.from_residual-in_err-newest.ensures.1 in
+    rw (p.1, p.2) (bank_refused s (g.D.Sectors.count c.args.device.now) (sector_at (g.D.Sectors.seen c.args.device.now) 0) root c.in_err-newest.field-0.0 c.in_err-newest.ensures.refused)
+
+pub returns-clause-root : goal.returns-clause-root
+returns-clause-root g c honest =
+    let one = c.settle.ensures.reads in
+    let s : Sizes = record { snapshot = c.args.snapshot; journal = c.args.journal; apex = wire c.args.apex.now } in
+    let root = found_there c.args.snapshot c.args.journal c.apex_of.result (wire c.args.apex.now) (g.D.Sectors.count c.args.device.now) (g.D.Sectors.count c.settle.new.device) (g.D.Sectors.seen c.settle.new.device) (g.D.Sectors.seen c.args.device.now) c.in_ok-root.root
+    c.apex_of.ensures.octets one.count (one.seen honest) (c.in_ok-root.ensures.found (one.honest.1 honest)) in
+    root

@@ -1,4 +1,4 @@
-use Rattle.std.proofs.Common.{rules, arith, inl, inr, refl, ◌≡◌, ◌⊎◌, MatchOption, List, [], ◌∷◌, ◌++◌, sym, ◌∙◌, ap, subst}
+use Rattle.std.proofs.Common.{rules, arith, inr, refl, ◌≡◌, MatchOption, List, [], ◌∷◌, ◌++◌, sym, ◌∙◌, ap, subst}
 use Rattle.std.specs.Prelude.{Option}
 use Rattle.std.proofs.lemmas.Result.{err_from_is_err_and}
 use Rattle.dns_zone.specs.Zone.{IsZone}

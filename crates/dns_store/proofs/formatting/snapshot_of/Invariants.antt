@@ -1,0 +1,11 @@
+use Rattle.std.proofs.Common.{◌≡◌, ◌++◌}
+use Rattle.std.specs.List.{flat_map}
+use Rattle.dns_records.specs.Record.{plain}
+use Rattle.dns_store.proofs.formatting.snapshot_of.Given as goal
+
+abbrev pub invariant-loop-record : goal.invariant-loop-record
+invariant-loop-record g l = record {
+  can : (goal.iterator-loop-record g).can_next l.record-iterator;
+  ends : (goal.iterator-loop-record g).is_finite l.record-iterator;
+  written : l.octets.items ++ flat_map plain l.record-iterator ≡ flat_map plain l.zone.records;
+}
