@@ -2,4 +2,5 @@ pub mod Item
 pub mod Prerequisites
 pub mod Prescan
 pub mod Effect
+pub mod Touched
 pub mod Verdict

@@ -1,7 +1,7 @@
 -- The place of a record in a list in order.
-use Rattle.std.proofs.Common.{◌≡◌, ℕ, zero, suc, ◌<◌, ◌≤◌, true, false, List, [], ◌∷◌, length, get_or, refl, ap, ◌∙◌, arith, cond}
+use Rattle.std.proofs.Common.{◌≡◌, ℕ, zero, suc, ◌<◌, ◌≤◌, true, false, List, [], ◌∷◌, length, get_or, Some, refl, sym, ap, ◌∙◌, arith, cond}
 use Rattle.std.specs.Prelude.{not, ◌||◌}
-use Rattle.std.specs.List.{AllWithin}
+use Rattle.std.specs.List.{AllWithin, find}
 use Rattle.std.specs.Ordering.{is_lt, is_eq, ordering_reverse}
 use Rattle.std.specs.FinMap.Entries.{by_order}
 use Rattle.std.specs.Cmp.{tied_back}
@@ -34,6 +34,7 @@ stands r (s ∷ rest) zero h inside before e =
     record {
       inside = inside;
       there = ap (λ (o : Ordering). is_eq o || has r rest) back;
+      found = sym (ap (λ (o : Ordering). cond (is_eq o) (Some s) (find (λ x. is_eq (record_cmp r x)) rest)) back);
       put_is = ap (λ (o : Ordering). by_order o (r ∷ s ∷ rest) (r ∷ rest) (s ∷ put r rest)) back;
       without_is = ap (λ (o : Ordering). cond (not (is_eq o)) (s ∷ without r rest) (without r rest)) back ∙ kept_above r rest above;
     }
@@ -44,6 +45,7 @@ stands r (s ∷ rest) (suc at) h inside before e =
     record {
       inside = inside;
       there = ap (λ (o : Ordering). is_eq o || has r rest) back ∙ later.there;
+      found = later.found ∙ sym (ap (λ (o : Ordering). cond (is_eq o) (Some s) (find (λ x. is_eq (record_cmp r x)) rest)) back);
       put_is = ap (λ (o : Ordering). by_order o (r ∷ s ∷ rest) (r ∷ rest) (s ∷ put r rest)) back ∙ ap (λ (ys : List Record). s ∷ ys) later.put_is;
       without_is = ap (λ (o : Ordering). cond (not (is_eq o)) (s ∷ without r rest) (without r rest)) back ∙ ap (λ (ys : List Record). s ∷ ys) later.without_is;
     }

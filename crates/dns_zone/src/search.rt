@@ -126,13 +126,14 @@ pub(crate) fn matching<'r>(
     &records[begin..end_of_match(records, key, begin)]
 }
 
-/// Where the record of equal owner, type and data stands, or where it would go.
-pub(crate) fn find(records: &[Record], wanted: &Record) -> Result<usize, usize>
+/// Where the record of equal owner, type and data stands among records in order, or where it would go. A place near it, if one is
+/// given, is where the search begins, which makes no difference to what it finds.
+pub fn find_record(records: &[Record], wanted: &Record, near: Option<usize>) -> Result<usize, usize>
     requires { is_ordered records.now ≡ true }
     ensures found { IfOk result (StandsAt wanted.now records.now) }
     ensures absent { IfErr result (BelongsAt wanted.now records.now) }
 {
-    let at = count_before(records, &Key::Data(wanted), None);
+    let at = count_before(records, &Key::Data(wanted), near);
     if at < records.len() && records[at].compare(wanted).is_eq() {
         return Ok(at);
     }
