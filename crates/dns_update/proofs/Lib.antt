@@ -10,5 +10,6 @@ pub mod Serials
 pub mod Versions
 pub mod Aside
 pub mod Naming
+pub mod Listing
 pub mod ExampleZone
 pub mod Examples

@@ -126,14 +126,19 @@ fn versioned<I: ZoneIndex>(
 }
 
 /// What refuses the items: the prerequisites, else the scan of the update section.
-fn fault<I: ZoneIndex>(zone: &Zone<I>, prerequisites: &[Item], items: &[Item]) -> Option<Rcode>
-    ensures { result ≡ otherwise (prerequisites_fault zone.now prerequisites.now) (first_fault (prescan_fault zone.now.apex) items.now) }
+fn fault<I: ZoneIndex>(
+    alloc: Heap,
+    zone: &Zone<I>,
+    prerequisites: &[Item],
+    items: &[Item],
+) -> Result<Option<Rcode>, AllocError>
+    ensures { IfOk result (λ fault. fault ≡ otherwise (prerequisites_fault zone.now prerequisites.now) (first_fault (prescan_fault zone.now.apex) items.now)) }
 {
-    let first = prerequisites_fault(zone, prerequisites);
+    let first = prerequisites_fault(alloc, zone, prerequisites)?;
     if first.is_some() {
-        return first;
+        return Ok(first);
     }
-    prescan(zone.apex(), items)
+    Ok(prescan(zone.apex(), items))
 }
 
 /// What becomes of an update of these prerequisites and items.
@@ -148,7 +153,7 @@ fn judge_items<I: ZoneIndex>(
     ensures verdict { IfOk result (IsJudged I.records zone.now prerequisites.now items.now) }
     ensures next { IfOk result (λ judged. (change : StatedChange) (next : I) → judged ≡ Judged.Accepted change next → IsNext zone.now change (I.records next)) }
 {
-    if let Some(rcode) = fault(zone, prerequisites, items) {
+    if let Some(rcode) = fault(alloc, zone, prerequisites, items)? {
         return Ok(Judged::Refused(rcode));
     }
     let mut after = zone.index().fork()?;

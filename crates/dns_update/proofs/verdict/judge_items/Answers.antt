@@ -33,7 +33,7 @@ versioned-requires-clause-few g c =
 pub take_effects-requires-clause-pass : goal.take_effects-requires-clause-pass
 take_effects-requires-clause-pass g c =
     ap (λ n. first_fault (prescan_fault n) c.args.items.now) (c.lend.ensures ∙ c.apex.ensures.name)
-    ∙ (no_fault (prerequisites_fault c.args.zone.now c.args.prerequisites.now) (first_fault (prescan_fault c.args.zone.now.apex) c.args.items.now) (sym c.fault.ensures ∙ c.in_default.is)).1
+    ∙ (no_fault (prerequisites_fault c.args.zone.now c.args.prerequisites.now) (first_fault (prescan_fault c.args.zone.now.apex) c.args.items.now) (sym c.in_ok-rcode.ensures ∙ c.in_default.is)).1
 
 pub returns-clause-next : goal.returns-clause-next
 returns-clause-next g c =
@@ -42,7 +42,7 @@ returns-clause-next g c =
     let valid = c.apex.ensures.valid in
     let set = g.I.ZoneIndex.records c.take_effects.new.set in
     let left = c.in_ok-take_effects.ensures ∙ (λ i. effects ((c.lend.ensures ∙ c.apex.ensures.name) i) ((c.in_ok-after.ensures ∙ c.index.ensures) i) items) in
-    let pass = (no_fault (prerequisites_fault zone c.args.prerequisites.now) (first_fault (prescan_fault zone.apex) items) (sym c.fault.ensures ∙ c.in_default.is)).1 in
+    let pass = (no_fault (prerequisites_fault zone c.args.prerequisites.now) (first_fault (prescan_fault zone.apex) items) (sym c.in_ok-rcode.ensures ∙ c.in_default.is)).1 in
     let sound = subst (IsSound zone.apex) (sym left) (sound_after zone valid items pass c.requires.form) in
     next_told g.I.ZoneIndex.records zone valid set sound (g.met.I.ZoneIndex.valid c.take_effects.new.set) c.versioned.result c.versioned.ensures
 
