@@ -2,3 +2,4 @@ pub mod Steps
 pub mod Entries
 pub mod Walking
 pub mod Formed
+pub mod Touched

@@ -1,18 +1,20 @@
 -- Records taken out of a set and put into it one behind another.
-use Rattle.std.proofs.Common.{◌≡◌, ℕ, zero, suc, ◌+◌, ◌<◌, ◌≤◌, length, drop, get_or, arith, Bool, true, false, not, ◌&&◌, ◌||◌, List, [], ◌∷◌, Option, Some, None, refl, sym, ap, subst, ◌∙◌}
+use Rattle.std.proofs.Common.{◌≡◌, ℕ, zero, suc, ◌+◌, ◌<◌, ◌≤◌, length, drop, get_or, arith, Bool, true, false, not, ◌&&◌, ◌||◌, inl, inr, List, [], ◌∷◌, Option, Some, None, Ok, Err, refl, sym, ap, subst, ◌∙◌}
 use Rattle.std.proofs.lemmas.List.{drop_all}
-use Rattle.std.specs.Prelude.{cond, filter, ◌==◌, is_some, if◌then◌else◌}
+use Rattle.std.specs.Prelude.{cond, filter, ◌==◌, is_some, is_ok, Result, IfOk, IfErr, if◌then◌else◌}
 use Rattle.std.specs.List.{list_any, list_all}
 use Rattle.std.specs.Ordering.{is_eq}
 use Rattle.std.specs.Cmp.{both_ways, tied_itself}
 use Rattle.dns_records.specs.Record.{Record, record_cmp}
-use Rattle.dns_names.specs.Name.{names_eq}
+use Rattle.dns_names.specs.Name.{Labels, names_eq}
 use Rattle.dns_records.specs.Compare.{same_record, same_record-Decides, same_record-equiv}
-use Rattle.dns_zone.specs.Records.{is_ordered, has, put, without, united, same, alike, contains, rrset}
+use Rattle.dns_zone.specs.Records.{is_ordered, has, put, without, united, same, alike, contains, records_at, rrset}
+use Rattle.dns_zone.specs.Place.{StandsAt, BelongsAt}
 use Rattle.dns_zone.specs.Zone.{has_twice}
 use Rattle.dns_zone.specs.Order.{record_total, both_true, same_is, same_itself, names_itself, number_itself, tied_key}
 use Rattle.dns_zone.specs.Twice.{alike_is, alike_flips, any_by}
-use Rattle.dns_zone.specs.Sets.{ties, found, Sorted, sorted_from, equal_is, found_tied, same_sets, sorted_filter, only, found_filter, or_else, found_put, found_united, sorted_put, sorted_united, found_contains, contains_found, filter_contains, contains_filter}
+use Rattle.dns_zone.specs.Sets.{ties, found, Sorted, told, sorted_from, equal_is, found_tied, same_sets, sorted_filter, only, found_filter, or_else, found_put, found_united, sorted_put, sorted_united, found_contains, contains_found, filter_contains, contains_filter}
+use Rattle.dns_zone.proofs.Listed.{ordered_from}
 use Rattle.dns_changes.specs.Change.{Change, change_fault, removed_from, are_held, are_new}
 use Rattle.dns_changes.specs.declared.ChangeError.TheVariants.{WrongSoa, RemovesAbsent, AddsPresent}
 
@@ -21,7 +23,7 @@ and_both true b e f = f
 and_both false b e f = absurd cc
 
 -- ---- taking out
-contains_kept : (a : Record) (test : Record → Bool) (xs : List Record) → contains (filter test xs) a ≡ (contains xs a && test a)
+pub contains_kept : (a : Record) (test : Record → Bool) (xs : List Record) → contains (filter test xs) a ≡ (contains xs a && test a)
 contains_kept a test xs =
     both_ways (contains (filter test xs) a) (contains xs a && test a)
     (λ e. (let h = filter_contains a test xs e in and_both (contains xs a) (test a) h.1 h.0))
@@ -104,7 +106,7 @@ removed_none [] = refl
 removed_none (x ∷ xs) = ap (λ ys. x ∷ ys) (removed_none xs)
 
 -- ---- putting in
-has_is : (r : Record) (xs : List Record) → has r xs ≡ is_some (found r xs)
+pub has_is : (r : Record) (xs : List Record) → has r xs ≡ is_some (found r xs)
 has_is r [] = refl
 has_is r (x ∷ xs) = ap (λ b. ties r x || b) (has_is r xs) ∙ one (ties r x) (found r xs)
   where
@@ -187,14 +189,37 @@ any_kept p q (x ∷ xs) = kept (q x) ∙ ap (λ b. (q x && p x) || b) (any_kept 
 of_key : (r : Record) → (names_eq r.owner r.owner && r.rtype == r.rtype) ≡ true
 of_key r = λ i. names_itself r.owner i && number_itself r.rtype i
 
-pub held_here : (r : Record) (xs : List Record) → list_any (λ y. same_record y r) (rrset xs r.owner r.rtype) ≡ contains xs r
-held_here r xs = any_kept (λ y. same_record y r) (λ y. names_eq y.owner r.owner && y.rtype == r.rtype) xs ∙ any_by (λ y. (names_eq y.owner r.owner && y.rtype == r.rtype) && same_record y r) (same r) each xs
+pub held_here : (r : Record) (xs : List Record) → contains (rrset xs r.owner r.rtype) r ≡ contains xs r
+held_here r xs = contains_kept r (λ y. names_eq y.owner r.owner && y.rtype == r.rtype) xs ∙ ap (λ b. contains xs r && b) (of_key r) ∙ one (contains xs r)
   where
-    each : (y : Record) → ((names_eq y.owner r.owner && y.rtype == r.rtype) && same_record y r) ≡ same r y
-    each y =
-        both_ways ((names_eq y.owner r.owner && y.rtype == r.rtype) && same_record y r) (same r y)
-        (λ e. subst (λ (x : Record). same r x ≡ true) (sym ((same_record-Decides y r).0 (both_true (names_eq y.owner r.owner && y.rtype == r.rtype) (same_record y r) e).1)) (same_itself r))
-        (λ e. subst (λ (x : Record). ((names_eq x.owner r.owner && x.rtype == r.rtype) && same_record x r) ≡ true) (same_is r y e) (and_both (names_eq r.owner r.owner && r.rtype == r.rtype) (same_record r r) (of_key r) (same_record-equiv.refl r)))
+    one : (b : Bool) → (b && true) ≡ b
+    one true = refl
+    one false = refl
+
+-- the record of that owner, type and data is the one, or another TTL's
+pub among_found : (r a : Record) (xs : List Record) → Sorted xs → found r xs ≡ Some a → contains xs r ≡ same_record a r
+among_found r a xs h e =
+    both_ways (contains xs r) (same_record a r)
+    (λ c. (let one = contains_found r xs h c in
+    let is : r ≡ a = cc in
+    subst (λ (x : Record). same_record x r ≡ true) is (same_record-equiv.refl r)))
+    (λ s. subst (λ (x : Record). contains xs x ≡ true) ((same_record-Decides a r).0 s) (found_contains r a xs e).1)
+
+pub among_none : (r : Record) (xs : List Record) → Sorted xs → has r xs ≡ false → contains xs r ≡ false
+among_none r xs h e = elim (told (contains xs r)) [
+  | inr f ↦ f
+  | inl c ↦ (let some : is_some (found r xs) ≡ true = ap is_some (contains_found r xs h c) in let none = has_is r xs in absurd cc)
+]
+
+pub ok_has : (r : Record) (xs : List Record) (at : Result ℕ ℕ) → IfOk at (StandsAt r xs) → IfErr at (BelongsAt r xs) → is_ok at ≡ has r xs
+ok_has r xs (Ok at) h k = sym h.there
+ok_has r xs (Err at) h k = sym k.absent
+
+pub rrset_ordered : (xs : List Record) (name : Labels) (t : ℕ) → is_ordered xs ≡ true → is_ordered (rrset xs name t) ≡ true
+rrset_ordered xs name t h = ordered_from (rrset xs name t) (sorted_filter (λ r. names_eq r.owner name && r.rtype == t) xs (sorted_from xs h))
+
+pub at_ordered : (xs : List Record) (name : Labels) → is_ordered xs ≡ true → is_ordered (records_at xs name) ≡ true
+at_ordered xs name h = ordered_from (records_at xs name) (sorted_filter (λ r. names_eq r.owner name) xs (sorted_from xs h))
 
 pub tied_here : (r : Record) (xs : List Record) → has r (rrset xs r.owner r.rtype) ≡ has r xs
 tied_here r xs = any_kept (ties r) (λ y. names_eq y.owner r.owner && y.rtype == r.rtype) xs ∙ any_by (λ y. (names_eq y.owner r.owner && y.rtype == r.rtype) && ties r y) (ties r) each xs
@@ -207,7 +232,7 @@ tied_here r xs = any_kept (ties r) (λ y. names_eq y.owner r.owner && y.rtype ==
         and_both (names_eq y.owner r.owner && y.rtype == r.rtype) (ties r y) ((λ i. names_eq (sym key.owner i) r.owner && (sym key.rtype i == r.rtype)) ∙ of_key r) e))
 
 -- ---- the loops
-next_at : (xs : List Record) (i : ℕ) (r : Record) → i < length xs → r ≡ get_or xs i r → drop i xs ≡ r ∷ drop (i + 1) xs
+pub next_at : (xs : List Record) (i : ℕ) (r : Record) → i < length xs → r ≡ get_or xs i r → drop i xs ≡ r ∷ drop (i + 1) xs
 next_at [] i r lt is = absurd (omega arith)
 next_at (x ∷ xs) zero r lt is = ap (λ y. y ∷ xs) (sym is)
 next_at (x ∷ xs) (suc i) r lt is =

@@ -1,4 +1,5 @@
 pub mod Change
+pub mod Touched
 pub mod Entry
 pub mod Laws
 pub mod Version

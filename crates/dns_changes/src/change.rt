@@ -1,11 +1,11 @@
 ghost use Rattle.std.specs.Prelude.{◌≡◌, ◌⊎◌, true, false, not, ◌∷◌, Some, None, IfOk, IfErr, OnOk, OnErr};
-ghost use Rattle.dns_zone.specs.Records.{contains, has, put, united, without};
+ghost use Rattle.dns_zone.specs.Records.{contains, has, is_ordered, put, united, without};
 ghost use Rattle.dns_changes.specs.Change.{AreFew, is_formed, applied, are_held, are_new, change_fault, removed_from};
 
 use crate::ChangeError;
 use dns_memory::Heap;
 use dns_records::Record;
-use dns_zone::ZoneIndex;
+use dns_zone::{ZoneIndex, find_record};
 use std::alloc::AllocError;
 use std::marker::Model;
 
@@ -127,26 +127,38 @@ impl Change {
     }
 }
 
+/// Whether the record is one of these, which stand in order, with its TTL. It is searched from a place on, and the place is moved
+/// to it, so that records that are looked for in order are found soon.
+pub(crate) fn is_among(records: &[Record], wanted: &Record, near: &mut usize) -> bool
+    requires { is_ordered records.now ≡ true }
+    ensures { result ≡ contains records.now wanted.now }
+{
+    match find_record(records, wanted, Some(*near)) {
+        Ok(at) => {
+            *near = at;
+            records[at] == *wanted
+        }
+        Err(at) => {
+            *near = at;
+            false
+        }
+    }
+}
+
 /// Whether the set has the record, with its TTL.
-pub(crate) fn holds<I: ZoneIndex>(set: &I, wanted: &Record) -> bool
+fn holds<I: ZoneIndex>(set: &I, wanted: &Record) -> bool
     ensures { result ≡ contains (I.records set.now) wanted.now }
 {
-    set.rrset(&wanted.owner().lend(), wanted.rtype())
-        .contains(wanted)
+    let rrset = set.rrset(&wanted.owner().lend(), wanted.rtype());
+    is_among(rrset, wanted, &mut 0)
 }
 
 /// Whether the set has a record of that owner, type and data.
 fn holds_key<I: ZoneIndex>(set: &I, wanted: &Record) -> bool
     ensures { result ≡ has wanted.now (I.records set.now) }
 {
-    one_ties(set.rrset(&wanted.owner().lend(), wanted.rtype()), wanted)
-}
-
-/// Whether one of the records has that owner, type and data.
-fn one_ties(records: &[Record], wanted: &Record) -> bool
-    ensures { result ≡ has wanted.now records.now }
-{
-    records.iter().any(|r| wanted.compare(r).is_eq())
+    let rrset = set.rrset(&wanted.owner().lend(), wanted.rtype());
+    find_record(rrset, wanted, None).is_ok()
 }
 
 /// Takes a record out, and answers whether it was there.

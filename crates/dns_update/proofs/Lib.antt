@@ -8,5 +8,8 @@ pub mod Sound
 pub mod SoundEffects
 pub mod Serials
 pub mod Versions
+pub mod Aside
+pub mod Naming
+pub mod Listing
 pub mod ExampleZone
 pub mod Examples

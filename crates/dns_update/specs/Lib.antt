@@ -1,5 +1,7 @@
 pub mod Item
 pub mod Prerequisites
+pub mod Listed
 pub mod Prescan
 pub mod Effect
+pub mod Touched
 pub mod Verdict

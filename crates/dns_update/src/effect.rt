@@ -12,7 +12,7 @@ ghost use Rattle.dns_update.specs.Item.{as_record, HasForm, first_fault};
 ghost use Rattle.dns_update.specs.Prescan.{prescan_fault};
 ghost use Rattle.dns_update.specs.Effect.{added, deleted, deleted_set, effect, effects, is_of, is_spared, is_vital, owns_other, replaced, succeeds};
 
-use crate::item::Item;
+use crate::item::{Item, find_named};
 use dns_memory::Heap;
 use dns_names::{Name, NameRef};
 use dns_records::Record;
@@ -212,18 +212,11 @@ fn is_spared<I: ZoneIndex>(set: &I, apex: &NameRef<'_>, item: &Item) -> bool
     (item.rtype() == SOA) | ((item.rtype() == NS) & item.is_owned_by(apex) & last)
 }
 
-/// The first of the records that the item names.
-fn first_named<'r>(records: &'r [Record], item: &Item) -> Option<&'r Record>
-    ensures { option_copied result ≡ find (alike (as_record item.now)) records.now }
-{
-    records.iter().find(|r| item.names_record(r))
-}
-
 /// A copy of the record that the item names, if it is there.
 fn named<I: ZoneIndex>(set: &I, item: &Item) -> Result<Option<Record>, AllocError>
     ensures { IfOk result (λ found. found ≡ find (alike (as_record item.now)) (I.records set.now)) }
 {
-    copy_of(first_named(set.rrset(&item.owner().lend(), item.rtype()), item))
+    copy_of(find_named(set, item))
 }
 
 /// Deletes one record (RFC 2136 section 3.4.2.4).

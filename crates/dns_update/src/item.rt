@@ -1,17 +1,20 @@
+//! A record of an update as it came, and the record of a zone that it names.
 ghost use Rattle.std.specs.Prelude.{◌≡◌, ◌<◌, ◌≤◌, ◌^◌, true, length, IfOk};
+ghost use Rattle.std.specs.List.{find};
+ghost use Rattle.std.specs.Option.{option_copied};
 ghost use Rattle.dns_names.specs.Name.{names_eq, under};
 ghost use Rattle.dns_records.specs.Record.{IsRData, data_of};
 ghost use Rattle.dns_records.specs.Refusals.{RefusesData};
 ghost use Rattle.dns_records.specs.Types.{is_data_type, is_known};
 ghost use Rattle.dns_zone.specs.Records.{alike};
 ghost use Rattle.dns_update.specs.Item.{as_record, is_empty, is_meta};
-ghost use Rattle.dns_update.specs.Prerequisites.{lists};
 
 use dns_memory::Heap;
 use dns_names::{Name, NameRef};
-use dns_records::types::{AXFR, CLASS_IN, IXFR, MAILA, MAILB};
+use dns_records::types::{AXFR, IXFR, MAILA, MAILB};
 use dns_records::{RData, Record, RecordError, form};
 use dns_wire::{RecordView, Section};
+use dns_zone::{ZoneIndex, find_parts};
 use std::alloc::AllocError;
 use std::marker::Model;
 
@@ -117,21 +120,6 @@ impl Item {
         matches!(self.rtype(), IXFR | AXFR | MAILB | MAILA)
     }
 
-    /// Whether the record is of the item's owner, type and data.
-    pub(crate) fn names_record(&self, r: &Record) -> bool
-        ensures { result ≡ alike (as_record self.now) r.now }
-    {
-        let owners = self.owner().lend().is(&r.owner().lend());
-        owners & (self.rtype() == r.rtype()) & (self.rdata() == r.rdata())
-    }
-
-    /// Whether the item lists the record: it is of class IN, and of its owner, type and data.
-    pub(crate) fn lists(&self, r: &Record) -> bool
-        ensures { result ≡ lists r.now self.now }
-    {
-        self.class() == CLASS_IN && self.names_record(r)
-    }
-
     /// The item as a record of the zone.
     pub(crate) fn to_record(&self, alloc: Heap) -> Result<Record, AllocError>
         requires rtype { is_data_type self.now.rtype ≡ true }
@@ -155,6 +143,15 @@ impl Item {
             Err(error) => Err(refused_memory(error, self)),
         }
     }
+}
+
+/// The record of the item's owner, type and data, if the set has it.
+pub(crate) fn find_named<'s, I: ZoneIndex>(set: &'s I, item: &Item) -> Option<&'s Record>
+    ensures { option_copied result ≡ find (alike (as_record item.now)) (I.records set.now) }
+{
+    let owner = item.owner().lend();
+    let rrset = set.rrset(&owner, item.rtype());
+    find_parts(rrset, &owner, item.rtype(), item.rdata())
 }
 
 /// What is said of data that is refused though it has the form of its type: memory was.

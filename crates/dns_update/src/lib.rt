@@ -5,6 +5,7 @@ mod effect;
 mod item;
 mod prerequisites;
 mod prescan;
+mod touched;
 mod verdict;
 
 use dns_changes::Change;

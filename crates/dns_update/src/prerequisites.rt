@@ -1,17 +1,21 @@
 //! What an update asks of the zone before anything is done.
-ghost use Rattle.std.specs.Prelude.{◌≡◌, ◌||◌, ◌==◌, not};
-ghost use Rattle.std.specs.List.{list_any, list_all};
+ghost use Rattle.std.specs.Prelude.{◌≡◌, ◌==◌, None, IfOk, if◌then◌else◌};
+ghost use Rattle.std.specs.List.{find, list_all};
+ghost use Rattle.std.specs.Option.{option_copied};
 ghost use Rattle.dns_records.specs.Types.{class_in};
-ghost use Rattle.dns_zone.specs.Records.{alike, has, owns, rrset};
+ghost use Rattle.dns_zone.specs.Records.{alike, owns};
 ghost use Rattle.dns_update.specs.Item.{as_record, first_fault};
-ghost use Rattle.dns_update.specs.Prerequisites.{are_rrsets, in_use_fault, is_rrset, lists, prerequisite_fault, prerequisites_fault, unused_fault};
+ghost use Rattle.dns_update.specs.Listed.{is_counted, is_met, listed};
+ghost use Rattle.dns_update.specs.Prerequisites.{are_rrsets, in_use_fault, prerequisite_fault, prerequisites_fault, unused_fault};
 
-use crate::item::Item;
+use crate::item::{Item, find_named};
+use dns_memory::Heap;
 use dns_names::NameRef;
 use dns_records::Record;
 use dns_records::types::{ANY, CLASS_ANY, CLASS_IN, CLASS_NONE};
 use dns_wire::Rcode;
 use dns_zone::{Zone, ZoneIndex, owns_type};
+use std::alloc::AllocError;
 
 /// Whether the name owns a record.
 fn owns<I: ZoneIndex>(index: &I, name: &NameRef<'_>) -> bool
@@ -79,56 +83,72 @@ fn first_fault<I: ZoneIndex>(zone: &Zone<I>, items: &[Item]) -> Option<Rcode>
     None
 }
 
-/// Whether one of the items lists the record.
-fn is_listed(items: &[Item], r: &Record) -> bool
-    ensures { result ≡ list_any (lists r.now) items.now }
+/// The record that the item lists: one of class IN lists that of its owner, type and data.
+fn listed_record<'s, I: ZoneIndex>(index: &'s I, item: &Item) -> Option<&'s Record>
+    ensures { option_copied result ≡ (if item.now.class == class_in then find (alike (as_record item.now)) (I.records index.now) else None) }
 {
-    items.iter().any(|item| item.lists(r))
+    if item.class() != CLASS_IN {
+        return None;
+    }
+    find_named(index, item)
 }
 
-/// Whether one of the records is of the item's owner, type and data.
-fn names_one(item: &Item, records: &[Record]) -> bool
-    ensures { result ≡ list_any (alike (as_record item.now)) records.now }
+/// The set of the records that the items list.
+fn listed_set<I: ZoneIndex>(alloc: Heap, index: &I, items: &[Item]) -> Result<I, AllocError>
+    ensures { IfOk result (λ set. I.records set ≡ listed (I.records index.now) items.now) }
 {
-    records.iter().any(|r| item.names_record(r))
+    let mut set = I::empty(alloc)?;
+    for item in items {
+        if let Some(record) = listed_record(index, item) {
+            set.insert(record.clone()?)?;
+        }
+    }
+    Ok(set)
 }
 
-/// Whether each of the records is listed by one of the items.
-fn are_listed(items: &[Item], records: &[Record]) -> bool
-    ensures { result ≡ list_all (λ r. list_any (lists r) items.now) records.now }
+/// Whether the item's record is there, and of its RRset as many are listed as there are.
+fn is_counted<I: ZoneIndex>(index: &I, listed: &I, item: &Item) -> bool
+    ensures { result ≡ is_counted (I.records listed.now) (I.records index.now) item.now }
 {
-    records.iter().all(|r| is_listed(items, r))
+    let owner = item.owner().lend();
+    let count = listed.rrset(&owner, item.rtype()).len();
+    find_named(index, item).is_some() & (count == index.rrset(&owner, item.rtype()).len())
 }
 
-/// Whether what is listed of the item's name and type is the RRset, no more and no less (RFC 2136 section 3.2.3).
-fn is_rrset<I: ZoneIndex>(index: &I, items: &[Item], item: &Item) -> bool
-    ensures { result ≡ is_rrset (I.records index.now) items.now item.now }
+/// Whether the item isn't of class IN, or its RRset is listed.
+fn is_met<I: ZoneIndex>(index: &I, listed: &I, item: &Item) -> bool
+    ensures { result ≡ is_met (I.records listed.now) (I.records index.now) item.now }
 {
-    let there = index.rrset(&item.owner().lend(), item.rtype());
-    names_one(item, there) & are_listed(items, there)
+    item.class() != CLASS_IN || is_counted(index, listed, item)
 }
 
-/// Whether the item isn't of class IN, or what is listed of its name and type is the RRset.
-fn is_met<I: ZoneIndex>(index: &I, items: &[Item], item: &Item) -> bool
-    ensures { result ≡ (not (item.now.class == class_in) || is_rrset (I.records index.now) items.now item.now) }
+/// Whether of no RRset a part is listed.
+fn all_met<I: ZoneIndex>(index: &I, listed: &I, items: &[Item]) -> bool
+    ensures { result ≡ list_all (is_met (I.records listed.now) (I.records index.now)) items.now }
 {
-    item.class() != CLASS_IN || is_rrset(index, items, item)
+    items.iter().all(|item| is_met(index, listed, item))
 }
 
-/// Whether what is listed is the RRset, for each name and type.
-fn are_rrsets<I: ZoneIndex>(index: &I, items: &[Item]) -> bool
-    ensures { result ≡ are_rrsets (I.records index.now) items.now }
+/// Whether what is listed is the RRset, no more and no less, for each name and type (RFC 2136 section 3.2.3). What is listed is
+/// gathered as a set, so that two counts tell whether it is the whole of an RRset.
+fn are_rrsets<I: ZoneIndex>(alloc: Heap, index: &I, items: &[Item]) -> Result<bool, AllocError>
+    ensures { IfOk result (λ met. met ≡ are_rrsets (I.records index.now) items.now) }
 {
-    items.iter().all(|item| is_met(index, items, item))
+    let listed: I = listed_set(alloc, index, items)?;
+    Ok(all_met(index, &listed, items))
 }
 
 /// What fails the prerequisites (RFC 2136 section 3.2).
-pub(crate) fn prerequisites_fault<I: ZoneIndex>(zone: &Zone<I>, items: &[Item]) -> Option<Rcode>
-    ensures { result ≡ prerequisites_fault zone.now items.now }
+pub(crate) fn prerequisites_fault<I: ZoneIndex>(
+    alloc: Heap,
+    zone: &Zone<I>,
+    items: &[Item],
+) -> Result<Option<Rcode>, AllocError>
+    ensures { IfOk result (λ fault. fault ≡ prerequisites_fault zone.now items.now) }
 {
     let fault = first_fault(zone, items);
-    if fault.is_some() || are_rrsets(zone.index(), items) {
-        return fault;
+    if fault.is_some() || are_rrsets(alloc, zone.index(), items)? {
+        return Ok(fault);
     }
-    Some(Rcode::NxRrset)
+    Ok(Some(Rcode::NxRrset))
 }

@@ -1,11 +1,12 @@
 //! The verdict on an update.
-ghost use Rattle.std.specs.Prelude.{◌≡◌, ◌<◌, ◌+◌, ◌^◌, true, false, List, [], ◌∷◌, length, IfOk, OnOk};
-ghost use Rattle.std.specs.List.{AllByRecursion};
+ghost use Rattle.std.specs.Prelude.{◌≡◌, ◌<◌, ◌+◌, ◌^◌, true, [], ◌∷◌, length, IfOk, OnOk};
+ghost use Rattle.std.specs.List.{AllByRecursion, list_all, list_any};
+ghost use Rattle.dns_names.specs.Name.{names_eq};
 ghost use Rattle.dns_records.specs.Types.{type_soa};
-ghost use Rattle.dns_records.specs.Record.{Record as Stated};
-ghost use Rattle.dns_zone.specs.Records.{same};
+ghost use Rattle.dns_zone.specs.Records.{records_at};
 ghost use Rattle.dns_zone.specs.Zone.{soas};
 ghost use Rattle.dns_changes.specs.Change.{Change as StatedChange};
+ghost use Rattle.dns_changes.specs.Touched.{DifferAt};
 ghost use Rattle.dns_update.specs.Item.{HasForm, first_fault, otherwise};
 ghost use Rattle.dns_update.specs.Prerequisites.{prerequisites_fault};
 ghost use Rattle.dns_update.specs.Prescan.{prescan_fault};
@@ -18,43 +19,36 @@ use crate::effect::take_effects;
 use crate::item::{Item, items_of};
 use crate::prerequisites::prerequisites_fault;
 use crate::prescan::prescan;
+use crate::touched::touched_names;
 use dns_changes::Change;
 use dns_memory::Heap;
+use dns_names::{Name, NameRef};
 use dns_records::Record;
 use dns_serial::Serial;
 use dns_wire::{Message, Rcode};
-use dns_zone::{Records, Zone, ZoneIndex, soa_of};
+use dns_zone::{Zone, ZoneIndex, soa_of};
 use std::alloc::AllocError;
 
-/// Whether two records are the same, with their TTLs.
-fn is_same(a: &Record, b: &Record) -> bool
-    ensures { result ≡ same a.now b.now }
+/// Whether the name owns the same records in two sets, with all TTLs.
+fn owns_same<I: ZoneIndex>(a: &I, b: &I, name: &NameRef<'_>) -> bool
+    ensures { result ≡ same_set (records_at (I.records a.now) name.now) (records_at (I.records b.now) name.now) }
 {
-    a == b
+    a.records_at(name) == b.records_at(name)
 }
 
-/// Whether the first of the records that are left is that one.
-fn is_next<I: ZoneIndex>(rest: &mut Records<'_, I>, r: &Record) -> bool
-    ensures same { result ≡ true → rest.old ≡ r.now ∷ rest.new }
-    ensures other { (others : List Stated) → result ≡ false → same_set (r.now ∷ others) rest.old ≡ false }
+/// Whether each of the names owns the same records in two sets, with all TTLs.
+fn own_same<I: ZoneIndex>(a: &I, b: &I, names: &[Name]) -> bool
+    ensures { result ≡ list_all (λ n. same_set (records_at (I.records a.now) n) (records_at (I.records b.now) n)) names.now }
 {
-    match rest.next() {
-        Some(next) => is_same(r, next),
-        None => false,
-    }
+    names.iter().all(|name| owns_same(a, b, &name.lend()))
 }
 
-/// Whether two sets are the same, with all TTLs.
-fn is_same_set<I: ZoneIndex>(a: &I, b: &I) -> bool
+/// Whether two sets are the same, with all TTLs, that differ at most in what the names own.
+fn is_same_set<I: ZoneIndex>(a: &I, b: &I, names: &[Name]) -> bool
+    requires { DifferAt names.now (I.records a.now) (I.records b.now) }
     ensures { result ≡ same_set (I.records a.now) (I.records b.now) }
 {
-    let mut others = Records::of(b);
-    for record in Records::of(a) {
-        if !is_next(&mut others, record) {
-            return false;
-        }
-    }
-    others.next().is_none()
+    own_same(a, b, names)
 }
 
 /// Advances the serial of a zone by one (RFC 2136 section 3.6).
@@ -69,13 +63,19 @@ fn advance<I: ZoneIndex>(set: &mut I, soa: &Record) -> Result<(), AllocError>
 }
 
 /// The change of a zone to a set with one SOA.
-fn change_to<I: ZoneIndex>(alloc: Heap, zone: &Zone<I>, after: I) -> Result<Judged<I>, AllocError>
+fn change_to<I: ZoneIndex>(
+    alloc: Heap,
+    zone: &Zone<I>,
+    after: I,
+    names: &[Name],
+) -> Result<Judged<I>, AllocError>
     requires one { HasSoa zone.now.apex (I.records after) }
     requires few { length (I.records after) < 2 ^ 32 }
+    requires touched { DifferAt names.now zone.now.records (I.records after) }
     ensures { IfOk result (IsTold I.records zone.now.records (Leaves (I.records after))) }
 {
     let new = soa_of(&after, &zone.apex().lend());
-    let change = Change::between(alloc, zone.index(), zone.soa(), &after, new)?;
+    let change = Change::between(alloc, zone.index(), zone.soa(), &after, new, names)?;
     Ok(Judged::Accepted(change, after))
 }
 
@@ -84,46 +84,61 @@ fn advanced_change<I: ZoneIndex>(
     alloc: Heap,
     zone: &Zone<I>,
     after: I,
+    names: &[Name],
 ) -> Result<Judged<I>, AllocError>
     requires one { HasSoa zone.now.apex (I.records after) }
     requires few { length (I.records after) + 1 < 2 ^ 32 }
+    requires touched { DifferAt names.now zone.now.records (I.records after) }
+    requires apex { list_any (names_eq zone.now.apex) names.now ≡ true }
     ensures { IfOk result (IsTold I.records zone.now.records (Leaves (with_next_serial (soas (I.records after)) (I.records after)))) }
 {
     let mut after = after;
     let soa = soa_of(&after, &zone.apex().lend()).clone()?;
     advance(&mut after, &soa)?;
-    change_to(alloc, zone, after)
+    change_to(alloc, zone, after, names)
 }
 
 /// What becomes of a zone by what an update left of its records.
-fn versioned<I: ZoneIndex>(alloc: Heap, zone: &Zone<I>, after: I) -> Result<Judged<I>, AllocError>
+fn versioned<I: ZoneIndex>(
+    alloc: Heap,
+    zone: &Zone<I>,
+    after: I,
+    names: &[Name],
+) -> Result<Judged<I>, AllocError>
     requires one { HasSoa zone.now.apex (I.records after) }
     requires few { length (I.records after) + 1 < 2 ^ 32 }
+    requires touched { DifferAt names.now zone.now.records (I.records after) }
+    requires apex { list_any (names_eq zone.now.apex) names.now ≡ true }
     ensures { IfOk result (IsTold I.records zone.now.records (versioned zone.now.records (I.records after))) }
 {
-    if is_same_set(zone.index(), &after) {
+    if is_same_set(zone.index(), &after, names) {
         return Ok(Judged::NoChange);
     }
     let old = Serial(zone.soa().serial());
     let new = Serial(soa_of(&after, &zone.apex().lend()).serial());
     if new.0 == old.0 {
-        return advanced_change(alloc, zone, after);
+        return advanced_change(alloc, zone, after, names);
     }
     if new.greater(old) {
-        return change_to(alloc, zone, after);
+        return change_to(alloc, zone, after, names);
     }
     Ok(Judged::Refused(Rcode::Refused))
 }
 
 /// What refuses the items: the prerequisites, else the scan of the update section.
-fn fault<I: ZoneIndex>(zone: &Zone<I>, prerequisites: &[Item], items: &[Item]) -> Option<Rcode>
-    ensures { result ≡ otherwise (prerequisites_fault zone.now prerequisites.now) (first_fault (prescan_fault zone.now.apex) items.now) }
+fn fault<I: ZoneIndex>(
+    alloc: Heap,
+    zone: &Zone<I>,
+    prerequisites: &[Item],
+    items: &[Item],
+) -> Result<Option<Rcode>, AllocError>
+    ensures { IfOk result (λ fault. fault ≡ otherwise (prerequisites_fault zone.now prerequisites.now) (first_fault (prescan_fault zone.now.apex) items.now)) }
 {
-    let first = prerequisites_fault(zone, prerequisites);
+    let first = prerequisites_fault(alloc, zone, prerequisites)?;
     if first.is_some() {
-        return first;
+        return Ok(first);
     }
-    prescan(zone.apex(), items)
+    Ok(prescan(zone.apex(), items))
 }
 
 /// What becomes of an update of these prerequisites and items.
@@ -138,12 +153,13 @@ fn judge_items<I: ZoneIndex>(
     ensures verdict { IfOk result (IsJudged I.records zone.now prerequisites.now items.now) }
     ensures next { IfOk result (λ judged. (change : StatedChange) (next : I) → judged ≡ Judged.Accepted change next → IsNext zone.now change (I.records next)) }
 {
-    if let Some(rcode) = fault(zone, prerequisites, items) {
+    if let Some(rcode) = fault(alloc, zone, prerequisites, items)? {
         return Ok(Judged::Refused(rcode));
     }
     let mut after = zone.index().fork()?;
     take_effects(alloc, &mut after, &zone.apex().lend(), items)?;
-    versioned(alloc, zone, after)
+    let names = touched_names(alloc, zone.apex(), items)?;
+    versioned(alloc, zone, after, &names)
 }
 
 /// What becomes of an update of the zone, which stays as it is (RFC 2136 sections 3.2 to 3.6). What is accepted is the change and the records that

@@ -78,6 +78,7 @@ key_cut (key.Type name t) =
     cut_of type_cmp (then_total (on_total (λ (p : OwnerAndType). p.0) name_total) (on_total (λ (p : OwnerAndType). p.1) nat_cmp_total)) (λ (r : Record). (r.owner, r.rtype)) (name, t)
     (λ r s e. then_less (type_cmp (r.owner, r.rtype) (s.owner, s.rtype)) _ (then_assoc (name_cmp r.owner s.owner) (nat_cmp r.rtype s.rtype) _ ∙ e))
 key_cut (key.Data q) = cut_of record_cmp record_total (λ (r : Record). r) q.now (λ r s e. inl e)
+key_cut (key.Parts name t octets) = cut_of record_cmp record_total (λ (r : Record). r) (record { owner = name; rtype = t; ttl = 0; rdata = octets.now }) (λ r s e. inl e)
 
 -- the halves
 pub told_nat : (i j : ℕ) → (i < j) ⊎ (j ≤ i)

@@ -1,15 +1,16 @@
 -- The place of a record, or of a name, in a list in order.
 use Rattle.std.specs.Prelude.{◌≡◌, ℕ, ◌-◌, ◌<◌, ◌≤◌, nat_lt, Bool, true, false, ◌&&◌, ◌||◌, List, length, insert, remove, slice_set, slice_get, Some, None}
-use Rattle.std.specs.List.{AllWithin}
-use Rattle.std.specs.Ordering.{is_lt}
+use Rattle.std.specs.List.{AllWithin, find}
+use Rattle.std.specs.Ordering.{is_eq, is_lt}
 use Rattle.dns_names.specs.Name.{Labels, name_cmp, under}
-use Rattle.dns_records.specs.Record.{Record}
+use Rattle.dns_records.specs.Record.{Record, record_cmp}
 use Rattle.dns_zone.specs.Records.{put, without, has}
 
 -- One of equal owner, type and data stands there.
 pub record StandsAt (r : Record) (records : List Record) (at : ℕ) : Type 0 where
   pub inside : at < length records
   pub there : has r records ≡ true
+  pub found : slice_get records at ≡ find (λ s. is_eq (record_cmp r s)) records
   pub put_is : put r records ≡ slice_set records at r
   pub without_is : without r records ≡ remove records at
 

@@ -5,7 +5,7 @@ ghost use Rattle.dns_records.specs.Record.{IsRecord};
 ghost use Rattle.dns_zone.specs.Records.{is_ordered};
 
 use crate::lookup::{exists, find_node, records_near};
-use crate::search::{Key, find, first_behind, matching};
+use crate::search::{Key, find_record, first_behind, matching};
 use crate::{Match, ZoneIndex};
 use dns_memory::Heap;
 use dns_names::NameRef;
@@ -63,7 +63,7 @@ impl ZoneIndex for RecordList {
 
     fn insert(&mut self, added: Record) -> Result<(), AllocError> {
         let _valid = added.rdata();
-        match find(&self.items, &added) {
+        match find_record(&self.items, &added, None) {
             Ok(at) => self.items[at] = added,
             Err(at) => self.items.insert(at, added)?,
         }
@@ -71,7 +71,7 @@ impl ZoneIndex for RecordList {
     }
 
     fn remove(&mut self, removed: &Record) -> Result<bool, AllocError> {
-        match find(&self.items, removed) {
+        match find_record(&self.items, removed, None) {
             Ok(at) => {
                 self.items.remove(at);
                 Ok(true)

@@ -1,9 +1,9 @@
 //! Searching by halves in a list of records in order.
 ghost use Rattle.std.specs.Prelude.{◌≡◌, ◌<◌, ◌≤◌, true, false, length, filter, Some, IfOk, IfErr};
-ghost use Rattle.std.specs.List.{AllWithin};
+ghost use Rattle.std.specs.List.{AllWithin, find};
 ghost use Rattle.std.specs.Ordering.{is_lt, is_eq};
 ghost use Rattle.std.specs.Option.{option_copied};
-ghost use Rattle.dns_zone.specs.Records.{is_ordered, next_after};
+ghost use Rattle.dns_zone.specs.Records.{alike, is_ordered, next_after};
 ghost use Rattle.dns_zone.specs.Place.{StandsAt, BelongsAt};
 ghost use Rattle.dns_zone.specs.Side.{side_of};
 
@@ -20,6 +20,8 @@ pub(crate) enum Key<'a> {
     Type(NameRef<'a>, u16),
     /// The one of equal owner, type and data.
     Data(&'a Record),
+    /// The one of that owner, type and data in plain form.
+    Parts(NameRef<'a>, u16, &'a [u8]),
 }
 
 /// On which side of the key the record stands.
@@ -30,6 +32,13 @@ fn side(key: &Key<'_>, r: &Record) -> Ordering
         Key::Owner(name) => r.owner().lend().cmp(name),
         Key::Type(name, rtype) => r.owner().lend().cmp(name).then(r.rtype().cmp(rtype)),
         Key::Data(other) => r.compare(other),
+        Key::Parts(name, rtype, rdata) => {
+            let types = r.rtype().cmp(rtype);
+            r.owner()
+                .lend()
+                .cmp(name)
+                .then(types.then(r.rdata().cmp(rdata)))
+        }
     }
 }
 
@@ -41,6 +50,7 @@ fn is_match(key: &Key<'_>, r: &Record) -> bool
         Key::Owner(name) => r.owner().lend().is(name),
         Key::Type(name, rtype) => r.owner().lend().is(name) & (r.rtype() == *rtype),
         Key::Data(other) => r.compare(other).is_eq(),
+        Key::Parts(_, _, _) => side(key, r).is_eq(),
     }
 }
 
@@ -126,17 +136,36 @@ pub(crate) fn matching<'r>(
     &records[begin..end_of_match(records, key, begin)]
 }
 
-/// Where the record of equal owner, type and data stands, or where it would go.
-pub(crate) fn find(records: &[Record], wanted: &Record) -> Result<usize, usize>
+/// Where the record of equal owner, type and data stands among records in order, or where it would go. A place near it, if one is
+/// given, is where the search begins, which makes no difference to what it finds.
+pub fn find_record(records: &[Record], wanted: &Record, near: Option<usize>) -> Result<usize, usize>
     requires { is_ordered records.now ≡ true }
     ensures found { IfOk result (StandsAt wanted.now records.now) }
     ensures absent { IfErr result (BelongsAt wanted.now records.now) }
 {
-    let at = count_before(records, &Key::Data(wanted), None);
+    let at = count_before(records, &Key::Data(wanted), near);
     if at < records.len() && records[at].compare(wanted).is_eq() {
         return Ok(at);
     }
     Err(at)
+}
+
+/// The record of that owner, type and data in plain form, if it is one of these records in order.
+pub fn find_parts<'r>(
+    records: &'r [Record],
+    owner: &NameRef<'_>,
+    rtype: u16,
+    rdata: &[u8],
+) -> Option<&'r Record>
+    requires { is_ordered records.now ≡ true }
+    ensures { option_copied result ≡ find (alike (record { owner = owner.now; rtype = rtype; ttl = 0; rdata = rdata.now })) records.now }
+{
+    let key = Key::Parts(owner.again(), rtype, rdata);
+    let at = count_before(records, &key, None);
+    if at < records.len() && is_match(&key, &records[at]) {
+        return Some(&records[at]);
+    }
+    None
 }
 
 /// The first record behind another.

@@ -1,12 +1,16 @@
-use Rattle.std.proofs.Common.{List, ap, ◌∙◌}
-use Rattle.std.specs.List.{list_any}
+use Rattle.std.proofs.Common.{◌≡◌, true, List, sym, ap, subst, ◌∙◌}
 use Rattle.dns_records.specs.Record.{Record}
-use Rattle.dns_records.specs.Compare.{same_record}
-use Rattle.dns_zone.specs.Records.{rrset}
-use Rattle.dns_changes.proofs.Steps.{held_here}
+use Rattle.dns_zone.specs.Records.{contains, is_ordered, rrset}
+use Rattle.dns_changes.proofs.Steps.{held_here, rrset_ordered}
 use Rattle.dns_changes.proofs.change.holds.Goals as goal
+
+pub is_among-requires : goal.is_among-requires
+is_among-requires g c =
+    let xs = g.I.ZoneIndex.records c.args.set.now in
+    subst (λ (rs : List Record). is_ordered rs ≡ true) (sym c.rrset-rrset.ensures) (rrset_ordered xs _ _ (g.met.I.ZoneIndex.ordered c.args.set.now))
 
 pub returns : goal.returns
 returns g c =
     let xs = g.I.ZoneIndex.records c.args.set.now in
-    c.contains.ensures.value ∙ ap (λ (rs : List Record). list_any (λ y. same_record y c.args.wanted.now) rs) (c.rrset.ensures ∙ (λ i. rrset xs ((c.lend.ensures ∙ c.owner.ensures) i) (c.rtype.ensures i))) ∙ held_here c.args.wanted.now xs
+    let r = c.args.wanted.now in
+    c.is_among.ensures ∙ ap (λ (rs : List Record). contains rs r) (c.rrset-rrset.ensures ∙ (λ i. rrset xs ((c.lend.ensures ∙ c.owner.ensures) i) (c.rtype.ensures i))) ∙ held_here r xs

@@ -1,5 +1,5 @@
 use Rattle.std.proofs.Common.{sym, ◌∙◌}
-use Rattle.dns_update.proofs.Forms.{IsFit, fit}
+use Rattle.dns_update.proofs.Forms.{fit}
 use Rattle.dns_update.proofs.effect.take_effect.Goals as goal
 
 pub to_record-requires-clause-rtype : goal.to_record-requires-clause-rtype

@@ -1,10 +1,15 @@
-use Rattle.std.proofs.Common.{length, refl, sym, ap, subst, ◌∙◌, arith}
+use Rattle.std.proofs.Common.{◌≡◌, true, List, length, refl, sym, ap, subst, ◌∙◌, arith}
+use Rattle.std.specs.List.{list_any}
+use Rattle.dns_names.specs.Name.{Labels, names_eq}
 use Rattle.dns_update.specs.Effect.{effects}
 use Rattle.dns_update.specs.Item.{first_fault}
 use Rattle.dns_update.specs.Prerequisites.{prerequisites_fault}
 use Rattle.dns_update.specs.Prescan.{prescan_fault}
 use Rattle.dns_update.proofs.Items.{no_fault}
 use Rattle.dns_zone.proofs.OneSoa.{zone_soa, zone_few, has_soa_at}
+use Rattle.dns_changes.specs.Touched.{records_aside, DifferAt}
+use Rattle.dns_update.specs.Touched.{AreTouched}
+use Rattle.dns_update.proofs.Aside.{effects_aside}
 use Rattle.dns_update.proofs.OneSoa.{soa_stays}
 use Rattle.dns_update.proofs.Sizes.{effects_more}
 use Rattle.dns_update.proofs.Sound.{IsSound}
@@ -28,7 +33,7 @@ versioned-requires-clause-few g c =
 pub take_effects-requires-clause-pass : goal.take_effects-requires-clause-pass
 take_effects-requires-clause-pass g c =
     ap (λ n. first_fault (prescan_fault n) c.args.items.now) (c.lend.ensures ∙ c.apex.ensures.name)
-    ∙ (no_fault (prerequisites_fault c.args.zone.now c.args.prerequisites.now) (first_fault (prescan_fault c.args.zone.now.apex) c.args.items.now) (sym c.fault.ensures ∙ c.in_default.is)).1
+    ∙ (no_fault (prerequisites_fault c.args.zone.now c.args.prerequisites.now) (first_fault (prescan_fault c.args.zone.now.apex) c.args.items.now) (sym c.in_ok-rcode.ensures ∙ c.in_default.is)).1
 
 pub returns-clause-next : goal.returns-clause-next
 returns-clause-next g c =
@@ -37,6 +42,24 @@ returns-clause-next g c =
     let valid = c.apex.ensures.valid in
     let set = g.I.ZoneIndex.records c.take_effects.new.set in
     let left = c.in_ok-take_effects.ensures ∙ (λ i. effects ((c.lend.ensures ∙ c.apex.ensures.name) i) ((c.in_ok-after.ensures ∙ c.index.ensures) i) items) in
-    let pass = (no_fault (prerequisites_fault zone c.args.prerequisites.now) (first_fault (prescan_fault zone.apex) items) (sym c.fault.ensures ∙ c.in_default.is)).1 in
+    let pass = (no_fault (prerequisites_fault zone c.args.prerequisites.now) (first_fault (prescan_fault zone.apex) items) (sym c.in_ok-rcode.ensures ∙ c.in_default.is)).1 in
     let sound = subst (IsSound zone.apex) (sym left) (sound_after zone valid items pass c.requires.form) in
     next_told g.I.ZoneIndex.records zone valid set sound (g.met.I.ZoneIndex.valid c.take_effects.new.set) c.versioned.result c.versioned.ensures
+
+pub versioned-requires-clause-touched : goal.versioned-requires-clause-touched
+versioned-requires-clause-touched g c =
+    let zone = c.args.zone.now in
+    let items = c.args.items.now in
+    let names = c.in_ok-names.names.items in
+    let touched : AreTouched zone.apex items names = subst (λ (n : Labels). AreTouched n items names) c.apex-2.ensures.name c.in_ok-names.ensures in
+    let left = c.in_ok-take_effects.ensures ∙ (λ i. effects ((c.lend.ensures ∙ c.apex.ensures.name) i) ((c.in_ok-after.ensures ∙ c.index.ensures) i) items) in
+    let others = ap (records_aside names) left ∙ effects_aside zone.apex names zone.records items touched.owners in
+    subst (λ (ns : List Labels). DifferAt ns zone.records (g.I.ZoneIndex.records c.take_effects.new.set)) (sym c.deref.ensures.value) (record { rise = touched.rise; others = sym others })
+
+pub versioned-requires-clause-apex : goal.versioned-requires-clause-apex
+versioned-requires-clause-apex g c =
+    let zone = c.args.zone.now in
+    let items = c.args.items.now in
+    let names = c.in_ok-names.names.items in
+    let touched : AreTouched zone.apex items names = subst (λ (n : Labels). AreTouched n items names) c.apex-2.ensures.name c.in_ok-names.ensures in
+    subst (λ (ns : List Labels). list_any (names_eq zone.apex) ns ≡ true) (sym c.deref.ensures.value) touched.top

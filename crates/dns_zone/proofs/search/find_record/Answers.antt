@@ -5,8 +5,8 @@ use Rattle.std.proofs.lemmas.List.{get_or_default}
 use Rattle.dns_records.specs.Record.{record_cmp}
 use Rattle.dns_zone.specs.Sets.{sorted_from, equal_is}
 use Rattle.dns_zone.proofs.Placing.{stands, belongs, past_both}
-use Rattle.dns_zone.proofs.search.find.Goals as goal
-use Rattle.dns_zone.proofs.search.find.Goals.{else-at-records-via-then-at-records+else-is_eq, else-at-records-via-else-at-records}
+use Rattle.dns_zone.proofs.search.find_record.Goals as goal
+use Rattle.dns_zone.proofs.search.find_record.Goals.{else-at-records-via-then-at-records+else-is_eq, else-at-records-via-else-at-records}
 
 pub returns-then-is_eq-clause-found : goal.returns-then-is_eq-clause-found
 returns-then-is_eq-clause-found c =
