@@ -1,0 +1,2 @@
+pub mod Flushed
+pub mod Waited
