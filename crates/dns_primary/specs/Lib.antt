@@ -5,3 +5,4 @@ pub mod Update
 pub mod Connections
 pub mod Step
 pub mod Keeps
+pub mod Outcome

@@ -5,6 +5,7 @@ mod event;
 mod flush;
 mod primary;
 mod step;
+mod update;
 
 pub use event::{Effects, Event, HeaderTo, Noted, Peer, To, Waiting};
 pub use primary::{Primary, ZoneSettings};
