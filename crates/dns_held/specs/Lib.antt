@@ -1,0 +1,5 @@
+pub mod Each
+pub mod Plain
+pub mod Held
+pub mod Flush
+pub mod Staging

@@ -1,0 +1,52 @@
+//! What stands behind a zone that is shown.
+ghost use Rattle.std.specs.Prelude.{◌≡◌, []};
+ghost use Rattle.dns_store.specs.Versions.{Kept};
+ghost use Rattle.dns_held.specs.Held.{IsHeld, newer, newest_zone, shown_zone};
+
+use crate::octets::snapshot_len;
+use dns_store::ZoneStore;
+use dns_zone::{Zone, ZoneIndex};
+
+/// What stands behind a zone that is shown: its newest version where some are staged, its store, and what room there is.
+#[derive(Drop)]
+pub struct Behind<I: ZoneIndex, S: ZoneStore> {
+    /// The newest version, where it isn't the one that is shown.
+    pub tip: Option<Zone<I>>,
+    /// Keeps the versions.
+    pub store: S,
+    /// How many octets a snapshot of the newest version has.
+    pub octets: usize,
+    /// How many sectors there are for a snapshot.
+    pub snapshot: u32,
+    /// How many sectors there are for a journal.
+    pub journal: u32,
+}
+
+impl<I: ZoneIndex, S: ZoneStore> Behind<I, S> {
+    /// What stands behind a zone of which nothing is staged, with so many sectors for a snapshot and for a journal.
+    pub fn new(zone: &Zone<I>, store: S, snapshot: u32, journal: u32) -> Behind<I, S>
+        ensures { (k : Kept) → zone.now ≡ shown_zone k → k.staged ≡ [] → S.keeps store k → k.shape.snapshot ≡ snapshot → k.shape.journal ≡ journal → IsHeld S.keeps zone.now result k }
+    {
+        Behind {
+            tip: None,
+            store,
+            octets: snapshot_len(zone),
+            snapshot,
+            journal,
+        }
+    }
+}
+
+/// The newest version of a zone: one that is staged, or the one that is shown.
+pub fn newest<'a, I: ZoneIndex, S: ZoneStore>(
+    zone: &'a Zone<I>,
+    behind: &'a Behind<I, S>,
+) -> &'a Zone<I>
+    ensures either { result.now ≡ newer zone.now behind.now.tip }
+    ensures held { (k : Kept) → IsHeld S.keeps zone.now behind.now k → result.now ≡ newest_zone k }
+{
+    match &behind.tip {
+        Some(tip) => tip,
+        None => zone,
+    }
+}

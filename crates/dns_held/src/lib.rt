@@ -1,0 +1,11 @@
+//! Zones with their stores: what is shown of each, and what is staged behind it.
+#![tactic(auto)]
+
+mod behind;
+mod flush;
+mod octets;
+mod staging;
+
+pub use behind::{Behind, newest};
+pub use flush::{flush_all, flush_zone};
+pub use staging::{MOST_RECORDS, StagingError, next_version, stage};

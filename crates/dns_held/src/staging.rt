@@ -1,0 +1,112 @@
+//! Changes that are put behind a zone's newest version, where there is room.
+ghost use Rattle.std.specs.Prelude.{◌≡◌, ◌≤◌, true, length, Some, None, IfOk, OnOk, OnErr};
+ghost use Rattle.dns_zone.specs.Zone.{Zone as Stated, IsZone, zone_fault};
+ghost use Rattle.dns_changes.specs.Change.{IsChange};
+ghost use Rattle.dns_changes.specs.Version.{IsNext};
+ghost use Rattle.dns_store.specs.Versions.{Kept, StandsStill, newest_of, staged_with};
+ghost use Rattle.dns_held.specs.Held.{IsHeld, newer};
+ghost use Rattle.dns_held.specs.Plain.{octets_of};
+ghost use Rattle.dns_held.specs.Staging.{HasRoomBy, has_room};
+
+use crate::octets::octets_after;
+use crate::{Behind, newest};
+use dns_changes::Change;
+use dns_layout::{entry_sectors, snapshot_sectors};
+use dns_store::{StageError, ZoneStore};
+use dns_zone::{Zone, ZoneIndex};
+use std::alloc::AllocError;
+
+/// How many records a zone may have.
+pub const MOST_RECORDS: usize = 65536;
+
+/// Why a change was not put behind a zone.
+#[derive(Clone, Copy, Debug, PartialEq, Eq)]
+pub enum StagingError {
+    /// There is no room for the version: it has too many records, its snapshot or its entry takes more sectors than there
+    /// are, or there is no number for it.
+    NoRoom,
+    /// The entry takes more sectors than are left of the journal.
+    Full,
+    /// The zone's device has failed before.
+    Closed,
+    /// Memory was refused.
+    OutOfMemory,
+}
+
+impl From<AllocError> for StagingError {
+    ghost use Rattle.dns_held.specs.declared.staging.StagingError.TheVariants.{OutOfMemory};
+
+    ghost from_gives = { λ _ e. e ≡ OutOfMemory };
+
+    fn from(_error: AllocError) -> StagingError {
+        StagingError::OutOfMemory
+    }
+}
+
+impl From<StageError> for StagingError {
+    ghost use Rattle.dns_held.specs.Staging.{staging_error};
+
+    ghost from_gives = { λ s e. e ≡ staging_error s };
+
+    fn from(error: StageError) -> StagingError {
+        match error {
+            StageError::Full => StagingError::Full,
+            StageError::Closed => StagingError::Closed,
+            StageError::OutOfMemory => StagingError::OutOfMemory,
+        }
+    }
+}
+
+/// Whether there is room for the version that a change leads to, whose snapshot has so many octets.
+fn has_room<I: ZoneIndex, S: ZoneStore>(
+    behind: &Behind<I, S>,
+    change: &Change,
+    records: &I,
+    octets: usize,
+) -> bool
+    ensures room { (k : Kept) (zone : Stated) → IsHeld S.keeps zone behind.now k → IsChange (newest_of k) (I.records records.now) change.now
+        → (length (I.records records.now) ≤ 65536 → octets ≡ octets_of (I.records records.now)) → result ≡ has_room k (I.records records.now) }
+    ensures few { result ≡ true → length (I.records records.now) ≤ 65536 }
+{
+    records.len() <= MOST_RECORDS
+        && snapshot_sectors(octets) <= behind.snapshot as usize
+        && entry_sectors(change.encoded_len()) <= behind.journal as usize
+        && behind.store.newest() < u64::MAX
+}
+
+/// The next version of a zone, of records that are known to be one.
+pub fn next_version<I: ZoneIndex>(newest: &Zone<I>, records: I) -> Result<Zone<I>, AllocError>
+    requires { zone_fault newest.now.apex (I.records records) ≡ None }
+    ensures { IfOk result (λ z. z ≡ record { apex = newest.now.apex; records = I.records records }) }
+{
+    let apex = newest.apex().clone()?;
+    Ok(Zone::of_valid(apex, records))
+}
+
+/// Puts the version that a change leads to behind the newest one, in memory alone. Where it is refused, all stays as it was.
+///
+/// `NoRoom` before `Full`: of the one no flush and no checkpoint makes room.
+pub fn stage<I: ZoneIndex, S: ZoneStore>(
+    zone: &Zone<I>,
+    behind: &mut Behind<I, S>,
+    change: &Change,
+    records: I,
+) -> Result<(), StagingError>
+    requires next { IsNext (newer zone.now behind.old.tip) change.now (I.records records) }
+    requires change { IsChange (newer zone.now behind.old.tip).records (I.records records) change.now }
+    ensures staged { (k : Kept) → IsHeld S.keeps zone.now behind.old k → OnOk result (IsHeld S.keeps zone.now behind.new (staged_with (I.records records) k)) }
+    ensures stays { (k : Kept) → IsHeld S.keeps zone.now behind.old k → OnErr result (IsHeld S.keeps zone.now behind.new k) }
+    ensures room { (k : Kept) → IsHeld S.keeps zone.now behind.old k → HasRoomBy k (I.records records) result }
+    ensures still { StandsStill S.moment S.left_since behind.old.store behind.new.store }
+{
+    let _valid = newest(&*zone, &*behind).apex();
+    let octets = octets_after(behind.octets, change);
+    if !has_room(behind, change, &records, octets) {
+        return Err(StagingError::NoRoom);
+    }
+    let version = next_version(newest(&*zone, &*behind), records)?;
+    behind.store.stage(change)?;
+    behind.tip = Some(version);
+    behind.octets = octets;
+    Ok(())
+}

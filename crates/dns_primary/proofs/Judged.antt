@@ -1,0 +1,80 @@
+-- What a verdict that is told says, and how an update ends by it.
+use Rattle.std.proofs.Common.{◌≡◌, ◌<◌, ◌≤◌, Bool, true, false, not, List, refl, sym, ap, subst, ◌∙◌, arith}
+use Rattle.std.specs.Prelude.{Err, nat_le, if◌then◌else◌}
+use Rattle.std.proofs.lemmas.Bool.Decides.{nat_tests}
+use Rattle.dns_records.specs.Record.{Record}
+use Rattle.dns_changes.specs.Change.{Change, IsChange}
+use Rattle.dns_wire.specs.declared.codes.Rcode.{Rcode}
+use Rattle.dns_wire.specs.declared.codes.Rcode.TheVariants.{NoError, ServFail}
+use Rattle.dns_update.specs.Verdict.{Verdict, Refuses, Keeps, Leaves, IsTold}
+use Rattle.dns_update.specs.declared.Judged.TheVariants as told
+use Rattle.dns_store.specs.Versions.{Kept, newest_of, staged_with}
+use Rattle.dns_store.specs.Room.{entry_between, sectors_left}
+use Rattle.dns_held.specs.declared.staging.StagingError.{StagingError}
+use Rattle.dns_held.specs.declared.staging.StagingError.TheVariants as staging
+use Rattle.dns_held.specs.Staging.{HasRoomBy, has_room}
+use Rattle.dns_primary.specs.declared.update.Outcome.{Outcome}
+use Rattle.dns_primary.specs.declared.update.Outcome.TheVariants.{Waits, AtOnce}
+use Rattle.dns_primary.specs.Outcome.{Ends, end_of, IsDone, refused_as}
+
+pub refused_is : {X : Type 0} (records : X → List Record) (before : List Record) (v : Verdict) (rcode : Rcode) → IsTold records before v (told.Refused rcode) → v ≡ Refuses rcode
+refused_is records before (Refuses r) rcode e = let same : r ≡ rcode = cc e in ap (λ x. Refuses x) same
+refused_is records before Keeps rcode e = absurd (cc e)
+refused_is records before (Leaves after) rcode e = absurd (let is = e.2 in cc is)
+
+pub kept_is : {X : Type 0} (records : X → List Record) (before : List Record) (v : Verdict) → IsTold records before v told.NoChange → v ≡ Keeps
+kept_is records before (Refuses r) e = absurd (cc e)
+kept_is records before Keeps e = refl
+kept_is records before (Leaves after) e = absurd (let is = e.2 in cc is)
+
+pub record IsLeaving {X : Type 0} (records : X → List Record) (before : List Record) (v : Verdict) (c : Change) (next : X) : Type 0 where
+  pub is : v ≡ Leaves (records next)
+  pub change : IsChange before (records next) c
+
+pub leaving : {X : Type 0} (records : X → List Record) (before : List Record) (v : Verdict) (c : Change) (next : X) → IsTold records before v (told.Accepted c next) → IsLeaving records before v c next
+leaving records before (Refuses r) c next e = absurd (cc e)
+leaving records before Keeps c next e = absurd (cc e)
+leaving {X} records before (Leaves after) c next e =
+    let is = e.2 in
+    let change : e.0 ≡ c = cc is in
+    let set : e.1 ≡ next = cc is in
+    let records_are : after ≡ records next = sym e.3 ∙ ap records set in
+    record { is = ap (λ xs. Leaves xs) records_are; change = subst (λ (x : Change). IsChange before (records next) x) change (subst (λ (xs : List Record). IsChange before xs e.0) records_are e.4) }
+
+tested : {A : Type 0} (b : Bool) (x y : A) → b ≡ true → (if b then x else y) ≡ x
+tested true x y e = refl
+tested false x y e = absurd (cc e)
+
+untested : {A : Type 0} (b : Bool) (x y : A) → b ≡ false → (if b then x else y) ≡ y
+untested true x y e = absurd (cc e)
+untested false x y e = refl
+
+pub ends_without_room : (k : Kept) (after : List Record) → has_room k after ≡ false → end_of k (Leaves after) ≡ record { outcome = Waits ServFail; versions = k }
+ends_without_room k after none = tested (not (has_room k after)) _ _ (ap not none)
+
+pub ends_staged : (k : Kept) (after : List Record) → has_room k after ≡ true → entry_between (newest_of k) after ≤ sectors_left k → end_of k (Leaves after) ≡ record { outcome = Waits NoError; versions = staged_with after k }
+ends_staged k after room fits = untested (not (has_room k after)) _ _ (ap not room) ∙ tested (nat_le (entry_between (newest_of k) after) (sectors_left k)) _ _ (grind (arith, nat_tests, fits))
+
+pub ends_full : (k : Kept) (after : List Record) → has_room k after ≡ true → sectors_left k < entry_between (newest_of k) after → end_of k (Leaves after) ≡ record { outcome = AtOnce ServFail; versions = k }
+ends_full k after room over = untested (not (has_room k after)) _ _ (ap not room) ∙ untested (nat_le (entry_between (newest_of k) after) (sectors_left k)) _ _ (grind (arith, nat_tests, over))
+
+module _ (held : Kept → Type 0) (k : Kept) where
+  pub done_refused : (v : Verdict) (rcode : Rcode) → v ≡ Refuses rcode → held k → IsDone held k v (Waits rcode)
+  done_refused v rcode e h = subst (λ (x : Verdict). IsDone held k x (Waits rcode)) (sym e) (refl, h)
+
+  pub done_kept : (v : Verdict) → v ≡ Keeps → held k → IsDone held k v (Waits NoError)
+  done_kept v e h = subst (λ (x : Verdict). IsDone held k x (Waits NoError)) (sym e) (refl, h)
+
+  -- where the end is this one
+  ended : (v : Verdict) (after : List Record) (o : Outcome) (kept : Kept) → v ≡ Leaves after → end_of k (Leaves after) ≡ record { outcome = o; versions = kept } → held kept → (o ≡ (end_of k v).outcome) × held (end_of k v).versions
+  ended v after o kept e is h =
+      subst (λ (x : Verdict). (o ≡ (end_of k x).outcome) × held (end_of k x).versions) (sym e) (sym (ap (λ (d : Ends). d.outcome) is), subst (λ (d : Ends). held d.versions) (sym is) h)
+
+  pub done_staged : (v : Verdict) (after : List Record) → v ≡ Leaves after → has_room k after ≡ true → entry_between (newest_of k) after ≤ sectors_left k → held (staged_with after k) → IsDone held k v (Waits NoError)
+  done_staged v after e room fits h = ended v after (Waits NoError) (staged_with after k) e (ends_staged k after room fits) h
+
+  pub done_unstaged : (v : Verdict) (after : List Record) (error : StagingError) → v ≡ Leaves after → HasRoomBy {T = Unit {0}} k after (Err error) → k.closed ≡ false → held k → IsDone held k v (refused_as error)
+  done_unstaged v after staging.NoRoom e room opened h = ended v after (Waits ServFail) k e (ends_without_room k after room) h
+  done_unstaged v after staging.Full e room opened h = ended v after (AtOnce ServFail) k e (ends_full k after room.0 room.1) h
+  done_unstaged v after staging.Closed e room opened h = absurd (let clash : true ≡ false = sym room ∙ opened in cc clash)
+  done_unstaged v after staging.OutOfMemory e room opened h = h

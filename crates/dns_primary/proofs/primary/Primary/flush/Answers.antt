@@ -1,0 +1,51 @@
+use Rattle.std.proofs.Common.{List, length, map, sym, subst, ap, refl, ◌∙◌, arith}
+use Rattle.std.proofs.lemmas.List.{append-nil}
+use Rattle.std.specs.Prelude.{None}
+use Rattle.dns_sectors.specs.Device.{LeavesOnly}
+use Rattle.dns_store.specs.Versions.{OpensAsLeft}
+use Rattle.dns_held.specs.Each.{Each2}
+use Rattle.dns_held.specs.Held.{IsHeld}
+use Rattle.dns_held.specs.Flush.{first_true}
+use Rattle.dns_primary.specs.declared.event.Waiting.{Waiting}
+use Rattle.dns_primary.specs.Machine.{kept_of}
+use Rattle.dns_primary.specs.Flush.{flushed, flush_sends}
+use Rattle.dns_primary.specs.Step.{noted_of}
+use Rattle.dns_primary.specs.Keeps.{IsWaiting, header_out}
+use Rattle.dns_primary.proofs.Flushed.{refilled, moved3, failed_at, flushed_settings}
+use Rattle.dns_primary.proofs.primary.Primary.flush.Goals as goal
+
+pub returns-clause-step : goal.returns-clause-step
+returns-clause-step g c old kept =
+    let zones = c.args.self.now.zones in
+    let behind = c.args.self.now.behind in
+    let a = c.deref_mut.ensures.value in
+    let b = c.deref_mut-2.ensures.value in
+    let given = moved3 (sym a) (sym b) (map kept_of old.zones) (λ z b k. IsHeld g.S.ZoneStore.keeps z b k) kept.zones_are in
+    let done = c.flush-headers.ensures.flushed old given kept.waiting_are in
+    let fails = done.0 in
+    let z = refilled zones.len c.flush-headers.new.zones zones.items (omega (arith, c.flush-headers.auto.zones, ap length a, zones.ok)) in
+    let y = refilled behind.len c.flush-headers.new.behind behind.items (omega (arith, c.flush-headers.auto.behind, ap length b, behind.ok)) in (
+      fails,
+      failed_at (λ b. g.S.ZoneStore.failed b.store) fails b (sym y) done.2,
+      flushed fails old,
+      record { sent = flush_sends fails old; accepted = None; noted = noted_of (first_true fails) },
+      (done.1, record { state = refl; sent = refl; accepted = refl; noted = refl }),
+      record { sent = sym done.4 ∙ sym (append-nil (map header_out c.flush-headers.result.0.items)); accepted = refl; noted = sym (c.noted.ensures ∙ ap noted_of done.5) },
+      record {
+        zones_are = moved3 (sym z) (sym y) (map kept_of (flushed fails old).zones) (λ z b k. IsHeld g.S.ZoneStore.keeps z b k) done.3;
+        settings_are = flushed_settings c.args.self.now.settings.items fails old.zones kept.settings_are;
+        connections_are = kept.connections_are;
+        as_many = kept.as_many;
+        waiting_are = subst (λ (l : List Waiting). Each2 IsWaiting l (flushed fails old).waiting) (sym c.flush-headers.ensures.empty) tt;
+      },
+    )
+
+pub returns-clause-any_moment : goal.returns-clause-any_moment
+returns-clause-any_moment g c old kept =
+    let zones = c.args.self.now.zones in
+    let behind = c.args.self.now.behind in
+    let a = c.deref_mut.ensures.value in
+    let b = c.deref_mut-2.ensures.value in
+    let given = moved3 (sym a) (sym b) (map kept_of old.zones) (λ z b k. IsHeld g.S.ZoneStore.keeps z b k) kept.zones_are in
+    let y = refilled behind.len c.flush-headers.new.behind behind.items (omega (arith, c.flush-headers.auto.behind, ap length b, behind.ok)) in
+    moved3 b (sym y) (map kept_of old.zones) (λ a b k. LeavesOnly g.S.ZoneStore.moment g.S.ZoneStore.left_since a.store b.store (OpensAsLeft g.S.ZoneStore.opens k)) (c.flush-headers.ensures.any_moment (map kept_of old.zones) given)

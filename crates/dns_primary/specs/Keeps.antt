@@ -1,0 +1,59 @@
+-- What a primary keeps of the machine, and how it tells of effects.
+use Rattle.std.specs.Prelude.{◌≡◌, ◌++◌, ◌↔◌, ℕ, List, [], ◌∷◌, map, length, Option, Some, None, IsTrue}
+use Rattle.slab.specs.Slab.{get, slab_len}
+use Rattle.std.specs.declared.net.ip_addr.IpAddr.{IpAddr}
+use Rattle.dns_wire.specs.Message.{header_of}
+use Rattle.dns_wire.specs.Codes.{number_of_rcode}
+use Rattle.dns_zone.specs.Zone.{Zone}
+use Rattle.dns_zone.specs.declared.index.ZoneIndex as index
+use Rattle.dns_store.specs.declared.zone_store.ZoneStore as store
+use Rattle.dns_policy.specs.Prefix.{IsAllowed}
+use Rattle.dns_store.specs.Versions.{Kept}
+use Rattle.dns_held.specs.declared.behind.Behind.{Behind}
+use Rattle.dns_held.specs.Each.{Each2, Each3}
+use Rattle.dns_held.specs.Held.{IsHeld}
+use Rattle.dns_primary.specs.declared.event.Waiting.{Waiting}
+use Rattle.dns_primary.specs.declared.event.HeaderTo.{HeaderTo}
+use Rattle.dns_primary.specs.declared.event.Effects.{Effects}
+use Rattle.dns_primary.specs.declared.event.To.{To}
+use Rattle.dns_primary.specs.declared.primary.Primary.{Primary}
+use Rattle.dns_primary.specs.declared.primary.ZoneSettings.{ZoneSettings}
+use Rattle.dns_primary.specs.Machine.{Waits, Machine, ZoneState, kept_of, peer_at}
+use Rattle.dns_primary.specs.Flush.{all_out}
+use Rattle.dns_primary.specs.Step as machine
+
+-- These are the versions of the zones, in order.
+abbrev pub AreHeld : {I S : Type 0} → (S → Kept → Type 0) → List Zone → List (Behind I S) → List ZoneState → Type 0
+AreHeld keeps zones behind states = Each3 (λ z b k. IsHeld keeps z b k) zones behind (map kept_of states)
+
+-- A reply that waits, as it is stored: the updates before it are in no field.
+pub record IsWaiting (w : Waiting) (stated : Waits) : Type 0 where
+  pub to : w.to ≡ stated.to
+  pub header : header_of w.request ≡ stated.header
+  pub rcode : number_of_rcode w.rcode ≡ stated.rcode
+  pub zone : w.zone ≡ stated.zone
+
+-- The addresses from which a zone may be updated are those that its list allows.
+pub record IsSet (s : ZoneSettings) (z : ZoneState) : Type 0 where
+  pub update : (a : IpAddr) → IsTrue (z.setting.may_update a) ↔ IsAllowed s.update.items a
+
+-- What is shown, what stands behind it, what waits and the connections are those of the machine, whatever older versions there were.
+pub record IsKept {I S : Type 0} {i : index.Ghosts I} {s : store.Ghosts S} (p : Primary I S i s) (m : Machine) : Type 0 where
+  pub zones_are : AreHeld s.keeps p.zones.items p.behind.items m.zones
+  pub settings_are : Each2 IsSet p.settings.items m.zones
+  pub waiting_are : Each2 IsWaiting p.waiting.items m.waiting
+  pub connections_are : (number : ℕ) → get p.connections number ≡ peer_at number m.connections
+  pub as_many : slab_len p.connections ≡ length m.connections
+
+abbrev pub header_out : HeaderTo → To × List ℕ
+header_out h = (h.to, h.octets)
+
+abbrev pub message_out : Option (To × List ℕ) → List (To × List ℕ)
+message_out None = []
+message_out (Some one) = one ∷ []
+
+-- The effects that are told: the headers in order, then the one longer message, if there is one.
+pub record IsToldBy (stated : machine.Effects) (effects : Effects) : Type 0 where
+  pub sent : all_out stated.sent ≡ map header_out effects.headers.items ++ message_out (elim (effects.message) [ None ↦ None | Some m ↦ Some (m.0, m.1.items) ])
+  pub accepted : stated.accepted ≡ effects.accepted
+  pub noted : stated.noted ≡ effects.noted

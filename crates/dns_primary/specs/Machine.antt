@@ -1,0 +1,75 @@
+-- The state of a primary, as a machine: of each zone its versions, and for all the replies that wait and the connections.
+use Rattle.std.specs.Prelude.{ℕ, Bool, ◌==◌, List, [], ◌∷◌, ◌++◌, map, Option, Some, None, if◌then◌else◌}
+use Rattle.std.specs.declared.net.ip_addr.IpAddr.{IpAddr}
+use Rattle.dns_records.specs.Record.{Record}
+use Rattle.dns_zone.specs.Zone.{Zone}
+use Rattle.dns_wire.specs.Message.{Header, Message}
+use Rattle.dns_store.specs.Versions.{Shape, Kept, Versions}
+use Rattle.dns_held.specs.Held.{shown_zone}
+use Rattle.dns_primary.specs.declared.event.Peer.{Peer}
+use Rattle.dns_primary.specs.declared.event.To.{To}
+
+-- What is configured of a zone: its apex, the sizes of its store, and from which addresses it may be updated.
+pub record Setting : Type 0 where
+  pub shape : Shape
+  pub may_update : IpAddr → Bool
+
+-- An accepted update, and the records that it left.
+pub record Made : Type 0 where
+  pub update : Message
+  pub records : List Record
+
+-- A zone: its records as loaded, the updates of the version that is shown, and those staged behind it. `base` is the number of
+-- the version that its journal begins at. Where its device failed it is closed.
+pub record ZoneState : Type 0 where
+  pub setting : Setting
+  pub loaded : List Record
+  pub shown : List Made
+  pub staged : List Made
+  pub base : ℕ
+  pub closed : Bool
+
+abbrev pub updates_of : ZoneState → List Made
+updates_of z = z.shown ++ z.staged
+
+abbrev pub versions_of : List Made → Versions
+versions_of = map (λ m. m.records)
+
+-- The versions alone, as a store keeps them: each update's is the one behind it.
+abbrev pub kept_of : ZoneState → Kept
+kept_of z = record {
+  shape = z.setting.shape;
+  loaded = z.loaded;
+  shown = versions_of z.shown;
+  staged = versions_of z.staged;
+  base = z.base;
+  closed = z.closed;
+}
+
+-- A reply to an update, which waits for the next flush. `updates` are those of its zone when it was judged, and the update
+-- itself if it was accepted.
+pub record Waits : Type 0 where
+  pub to : To
+  pub header : Header
+  pub rcode : ℕ
+  pub zone : ℕ
+  pub updates : List Made
+
+-- A connection, and the peer that made it.
+pub record Connection : Type 0 where
+  pub number : ℕ
+  pub peer : Peer
+
+pub record Machine : Type 0 where
+  pub zones : List ZoneState
+  pub waiting : List Waits
+  pub connections : List Connection
+
+-- The zones as they are shown.
+abbrev pub shown_zones : Machine → List Zone
+shown_zones m = map (λ z. shown_zone (kept_of z)) m.zones
+
+-- The peer of the connection with that number.
+abbrev pub peer_at : ℕ → List Connection → Option Peer
+peer_at number [] = None
+peer_at number (c ∷ rest) = if c.number == number then Some c.peer else peer_at number rest

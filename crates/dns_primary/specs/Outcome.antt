@@ -1,0 +1,38 @@
+-- What becomes of an update of a zone that isn't closed, by its verdict.
+use Rattle.std.specs.Prelude.{◌≡◌, not, nat_le, if◌then◌else◌}
+use Rattle.dns_wire.specs.declared.codes.Rcode.TheVariants.{NoError, ServFail}
+use Rattle.dns_update.specs.Verdict.{Verdict, Refuses, Keeps, Leaves}
+use Rattle.dns_store.specs.Versions.{Kept, newest_of, staged_with}
+use Rattle.dns_store.specs.Room.{entry_between, sectors_left}
+use Rattle.dns_held.specs.Staging.{has_room}
+use Rattle.dns_held.specs.declared.staging.StagingError.{StagingError}
+use Rattle.dns_held.specs.declared.staging.StagingError.TheVariants as staging
+use Rattle.dns_primary.specs.declared.update.Outcome.{Outcome}
+use Rattle.dns_primary.specs.declared.update.Outcome.TheVariants.{Waits, AtOnce, OutOfMemory}
+
+-- What becomes of the reply, and the versions that are held then.
+pub record Ends : Type 0 where
+  pub outcome : Outcome
+  pub versions : Kept
+
+-- What is refused, and what changes nothing, waits. What leaves a version without room is SERVFAIL, and waits; one whose entry is
+-- over what is left of the journal is SERVFAIL at once; else it is staged.
+abbrev pub end_of : Kept → Verdict → Ends
+end_of k (Refuses rcode) = record { outcome = Waits rcode; versions = k }
+end_of k Keeps = record { outcome = Waits NoError; versions = k }
+end_of k (Leaves after) =
+    if not (has_room k after) then record { outcome = Waits ServFail; versions = k }
+    else if nat_le (entry_between (newest_of k) after) (sectors_left k) then record { outcome = Waits NoError; versions = staged_with after k }
+    else record { outcome = AtOnce ServFail; versions = k }
+
+-- It ends so, or memory was refused and the versions stay.
+abbrev pub IsDone : (Kept → Type 0) → Kept → Verdict → Outcome → Type 0
+IsDone held k v OutOfMemory = held k
+IsDone held k v (Waits rcode) = (Waits rcode ≡ (end_of k v).outcome) × held (end_of k v).versions
+IsDone held k v (AtOnce rcode) = (AtOnce rcode ≡ (end_of k v).outcome) × held (end_of k v).versions
+
+abbrev pub refused_as : StagingError → Outcome
+refused_as staging.NoRoom = Waits ServFail
+refused_as staging.Full = AtOnce ServFail
+refused_as staging.Closed = AtOnce ServFail
+refused_as staging.OutOfMemory = OutOfMemory

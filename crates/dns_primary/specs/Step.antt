@@ -1,0 +1,128 @@
+-- One event is one step of the machine.
+use Rattle.std.specs.Prelude.{◌≡◌, ◌⊎◌, ◌<◌, ◌≤◌, ℕ, Bool, true, false, not, ◌&&◌, ◌==◌, nat_lt, List, [], ◌∷◌, ◌++◌, length, Option, Some, None, if◌then◌else◌}
+use Rattle.dns_wire.specs.Message.{header_of}
+use Rattle.dns_wire.specs.Text.{text}
+use Rattle.dns_request.specs.Request.{opcode_update, rcode_notimp}
+use Rattle.dns_request.specs.declared.request.Transport.TheVariants.{Udp, Tcp}
+use Rattle.dns_answer.specs.Answer.{Handled, NoReply, Replies, Update, Transfer, handled, bare_reply}
+use Rattle.dns_held.specs.Flush.{first_true}
+use Rattle.dns_primary.specs.declared.event.Peer.{Peer}
+use Rattle.dns_primary.specs.declared.event.To.{To}
+use Rattle.dns_primary.specs.declared.event.To.TheVariants as to
+use Rattle.dns_primary.specs.declared.event.Noted.{Noted}
+use Rattle.dns_primary.specs.declared.event.Noted.TheVariants.{Nothing, OutOfMemory, Device}
+use Rattle.dns_primary.specs.Machine.{Machine, shown_zones, peer_at}
+use Rattle.dns_primary.specs.Flush.{Sent, Replied, rcode_servfail, flushed, flush_sends}
+use Rattle.dns_primary.specs.Update.{Asked, is_full, updated}
+use Rattle.dns_primary.specs.Connections.{connected, closed, most_connections}
+
+-- A datagram comes from a peer, a peer connects, a message comes on a connection, what waits is to be flushed, a connection is closed.
+pub data Event : Type 0 where
+  Datagram : Peer → List ℕ → Event
+  Connect : Peer → Event
+  Arrives : ℕ → List ℕ → Event
+  Flush : Event
+  Closed : ℕ → Event
+
+-- What goes out, the number of a connection that was made, and what is to be known of it besides.
+pub record Effects : Type 0 where
+  pub sent : List Sent
+  pub accepted : Option ℕ
+  pub noted : Noted
+
+-- The first zone whose device failed.
+abbrev pub noted_of : Option ℕ → Noted
+noted_of None = Nothing
+noted_of (Some place) = Device place
+
+-- The event leads to this machine, and these go out; of the devices these failed.
+pub record Gives (effects : Effects) (new next : Machine) (out : List Sent) (fails : List Bool) : Type 0 where
+  pub state : new ≡ next
+  pub sent : effects.sent ≡ out
+  pub accepted : effects.accepted ≡ None
+  pub noted : effects.noted ≡ noted_of (first_true fails)
+
+-- It is not determined which devices fail, but only where there is a flush does one.
+abbrev pub AreFailures : Bool → Machine → List Bool → Type 0
+AreFailures true m fails = length fails ≡ length m.zones
+AreFailures false m fails = fails ≡ []
+
+abbrev pub IsFlushed : List Bool → Machine → Effects → Machine → Type 0
+IsFlushed fails old effects new = AreFailures true old fails × Gives effects new (flushed fails old) (flush_sends fails old) fails
+
+abbrev pub IsUpdated : List Bool → Machine → Asked → Effects → Machine → Type 0
+IsUpdated fails old a effects new = AreFailures (is_full old) old fails × Gives effects new (updated fails old a).0 (updated fails old a).1 fails
+
+-- What is done with a request, by what becomes of its octets: a query is answered of what is shown, transfers are not served.
+abbrev pub IsServed : List Bool → Machine → To → Peer → Handled → Effects → Machine → Type 0
+IsServed fails old to peer NoReply effects new = (fails ≡ []) × Gives effects new old [] []
+IsServed fails old to peer (Replies reply) effects new = (fails ≡ []) × Gives effects new old (Replied to reply ∷ []) []
+IsServed fails old to peer (Update message question) effects new = IsUpdated fails old (record { to = to; address = peer.address; message = message; zone = question }) effects new
+IsServed fails old to peer (Transfer message question) effects new = (fails ≡ []) × Gives effects new old (Replied to (text (bare_reply message.header rcode_notimp)) ∷ []) []
+
+-- A message on a connection that isn't there does nothing.
+abbrev pub IsArrived : List Bool → Machine → ℕ → Option Peer → List ℕ → Effects → Machine → Type 0
+IsArrived fails old number None octets effects new = (fails ≡ []) × Gives effects new old [] []
+IsArrived fails old number (Some peer) octets effects new = IsServed fails old (to.Connection number) peer (handled (shown_zones old) octets Tcp) effects new
+
+-- A connection gets a number that no other has, or none where there are as many as may be.
+abbrev pub IsConnected : Machine → Peer → Effects → Machine → Type 0
+IsConnected old peer effects new =
+    ((length old.connections < most_connections)
+    × ((number : ℕ) × (peer_at number old.connections ≡ None) × (new ≡ connected number peer old) × (effects ≡ record { sent = []; accepted = Some number; noted = Nothing })))
+    ⊎ ((most_connections ≤ length old.connections) × Gives effects new old [] [])
+
+-- What an event does where memory is not refused.
+abbrev pub Goes : List Bool → Machine → Event → Effects → Machine → Type 0
+Goes fails old (Datagram peer octets) effects new = IsServed fails old (to.Address peer) peer (handled (shown_zones old) octets Udp) effects new
+Goes fails old (Connect peer) effects new = (fails ≡ []) × IsConnected old peer effects new
+Goes fails old (Arrives number octets) effects new = IsArrived fails old number (peer_at number old.connections) octets effects new
+Goes fails old Flush effects new = IsFlushed fails old effects new
+Goes fails old (Closed number) effects new = (fails ≡ []) × Gives effects new (closed number old) [] []
+
+-- Octets that get a reply: a header, and no response (RFC 1035 4.1.1).
+abbrev pub is_asking : List ℕ → Bool
+is_asking octets = not (nat_lt (length octets) 12) && not (header_of octets).qr
+
+-- A request that is refused memory gets SERVFAIL, a header alone.
+abbrev pub failure : To → List ℕ → List Sent
+failure to octets = if is_asking octets then Replied to (text (bare_reply (header_of octets) rcode_servfail)) ∷ [] else []
+
+abbrev pub failure_on : ℕ → Option Peer → List ℕ → List Sent
+failure_on number None octets = []
+failure_on number (Some peer) octets = failure (to.Connection number) octets
+
+abbrev pub failures : Machine → Event → List Sent
+failures m (Datagram peer octets) = failure (to.Address peer) octets
+failures m (Arrives number octets) = failure_on number (peer_at number m.connections) octets
+failures m (Connect peer) = []
+failures m Flush = []
+failures m (Closed number) = []
+
+-- A flush takes no memory, nor does the end of a connection.
+abbrev pub takes_memory : Event → Bool
+takes_memory (Datagram peer octets) = true
+takes_memory (Connect peer) = true
+takes_memory (Arrives number octets) = true
+takes_memory Flush = false
+takes_memory (Closed number) = false
+
+-- An update that comes while as many wait as may flushes first.
+abbrev pub flushes_first : Machine → Event → Bool
+flushes_first m (Datagram peer octets) = (header_of octets).opcode == opcode_update && is_full m
+flushes_first m (Arrives number octets) = (header_of octets).opcode == opcode_update && is_full m
+flushes_first m (Connect peer) = false
+flushes_first m Flush = false
+flushes_first m (Closed number) = false
+
+-- Memory was refused: the machine is as before, or as after the event's flush.
+pub record Lacks (fails : List Bool) (old : Machine) (event : Event) (effects : Effects) (new : Machine) : Type 0 where
+  pub takes : takes_memory event ≡ true
+  pub noted : effects.noted ≡ OutOfMemory
+  pub accepted : effects.accepted ≡ None
+  pub stays : ((fails ≡ []) × (new ≡ old) × (effects.sent ≡ failures old event))
+      ⊎ ((flushes_first old event ≡ true) × AreFailures true old fails × (new ≡ flushed fails old) × (effects.sent ≡ flush_sends fails old ++ failures old event))
+
+-- The step, where of the devices these fail.
+abbrev pub Step : List Bool → Machine → Event → Effects → Machine → Type 0
+Step fails old event effects new = Goes fails old event effects new ⊎ Lacks fails old event effects new

@@ -1,0 +1,114 @@
+-- What becomes of an update (RFC 2136 3).
+use Rattle.std.specs.Prelude.{ℕ, suc, Bool, not, ◌==◌, nat_le, nat_lt, List, [], ◌∷◌, ◌++◌, length, slice_get, slice_set, Option, Some, None, option_map, if◌then◌else◌}
+use Rattle.std.specs.declared.net.ip_addr.IpAddr.{IpAddr}
+use Rattle.dns_names.specs.Name.{Labels, names_eq}
+use Rattle.dns_records.specs.Types.{type_soa, class_in}
+use Rattle.dns_records.specs.Record.{Record}
+use Rattle.dns_wire.specs.Codes.{number_of_rcode}
+use Rattle.dns_wire.specs.Message.{Question, Message}
+use Rattle.dns_wire.specs.Text.{text}
+use Rattle.dns_request.specs.Request.{rcode_formerr, rcode_refused}
+use Rattle.dns_answer.specs.Answer.{bare_reply}
+use Rattle.dns_update.specs.Verdict.{Verdict, Refuses, Keeps, Leaves, verdict}
+use Rattle.dns_store.specs.Versions.{newest_of}
+use Rattle.dns_store.specs.Room.{entry_between, sectors_left}
+use Rattle.dns_held.specs.Held.{newest_zone}
+use Rattle.dns_held.specs.Staging.{has_room}
+use Rattle.dns_primary.specs.declared.event.To.{To}
+use Rattle.dns_primary.specs.Machine.{Made, ZoneState, Machine, kept_of, updates_of}
+use Rattle.dns_primary.specs.Flush.{Sent, Replied, rcode_servfail, flushed, flush_sends}
+
+-- The response code of a zone that isn't held here (RFC 2136 2.2).
+abbrev pub rcode_notauth : ℕ
+rcode_notauth = 9
+
+-- How many replies may wait.
+abbrev pub most_waiting : ℕ
+most_waiting = 32
+
+-- An update that came: where its reply goes, the address that it came from, its message and the zone that it names.
+pub record Asked : Type 0 where
+  pub to : To
+  pub address : IpAddr
+  pub message : Message
+  pub zone : Question
+
+-- The place of the first zone with this apex.
+abbrev pub place_of : Labels → List ZoneState → Option ℕ
+place_of apex [] = None
+place_of apex (z ∷ rest) = if names_eq z.setting.shape.apex apex then Some 0 else option_map suc (place_of apex rest)
+
+-- What is tested before the update is judged (RFC 2136 3.1, 3.3): it is refused at once, or it is for the zone at a place.
+pub data Admission : Type 0 where
+  Rejects : ℕ → Admission
+  Admits : ℕ → ZoneState → Admission
+
+-- The address, and whether the zone is closed.
+abbrev pub admission_in : IpAddr → ℕ → Option ZoneState → Admission
+admission_in address place None = Rejects rcode_notauth
+admission_in address place (Some z) =
+    if not (z.setting.may_update address) then Rejects rcode_refused
+    else if z.closed then Rejects rcode_servfail
+    else Admits place z
+
+abbrev pub admission_at : List ZoneState → IpAddr → Option ℕ → Admission
+admission_at zones address None = Rejects rcode_notauth
+admission_at zones address (Some place) = admission_in address place (slice_get zones place)
+
+-- The type of the zone that is named, its class and its apex, then as above.
+abbrev pub admission : List ZoneState → Asked → Admission
+admission zones a =
+    if not (a.zone.qtype == type_soa) then Rejects rcode_formerr
+    else if not (a.zone.qclass == class_in) then Rejects rcode_notauth
+    else admission_at zones a.address (place_of a.zone.name zones)
+
+-- The reply waits.
+abbrev pub waits : Machine → Asked → ℕ → ℕ → List Made → Machine
+waits m a place rcode updates =
+    record m { waiting = m.waiting ++ record { to = a.to; header = a.message.header; rcode = rcode; zone = place; updates = updates } ∷ [] }
+
+abbrev pub with_staged : Made → ZoneState → ZoneState
+with_staged made z = record z { staged = z.staged ++ made ∷ [] }
+
+-- The update is put behind the newest version, and its reply waits.
+abbrev pub stages : Machine → Asked → ℕ → ZoneState → List Record → Machine
+stages m a place z records =
+    let made : Made = record { update = a.message; records = records } in
+    waits (record m { zones = slice_set m.zones place (with_staged made z) }) a place 0 (updates_of (with_staged made z))
+
+-- The reply goes out at once.
+abbrev pub replies : Asked → ℕ → Sent
+replies a rcode = Replied a.to (text (bare_reply a.message.header rcode))
+
+-- An accepted update is staged. One for which there is no room is refused, and its reply waits. One whose entry is over what is
+-- left of the journal is refused at once, as long as there are no checkpoints.
+abbrev pub accepted_in : Machine → Asked → ℕ → ZoneState → List Record → Machine × List Sent
+accepted_in m a place z records =
+    if not (has_room (kept_of z) records) then (waits m a place rcode_servfail (updates_of z), [])
+    else if nat_le (entry_between (newest_of (kept_of z)) records) (sectors_left (kept_of z)) then (stages m a place z records, [])
+    else (m, replies a rcode_servfail ∷ [])
+
+-- What is judged waits, whether or not it changes the zone.
+abbrev pub judged_in : Machine → Asked → ℕ → ZoneState → Verdict → Machine × List Sent
+judged_in m a place z (Refuses rcode) = (waits m a place (number_of_rcode rcode) (updates_of z), [])
+judged_in m a place z Keeps = (waits m a place 0 (updates_of z), [])
+judged_in m a place z (Leaves records) = accepted_in m a place z records
+
+-- It is judged on the newest version.
+abbrev pub admitted : Machine → Asked → Admission → Machine × List Sent
+admitted m a (Rejects rcode) = (m, replies a rcode ∷ [])
+admitted m a (Admits place z) = judged_in m a place z (verdict (newest_zone (kept_of z)) a.message.answers a.message.authorities)
+
+-- As many wait as may.
+abbrev pub is_full : Machine → Bool
+is_full m = not (nat_lt (length m.waiting) most_waiting)
+
+-- Then a flush comes first.
+abbrev pub made_place : List Bool → Machine → Machine × List Sent
+made_place fails m = if is_full m then (flushed fails m, flush_sends fails m) else (m, [])
+
+abbrev pub updated : List Bool → Machine → Asked → Machine × List Sent
+updated fails m a =
+    let begun = made_place fails m in
+    let ended = admitted begun.0 a (admission begun.0.zones a) in
+    (ended.0, begun.1 ++ ended.1)

@@ -1,0 +1,106 @@
+//! The flush of all zones, and of the replies that waited for it.
+ghost use Rattle.std.specs.Prelude.{◌≡◌, ◌<◌, ◌≤◌, ◌+◌, ◌++◌, List, [], Bool, map, length, slice_get, if◌then◌else◌};
+ghost use Rattle.dns_zone.specs.Zone.{Zone as Stated};
+ghost use Rattle.dns_sectors.specs.Device.{LeavesOnly};
+ghost use Rattle.dns_store.specs.Versions.{Kept, OpensAsLeft};
+ghost use Rattle.dns_held.specs.Each.{Each2, Each3};
+ghost use Rattle.dns_held.specs.Held.{IsHeld};
+ghost use Rattle.dns_held.specs.Flush.{FailedWhere, first_true};
+ghost use Rattle.dns_primary.specs.Machine.{Machine, ZoneState, Waits};
+ghost use Rattle.dns_primary.specs.Flush.{all_out, flush_sends, flushed, goes_out, is_closed_in, rcode_servfail, released};
+ghost use Rattle.dns_wire.specs.Text.{text};
+ghost use Rattle.dns_answer.specs.Answer.{bare_reply};
+ghost use Rattle.dns_primary.specs.Keeps.{AreHeld, IsWaiting, header_out};
+
+use crate::{HeaderTo, Waiting};
+use arrayvec::ArrayVec;
+use dns_answer::header_only;
+use dns_held::{Behind, flush_all};
+use dns_store::ZoneStore;
+use dns_wire::Rcode;
+use dns_zone::{Zone, ZoneIndex};
+
+/// Whether the zone at a place is closed, or there is none.
+fn is_closed_at<I: ZoneIndex, S: ZoneStore>(behind: &[Behind<I, S>], place: usize) -> bool
+    ensures { (shown : List Stated) (zones : List ZoneState) → AreHeld S.keeps shown behind.now zones → result ≡ is_closed_in (slice_get zones place) }
+{
+    match behind.get(place) {
+        Some(zone) => zone.store.is_closed(),
+        None => true,
+    }
+}
+
+/// The octets of a reply that waited.
+fn released_octets<I: ZoneIndex, S: ZoneStore>(
+    behind: &[Behind<I, S>],
+    waiting: &Waiting,
+) -> [u8; 12]
+    ensures { (shown : List Stated) (zones : List ZoneState) (w : Waits) → AreHeld S.keeps shown behind.now zones → IsWaiting waiting.now w
+        → result ≡ text (bare_reply w.header (if is_closed_in (slice_get zones w.zone) then rcode_servfail else w.rcode)) }
+{
+    let rcode = if is_closed_at(behind, waiting.zone) {
+        Rcode::ServFail
+    } else {
+        waiting.rcode
+    };
+    header_only(&waiting.request, rcode)
+}
+
+/// Lets a reply that waited go out, unless it goes nowhere.
+fn release<I: ZoneIndex, S: ZoneStore>(
+    behind: &[Behind<I, S>],
+    waiting: &Waiting,
+    headers: &mut ArrayVec<HeaderTo, 33>,
+)
+    requires { length headers.old.items < 33 }
+    ensures sent { (shown : List Stated) (zones : List ZoneState) (w : Waits) → AreHeld S.keeps shown behind.now zones → IsWaiting waiting.now w
+        → map header_out headers.new.items ≡ map header_out headers.old.items ++ goes_out (released zones w) }
+    ensures few { length headers.new.items ≤ length headers.old.items + 1 }
+{
+    if waiting.to.is_nowhere() {
+        return;
+    }
+    headers.push(HeaderTo {
+        to: waiting.to,
+        octets: released_octets(behind, waiting),
+    });
+}
+
+/// The replies that waited, as they go out.
+fn release_all<I: ZoneIndex, S: ZoneStore>(
+    behind: &[Behind<I, S>],
+    waiting: &ArrayVec<Waiting, 32>,
+) -> ArrayVec<HeaderTo, 33>
+    ensures sent { (shown : List Stated) (zones : List ZoneState) (ws : List Waits) → AreHeld S.keeps shown behind.now zones → Each2 IsWaiting waiting.now.items ws
+        → map header_out result.items ≡ all_out (map (released zones) ws) }
+    ensures few { length result.items ≤ 32 }
+{
+    let mut headers = ArrayVec::new();
+    let waiting = waiting.as_slice();
+    for one in waiting {
+        release(behind, one, &mut headers);
+    }
+    headers
+}
+
+/// Flushes all zones, and gives what goes out then: the replies that waited, and the first zone whose device failed.
+pub(crate) fn flush<I: ZoneIndex, S: ZoneStore>(
+    zones: &mut [Zone<I>],
+    behind: &mut [Behind<I, S>],
+    waiting: &mut ArrayVec<Waiting, 32>,
+) -> (ArrayVec<HeaderTo, 33>, Option<usize>)
+    requires { length zones.old ≡ length behind.old }
+    ensures flushed { (m : Machine) → AreHeld S.keeps zones.old behind.old m.zones → Each2 IsWaiting waiting.old.items m.waiting
+        → (fails : List Bool) × (length fails ≡ length m.zones) × FailedWhere (λ b. S.failed b.store) fails behind.old behind.new
+        × AreHeld S.keeps zones.new behind.new (flushed fails m).zones
+        × (map header_out result.0.items ≡ all_out (flush_sends fails m)) × (result.1 ≡ first_true fails) }
+    ensures empty { waiting.new.items ≡ [] }
+    ensures few { length result.0.items ≤ 32 }
+    ensures any_moment { (ks : List Kept) → Each3 (λ z b k. IsHeld S.keeps z b k) zones.old behind.old ks
+        → Each3 (λ a b k. LeavesOnly S.moment S.left_since a.store b.store (OpensAsLeft S.opens k)) behind.old behind.new ks }
+{
+    let failed = flush_all(zones, behind);
+    let headers = release_all(behind, waiting);
+    waiting.clear();
+    (headers, failed)
+}

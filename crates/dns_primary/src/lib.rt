@@ -1,0 +1,11 @@
+//! The state of all zones, and of those who ask and change them, one event at a time.
+#![tactic(auto)]
+
+mod event;
+mod flush;
+mod primary;
+mod step;
+mod update;
+
+pub use event::{Effects, Event, HeaderTo, Noted, Peer, To, Waiting};
+pub use primary::{Primary, ZoneSettings};

@@ -1,0 +1,34 @@
+//! What a primary keeps.
+ghost use Rattle.std.specs.Prelude.{◌≡◌, length};
+
+use crate::{Peer, Waiting};
+use arrayvec::ArrayVec;
+use dns_held::Behind;
+use dns_memory::Heap;
+use dns_policy::Prefix;
+use dns_store::ZoneStore;
+use dns_zone::{Zone, ZoneIndex};
+use slab::Slab;
+
+/// What is configured of a zone.
+#[derive(Drop)]
+pub struct ZoneSettings {
+    /// How many sectors there are for a snapshot.
+    pub snapshot: u32,
+    /// How many sectors there are for a journal.
+    pub journal: u32,
+    /// From which addresses the zone may be updated.
+    pub update: Vec<Prefix, Heap>,
+}
+
+/// All zones as they are shown, what stands behind each, the replies that wait, and the connections.
+#[derive(Drop)]
+pub struct Primary<I: ZoneIndex, S: ZoneStore> {
+    pub(crate) zones: Vec<Zone<I>, Heap>,
+    pub(crate) behind: Vec<Behind<I, S>, Heap>,
+    pub(crate) settings: Vec<ZoneSettings, Heap>,
+    pub(crate) waiting: ArrayVec<Waiting, 32>,
+    pub(crate) connections: Slab<Peer, Heap>,
+    ghost as_many: { length zones.items ≡ length behind.items },
+    ghost settled: { length zones.items ≡ length settings.items },
+}
