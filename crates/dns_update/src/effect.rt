@@ -59,6 +59,16 @@ fn first_of<'r>(records: &'r [Record], name: &NameRef<'_>, rtype: u16) -> Option
     records.iter().find(|r| is_of(r, name, rtype))
 }
 
+/// The records of a name, and of a type where that isn't ANY.
+fn records_of<'s, I: ZoneIndex>(set: &'s I, name: &NameRef<'_>, rtype: u16) -> &'s [Record]
+    ensures { result.now ≡ filter (is_of name.now rtype) (I.records set.now) }
+{
+    if rtype == ANY {
+        return set.records_at(name);
+    }
+    set.rrset(name, rtype)
+}
+
 /// A copy of the first record that goes where those of a name and a type go.
 fn next_replaced<I: ZoneIndex>(
     set: &I,
@@ -67,7 +77,7 @@ fn next_replaced<I: ZoneIndex>(
 ) -> Result<Option<Record>, AllocError>
     ensures { IfOk result (λ found. found ≡ find (is_of name.now rtype) (I.records set.now)) }
 {
-    copy_of(first_of(set.records_at(name), name, rtype))
+    copy_of(first_of(records_of(set, name, rtype), name, rtype))
 }
 
 /// Takes a record out.
@@ -133,7 +143,7 @@ fn succeeds_one<I: ZoneIndex>(set: &I, soa: &Record) -> bool
     requires { soa.now.rtype ≡ type_soa }
     ensures { result ≡ list_any (succeeds soa.now) (I.records set.now) }
 {
-    has_older(set.records_at(&soa.owner().lend()), Serial(soa.serial()))
+    has_older(set.rrset(&soa.owner().lend(), SOA), Serial(soa.serial()))
 }
 
 /// Adds a record (RFC 2136 section 3.4.2.2).

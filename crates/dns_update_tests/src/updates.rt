@@ -123,6 +123,30 @@ fn updates_of_a_zone(rt: HostRuntime) -> Result<(), Fail> {
     Ok(())
 }
 
+/// Updates with prerequisites that list RRsets, the first a part of one, and what becomes of them.
+const LONG: &[(&str, &str, Told)] = &[
+    (
+        "00020002",
+        "05686f737431c00c00010001000000000004c0000201c00c00020001000000000010026e73076578616d706c6503636f6d00c01900ff00ff000000000000c0190010000100000e1000020178",
+        Told::Refused(Rcode::NxRrset),
+    ),
+    (
+        "00010003",
+        "05686f737431c00c00010001000000000004c0000201c01900ff00ff000000000000c0190010000100000e100002017805686f737432c00c000100010000003c0004c0000203",
+        Told::Accepted(1, 2, 8),
+    ),
+];
+
+// Each of them.
+#[test]
+fn updates_with_prerequisites(rt: HostRuntime) -> Result<(), Fail> {
+    let alloc = heap(rt.alloc())?;
+    for (counts, items, expected) in LONG {
+        assert!(rt; verdict(alloc, counts, items) == Some(*expected), "{items}");
+    }
+    Ok(())
+}
+
 /// How many allocations a verdict takes.
 fn calls_of_verdict(alloc: Heap, zone: &Zone<RecordList>, octets: &[u8]) -> Option<u64> {
     let before = alloc.calls();
@@ -143,17 +167,22 @@ fn each_refused(alloc: Heap, zone: &Zone<RecordList>, octets: &[u8]) -> Option<b
     Some(calls > 0)
 }
 
-/// The same of the first update.
-fn first_refused(alloc: Heap) -> Option<bool> {
+/// Whether each allocation of each of the updates is refused, so that there is no verdict.
+fn all_refused(alloc: Heap, updates: &[(&str, &str, Told)]) -> Option<bool> {
     let zone = zone(alloc)?;
-    let (counts, items, _) = UPDATES[0];
-    each_refused(alloc, &zone, &octets(alloc, counts, items)?)
+    for (counts, items, _) in updates {
+        if !each_refused(alloc, &zone, &octets(alloc, counts, items)?)? {
+            return Some(false);
+        }
+    }
+    Some(true)
 }
 
 // Each allocation is refused in turn, and there is no verdict.
 #[test]
-fn an_update_that_is_refused_memory(rt: HostRuntime) -> Result<(), Fail> {
+fn updates_that_are_refused_memory(rt: HostRuntime) -> Result<(), Fail> {
     let alloc = heap(rt.alloc())?;
-    assert!(rt; first_refused(alloc) == Some(true));
+    assert!(rt; all_refused(alloc, UPDATES) == Some(true));
+    assert!(rt; all_refused(alloc, LONG) == Some(true));
     Ok(())
 }

@@ -10,4 +10,4 @@ returns g c =
     let xs = g.I.ZoneIndex.records c.args.set.now in
     let name = c.args.name.now in
     let t = c.args.rtype in
-    ok_at c.copy_of.result _ _ c.copy_of.ensures (c.first_of.ensures ∙ ap (λ (rs : List Record). find (is_of name t) rs) c.records_at.ensures ∙ of_here name t xs)
+    ok_at c.copy_of.result _ _ c.copy_of.ensures (c.first_of.ensures ∙ ap (λ (rs : List Record). find (is_of name t) rs) c.records_of.ensures ∙ of_here name t xs)
