@@ -1,5 +1,5 @@
 -- What a primary keeps of the machine, and how it tells of effects.
-use Rattle.std.specs.Prelude.{◌≡◌, ◌++◌, ◌↔◌, ℕ, List, [], ◌∷◌, map, length, Option, Some, None, IsTrue}
+use Rattle.std.specs.Prelude.{◌≡◌, ◌++◌, ◌↔◌, ℕ, List, [], ◌∷◌, map, length, Option, Some, None, Result, Ok, Err, IsTrue, slice_get}
 use Rattle.slab.specs.Slab.{get, slab_len}
 use Rattle.std.specs.declared.net.ip_addr.IpAddr.{IpAddr}
 use Rattle.dns_wire.specs.Message.{header_of}
@@ -20,6 +20,8 @@ use Rattle.dns_primary.specs.declared.primary.Primary.{Primary}
 use Rattle.dns_primary.specs.declared.primary.ZoneSettings.{ZoneSettings}
 use Rattle.dns_primary.specs.Machine.{Waits, Machine, ZoneState, kept_of, peer_at}
 use Rattle.dns_primary.specs.Flush.{all_out}
+use Rattle.dns_wire.specs.declared.codes.Rcode.{Rcode}
+use Rattle.dns_primary.specs.Update.{Admission, Rejects, Admits, rcode_notauth}
 use Rattle.dns_primary.specs.Step as machine
 
 -- These are the versions of the zones, in order.
@@ -57,3 +59,16 @@ pub record IsToldBy (stated : machine.Effects) (effects : Effects) : Type 0 wher
   pub sent : all_out stated.sent ≡ map header_out effects.headers.items ++ message_out (elim (effects.message) [ None ↦ None | Some m ↦ Some (m.0, m.1.items) ])
   pub accepted : stated.accepted ≡ effects.accepted
   pub noted : stated.noted ≡ effects.noted
+
+-- The admission that a test of the zone at a place tells, and one that names the place of a zone.
+abbrev pub admission_told : ℕ → ZoneState → Result (Unit {0}) Rcode → Admission
+admission_told place z (Ok v) = Admits place z
+admission_told place z (Err rcode) = Rejects (number_of_rcode rcode)
+
+abbrev pub admits_at : ℕ → Option ZoneState → Admission
+admits_at place None = Rejects rcode_notauth
+admits_at place (Some z) = Admits place z
+
+abbrev pub admission_shown : List ZoneState → Result ℕ Rcode → Admission
+admission_shown states (Ok place) = admits_at place (slice_get states place)
+admission_shown states (Err rcode) = Rejects (number_of_rcode rcode)

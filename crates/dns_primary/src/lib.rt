@@ -1,6 +1,7 @@
 //! The state of all zones, and of those who ask and change them, one event at a time.
 #![tactic(auto)]
 
+mod admission;
 mod event;
 mod flush;
 mod primary;

@@ -1,0 +1,90 @@
+//! What is tested of an update before it is judged (RFC 2136 sections 3.1 and 3.3).
+ghost use Rattle.std.specs.Prelude.{◌≡◌, ◌<◌, ℕ, List, length, Some, IfOk, IfSome};
+ghost use Rattle.std.specs.List.{position};
+ghost use Rattle.dns_names.specs.Name.{names_eq};
+ghost use Rattle.dns_zone.specs.Zone.{Zone as Stated};
+ghost use Rattle.dns_held.specs.Each.{Each2};
+ghost use Rattle.dns_held.specs.Held.{IsHeld};
+ghost use Rattle.dns_primary.specs.Machine.{ZoneState, kept_of};
+ghost use Rattle.dns_primary.specs.Update.{Asked, admission, admission_in};
+ghost use Rattle.dns_primary.specs.Keeps.{AreHeld, IsSet, admission_shown, admission_told};
+
+use crate::ZoneSettings;
+use dns_held::Behind;
+use dns_names::{Name, NameRef};
+use dns_policy::allows;
+use dns_records::types::{CLASS_IN, SOA};
+use dns_store::ZoneStore;
+use dns_wire::{QuestionView, Rcode};
+use dns_zone::{Zone, ZoneIndex};
+use std::net::IpAddr;
+
+/// Whether the zone has that apex.
+fn has_apex<I: ZoneIndex>(zone: &Zone<I>, apex: &NameRef<'_>) -> bool
+    ensures { result ≡ names_eq zone.now.apex apex.now }
+{
+    zone.apex().lend().is(apex)
+}
+
+/// The place of the first zone of that apex.
+fn place_of<I: ZoneIndex>(zones: &[Zone<I>], apex: &NameRef<'_>) -> Option<usize>
+    ensures place { result ≡ position (λ z. names_eq z.apex apex.now) zones.now }
+    ensures inside { IfSome result (λ place. place < length zones.now) }
+{
+    zones.iter().position(|zone| has_apex(zone, apex))
+}
+
+/// Whether a zone may be updated from that address now: REFUSED for an address that its list doesn't allow, then SERVFAIL where it
+/// is closed.
+fn admit_in<I: ZoneIndex, S: ZoneStore>(
+    behind: &Behind<I, S>,
+    settings: &ZoneSettings,
+    address: IpAddr,
+) -> Result<(), Rcode>
+    ensures { (place : ℕ) (zone : Stated) (z : ZoneState) → IsHeld S.keeps zone behind.now (kept_of z) → IsSet settings.now z → admission_told place z result ≡ admission_in address place (Some z) }
+{
+    if !allows(&settings.update, address) {
+        return Err(Rcode::Refused);
+    }
+    if behind.store.is_closed() {
+        return Err(Rcode::ServFail);
+    }
+    Ok(())
+}
+
+/// The place of the zone that an update is for, where it is to be judged: the tests stand in their order, the first that applies
+/// decides.
+///
+/// - The type of the zone that is named is not SOA: FORMERR.
+/// - Its class is not IN, or its name is the apex of no zone here: NOTAUTH.
+/// - The address is not one from which it may be updated: REFUSED.
+/// - It is closed: SERVFAIL.
+pub(crate) fn admit<I: ZoneIndex, S: ZoneStore>(
+    zones: &[Zone<I>],
+    behind: &[Behind<I, S>],
+    settings: &[ZoneSettings],
+    question: &QuestionView<'_>,
+    name: &Name,
+    address: IpAddr,
+) -> Result<usize, Rcode>
+    requires as_many { length zones.now ≡ length behind.now }
+    requires settled { length zones.now ≡ length settings.now }
+    requires name { name.now ≡ question.now.name }
+    ensures told { (states : List ZoneState) (a : Asked) → AreHeld S.keeps zones.now behind.now states → Each2 IsSet settings.now states → a.zone ≡ question.now → a.address ≡ address
+        → admission_shown states result ≡ admission states a }
+    ensures inside { IfOk result (λ place. place < length zones.now) }
+{
+    if question.qtype() != SOA {
+        return Err(Rcode::FormErr);
+    }
+    if question.qclass() != CLASS_IN {
+        return Err(Rcode::NotAuth);
+    }
+    match place_of(zones, &name.lend()) {
+        None => Err(Rcode::NotAuth),
+        Some(place) => match admit_in(&behind[place], &settings[place], address) {
+            Ok(()) => Ok(place),
+            Err(rcode) => Err(rcode),
+        },
+    }
+}
