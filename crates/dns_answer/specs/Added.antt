@@ -10,13 +10,15 @@ use Rattle.dns_answer.specs.declared.additional.Sections.{Sections}
 pub record AddsUnseen (before after : Sections) (records : List Record) : Type 0 where
   pub answer : after.answer.items ≡ before.answer.items
   pub authority : after.authority.items ≡ before.authority.items
-  pub additional : after.additional.items ≡ before.additional.items ++ unseen ((before.answer.items ++ before.authority.items) ++ before.additional.items) records
+  pub additional : after.additional.items
+      ≡ before.additional.items ++ unseen ((before.answer.items ++ before.authority.items) ++ before.additional.items) records
 
 -- How many records the sections have.
 abbrev pub count_of : Sections → ℕ
 count_of s = length s.answer.items + length s.authority.items + length s.additional.items
 
--- The same of the first of some records: of all of them, unless the sections have more records than so many. Sections that have more
+-- The same of the first of some records: of all of them, unless the sections have more records than so many. Sections that have
+-- more
 -- stay.
 pub record AddsUpTo (most : ℕ) (before after : Sections) (records : List Record) : Type 0 where
   pub first : List Record
@@ -34,7 +36,8 @@ pub record AreSections (t : ℕ) (found : List Found) (s : Sections) : Type 0 wh
 
 -- How many records that reply has.
 abbrev pub reply_count : ℕ → List Found → ℕ
-reply_count t found = length (records_of (answer_of t found)) + length (records_of (authority_of found)) + length (additional_of (answer_of t found ++ authority_of found))
+reply_count t found =
+    length (records_of (answer_of t found)) + length (records_of (authority_of found)) + length (additional_of (answer_of t found ++ authority_of found))
 
 -- They are, unless that reply has more than so many records; the first two sections are in any case.
 pub record AreSectionsUpTo (most t : ℕ) (found : List Found) (s : Sections) : Type 0 where

@@ -18,4 +18,7 @@ stood s = (s.answer.items ++ s.authority.items) ++ s.additional.items
 
 -- All addresses of the hosts, in the zone, stand in the sections.
 abbrev pub AreKnown : Zone → List Labels → Sections → Type 0
-AreKnown z known s = (host : Labels) → list_any (names_eq host) known ≡ true → all_stand (stood s) (rrset z.records host type_a ++ rrset z.records host type_aaaa) ≡ true
+AreKnown z known s =
+    (host : Labels)
+    → list_any (names_eq host) known ≡ true
+    → all_stand (stood s) (rrset z.records host type_a ++ rrset z.records host type_aaaa) ≡ true

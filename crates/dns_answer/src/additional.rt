@@ -98,7 +98,9 @@ impl<'a> Sections<'a> {
         host: &NameRef<'_>,
         most: u16,
     ) -> Result<(), AllocError>
-        ensures { OnOk result (AddsUpTo most self.old self.new (rrset zone.now.records host.now type_a ++ rrset zone.now.records host.now type_aaaa)) }
+        ensures { OnOk result
+            (AddsUpTo most self.old self.new
+            (rrset zone.now.records host.now type_a ++ rrset zone.now.records host.now type_aaaa)) }
     {
         let _ordered = zone.apex();
         let owned = zone.index().records_at(host);
@@ -115,7 +117,9 @@ impl<'a> Sections<'a> {
         known: &mut Vec<NameRef<'b>, Heap>,
         most: u16,
     ) -> Result<(), AllocError>
-        ensures added { OnOk result (AreKnown zone.now known.old.items self.old → AddsUpTo most self.old self.new (addresses_for (record { zone = zone.now; shown = held.now }))) }
+        ensures added { OnOk result
+            (AreKnown zone.now known.old.items self.old
+            → AddsUpTo most self.old self.new (addresses_for (record { zone = zone.now; shown = held.now }))) }
         ensures known { OnOk result (AreKnown zone.now known.old.items self.old → AreKnown zone.now known.new.items self.new) }
     {
         let Some(host) = held.host() else {

@@ -38,7 +38,9 @@ pub(crate) fn is_authoritative(found: &[Found<'_>]) -> bool
 
 /// The response code of the reply to what was found.
 pub(crate) fn rcode_of(found: &[Found<'_>]) -> Rcode
-    ensures { (zones : List Held) (fs : List Stated) → AreTold zones fs found.now → number_of_rcode result ≡ (if is_name_error fs then rcode_nxdomain else 0) }
+    ensures { (zones : List Held) (fs : List Stated)
+        → AreTold zones fs found.now
+        → number_of_rcode result ≡ (if is_name_error fs then rcode_nxdomain else 0) }
 {
     if is_name_error(found) {
         return Rcode::NxDomain;

@@ -22,7 +22,9 @@ fn text_within(
     limit: usize,
 ) -> Result<Option<Vec<u8, Heap>>, AllocError>
     requires { limit < 65536 }
-    ensures { IfOk result (λ fits. MatchOption fits (limit < length (text (stated reply.now))) (λ octets. (octets.items ≡ text (stated reply.now)) × (length octets.items ≤ limit))) }
+    ensures { IfOk result
+        (λ fits. MatchOption fits (limit < length (text (stated reply.now)))
+        (λ octets. (octets.items ≡ text (stated reply.now)) × (length octets.items ≤ limit))) }
 {
     match Writer::write(alloc, reply, limit) {
         Ok(octets) => Ok(Some(octets)),
@@ -155,7 +157,11 @@ pub(crate) fn fit_first_sections(
 ) -> Result<Vec<u8, Heap>, AllocError>
     requires question { length (question_octets (stated reply)) < 65524 }
     requires gone { reply.additional.items ≡ [] }
-    ensures { IfOk result (λ octets. (whole : Stated) → IsWithoutAdditional (stated reply.entry) whole → most_records transport < length whole.answer + length whole.authority + length whole.additional → octets.items ≡ fitted transport whole) }
+    ensures { IfOk result
+        (λ octets. (whole : Stated)
+        → IsWithoutAdditional (stated reply.entry) whole
+        → most_records transport < length whole.answer + length whole.authority + length whole.additional
+        → octets.items ≡ fitted transport whole) }
 {
     one_packed_text();
     match transport {
@@ -171,7 +177,11 @@ pub(crate) fn fit_question(
     transport: Transport,
 ) -> Result<Vec<u8, Heap>, AllocError>
     requires { length (question_octets (stated reply)) < 65524 }
-    ensures { IfOk result (λ octets. (whole : Stated) → IsWithoutRecords (stated reply.entry) whole → most_records transport < length whole.answer + length whole.authority → octets.items ≡ fitted transport whole) }
+    ensures { IfOk result
+        (λ octets. (whole : Stated)
+        → IsWithoutRecords (stated reply.entry) whole
+        → most_records transport < length whole.answer + length whole.authority
+        → octets.items ≡ fitted transport whole) }
 {
     one_packed_text();
     match transport {

@@ -22,7 +22,11 @@ fn last_authority<'a, I: ZoneIndex>(
     found: &[Found<'a>],
 ) -> Result<Vec<ReplyRecord<'a>, Heap>, AllocError>
     requires { (fs : List Stated) × AreTold zones.now fs found.now }
-    ensures { IfOk result (λ shown. (t : ℕ) (fs : List Stated) → AreTold zones.now fs found.now → AreHeld zones.now t found.now → shown.items ≡ records_of (authority_of fs)) }
+    ensures { IfOk result
+        (λ shown. (t : ℕ) (fs : List Stated)
+        → AreTold zones.now fs found.now
+        → AreHeld zones.now t found.now
+        → shown.items ≡ records_of (authority_of fs)) }
 {
     match found.last() {
         Some(last) => authority_section(alloc, zones, last),
@@ -37,8 +41,16 @@ fn without_addresses<'a, I: ZoneIndex>(
     found: &[Found<'a>],
 ) -> Result<Sections<'a>, AllocError>
     requires { (fs : List Stated) × AreTold zones.now fs found.now }
-    ensures answer { IfOk result (λ s. (t : ℕ) (fs : List Stated) → AreTold zones.now fs found.now → AreHeld zones.now t found.now → s.answer.items ≡ records_of (answer_of t fs)) }
-    ensures authority { IfOk result (λ s. (t : ℕ) (fs : List Stated) → AreTold zones.now fs found.now → AreHeld zones.now t found.now → s.authority.items ≡ records_of (authority_of fs)) }
+    ensures answer { IfOk result
+        (λ s. (t : ℕ) (fs : List Stated)
+        → AreTold zones.now fs found.now
+        → AreHeld zones.now t found.now
+        → s.answer.items ≡ records_of (answer_of t fs)) }
+    ensures authority { IfOk result
+        (λ s. (t : ℕ) (fs : List Stated)
+        → AreTold zones.now fs found.now
+        → AreHeld zones.now t found.now
+        → s.authority.items ≡ records_of (authority_of fs)) }
     ensures additional { IfOk result (λ s. s.additional.items ≡ []) }
 {
     let answer = answer_section(alloc, found)?;
@@ -60,7 +72,11 @@ impl<'a> Sections<'a> {
         most: u16,
     ) -> Result<(), AllocError>
         requires { (fs : List Stated) × AreTold zones.now fs found.now }
-        ensures { OnOk result ((t : ℕ) (fs : List Stated) → AreTold zones.now fs found.now → AreHeld zones.now t found.now → AddsUpTo most self.old self.new (flat_map addresses_for (answer_of t fs))) }
+        ensures { OnOk result
+            ((t : ℕ) (fs : List Stated)
+            → AreTold zones.now fs found.now
+            → AreHeld zones.now t found.now
+            → AddsUpTo most self.old self.new (flat_map addresses_for (answer_of t fs))) }
     {
         for one in found {
             self.add_addresses(alloc, searched(zones, one), answers(one), most)?;
@@ -77,7 +93,11 @@ impl<'a> Sections<'a> {
         most: u16,
     ) -> Result<(), AllocError>
         requires { (fs : List Stated) × AreTold zones.now fs found.now }
-        ensures { OnOk result ((t : ℕ) (fs : List Stated) → AreTold zones.now fs found.now → AreHeld zones.now t found.now → AddsUpTo most self.old self.new (flat_map addresses_for (authority_of fs))) }
+        ensures { OnOk result
+            ((t : ℕ) (fs : List Stated)
+            → AreTold zones.now fs found.now
+            → AreHeld zones.now t found.now
+            → AddsUpTo most self.old self.new (flat_map addresses_for (authority_of fs))) }
     {
         match found.last() {
             Some(last) => self.add_addresses(alloc, searched(zones, last), servers(last), most),
@@ -94,7 +114,11 @@ impl<'a> Sections<'a> {
         most: u16,
     ) -> Result<Sections<'a>, AllocError>
         requires { (fs : List Stated) × AreTold zones.now fs found.now }
-        ensures { IfOk result (λ s. (t : ℕ) (fs : List Stated) → AreTold zones.now fs found.now → AreHeld zones.now t found.now → AreSectionsUpTo most t fs s) }
+        ensures { IfOk result
+            (λ s. (t : ℕ) (fs : List Stated)
+            → AreTold zones.now fs found.now
+            → AreHeld zones.now t found.now
+            → AreSectionsUpTo most t fs s) }
     {
         let mut sections = without_addresses(alloc, zones, found)?;
         sections.add_for_answers(alloc, zones, found, most)?;

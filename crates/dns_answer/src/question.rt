@@ -51,7 +51,9 @@ fn reply_with_question<'a>(
     asked: Asked<'a>,
     rcode: Rcode,
 ) -> Reply<'a>
-    ensures stated { (q : Question) → IsAsked message.now.octets q asked.entry → stated result ≡ with_question message.now.octets message.now.message q (number_of_rcode rcode) }
+    ensures stated { (q : Question)
+        → IsAsked message.now.octets q asked.entry
+        → stated result ≡ with_question message.now.octets message.now.message q (number_of_rcode rcode) }
     ensures question { question_octets (stated result) ≡ asked.entry.octets.now }
     ensures bare { result.additional.items ≡ [] }
 {
@@ -83,7 +85,12 @@ fn reply_to<'a, I: ZoneIndex>(
 ) -> Result<Vec<u8, Heap>, AllocError>
     requires question { length asked.octets.now < 65524 }
     requires found { (fs : List Stated) × AreTold zones.now fs found.now }
-    ensures { IfOk result (λ octets. (q : Question) (fs : List Stated) → IsAsked message.now.octets q asked.entry → AreTold zones.now fs found.now → AreHeld zones.now q.qtype found.now → octets.items ≡ fitted transport (reply_for message.now.octets message.now.message q fs)) }
+    ensures { IfOk result
+        (λ octets. (q : Question) (fs : List Stated)
+        → IsAsked message.now.octets q asked.entry
+        → AreTold zones.now fs found.now
+        → AreHeld zones.now q.qtype found.now
+        → octets.items ≡ fitted transport (reply_for message.now.octets message.now.message q fs)) }
 {
     let most = most_records(transport);
     let aa = is_authoritative(found);
@@ -116,7 +123,10 @@ fn answer<'a, I: ZoneIndex>(
     transport: Transport,
 ) -> Result<Vec<u8, Heap>, AllocError>
     requires { length asked.octets.now < 65524 }
-    ensures { IfOk result (λ octets. (q : Question) → IsAsked message.now.octets q asked.entry → octets.items ≡ fitted transport (answered zones.now message.now.octets message.now.message q)) }
+    ensures { IfOk result
+        (λ octets. (q : Question)
+        → IsAsked message.now.octets q asked.entry
+        → octets.items ≡ fitted transport (answered zones.now message.now.octets message.now.message q)) }
 {
     let found = resolve(alloc, zones, asked.name.again(), asked.qtype)?;
     if found.is_empty() {
@@ -126,7 +136,8 @@ fn answer<'a, I: ZoneIndex>(
     reply_to(alloc, zones, message, asked, transport, found.as_slice())
 }
 
-/// The reply to a query, octet for octet as it is defined, with its question: what the lookup finds, or REFUSED where its name is under
+/// The reply to a query, octet for octet as it is defined, with its question: what the lookup finds, or REFUSED where its name
+/// is under
 /// no held apex.
 pub fn reply<I: ZoneIndex>(
     alloc: Heap,
@@ -134,7 +145,9 @@ pub fn reply<I: ZoneIndex>(
     query: &RequestMessage<'_>,
     transport: Transport,
 ) -> Result<Vec<u8, Heap>, AllocError>
-    ensures { IfOk result (λ octets. octets.items ≡ fitted transport (answered zones.now query.now.message.octets query.now.message.message query.now.question)) }
+    ensures { IfOk result
+        (λ octets. octets.items
+        ≡ fitted transport (answered zones.now query.now.message.octets query.now.message.message query.now.question)) }
 {
     let name = query.question.name().to_name(alloc)?;
     let octets = query.message.question_octets();
@@ -149,7 +162,10 @@ pub fn refuse(
     rcode: Rcode,
     transport: Transport,
 ) -> Result<Vec<u8, Heap>, AllocError>
-    ensures { IfOk result (λ octets. octets.items ≡ fitted transport (with_question query.now.message.octets query.now.message.message query.now.question (number_of_rcode rcode))) }
+    ensures { IfOk result
+        (λ octets. octets.items
+        ≡ fitted transport
+        (with_question query.now.message.octets query.now.message.message query.now.question (number_of_rcode rcode))) }
 {
     let name = query.question.name().to_name(alloc)?;
     let octets = query.message.question_octets();

@@ -26,7 +26,10 @@ pub(crate) fn searched<'a, I: ZoneIndex>(zones: &'a [Zone<I>], one: &Found<'_>) 
 /// The records that a name puts into the answer section: its CNAME, or those that were asked for (RFC 1034 section 4.3.2,
 /// step 3a).
 pub(crate) fn answers<'a>(one: &Found<'a>) -> &'a [Record]
-    ensures { (zones : List Held) (t : ℕ) (f : Stated) → IsTold zones f one.now → IsHeld zones t one.now → answers_of t f ≡ from_zone f.zone (as_owner f.name result.now) }
+    ensures { (zones : List Held) (t : ℕ) (f : Stated)
+        → IsTold zones f one.now
+        → IsHeld zones t one.now
+        → answers_of t f ≡ from_zone f.zone (as_owner f.name result.now) }
 {
     match one.kind {
         Kind::Alias | Kind::Answers => one.records,
@@ -36,8 +39,14 @@ pub(crate) fn answers<'a>(one: &Found<'a>) -> &'a [Record]
 
 /// The name servers that the last name puts into the authority section: those of a cut (RFC 1034 section 4.3.2, step 3b).
 pub(crate) fn servers<'a>(last: &Found<'a>) -> &'a [Record]
-    ensures few { (zones : List Held) (t : ℕ) (f : Stated) → IsTold zones f last.now → IsHeld zones t last.now → length result.now ≤ length (records_of (authority_at f)) }
-    ensures hosts { (zones : List Held) (t : ℕ) (f : Stated) → IsTold zones f last.now → IsHeld zones t last.now → flat_map addresses_for (authority_at f) ≡ flat_map addresses_for (from_zone f.zone result.now) }
+    ensures few { (zones : List Held) (t : ℕ) (f : Stated)
+        → IsTold zones f last.now
+        → IsHeld zones t last.now
+        → length result.now ≤ length (records_of (authority_at f)) }
+    ensures hosts { (zones : List Held) (t : ℕ) (f : Stated)
+        → IsTold zones f last.now
+        → IsHeld zones t last.now
+        → flat_map addresses_for (authority_at f) ≡ flat_map addresses_for (from_zone f.zone result.now) }
 {
     match last.kind {
         Kind::Referral => last.records,
@@ -47,7 +56,10 @@ pub(crate) fn servers<'a>(last: &Found<'a>) -> &'a [Record]
 
 /// How many records the answer section has.
 pub(crate) fn answer_count(found: &[Found<'_>]) -> usize
-    ensures { (zones : List Held) (t : ℕ) (fs : List Stated) → AreTold zones fs found.now → AreHeld zones t found.now → result ≤ length (records_of (answer_of t fs)) }
+    ensures { (zones : List Held) (t : ℕ) (fs : List Stated)
+        → AreTold zones fs found.now
+        → AreHeld zones t found.now
+        → result ≤ length (records_of (answer_of t fs)) }
 {
     let mut count = 0usize;
     for one in found {
@@ -58,7 +70,10 @@ pub(crate) fn answer_count(found: &[Found<'_>]) -> usize
 
 /// How many name servers the authority section has.
 pub(crate) fn server_count(found: &[Found<'_>]) -> usize
-    ensures { (zones : List Held) (t : ℕ) (fs : List Stated) → AreTold zones fs found.now → AreHeld zones t found.now → result ≤ length (records_of (authority_of fs)) }
+    ensures { (zones : List Held) (t : ℕ) (fs : List Stated)
+        → AreTold zones fs found.now
+        → AreHeld zones t found.now
+        → result ≤ length (records_of (authority_of fs)) }
 {
     match found.last() {
         Some(last) => servers(last).len(),
@@ -85,7 +100,11 @@ pub(crate) fn answer_section<'a>(
     alloc: Heap,
     found: &[Found<'a>],
 ) -> Result<Vec<ReplyRecord<'a>, Heap>, AllocError>
-    ensures { IfOk result (λ shown. (zones : List Held) (t : ℕ) (fs : List Stated) → AreTold zones fs found.now → AreHeld zones t found.now → shown.items ≡ records_of (answer_of t fs)) }
+    ensures { IfOk result
+        (λ shown. (zones : List Held) (t : ℕ) (fs : List Stated)
+        → AreTold zones fs found.now
+        → AreHeld zones t found.now
+        → shown.items ≡ records_of (answer_of t fs)) }
 {
     let mut shown = Vec::new(alloc);
     for one in found {
@@ -132,7 +151,11 @@ pub(crate) fn authority_section<'a, I: ZoneIndex>(
     last: &Found<'a>,
 ) -> Result<Vec<ReplyRecord<'a>, Heap>, AllocError>
     requires { last.now.zone < length zones.now }
-    ensures { IfOk result (λ shown. (t : ℕ) (f : Stated) → IsTold zones.now f last.now → IsHeld zones.now t last.now → shown.items ≡ records_of (authority_at f)) }
+    ensures { IfOk result
+        (λ shown. (t : ℕ) (f : Stated)
+        → IsTold zones.now f last.now
+        → IsHeld zones.now t last.now
+        → shown.items ≡ records_of (authority_at f)) }
 {
     let zone = &zones[last.zone];
     match last.kind {

@@ -31,7 +31,9 @@ all_of test (x ∷ xs) h =
     later true c e = refl
     later false c e = e
 
-none_of : (test : Record → Bool) (xs : List Record) → ((r : Record) → contains xs r ≡ true → test r ≡ false) → list_any test xs ≡ false
+none_of : (test : Record → Bool) (xs : List Record)
+    → ((r : Record) → contains xs r ≡ true → test r ≡ false)
+    → list_any test xs ≡ false
 none_of test [] h = refl
 none_of test (x ∷ xs) h =
     let head : test x ≡ false = h x (ap (λ b. b || contains xs x) (same_itself x)) in
@@ -64,7 +66,10 @@ pub soa_tied : (q s b : Record) → ties q s ≡ true → ties q b ≡ true → 
 soa_tied q s b f g i = subst (λ (n : ℕ). (n == type_soa) ≡ true) (tied_key s b (joins q s b f g)).rtype i
 
 -- a SOA and other records of a set in order are each named once
-not_alike : (s : Record) (test : Record → Bool) (xs : List Record) → is_soa s ≡ true → ((r : Record) → test r ≡ true → not (is_soa r) ≡ true) → list_any (alike s) (filter test xs) ≡ false
+not_alike : (s : Record) (test : Record → Bool) (xs : List Record)
+    → is_soa s ≡ true
+    → ((r : Record) → test r ≡ true → not (is_soa r) ≡ true)
+    → list_any (alike s) (filter test xs) ≡ false
 not_alike s test xs i other = none_of (alike s) (filter test xs) (λ r e. elim (told (alike s r)) [
   | inr f ↦ f
   | inl t ↦ (let passes = filter_contains r test xs e in
@@ -72,7 +77,13 @@ not_alike s test xs i other = none_of (alike s) (filter test xs) (λ r e. elim (
       apart (is_soa r) (subst (λ (n : ℕ). (n == type_soa) ≡ true) key.rtype i) (not_true (is_soa r) (other r passes.0)))
 ])
 
-one_once : (s : Record) (rs xs : List Record) → is_soa s ≡ true → Sorted xs → (test : Record → Bool) → rs ≡ filter test xs → ((r : Record) → test r ≡ true → not (is_soa r) ≡ true) → has_twice (s ∷ rs) ≡ false
+one_once : (s : Record) (rs xs : List Record)
+    → is_soa s ≡ true
+    → Sorted xs
+    → (test : Record → Bool)
+    → rs ≡ filter test xs
+    → ((r : Record) → test r ≡ true → not (is_soa r) ≡ true)
+    → has_twice (s ∷ rs) ≡ false
 one_once s rs xs i h test is other =
     let none : list_any (alike s) rs ≡ false = ap (list_any (alike s)) is ∙ not_alike s test xs i other in
     let single : has_twice rs ≡ false = ap has_twice is ∙ once (filter test xs) (sorted_filter test xs h) in
@@ -131,7 +142,9 @@ module _ (before after : List Record) (c : Change) (hb : Sorted before) (ha : So
   combined : Record → Option Record → Option Record → Option Record
   combined q x y = or_else (cond (ties q c.new_soa) (Some c.new_soa) (only comes x)) (only stays y)
 
-  without_new : (q : Record) (x y : Option Record) → ties q c.new_soa ≡ false → or_else (cond (ties q c.new_soa) (Some c.new_soa) (only comes x)) (only stays y) ≡ or_else (only comes x) (only stays y)
+  without_new : (q : Record) (x y : Option Record)
+      → ties q c.new_soa ≡ false
+      → or_else (cond (ties q c.new_soa) (Some c.new_soa) (only comes x)) (only stays y) ≡ or_else (only comes x) (only stays y)
   without_new q x y e = ap (λ b. or_else (cond b (Some c.new_soa) (only comes x)) (only stays y)) e
 
   new_untied : (q : Record) → found q after ≡ None → ties q c.new_soa ≡ false
@@ -150,12 +163,21 @@ module _ (before after : List Record) (c : Change) (hb : Sorted before) (ha : So
       ] in
       ap (λ b. cond b (Some a) None) (lost a there.1 (inr absent))
 
-  stays_some : (q b : Record) (y : Option Record) → ties q b ≡ true → is_soa b ≡ false → contains after b ≡ true → contains before b ≡ true → found q before ≡ y → only stays y ≡ Some b
+  stays_some : (q b : Record) (y : Option Record)
+      → ties q b ≡ true
+      → is_soa b ≡ false
+      → contains after b ≡ true
+      → contains before b ≡ true
+      → found q before ≡ y
+      → only stays y ≡ Some b
   stays_some q b y t i e g f =
       let is : y ≡ Some b = sym f ∙ found_tied q b t before ∙ contains_found b before hb g in
       ap (only stays) is ∙ ap (λ d. cond d (Some b) None) (kept b i e)
 
-  at_key : (q : Record) (x y : Option Record) → found q after ≡ x → found q before ≡ y → or_else (cond (ties q c.new_soa) (Some c.new_soa) (only comes x)) (only stays y) ≡ x
+  at_key : (q : Record) (x y : Option Record)
+      → found q after ≡ x
+      → found q before ≡ y
+      → or_else (cond (ties q c.new_soa) (Some c.new_soa) (only comes x)) (only stays y) ≡ x
   at_key q None y e f = without_new q None y (new_untied q e) ∙ stays_none q y e f
   at_key q (Some b) y e f =
       let there = found_contains q b after e in
@@ -187,7 +209,10 @@ module _ (before after : List Record) (c : Change) (hb : Sorted before) (ha : So
       ∙ at_key q (found q after) (found q before) refl refl
 
   pub applied_is : applied c before ≡ after
-  applied_is = same_sets (applied c before) after (sorted_united (removed_from before (c.old_soa ∷ c.removed)) (c.new_soa ∷ c.added) (sorted_filter stays before hb)) ha same_found
+  applied_is =
+      same_sets (applied c before) after
+      (sorted_united (removed_from before (c.old_soa ∷ c.removed)) (c.new_soa ∷ c.added) (sorted_filter stays before hb)) ha
+      same_found
 
   -- none that comes is there
   absent_at : (r : Record) (y : Option Record) → contains (c.new_soa ∷ c.added) r ≡ true → found r before ≡ y → only stays y ≡ None
@@ -218,10 +243,14 @@ module _ (before after : List Record) (c : Change) (hb : Sorted before) (ha : So
 
   -- none is named twice
   gone_once : has_twice (c.old_soa ∷ c.removed) ≡ false
-  gone_once = one_once c.old_soa c.removed before (one_in before c.old_soa h.old_soa).0 hb goes h.removed (λ r e. (both_true (not (is_soa r)) (not (contains after r)) e).0)
+  gone_once =
+      one_once c.old_soa c.removed before (one_in before c.old_soa h.old_soa).0 hb goes h.removed
+      (λ r e. (both_true (not (is_soa r)) (not (contains after r)) e).0)
 
   come_once : has_twice (c.new_soa ∷ c.added) ≡ false
-  come_once = one_once c.new_soa c.added after (one_in after c.new_soa h.new_soa).0 ha comes h.added (λ r e. (both_true (not (is_soa r)) (not (contains before r)) e).0)
+  come_once =
+      one_once c.new_soa c.added after (one_in after c.new_soa h.new_soa).0 ha comes h.added
+      (λ r e. (both_true (not (is_soa r)) (not (contains before r)) e).0)
 
   pub fits_is : change_fault c before ≡ None
   fits_is =

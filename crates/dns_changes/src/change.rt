@@ -1,3 +1,4 @@
+//! A change between two versions of a zone: the SOAs, and the records that go and that come (RFC 1995 section 4).
 ghost use Rattle.std.specs.Prelude.{◌≡◌, ◌⊎◌, true, false, not, ◌∷◌, Some, None, IfOk, IfErr, OnOk, OnErr};
 ghost use Rattle.dns_zone.specs.Records.{contains, has, is_ordered, put, united, without};
 ghost use Rattle.dns_changes.specs.Change.{AreFew, is_formed, applied, are_held, are_new, change_fault, removed_from};
@@ -31,7 +32,8 @@ impl Model for Change {
 }
 
 impl Change {
-    /// The change of these records, of which the two SOAs alone are SOAs. Each list is in order, and so short that its length has 32 bits.
+    /// The change of these records, of which the two SOAs alone are SOAs. Each list is in order, and so short that its length
+    /// has 32 bits.
     pub fn new(
         old_soa: Record,
         removed: Vec<Record, Heap>,
@@ -39,8 +41,11 @@ impl Change {
         added: Vec<Record, Heap>,
     ) -> Change
         requires few { AreFew removed.items added.items }
-        requires formed { is_formed (record { old_soa = old_soa; removed = removed.items; new_soa = new_soa; added = added.items }) ≡ true }
-        ensures { result ≡ record { old_soa = old_soa; removed = removed.entry.items; new_soa = new_soa; added = added.entry.items } }
+        requires formed { is_formed
+            (record { old_soa = old_soa; removed = removed.items; new_soa = new_soa; added = added.items })
+            ≡ true }
+        ensures { result
+            ≡ record { old_soa = old_soa; removed = removed.entry.items; new_soa = new_soa; added = added.entry.items } }
     {
         Change {
             old_soa,
@@ -86,7 +91,8 @@ impl Change {
     pub fn apply<I: ZoneIndex>(&self, index: &mut I) -> Result<(), ChangeError>
         ensures applied { OnOk result (I.records index.new ≡ applied self.now (I.records index.old)) }
         ensures fits { OnOk result (change_fault self.now (I.records index.old) ≡ None) }
-        ensures refused { IfErr result (λ e. (e ≡ ChangeError.OutOfMemory) ⊎ (change_fault self.now (I.records index.old) ≡ Some e)) }
+        ensures refused { IfErr result
+            (λ e. (e ≡ ChangeError.OutOfMemory) ⊎ (change_fault self.now (I.records index.old) ≡ Some e)) }
         ensures stays { OnErr result (I.records index.new ≡ I.records index.old) }
     {
         let mut set = index.fork()?;
@@ -98,7 +104,9 @@ impl Change {
 
     /// Takes the old SOA and the records that go out of a set, which is of no use where that is refused.
     fn remove_all<I: ZoneIndex>(&self, set: &mut I) -> Result<(), ChangeError>
-        ensures held { OnOk result ((contains (I.records set.old) self.now.old_soa ≡ true) × (are_held (I.records set.old) (self.now.old_soa ∷ self.now.removed) ≡ true)) }
+        ensures held { OnOk result
+            ((contains (I.records set.old) self.now.old_soa ≡ true)
+            × (are_held (I.records set.old) (self.now.old_soa ∷ self.now.removed) ≡ true)) }
         ensures left { OnOk result (I.records set.new ≡ removed_from (I.records set.old) (self.now.old_soa ∷ self.now.removed)) }
         ensures refused { IfErr result (λ e. (e ≡ ChangeError.OutOfMemory) ⊎ (change_fault self.now (I.records set.old) ≡ Some e)) }
     {
@@ -115,7 +123,9 @@ impl Change {
     fn add_all<I: ZoneIndex>(&self, set: &mut I) -> Result<(), ChangeError>
         ensures new { OnOk result (are_new (I.records set.old) (self.now.new_soa ∷ self.now.added) ≡ true) }
         ensures left { OnOk result (I.records set.new ≡ united (I.records set.old) (self.now.new_soa ∷ self.now.added)) }
-        ensures refused { IfErr result (λ e. (e ≡ ChangeError.OutOfMemory) ⊎ ((are_new (I.records set.old) (self.now.new_soa ∷ self.now.added) ≡ false) × (e ≡ ChangeError.AddsPresent))) }
+        ensures refused { IfErr result
+            (λ e. (e ≡ ChangeError.OutOfMemory)
+            ⊎ ((are_new (I.records set.old) (self.now.new_soa ∷ self.now.added) ≡ false) × (e ≡ ChangeError.AddsPresent))) }
     {
         if !put_in(set, self.new_soa())? {
             return Err(ChangeError::AddsPresent);

@@ -30,7 +30,10 @@ impl Change {
         ensures found { IfOk result (λ c. HasEntry c × (entry c ≡ octets.now)) }
         ensures refused { IfErr result (λ e. (e ≡ ChangeError.OutOfMemory) ⊎ (e ≡ ChangeError.BadBytes)) }
         // The octets of a change are read as that change, unless memory runs out.
-        ensures only { (c : StatedChange) → HasEntry c → entry c ≡ octets.now → MatchResult result (λ d. d ≡ c) (λ e. e ≡ ChangeError.OutOfMemory) }
+        ensures only { (c : StatedChange)
+            → HasEntry c
+            → entry c ≡ octets.now
+            → MatchResult result (λ d. d ≡ c) (λ e. e ≡ ChangeError.OutOfMemory) }
     {
         let (old_soa, rest) = split_record(alloc, octets)?;
         let (new_soa, rest) = split_record(alloc, rest)?;
@@ -71,7 +74,10 @@ fn write_counted(out: &mut Vec<u8, Heap>, records: &[Record]) -> Result<(), Allo
 pub fn split_record(alloc: Heap, octets: &[u8]) -> Result<(Record, &[u8]), ChangeError>
     ensures found { IfOk result (λ r. IsRecord r.0 × (octets.now ≡ plain r.0 ++ r.1.now)) }
     ensures refused { IfErr result (λ e. (e ≡ ChangeError.OutOfMemory) ⊎ (e ≡ ChangeError.BadBytes)) }
-    ensures only { (r : Stated) (rest : List ℕ) → IsRecord r → octets.now ≡ plain r ++ rest → IfErr result (λ e. e ≡ ChangeError.OutOfMemory) }
+    ensures only { (r : Stated) (rest : List ℕ)
+        → IsRecord r
+        → octets.now ≡ plain r ++ rest
+        → IfErr result (λ e. e ≡ ChangeError.OutOfMemory) }
 {
     match Record::from_wire_plain(alloc, octets) {
         Ok((record, size)) => Ok((record, &octets[size..])),
@@ -103,9 +109,14 @@ fn split_count(octets: &[u8]) -> Option<(u32, &[u8])>
 
 /// The records behind their count at the front of octets, and what is behind them.
 fn split_counted(alloc: Heap, octets: &[u8]) -> Result<(Vec<Record, Heap>, &[u8]), ChangeError>
-    ensures found { IfOk result (λ r. AllByRecursion IsRecord r.0.items × (length r.0.items < 2 ^ 32) × (octets.now ≡ counted r.0.items ++ r.1.now)) }
+    ensures found { IfOk result
+        (λ r. AllByRecursion IsRecord r.0.items × (length r.0.items < 2 ^ 32) × (octets.now ≡ counted r.0.items ++ r.1.now)) }
     ensures refused { IfErr result (λ e. (e ≡ ChangeError.OutOfMemory) ⊎ (e ≡ ChangeError.BadBytes)) }
-    ensures only { (rs : List Stated) (rest : List ℕ) → AllByRecursion IsRecord rs → length rs < 2 ^ 32 → octets.now ≡ counted rs ++ rest → IfErr result (λ e. e ≡ ChangeError.OutOfMemory) }
+    ensures only { (rs : List Stated) (rest : List ℕ)
+        → AllByRecursion IsRecord rs
+        → length rs < 2 ^ 32
+        → octets.now ≡ counted rs ++ rest
+        → IfErr result (λ e. e ≡ ChangeError.OutOfMemory) }
 {
     let Some((count, mut rest)) = split_count(octets) else {
         return Err(ChangeError::BadBytes);

@@ -27,5 +27,6 @@ HasFailed before after = (before < after) ⊎ (before ≡ 2 ^ 64 - 1)
 -- Each device of which it is said has failed; behind the end of the list nothing is said.
 abbrev pub FailedWhere : {A : Type 0} → (A → ℕ) → List Bool → List A → List A → Type 0
 FailedWhere failed [] olds news = Unit {0}
-FailedWhere failed (f ∷ fails) (a ∷ olds) (b ∷ news) = (f ≡ true → HasFailed (failed a) (failed b)) × FailedWhere failed fails olds news
+FailedWhere failed (f ∷ fails) (a ∷ olds) (b ∷ news) =
+    (f ≡ true → HasFailed (failed a) (failed b)) × FailedWhere failed fails olds news
 FailedWhere failed (f ∷ fails) _ _ = ⊥

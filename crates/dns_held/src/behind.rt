@@ -25,7 +25,13 @@ pub struct Behind<I: ZoneIndex, S: ZoneStore> {
 impl<I: ZoneIndex, S: ZoneStore> Behind<I, S> {
     /// What stands behind a zone of which nothing is staged, with so many sectors for a snapshot and for a journal.
     pub fn new(zone: &Zone<I>, store: S, snapshot: u32, journal: u32) -> Behind<I, S>
-        ensures { (k : Kept) → zone.now ≡ shown_zone k → k.staged ≡ [] → S.keeps store k → k.shape.snapshot ≡ snapshot → k.shape.journal ≡ journal → IsHeld S.keeps zone.now result k }
+        ensures { (k : Kept)
+            → zone.now ≡ shown_zone k
+            → k.staged ≡ []
+            → S.keeps store k
+            → k.shape.snapshot ≡ snapshot
+            → k.shape.journal ≡ journal
+            → IsHeld S.keeps zone.now result k }
     {
         Behind {
             tip: None,

@@ -15,7 +15,9 @@ use dns_zone::{Zone, ZoneIndex};
 pub fn flush_zone<I: ZoneIndex, S: ZoneStore>(zone: &mut Zone<I>, behind: &mut Behind<I, S>) -> bool
     ensures held { (k : Kept) → IsHeld S.keeps zone.old behind.old k → IsHeld S.keeps zone.new behind.new (flushed result k) }
     // A crash at any moment of it leaves a device that opens as the versions shown and some of those staged.
-    ensures any_moment { (k : Kept) → S.keeps behind.old.store k → LeavesOnly S.moment S.left_since behind.old.store behind.new.store (OpensAsLeft S.opens k) }
+    ensures any_moment { (k : Kept)
+        → S.keeps behind.old.store k
+        → LeavesOnly S.moment S.left_since behind.old.store behind.new.store (OpensAsLeft S.opens k) }
     ensures failed { result ≡ true → HasFailed (S.failed behind.old.store) (S.failed behind.new.store) }
 {
     match behind.store.flush() {

@@ -94,7 +94,9 @@ pub fn stage<I: ZoneIndex, S: ZoneStore>(
 ) -> Result<(), StagingError>
     requires next { IsNext (newer zone.now behind.old.tip) change.now (I.records records) }
     requires change { IsChange (newer zone.now behind.old.tip).records (I.records records) change.now }
-    ensures staged { (k : Kept) → IsHeld S.keeps zone.now behind.old k → OnOk result (IsHeld S.keeps zone.now behind.new (staged_with (I.records records) k)) }
+    ensures staged { (k : Kept)
+        → IsHeld S.keeps zone.now behind.old k
+        → OnOk result (IsHeld S.keeps zone.now behind.new (staged_with (I.records records) k)) }
     ensures stays { (k : Kept) → IsHeld S.keeps zone.now behind.old k → OnErr result (IsHeld S.keeps zone.now behind.new k) }
     ensures room { (k : Kept) → IsHeld S.keeps zone.now behind.old k → HasRoomBy k (I.records records) result }
     ensures still { StandsStill S.moment S.left_since behind.old.store behind.new.store }

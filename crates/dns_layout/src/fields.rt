@@ -74,8 +74,10 @@ impl Fields {
     // The fields of a sector with this tag.
     #[tactic(auto, unfolding(crate::specs::Sector::tag))]
     pub(crate) fn decode(kind: &[u8; 4], sector: &Sector) -> Result<Fields, LayoutError>
-        ensures form { IfOk result (λ fields. sector.now ≡ sector_of kind.now fields.open_count fields.sequence fields.number fields.payload) }
-        ensures says { IfOk result (λ fields. HasFields sector.now kind.now fields.open_count fields.sequence fields.number fields.payload) }
+        ensures form { IfOk result
+            (λ fields. sector.now ≡ sector_of kind.now fields.open_count fields.sequence fields.number fields.payload) }
+        ensures says { IfOk result
+            (λ fields. HasFields sector.now kind.now fields.open_count fields.sequence fields.number fields.payload) }
         ensures other { IfErr result (λ e. (e ≡ LayoutError.NotThisKind) × (tag sector.now ≢ kind.now)) }
     {
         if sector[..4] != kind[..] {

@@ -20,7 +20,8 @@ records_found records kinds.NameError node t = []
 
 -- The records of one name that was searched are those that it finds in its zone.
 abbrev pub IsHeld : List Zone → ℕ → Found → Type 0
-IsHeld zones t told = (z : Zone) → slice_get zones told.zone ≡ Some z → told.records.now ≡ records_found z.records told.kind told.node t
+IsHeld zones t told =
+    (z : Zone) → slice_get zones told.zone ≡ Some z → told.records.now ≡ records_found z.records told.kind told.node t
 
 -- Those of all of them.
 abbrev pub AreHeld : List Zone → ℕ → List Found → Type 0

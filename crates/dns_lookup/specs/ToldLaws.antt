@@ -37,7 +37,11 @@ pub record ToldAt (zones : List Zone) (fs : List lookup.Found) (i : ℕ) (one : 
   pub is : IsTold zones found one
   pub next : take (i + 1) fs ≡ take i fs ++ found ∷ []
 
-pub told_at : (zones : List Zone) (fs : List lookup.Found) (told : List Found) (i : ℕ) (one : Found) → AreTold zones fs told → i < length told → one ≡ get_or told i one → ToldAt zones fs i one
+pub told_at : (zones : List Zone) (fs : List lookup.Found) (told : List Found) (i : ℕ) (one : Found)
+    → AreTold zones fs told
+    → i < length told
+    → one ≡ get_or told i one
+    → ToldAt zones fs i one
 told_at zones [] [] i one h inside e = absurd (omega (arith, inside))
 told_at zones [] (t ∷ told) i one h inside e = absurd h
 told_at zones (f ∷ fs) [] i one h inside e = absurd h

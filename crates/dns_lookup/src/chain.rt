@@ -45,7 +45,10 @@ fn search<'a, I: ZoneIndex>(
     name: NameRef<'a>,
     qtype: u16,
 ) -> Option<Found<'a>>
-    ensures found { IfSome result (λ f. (z : Held) × (zone_of zones.now name.entry ≡ Some z) × IsTold zones.now (record { zone = z; name = name.entry; outcome = outcome z name.entry qtype }) f) }
+    ensures found { IfSome result
+        (λ f. (z : Held)
+        × (zone_of zones.now name.entry ≡ Some z)
+        × IsTold zones.now (record { zone = z; name = name.entry; outcome = outcome z name.entry qtype }) f) }
     ensures held { IfSome result (IsHeld zones.now qtype) }
     ensures none { IfNone result (zone_of zones.now name.entry ≡ None) }
 {
@@ -62,8 +65,12 @@ fn search<'a, I: ZoneIndex>(
 
 /// The target of an alias by its CNAME.
 fn target<'a>(aliases: &'a [Record]) -> Option<NameRef<'a>>
-    ensures found { IfSome result (λ name. (z : Held) (node : Labels) → aliases.now ≡ rrset z.records node type_cname → name ≡ alias_at z node) }
-    ensures none { IfNone result ((z : Held) (node : Labels) → aliases.now ≡ rrset z.records node type_cname → owns_type z.records node type_cname ≡ false) }
+    ensures found { IfSome result
+        (λ name. (z : Held) (node : Labels) → aliases.now ≡ rrset z.records node type_cname → name ≡ alias_at z node) }
+    ensures none { IfNone result
+        ((z : Held) (node : Labels)
+        → aliases.now ≡ rrset z.records node type_cname
+        → owns_type z.records node type_cname ≡ false) }
 {
     aliases.first()?.data().as_name()
 }
@@ -82,7 +89,11 @@ fn is_among(found: &[Found<'_>], name: &NameRef<'_>) -> bool
 
 /// The name that is searched next: the target of an alias, unless it was searched before.
 fn next_name<'a>(last: &Found<'a>, before: &[Found<'a>]) -> Option<NameRef<'a>>
-    ensures { (zones : List Held) (f : Stated) (t : ℕ) → IsTold zones f last.now → IsHeld zones t last.now → f.outcome ≡ outcome f.zone f.name t → result ≡ next_name f (names_told before.now ++ last.now.name ∷ []) }
+    ensures { (zones : List Held) (f : Stated) (t : ℕ)
+        → IsTold zones f last.now
+        → IsHeld zones t last.now
+        → f.outcome ≡ outcome f.zone f.name t
+        → result ≡ next_name f (names_told before.now ++ last.now.name ∷ []) }
 {
     let Kind::Alias = last.kind else {
         return None;

@@ -30,7 +30,10 @@ pub enum Kind {
 /// The records that a type asks for among those of a node: all, or those of the type (RFC 1034 section 4.3.2, step 3a; RFC 1035
 /// section 3.2.3).
 fn asked(owned: &[Record], qtype: u16) -> &[Record]
-    ensures { (set : List Stated) (node : Labels) → is_ordered set ≡ true → owned.now ≡ records_at set node → result.now ≡ asked set node qtype }
+    ensures { (set : List Stated) (node : Labels)
+        → is_ordered set ≡ true
+        → owned.now ≡ records_at set node
+        → result.now ≡ asked set node qtype }
 {
     if qtype == types::ANY {
         return owned;
@@ -41,7 +44,10 @@ fn asked(owned: &[Record], qtype: u16) -> &[Record]
 /// What becomes of a name for which a node answers that owns these records, and those that the name finds (RFC 1034 section
 /// 4.3.2, step 3a).
 fn kind_by(owned: &[Record], qtype: u16) -> (Kind, &[Record])
-    ensures { (set : List Stated) (node name : Labels) → is_ordered set ≡ true → owned.now ≡ records_at set node → IsKind (at_node set node qtype) name result.0 node × (result.1.now ≡ records_found set result.0 node qtype) }
+    ensures { (set : List Stated) (node name : Labels)
+        → is_ordered set ≡ true
+        → owned.now ≡ records_at set node
+        → IsKind (at_node set node qtype) name result.0 node × (result.1.now ≡ records_found set result.0 node qtype) }
 {
     let aliases = of_type(owned, types::CNAME);
     if !aliases.is_empty() & (qtype != types::CNAME) & (qtype != types::ANY) {

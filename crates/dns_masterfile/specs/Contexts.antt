@@ -22,7 +22,8 @@ stated_said (found.Item r written) = Item r written
 
 -- The entry says that, whatever its line, and nothing of it is left.
 abbrev pub Says : (Entry → Outcome Said) → Bool → Left → Left → Found → Type 0
-Says read blank old new said = ((line : ℕ) → read (entry_at line blank old) ≡ Ok (stated_said said)) × (new ≡ no_words true old.behind)
+Says read blank old new said =
+    ((line : ℕ) → read (entry_at line blank old) ≡ Ok (stated_said said)) × (new ≡ no_words true old.behind)
 
 -- Memory was refused, or that is the entry's fault.
 abbrev pub Faults : (Entry → Outcome Said) → Bool → Left → FileError → Type 0

@@ -34,8 +34,10 @@ AreValues (f ∷ fs) words octets =
 
 abbrev pub IsFieldText : Labels → Field → List Word → List ℕ → Type 0
 IsFieldText origin (Values vs) words octets = AreValues vs words octets
-IsFieldText origin Name words octets = (word : Word) × (name : Labels) × (words ≡ word ∷ []) × IsNameWord origin word name × (octets ≡ wire name)
-IsFieldText origin UncompressedName words octets = (word : Word) × (name : Labels) × (words ≡ word ∷ []) × IsNameWord origin word name × (octets ≡ wire name)
+IsFieldText origin Name words octets =
+    (word : Word) × (name : Labels) × (words ≡ word ∷ []) × IsNameWord origin word name × (octets ≡ wire name)
+IsFieldText origin UncompressedName words octets =
+    (word : Word) × (name : Labels) × (words ≡ word ∷ []) × IsNameWord origin word name × (octets ≡ wire name)
 IsFieldText origin Strings words octets =
     (strings : List (List ℕ)) × (words ≢ []) × (each_of (λ w. string_of_text (text_of w)) words ≡ Some strings)
     × (octets ≡ flat_map string strings) × (length octets ≤ 4096)
@@ -49,7 +51,8 @@ IsDataText origin (f ∷ fs) words rdata =
 
 -- The words are the data of the type: the parts of its form, or octets where it has none.
 abbrev pub IsRDataText : Labels → ℕ → List Word → List ℕ → Type 0
-IsRDataText origin rtype words rdata = MatchOption (form rtype) (IsOpaqueText words rdata) (λ fields. IsDataText origin fields words rdata)
+IsRDataText origin rtype words rdata =
+    MatchOption (form rtype) (IsOpaqueText words rdata) (λ fields. IsDataText origin fields words rdata)
 
 -- Words that are read without case.
 abbrev pub is_keyword : List ℕ → Word → Bool

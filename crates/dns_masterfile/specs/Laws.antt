@@ -10,14 +10,21 @@ use Rattle.dns_masterfile.specs.Printed.{in_print_order, printed_zone}
 
 -- A file means what is read of it, which is one list of records at most.
 abbrev pub FileIsRead : Type 0
-FileIsRead = (octets : List ℕ) (origin : Labels) (records : List Record) → FileMeans octets origin records ↔ (read_file octets origin ≡ Ok records)
+FileIsRead =
+    (octets : List ℕ) (origin : Labels) (records : List Record)
+    → FileMeans octets origin records ↔ (read_file octets origin ≡ Ok records)
 
 abbrev pub FileMeansOnce : Type 0
-FileMeansOnce = (octets : List ℕ) (origin : Labels) (xs ys : List Record) → FileMeans octets origin xs → FileMeans octets origin ys → xs ≡ ys
+FileMeansOnce =
+    (octets : List ℕ) (origin : Labels) (xs ys : List Record)
+    → FileMeans octets origin xs
+    → FileMeans octets origin ys
+    → xs ≡ ys
 
 -- A zone in print means its records, whatever the origin: none more, none less, the SOA first.
 abbrev pub PrintMeansZone : Type 0
-PrintMeansZone = (zone : Zone) → IsZone zone → (origin : Labels) → FileMeans (printed_zone zone.records) origin (in_print_order zone.records)
+PrintMeansZone =
+    (zone : Zone) → IsZone zone → (origin : Labels) → FileMeans (printed_zone zone.records) origin (in_print_order zone.records)
 
 abbrev pub PrintKeepsRecords : Type 0
 PrintKeepsRecords = (zone : Zone) → IsZone zone → IsSetOf (in_print_order zone.records) zone.records

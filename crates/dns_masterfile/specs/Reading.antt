@@ -224,7 +224,8 @@ before records (Err fault) = Err fault
 
 abbrev pub read_entries : Context → List Entry → Result (List Record) (ℕ × FileError)
 read_entries ctx [] = Ok []
-read_entries ctx (e ∷ rest) = on_line e.line (said_by ctx e e.words) >>= λ said. before (records_in said) (read_entries (after ctx said) rest)
+read_entries ctx (e ∷ rest) =
+    on_line e.line (said_by ctx e e.words) >>= λ said. before (records_in said) (read_entries (after ctx said) rest)
 
 abbrev pub read_file : List ℕ → Labels → Result (List Record) (ℕ × FileError)
 read_file octets origin = read_entries (at_start origin) (entries_of (pieces_of octets))

@@ -13,7 +13,8 @@ grown_by (c ∷ cs) ps = grown c (grown_by cs ps)
 
 -- What the step makes of the pieces from here on.
 abbrev pub IsWordStep : List ℕ → Step → Type 0
-IsWordStep rest (Take n) = (0 < n) × (n ≤ length rest) × (pieces_from InWord rest ≡ grown_by (take n rest) (pieces_from InWord (drop n rest)))
+IsWordStep rest (Take n) =
+    (0 < n) × (n ≤ length rest) × (pieces_from InWord rest ≡ grown_by (take n rest) (pieces_from InWord (drop n rest)))
 IsWordStep rest End = pieces_from InWord rest ≡ bare_end ∷ pieces_of rest
 IsWordStep rest Stop = pieces_from InWord rest ≡ Fault ∷ []
 
@@ -27,10 +28,12 @@ escape_takes _ = Some 1
 -- Behind a `\` in a bare word: so many octets belong to it, or a fault stands here.
 abbrev pub IsEscape : List ℕ → Option ℕ → Type 0
 IsEscape rest None = pieces_from BehindEscape rest ≡ Fault ∷ []
-IsEscape rest (Some n) = (n ≤ length rest) × (pieces_from BehindEscape rest ≡ grown_by (take n rest) (pieces_from InWord (drop n rest)))
+IsEscape rest (Some n) =
+    (n ≤ length rest) × (pieces_from BehindEscape rest ≡ grown_by (take n rest) (pieces_from InWord (drop n rest)))
 
 -- The same in a quoted string.
 abbrev pub IsQuotedStep : List ℕ → Step → Type 0
-IsQuotedStep rest (Take n) = (0 < n) × (n ≤ length rest) × (pieces_from InQuotes rest ≡ grown_by (take n rest) (pieces_from InQuotes (drop n rest)))
+IsQuotedStep rest (Take n) =
+    (0 < n) × (n ≤ length rest) × (pieces_from InQuotes rest ≡ grown_by (take n rest) (pieces_from InQuotes (drop n rest)))
 IsQuotedStep rest End = (0 < length rest) × (pieces_from InQuotes rest ≡ quoted_end ∷ pieces_of (drop 1 rest))
 IsQuotedStep rest Stop = pieces_from InQuotes rest ≡ Fault ∷ []

@@ -37,14 +37,16 @@ IsSized fs octets = length octets ≡ octet_count fs
 
 -- The text is a number or an address, whose octets stand behind those before.
 abbrev pub PutsValue : Value → List ℕ → List ℕ → List ℕ → Type 0
-PutsValue f text before after = (octets : List ℕ) × (octets_of_text f text ≡ Some octets) × (after ≡ before ++ octets) × (length octets ≡ size_of f)
+PutsValue f text before after =
+    (octets : List ℕ) × (octets_of_text f text ≡ Some octets) × (after ≡ before ++ octets) × (length octets ≡ size_of f)
 
 abbrev pub RefusesValue : Value → List ℕ → FileError → Type 0
 RefusesValue f text e = (e ≡ OutOfMemory) ⊎ ((octets_of_text f text ≡ None) × (e ≡ fault_of f))
 
 -- The octets of a string behind so many octets of strings.
 abbrev pub string_at : ℕ → List ℕ → Outcome (List ℕ)
-string_at size text = ok_or (string_of_text text) BadData >>= λ octets. fits_data (nat_lt 4096 (size + 1 + length octets)) >>= λ _. Ok octets
+string_at size text =
+    ok_or (string_of_text text) BadData >>= λ octets. fits_data (nat_lt 4096 (size + 1 + length octets)) >>= λ _. Ok octets
 
 -- The text is a string, which stands behind the octets before, and so many octets are strings then.
 abbrev pub PutsString : List ℕ → ℕ → List ℕ → List ℕ → ℕ → Type 0

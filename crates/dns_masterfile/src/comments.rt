@@ -7,7 +7,9 @@ use crate::kind::{Kind, kind_of};
 
 /// Whether the first octet belongs to the comment.
 fn goes_on(rest: &[u8]) -> bool
-    ensures { MatchBool result ((0 < length rest.now) × (pieces_from InComment rest.now ≡ pieces_from InComment (drop 1 rest.now))) (pieces_from InComment rest.now ≡ pieces_of rest.now) }
+    ensures { MatchBool result
+        ((0 < length rest.now) × (pieces_from InComment rest.now ≡ pieces_from InComment (drop 1 rest.now)))
+        (pieces_from InComment rest.now ≡ pieces_of rest.now) }
 {
     let Some((first, _)) = rest.split_first() else {
         return false;

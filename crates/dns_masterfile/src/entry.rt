@@ -29,7 +29,8 @@ impl<'a> Scanner<'a> {
 
     /// Takes the owner, which is the last one where the line begins with a blank.
     fn take_owner(&mut self, alloc: Heap, context: &Context, blank: bool) -> Result<Name, FileError>
-        ensures { MatchResult result (Takes (take_owner (stated_context context.now) blank) self.old self.new) (Refuses (take_owner (stated_context context.now) blank self.old.words)) }
+        ensures { MatchResult result (Takes (take_owner (stated_context context.now) blank) self.old self.new)
+            (Refuses (take_owner (stated_context context.now) blank self.old.words)) }
     {
         if !blank {
             return self.take_name(alloc, &context.origin);
@@ -51,7 +52,8 @@ impl<'a> Scanner<'a> {
 
     /// Takes a record.
     fn take_item(&mut self, alloc: Heap, context: &Context, blank: bool) -> Result<Said, FileError>
-        ensures { MatchResult result (Says (λ e. item_in (stated_context context.now) e self.old.words) blank self.old self.new) (Faults (λ e. item_in (stated_context context.now) e self.old.words) blank self.old) }
+        ensures { MatchResult result (Says (λ e. item_in (stated_context context.now) e self.old.words) blank self.old self.new)
+            (Faults (λ e. item_in (stated_context context.now) e self.old.words) blank self.old) }
     {
         let owner = self.take_owner(alloc, context, blank)?;
         let written = self.take_middle()?;
@@ -71,7 +73,10 @@ impl<'a> Scanner<'a> {
         context: &Context,
         word: Word<'_>,
     ) -> Result<Said, FileError>
-        ensures { MatchResult result (Says (λ e. directive_in (stated_context context.now) e (stated_word word.entry) self.old.words) false self.old self.new) (Faults (λ e. directive_in (stated_context context.now) e (stated_word word.entry) self.old.words) false self.old) }
+        ensures { MatchResult result
+            (Says (λ e. directive_in (stated_context context.now) e (stated_word word.entry) self.old.words) false self.old
+            self.new)
+            (Faults (λ e. directive_in (stated_context context.now) e (stated_word word.entry) self.old.words) false self.old) }
     {
         if word.is_keyword(b"$ORIGIN") {
             let name = self.take_name(alloc, &context.origin)?;
@@ -93,7 +98,8 @@ impl<'a> Scanner<'a> {
         context: &Context,
         blank: bool,
     ) -> Result<Said, FileError>
-        ensures { MatchResult result (Says (λ e. said_by (stated_context context.now) e self.old.words) blank self.old self.new) (Faults (λ e. said_by (stated_context context.now) e self.old.words) blank self.old) }
+        ensures { MatchResult result (Says (λ e. said_by (stated_context context.now) e self.old.words) blank self.old self.new)
+            (Faults (λ e. said_by (stated_context context.now) e self.old.words) blank self.old) }
     {
         let Some((word, behind)) = self.first_word() else {
             self.end()?;

@@ -47,7 +47,9 @@ fn are_hex_digits(text: &[u8]) -> bool
 
 /// The octets of hexadecimal digits, which are to be so many.
 fn decoded(alloc: Heap, size: u16, digits: &[u8]) -> Result<Vec<u8, Heap>, FileError>
-    ensures { MatchResult result (λ octets. (sized size (decode_of digits.now) ≡ Some octets.items) × (length octets.items ≡ size)) (λ e. (e ≡ FileError.OutOfMemory) ⊎ ((e ≡ FileError.BadData) × (sized size (decode_of digits.now) ≡ None))) }
+    ensures { MatchResult result
+        (λ octets. (sized size (decode_of digits.now) ≡ Some octets.items) × (length octets.items ≡ size))
+        (λ e. (e ≡ FileError.OutOfMemory) ⊎ ((e ≡ FileError.BadData) × (sized size (decode_of digits.now) ≡ None))) }
 {
     match hex::decode(alloc, digits) {
         Ok(octets) if octets.len() == size as usize => Ok(octets),
@@ -83,7 +85,10 @@ impl<'a> Word<'a> {
 impl<'a> Scanner<'a> {
     /// Takes the word before opaque data.
     fn take_mark(&mut self) -> Result<(), FileError>
-        ensures { MatchResult result (λ _. (take_mark self.old.whole self.old.words ≡ Ok self.new.words) × (self.new ≡ record self.old { words = self.new.words })) (λ e. take_mark self.old.whole self.old.words ≡ Err e) }
+        ensures { MatchResult result
+            (λ _. (take_mark self.old.whole self.old.words ≡ Ok self.new.words)
+            × (self.new ≡ record self.old { words = self.new.words }))
+            (λ e. take_mark self.old.whole self.old.words ≡ Err e) }
     {
         let Some((word, behind)) = self.first_word() else {
             self.end()?;
@@ -98,7 +103,8 @@ impl<'a> Scanner<'a> {
 
     /// Takes the number of octets that follow.
     fn take_size(&mut self) -> Result<u16, FileError>
-        ensures { MatchResult result (λ size. Takes take_size self.old self.new size × (size ≤ 4096)) (λ e. take_size self.old.words ≡ Err e) }
+        ensures { MatchResult result (λ size. Takes take_size self.old self.new size × (size ≤ 4096))
+            (λ e. take_size self.old.words ≡ Err e) }
     {
         let word = self.take_word()?;
         let Some(size) = small_number(word.text()) else {
@@ -112,7 +118,9 @@ impl<'a> Scanner<'a> {
 
     /// Takes the words that are left, which are hexadecimal digits.
     fn take_digits(&mut self, alloc: Heap) -> Result<Octets, FileError>
-        ensures { MatchResult result (λ digits. (digits_in self.old.words ≡ Ok digits.items) × (self.new ≡ record self.old { words = [] })) (Refuses (digits_in self.old.words)) }
+        ensures { MatchResult result
+            (λ digits. (digits_in self.old.words ≡ Ok digits.items) × (self.new ≡ record self.old { words = [] }))
+            (Refuses (digits_in self.old.words)) }
     {
         let mut digits = SmallVec::new(alloc);
         'words: while let Some((word, behind)) = self.first_word() {
@@ -128,7 +136,9 @@ impl<'a> Scanner<'a> {
 
     /// Takes octets, which are all that is left of the entry.
     fn take_opaque(&mut self, alloc: Heap) -> Result<Vec<u8, Heap>, FileError>
-        ensures { MatchResult result (λ octets. Takes (take_opaque self.old.whole) self.old self.new octets.items × (length octets.items ≤ 4096)) (Refuses (take_opaque self.old.whole self.old.words)) }
+        ensures { MatchResult result
+            (λ octets. Takes (take_opaque self.old.whole) self.old self.new octets.items × (length octets.items ≤ 4096))
+            (Refuses (take_opaque self.old.whole self.old.words)) }
     {
         self.take_mark()?;
         let size = self.take_size()?;
@@ -141,7 +151,8 @@ impl<'a> Scanner<'a> {
     pub(crate) fn take_opaque_data(&mut self, alloc: Heap, rtype: u16) -> Result<RData, FileError>
         requires no_form { form_of rtype ≡ None }
         requires rtype { is_data_type rtype ≡ true }
-        ensures { MatchResult result (λ d. (d.rtype ≡ rtype) × Takes (take_opaque self.old.whole) self.old self.new d.octets) (Refuses (take_opaque self.old.whole self.old.words)) }
+        ensures { MatchResult result (λ d. (d.rtype ≡ rtype) × Takes (take_opaque self.old.whole) self.old self.new d.octets)
+            (Refuses (take_opaque self.old.whole self.old.words)) }
     {
         let octets = self.take_opaque(alloc)?;
         match RData::new(alloc, rtype, &octets) {

@@ -69,7 +69,8 @@ fn split_bare(octets: &[u8]) -> (Piece<'_>, &[u8])
 
 /// The piece at the front, and the octets behind it.
 pub(crate) fn split_piece(octets: &[u8]) -> Option<(Piece<'_>, &[u8])>
-    ensures { MatchOption result (pieces_of octets.now ≡ []) (λ r. (pieces_of octets.now ≡ stated_piece r.0 ∷ pieces_of r.1.now) × (length r.1.now < length octets.now)) }
+    ensures { MatchOption result (pieces_of octets.now ≡ [])
+        (λ r. (pieces_of octets.now ≡ stated_piece r.0 ∷ pieces_of r.1.now) × (length r.1.now < length octets.now)) }
 {
     let (first, behind) = octets.split_first()?;
     match kind_of(*first) {

@@ -61,7 +61,8 @@ fn ipv6(text: &[u8]) -> Option<[u8; 16]>
 
 /// Puts the octets of a number or an address behind those before.
 fn put_value(value: Value, text: &[u8], octets: &mut Octets) -> Result<(), FileError>
-    ensures { MatchResult result (λ _. PutsValue (stated_value value) text.now octets.old.items octets.new.items) (RefusesValue (stated_value value) text.now) }
+    ensures { MatchResult result (λ _. PutsValue (stated_value value) text.now octets.old.items octets.new.items)
+        (RefusesValue (stated_value value) text.now) }
 {
     match value {
         Value::U16 => match number16(text) {
@@ -106,7 +107,9 @@ fn put_string(
 impl<'a> Scanner<'a> {
     /// Takes numbers and addresses.
     fn take_values(&mut self, values: &[Value], octets: &mut Octets) -> Result<(), FileError>
-        ensures { MatchResult result (λ _. Puts (take_values (stated_values values.now)) (IsSized (stated_values values.now)) self.old self.new octets.old.items octets.new.items) (Refuses (take_values (stated_values values.now) self.old.words)) }
+        ensures { MatchResult result
+            (λ _. Puts (take_values (stated_values values.now)) (IsSized (stated_values values.now)) self.old self.new
+            octets.old.items octets.new.items) (Refuses (take_values (stated_values values.now) self.old.words)) }
     {
         'parts: for value in values {
             let word = self.take_word()?;
@@ -122,7 +125,9 @@ impl<'a> Scanner<'a> {
         origin: &Name,
         octets: &mut Octets,
     ) -> Result<(), FileError>
-        ensures { MatchResult result (λ _. Puts (take_wire origin.now) FitName self.old self.new octets.old.items octets.new.items) (Refuses (take_wire origin.now self.old.words)) }
+        ensures { MatchResult result
+            (λ _. Puts (take_wire origin.now) FitName self.old self.new octets.old.items octets.new.items)
+            (Refuses (take_wire origin.now self.old.words)) }
     {
         let name = self.take_name(alloc, origin)?;
         Ok(octets.extend_from_slice(name.as_wire())?)
@@ -130,7 +135,8 @@ impl<'a> Scanner<'a> {
 
     /// Takes the strings that are left, one or more.
     fn take_strings(&mut self, alloc: Heap, octets: &mut Octets) -> Result<(), FileError>
-        ensures { MatchResult result (λ _. Puts strings_in FitStrings self.old self.new octets.old.items octets.new.items) (Refuses (strings_in self.old.words)) }
+        ensures { MatchResult result (λ _. Puts strings_in FitStrings self.old self.new octets.old.items octets.new.items)
+            (Refuses (strings_in self.old.words)) }
     {
         let Some(_) = self.first_word() else {
             return Err(FileError::Syntax);
@@ -151,7 +157,9 @@ impl<'a> Scanner<'a> {
         field: Field,
         octets: &mut Octets,
     ) -> Result<(), FileError>
-        ensures { MatchResult result (λ _. Puts (take_field origin.now (stated_field field)) (FitField (stated_field field)) self.old self.new octets.old.items octets.new.items) (Refuses (take_field origin.now (stated_field field) self.old.words)) }
+        ensures { MatchResult result
+            (λ _. Puts (take_field origin.now (stated_field field)) (FitField (stated_field field)) self.old self.new
+            octets.old.items octets.new.items) (Refuses (take_field origin.now (stated_field field) self.old.words)) }
     {
         match field {
             Field::Values(values) => self.take_values(values, octets),
@@ -169,7 +177,10 @@ impl<'a> Scanner<'a> {
         fields: &[Field],
         octets: &mut Octets,
     ) -> Result<(), FileError>
-        ensures { MatchResult result (λ _. Puts (take_data origin.now (stated_fields fields.now)) (FitFields (stated_fields fields.now)) self.old self.new octets.old.items octets.new.items) (Refuses (take_data origin.now (stated_fields fields.now) self.old.words)) }
+        ensures { MatchResult result
+            (λ _. Puts (take_data origin.now (stated_fields fields.now)) (FitFields (stated_fields fields.now)) self.old
+            self.new octets.old.items octets.new.items)
+            (Refuses (take_data origin.now (stated_fields fields.now) self.old.words)) }
     {
         'fields: for field in fields {
             self.take_field(alloc, origin, *field, octets)?;
@@ -186,7 +197,9 @@ impl<'a> Scanner<'a> {
         fields: &[Field],
     ) -> Result<RData, FileError>
         requires { form_of rtype ≡ Some (stated_fields fields.now) }
-        ensures { MatchResult result (λ d. (d.rtype ≡ rtype) × Takes (take_data origin.now (stated_fields fields.now)) self.old self.new d.octets) (Refuses (take_data origin.now (stated_fields fields.now) self.old.words)) }
+        ensures { MatchResult result
+            (λ d. (d.rtype ≡ rtype) × Takes (take_data origin.now (stated_fields fields.now)) self.old self.new d.octets)
+            (Refuses (take_data origin.now (stated_fields fields.now) self.old.words)) }
     {
         let mut octets = SmallVec::new(alloc);
         self.take_fields(alloc, origin, fields, &mut octets)?;
@@ -207,7 +220,9 @@ impl<'a> Scanner<'a> {
         rtype: u16,
     ) -> Result<RData, FileError>
         requires { is_data_type rtype ≡ true }
-        ensures { MatchResult result (λ d. (d.rtype ≡ rtype) × Takes (take_rdata origin.now self.old.whole rtype) self.old self.new d.octets) (Refuses (take_rdata origin.now self.old.whole rtype self.old.words)) }
+        ensures { MatchResult result
+            (λ d. (d.rtype ≡ rtype) × Takes (take_rdata origin.now self.old.whole rtype) self.old self.new d.octets)
+            (Refuses (take_rdata origin.now self.old.whole rtype self.old.words)) }
     {
         match form(rtype) {
             Some(fields) => self.take_formed(alloc, origin, rtype, fields),

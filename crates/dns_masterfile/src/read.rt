@@ -17,7 +17,8 @@ fn read_records(
     octets: &[u8],
     origin: &Name,
 ) -> Result<Vec<Record, Heap>, (usize, FileError)>
-    ensures { MatchResult result (λ records. read_file octets.now origin.now ≡ Ok records.items) (λ e. (e.1 ≡ FileError.OutOfMemory) ⊎ (read_file octets.now origin.now ≡ Err e)) }
+    ensures { MatchResult result (λ records. read_file octets.now origin.now ≡ Ok records.items)
+        (λ e. (e.1 ≡ FileError.OutOfMemory) ⊎ (read_file octets.now origin.now ≡ Err e)) }
 {
     let (mut start, mut scanner) = Scanner::first(octets);
     let Ok(mut context) = at_start(origin) else {
@@ -42,8 +43,10 @@ fn read_records(
     }
 }
 
-/// The records of a master file (RFC 1035 section 5.1), in the file's order. A name that no dot ends is followed by the origin, which is the
-/// given one before the first `$ORIGIN`. The first entry that is refused is told by the line on which it begins and its first fault from left
+/// The records of a master file (RFC 1035 section 5.1), in the file's order. A name that no dot ends is followed by the origin,
+/// which is the
+/// given one before the first `$ORIGIN`. The first entry that is refused is told by the line on which it begins and its first
+/// fault from left
 /// to right; `OutOfMemory` may come at any.
 pub fn read_zone(
     alloc: Heap,
@@ -52,9 +55,12 @@ pub fn read_zone(
 ) -> Result<Vec<Record, Heap>, (usize, FileError)>
     ensures found { IfOk result (λ records. FileMeans octets.now origin.now records.items) }
     // A file that means records is read, unless memory runs out.
-    ensures only { (records : List Stated) → FileMeans octets.now origin.now records → IfErr result (λ e. e.1 ≡ FileError.OutOfMemory) }
+    ensures only { (records : List Stated)
+        → FileMeans octets.now origin.now records
+        → IfErr result (λ e. e.1 ≡ FileError.OutOfMemory) }
     // The same as it is computed, with the line and the fault of a refusal.
-    ensures read { MatchResult result (λ records. read_file octets.now origin.now ≡ Ok records.items) (λ e. (e.1 ≡ FileError.OutOfMemory) ⊎ (read_file octets.now origin.now ≡ Err e)) }
+    ensures read { MatchResult result (λ records. read_file octets.now origin.now ≡ Ok records.items)
+        (λ e. (e.1 ≡ FileError.OutOfMemory) ⊎ (read_file octets.now origin.now ≡ Err e)) }
 {
     read_records(alloc, octets, origin)
 }

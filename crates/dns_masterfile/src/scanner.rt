@@ -53,7 +53,8 @@ pub(crate) enum Next<'a> {
 
 /// Whether a line that begins with the piece begins with a blank.
 fn is_gap(piece: &Piece<'_>) -> bool
-    ensures { (line : ℕ) (rest : List Stated) → begun line (stated_piece piece.now ∷ rest) ≡ record { line = line; blank = result; words = []; whole = true } }
+    ensures { (line : ℕ) (rest : List Stated)
+        → begun line (stated_piece piece.now ∷ rest) ≡ record { line = line; blank = result; words = []; whole = true } }
 {
     match piece {
         Piece::Gap => true,

@@ -27,7 +27,8 @@ impl<'a> Scanner<'a> {
 
     /// Takes the next word.
     pub(crate) fn take_word(&mut self) -> Result<Word<'a>, FileError>
-        ensures { MatchResult result (λ w. Takes next_word self.old self.new (stated_word w)) (λ e. next_word self.old.words ≡ Err e) }
+        ensures { MatchResult result (λ w. Takes next_word self.old self.new (stated_word w))
+            (λ e. next_word self.old.words ≡ Err e) }
     {
         let Some((word, behind)) = self.first_word() else {
             return Err(FileError::Syntax);
@@ -38,7 +39,8 @@ impl<'a> Scanner<'a> {
 
     /// Takes a name.
     pub(crate) fn take_name(&mut self, alloc: Heap, origin: &Name) -> Result<Name, FileError>
-        ensures { MatchResult result (Takes (take_name origin.now) self.old self.new) (Refuses (take_name origin.now self.old.words)) }
+        ensures { MatchResult result (Takes (take_name origin.now) self.old self.new)
+            (Refuses (take_name origin.now self.old.words)) }
     {
         let word = self.take_word()?;
         word.name(alloc, origin)

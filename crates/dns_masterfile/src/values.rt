@@ -60,7 +60,8 @@ pub(crate) fn small_number(text: &[u8]) -> Option<u16>
 
 /// The octets of a string.
 pub(crate) fn string(alloc: Heap, text: &[u8]) -> Result<Octets, FileError>
-    ensures { MatchResult result (λ s. string_of_text text.now ≡ Some s.items) (λ e. (e ≡ FileError.OutOfMemory) ⊎ ((e ≡ FileError.BadData) × (string_of_text text.now ≡ None))) }
+    ensures { MatchResult result (λ s. string_of_text text.now ≡ Some s.items)
+        (λ e. (e ≡ FileError.OutOfMemory) ⊎ ((e ≡ FileError.BadData) × (string_of_text text.now ≡ None))) }
 {
     let mut octets = SmallVec::new(alloc);
     let mut rest = text;
@@ -154,7 +155,9 @@ impl<'a> Word<'a> {
 
     /// The digits of a TTL, which no other word has.
     pub(crate) fn as_digits(&self) -> Option<&'a [u8]>
-        ensures { MatchOption result ((rest : List Stated) → take_ttl (stated_word self.now ∷ rest) ≡ Ok (None, stated_word self.now ∷ rest)) (λ text. (stated_word self.now ≡ Bare text.now) × (is_decimal text.now ≡ true)) }
+        ensures { MatchOption result
+            ((rest : List Stated) → take_ttl (stated_word self.now ∷ rest) ≡ Ok (None, stated_word self.now ∷ rest))
+            (λ text. (stated_word self.now ≡ Bare text.now) × (is_decimal text.now ≡ true)) }
     {
         match self {
             Word::Bare(text) => { if is_decimal(text) { Some(text) } else { None } }
@@ -164,7 +167,8 @@ impl<'a> Word<'a> {
 
     /// The name that it is.
     pub(crate) fn name(&self, alloc: Heap, origin: &Name) -> Result<Name, FileError>
-        ensures { MatchResult result (λ name. name_in origin.now (stated_word self.now) ≡ Ok name) (λ e. (e ≡ FileError.OutOfMemory) ⊎ (name_in origin.now (stated_word self.now) ≡ Err e)) }
+        ensures { MatchResult result (λ name. name_in origin.now (stated_word self.now) ≡ Ok name)
+            (λ e. (e ≡ FileError.OutOfMemory) ⊎ (name_in origin.now (stated_word self.now) ≡ Err e)) }
     {
         match self {
             Word::Bare(text) => match Name::from_text(alloc, text, origin) {

@@ -16,7 +16,8 @@ pub(crate) enum Step {
     Stop,
 }
 
-/// How many octets behind a `\` belong to it, by the kind of the first: none at a line end, one else, and no answer where it may not stand
+/// How many octets behind a `\` belong to it, by the kind of the first: none at a line end, one else, and no answer where it may
+/// not stand
 /// there.
 fn takes(kind: Kind) -> Option<usize>
     ensures { result ≡ escape_takes kind }
@@ -68,7 +69,8 @@ fn word_step(rest: &[u8]) -> Step
 /// How many octets the bare word at the front has, unless one in it or right behind it may not stand there.
 pub(crate) fn bare_len(octets: &[u8]) -> Option<usize>
     ensures within { IfSome result (λ n. n ≤ length octets.now) }
-    ensures word { MatchOption result (pieces_from InWord octets.now ≡ Fault ∷ []) (λ n. pieces_from InWord octets.now ≡ Text (Bare (take n octets.now)) ∷ pieces_of (drop n octets.now)) }
+    ensures word { MatchOption result (pieces_from InWord octets.now ≡ Fault ∷ [])
+        (λ n. pieces_from InWord octets.now ≡ Text (Bare (take n octets.now)) ∷ pieces_of (drop n octets.now)) }
 {
     let mut len = 0;
     'steps: loop {
@@ -104,7 +106,8 @@ fn quoted_step(rest: &[u8]) -> Step
 /// How many octets stand before the quote that ends the string at the front, if one does.
 pub(crate) fn quoted_len(octets: &[u8]) -> Option<usize>
     ensures within { IfSome result (λ n. n < length octets.now) }
-    ensures string { MatchOption result (pieces_from InQuotes octets.now ≡ Fault ∷ []) (λ n. pieces_from InQuotes octets.now ≡ Text (Quoted (take n octets.now)) ∷ pieces_of (drop (n + 1) octets.now)) }
+    ensures string { MatchOption result (pieces_from InQuotes octets.now ≡ Fault ∷ [])
+        (λ n. pieces_from InQuotes octets.now ≡ Text (Quoted (take n octets.now)) ∷ pieces_of (drop (n + 1) octets.now)) }
 {
     let mut len = 0;
     'steps: loop {

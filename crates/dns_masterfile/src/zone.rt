@@ -30,7 +30,9 @@ fn print_if<W: Write>(wanted: bool, r: &Record, out: &mut W) -> io::Result<()>
 
 /// Writes the records that are wanted, in their order.
 fn print_wanted<I: ZoneIndex, W: Write>(index: &I, soa: bool, out: &mut W) -> io::Result<()>
-    ensures { OnOk result (Appends (W.contents out.old) (W.contents out.new) (flat_map printed_record (filter (is_wanted soa) (I.records index.now)))) }
+    ensures { OnOk result
+        (Appends (W.contents out.old) (W.contents out.new)
+        (flat_map printed_record (filter (is_wanted soa) (I.records index.now)))) }
 {
     let mut last: Option<&Record> = None;
     'records: while let Some(record) = index.walk(last) {
@@ -40,7 +42,8 @@ fn print_wanted<I: ZoneIndex, W: Write>(index: &I, soa: bool, out: &mut W) -> io
     Ok(())
 }
 
-/// Writes a zone in its printed form: a line for each record, the SOA first, then the others by owner, type and data. Names are in full.
+/// Writes a zone in its printed form: a line for each record, the SOA first, then the others by owner, type and data. Names are
+/// in full.
 /// A fault of the writer is handed on.
 pub fn print_zone<I: ZoneIndex, W: Write>(zone: &Zone<I>, out: &mut W) -> io::Result<()>
     ensures printed { OnOk result (Appends (W.contents out.old) (W.contents out.new) (printed_zone zone.now.records)) }

@@ -37,4 +37,5 @@ after done tail (Some parts) = Some (joined done tail parts)
 -- With a letter taken, the parts of the whole stay what they are.
 abbrev pub TakesLetter : Builder → Labels → List ℕ → Letter → Option (List Letter) → Type 0
 TakesLetter b done tail letter behind =
-    (ended : Labels) × (last : List ℕ) × IsBuilt b ended last × (after done tail (parts_of (onto letter behind)) ≡ after ended last (parts_of behind))
+    (ended : Labels) × (last : List ℕ) × IsBuilt b ended last × (after done tail (parts_of (onto letter behind))
+    ≡ after ended last (parts_of behind))

@@ -3,7 +3,10 @@ use Rattle.std.proofs.Common.{ℕ, ◌<◌, ◌≤◌, List, [], ◌∷◌, ◌+
 use Rattle.std.specs.List.{AllByRecursion}
 use Rattle.dns_names.specs.Name.{Labels, IsLabel, wire}
 
-pub octets-append : (xs ys : List ℕ) → AllByRecursion (λ octet. octet < 256) xs → AllByRecursion (λ octet. octet < 256) ys → AllByRecursion (λ octet. octet < 256) (xs ++ ys)
+pub octets-append : (xs ys : List ℕ)
+    → AllByRecursion (λ octet. octet < 256) xs
+    → AllByRecursion (λ octet. octet < 256) ys
+    → AllByRecursion (λ octet. octet < 256) (xs ++ ys)
 octets-append [] ys h k = k
 octets-append (x ∷ xs) ys h k = (h.0, octets-append xs ys h.1 k)
 

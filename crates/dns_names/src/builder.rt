@@ -48,7 +48,8 @@ impl Builder {
     /// One more octet of the open label, in lower case.
     fn push(&mut self, octet: u8) -> Result<(), AllocError>
         requires { to_ascii_lowercase octet ≡ octet }
-        ensures { OnOk result ((done : Labels) (tail : List ℕ) → IsBuilt self.old done tail → IsBuilt self.new done (tail ++ octet ∷ [])) }
+        ensures { OnOk result
+            ((done : Labels) (tail : List ℕ) → IsBuilt self.old done tail → IsBuilt self.new done (tail ++ octet ∷ [])) }
     {
         self.octets.push(octet)?;
         Ok(())
@@ -57,7 +58,8 @@ impl Builder {
     /// The open label ends, and another begins.
     fn end_label(&mut self) -> Result<(), AllocError>
         requires { (done : Labels) × (tail : List ℕ) × IsBuilt self.old done tail }
-        ensures { OnOk result ((done : Labels) (tail : List ℕ) → IsBuilt self.old done tail → IsBuilt self.new (done ++ tail ∷ []) []) }
+        ensures { OnOk result
+            ((done : Labels) (tail : List ℕ) → IsBuilt self.old done tail → IsBuilt self.new (done ++ tail ∷ []) []) }
     {
         let len = self.octets.len() - self.start - 1;
         self.empty |= len == 0;
@@ -71,7 +73,10 @@ impl Builder {
     /// One more letter: an unescaped dot ends the label, and any other is an octet of it, in lower case.
     pub(crate) fn take_letter(&mut self, octet: u8, escaped: bool) -> Result<(), AllocError>
         requires { (done : Labels) × (tail : List ℕ) × IsBuilt self.old done tail }
-        ensures { OnOk result ((done : Labels) (tail : List ℕ) (behind : Option (List Letter)) → IsBuilt self.old done tail → TakesLetter self.new done tail (if escaped then Escaped octet else Itself octet) behind) }
+        ensures { OnOk result
+            ((done : Labels) (tail : List ℕ) (behind : Option (List Letter))
+            → IsBuilt self.old done tail
+            → TakesLetter self.new done tail (if escaped then Escaped octet else Itself octet) behind) }
     {
         if !escaped && octet == b'.' {
             return self.end_label();
@@ -82,7 +87,10 @@ impl Builder {
     /// The name: that of the origin stands behind an open label that has octets.
     pub(crate) fn finish(self, origin: &Name) -> Result<Name, NameError>
         requires { (done : Labels) × (tail : List ℕ) × IsBuilt self done tail }
-        ensures { (done : Labels) (tail : List ℕ) → IsBuilt self done tail → MatchResult result (λ name. limited (with_origin origin.now (done, tail)) ≡ Ok name) (λ e. (e ≡ NameError.OutOfMemory) ⊎ (limited (with_origin origin.now (done, tail)) ≡ Err e)) }
+        ensures { (done : Labels) (tail : List ℕ)
+            → IsBuilt self done tail
+            → MatchResult result (λ name. limited (with_origin origin.now (done, tail)) ≡ Ok name)
+            (λ e. (e ≡ NameError.OutOfMemory) ⊎ (limited (with_origin origin.now (done, tail)) ≡ Err e)) }
     {
         let Builder {
             mut octets,

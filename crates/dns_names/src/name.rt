@@ -39,7 +39,8 @@ impl Model for Name {
 
 /// Where the plain form of a name at the front of the octets has its zero octet.
 pub(crate) fn root_of(octets: &[u8]) -> Result<usize, NameError>
-    ensures found { IfOk result (λ stop. (stop ≤ 254) × (labels : Labels) × LabelsAt octets.now 0 labels stop × (slice_get octets.now stop ≡ Some 0)) }
+    ensures found { IfOk result
+        (λ stop. (stop ≤ 254) × (labels : Labels) × LabelsAt octets.now 0 labels stop × (slice_get octets.now stop ≡ Some 0)) }
     ensures refused { IfErr result (Explains octets.now) }
     ensures other { IfErr result (λ e. e ≡ NameError.OutOfMemory → ⊥) }
 {
@@ -94,15 +95,20 @@ impl Name {
     /// and `.` alone is the root. Refused are, in this order, a misused `\\` (`BadEscape`), a label without octets
     /// (`EmptyLabel`), one of more than 63 (`LabelTooLong`), and a name of more than 255 in plain form (`NameTooLong`).
     pub fn from_text(alloc: Heap, text: &[u8], origin: &Name) -> Result<Name, NameError>
-        ensures read { MatchResult result (λ name. name_of_text origin.now text.now ≡ Ok name) (λ e. (e ≡ NameError.OutOfMemory) ⊎ (name_of_text origin.now text.now ≡ Err e)) }
+        ensures read { MatchResult result (λ name. name_of_text origin.now text.now ≡ Ok name)
+            (λ e. (e ≡ NameError.OutOfMemory) ⊎ (name_of_text origin.now text.now ≡ Err e)) }
         // What is printed reads as the same name, with any origin.
-        ensures printed { (name : Labels) → IsName name → text.now ≡ printed_name name → MatchResult result (λ n. n ≡ name) (λ e. e ≡ NameError.OutOfMemory) }
+        ensures printed { (name : Labels)
+            → IsName name
+            → text.now ≡ printed_name name
+            → MatchResult result (λ n. n ≡ name) (λ e. e ≡ NameError.OutOfMemory) }
     {
         Name::of_text(alloc, text, origin)
     }
 
     fn of_text(alloc: Heap, text: &[u8], origin: &Name) -> Result<Name, NameError>
-        ensures { MatchResult result (λ name. name_of_text origin.now text.now ≡ Ok name) (λ e. (e ≡ NameError.OutOfMemory) ⊎ (name_of_text origin.now text.now ≡ Err e)) }
+        ensures { MatchResult result (λ name. name_of_text origin.now text.now ≡ Ok name)
+            (λ e. (e ≡ NameError.OutOfMemory) ⊎ (name_of_text origin.now text.now ≡ Err e)) }
     {
         if text == b"@".as_slice() {
             return Ok(origin.clone()?);
@@ -136,10 +142,15 @@ impl Name {
 
     /// The name whose plain form stands at the front of the octets, and how many octets that has.
     pub fn parse_wire(alloc: Heap, octets: &[u8]) -> Result<(Name, usize), NameError>
-        ensures found { IfOk result (λ r. IsName r.0 × (r.1 ≤ length octets.now) × (map to_ascii_lowercase (take r.1 octets.now) ≡ wire r.0)) }
+        ensures found { IfOk result
+            (λ r. IsName r.0 × (r.1 ≤ length octets.now) × (map to_ascii_lowercase (take r.1 octets.now) ≡ wire r.0)) }
         ensures refused { IfErr result (Explains octets.now) }
         // What is a name is read, unless memory runs out.
-        ensures only { (name : Labels) (n : ℕ) → IsName name → n ≤ length octets.now → map to_ascii_lowercase (take n octets.now) ≡ wire name → IfErr result (λ e. e ≡ NameError.OutOfMemory) }
+        ensures only { (name : Labels) (n : ℕ)
+            → IsName name
+            → n ≤ length octets.now
+            → map to_ascii_lowercase (take n octets.now) ≡ wire name
+            → IfErr result (λ e. e ≡ NameError.OutOfMemory) }
     {
         let stop = root_of(octets)?;
         match lowered(alloc, &octets[..stop + 1]) {

@@ -4,7 +4,9 @@ ghost use Rattle.dns_names.specs.Text.{ALetter, AnEscape, letters_from, onto, It
 
 /// The octet behind a `\`, and the text behind that.
 fn split_escape(text: &[u8]) -> Option<(u8, &[u8])>
-    ensures { MatchOption result (letters_from AnEscape text.now ≡ None) (λ r. (letters_from AnEscape text.now ≡ onto (Escaped r.0) (letters_from ALetter r.1.now)) × (length r.1.now < length text.now)) }
+    ensures { MatchOption result (letters_from AnEscape text.now ≡ None)
+        (λ r. (letters_from AnEscape text.now ≡ onto (Escaped r.0) (letters_from ALetter r.1.now))
+        × (length r.1.now < length text.now)) }
 {
     let (first, behind) = text.split_first()?;
     if !first.is_ascii_digit() {
@@ -26,7 +28,9 @@ fn split_escape(text: &[u8]) -> Option<(u8, &[u8])>
 /// The letter at the front of a text: its octet, whether a `\` stands before it, and the text behind it.
 pub fn split_letter(text: &[u8]) -> Option<(u8, bool, &[u8])>
     requires { text.now ≢ [] }
-    ensures { MatchOption result (letters_from ALetter text.now ≡ None) (λ r. (letters_from ALetter text.now ≡ onto (if r.1 then Escaped r.0 else Itself r.0) (letters_from ALetter r.2.now)) × (length r.2.now < length text.now)) }
+    ensures { MatchOption result (letters_from ALetter text.now ≡ None)
+        (λ r. (letters_from ALetter text.now ≡ onto (if r.1 then Escaped r.0 else Itself r.0) (letters_from ALetter r.2.now))
+        × (length r.2.now < length text.now)) }
 {
     let (first, behind) = text.split_first()?;
     if *first != b'\\' {

@@ -9,7 +9,8 @@ use crate::text::{address, number_up_to};
 use std::marker::Model;
 use std::net::IpAddr;
 
-/// The addresses of a family whose leading bits agree with those of one address: `192.0.2.0/24` are those from 192.0.2.0 to 192.0.2.255.
+/// The addresses of a family whose leading bits agree with those of one address: `192.0.2.0/24` are those from 192.0.2.0 to
+/// 192.0.2.255.
 #[derive(Clone, Copy, Debug, PartialEq, Eq)]
 pub struct Prefix {
     address: IpAddr,
@@ -65,7 +66,10 @@ fn first_slash(text: &[u8]) -> Option<usize>
 
 /// What stands before the first `/`, and behind it.
 fn split_at_slash(text: &[u8]) -> Option<(&[u8], &[u8])>
-    ensures { MatchOption result (position is_slash text.now ≡ None) (λ parts. IsSome (position is_slash text.now) × (parts.0.now ≡ before_first is_slash text.now) × (parts.1.now ≡ after_first is_slash text.now)) }
+    ensures { MatchOption result (position is_slash text.now ≡ None)
+        (λ parts. IsSome (position is_slash text.now)
+        × (parts.0.now ≡ before_first is_slash text.now)
+        × (parts.1.now ≡ after_first is_slash text.now)) }
 {
     match first_slash(text) {
         Some(slash) => Some((&text[..slash], &text[slash + 1..])),
@@ -74,7 +78,8 @@ fn split_at_slash(text: &[u8]) -> Option<(&[u8], &[u8])>
 }
 
 impl Prefix {
-    /// The prefix of a text: an address, `/` and a length of at most 32 or 128 in decimal digits without leading zeros. A text with no `/`, or
+    /// The prefix of a text: an address, `/` and a length of at most 32 or 128 in decimal digits without leading zeros. A text
+    /// with no `/`, or
     /// with no address before it, is `BadPrefix`; else one with no such length is `BadLength`.
     pub fn parse(text: &[u8]) -> Result<Prefix, PrefixError>
         ensures { MatchResult result (IsPrefix text.now) (Explains text.now) }

@@ -39,7 +39,8 @@ pub record IsWaiting (w : Waiting) (stated : Waits) : Type 0 where
 pub record IsSet (s : ZoneSettings) (z : ZoneState) : Type 0 where
   pub update : (a : IpAddr) → IsTrue (z.setting.may_update a) ↔ IsAllowed s.update.items a
 
--- What is shown, what stands behind it, what waits and the connections are those of the machine, whatever older versions there were.
+-- What is shown, what stands behind it, what waits and the connections are those of the machine, whatever older versions there
+-- were.
 pub record IsKept {I S : Type 0} {i : index.Ghosts I} {s : store.Ghosts S} (p : Primary I S i s) (m : Machine) : Type 0 where
   pub zones_are : AreHeld s.keeps p.zones.items p.behind.items m.zones
   pub settings_are : Each2 IsSet p.settings.items m.zones

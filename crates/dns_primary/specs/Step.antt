@@ -16,7 +16,8 @@ use Rattle.dns_primary.specs.Flush.{Sent, Replied, rcode_servfail, flushed, flus
 use Rattle.dns_primary.specs.Update.{Asked, is_full, updated}
 use Rattle.dns_primary.specs.Connections.{connected, closed, most_connections}
 
--- A datagram comes from a peer, a peer connects, a message comes on a connection, what waits is to be flushed, a connection is closed.
+-- A datagram comes from a peer, a peer connects, a message comes on a connection, what waits is to be flushed, a connection is
+-- closed.
 pub data Event : Type 0 where
   Datagram : Peer → List ℕ → Event
   Connect : Peer → Event
@@ -51,19 +52,23 @@ abbrev pub IsFlushed : List Bool → Machine → Effects → Machine → Type 0
 IsFlushed fails old effects new = AreFailures true old fails × Gives effects new (flushed fails old) (flush_sends fails old) fails
 
 abbrev pub IsUpdated : List Bool → Machine → Asked → Effects → Machine → Type 0
-IsUpdated fails old a effects new = AreFailures (is_full old) old fails × Gives effects new (updated fails old a).0 (updated fails old a).1 fails
+IsUpdated fails old a effects new =
+    AreFailures (is_full old) old fails × Gives effects new (updated fails old a).0 (updated fails old a).1 fails
 
 -- What is done with a request, by what becomes of its octets: a query is answered of what is shown, transfers are not served.
 abbrev pub IsServed : List Bool → Machine → To → Peer → Handled → Effects → Machine → Type 0
 IsServed fails old to peer NoReply effects new = (fails ≡ []) × Gives effects new old [] []
 IsServed fails old to peer (Replies reply) effects new = (fails ≡ []) × Gives effects new old (Replied to reply ∷ []) []
-IsServed fails old to peer (Update message question) effects new = IsUpdated fails old (record { to = to; address = peer.address; message = message; zone = question }) effects new
-IsServed fails old to peer (Transfer message question) effects new = (fails ≡ []) × Gives effects new old (Replied to (text (bare_reply message.header rcode_notimp)) ∷ []) []
+IsServed fails old to peer (Update message question) effects new =
+    IsUpdated fails old (record { to = to; address = peer.address; message = message; zone = question }) effects new
+IsServed fails old to peer (Transfer message question) effects new =
+    (fails ≡ []) × Gives effects new old (Replied to (text (bare_reply message.header rcode_notimp)) ∷ []) []
 
 -- A message on a connection that isn't there does nothing.
 abbrev pub IsArrived : List Bool → Machine → ℕ → Option Peer → List ℕ → Effects → Machine → Type 0
 IsArrived fails old number None octets effects new = (fails ≡ []) × Gives effects new old [] []
-IsArrived fails old number (Some peer) octets effects new = IsServed fails old (to.Connection number) peer (handled (shown_zones old) octets Tcp) effects new
+IsArrived fails old number (Some peer) octets effects new =
+    IsServed fails old (to.Connection number) peer (handled (shown_zones old) octets Tcp) effects new
 
 -- A connection gets a number that no other has, or none where there are as many as may be.
 abbrev pub IsConnected : Machine → Peer → Effects → Machine → Type 0
@@ -74,7 +79,8 @@ IsConnected old peer effects new =
 
 -- What an event does where memory is not refused.
 abbrev pub Goes : List Bool → Machine → Event → Effects → Machine → Type 0
-Goes fails old (Datagram peer octets) effects new = IsServed fails old (to.Address peer) peer (handled (shown_zones old) octets Udp) effects new
+Goes fails old (Datagram peer octets) effects new =
+    IsServed fails old (to.Address peer) peer (handled (shown_zones old) octets Udp) effects new
 Goes fails old (Connect peer) effects new = (fails ≡ []) × IsConnected old peer effects new
 Goes fails old (Arrives number octets) effects new = IsArrived fails old number (peer_at number old.connections) octets effects new
 Goes fails old Flush effects new = IsFlushed fails old effects new

@@ -41,7 +41,10 @@ fn admit_in<I: ZoneIndex, S: ZoneStore>(
     settings: &ZoneSettings,
     address: IpAddr,
 ) -> Result<(), Rcode>
-    ensures { (place : ℕ) (zone : Stated) (z : ZoneState) → IsHeld S.keeps zone behind.now (kept_of z) → IsSet settings.now z → admission_told place z result ≡ admission_in address place (Some z) }
+    ensures { (place : ℕ) (zone : Stated) (z : ZoneState)
+        → IsHeld S.keeps zone behind.now (kept_of z)
+        → IsSet settings.now z
+        → admission_told place z result ≡ admission_in address place (Some z) }
 {
     if !allows(&settings.update, address) {
         return Err(Rcode::Refused);

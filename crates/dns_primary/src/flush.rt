@@ -22,7 +22,9 @@ use dns_zone::{Zone, ZoneIndex};
 
 /// Whether the zone at a place is closed, or there is none.
 fn is_closed_at<I: ZoneIndex, S: ZoneStore>(behind: &[Behind<I, S>], place: usize) -> bool
-    ensures { (shown : List Stated) (zones : List ZoneState) → AreHeld S.keeps shown behind.now zones → result ≡ is_closed_in (slice_get zones place) }
+    ensures { (shown : List Stated) (zones : List ZoneState)
+        → AreHeld S.keeps shown behind.now zones
+        → result ≡ is_closed_in (slice_get zones place) }
 {
     match behind.get(place) {
         Some(zone) => zone.store.is_closed(),

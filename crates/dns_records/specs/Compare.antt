@@ -44,13 +44,17 @@ pub data_cmp-total : IsTotalOrder data_cmp
 data_cmp-total = then_total (on_total (λ (d : Data). d.rtype) nat_cmp_total) (on_total (λ (d : Data). d.octets) nat_list_cmp_total)
 
 pub data_cmp-ties : (a b : Data) → same_data a b ≡ eq_by_cmp data_cmp a b
-data_cmp-ties a b = both_tied (a.rtype == b.rtype) (pointwise ◌==◌ a.octets b.octets) (nat_cmp a.rtype b.rtype) (slice_cmp nat_cmp a.octets b.octets) (unsigned_ties a.rtype b.rtype) (texts_ties a.octets b.octets)
+data_cmp-ties a b =
+    both_tied (a.rtype == b.rtype) (pointwise ◌==◌ a.octets b.octets) (nat_cmp a.rtype b.rtype)
+    (slice_cmp nat_cmp a.octets b.octets) (unsigned_ties a.rtype b.rtype) (texts_ties a.octets b.octets)
 
 pub data_cmp-po : IsPartialOrder same_data (as_partial_cmp data_cmp)
 data_cmp-po = po data_cmp-total data_cmp-ties
 
 pub same_record-equiv : IsEquivalence same_record
-same_record-equiv = and_equiv (and_equiv (on_equiv (λ (r : Record). r.owner) same_labels-equiv) (on_equiv (λ (r : Record). r.ttl) nat_eq_equiv)) (on_equiv (λ (r : Record). data_of r) same_data-equiv)
+same_record-equiv =
+    and_equiv (and_equiv (on_equiv (λ (r : Record). r.owner) same_labels-equiv) (on_equiv (λ (r : Record). r.ttl) nat_eq_equiv))
+    (on_equiv (λ (r : Record). data_of r) same_data-equiv)
 
 pub same_record-per : IsPartialEquivalence same_record
 same_record-per = partial_equiv_from_equiv same_record-equiv

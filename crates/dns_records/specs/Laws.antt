@@ -18,7 +18,12 @@ use Rattle.dns_records.specs.declared.typed.Mx.{Mx}
 use Rattle.dns_records.specs.declared.typed.Srv.{Srv}
 
 -- a zone can have records of each type that has a form
-data_step : (b : Bool) (t k : ℕ) (fields : List Field) (others : Option (List Field)) → (t == k) ≡ b → is_data_type k ≡ true → (is_some others ≡ true → is_data_type t ≡ true) → is_some (cond b (Some fields) others) ≡ true → is_data_type t ≡ true
+data_step : (b : Bool) (t k : ℕ) (fields : List Field) (others : Option (List Field))
+    → (t == k) ≡ b
+    → is_data_type k ≡ true
+    → (is_some others ≡ true → is_data_type t ≡ true)
+    → is_some (cond b (Some fields) others) ≡ true
+    → is_data_type t ≡ true
 data_step true t k fields others e is h known = ap is_data_type (eqb-true t k e) ∙ is
 data_step false t k fields others e is h known = h known
 
@@ -71,7 +76,11 @@ name_data-plain d valid h =
     name_alone d.octets parts
 
 -- octets before the other parts
-pub behind_octets : (vs : List Value) (fields : List Field) (o front behind : List ℕ) → AreFields (Values vs ∷ fields) o → o ≡ front ++ behind → length front ≡ octet_count vs → AreFields fields behind
+pub behind_octets : (vs : List Value) (fields : List Field) (o front behind : List ℕ)
+    → AreFields (Values vs ∷ fields) o
+    → o ≡ front ++ behind
+    → length front ≡ octet_count vs
+    → AreFields fields behind
 behind_octets vs fields o front behind parts e size =
     let first : length parts.0 ≡ octet_count vs = parts.3 in
     let both = parts_same parts.0 front parts.1 behind (sym parts.2 ∙ e) (first ∙ sym size) in
@@ -107,7 +116,9 @@ soa_data-valid soa m r =
     (octets-append (to_be_bytes w32 soa.serial) (to_be_bytes w32 soa.refresh) (number soa.serial) (number soa.refresh)) (number soa.retry)) (number soa.expire)) (number soa.minimum) in
     record {
       rtype = refl;
-      octets = octets-append (first ++ second) numbers (octets-append first second (wire_octets soa.mname m.labels) (wire_octets soa.rname r.labels)) fit;
+      octets =
+          octets-append (first ++ second) numbers
+          (octets-append first second (wire_octets soa.mname m.labels) (wire_octets soa.rname r.labels)) fit;
       short = omega (arith, length-append (first ++ second) numbers, length-append first second);
       form = parts;
     }
@@ -153,7 +164,11 @@ value_short U32 n h = omega (arith, h)
 value_short Ipv4 n h = omega (arith, h)
 value_short Ipv6 n h = omega (arith, h)
 
-pub address-valid : (t : ℕ) (v : Value) (o : List ℕ) → form t ≡ Some (Values (v ∷ []) ∷ []) → AreOctets o → length o ≡ size_of v → IsData (record { rtype = t; octets = o })
+pub address-valid : (t : ℕ) (v : Value) (o : List ℕ)
+    → form t ≡ Some (Values (v ∷ []) ∷ [])
+    → AreOctets o
+    → length o ≡ size_of v
+    → IsData (record { rtype = t; octets = o })
 address-valid t v o f fits size =
     let whole : length o ≡ octet_count (v ∷ []) = omega (arith, size) in
     let parts : AreFields (Values (v ∷ []) ∷ []) o = (o, [], sym (append-nil o), whole, refl) in

@@ -29,7 +29,8 @@ name_of d = if is_name_type d.rtype then Some (labels_of d.octets) else None
 
 -- Two names and five numbers of 32 bits (RFC 1035 3.3.13).
 abbrev pub soa_numbers : Soa → List ℕ
-soa_numbers soa = to_be_bytes w32 soa.serial ++ to_be_bytes w32 soa.refresh ++ to_be_bytes w32 soa.retry ++ to_be_bytes w32 soa.expire ++ to_be_bytes w32 soa.minimum
+soa_numbers soa =
+    to_be_bytes w32 soa.serial ++ to_be_bytes w32 soa.refresh ++ to_be_bytes w32 soa.retry ++ to_be_bytes w32 soa.expire ++ to_be_bytes w32 soa.minimum
 
 abbrev pub soa_data : Soa → Data
 soa_data soa = record { rtype = type_soa; octets = wire soa.mname ++ wire soa.rname ++ soa_numbers soa }

@@ -32,7 +32,9 @@ pub(crate) fn u32_at(octets: &[u8], at: usize) -> u32
 /// Five numbers of 32 bits, which the octets are.
 pub(crate) fn five_u32(octets: &[u8]) -> Option<(u32, u32, u32, u32, u32)>
     requires { length octets.now ≡ 20 }
-    ensures { MatchOption result ⊥ (λ r. octets.now ≡ to_be_bytes w32 r.0 ++ to_be_bytes w32 r.1 ++ to_be_bytes w32 r.2 ++ to_be_bytes w32 r.3 ++ to_be_bytes w32 r.4) }
+    ensures { MatchOption result ⊥
+        (λ r. octets.now
+        ≡ to_be_bytes w32 r.0 ++ to_be_bytes w32 r.1 ++ to_be_bytes w32 r.2 ++ to_be_bytes w32 r.3 ++ to_be_bytes w32 r.4) }
 {
     let (first, behind) = split_u32(octets)?;
     let (second, behind) = split_u32(behind)?;

@@ -21,7 +21,8 @@ struct Framed<'a> {
 
 /// The parts of a plain record at the front of octets, whatever its data is.
 fn split_plain(octets: &[u8]) -> Option<Framed<'_>>
-    ensures found { IfSome result (λ f. IsFramed octets.now (record { owner = f.owner; rtype = f.rtype; ttl = f.ttl; rdata = f.rdata.now }) f.rest.now) }
+    ensures found { IfSome result
+        (λ f. IsFramed octets.now (record { owner = f.owner; rtype = f.rtype; ttl = f.ttl; rdata = f.rdata.now }) f.rest.now) }
     ensures none { IfNone result ((r : Stated) (rest : List ℕ) → IsFramed octets.now r rest → ⊥) }
 {
     let (owner, behind_owner) = NameRef::first(octets)?;
@@ -78,7 +79,11 @@ impl Record {
         ensures found { IfOk result (λ r. (r.1 ≤ length octets.now) × (take r.1 octets.now ≡ plain r.0) × IsRecord r.0) }
         ensures refused { IfErr result (RefusesPlain octets.now) }
         // What is a plain record is read, unless memory runs out.
-        ensures only { (r : Stated) (n : ℕ) → IsRecord r → n ≤ length octets.now → take n octets.now ≡ plain r → IfErr result (λ e. e ≡ RecordError.OutOfMemory) }
+        ensures only { (r : Stated) (n : ℕ)
+            → IsRecord r
+            → n ≤ length octets.now
+            → take n octets.now ≡ plain r
+            → IfErr result (λ e. e ≡ RecordError.OutOfMemory) }
     {
         let Some(frame) = split_plain(octets) else {
             return Err(RecordError::BadData);

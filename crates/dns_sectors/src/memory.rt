@@ -88,7 +88,8 @@ impl MemorySectors {
         calls: usize,
         plan: Rc<Plan, Heap>,
     ) -> Result<MemorySectors, AllocError>
-        ensures { IfOk result (λ device. device ≡ record { start = replicate len (replicate 512 0); calls = []; room = calls; failures = 0 }) }
+        ensures { IfOk result
+            (λ device. device ≡ record { start = replicate len (replicate 512 0); calls = []; room = calls; failures = 0 }) }
     {
         let start = zeros(alloc, len)?;
         let current = zeros(alloc, len)?;
@@ -116,7 +117,8 @@ impl MemorySectors {
     /// The device after a crash that keeps these of the pending writes, each whole and in order. Its record is
     /// empty, and has the same room.
     pub fn crash(self, keep: Keep) -> MemorySectors
-        ensures kept { result ≡ record { start = applied (kept keep.entry 1 (disk_of self).pending) (disk_of self).durable; calls = []; room = self.room; failures = self.failures } }
+        ensures kept { result
+            ≡ record { start = applied (kept keep.entry 1 (disk_of self).pending) (disk_of self).durable; calls = []; room = self.room; failures = self.failures } }
         ensures outcome { MayBeLeft (disk_of self) result.start }
     {
         let MemorySectors {
@@ -158,7 +160,8 @@ fn keep_some(durable: &mut Vec<Sector, Heap>, pending: &[SectorWrite], keep: Kee
 
 // Makes a write, or doesn't.
 fn write_if(durable: &mut Vec<Sector, Heap>, write: &SectorWrite, is_kept: bool)
-    ensures made { durable.new.items ≡ (if is_kept then slice_set durable.old.items write.now.at write.now.octets else durable.old.items) }
+    ensures made { durable.new.items
+        ≡ (if is_kept then slice_set durable.old.items write.now.at write.now.octets else durable.old.items) }
     ensures len { vec_len durable.new ≡ vec_len durable.old }
 {
     if is_kept && write.at < durable.len() {
@@ -282,8 +285,14 @@ impl Sectors for MemorySectors {
         ensures full { self.old.room ≤ length self.old.calls → IsErr result × (self.new ≡ counted self.old) }
         ensures failed { CountsFailure result self.old.failures self.new.failures }
         ensures ok { OnOk result (self.new ≡ noted self.old (Call.Wrote at octets.now)) }
-        ensures err { OnErr result ((self.new ≡ counted self.old) ⊎ (self.new ≡ counted (noted self.old Call.Failed)) ⊎ (self.new ≡ counted (noted self.old (Call.Wrote at octets.now)))) }
-        ensures told { length self.old.calls < self.old.room → OnErr result ((self.new ≡ counted (noted self.old Call.Failed)) ⊎ (self.new ≡ counted (noted self.old (Call.Wrote at octets.now)))) }
+        ensures err { OnErr result
+            ((self.new ≡ counted self.old)
+            ⊎ (self.new ≡ counted (noted self.old Call.Failed))
+            ⊎ (self.new ≡ counted (noted self.old (Call.Wrote at octets.now)))) }
+        ensures told { length self.old.calls < self.old.room
+            → OnErr result
+            ((self.new ≡ counted (noted self.old Call.Failed))
+            ⊎ (self.new ≡ counted (noted self.old (Call.Wrote at octets.now)))) }
     {
         let turn = self.plan.turn();
         if self.is_full() {

@@ -70,7 +70,8 @@ PrintsInto zones line out out_after = (text : List ℕ) × Prints zones line tex
 abbrev pub PrintsNone : List Zone → List ℕ → Option (List ℕ) → Option (List ℕ) → Type 0
 PrintsNone zones line out out_after = ((text : List ℕ) → ¬ (Prints zones line text)) × Keeps out out_after
 
--- What is printed of lines, the first of which has that number, and how the run ends: where all are commands, or at the first that is none.
+-- What is printed of lines, the first of which has that number, and how the run ends: where all are commands, or at the first
+-- that is none.
 abbrev pub Runs : List Zone → ℕ → List (List ℕ) → List ℕ → Ending → Type 0
 Runs zones number [] text ending = (text ≡ []) × (ending ≡ Done)
 Runs zones number (line ∷ rest) text ending =

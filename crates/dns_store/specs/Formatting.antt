@@ -24,7 +24,8 @@ piece octets index = take payload_room (drop (payload_room * index) octets)
 
 -- the part with this index, with zeros behind the snapshot's end
 abbrev pub part_of : ℕ → ℕ → List ℕ → ℕ → SnapshotPart
-part_of opened base octets index = record { bank_open = opened; base = base; index = index; octets = piece octets index ++ replicate (payload_room - length (piece octets index)) 0 }
+part_of opened base octets index =
+    record { bank_open = opened; base = base; index = index; octets = piece octets index ++ replicate (payload_room - length (piece octets index)) 0 }
 
 -- The sector that stands at this index behind the root of a new store: a part of the snapshot, or zeros behind the last.
 pub record IsLaid (octets : List ℕ) (index : ℕ) (x : List ℕ) : Type 0 where

@@ -49,4 +49,5 @@ pub record AreStored (octets : List ℕ) (records : List Record) : Type 0 where
 
 -- They are the records of no zone with this apex, in order.
 abbrev pub IsNoSnapshot : Labels → List ℕ → Type 0
-IsNoSnapshot apex octets = (records : List Record) → IsZone (record { apex = apex; records = records }) → octets ≡ flat_map plain records → ⊥
+IsNoSnapshot apex octets =
+    (records : List Record) → IsZone (record { apex = apex; records = records }) → octets ≡ flat_map plain records → ⊥

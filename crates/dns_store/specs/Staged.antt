@@ -10,12 +10,15 @@ use Rattle.dns_layout.specs.Sector.{entry_sectors}
 use Rattle.dns_store.specs.Versions.{Versions, Kept, newest_after, newest_of, staged_with}
 use Rattle.dns_store.specs.Room.{sectors_by, entry_between, entries_along, sectors_left}
 
-pub entry_is : (before after : List Record) (c : Change) → IsChange before after c → entry_between before after ≡ entry_sectors (length (entry c))
+pub entry_is : (before after : List Record) (c : Change)
+    → IsChange before after c
+    → entry_between before after ≡ entry_sectors (length (entry c))
 entry_is before after c h =
     (λ i. sectors_by before after (h.old_soa i) (h.new_soa i))
     ∙ sym (λ i. entry_sectors (length (entry (record { old_soa = c.old_soa; removed = h.removed i; new_soa = c.new_soa; added = h.added i }))))
 
-pub entries_append : (first : List Record) (vs : Versions) (v : List Record) → entries_along first (vs ++ v ∷ []) ≡ entries_along first vs ++ entry_between (newest_after first vs) v ∷ []
+pub entries_append : (first : List Record) (vs : Versions) (v : List Record)
+    → entries_along first (vs ++ v ∷ []) ≡ entries_along first vs ++ entry_between (newest_after first vs) v ∷ []
 entries_append first [] v = refl
 entries_append first (w ∷ vs) v = ap (λ (l : List ℕ). entry_between first w ∷ l) (entries_append w vs v)
 
@@ -27,7 +30,9 @@ pub newest_append : (first : List Record) (vs : Versions) (v : List Record) → 
 newest_append first [] v = refl
 newest_append first (w ∷ vs) v = newest_append w vs v
 
-pub staged_left : (k : Kept) (after : List Record) → k.base ≤ length k.shown → sectors_left (staged_with after k) ≡ sectors_left k - entry_between (newest_of k) after
+pub staged_left : (k : Kept) (after : List Record)
+    → k.base ≤ length k.shown
+    → sectors_left (staged_with after k) ≡ sectors_left k - entry_between (newest_of k) after
 staged_left k after le =
     let all = k.shown ++ k.staged in
     let same = entry_between (newest_of k) after in

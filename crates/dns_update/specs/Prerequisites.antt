@@ -27,7 +27,8 @@ unused_fault records i =
     else if owns_type records i.owner i.rtype then Some YxRrset
     else None
 
--- What fails a prerequisite by itself (RFC 2136 3.2). One of class IN lists a record of an RRset, and has data where its type is known.
+-- What fails a prerequisite by itself (RFC 2136 3.2). One of class IN lists a record of an RRset, and has data where its type is
+-- known.
 abbrev pub prerequisite_fault : Zone → Item → Option Rcode
 prerequisite_fault z i =
     if not (i.ttl == 0) then Some FormErr
@@ -50,4 +51,5 @@ are_rrsets records items = list_all (λ i. not (i.class == class_in) || is_rrset
 
 -- What fails the prerequisites: the first that fails by itself, else a list that is not its RRset.
 abbrev pub prerequisites_fault : Zone → List Item → Option Rcode
-prerequisites_fault z items = otherwise (first_fault (prerequisite_fault z) items) (if are_rrsets z.records items then None else Some NxRrset)
+prerequisites_fault z items =
+    otherwise (first_fault (prerequisite_fault z) items) (if are_rrsets z.records items then None else Some NxRrset)

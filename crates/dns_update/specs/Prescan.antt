@@ -8,7 +8,8 @@ use Rattle.dns_update.specs.Item.{is_empty, is_meta}
 use Rattle.dns_wire.specs.declared.codes.Rcode.{Rcode}
 use Rattle.dns_wire.specs.declared.codes.Rcode.TheVariants.{FormErr, Refused, NotZone}
 
--- Class IN: a record is to be added. Refused are types of which a zone has no records, data of over 4,096 octets, and an NS at a wildcard.
+-- Class IN: a record is to be added. Refused are types of which a zone has no records, data of over 4,096 octets, and an NS at a
+-- wildcard.
 abbrev pub addition_fault : Item → Option Rcode
 addition_fault i =
     if i.rtype == type_any || is_meta i.rtype || is_known i.rtype && is_empty i then Some FormErr
@@ -21,7 +22,8 @@ set_deletion_fault i = if not (i.ttl == 0) || not (is_empty i) || is_meta i.rtyp
 
 -- Class NONE: one record is to be deleted.
 abbrev pub deletion_fault : Item → Option Rcode
-deletion_fault i = if not (i.ttl == 0) || i.rtype == type_any || is_meta i.rtype || is_known i.rtype && is_empty i then Some FormErr else None
+deletion_fault i =
+    if not (i.ttl == 0) || i.rtype == type_any || is_meta i.rtype || is_known i.rtype && is_empty i then Some FormErr else None
 
 -- What fails an item of the update section.
 abbrev pub prescan_fault : Labels → Item → Option Rcode

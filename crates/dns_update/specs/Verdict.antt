@@ -34,7 +34,8 @@ abbrev pub with_next_serial : List Record → List Record → List Record
 with_next_serial [] records = records
 with_next_serial (soa ∷ rest) records = put (with_serial soa (next_serial (serial_of soa))) (without soa records)
 
--- What the items did becomes a version: nothing where the set is the same, else a set with a greater serial. A serial that the items left is advanced by
+-- What the items did becomes a version: nothing where the set is the same, else a set with a greater serial. A serial that the
+-- items left is advanced by
 -- one (RFC 2136 3.6); one that isn't greater than before is refused (RFC 1982).
 abbrev pub versioned : List Record → List Record → Verdict
 versioned before after =
@@ -57,7 +58,8 @@ verdict z prerequisites items =
 abbrev pub IsTold : {X : Type 0} → (X → List Record) → List Record → Verdict → Judged X → Type 0
 IsTold records before (Refuses rcode) j = j ≡ told.Refused rcode
 IsTold records before Keeps j = j ≡ told.NoChange
-IsTold {X} records before (Leaves after) j = (c : Change) × (next : X) × (j ≡ told.Accepted c next) × (records next ≡ after) × IsChange before after c
+IsTold {X} records before (Leaves after) j =
+    (c : Change) × (next : X) × (j ≡ told.Accepted c next) × (records next ≡ after) × IsChange before after c
 
 -- The answer section of an update is its prerequisites, the authority section what is to be done (RFC 2136 2).
 abbrev pub IsJudged : {X : Type 0} → (X → List Record) → Zone → List Item → List Item → Judged X → Type 0

@@ -85,7 +85,8 @@ fn first_fault<I: ZoneIndex>(zone: &Zone<I>, items: &[Item]) -> Option<Rcode>
 
 /// The record that the item lists: one of class IN lists that of its owner, type and data.
 fn listed_record<'s, I: ZoneIndex>(index: &'s I, item: &Item) -> Option<&'s Record>
-    ensures { option_copied result ≡ (if item.now.class == class_in then find (alike (as_record item.now)) (I.records index.now) else None) }
+    ensures { option_copied result
+        ≡ (if item.now.class == class_in then find (alike (as_record item.now)) (I.records index.now) else None) }
 {
     if item.class() != CLASS_IN {
         return None;

@@ -90,7 +90,8 @@ fn advanced_change<I: ZoneIndex>(
     requires few { length (I.records after) + 1 < 2 ^ 32 }
     requires touched { DifferAt names.now zone.now.records (I.records after) }
     requires apex { list_any (names_eq zone.now.apex) names.now ≡ true }
-    ensures { IfOk result (IsTold I.records zone.now.records (Leaves (with_next_serial (soas (I.records after)) (I.records after)))) }
+    ensures { IfOk result
+        (IsTold I.records zone.now.records (Leaves (with_next_serial (soas (I.records after)) (I.records after)))) }
 {
     let mut after = after;
     let soa = soa_of(&after, &zone.apex().lend()).clone()?;
@@ -132,7 +133,9 @@ fn fault<I: ZoneIndex>(
     prerequisites: &[Item],
     items: &[Item],
 ) -> Result<Option<Rcode>, AllocError>
-    ensures { IfOk result (λ fault. fault ≡ otherwise (prerequisites_fault zone.now prerequisites.now) (first_fault (prescan_fault zone.now.apex) items.now)) }
+    ensures { IfOk result
+        (λ fault. fault
+        ≡ otherwise (prerequisites_fault zone.now prerequisites.now) (first_fault (prescan_fault zone.now.apex) items.now)) }
 {
     let first = prerequisites_fault(alloc, zone, prerequisites)?;
     if first.is_some() {
@@ -151,7 +154,10 @@ fn judge_items<I: ZoneIndex>(
     requires few { length items.now < 2 ^ 16 }
     requires form { AllByRecursion HasForm items.now }
     ensures verdict { IfOk result (IsJudged I.records zone.now prerequisites.now items.now) }
-    ensures next { IfOk result (λ judged. (change : StatedChange) (next : I) → judged ≡ Judged.Accepted change next → IsNext zone.now change (I.records next)) }
+    ensures next { IfOk result
+        (λ judged. (change : StatedChange) (next : I)
+        → judged ≡ Judged.Accepted change next
+        → IsNext zone.now change (I.records next)) }
 {
     if let Some(rcode) = fault(alloc, zone, prerequisites, items)? {
         return Ok(Judged::Refused(rcode));
@@ -162,7 +168,8 @@ fn judge_items<I: ZoneIndex>(
     versioned(alloc, zone, after, &names)
 }
 
-/// What becomes of an update of the zone, which stays as it is (RFC 2136 sections 3.2 to 3.6). What is accepted is the change and the records that
+/// What becomes of an update of the zone, which stays as it is (RFC 2136 sections 3.2 to 3.6). What is accepted is the change
+/// and the records that
 /// it leads to: a valid zone with a greater serial, but that the caller sees to its room, as there may be more than 65,536 of them.
 pub fn judge<I: ZoneIndex>(
     alloc: Heap,
@@ -170,7 +177,10 @@ pub fn judge<I: ZoneIndex>(
     message: &Message<'_>,
 ) -> Result<Judged<I>, AllocError>
     ensures verdict { IfOk result (IsJudged I.records zone.now message.now.message.answers message.now.message.authorities) }
-    ensures next { IfOk result (λ judged. (change : StatedChange) (next : I) → judged ≡ Judged.Accepted change next → IsNext zone.now change (I.records next)) }
+    ensures next { IfOk result
+        (λ judged. (change : StatedChange) (next : I)
+        → judged ≡ Judged.Accepted change next
+        → IsNext zone.now change (I.records next)) }
 {
     let _reads = message.octets();
     let prerequisites = items_of(alloc, message.answers())?;

@@ -13,14 +13,18 @@ use Rattle.dns_wire.specs.declared.WireError.TheVariants.{OutOfMemory, Short, Ba
 
 -- The octets end in a label or where one is due, or in a pointer.
 abbrev pub IsCut : List ℕ → ℕ → Type 0
-IsCut message stop = ((octet : ℕ) × IsCutAt message stop octet) ⊎ ((high : ℕ) × (slice_get message stop ≡ Some high) × (192 ≤ high) × (length message ≤ stop + 1))
+IsCut message stop =
+    ((octet : ℕ) × IsCutAt message stop octet)
+    ⊎ ((high : ℕ) × (slice_get message stop ≡ Some high) × (192 ≤ high) × (length message ≤ stop + 1))
 
 -- What stands behind the labels of a run that begins at an offset and may take so many octets (RFC 1035 2.3.4 and 4.1.4).
 abbrev pub EndRefused : List ℕ → ℕ → ℕ → ℕ → WireError → Type 0
 EndRefused message run room stop NameTooLong = run + room < stop
 EndRefused message run room stop Cut = (stop ≤ run + room) × IsCut message stop
-EndRefused message run room stop ReservedLabel = (stop ≤ run + room) × (octet : ℕ) × (slice_get message stop ≡ Some octet) × (63 < octet) × (octet < 192)
-EndRefused message run room stop BadPointer = (stop ≤ run + room) × (target : ℕ) × IsPointer message stop target × ((target < 12) ⊎ (run ≤ target))
+EndRefused message run room stop ReservedLabel =
+    (stop ≤ run + room) × (octet : ℕ) × (slice_get message stop ≡ Some octet) × (63 < octet) × (octet < 192)
+EndRefused message run room stop BadPointer =
+    (stop ≤ run + room) × (target : ℕ) × IsPointer message stop target × ((target < 12) ⊎ (run ≤ target))
 EndRefused message run room stop OutOfMemory = ⊥
 EndRefused message run room stop Short = ⊥
 EndRefused message run room stop Trailing = ⊥
@@ -36,7 +40,14 @@ pub record RunRefused (message : List ℕ) (run room : ℕ) (e : WireError) : Ty
 -- The fault of a name is in its labels, or in those behind a pointer.
 pub data NameRefused (message : List ℕ) (e : WireError) : ℕ → ℕ → Type 0 where
   here : {at room : ℕ} → RunRefused message at room e → NameRefused message e at room
-  behind : {at room : ℕ} → (labels : Labels) (stop target : ℕ) → LabelsAt message at labels stop → IsPointer message stop target → 12 ≤ target → target < at → NameRefused message e target (room - (stop - at)) → NameRefused message e at room
+  behind : {at room : ℕ}
+      → (labels : Labels) (stop target : ℕ)
+      → LabelsAt message at labels stop
+      → IsPointer message stop target
+      → 12 ≤ target
+      → target < at
+      → NameRefused message e target (room - (stop - at))
+      → NameRefused message e at room
 
 -- A name of at most 255 octets (RFC 1035 2.3.4): 254 and the root.
 abbrev pub NoName : List ℕ → ℕ → WireError → Type 0
@@ -44,7 +55,8 @@ NoName message at e = NameRefused message e at 254
 
 -- A name that stands in data that ends at an offset, and doesn't end there.
 abbrev pub NoNamePart : List ℕ → ℕ → ℕ → WireError → Type 0
-NoNamePart message at stop e = NoName message at e ⊎ ((name : Labels) × (end : ℕ) × FullNameAt message at name end × (stop < end) × (e ≡ BadData))
+NoNamePart message at stop e =
+    NoName message at e ⊎ ((name : Labels) × (end : ℕ) × FullNameAt message at name end × (stop < end) × (e ≡ BadData))
 
 abbrev pub FieldRefused : List ℕ → ℕ → Field → ℕ → WireError → Type 0
 FieldRefused message at (Values vs) stop e = (stop < at + octet_count vs) × (e ≡ BadData)
@@ -55,13 +67,17 @@ FieldRefused message at Strings stop e = (IsField Strings (slice_range message a
 -- The parts of data up to an offset: the first that is no such part, or octets that are left.
 abbrev pub FieldsRefused : List ℕ → ℕ → List Field → ℕ → WireError → Type 0
 FieldsRefused message at [] stop e = (at < stop) × (e ≡ BadData)
-FieldsRefused message at (f ∷ fields) stop e = FieldRefused message at f stop e ⊎ ((mid : ℕ) × SomeField message at f mid stop × FieldsRefused message mid fields stop e)
+FieldsRefused message at (f ∷ fields) stop e =
+    FieldRefused message at f stop e ⊎ ((mid : ℕ) × SomeField message at f mid stop × FieldsRefused message mid fields stop e)
 
 abbrev pub RDataRefused : List ℕ → ℕ → ℕ → ℕ → WireError → Type 0
-RDataRefused message at rtype size e = (0 < size) × (fields : List Field) × (form rtype ≡ Some fields) × FieldsRefused message at fields (at + size) e
+RDataRefused message at rtype size e =
+    (0 < size) × (fields : List Field) × (form rtype ≡ Some fields) × FieldsRefused message at fields (at + size) e
 
 abbrev pub QuestionRefused : List ℕ → ℕ → WireError → Type 0
-QuestionRefused message at e = NoName message at e ⊎ ((name : Labels) × (mid : ℕ) × FullNameAt message at name mid × (length message < mid + 4) × (e ≡ Cut))
+QuestionRefused message at e =
+    NoName message at e
+    ⊎ ((name : Labels) × (mid : ℕ) × FullNameAt message at name mid × (length message < mid + 4) × (e ≡ Cut))
 
 -- Behind the owner of a record: its ten octets or its data are cut, or the data is refused.
 pub record DataRefused (message : List ℕ) (mid : ℕ) (e : WireError) : Type 0 where

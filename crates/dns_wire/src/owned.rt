@@ -15,7 +15,8 @@ use std::alloc::AllocError;
 /// Appends the name at an offset, and gives where it ends.
 fn append_name(message: &[u8], at: usize, out: &mut Vec<u8, Heap>) -> Result<usize, AllocError>
     requires { (name : Labels) × (end : ℕ) × FullNameAt message.now at name end }
-    ensures { IfOk result (λ end. (name : Labels) × FullNameAt message.now at name end × (out.new.items ≡ out.old.items ++ wire name)) }
+    ensures { IfOk result
+        (λ end. (name : Labels) × FullNameAt message.now at name end × (out.new.items ≡ out.old.items ++ wire name)) }
 {
     let mut octets = [0; 255];
     let size = copy_plain(message, at, &mut octets);
@@ -38,7 +39,8 @@ fn append_field(
     requires there { (mid : ℕ) × SomeField message.now at (stated_field field) mid stop }
     requires up { at ≤ stop }
     requires inside { stop ≤ length message.now }
-    ensures { IfOk result (λ mid. (part : SomeField message.now at (stated_field field) mid stop) × (out.new.items ≡ out.old.items ++ part.plain)) }
+    ensures { IfOk result
+        (λ mid. (part : SomeField message.now at (stated_field field) mid stop) × (out.new.items ≡ out.old.items ++ part.plain)) }
 {
     match field {
         Field::Values(values) => match count_within(values, stop - at) {
@@ -69,7 +71,10 @@ fn append_fields(
     requires up { at ≤ stop }
     requires inside { stop ≤ length message.now }
     requires last { StringsLast (stated_fields fields.now) }
-    ensures { OnOk result ((plain : List ℕ) × FieldsAt message.now at (stated_fields fields.now) plain stop × (out.new.items ≡ out.old.items ++ plain)) }
+    ensures { OnOk result
+        ((plain : List ℕ)
+        × FieldsAt message.now at (stated_fields fields.now) plain stop
+        × (out.new.items ≡ out.old.items ++ plain)) }
 {
     let mut next = at;
     for field in fields.iter() {

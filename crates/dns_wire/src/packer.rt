@@ -67,7 +67,9 @@ impl<'a> Packer<'a> {
     /// Writes octets as they are.
     pub(crate) fn put(&mut self, octets: &[u8]) -> Result<(), WireError>
         requires { length self.old.octets.items ≤ self.old.limit }
-        ensures written { OnOk result (Wrote self.old.limit self.old.octets.items self.new.octets.items self.new.limit self.new.places.items (plain_octets self.old.places.items octets.now)) }
+        ensures written { OnOk result
+            (Wrote self.old.limit self.old.octets.items self.new.octets.items self.new.limit self.new.places.items
+            (plain_octets self.old.places.items octets.now)) }
         ensures refused { IfErr result (RefusesUpTo self.old.limit (length self.old.octets.items + length octets.now)) }
     {
         if self.limit - self.octets.len() < octets.len() {
@@ -116,8 +118,12 @@ impl<'a> Packer<'a> {
     pub(crate) fn put_name(&mut self, name: &'a [u8]) -> Result<(), WireError>
         requires plain { IsPlain name.now }
         requires room { length self.old.octets.items ≤ self.old.limit }
-        ensures written { OnOk result (Wrote self.old.limit self.old.octets.items self.new.octets.items self.new.limit self.new.places.items (packed_name self.old.places.items (length self.old.octets.items) (labels_of name.now))) }
-        ensures refused { IfErr result (RefusesUpTo self.old.limit (length self.old.octets.items + length (packed_name self.old.places.items (length self.old.octets.items) (labels_of name.now)).octets)) }
+        ensures written { OnOk result
+            (Wrote self.old.limit self.old.octets.items self.new.octets.items self.new.limit self.new.places.items
+            (packed_name self.old.places.items (length self.old.octets.items) (labels_of name.now))) }
+        ensures refused { IfErr result
+            (RefusesUpTo self.old.limit
+            (length self.old.octets.items + length (packed_name self.old.places.items (length self.old.octets.items) (labels_of name.now)).octets)) }
     {
         let known = self.places.len();
         let mut rest = name;

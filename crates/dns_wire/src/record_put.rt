@@ -41,8 +41,12 @@ impl<'a> Packer<'a> {
     fn put_fields(&mut self, fields: &[Field], rdata: &'a [u8]) -> Result<(), WireError>
         requires form { AreFields (stated_fields fields.now) rdata.now }
         requires room { length self.old.octets.items ≤ self.old.limit }
-        ensures written { OnOk result (Wrote self.old.limit self.old.octets.items self.new.octets.items self.new.limit self.new.places.items (packed_fields self.old.places.items (length self.old.octets.items) (stated_fields fields.now) rdata.now)) }
-        ensures refused { IfErr result (RefusesUpTo self.old.limit (length self.old.octets.items + length (packed_fields self.old.places.items (length self.old.octets.items) (stated_fields fields.now) rdata.now).octets)) }
+        ensures written { OnOk result
+            (Wrote self.old.limit self.old.octets.items self.new.octets.items self.new.limit self.new.places.items
+            (packed_fields self.old.places.items (length self.old.octets.items) (stated_fields fields.now) rdata.now)) }
+        ensures refused { IfErr result
+            (RefusesUpTo self.old.limit
+            (length self.old.octets.items + length (packed_fields self.old.places.items (length self.old.octets.items) (stated_fields fields.now) rdata.now).octets)) }
     {
         let mut rest = rdata;
         for field in fields.iter() {
@@ -72,7 +76,8 @@ impl<'a> Packer<'a> {
         requires up { 2 ≤ start }
         requires inside { start ≤ length self.old.octets.items }
         requires small { length self.old.octets.items - start < 65536 }
-        ensures octets { self.new.octets.items ≡ take (start - 2) self.old.octets.items ++ be_octets w16 (length self.old.octets.items - start) ++ drop start self.old.octets.items }
+        ensures octets { self.new.octets.items
+            ≡ take (start - 2) self.old.octets.items ++ be_octets w16 (length self.old.octets.items - start) ++ drop start self.old.octets.items }
         ensures places { self.new.places.items ≡ self.old.places.items }
         ensures limit { self.new.limit ≡ self.old.limit }
     {
@@ -83,8 +88,12 @@ impl<'a> Packer<'a> {
     /// Writes the data of a record, by the form of its type.
     fn put_rdata(&mut self, one: &ReplyRecord<'a>) -> Result<(), WireError>
         requires room { length self.old.octets.items ≤ self.old.limit }
-        ensures written { OnOk result (Wrote self.old.limit self.old.octets.items self.new.octets.items self.new.limit self.new.places.items (packed_rdata self.old.places.items (length self.old.octets.items) one.now)) }
-        ensures refused { IfErr result (RefusesUpTo self.old.limit (length self.old.octets.items + length (packed_rdata self.old.places.items (length self.old.octets.items) one.now).octets)) }
+        ensures written { OnOk result
+            (Wrote self.old.limit self.old.octets.items self.new.octets.items self.new.limit self.new.places.items
+            (packed_rdata self.old.places.items (length self.old.octets.items) one.now)) }
+        ensures refused { IfErr result
+            (RefusesUpTo self.old.limit
+            (length self.old.octets.items + length (packed_rdata self.old.places.items (length self.old.octets.items) one.now).octets)) }
     {
         let rdata = one.rdata();
         match form(one.rtype()) {
@@ -97,8 +106,12 @@ impl<'a> Packer<'a> {
     fn put_record(&mut self, one: &ReplyRecord<'a>) -> Result<(), WireError>
         requires room { length self.old.octets.items ≤ self.old.limit }
         requires small { self.old.limit < 65536 }
-        ensures written { OnOk result (Wrote self.old.limit self.old.octets.items self.new.octets.items self.new.limit self.new.places.items (packed_record self.old.places.items (length self.old.octets.items) one.now)) }
-        ensures refused { IfErr result (RefusesUpTo self.old.limit (length self.old.octets.items + length (packed_record self.old.places.items (length self.old.octets.items) one.now).octets)) }
+        ensures written { OnOk result
+            (Wrote self.old.limit self.old.octets.items self.new.octets.items self.new.limit self.new.places.items
+            (packed_record self.old.places.items (length self.old.octets.items) one.now)) }
+        ensures refused { IfErr result
+            (RefusesUpTo self.old.limit
+            (length self.old.octets.items + length (packed_record self.old.places.items (length self.old.octets.items) one.now).octets)) }
     {
         self.put_name(one.owner().as_wire())?;
         self.put(&fixed(one.rtype(), one.ttl()))?;
@@ -112,8 +125,12 @@ impl<'a> Packer<'a> {
     pub(crate) fn put_records(&mut self, records: &[ReplyRecord<'a>]) -> Result<(), WireError>
         requires room { length self.old.octets.items ≤ self.old.limit }
         requires small { self.old.limit < 65536 }
-        ensures written { OnOk result (Wrote self.old.limit self.old.octets.items self.new.octets.items self.new.limit self.new.places.items (packed_all self.old.places.items (length self.old.octets.items) records.now)) }
-        ensures refused { IfErr result (RefusesUpTo self.old.limit (length self.old.octets.items + length (packed_all self.old.places.items (length self.old.octets.items) records.now).octets)) }
+        ensures written { OnOk result
+            (Wrote self.old.limit self.old.octets.items self.new.octets.items self.new.limit self.new.places.items
+            (packed_all self.old.places.items (length self.old.octets.items) records.now)) }
+        ensures refused { IfErr result
+            (RefusesUpTo self.old.limit
+            (length self.old.octets.items + length (packed_all self.old.places.items (length self.old.octets.items) records.now).octets)) }
     {
         for one in records.iter() {
             self.put_record(one)?;

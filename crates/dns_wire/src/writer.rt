@@ -31,7 +31,9 @@ fn count(records: &[ReplyRecord<'_>]) -> Result<[u8; 2], WireError>
 /// The header of a reply (RFC 1035 section 4.1.1).
 fn header(reply: &Reply<'_>) -> Result<[u8; 12], WireError>
     ensures found { IfOk result (λ octets. octets ≡ header_octets (stated reply.now)) }
-    ensures refused { IfErr result (λ e. (e ≡ WireError.DoesNotFit) × (65535 < length reply.now.answer.items + length reply.now.authority.items + length reply.now.additional.items)) }
+    ensures refused { IfErr result
+        (λ e. (e ≡ WireError.DoesNotFit)
+        × (65535 < length reply.now.answer.items + length reply.now.authority.items + length reply.now.additional.items)) }
 {
     let id = reply.id.to_be_bytes();
     let questions = if reply.question.is_some() { 1 } else { 0 };
@@ -65,8 +67,11 @@ impl<'a> Packer<'a> {
         requires header { length self.old.octets.items ≡ 12 }
         requires first { self.old.places.items ≡ [] }
         requires room { length self.old.octets.items ≤ self.old.limit }
-        ensures written { OnOk result (Wrote self.old.limit self.old.octets.items self.new.octets.items self.new.limit self.new.places.items (asked (echo question.now))) }
-        ensures refused { IfErr result (RefusesUpTo self.old.limit (length self.old.octets.items + length (asked (echo question.now)).octets)) }
+        ensures written { OnOk result
+            (Wrote self.old.limit self.old.octets.items self.new.octets.items self.new.limit self.new.places.items
+            (asked (echo question.now))) }
+        ensures refused { IfErr result
+            (RefusesUpTo self.old.limit (length self.old.octets.items + length (asked (echo question.now)).octets)) }
     {
         if let Some(echo) = question {
             let name = echo.name.as_wire();
@@ -105,14 +110,21 @@ impl Writer {
     }
 }
 
-/// A reply has at most one packed text, and the computed text is that, and reads as the reply. Each record takes ten octets or more. The computed packing writes a name as
+/// A reply has at most one packed text, and the computed text is that, and reads as the reply. Each record takes ten octets or
+/// more. The computed packing writes a name as
 /// it is to be written, and keeps its table of places right.
 pub fn one_packed_text()
     ensures once { (t u : List ℕ) (r : Stated) → IsPacked t r → IsPacked u r → t ≡ u }
     ensures packed { (r : Stated) → IsReply r → IsPacked (text r) r }
     ensures long { (r : Stated) → 12 + 10 * (length r.answer + length r.authority + length r.additional) ≤ length (text r) }
     ensures reads_back { (r : Stated) → IsReply r → Reads (text r) (message_of_reply r) }
-    ensures written { (earlier : List Used) (places : List Place) (name : Labels) → AreThePlaces (StandsAt earlier) places → IsWritten (StandsAt earlier) name (pack_name places name) }
+    ensures written { (earlier : List Used) (places : List Place) (name : Labels)
+        → AreThePlaces (StandsAt earlier) places
+        → IsWritten (StandsAt earlier) name (pack_name places name) }
     ensures first { AreThePlaces (StandsAt []) [] }
-    ensures next { (earlier : List Used) (places : List Place) (at : ℕ) (name : Labels) → AreThePlaces (StandsAt earlier) places → ((offset : ℕ) (suffix : Labels) → StandsAt earlier offset suffix → offset < at) → AreThePlaces (StandsAt (and_field earlier at (at + length (pack_name places name)) name)) (places ++ new_places places at name) }
+    ensures next { (earlier : List Used) (places : List Place) (at : ℕ) (name : Labels)
+        → AreThePlaces (StandsAt earlier) places
+        → ((offset : ℕ) (suffix : Labels) → StandsAt earlier offset suffix → offset < at)
+        → AreThePlaces (StandsAt (and_field earlier at (at + length (pack_name places name)) name))
+        (places ++ new_places places at name) }
 {}

@@ -19,7 +19,9 @@ pub name_total : IsTotalOrder name_cmp
 name_total = name_cmp-total
 
 pub record_total : IsTotalOrder record_cmp
-record_total = then_total (on_total (λ (r : Record). reverse r.owner) (lists_total nat_list_cmp_total)) (then_total (on_total (λ (r : Record). r.rtype) nat_cmp_total) (on_total (λ (r : Record). r.rdata) nat_list_cmp_total))
+record_total =
+    then_total (on_total (λ (r : Record). reverse r.owner) (lists_total nat_list_cmp_total))
+    (then_total (on_total (λ (r : Record). r.rtype) nat_cmp_total) (on_total (λ (r : Record). r.rdata) nat_list_cmp_total))
 
 first_equal : (a b : Ordering) → ordering_then a b ≡ Equal → (a ≡ Equal) × (b ≡ Equal)
 first_equal Less b e = absurd cc

@@ -10,7 +10,9 @@ use Rattle.dns_zone.specs.Records.{records_at, rrset, owns, owns_type}
 above_zero : (n : ℕ) → (suc n == 0) ≡ false
 above_zero n = grind (arith, nat_tests)
 
-counted : (p : Record → Bool) (x : Record) (xs : List Record) (b : Bool) → (length (filter p xs) == 0) ≡ not (list_any p xs) → (length (cond b (x ∷ filter p xs) (filter p xs)) == 0) ≡ not (b || list_any p xs)
+counted : (p : Record → Bool) (x : Record) (xs : List Record) (b : Bool)
+    → (length (filter p xs) == 0) ≡ not (list_any p xs)
+    → (length (cond b (x ∷ filter p xs) (filter p xs)) == 0) ≡ not (b || list_any p xs)
 counted p x xs true rest = above_zero (length (filter p xs))
 counted p x xs false rest = rest
 

@@ -78,7 +78,11 @@ missed x y xs ys e h is =
     let some : found x (x ∷ xs) ≡ Some x = found_head x xs in
     absurd cc
 
-tails : (x q : Record) (xs ys : List Record) → Below x xs → Below x ys → found q (x ∷ xs) ≡ found q (x ∷ ys) → found q xs ≡ found q ys
+tails : (x q : Record) (xs ys : List Record)
+    → Below x xs
+    → Below x ys
+    → found q (x ∷ xs) ≡ found q (x ∷ ys)
+    → found q xs ≡ found q ys
 tails x q xs ys g h e = elim (told (ties q x)) [
   | inl t ↦ (let tied = equal_is (record_cmp q x) t in not_found q xs (below_tied q x xs tied g) ∙ sym (not_found q ys (below_tied q x ys tied h)))
   | inr t ↦ (let left : found q (x ∷ xs) ≡ found q xs = ap (λ b. cond b (Some x) (found q xs)) t in
@@ -157,7 +161,11 @@ sorted_filter test (x ∷ xs) h =
     let rest = sorted_filter test xs h.1 in
     elim (test x) as (λ b. Sorted (cond b (x ∷ filter test xs) (filter test xs))) [ true ↦ (below_filter x test xs h.0, rest) | false ↦ rest ]
 
-found_passed : (q x : Record) (test : Record → Bool) (xs : List Record) (b t : Bool) → test x ≡ b → ties q x ≡ t → Below x xs → found q (filter test xs) ≡ only test (found q xs)
+found_passed : (q x : Record) (test : Record → Bool) (xs : List Record) (b t : Bool)
+    → test x ≡ b
+    → ties q x ≡ t
+    → Below x xs
+    → found q (filter test xs) ≡ only test (found q xs)
     → found q (cond b (x ∷ filter test xs) (filter test xs)) ≡ only test (cond t (Some x) (found q xs))
 found_passed q x test xs true true e f h is = ap (λ c. cond c (Some x) (found q (filter test xs))) f ∙ sym (ap (λ c. cond c (Some x) None) e)
 found_passed q x test xs true false e f h is = ap (λ c. cond c (Some x) (found q (filter test xs))) f ∙ is
@@ -166,7 +174,9 @@ found_passed q x test xs false true e f h is =
     none ∙ sym (ap (λ c. cond c (Some x) None) e)
 found_passed q x test xs false false e f h is = is
 
-pub found_filter : (q : Record) (test : Record → Bool) (xs : List Record) → Sorted xs → found q (filter test xs) ≡ only test (found q xs)
+pub found_filter : (q : Record) (test : Record → Bool) (xs : List Record)
+    → Sorted xs
+    → found q (filter test xs) ≡ only test (found q xs)
 found_filter q test [] h = refl
 found_filter q test (x ∷ xs) h = found_passed q x test xs (test x) (ties q x) refl refl h.0 (found_filter q test xs h.1)
 
@@ -225,7 +235,9 @@ contains_found a (x ∷ xs) h e = elim (either_true (same a x) (contains xs a) e
 ]
 
 -- contained among those that pass a test
-pub filter_contains : (a : Record) (test : Record → Bool) (xs : List Record) → contains (filter test xs) a ≡ true → (test a ≡ true) × (contains xs a ≡ true)
+pub filter_contains : (a : Record) (test : Record → Bool) (xs : List Record)
+    → contains (filter test xs) a ≡ true
+    → (test a ≡ true) × (contains xs a ≡ true)
 filter_contains a test [] e = absurd cc
 filter_contains a test (x ∷ xs) e =
     elim (test x) as (λ b. test x ≡ b → contains (cond b (x ∷ filter test xs) (filter test xs)) a ≡ true → (test a ≡ true) × (contains (x ∷ xs) a ≡ true)) [
@@ -240,7 +252,10 @@ filter_contains a test (x ∷ xs) e =
     grow true c e = refl
     grow false c e = e
 
-pub contains_filter : (a : Record) (test : Record → Bool) (xs : List Record) → contains xs a ≡ true → test a ≡ true → contains (filter test xs) a ≡ true
+pub contains_filter : (a : Record) (test : Record → Bool) (xs : List Record)
+    → contains xs a ≡ true
+    → test a ≡ true
+    → contains (filter test xs) a ≡ true
 contains_filter a test [] e t = absurd cc
 contains_filter a test (x ∷ xs) e t = elim (either_true (same a x) (contains xs a) e) [
   | inl s ↦ (let is = same_is a x s in

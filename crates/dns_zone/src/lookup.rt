@@ -1,4 +1,5 @@
-//! Matching a name in a list of records in order: one search for the name's place tells by its neighbours how much of it exists, and
+//! Matching a name in a list of records in order: one search for the name's place tells by its neighbours how much of it exists,
+//! and
 //! what stands above it is found by short searches from there.
 ghost use Rattle.std.specs.Prelude.{◌≡◌, ◌≤◌, true, false, not, ◌&&◌, List, length, None, IfSome, IfNone};
 ghost use Rattle.dns_names.specs.Name.{Labels, wire, labels_of, wildcard, under, names_eq};
@@ -80,7 +81,10 @@ fn is_owned_beside(records: &[Record], place: usize, name: &NameRef<'_>) -> bool
 
 /// Whether the zone is cut at a name under its apex that owns these records: there is an NS (RFC 1034 section 4.2.1).
 fn has_servers(owned: &[Record]) -> bool
-    ensures { (set : List Stated) (name : Labels) → is_ordered set ≡ true → owned.now ≡ records_at set name → result ≡ owns_type set name type_ns }
+    ensures { (set : List Stated) (name : Labels)
+        → is_ordered set ≡ true
+        → owned.now ≡ records_at set name
+        → result ≡ owns_type set name type_ns }
 {
     !of_type(owned, types::NS).is_empty()
 }
@@ -94,7 +98,8 @@ fn shortest_cut<'n, 's>(
     near: usize,
 ) -> Option<(NameRef<'n>, &'s [Record])>
     requires { is_ordered records.now ≡ true }
-    ensures found { IfSome result (λ found. EndsAtCut (record { apex = apex.now; records = records.now }) name.now found.0 found.1.now) }
+    ensures found { IfSome result
+        (λ found. EndsAtCut (record { apex = apex.now; records = records.now }) name.now found.0 found.1.now) }
     ensures none { IfNone result (cut (record { apex = apex.now; records = records.now }) name.now ≡ None) }
 {
     let mut shortest = None;
@@ -121,7 +126,8 @@ fn cut_above<'n, 's>(
     near: usize,
 ) -> Option<(NameRef<'n>, &'s [Record])>
     requires { is_ordered records.now ≡ true }
-    ensures found { IfSome result (λ found. EndsAtCut (record { apex = apex.now; records = records.now }) name.now found.0 found.1.now) }
+    ensures found { IfSome result
+        (λ found. EndsAtCut (record { apex = apex.now; records = records.now }) name.now found.0 found.1.now) }
     ensures none { IfNone result (EndsAtMost (record { apex = apex.now; records = records.now }) name.now) }
 {
     match name.parent() {
@@ -132,7 +138,10 @@ fn cut_above<'n, 's>(
 
 /// Whether the zone of the apex is cut at a name that owns these records.
 fn is_cut(apex: &NameRef<'_>, name: &NameRef<'_>, owned: &[Record]) -> bool
-    ensures { (set : List Stated) → is_ordered set ≡ true → owned.now ≡ records_at set name.now → result ≡ cuts_at (record { apex = apex.now; records = set }) name.now }
+    ensures { (set : List Stated)
+        → is_ordered set ≡ true
+        → owned.now ≡ records_at set name.now
+        → result ≡ cuts_at (record { apex = apex.now; records = set }) name.now }
 {
     is_below(name, apex) && has_servers(owned)
 }
@@ -180,7 +189,8 @@ fn wildcard_near<'s>(
 ) -> Option<&'s [Record]>
     requires order { is_ordered records.now ≡ true }
     requires room { length (wire above.now) ≤ 253 }
-    ensures found { IfSome result (λ owned. (exists records.now (wildcard above.now) ≡ true) × (owned.now ≡ records_at records.now (wildcard above.now))) }
+    ensures found { IfSome result
+        (λ owned. (exists records.now (wildcard above.now) ≡ true) × (owned.now ≡ records_at records.now (wildcard above.now))) }
     ensures none { IfNone result (exists records.now (wildcard above.now) ≡ false) }
 {
     let octets = starred(above);

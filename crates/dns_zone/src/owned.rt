@@ -10,7 +10,10 @@ use dns_records::Record;
 
 /// Those of a type among the records that a name owns, which stand in order of type (RFC 2181 section 5).
 pub fn of_type(records: &[Record], rtype: u16) -> &[Record]
-    ensures { (set : List Stated) (name : Labels) → is_ordered set ≡ true → records.now ≡ records_at set name → result.now ≡ rrset set name rtype }
+    ensures { (set : List Stated) (name : Labels)
+        → is_ordered set ≡ true
+        → records.now ≡ records_at set name
+        → result.now ≡ rrset set name rtype }
 {
     let from = &records[records.partition_point(|r| r.rtype() < rtype)..];
     &from[..from.partition_point(|r| r.rtype() == rtype)]

@@ -158,7 +158,8 @@ pub fn find_parts<'r>(
     rdata: &[u8],
 ) -> Option<&'r Record>
     requires { is_ordered records.now ≡ true }
-    ensures { option_copied result ≡ find (alike (record { owner = owner.now; rtype = rtype; ttl = 0; rdata = rdata.now })) records.now }
+    ensures { option_copied result
+        ≡ find (alike (record { owner = owner.now; rtype = rtype; ttl = 0; rdata = rdata.now })) records.now }
 {
     let key = Key::Parts(owner.again(), rtype, rdata);
     let at = count_before(records, &key, None);

@@ -46,7 +46,10 @@ fn soas_with(soas: usize, r: &Record) -> usize
 
 /// What is told with one record more, of which it is known whether it is an alias that shares its owner.
 fn with_record(survey: Survey, r: &Record, apex: &NameRef<'_>, shared: bool) -> Survey
-    ensures { (records rest : List Stated) → shared ≡ is_shared_alias records r.now → Surveys apex.now records (r.now ∷ rest) survey → Surveys apex.now records rest result }
+    ensures { (records rest : List Stated)
+        → shared ≡ is_shared_alias records r.now
+        → Surveys apex.now records (r.now ∷ rest) survey
+        → Surveys apex.now records rest result }
 {
     let stands_under = r.owner().lend().is_under(apex);
     Survey {
