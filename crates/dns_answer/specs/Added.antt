@@ -18,8 +18,7 @@ abbrev pub count_of : Sections → ℕ
 count_of s = length s.answer.items + length s.authority.items + length s.additional.items
 
 -- The same of the first of some records: of all of them, unless the sections have more records than so many. Sections that have
--- more
--- stay.
+-- more stay.
 pub record AddsUpTo (most : ℕ) (before after : Sections) (records : List Record) : Type 0 where
   pub first : List Record
   pub rest : List Record

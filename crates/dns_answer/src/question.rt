@@ -136,9 +136,8 @@ fn answer<'a, I: ZoneIndex>(
     reply_to(alloc, zones, message, asked, transport, found.as_slice())
 }
 
-/// The reply to a query, octet for octet as it is defined, with its question: what the lookup finds, or REFUSED where its name
-/// is under
-/// no held apex.
+/// The reply to a query, octet for octet as it is defined, with its question: what the lookup finds, or REFUSED where its name is
+/// under no held apex.
 pub fn reply<I: ZoneIndex>(
     alloc: Heap,
     zones: &[Zone<I>],

@@ -93,8 +93,7 @@ fn number(word: Option<&str>) -> Option<u32> {
 }
 
 /// Reads how many hosts there are and how many questions, and prints how many names were searched; where a third number says how
-/// many
-/// addresses one host has, the questions are updates.
+/// many addresses one host has, the questions are updates.
 fn start(rt: &HostRuntime) -> io::Result<bool> {
     let mut words = Vec::new(rt.alloc());
     for word in env::args(rt)? {

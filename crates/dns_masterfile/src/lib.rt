@@ -42,8 +42,7 @@ pub enum FileError {
     /// The line begins with a blank, and no record stands before it.
     NoOwner,
     /// The word in the type's place is no type that has a form here, and no `TYPE` with the number of another type of which a
-    /// zone can
-    /// have records.
+    /// zone can have records.
     UnknownType,
     /// The data has more than 4,096 octets.
     TooLong,

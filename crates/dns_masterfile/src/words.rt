@@ -17,8 +17,7 @@ pub(crate) enum Step {
 }
 
 /// How many octets behind a `\` belong to it, by the kind of the first: none at a line end, one else, and no answer where it may
-/// not stand
-/// there.
+/// not stand there.
 fn takes(kind: Kind) -> Option<usize>
     ensures { result ≡ escape_takes kind }
 {

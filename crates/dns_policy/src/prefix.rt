@@ -79,8 +79,7 @@ fn split_at_slash(text: &[u8]) -> Option<(&[u8], &[u8])>
 
 impl Prefix {
     /// The prefix of a text: an address, `/` and a length of at most 32 or 128 in decimal digits without leading zeros. A text
-    /// with no `/`, or
-    /// with no address before it, is `BadPrefix`; else one with no such length is `BadLength`.
+    /// with no `/`, or with no address before it, is `BadPrefix`; else one with no such length is `BadLength`.
     pub fn parse(text: &[u8]) -> Result<Prefix, PrefixError>
         ensures { MatchResult result (IsPrefix text.now) (Explains text.now) }
     {

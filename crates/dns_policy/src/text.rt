@@ -6,8 +6,7 @@ ghost use Rattle.dns_policy.specs.Address.{IsAddress, ipv4_in, ipv4_of_text, ipv
 use std::net::{IpAddr, Ipv4Addr, Ipv6Addr};
 
 /// The address of a text, as the data of an A or AAAA record has it (RFC 1035 section 3.4.1, RFC 3596 section 2.4): an IPv6
-/// address has no
-/// dotted numbers at its end.
+/// address has no dotted numbers at its end.
 pub fn address(text: &[u8]) -> Option<IpAddr>
     ensures found { IfSome result (IsAddress text.now) }
     ensures only { (a : StatedIp) → IsAddress text.now a → result ≡ Some a }

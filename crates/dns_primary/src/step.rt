@@ -25,8 +25,7 @@ fn noted(failed: Option<usize>) -> Noted
 
 impl<I: ZoneIndex, S: ZoneStore> Primary<I, S> {
     /// Makes durable what was staged, shows it, and lets go out what waits for it: SERVFAIL where a zone's device failed. It
-    /// takes no
-    /// memory.
+    /// takes no memory.
     pub fn flush(&mut self) -> Effects
         // Whatever older versions there were, it is the step of the machine.
         ensures step { (old : Machine) → IsKept self.old old

@@ -73,8 +73,7 @@ pub record ScriptEnds (zones : List Zone) (script : File) (out out_after err err
   pub others : status ≤ 1 ⊎ (status ≡ 3)
 
 -- The fault that is told, behind a path, before the script runs: of the configuration, or else of the first master file that
--- holds no
--- zone, in the order of the zones.
+-- holds no zone, in the order of the zones.
 abbrev pub IsFault : File → List File → List ℕ → Fault → Type 0
 IsFault config files path fault =
     ((path ≡ config.path.now) × Holds (option_copied config.octets) (Err fault))

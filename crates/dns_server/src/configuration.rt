@@ -351,8 +351,7 @@ fn configuration_of(
 
 impl Configuration {
     /// Reads a configuration in TOML: its keys are those of `Configuration` and of its zones, `listen` with the address, a colon
-    /// and the
-    /// port as one text. `BadConfig` comes for every other text.
+    /// and the port as one text. `BadConfig` comes for every other text.
     pub fn read(
         alloc: Global,
         heap: Heap,

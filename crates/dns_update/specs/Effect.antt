@@ -26,8 +26,7 @@ abbrev pub succeeds : Record → Record → Bool
 succeeds r s = names_eq s.owner r.owner && s.rtype == type_soa && greater (serial_of r) (serial_of s)
 
 -- A record is added (RFC 2136 3.4.2.2). A CNAME and another type don't come together; a CNAME replaces a CNAME, a SOA one of a
--- lesser serial, and
--- a record that of equal owner, type and data, whose TTL may differ.
+-- lesser serial, and a record that of equal owner, type and data, whose TTL may differ.
 abbrev pub added : List Record → Record → List Record
 added records r =
     if r.rtype == type_cname then (if owns_other records r.owner type_cname then records else replaced records r)

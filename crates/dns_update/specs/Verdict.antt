@@ -35,8 +35,7 @@ with_next_serial [] records = records
 with_next_serial (soa ∷ rest) records = put (with_serial soa (next_serial (serial_of soa))) (without soa records)
 
 -- What the items did becomes a version: nothing where the set is the same, else a set with a greater serial. A serial that the
--- items left is advanced by
--- one (RFC 2136 3.6); one that isn't greater than before is refused (RFC 1982).
+-- items left is advanced by one (RFC 2136 3.6); one that isn't greater than before is refused (RFC 1982).
 abbrev pub versioned : List Record → List Record → Verdict
 versioned before after =
     if same_set before after then Keeps

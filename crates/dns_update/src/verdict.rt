@@ -168,9 +168,9 @@ fn judge_items<I: ZoneIndex>(
     versioned(alloc, zone, after, &names)
 }
 
-/// What becomes of an update of the zone, which stays as it is (RFC 2136 sections 3.2 to 3.6). What is accepted is the change
-/// and the records that
-/// it leads to: a valid zone with a greater serial, but that the caller sees to its room, as there may be more than 65,536 of them.
+/// What becomes of an update of the zone, which stays as it is (RFC 2136 sections 3.2 to 3.6). What is accepted is the change and
+/// the records that it leads to: a valid zone with a greater serial, but that the caller sees to its room, as there may be more
+/// than 65,536 of them.
 pub fn judge<I: ZoneIndex>(
     alloc: Heap,
     zone: &Zone<I>,

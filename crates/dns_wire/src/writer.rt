@@ -111,8 +111,7 @@ impl Writer {
 }
 
 /// A reply has at most one packed text, and the computed text is that, and reads as the reply. Each record takes ten octets or
-/// more. The computed packing writes a name as
-/// it is to be written, and keeps its table of places right.
+/// more. The computed packing writes a name as it is to be written, and keeps its table of places right.
 pub fn one_packed_text()
     ensures once { (t u : List ℕ) (r : Stated) → IsPacked t r → IsPacked u r → t ≡ u }
     ensures packed { (r : Stated) → IsReply r → IsPacked (text r) r }

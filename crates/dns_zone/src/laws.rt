@@ -33,9 +33,8 @@ pub enum Command {
     From(usize),
     /// Asks what the zone of an apex has for a name.
     Match(Name, Name),
-    /// Takes a fork, puts the record into what the fork was taken from, asks there for the records of its owner, and goes on
-    /// with the
-    /// fork.
+    /// Takes a fork, puts the record into what the fork was taken from, asks there for the records of its owner, and goes on with
+    /// the fork.
     Fork(Record),
 }
 

@@ -1,6 +1,5 @@
 //! Matching a name in a list of records in order: one search for the name's place tells by its neighbours how much of it exists,
-//! and
-//! what stands above it is found by short searches from there.
+//! and what stands above it is found by short searches from there.
 ghost use Rattle.std.specs.Prelude.{◌≡◌, ◌≤◌, true, false, not, ◌&&◌, List, length, None, IfSome, IfNone};
 ghost use Rattle.dns_names.specs.Name.{Labels, wire, labels_of, wildcard, under, names_eq};
 ghost use Rattle.dns_names.specs.Plain.{IsPlain};
