@@ -12,10 +12,10 @@ use Rattle.dns_records.specs.Record.{Record, host_of, minimum_of}
 use Rattle.dns_zone.specs.Records.{rrset, owns_type}
 use Rattle.dns_zone.specs.Zone.{Zone, IsZone, soas}
 use Rattle.dns_zone.specs.declared.ZoneError.{ZoneError}
-use Rattle.dns_lookup.specs.Told.{IsTold, AreTold}
-use Rattle.dns_lookup.specs.Held.{records_found, IsHeld, AreHeld}
-use Rattle.dns_lookup.specs.ToldLaws.{outcome_of, told_is, told_at, told_length}
-use Rattle.dns_lookup.specs.declared.chain.Found.{Found as Told}
+use Rattle.dns_lookup.specs.Represented.{Represents, RepresentAll}
+use Rattle.dns_lookup.specs.Lent.{records_found, Lends, AllLend}
+use Rattle.dns_lookup.specs.RepresentedLaws.{outcome_of, represented_is, represented_at, represented_length}
+use Rattle.dns_lookup.specs.declared.chain.Found.{Found as Represented}
 use Rattle.dns_lookup.specs.declared.outcome.Kind.{Kind}
 use Rattle.dns_lookup.specs.declared.outcome.Kind.TheVariants as kinds
 use Rattle.dns_lookup.specs.Lookup.{Outcome, Found}
@@ -47,16 +47,16 @@ answers_kind z name t kinds.Referral at rs e = refl
 answers_kind z name t kinds.NoData at rs e = refl
 answers_kind z name t kinds.NameError at rs e = refl
 
--- what is told puts into the answer section what it holds
-pub answers_told : (zones : List Zone) (t : ℕ) (f : Found) (one : Told) → IsTold zones f one → IsHeld zones t one → answers_of t f ≡ from_zone f.zone (as_owner f.name (answering one.kind one.records.now))
-answers_told zones t f one is holds =
-    ap (answers_at f.zone f.name t) (told_is f.outcome f.name one.kind one.node is.kind) ∙ answers_kind f.zone f.name t one.kind one.node one.records.now (holds f.zone is.zone)
+-- what is returned puts into the answer section what it holds
+pub answers_represented : (zones : List Zone) (t : ℕ) (f : Found) (one : Represented) → Represents zones f one → Lends zones t one → answers_of t f ≡ from_zone f.zone (as_owner f.name (answering one.kind one.records.now))
+answers_represented zones t f one is holds =
+    ap (answers_at f.zone f.name t) (represented_is f.outcome f.name one.kind one.node is.kind) ∙ answers_kind f.zone f.name t one.kind one.node one.records.now (holds f.zone is.zone)
 
 -- those of one of all
-pub held_one : (zones : List Zone) (t : ℕ) (told : List Told) (i : ℕ) (one : Told) → AreHeld zones t told → i < length told → one ≡ get_or told i one → IsHeld zones t one
-held_one zones t [] i one h inside e = absurd (omega (arith, inside))
-held_one zones t (x ∷ told) zero one h inside e = subst (λ (o : Told). IsHeld zones t o) (sym e) h.0
-held_one zones t (x ∷ told) (suc i) one h inside e = held_one zones t told i one h.1 (omega (arith, inside)) e
+pub lent_one : (zones : List Zone) (t : ℕ) (returned : List Represented) (i : ℕ) (one : Represented) → AllLend zones t returned → i < length returned → one ≡ get_or returned i one → Lends zones t one
+lent_one zones t [] i one h inside e = absurd (omega (arith, inside))
+lent_one zones t (x ∷ returned) zero one h inside e = subst (λ (o : Represented). Lends zones t o) (sym e) h.0
+lent_one zones t (x ∷ returned) (suc i) one h inside e = lent_one zones t returned i one h.1 (omega (arith, inside)) e
 
 -- one name more in the answer section
 pub next_answers : (t : ℕ) (fs : List Found) (i : ℕ) (f : Found) (rs : List Record) → take (i + 1) fs ≡ take i fs ++ f ∷ [] → answers_of t f ≡ from_zone f.zone (as_owner f.name rs) → records_of (answer_of t (take (i + 1) fs)) ≡ records_of (answer_of t (take i fs)) ++ as_owner f.name rs
@@ -125,11 +125,11 @@ two_tests true false x y rest e = (refl, refl)
 two_tests false b x y rest e = absurd cc
 
 -- a zone has one SOA, and it stands at the apex
-pub held_soa : (z : Zone) → IsZone z → rrset z.records z.apex type_soa ≡ soas z.records
-held_soa z valid =
-    let told = two_tests (owns_type z.records z.apex type_soa) (nat_lt 1 (length (soas z.records))) _ _ _ valid.valid in
-    let one : length (soas z.records) ≤ 1 = grind (arith, nat_tests, told.1) in
-    only_one (λ r. names_eq r.owner z.apex) (λ r. r.rtype == type_soa) z.records told.0 one
+pub lent_soa : (z : Zone) → IsZone z → rrset z.records z.apex type_soa ≡ soas z.records
+lent_soa z valid =
+    let returned = two_tests (owns_type z.records z.apex type_soa) (nat_lt 1 (length (soas z.records))) _ _ _ valid.valid in
+    let one : length (soas z.records) ≤ 1 = grind (arith, nat_tests, returned.1) in
+    only_one (λ r. names_eq r.owner z.apex) (λ r. r.rtype == type_soa) z.records returned.0 one
 
 -- a SOA has no host, and so no addresses with it
 no_host_of_soa : (r : Record) → r.rtype ≡ type_soa → host_of r ≡ None
@@ -168,8 +168,8 @@ negative_authority z at kinds.NoData no_cut no_alias no_data = records_back z (n
 negative_authority z at kinds.NameError no_cut no_alias no_data = records_back z (negative_soa z)
 
 -- the zone at a place
-pub held_at : (zones : List Zone) (i : ℕ) (z held : Zone) → held ≡ get_or zones i held → slice_get zones i ≡ Some z → held ≡ z
-held_at zones i z held is e = is ∙ get_or_from_slice_get zones i z held e
+pub lent_at : (zones : List Zone) (i : ℕ) (z stored : Zone) → stored ≡ get_or zones i stored → slice_get zones i ≡ Some z → stored ≡ z
+lent_at zones i z stored is e = is ∙ get_or_from_slice_get zones i z stored e
 
 -- the owner that goes out does not count
 pub same_addresses : (z : Zone) (name : Labels) (rs : List Record) → flat_map addresses_for (from_zone z (as_owner name rs)) ≡ flat_map addresses_for (from_zone z rs)
@@ -191,28 +191,28 @@ authority_last [] f = refl
 authority_last (g ∷ []) f = refl
 authority_last (g ∷ h ∷ fs) f = authority_last (h ∷ fs) f
 
-pub last_one : (told : List Told) (one : Told) → Some one ≡ slice_get told (length told - 1) → (length told - 1 < length told) × (one ≡ get_or told (length told - 1) one)
-last_one told one e =
-    let inside = slice_get_within told (length told - 1) one (sym e) in
-    (inside, sym (get_or_from_slice_get told (length told - 1) one one (sym e)))
+pub last_one : (returned : List Represented) (one : Represented) → Some one ≡ slice_get returned (length returned - 1) → (length returned - 1 < length returned) × (one ≡ get_or returned (length returned - 1) one)
+last_one returned one e =
+    let inside = slice_get_within returned (length returned - 1) one (sym e) in
+    (inside, sym (get_or_from_slice_get returned (length returned - 1) one one (sym e)))
 
-pub last_told : (zones : List Zone) (fs : List Found) (told : List Told) (one : Told) → AreTold zones fs told → Some one ≡ slice_get told (length told - 1) → (f : Found) × IsTold zones f one × (authority_of fs ≡ authority_at f)
-last_told zones fs told one are e =
-    let at_end = last_one told one e in
-    let at = told_at zones fs told (length told - 1) one are at_end.0 at_end.1 in
-    let size : length fs ≤ length told - 1 + 1 = omega (arith, told_length zones fs told are, at_end.0) in
-    let whole : fs ≡ take (length told - 1) fs ++ at.found ∷ [] = sym (take_all (length told - 1 + 1) fs size) ∙ at.next in
-    (at.found, at.is, ap authority_of whole ∙ authority_last (take (length told - 1) fs) at.found)
+pub last_represented : (zones : List Zone) (fs : List Found) (returned : List Represented) (one : Represented) → RepresentAll zones fs returned → Some one ≡ slice_get returned (length returned - 1) → (f : Found) × Represents zones f one × (authority_of fs ≡ authority_at f)
+last_represented zones fs returned one are e =
+    let at_end = last_one returned one e in
+    let at = represented_at zones fs returned (length returned - 1) one are at_end.0 at_end.1 in
+    let size : length fs ≤ length returned - 1 + 1 = omega (arith, represented_length zones fs returned are, at_end.0) in
+    let whole : fs ≡ take (length returned - 1) fs ++ at.found ∷ [] = sym (take_all (length returned - 1 + 1) fs size) ∙ at.next in
+    (at.found, at.is, ap authority_of whole ∙ authority_last (take (length returned - 1) fs) at.found)
 
-pub held_last : (zones : List Zone) (t : ℕ) (told : List Told) (one : Told) → AreHeld zones t told → Some one ≡ slice_get told (length told - 1) → IsHeld zones t one
-held_last zones t told one holds e = let at_end = last_one told one e in held_one zones t told (length told - 1) one holds at_end.0 at_end.1
+pub lent_last : (zones : List Zone) (t : ℕ) (returned : List Represented) (one : Represented) → AllLend zones t returned → Some one ≡ slice_get returned (length returned - 1) → Lends zones t one
+lent_last zones t returned one holds e = let at_end = last_one returned one e in lent_one zones t returned (length returned - 1) one holds at_end.0 at_end.1
 
-pub none_told : (zones : List Zone) (fs : List Found) (told : List Told) → AreTold zones fs told → None ≡ slice_get told (length told - 1) → fs ≡ []
-none_told zones [] told are e = refl
-none_told zones (f ∷ fs) [] are e = absurd are
-none_told zones (f ∷ fs) (one ∷ told) are e =
-    let within : suc (length told) - 1 < suc (length told) = omega arith in
-    absurd (let some = slice_get-get_or (one ∷ told) (suc (length told) - 1) one within in cc)
+pub none_represented : (zones : List Zone) (fs : List Found) (returned : List Represented) → RepresentAll zones fs returned → None ≡ slice_get returned (length returned - 1) → fs ≡ []
+none_represented zones [] returned are e = refl
+none_represented zones (f ∷ fs) [] are e = absurd are
+none_represented zones (f ∷ fs) (one ∷ returned) are e =
+    let within : suc (length returned) - 1 < suc (length returned) = omega arith in
+    absurd (let some = slice_get-get_or (one ∷ returned) (suc (length returned) - 1) one within in cc)
 
 -- the response code and AA
 abbrev pub error_by : Outcome → Bool
@@ -223,13 +223,13 @@ error_last [] f = refl
 error_last (g ∷ []) f = refl
 error_last (g ∷ h ∷ fs) f = error_last (h ∷ fs) f
 
-pub last_error : (zones : List Zone) (fs : List Found) (told : List Told) (one : Told) → AreTold zones fs told → Some one ≡ slice_get told (length told - 1) → is_name_error fs ≡ error_by (outcome_of one.kind one.node)
-last_error zones fs told one are e =
-    let at_end = last_one told one e in
-    let at = told_at zones fs told (length told - 1) one are at_end.0 at_end.1 in
-    let size : length fs ≤ length told - 1 + 1 = omega (arith, told_length zones fs told are, at_end.0) in
-    let whole : fs ≡ take (length told - 1) fs ++ at.found ∷ [] = sym (take_all (length told - 1 + 1) fs size) ∙ at.next in
-    ap is_name_error whole ∙ error_last (take (length told - 1) fs) at.found ∙ ap error_by (told_is at.found.outcome at.found.name one.kind one.node at.is.kind)
+pub last_error : (zones : List Zone) (fs : List Found) (returned : List Represented) (one : Represented) → RepresentAll zones fs returned → Some one ≡ slice_get returned (length returned - 1) → is_name_error fs ≡ error_by (outcome_of one.kind one.node)
+last_error zones fs returned one are e =
+    let at_end = last_one returned one e in
+    let at = represented_at zones fs returned (length returned - 1) one are at_end.0 at_end.1 in
+    let size : length fs ≤ length returned - 1 + 1 = omega (arith, represented_length zones fs returned are, at_end.0) in
+    let whole : fs ≡ take (length returned - 1) fs ++ at.found ∷ [] = sym (take_all (length returned - 1 + 1) fs size) ∙ at.next in
+    ap is_name_error whole ∙ error_last (take (length returned - 1) fs) at.found ∙ ap error_by (represented_is at.found.outcome at.found.name one.kind one.node at.is.kind)
 
 pub no_error : (kind : Kind) (at : Labels) → (kind ≡ kinds.NameError → ⊥) → error_by (outcome_of kind at) ≡ false
 no_error kinds.Referral at other = refl
@@ -241,13 +241,13 @@ no_error kinds.NameError at other = absurd (other refl)
 abbrev pub authoritative_by : Outcome → Bool
 authoritative_by o = is_authoritative ((record { zone = record { apex = []; records = [] }; name = []; outcome = o }) ∷ [])
 
-pub first_authority : (zones : List Zone) (fs : List Found) (told : List Told) (one : Told) → AreTold zones fs told → Some one ≡ slice_get told 0 → is_authoritative fs ≡ authoritative_by (outcome_of one.kind one.node)
+pub first_authority : (zones : List Zone) (fs : List Found) (returned : List Represented) (one : Represented) → RepresentAll zones fs returned → Some one ≡ slice_get returned 0 → is_authoritative fs ≡ authoritative_by (outcome_of one.kind one.node)
 first_authority zones [] [] one are e = absurd cc
-first_authority zones [] (x ∷ told) one are e = absurd are
+first_authority zones [] (x ∷ returned) one are e = absurd are
 first_authority zones (f ∷ fs) [] one are e = absurd are
-first_authority zones (f ∷ fs) (x ∷ told) one are e =
+first_authority zones (f ∷ fs) (x ∷ returned) one are e =
     let same : x ≡ one = cc in
-    ap authoritative_by (told_is f.outcome f.name x.kind x.node are.0.kind) ∙ ap (λ (y : Told). authoritative_by (outcome_of y.kind y.node)) same
+    ap authoritative_by (represented_is f.outcome f.name x.kind x.node are.0.kind) ∙ ap (λ (y : Represented). authoritative_by (outcome_of y.kind y.node)) same
 
 pub is_authority : (kind : Kind) (at : Labels) → (kind ≡ kinds.Referral → ⊥) → authoritative_by (outcome_of kind at) ≡ true
 is_authority kinds.Referral at other = absurd (other refl)
@@ -256,7 +256,7 @@ is_authority kinds.Answers at other = refl
 is_authority kinds.NoData at other = refl
 is_authority kinds.NameError at other = refl
 
-pub none_first : (zones : List Zone) (fs : List Found) (told : List Told) → AreTold zones fs told → None ≡ slice_get told 0 → fs ≡ []
-none_first zones [] told are e = refl
+pub none_first : (zones : List Zone) (fs : List Found) (returned : List Represented) → RepresentAll zones fs returned → None ≡ slice_get returned 0 → fs ≡ []
+none_first zones [] returned are e = refl
 none_first zones (f ∷ fs) [] are e = absurd are
-none_first zones (f ∷ fs) (one ∷ told) are e = absurd cc
+none_first zones (f ∷ fs) (one ∷ returned) are e = absurd cc

@@ -24,20 +24,20 @@ pub(crate) struct Sections<'a> {
 }
 
 /// Whether a record that goes out is the record of a zone, its TTL too.
-fn is_same(shown: &ReplyRecord<'_>, held: &Record) -> bool
-    ensures { result ≡ same held.now shown.now }
+fn is_same(shown: &ReplyRecord<'_>, stored: &Record) -> bool
+    ensures { result ≡ same stored.now shown.now }
 {
-    held.owner().lend().is(&shown.owner())
-        & (held.rtype() == shown.rtype())
-        & (held.rdata() == shown.rdata())
-        & (held.ttl() == shown.ttl())
+    stored.owner().lend().is(&shown.owner())
+        & (stored.rtype() == shown.rtype())
+        & (stored.rdata() == shown.rdata())
+        & (stored.ttl() == shown.ttl())
 }
 
 /// Whether a record goes out already.
-fn is_among(shown: &[ReplyRecord<'_>], held: &Record) -> bool
-    ensures { result ≡ list_any (same held.now) shown.now }
+fn is_among(shown: &[ReplyRecord<'_>], stored: &Record) -> bool
+    ensures { result ≡ list_any (same stored.now) shown.now }
 {
-    shown.iter().any(|one| is_same(one, held))
+    shown.iter().any(|one| is_same(one, stored))
 }
 
 /// Whether the two hosts are one.
@@ -64,35 +64,35 @@ impl<'a> Sections<'a> {
     }
 
     /// Puts a record behind the others, unless it stands in the reply already.
-    fn add_record(&mut self, held: &'a Record) -> Result<(), AllocError>
-        ensures { OnOk result (AddsUnseen self.old self.new (held.now ∷ [])) }
+    fn push_record(&mut self, stored: &'a Record) -> Result<(), AllocError>
+        ensures { OnOk result (AddsUnseen self.old self.new (stored.now ∷ [])) }
     {
-        if is_among(self.answer.as_slice(), held)
-            | is_among(self.authority.as_slice(), held)
-            | is_among(self.additional.as_slice(), held)
+        if is_among(self.answer.as_slice(), stored)
+            | is_among(self.authority.as_slice(), stored)
+            | is_among(self.additional.as_slice(), stored)
         {
             return Ok(());
         }
-        let shown = ReplyRecord::new(held.owner().lend(), held.ttl(), held);
+        let shown = ReplyRecord::new(stored.owner().lend(), stored.ttl(), stored);
         self.additional.push(shown)?;
         Ok(())
     }
 
     /// Puts records behind the others, but those that stand in the reply already, until there are more than so many.
-    fn add_records(&mut self, records: &'a [Record], most: u16) -> Result<(), AllocError>
+    fn push_records(&mut self, records: &'a [Record], most: u16) -> Result<(), AllocError>
         ensures { OnOk result (AddsUpTo most self.old self.new records.now) }
     {
-        for held in records {
+        for stored in records {
             if self.has_more(most) {
                 return Ok(());
             }
-            self.add_record(held)?;
+            self.push_record(stored)?;
         }
         Ok(())
     }
 
     /// Puts in the addresses that stand exactly at a host of the zone.
-    fn add_host<I: ZoneIndex>(
+    fn push_addresses_of<I: ZoneIndex>(
         &mut self,
         zone: &'a Zone<I>,
         host: &NameRef<'_>,
@@ -104,25 +104,25 @@ impl<'a> Sections<'a> {
     {
         let _ordered = zone.apex();
         let owned = zone.index().records_at(host);
-        self.add_records(of_type(owned, types::A), most)?;
-        self.add_records(of_type(owned, types::AAAA), most)
+        self.push_records(of_type(owned, types::A), most)?;
+        self.push_records(of_type(owned, types::AAAA), most)
     }
 
     /// Puts in the addresses that go with a record of the zone: those of the host of an NS, an MX or an SRV (RFC 1034 section
     /// 4.3.2, step 6; RFC 2782). A host that stands among the known ones is not looked up again.
-    fn add_for<'b, I: ZoneIndex>(
+    fn push_for<'b, I: ZoneIndex>(
         &mut self,
         zone: &'a Zone<I>,
-        held: &'b Record,
+        stored: &'b Record,
         known: &mut Vec<NameRef<'b>, Heap>,
         most: u16,
     ) -> Result<(), AllocError>
         ensures added { OnOk result
             (AreKnown zone.now known.old.items self.old
-            → AddsUpTo most self.old self.new (addresses_for (record { zone = zone.now; shown = held.now }))) }
+            → AddsUpTo most self.old self.new (addresses_for (record { zone = zone.now; shown = stored.now }))) }
         ensures known { OnOk result (AreKnown zone.now known.old.items self.old → AreKnown zone.now known.new.items self.new) }
     {
-        let Some(host) = held.host() else {
+        let Some(host) = stored.host() else {
             return Ok(());
         };
         if self.has_more(most) {
@@ -131,7 +131,7 @@ impl<'a> Sections<'a> {
         if is_known(known.as_slice(), &host) {
             return Ok(());
         }
-        self.add_host(zone, &host, most)?;
+        self.push_addresses_of(zone, &host, most)?;
         if !self.has_more(most) {
             known.push(host)?;
         }
@@ -139,7 +139,7 @@ impl<'a> Sections<'a> {
     }
 
     /// Puts in the addresses that go with records of the zone, until there are more than so many.
-    pub(crate) fn add_addresses<I: ZoneIndex>(
+    pub(crate) fn push_addresses<I: ZoneIndex>(
         &mut self,
         alloc: Heap,
         zone: &'a Zone<I>,
@@ -149,8 +149,8 @@ impl<'a> Sections<'a> {
         ensures { OnOk result (AddsUpTo most self.old self.new (flat_map addresses_for (from_zone zone.now records.now))) }
     {
         let mut known = Vec::new(alloc);
-        for held in records {
-            self.add_for(zone, held, &mut known, most)?;
+        for stored in records {
+            self.push_for(zone, stored, &mut known, most)?;
         }
         Ok(())
     }

@@ -12,7 +12,7 @@ use dns_memory::Heap;
 use dns_records::types;
 use dns_request::Transport;
 use dns_wire::limits::{MOST_BY_TCP, MOST_BY_UDP};
-use dns_wire::{Rcode, Reply, ReplyRecord, WireError, Writer, one_packed_text};
+use dns_wire::{Rcode, Reply, ReplyRecord, WireError, Writer, one_compressed_text};
 use std::alloc::AllocError;
 
 /// The text of the reply, if it has at most so many octets.
@@ -163,7 +163,7 @@ pub(crate) fn fit_first_sections(
         → most_records transport < length whole.answer + length whole.authority + length whole.additional
         → octets.items ≡ fitted transport whole) }
 {
-    one_packed_text();
+    one_compressed_text();
     match transport {
         Transport::Udp => fit_without_additional(alloc, reply),
         Transport::Tcp => failed(alloc, reply),
@@ -183,7 +183,7 @@ pub(crate) fn fit_question(
         → most_records transport < length whole.answer + length whole.authority
         → octets.items ≡ fitted transport whole) }
 {
-    one_packed_text();
+    one_compressed_text();
     match transport {
         Transport::Udp => truncated(alloc, reply),
         Transport::Tcp => failed(alloc, reply),

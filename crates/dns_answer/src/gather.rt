@@ -2,8 +2,8 @@
 ghost use Rattle.std.specs.Prelude.{◌≡◌, ℕ, ◌<◌, List, [], length, IfOk, OnOk};
 ghost use Rattle.std.specs.List.{flat_map};
 ghost use Rattle.dns_lookup.specs.Lookup.{Found as Stated};
-ghost use Rattle.dns_lookup.specs.Told.{AreTold};
-ghost use Rattle.dns_lookup.specs.Held.{AreHeld};
+ghost use Rattle.dns_lookup.specs.Represented.{RepresentAll};
+ghost use Rattle.dns_lookup.specs.Lent.{AllLend};
 ghost use Rattle.dns_answer.specs.Sections.{records_of, answer_of, authority_of, addresses_for};
 ghost use Rattle.dns_answer.specs.Added.{AddsUpTo, AreSectionsUpTo};
 
@@ -21,11 +21,11 @@ fn last_authority<'a, I: ZoneIndex>(
     zones: &'a [Zone<I>],
     found: &[Found<'a>],
 ) -> Result<Vec<ReplyRecord<'a>, Heap>, AllocError>
-    requires { (fs : List Stated) × AreTold zones.now fs found.now }
+    requires { (fs : List Stated) × RepresentAll zones.now fs found.now }
     ensures { IfOk result
         (λ shown. (t : ℕ) (fs : List Stated)
-        → AreTold zones.now fs found.now
-        → AreHeld zones.now t found.now
+        → RepresentAll zones.now fs found.now
+        → AllLend zones.now t found.now
         → shown.items ≡ records_of (authority_of fs)) }
 {
     match found.last() {
@@ -40,16 +40,16 @@ fn without_addresses<'a, I: ZoneIndex>(
     zones: &'a [Zone<I>],
     found: &[Found<'a>],
 ) -> Result<Sections<'a>, AllocError>
-    requires { (fs : List Stated) × AreTold zones.now fs found.now }
+    requires { (fs : List Stated) × RepresentAll zones.now fs found.now }
     ensures answer { IfOk result
         (λ s. (t : ℕ) (fs : List Stated)
-        → AreTold zones.now fs found.now
-        → AreHeld zones.now t found.now
+        → RepresentAll zones.now fs found.now
+        → AllLend zones.now t found.now
         → s.answer.items ≡ records_of (answer_of t fs)) }
     ensures authority { IfOk result
         (λ s. (t : ℕ) (fs : List Stated)
-        → AreTold zones.now fs found.now
-        → AreHeld zones.now t found.now
+        → RepresentAll zones.now fs found.now
+        → AllLend zones.now t found.now
         → s.authority.items ≡ records_of (authority_of fs)) }
     ensures additional { IfOk result (λ s. s.additional.items ≡ []) }
 {
@@ -64,43 +64,43 @@ fn without_addresses<'a, I: ZoneIndex>(
 
 impl<'a> Sections<'a> {
     /// Puts in the addresses that go with the answer section.
-    fn add_for_answers<I: ZoneIndex>(
+    fn push_for_answers<I: ZoneIndex>(
         &mut self,
         alloc: Heap,
         zones: &'a [Zone<I>],
         found: &[Found<'a>],
         most: u16,
     ) -> Result<(), AllocError>
-        requires { (fs : List Stated) × AreTold zones.now fs found.now }
+        requires { (fs : List Stated) × RepresentAll zones.now fs found.now }
         ensures { OnOk result
             ((t : ℕ) (fs : List Stated)
-            → AreTold zones.now fs found.now
-            → AreHeld zones.now t found.now
+            → RepresentAll zones.now fs found.now
+            → AllLend zones.now t found.now
             → AddsUpTo most self.old self.new (flat_map addresses_for (answer_of t fs))) }
     {
         for one in found {
-            self.add_addresses(alloc, searched(zones, one), answers(one), most)?;
+            self.push_addresses(alloc, searched(zones, one), answers(one), most)?;
         }
         Ok(())
     }
 
     /// Puts in the addresses that go with the authority section.
-    fn add_for_authority<I: ZoneIndex>(
+    fn push_for_authority<I: ZoneIndex>(
         &mut self,
         alloc: Heap,
         zones: &'a [Zone<I>],
         found: &[Found<'a>],
         most: u16,
     ) -> Result<(), AllocError>
-        requires { (fs : List Stated) × AreTold zones.now fs found.now }
+        requires { (fs : List Stated) × RepresentAll zones.now fs found.now }
         ensures { OnOk result
             ((t : ℕ) (fs : List Stated)
-            → AreTold zones.now fs found.now
-            → AreHeld zones.now t found.now
+            → RepresentAll zones.now fs found.now
+            → AllLend zones.now t found.now
             → AddsUpTo most self.old self.new (flat_map addresses_for (authority_of fs))) }
     {
         match found.last() {
-            Some(last) => self.add_addresses(alloc, searched(zones, last), servers(last), most),
+            Some(last) => self.push_addresses(alloc, searched(zones, last), servers(last), most),
             None => Ok(()),
         }
     }
@@ -113,16 +113,16 @@ impl<'a> Sections<'a> {
         found: &[Found<'a>],
         most: u16,
     ) -> Result<Sections<'a>, AllocError>
-        requires { (fs : List Stated) × AreTold zones.now fs found.now }
+        requires { (fs : List Stated) × RepresentAll zones.now fs found.now }
         ensures { IfOk result
             (λ s. (t : ℕ) (fs : List Stated)
-            → AreTold zones.now fs found.now
-            → AreHeld zones.now t found.now
+            → RepresentAll zones.now fs found.now
+            → AllLend zones.now t found.now
             → AreSectionsUpTo most t fs s) }
     {
         let mut sections = without_addresses(alloc, zones, found)?;
-        sections.add_for_answers(alloc, zones, found, most)?;
-        sections.add_for_authority(alloc, zones, found, most)?;
+        sections.push_for_answers(alloc, zones, found, most)?;
+        sections.push_for_authority(alloc, zones, found, most)?;
         Ok(sections)
     }
 }

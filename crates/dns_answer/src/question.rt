@@ -5,10 +5,10 @@ ghost use Rattle.dns_wire.specs.Codes.{number_of_rcode};
 ghost use Rattle.dns_wire.specs.Reply.{stated};
 ghost use Rattle.dns_wire.specs.Text.{question_octets};
 ghost use Rattle.dns_lookup.specs.Lookup.{Found as Stated};
-ghost use Rattle.dns_lookup.specs.Told.{AreTold};
-ghost use Rattle.dns_lookup.specs.Held.{AreHeld};
-ghost use Rattle.dns_answer.specs.Answer.{with_question, answered, fitted, reply_for};
-ghost use Rattle.dns_answer.specs.Asked.{IsAsked};
+ghost use Rattle.dns_lookup.specs.Represented.{RepresentAll};
+ghost use Rattle.dns_lookup.specs.Lent.{AllLend};
+ghost use Rattle.dns_answer.specs.Answer.{with_question, answered, echo_of, fitted, reply_for};
+ghost use Rattle.dns_answer.specs.Echoes.{Echoes};
 
 use crate::additional::Sections;
 use crate::codes::{is_authoritative, rcode_of};
@@ -16,31 +16,21 @@ use crate::fit::{fit, fit_first_sections, fit_question, most_records};
 use crate::sections::{answer_count, server_count};
 use dns_lookup::{Found, resolve};
 use dns_memory::Heap;
-use dns_names::{Name, NameRef};
+use dns_names::Name;
 use dns_request::{RequestMessage, Transport};
-use dns_wire::{Echo, Message, Opcode, Rcode, Reply};
+use dns_wire::{EchoedQuestion, Message, Opcode, Rcode, Reply};
 use dns_zone::{Zone, ZoneIndex};
 use std::alloc::AllocError;
 
-/// A question: its octets as they came, its name in lower case, and its type.
-#[derive(Drop)]
-pub(crate) struct Asked<'a> {
-    pub octets: &'a [u8],
-    pub name: NameRef<'a>,
-    pub qtype: u16,
-}
-
-impl<'a> Asked<'a> {
-    fn new(octets: &'a [u8], name: &'a Name, qtype: u16) -> Asked<'a>
-        ensures octets { result.octets.now ≡ octets.now }
-        ensures name { result.name ≡ name.now }
-        ensures qtype { result.qtype ≡ qtype }
-    {
-        Asked {
-            octets,
-            name: name.lend(),
-            qtype,
-        }
+/// The question of a request as it goes out again, with its name in lower case.
+fn echoed<'a>(request: &RequestMessage<'a>, name: &'a Name) -> EchoedQuestion<'a>
+    ensures octets { result.octets.now ≡ (echo_of request.now.message.octets request.now.question).octets }
+    ensures short { length result.octets.now < 65524 }
+    ensures name { result.name ≡ name.now }
+{
+    EchoedQuestion {
+        octets: request.message.question_octets(),
+        name: name.lend(),
     }
 }
 
@@ -48,13 +38,13 @@ impl<'a> Asked<'a> {
 fn reply_with_question<'a>(
     alloc: Heap,
     message: &Message<'_>,
-    asked: Asked<'a>,
+    question: EchoedQuestion<'a>,
     rcode: Rcode,
 ) -> Reply<'a>
     ensures stated { (q : Question)
-        → IsAsked message.now.octets q asked.entry
+        → Echoes message.now.octets q question.entry
         → stated result ≡ with_question message.now.octets message.now.message q (number_of_rcode rcode) }
-    ensures question { question_octets (stated result) ≡ asked.entry.octets.now }
+    ensures question { question_octets (stated result) ≡ question.entry.octets.now }
     ensures bare { result.additional.items ≡ [] }
 {
     Reply {
@@ -64,10 +54,7 @@ fn reply_with_question<'a>(
         tc: false,
         rd: message.is_recursion_desired(),
         rcode,
-        question: Some(Echo {
-            octets: asked.octets,
-            name: asked.name,
-        }),
+        question: Some(question),
         answer: Vec::new(alloc),
         authority: Vec::new(alloc),
         additional: Vec::new(alloc),
@@ -79,23 +66,23 @@ fn reply_to<'a, I: ZoneIndex>(
     alloc: Heap,
     zones: &'a [Zone<I>],
     message: &Message<'_>,
-    asked: Asked<'a>,
+    question: EchoedQuestion<'a>,
     transport: Transport,
     found: &[Found<'a>],
 ) -> Result<Vec<u8, Heap>, AllocError>
-    requires question { length asked.octets.now < 65524 }
-    requires found { (fs : List Stated) × AreTold zones.now fs found.now }
+    requires question { length question.octets.now < 65524 }
+    requires found { (fs : List Stated) × RepresentAll zones.now fs found.now }
     ensures { IfOk result
         (λ octets. (q : Question) (fs : List Stated)
-        → IsAsked message.now.octets q asked.entry
-        → AreTold zones.now fs found.now
-        → AreHeld zones.now q.qtype found.now
+        → Echoes message.now.octets q question.entry
+        → RepresentAll zones.now fs found.now
+        → AllLend zones.now q.qtype found.now
         → octets.items ≡ fitted transport (reply_for message.now.octets message.now.message q fs)) }
 {
     let most = most_records(transport);
     let aa = is_authoritative(found);
     let rcode = rcode_of(found);
-    let mut reply = reply_with_question(alloc, message, asked, rcode);
+    let mut reply = reply_with_question(alloc, message, question, rcode);
     reply.aa = aa;
     if answer_count(found) > most as usize {
         return fit_question(alloc, reply, transport);
@@ -119,21 +106,23 @@ fn answer<'a, I: ZoneIndex>(
     alloc: Heap,
     zones: &'a [Zone<I>],
     message: &Message<'_>,
-    asked: Asked<'a>,
+    question: EchoedQuestion<'a>,
+    qtype: u16,
     transport: Transport,
 ) -> Result<Vec<u8, Heap>, AllocError>
-    requires { length asked.octets.now < 65524 }
+    requires { length question.octets.now < 65524 }
     ensures { IfOk result
         (λ octets. (q : Question)
-        → IsAsked message.now.octets q asked.entry
+        → Echoes message.now.octets q question.entry
+        → qtype ≡ q.qtype
         → octets.items ≡ fitted transport (answered zones.now message.now.octets message.now.message q)) }
 {
-    let found = resolve(alloc, zones, asked.name.again(), asked.qtype)?;
+    let found = resolve(alloc, zones, question.name.reborrow(), qtype)?;
     if found.is_empty() {
-        let reply = reply_with_question(alloc, message, asked, Rcode::Refused);
+        let reply = reply_with_question(alloc, message, question, Rcode::Refused);
         return fit(alloc, reply, transport);
     }
-    reply_to(alloc, zones, message, asked, transport, found.as_slice())
+    reply_to(alloc, zones, message, question, transport, found.as_slice())
 }
 
 /// The reply to a query, octet for octet as it is defined, with its question: what the lookup finds, or REFUSED where its name is
@@ -149,9 +138,9 @@ pub fn reply<I: ZoneIndex>(
         ≡ fitted transport (answered zones.now query.now.message.octets query.now.message.message query.now.question)) }
 {
     let name = query.question.name().to_name(alloc)?;
-    let octets = query.message.question_octets();
-    let asked = Asked::new(octets, &name, query.question.qtype());
-    answer(alloc, zones, &query.message, asked, transport)
+    let qtype = query.question.qtype();
+    let question = echoed(query, &name);
+    answer(alloc, zones, &query.message, question, qtype, transport)
 }
 
 /// The reply to a query that is not served: its question, and the response code.
@@ -167,8 +156,6 @@ pub fn refuse(
         (with_question query.now.message.octets query.now.message.message query.now.question (number_of_rcode rcode))) }
 {
     let name = query.question.name().to_name(alloc)?;
-    let octets = query.message.question_octets();
-    let asked = Asked::new(octets, &name, query.question.qtype());
-    let reply = reply_with_question(alloc, &query.message, asked, rcode);
+    let reply = reply_with_question(alloc, &query.message, echoed(query, &name), rcode);
     fit(alloc, reply, transport)
 }

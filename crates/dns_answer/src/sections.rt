@@ -1,10 +1,10 @@
 //! The answer section and the authority section of a reply.
 ghost use Rattle.std.specs.Prelude.{◌≡◌, ℕ, ◌<◌, ◌≤◌, ◌++◌, List, length, IfOk, OnOk};
 ghost use Rattle.std.specs.List.{flat_map};
-ghost use Rattle.dns_zone.specs.Zone.{Zone as Held};
+ghost use Rattle.dns_zone.specs.Zone.{Zone as Lent};
 ghost use Rattle.dns_lookup.specs.Lookup.{Found as Stated};
-ghost use Rattle.dns_lookup.specs.Told.{IsTold, AreTold};
-ghost use Rattle.dns_lookup.specs.Held.{IsHeld, AreHeld};
+ghost use Rattle.dns_lookup.specs.Represented.{Represents, RepresentAll};
+ghost use Rattle.dns_lookup.specs.Lent.{Lends, AllLend};
 ghost use Rattle.dns_answer.specs.Sections.{from_zone, as_owner, records_of, answers_of, answer_of, negative_soa, authority_at, authority_of, addresses_for};
 
 use dns_lookup::{Found, Kind};
@@ -18,7 +18,7 @@ use std::alloc::AllocError;
 /// The zone that was searched for a name.
 pub(crate) fn searched<'a, I: ZoneIndex>(zones: &'a [Zone<I>], one: &Found<'_>) -> &'a Zone<I>
     requires { one.now.zone < length zones.now }
-    ensures { (f : Stated) → IsTold zones.now f one.now → result.now ≡ f.zone }
+    ensures { (f : Stated) → Represents zones.now f one.now → result.now ≡ f.zone }
 {
     &zones[one.zone]
 }
@@ -26,9 +26,9 @@ pub(crate) fn searched<'a, I: ZoneIndex>(zones: &'a [Zone<I>], one: &Found<'_>) 
 /// The records that a name puts into the answer section: its CNAME, or those that were asked for (RFC 1034 section 4.3.2,
 /// step 3a).
 pub(crate) fn answers<'a>(one: &Found<'a>) -> &'a [Record]
-    ensures { (zones : List Held) (t : ℕ) (f : Stated)
-        → IsTold zones f one.now
-        → IsHeld zones t one.now
+    ensures { (zones : List Lent) (t : ℕ) (f : Stated)
+        → Represents zones f one.now
+        → Lends zones t one.now
         → answers_of t f ≡ from_zone f.zone (as_owner f.name result.now) }
 {
     match one.kind {
@@ -39,13 +39,13 @@ pub(crate) fn answers<'a>(one: &Found<'a>) -> &'a [Record]
 
 /// The name servers that the last name puts into the authority section: those of a cut (RFC 1034 section 4.3.2, step 3b).
 pub(crate) fn servers<'a>(last: &Found<'a>) -> &'a [Record]
-    ensures few { (zones : List Held) (t : ℕ) (f : Stated)
-        → IsTold zones f last.now
-        → IsHeld zones t last.now
+    ensures few { (zones : List Lent) (t : ℕ) (f : Stated)
+        → Represents zones f last.now
+        → Lends zones t last.now
         → length result.now ≤ length (records_of (authority_at f)) }
-    ensures hosts { (zones : List Held) (t : ℕ) (f : Stated)
-        → IsTold zones f last.now
-        → IsHeld zones t last.now
+    ensures hosts { (zones : List Lent) (t : ℕ) (f : Stated)
+        → Represents zones f last.now
+        → Lends zones t last.now
         → flat_map addresses_for (authority_at f) ≡ flat_map addresses_for (from_zone f.zone result.now) }
 {
     match last.kind {
@@ -56,9 +56,9 @@ pub(crate) fn servers<'a>(last: &Found<'a>) -> &'a [Record]
 
 /// How many records the answer section has.
 pub(crate) fn answer_count(found: &[Found<'_>]) -> usize
-    ensures { (zones : List Held) (t : ℕ) (fs : List Stated)
-        → AreTold zones fs found.now
-        → AreHeld zones t found.now
+    ensures { (zones : List Lent) (t : ℕ) (fs : List Stated)
+        → RepresentAll zones fs found.now
+        → AllLend zones t found.now
         → result ≤ length (records_of (answer_of t fs)) }
 {
     let mut count = 0usize;
@@ -70,9 +70,9 @@ pub(crate) fn answer_count(found: &[Found<'_>]) -> usize
 
 /// How many name servers the authority section has.
 pub(crate) fn server_count(found: &[Found<'_>]) -> usize
-    ensures { (zones : List Held) (t : ℕ) (fs : List Stated)
-        → AreTold zones fs found.now
-        → AreHeld zones t found.now
+    ensures { (zones : List Lent) (t : ℕ) (fs : List Stated)
+        → RepresentAll zones fs found.now
+        → AllLend zones t found.now
         → result ≤ length (records_of (authority_of fs)) }
 {
     match found.last() {
@@ -90,7 +90,7 @@ fn put_under<'a>(
     ensures { OnOk result (shown.new.items ≡ shown.old.items ++ as_owner name.now records.now) }
 {
     for record in records {
-        shown.push(ReplyRecord::new(name.again(), record.ttl(), record))?;
+        shown.push(ReplyRecord::new(name.reborrow(), record.ttl(), record))?;
     }
     Ok(())
 }
@@ -101,9 +101,9 @@ pub(crate) fn answer_section<'a>(
     found: &[Found<'a>],
 ) -> Result<Vec<ReplyRecord<'a>, Heap>, AllocError>
     ensures { IfOk result
-        (λ shown. (zones : List Held) (t : ℕ) (fs : List Stated)
-        → AreTold zones fs found.now
-        → AreHeld zones t found.now
+        (λ shown. (zones : List Lent) (t : ℕ) (fs : List Stated)
+        → RepresentAll zones fs found.now
+        → AllLend zones t found.now
         → shown.items ≡ records_of (answer_of t fs)) }
 {
     let mut shown = Vec::new(alloc);
@@ -153,8 +153,8 @@ pub(crate) fn authority_section<'a, I: ZoneIndex>(
     requires { last.now.zone < length zones.now }
     ensures { IfOk result
         (λ shown. (t : ℕ) (f : Stated)
-        → IsTold zones.now f last.now
-        → IsHeld zones.now t last.now
+        → Represents zones.now f last.now
+        → Lends zones.now t last.now
         → shown.items ≡ records_of (authority_at f)) }
 {
     let zone = &zones[last.zone];

@@ -15,7 +15,7 @@ use Rattle.dns_zone.specs.Order.{record_total, both_true, same_is, same_itself, 
 use Rattle.dns_zone.specs.Twice.{alike_is, alike_flips, any_by}
 use Rattle.dns_zone.specs.Sets.{ties, found, Sorted, told, sorted_from, equal_is, found_tied, same_sets, sorted_filter, only, found_filter, or_else, found_put, found_united, sorted_put, sorted_united, found_contains, contains_found, filter_contains, contains_filter}
 use Rattle.dns_zone.proofs.Listed.{ordered_from}
-use Rattle.dns_changes.specs.Change.{Change, change_fault, removed_from, are_held, are_new}
+use Rattle.dns_changes.specs.Change.{Change, change_fault, removed_from, are_present, are_new}
 use Rattle.dns_changes.specs.declared.ChangeError.TheVariants.{WrongSoa, RemovesAbsent, AddsPresent}
 
 and_both : (a b : Bool) → a ≡ true → b ≡ true → (a && b) ≡ true
@@ -52,24 +52,24 @@ split_not true false c = refl
 split_not false b c = refl
 
 -- the first record is there, and the others are held behind it
-pub held_next : (xs : List Record) (r : Record) (rest : List Record) → contains xs r ≡ true → are_held xs (r ∷ rest) ≡ are_held (without r xs) rest
-held_next xs r rest e =
+pub present_next : (xs : List Record) (r : Record) (rest : List Record) → contains xs r ≡ true → are_present xs (r ∷ rest) ≡ are_present (without r xs) rest
+present_next xs r rest e =
     let others : list_all (contains (without r xs)) rest ≡ (list_all (contains xs) rest && not (list_any (alike r) rest)) =
     all_by (contains (without r xs)) (λ s. contains xs s && not (alike r s)) (λ s. contains_behind r s xs) rest ∙ all_but (contains xs) (alike r) rest in
     ap (λ b. (b && list_all (contains xs) rest) && not (list_any (alike r) rest || has_twice rest)) e
     ∙ split_not (list_all (contains xs) rest) (list_any (alike r) rest) (has_twice rest)
     ∙ ap (λ b. b && not (has_twice rest)) (sym others)
 
-pub held_none : (xs : List Record) (r : Record) (rest : List Record) → contains xs r ≡ false → are_held xs (r ∷ rest) ≡ false
-held_none xs r rest e = ap (λ b. (b && list_all (contains xs) rest) && not (list_any (alike r) rest || has_twice rest)) e
+pub present_none : (xs : List Record) (r : Record) (rest : List Record) → contains xs r ≡ false → are_present xs (r ∷ rest) ≡ false
+present_none xs r rest e = ap (λ b. (b && list_all (contains xs) rest) && not (list_any (alike r) rest || has_twice rest)) e
 
 -- of a set the record itself alone ties with it
 tie_is_same : (r a : Record) (xs : List Record) → Sorted xs → contains xs r ≡ true → contains xs a ≡ true → same a r ≡ is_eq (record_cmp r a)
-tie_is_same r a xs h there held =
+tie_is_same r a xs h there present =
     both_ways (same a r) (is_eq (record_cmp r a))
     (λ e. subst (λ (x : Record). is_eq (record_cmp r x) ≡ true) (sym (same_is a r e)) (ap is_eq (tied_itself record_total r)))
     (λ e. (let one = contains_found r xs h there in
-    let two = contains_found a xs h held in
+    let two = contains_found a xs h present in
     let three = found_tied r a e xs in
     let is : r ≡ a = cc in
     subst (λ (x : Record). same a x ≡ true) (sym is) (same_itself a)))
@@ -91,8 +91,8 @@ untied r s = not (is_eq (record_cmp r s))
 removed_at : (xs : List Record) (r : Record) (rest : List Record) → Sorted xs → contains xs r ≡ true → (q : Record) (o : Option Record) → found q xs ≡ o → only (other_than r rest) o ≡ only (none_of rest) (only (untied r) o)
 removed_at xs r rest h there q None e = refl
 removed_at xs r rest h there q (Some a) e =
-    let held = (found_contains q a xs e).1 in
-    ap (λ b. cond (not (b || contains rest a)) (Some a) None) (tie_is_same r a xs h there held)
+    let present = (found_contains q a xs e).1 in
+    ap (λ b. cond (not (b || contains rest a)) (Some a) None) (tie_is_same r a xs h there present)
     ∙ apart_then (is_eq (record_cmp r a)) (contains rest a) a (none_of rest) refl
 
 pub removed_next : (xs : List Record) (r : Record) (rest : List Record) → Sorted xs → contains xs r ≡ true → removed_from xs (r ∷ rest) ≡ removed_from (without r xs) rest
@@ -189,8 +189,8 @@ any_kept p q (x ∷ xs) = kept (q x) ∙ ap (λ b. (q x && p x) || b) (any_kept 
 of_key : (r : Record) → (names_eq r.owner r.owner && r.rtype == r.rtype) ≡ true
 of_key r = λ i. names_itself r.owner i && number_itself r.rtype i
 
-pub held_here : (r : Record) (xs : List Record) → contains (rrset xs r.owner r.rtype) r ≡ contains xs r
-held_here r xs = contains_kept r (λ y. names_eq y.owner r.owner && y.rtype == r.rtype) xs ∙ ap (λ b. contains xs r && b) (of_key r) ∙ one (contains xs r)
+pub present_here : (r : Record) (xs : List Record) → contains (rrset xs r.owner r.rtype) r ≡ contains xs r
+present_here r xs = contains_kept r (λ y. names_eq y.owner r.owner && y.rtype == r.rtype) xs ∙ ap (λ b. contains xs r && b) (of_key r) ∙ one (contains xs r)
   where
     one : (b : Bool) → (b && true) ≡ b
     one true = refl
@@ -239,11 +239,11 @@ next_at (x ∷ xs) (suc i) r lt is =
     let next : suc i + 1 ≡ suc (i + 1) = omega arith in
     next_at xs i r (omega arith) is ∙ ap (λ n. r ∷ drop n (x ∷ xs)) (sym next)
 
-pub held_step : (cur next gone : List Record) (i : ℕ) (r : Record) → i < length gone → r ≡ get_or gone i r → contains cur r ≡ true → next ≡ without r cur → are_held next (drop (i + 1) gone) ≡ are_held cur (drop i gone)
-held_step cur next gone i r lt is there e = ap (λ ys. are_held ys (drop (i + 1) gone)) e ∙ sym (held_next cur r (drop (i + 1) gone) there) ∙ ap (are_held cur) (sym (next_at gone i r lt is))
+pub present_step : (cur next gone : List Record) (i : ℕ) (r : Record) → i < length gone → r ≡ get_or gone i r → contains cur r ≡ true → next ≡ without r cur → are_present next (drop (i + 1) gone) ≡ are_present cur (drop i gone)
+present_step cur next gone i r lt is there e = ap (λ ys. are_present ys (drop (i + 1) gone)) e ∙ sym (present_next cur r (drop (i + 1) gone) there) ∙ ap (are_present cur) (sym (next_at gone i r lt is))
 
-pub held_stop : (cur gone : List Record) (i : ℕ) (r : Record) → i < length gone → r ≡ get_or gone i r → contains cur r ≡ false → are_held cur (drop i gone) ≡ false
-held_stop cur gone i r lt is absent = ap (are_held cur) (next_at gone i r lt is) ∙ held_none cur r (drop (i + 1) gone) absent
+pub present_stop : (cur gone : List Record) (i : ℕ) (r : Record) → i < length gone → r ≡ get_or gone i r → contains cur r ≡ false → are_present cur (drop i gone) ≡ false
+present_stop cur gone i r lt is absent = ap (are_present cur) (next_at gone i r lt is) ∙ present_none cur r (drop (i + 1) gone) absent
 
 pub removed_step : (cur next gone : List Record) (i : ℕ) (r : Record) → is_ordered cur ≡ true → i < length gone → r ≡ get_or gone i r → contains cur r ≡ true → next ≡ without r cur → removed_from next (drop (i + 1) gone) ≡ removed_from cur (drop i gone)
 removed_step cur next gone i r h lt is there e = ap (λ ys. removed_from ys (drop (i + 1) gone)) e ∙ sym (removed_next cur r (drop (i + 1) gone) (sorted_from cur h) there) ∙ ap (removed_from cur) (sym (next_at gone i r lt is))
@@ -263,24 +263,24 @@ united_step cur next come i r h lt is e new =
     ap (λ ys. united ys (drop (i + 1) come)) e ∙ sym (united_next cur r (drop (i + 1) come) (sorted_from cur h) (ap (are_new cur) (sym at) ∙ new)) ∙ ap (united cur) (sym at)
 
 -- ---- the whole
-pub removes_absent : (c : Change) (xs one : List Record) → contains xs c.old_soa ≡ true → one ≡ without c.old_soa xs → are_held one c.removed ≡ false → change_fault c xs ≡ Some RemovesAbsent
-removes_absent c xs one held e f =
-    let going : are_held xs (c.old_soa ∷ c.removed) ≡ false = held_next xs c.old_soa c.removed held ∙ ap (λ ys. are_held ys c.removed) (sym e) ∙ f in
-    λ i. if not (held i) then Some WrongSoa else if not (going i) then Some RemovesAbsent else if not (are_new (removed_from xs (c.old_soa ∷ c.removed)) (c.new_soa ∷ c.added)) then Some AddsPresent else None
+pub removes_absent : (c : Change) (xs one : List Record) → contains xs c.old_soa ≡ true → one ≡ without c.old_soa xs → are_present one c.removed ≡ false → change_fault c xs ≡ Some RemovesAbsent
+removes_absent c xs one present e f =
+    let going : are_present xs (c.old_soa ∷ c.removed) ≡ false = present_next xs c.old_soa c.removed present ∙ ap (λ ys. are_present ys c.removed) (sym e) ∙ f in
+    λ i. if not (present i) then Some WrongSoa else if not (going i) then Some RemovesAbsent else if not (are_new (removed_from xs (c.old_soa ∷ c.removed)) (c.new_soa ∷ c.added)) then Some AddsPresent else None
 
-pub adds_present : (c : Change) (xs left : List Record) → (contains xs c.old_soa ≡ true) × (are_held xs (c.old_soa ∷ c.removed) ≡ true) → left ≡ removed_from xs (c.old_soa ∷ c.removed) → are_new left (c.new_soa ∷ c.added) ≡ false → change_fault c xs ≡ Some AddsPresent
-adds_present c xs left held e f =
+pub adds_present : (c : Change) (xs left : List Record) → (contains xs c.old_soa ≡ true) × (are_present xs (c.old_soa ∷ c.removed) ≡ true) → left ≡ removed_from xs (c.old_soa ∷ c.removed) → are_new left (c.new_soa ∷ c.added) ≡ false → change_fault c xs ≡ Some AddsPresent
+adds_present c xs left present e f =
     let coming : are_new (removed_from xs (c.old_soa ∷ c.removed)) (c.new_soa ∷ c.added) ≡ false = ap (λ ys. are_new ys (c.new_soa ∷ c.added)) (sym e) ∙ f in
-    λ i. if not (held.0 i) then Some WrongSoa else if not (held.1 i) then Some RemovesAbsent else if not (coming i) then Some AddsPresent else None
+    λ i. if not (present.0 i) then Some WrongSoa else if not (present.1 i) then Some RemovesAbsent else if not (coming i) then Some AddsPresent else None
 
-pub change_fits : (c : Change) (xs left : List Record) → (contains xs c.old_soa ≡ true) × (are_held xs (c.old_soa ∷ c.removed) ≡ true) → left ≡ removed_from xs (c.old_soa ∷ c.removed) → are_new left (c.new_soa ∷ c.added) ≡ true → change_fault c xs ≡ None
-change_fits c xs left held e f =
+pub change_fits : (c : Change) (xs left : List Record) → (contains xs c.old_soa ≡ true) × (are_present xs (c.old_soa ∷ c.removed) ≡ true) → left ≡ removed_from xs (c.old_soa ∷ c.removed) → are_new left (c.new_soa ∷ c.added) ≡ true → change_fault c xs ≡ None
+change_fits c xs left present e f =
     let coming : are_new (removed_from xs (c.old_soa ∷ c.removed)) (c.new_soa ∷ c.added) ≡ true = ap (λ ys. are_new ys (c.new_soa ∷ c.added)) (sym e) ∙ f in
-    λ i. if not (held.0 i) then Some WrongSoa else if not (held.1 i) then Some RemovesAbsent else if not (coming i) then Some AddsPresent else None
+    λ i. if not (present.0 i) then Some WrongSoa else if not (present.1 i) then Some RemovesAbsent else if not (coming i) then Some AddsPresent else None
 
 -- ---- one record and others
-pub held_both : (xs one : List Record) (r : Record) (rest : List Record) → contains xs r ≡ true → one ≡ without r xs → are_held xs (r ∷ rest) ≡ are_held one rest
-held_both xs one r rest there e = held_next xs r rest there ∙ ap (λ ys. are_held ys rest) (sym e)
+pub present_both : (xs one : List Record) (r : Record) (rest : List Record) → contains xs r ≡ true → one ≡ without r xs → are_present xs (r ∷ rest) ≡ are_present one rest
+present_both xs one r rest there e = present_next xs r rest there ∙ ap (λ ys. are_present ys rest) (sym e)
 
 pub removed_both : (xs one : List Record) (r : Record) (rest : List Record) → is_ordered xs ≡ true → contains xs r ≡ true → one ≡ without r xs → removed_from xs (r ∷ rest) ≡ removed_from one rest
 removed_both xs one r rest h there e = removed_next xs r rest (sorted_from xs h) there ∙ ap (λ ys. removed_from ys rest) (sym e)

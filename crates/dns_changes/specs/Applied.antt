@@ -6,7 +6,7 @@ use Rattle.dns_records.specs.Types.{type_soa}
 use Rattle.dns_records.specs.Record.{Record}
 use Rattle.dns_zone.specs.Records.{has, same, alike, contains}
 use Rattle.dns_zone.specs.Zone.{soas, has_twice}
-use Rattle.dns_changes.specs.Change.{Change, IsChange, are_held, are_new, is_soa, removed_from, applied, change_fault}
+use Rattle.dns_changes.specs.Change.{Change, IsChange, are_present, are_new, is_soa, removed_from, applied, change_fault}
 use Rattle.dns_changes.specs.declared.ChangeError.TheVariants.{WrongSoa, RemovesAbsent, AddsPresent}
 use Rattle.dns_changes.specs.Laws.{ChangeLeads, ChangeIsOne}
 use Rattle.dns_zone.specs.Order.{both_true, same_is, same_itself, tied_key}
@@ -259,7 +259,7 @@ module _ (before after : List Record) (c : Change) (hb : Sorted before) (ha : So
       let adds : list_any (λ r. has r (removed_from before (c.old_soa ∷ c.removed))) (c.new_soa ∷ c.added) ≡ false =
       none_of (λ r. has r (removed_from before (c.old_soa ∷ c.removed))) (c.new_soa ∷ c.added)
       (λ r e. unfound r (removed_from before (c.old_soa ∷ c.removed)) (found_filter r stays before hb ∙ absent_at r (found r before) e refl)) in
-      let going : are_held before (c.old_soa ∷ c.removed) ≡ true = λ i. (old i && removes i) && not (gone_once i) in
+      let going : are_present before (c.old_soa ∷ c.removed) ≡ true = λ i. (old i && removes i) && not (gone_once i) in
       let coming : are_new (removed_from before (c.old_soa ∷ c.removed)) (c.new_soa ∷ c.added) ≡ true = λ i. not (adds i) && not (come_once i) in
       λ i. if not (old i) then Some WrongSoa else if not (going i) then Some RemovesAbsent else if not (coming i) then Some AddsPresent else None
 

@@ -53,8 +53,8 @@ abbrev pub applied : Change → List Record → List Record
 applied c records = united (removed_from records (c.old_soa ∷ c.removed)) (c.new_soa ∷ c.added)
 
 -- Each of the records is there, with its TTL, and none is named twice.
-abbrev pub are_held : List Record → List Record → Bool
-are_held records gone = list_all (contains records) gone && not (has_twice gone)
+abbrev pub are_present : List Record → List Record → Bool
+are_present records gone = list_all (contains records) gone && not (has_twice gone)
 
 -- Of none of the records are owner, type and data there, whatever the TTL, and none is named twice.
 abbrev pub are_new : List Record → List Record → Bool
@@ -64,6 +64,6 @@ are_new records come = not (list_any (λ r. has r records) come) && not (has_twi
 abbrev pub change_fault : Change → List Record → Option ChangeError
 change_fault c records =
     if not (contains records c.old_soa) then Some WrongSoa
-    else if not (are_held records (c.old_soa ∷ c.removed)) then Some RemovesAbsent
+    else if not (are_present records (c.old_soa ∷ c.removed)) then Some RemovesAbsent
     else if not (are_new (removed_from records (c.old_soa ∷ c.removed)) (c.new_soa ∷ c.added)) then Some AddsPresent
     else None

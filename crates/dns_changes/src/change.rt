@@ -1,7 +1,7 @@
 //! A change between two versions of a zone: the SOAs, and the records that go and that come (RFC 1995 section 4).
 ghost use Rattle.std.specs.Prelude.{◌≡◌, ◌⊎◌, true, false, not, ◌∷◌, Some, None, IfOk, IfErr, OnOk, OnErr};
 ghost use Rattle.dns_zone.specs.Records.{contains, has, is_ordered, put, united, without};
-ghost use Rattle.dns_changes.specs.Change.{AreFew, is_formed, applied, are_held, are_new, change_fault, removed_from};
+ghost use Rattle.dns_changes.specs.Change.{AreFew, is_formed, applied, are_present, are_new, change_fault, removed_from};
 
 use crate::ChangeError;
 use dns_memory::Heap;
@@ -104,9 +104,9 @@ impl Change {
 
     /// Takes the old SOA and the records that go out of a set, which is of no use where that is refused.
     fn remove_all<I: ZoneIndex>(&self, set: &mut I) -> Result<(), ChangeError>
-        ensures held { OnOk result
+        ensures present { OnOk result
             ((contains (I.records set.old) self.now.old_soa ≡ true)
-            × (are_held (I.records set.old) (self.now.old_soa ∷ self.now.removed) ≡ true)) }
+            × (are_present (I.records set.old) (self.now.old_soa ∷ self.now.removed) ≡ true)) }
         ensures left { OnOk result (I.records set.new ≡ removed_from (I.records set.old) (self.now.old_soa ∷ self.now.removed)) }
         ensures refused { IfErr result (λ e. (e ≡ ChangeError.OutOfMemory) ⊎ (change_fault self.now (I.records set.old) ≡ Some e)) }
     {
@@ -173,8 +173,8 @@ fn holds_key<I: ZoneIndex>(set: &I, wanted: &Record) -> bool
 
 /// Takes a record out, and answers whether it was there.
 fn take_out<I: ZoneIndex>(set: &mut I, gone: &Record) -> Result<bool, AllocError>
-    ensures held { IfOk result (λ held. held ≡ contains (I.records set.old) gone.now) }
-    ensures left { IfOk result (λ held. held ≡ true → I.records set.new ≡ without gone.now (I.records set.old)) }
+    ensures present { IfOk result (λ present. present ≡ contains (I.records set.old) gone.now) }
+    ensures left { IfOk result (λ present. present ≡ true → I.records set.new ≡ without gone.now (I.records set.old)) }
 {
     if !holds(set, gone) {
         return Ok(false);
@@ -185,8 +185,8 @@ fn take_out<I: ZoneIndex>(set: &mut I, gone: &Record) -> Result<bool, AllocError
 
 /// Takes records out one behind another, up to the first that isn't there, and answers whether all were there.
 fn take_each<I: ZoneIndex>(set: &mut I, gone: &[Record]) -> Result<bool, AllocError>
-    ensures held { IfOk result (λ held. held ≡ are_held (I.records set.old) gone.now) }
-    ensures left { IfOk result (λ held. held ≡ true → I.records set.new ≡ removed_from (I.records set.old) gone.now) }
+    ensures present { IfOk result (λ present. present ≡ are_present (I.records set.old) gone.now) }
+    ensures left { IfOk result (λ present. present ≡ true → I.records set.new ≡ removed_from (I.records set.old) gone.now) }
 {
     for record in gone {
         if !take_out(set, record)? {

@@ -10,7 +10,7 @@ use Rattle.dns_zone.specs.Records.{rrset}
 use Rattle.dns_zone.specs.Zone.{Zone}
 use Rattle.dns_lookup.specs.Lookup.{Outcome, Referral, Alias, Answers, NoData, NameError, cut, node, at_node, asked, outcome, next_name, alias_at}
 use Rattle.dns_lookup.specs.Lookup as lookup
-use Rattle.dns_lookup.specs.Told.{names_told}
+use Rattle.dns_lookup.specs.Represented.{names_searched}
 use Rattle.dns_lookup.specs.declared.chain.Found.{Found}
 
 abbrev next_at : Zone → List Labels → Outcome → Option Labels
@@ -26,13 +26,13 @@ named_here found i one inside is =
     let next : i + 1 ≡ suc i = omega arith in
     drop-cons found i one inside ∙ ap (λ (x : Found). x ∷ drop (suc i) found) (sym is) ∙ ap (λ (n : ℕ). one ∷ drop n found) (sym next)
 
-pub among_next : (name : Labels) (found : List Found) (i : ℕ) (one : Found) → i < length found → one ≡ get_or found i one → names_eq name one.name ≡ false → list_any (names_eq name) (names_told (drop i found)) ≡ list_any (names_eq name) (names_told (drop (i + 1) found))
+pub among_next : (name : Labels) (found : List Found) (i : ℕ) (one : Found) → i < length found → one ≡ get_or found i one → names_eq name one.name ≡ false → list_any (names_eq name) (names_searched (drop i found)) ≡ list_any (names_eq name) (names_searched (drop (i + 1) found))
 among_next name found i one inside is other =
-    ap (λ (fs : List Found). list_any (names_eq name) (names_told fs)) (named_here found i one inside is) ∙ ap (λ (b : Bool). b || list_any (names_eq name) (names_told (drop (i + 1) found))) other
+    ap (λ (fs : List Found). list_any (names_eq name) (names_searched fs)) (named_here found i one inside is) ∙ ap (λ (b : Bool). b || list_any (names_eq name) (names_searched (drop (i + 1) found))) other
 
-pub among_here : (name : Labels) (found : List Found) (i : ℕ) (one : Found) → i < length found → one ≡ get_or found i one → names_eq name one.name ≡ true → list_any (names_eq name) (names_told (drop i found)) ≡ true
+pub among_here : (name : Labels) (found : List Found) (i : ℕ) (one : Found) → i < length found → one ≡ get_or found i one → names_eq name one.name ≡ true → list_any (names_eq name) (names_searched (drop i found)) ≡ true
 among_here name found i one inside is same =
-    ap (λ (fs : List Found). list_any (names_eq name) (names_told fs)) (named_here found i one inside is) ∙ ap (λ (b : Bool). b || list_any (names_eq name) (names_told (drop (i + 1) found))) same
+    ap (λ (fs : List Found). list_any (names_eq name) (names_searched fs)) (named_here found i one inside is) ∙ ap (λ (b : Bool). b || list_any (names_eq name) (names_searched (drop (i + 1) found))) same
 
 -- the first record of an RRset has its type
 first_of_type : (x : Record) (xs : List Record) (t : ℕ) (r : Record) (a b : Bool) → (x.rtype == t) ≡ b → (slice_get xs 0 ≡ Some r → r.rtype ≡ t) → slice_get (cond (a && b) (x ∷ xs) xs) 0 ≡ Some r → r.rtype ≡ t

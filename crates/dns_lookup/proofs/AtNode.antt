@@ -9,7 +9,7 @@ use Rattle.dns_zone.specs.Owned.{owns_no_type}
 use Rattle.dns_zone.specs.Records.{rrset, owns_type, is_none_of}
 use Rattle.dns_zone.specs.Zone.{Zone}
 use Rattle.dns_lookup.specs.Lookup.{Outcome, Referral, Alias, Answers, NoData, NameError, cut, node, at_node, asked, outcome}
-use Rattle.dns_lookup.specs.Told.{IsKind}
+use Rattle.dns_lookup.specs.Represented.{IsKind}
 use Rattle.dns_lookup.specs.declared.outcome.Kind.TheVariants as kinds
 
 pub twice : (b : Bool) → not (not b) ≡ b

@@ -3,11 +3,11 @@ ghost use Rattle.std.specs.Prelude.{◌≡◌, ℕ, List, ◌<◌, ◌≤◌, fa
 ghost use Rattle.std.specs.List.{list_any};
 ghost use Rattle.dns_names.specs.Name.{Labels, names_eq};
 ghost use Rattle.dns_records.specs.Types.{type_cname};
-ghost use Rattle.dns_zone.specs.Zone.{Zone as Held};
+ghost use Rattle.dns_zone.specs.Zone.{Zone as Lent};
 ghost use Rattle.dns_zone.specs.Records.{rrset, owns_type};
 ghost use Rattle.dns_lookup.specs.Lookup.{Found as Stated, outcome, zone_of, alias_at, next_name, resolve};
-ghost use Rattle.dns_lookup.specs.Told.{IsTold, AreTold, names_told};
-ghost use Rattle.dns_lookup.specs.Held.{IsHeld, AreHeld};
+ghost use Rattle.dns_lookup.specs.Represented.{Represents, RepresentAll, names_searched};
+ghost use Rattle.dns_lookup.specs.Lent.{Lends, AllLend};
 
 use crate::node::Node;
 use crate::outcome::{Kind, outcome};
@@ -46,10 +46,10 @@ fn search<'a, I: ZoneIndex>(
     qtype: u16,
 ) -> Option<Found<'a>>
     ensures found { IfSome result
-        (λ f. (z : Held)
+        (λ f. (z : Lent)
         × (zone_of zones.now name.entry ≡ Some z)
-        × IsTold zones.now (record { zone = z; name = name.entry; outcome = outcome z name.entry qtype }) f) }
-    ensures held { IfSome result (IsHeld zones.now qtype) }
+        × Represents zones.now (record { zone = z; name = name.entry; outcome = outcome z name.entry qtype }) f) }
+    ensures lent { IfSome result (Lends zones.now qtype) }
     ensures none { IfNone result (zone_of zones.now name.entry ≡ None) }
 {
     let zone = closest_zone(zones, &name)?;
@@ -66,9 +66,9 @@ fn search<'a, I: ZoneIndex>(
 /// The target of an alias by its CNAME.
 fn target<'a>(aliases: &'a [Record]) -> Option<NameRef<'a>>
     ensures found { IfSome result
-        (λ name. (z : Held) (node : Labels) → aliases.now ≡ rrset z.records node type_cname → name ≡ alias_at z node) }
+        (λ name. (z : Lent) (node : Labels) → aliases.now ≡ rrset z.records node type_cname → name ≡ alias_at z node) }
     ensures none { IfNone result
-        ((z : Held) (node : Labels)
+        ((z : Lent) (node : Labels)
         → aliases.now ≡ rrset z.records node type_cname
         → owns_type z.records node type_cname ≡ false) }
 {
@@ -77,7 +77,7 @@ fn target<'a>(aliases: &'a [Record]) -> Option<NameRef<'a>>
 
 /// Whether the name was searched.
 fn is_among(found: &[Found<'_>], name: &NameRef<'_>) -> bool
-    ensures { result ≡ list_any (names_eq name.now) (names_told found.now) }
+    ensures { result ≡ list_any (names_eq name.now) (names_searched found.now) }
 {
     for one in found {
         if name.is(&one.name) {
@@ -89,11 +89,11 @@ fn is_among(found: &[Found<'_>], name: &NameRef<'_>) -> bool
 
 /// The name that is searched next: the target of an alias, unless it was searched before.
 fn next_name<'a>(last: &Found<'a>, before: &[Found<'a>]) -> Option<NameRef<'a>>
-    ensures { (zones : List Held) (f : Stated) (t : ℕ)
-        → IsTold zones f last.now
-        → IsHeld zones t last.now
+    ensures { (zones : List Lent) (f : Stated) (t : ℕ)
+        → Represents zones f last.now
+        → Lends zones t last.now
         → f.outcome ≡ outcome f.zone f.name t
-        → result ≡ next_name f (names_told before.now ++ last.now.name ∷ []) }
+        → result ≡ next_name f (names_searched before.now ++ last.now.name ∷ []) }
 {
     let Kind::Alias = last.kind else {
         return None;
@@ -114,8 +114,8 @@ pub fn resolve<'a, I: ZoneIndex>(
     name: NameRef<'a>,
     qtype: u16,
 ) -> Result<Outcome<'a>, AllocError>
-    ensures told { IfOk result (λ found. AreTold zones.now (resolve zones.now name.entry qtype) found.items) }
-    ensures held { IfOk result (λ found. AreHeld zones.now qtype found.items) }
+    ensures represents { IfOk result (λ found. RepresentAll zones.now (resolve zones.now name.entry qtype) found.items) }
+    ensures lent { IfOk result (λ found. AllLend zones.now qtype found.items) }
     ensures most { IfOk result (λ found. vec_len found ≤ 8) }
 {
     let mut found = Vec::new(alloc);

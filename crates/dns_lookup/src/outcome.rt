@@ -4,8 +4,8 @@ ghost use Rattle.dns_names.specs.Name.{Labels};
 ghost use Rattle.dns_records.specs.Record.{Record as Stated};
 ghost use Rattle.dns_zone.specs.Records.{is_ordered, records_at};
 ghost use Rattle.dns_lookup.specs.Lookup.{asked, at_node, outcome};
-ghost use Rattle.dns_lookup.specs.Told.{IsKind};
-ghost use Rattle.dns_lookup.specs.Held.{records_found};
+ghost use Rattle.dns_lookup.specs.Represented.{IsKind};
+ghost use Rattle.dns_lookup.specs.Lent.{records_found};
 
 use crate::node::Node;
 use dns_names::NameRef;
@@ -67,8 +67,8 @@ pub(crate) fn outcome<'a, I: ZoneIndex>(
     name: &NameRef<'a>,
     qtype: u16,
 ) -> (Kind, Node<'a>, &'a [Record])
-    ensures told { IsKind (outcome zone.now name.now qtype) name.now result.0 result.1 }
-    ensures held { result.2.now ≡ records_found zone.now.records result.0 result.1 qtype }
+    ensures represents { IsKind (outcome zone.now name.now qtype) name.now result.0 result.1 }
+    ensures lent { result.2.now ≡ records_found zone.now.records result.0 result.1 qtype }
 {
     // The records are in order, and the encloser of a name that doesn't exist is another name above it: there is room for a label.
     let (_ordered, _valid) = (zone.apex(), name.as_wire());
@@ -76,12 +76,12 @@ pub(crate) fn outcome<'a, I: ZoneIndex>(
         Match::Cut(cut, owned) => (Kind::Referral, Node::named(cut), of_type(owned, types::NS)),
         Match::Name(owned) => {
             let (kind, found) = kind_by(owned, qtype);
-            (kind, Node::named(name.again()), found)
+            (kind, Node::named(name.reborrow()), found)
         }
         Match::Wildcard(above, owned) => {
             let (kind, found) = kind_by(owned, qtype);
             (kind, Node::wildcard_of(above), found)
         }
-        Match::Nothing => (Kind::NameError, Node::named(name.again()), &[]),
+        Match::Nothing => (Kind::NameError, Node::named(name.reborrow()), &[]),
     }
 }

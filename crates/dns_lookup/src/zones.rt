@@ -28,7 +28,7 @@ pub fn closest_zone<I: ZoneIndex>(zones: &[Zone<I>], name: &NameRef<'_>) -> Opti
     ensures inside { IfSome result (λ i. i < length zones.now) }
     ensures none { IfNone result (zone_of zones.now name.now ≡ None) }
 {
-    let mut here = name.again();
+    let mut here = name.reborrow();
     'ancestors: loop {
         if let Some(i) = place_of(zones, &here) {
             return Some(i);

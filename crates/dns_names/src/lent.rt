@@ -77,7 +77,7 @@ impl<'a> NameRef<'a> {
     }
 
     /// The same name, lent once more.
-    pub fn again(&self) -> NameRef<'a>
+    pub fn reborrow(&self) -> NameRef<'a>
         ensures { result ≡ self.now }
     {
         NameRef {

@@ -19,8 +19,8 @@ use Rattle.dns_zone.specs.Soa.{HasSoa}
 use Rattle.dns_zone.proofs.Kept.{find_kept}
 use Rattle.dns_changes.specs.Touched.{is_owned_by, records_aside, DifferAt}
 use Rattle.dns_serial.specs.Serial.{next_serial}
-use Rattle.dns_wire.specs.Message.{Item}
-use Rattle.dns_update.specs.Item.{as_record}
+use Rattle.dns_wire.specs.Message.{ResourceRecord}
+use Rattle.dns_update.specs.ResourceRecord.{as_record}
 use Rattle.dns_update.specs.Effect.{is_of, is_vital, replaced, owns_other, succeeds, added, deleted_set, is_spared, deleted, effect, effects}
 use Rattle.dns_update.specs.Verdict.{same_set, with_next_serial}
 
@@ -86,7 +86,7 @@ module _ (apex : Labels) (names : List Labels) (xs : List Record) where
   set_aside name t o = filter_aside names (λ r. not (is_of name t r && not (is_vital apex r))) xs
       (λ s e. of_owned names name t s o (both_true (is_of name t s) (not (is_vital apex s)) (not_false (is_of name t s && not (is_vital apex s)) e)).0)
 
-  effect_aside : (i : Item) → list_any (names_eq i.owner) names ≡ true → records_aside names (effect apex xs i) ≡ records_aside names xs
+  effect_aside : (i : ResourceRecord) → list_any (names_eq i.owner) names ≡ true → records_aside names (effect apex xs i) ≡ records_aside names xs
   effect_aside i o = at (i.class == class_in) (i.class == class_any)
     where
       at : (a b : Bool) → records_aside names (if a then added xs (as_record i) else if b then deleted_set apex xs i.owner i.rtype else deleted apex xs (as_record i)) ≡ records_aside names xs
@@ -95,7 +95,7 @@ module _ (apex : Labels) (names : List Labels) (xs : List Record) where
       at false false = deleted_aside (as_record i) o
 
 -- the items leave what other names own
-pub effects_aside : (apex : Labels) (names : List Labels) (xs : List Record) (items : List Item) → AllByRecursion (λ i. list_any (names_eq i.owner) names ≡ true) items → records_aside names (effects apex xs items) ≡ records_aside names xs
+pub effects_aside : (apex : Labels) (names : List Labels) (xs : List Record) (items : List ResourceRecord) → AllByRecursion (λ i. list_any (names_eq i.owner) names ≡ true) items → records_aside names (effects apex xs items) ≡ records_aside names xs
 effects_aside apex names xs [] h = refl
 effects_aside apex names xs (i ∷ rest) h = effects_aside apex names (effect apex xs i) rest h.1 ∙ effect_aside apex names xs i h.0
 

@@ -5,7 +5,7 @@ use Rattle.dns_records.specs.Types.{type_a, type_ns, type_cname, type_soa, type_
 use Rattle.dns_records.specs.Record.{Record, string}
 use Rattle.dns_zone.specs.Records.{rrset}
 use Rattle.dns_zone.specs.Zone.{soas}
-use Rattle.dns_wire.specs.Message.{Item}
+use Rattle.dns_wire.specs.Message.{ResourceRecord}
 use Rattle.dns_wire.specs.declared.codes.Rcode.TheVariants.{NxDomain, Refused, YxDomain, YxRrset, NxRrset, NotZone}
 use Rattle.dns_changes.specs.Version.{serial_in}
 use Rattle.dns_update.specs.Verdict.{Verdict, Refuses, Keeps, Leaves, verdict}
@@ -21,28 +21,28 @@ size v = length (records_in v)
 abbrev serial : Verdict → ℕ
 serial v = serial_in (soas (records_in v))
 
-abbrev item : ℕ → ℕ → Labels → ℕ → List ℕ → Item
+abbrev item : ℕ → ℕ → Labels → ℕ → List ℕ → ResourceRecord
 item class ttl owner rtype rdata = record { owner = owner; rtype = rtype; class = class; ttl = ttl; rdata = rdata }
 
-abbrev adds : Labels → ℕ → List ℕ → Item
+abbrev adds : Labels → ℕ → List ℕ → ResourceRecord
 adds owner rtype rdata = item class_in 3600 owner rtype rdata
 
-abbrev deletes : Labels → ℕ → List ℕ → Item
+abbrev deletes : Labels → ℕ → List ℕ → ResourceRecord
 deletes owner rtype rdata = item class_none 0 owner rtype rdata
 
-abbrev deletes_all : Labels → ℕ → Item
+abbrev deletes_all : Labels → ℕ → ResourceRecord
 deletes_all owner rtype = item class_any 0 owner rtype []
 
-abbrev txt : Labels → Item
+abbrev txt : Labels → ResourceRecord
 txt owner = adds owner type_txt (string (codes "x"))
 
-abbrev soa : ℕ → ℕ → Item
+abbrev soa : ℕ → ℕ → ResourceRecord
 soa number minimum = adds example type_soa (soa_data ns_com (codes "hostmaster" ∷ example) (number ∷ 7200 ∷ 900 ∷ 1209600 ∷ minimum ∷ []))
 
-abbrev updated : List Item → Verdict
+abbrev updated : List ResourceRecord → Verdict
 updated items = verdict example_zone [] items
 
-abbrev required : List Item → Verdict
+abbrev required : List ResourceRecord → Verdict
 required prerequisites = verdict example_zone prerequisites []
 
 -- ---- what is done

@@ -10,11 +10,11 @@ use Rattle.dns_records.specs.Record.{IsField, AreFields, IsRData}
 use Rattle.dns_zone.specs.Order.{number_itself}
 use Rattle.dns_zone.proofs.OneSoa.{past, untrue}
 use Rattle.dns_zone.specs.Zone.{is_wildcard}
-use Rattle.dns_wire.specs.Message.{Item, Message}
-use Rattle.dns_wire.specs.Reads.{FieldAt, FieldsAt, RDataAt, ItemAt, ItemsAt, Reads}
+use Rattle.dns_wire.specs.Message.{ResourceRecord, Message}
+use Rattle.dns_wire.specs.Reads.{FieldAt, FieldsAt, RDataAt, ResourceRecordAt, ResourceRecordsAt, Reads}
 use Rattle.dns_wire.specs.declared.codes.Rcode.{Rcode}
 use Rattle.dns_wire.specs.declared.codes.Rcode.TheVariants.{FormErr, Refused, NotZone}
-use Rattle.dns_update.specs.Item.{HasForm, is_empty, is_meta}
+use Rattle.dns_update.specs.ResourceRecord.{HasForm, is_empty, is_meta}
 use Rattle.dns_update.specs.Prescan.{prescan_fault, addition_fault}
 
 width : (m : List ℕ) (at stop n : ℕ) → stop ≡ at + n → stop ≤ length m → length (slice_range m at stop) ≡ n
@@ -38,10 +38,10 @@ data_formed : (m : List ℕ) (at rtype n : ℕ) (plain : List ℕ) → RDataAt m
 data_formed m at rtype zero plain h = inl (ap length h)
 data_formed m at rtype (suc n) plain h = inr (form_from m at (form rtype) plain (slice_range m at (at + suc n)) (at + suc n) h.1)
 
-items_formed : (m : List ℕ) (at : ℕ) (items : List Item) (stop : ℕ) → ItemsAt m at items stop → AllByRecursion HasForm items
+items_formed : (m : List ℕ) (at : ℕ) (items : List ResourceRecord) (stop : ℕ) → ResourceRecordsAt m at items stop → AllByRecursion HasForm items
 items_formed m at [] stop h = tt
 items_formed m at (i ∷ items) stop (mid, item, more) =
-    let here : ItemAt m at i mid = item in
+    let here : ResourceRecordAt m at i mid = item in
     (data_formed m (here.mid + 10) i.rtype here.rdlength i.rdata here.rdata, items_formed m mid items stop more)
 
 pub updates_formed : (octets : List ℕ) (m : Message) → Reads octets m → AllByRecursion HasForm m.authorities
@@ -63,7 +63,7 @@ filled false b e f = absurd cc
 within : (n : ℕ) → nat_lt 4096 n ≡ false → n ≤ 4096
 within n e = grind (arith, nat_tests)
 
-pub record IsFit (apex : Labels) (i : Item) : Type 0 where
+pub record IsFit (apex : Labels) (i : ResourceRecord) : Type 0 where
   pub rtype : is_data_type i.rtype ≡ true
   pub short : length i.rdata ≤ 4096
   pub form : IsRData i.rtype i.rdata
@@ -71,7 +71,7 @@ pub record IsFit (apex : Labels) (i : Item) : Type 0 where
   pub server : (i.rtype == type_ns && is_wildcard i.owner) ≡ false
 
 -- data that may be empty only where it has no form
-formed : (i : Item) → HasForm i → (is_known i.rtype && is_empty i) ≡ false → IsRData i.rtype i.rdata
+formed : (i : ResourceRecord) → HasForm i → (is_known i.rtype && is_empty i) ≡ false → IsRData i.rtype i.rdata
 formed i (inr form) e = form
 formed i (inl none) e = go (form i.rtype) refl
   where
@@ -79,7 +79,7 @@ formed i (inl none) e = go (form i.rtype) refl
     go None f = subst (λ (o : Option (List Field)). IfSome o (λ fields. AreFields fields i.rdata)) (sym f) tt
     go (Some fields) f = (let some = filled (is_known i.rtype) (is_empty i) (ap is_some f) e in let empty : is_empty i ≡ true = ap (λ (n : ℕ). n == 0) none in absurd cc)
 
-pub fit : (apex : Labels) (i : Item) → i.class ≡ class_in → prescan_fault apex i ≡ None → HasForm i → IsFit apex i
+pub fit : (apex : Labels) (i : ResourceRecord) → i.class ≡ class_in → prescan_fault apex i ≡ None → HasForm i → IsFit apex i
 fit apex i c e h =
     let inside = past (not (under i.owner apex)) NotZone _ e in
     let class : (i.class == class_in) ≡ true = ap (λ (n : ℕ). n == class_in) c ∙ number_itself class_in in

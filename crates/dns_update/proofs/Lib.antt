@@ -1,7 +1,7 @@
 pub mod Gone
 pub mod Found
 pub mod Forms
-pub mod Items
+pub mod ResourceRecords
 pub mod OneSoa
 pub mod Sizes
 pub mod Sound

@@ -17,8 +17,8 @@ use Rattle.dns_zone.specs.Twice.{alike_is}
 use Rattle.dns_zone.proofs.Kept.{numbers_same}
 use Rattle.dns_changes.proofs.Steps.{has_is}
 use Rattle.dns_changes.proofs.Touched.{filter_by}
-use Rattle.dns_wire.specs.Message.{Item}
-use Rattle.dns_update.specs.Item.{as_record}
+use Rattle.dns_wire.specs.Message.{ResourceRecord}
+use Rattle.dns_update.specs.ResourceRecord.{as_record}
 use Rattle.dns_update.specs.Prerequisites.{lists, is_rrset, are_rrsets}
 use Rattle.dns_update.specs.Listed.{listed, is_counted, is_met}
 use Rattle.dns_update.proofs.Gone.{no_more}
@@ -46,10 +46,10 @@ or_false true = refl
 or_false false = refl
 
 -- ---- one item more
-abbrev either : (Record → Bool) → Item → Record → Bool
+abbrev either : (Record → Bool) → ResourceRecord → Record → Bool
 either p i r = p r || lists r i
 
-more_at : (p : Record → Bool) (i : Item) (g : Record) (xs : List Record) → Sorted xs → (i.class == class_in) ≡ true → found (as_record i) xs ≡ Some g → (q : Record) (t : Bool) (o : Option Record) → ties q g ≡ t → found q xs ≡ o
+more_at : (p : Record → Bool) (i : ResourceRecord) (g : Record) (xs : List Record) → Sorted xs → (i.class == class_in) ≡ true → found (as_record i) xs ≡ Some g → (q : Record) (t : Bool) (o : Option Record) → ties q g ≡ t → found q xs ≡ o
     → cond t (Some g) (only p o) ≡ only (either p i) o
 more_at p i g xs h c e q true o t f =
     let tied = (found_contains (as_record i) g xs e).0 in
@@ -73,7 +73,7 @@ more_at p i g xs h c e q false (Some a) t f =
     ties_right : (x a b : Record) → record_cmp a b ≡ Equal → ties x a ≡ ties x b
     ties_right x a b n = ap is_eq (alike_right record_total a b x n)
 
-pub more_listed : (p : Record → Bool) (i : Item) (g : Record) (xs : List Record) → Sorted xs → (i.class == class_in) ≡ true → find (alike (as_record i)) xs ≡ Some g → put g (filter p xs) ≡ filter (either p i) xs
+pub more_listed : (p : Record → Bool) (i : ResourceRecord) (g : Record) (xs : List Record) → Sorted xs → (i.class == class_in) ≡ true → find (alike (as_record i)) xs ≡ Some g → put g (filter p xs) ≡ filter (either p i) xs
 more_listed p i g xs h c e =
     let f : found (as_record i) xs ≡ Some g = found_alike (as_record i) xs ∙ e in
     same_sets (put g (filter p xs)) (filter (either p i) xs) (sorted_put g (filter p xs) (sorted_filter p xs h)) (sorted_filter (either p i) xs h)
@@ -88,7 +88,7 @@ none_alike r (x ∷ xs) e s c = at (alike r x) refl e (either_true (same s x) (c
     at false f g (inl t) rest = subst (λ (y : Record). alike r y ≡ false) (sym (same_is s x t)) f
     at false f g (inr t) rest = rest g t
 
-pub none_listed : (p : Record → Bool) (i : Item) (xs : List Record) → (if i.class == class_in then find (alike (as_record i)) xs else None) ≡ None → filter p xs ≡ filter (either p i) xs
+pub none_listed : (p : Record → Bool) (i : ResourceRecord) (xs : List Record) → (if i.class == class_in then find (alike (as_record i)) xs else None) ≡ None → filter p xs ≡ filter (either p i) xs
 none_listed p i xs e = filter_by p (either p i) xs (λ r c. sym (ap (λ b. p r || b) (at (i.class == class_in) refl e r c) ∙ or_false (p r)))
   where
     at : (b : Bool) → (i.class == class_in) ≡ b → (if b then find (alike (as_record i)) xs else None) ≡ None → (r : Record) → contains xs r ≡ true → lists r i ≡ false
@@ -96,7 +96,7 @@ none_listed p i xs e = filter_by p (either p i) xs (λ r c. sym (ap (λ b. p r |
     at false f g r c = (λ j. f j && alike (as_record i) r)
 
 -- ---- the loop
-any_more : (f : Item → Bool) (items : List Item) (i : ℕ) (x : Item) → i < length items → x ≡ get_or items i x → list_any f (take (i + 1) items) ≡ (list_any f (take i items) || f x)
+any_more : (f : ResourceRecord → Bool) (items : List ResourceRecord) (i : ℕ) (x : ResourceRecord) → i < length items → x ≡ get_or items i x → list_any f (take (i + 1) items) ≡ (list_any f (take i items) || f x)
 any_more f [] i x lt is = absurd (omega arith)
 any_more f (y ∷ items) zero x lt is = or_false (f y) ∙ ap f (sym is)
 any_more f (y ∷ items) (suc i) x lt is =
@@ -107,11 +107,11 @@ any_more f (y ∷ items) (suc i) x lt is =
     joined true b d = refl
     joined false b d = refl
 
-each_more : (xs : List Record) (items : List Item) (i : ℕ) (x : Item) → i < length items → x ≡ get_or items i x → filter (either (λ r. list_any (lists r) (take i items)) x) xs ≡ listed xs (take (i + 1) items)
+each_more : (xs : List Record) (items : List ResourceRecord) (i : ℕ) (x : ResourceRecord) → i < length items → x ≡ get_or items i x → filter (either (λ r. list_any (lists r) (take i items)) x) xs ≡ listed xs (take (i + 1) items)
 each_more [] items i x lt is = refl
 each_more (y ∷ xs) items i x lt is = let head = any_more (lists y) items i x lt is in let rest = each_more xs items i x lt is in λ j. cond (sym head j) (y ∷ rest j) (rest j)
 
-pub step_some : (xs set next : List Record) (items : List Item) (i : ℕ) (x : Item) (g : Record) → Sorted xs → i < length items → x ≡ get_or items i x → Some g ≡ (if x.class == class_in then find (alike (as_record x)) xs else None)
+pub step_some : (xs set next : List Record) (items : List ResourceRecord) (i : ℕ) (x : ResourceRecord) (g : Record) → Sorted xs → i < length items → x ≡ get_or items i x → Some g ≡ (if x.class == class_in then find (alike (as_record x)) xs else None)
     → set ≡ listed xs (take i items) → next ≡ put g set → next ≡ listed xs (take (i + 1) items)
 step_some xs set next items i x g h lt is e s n = n ∙ ap (put g) s ∙ at (x.class == class_in) refl e ∙ each_more xs items i x lt is
   where
@@ -119,7 +119,7 @@ step_some xs set next items i x g h lt is e s n = n ∙ ap (put g) s ∙ at (x.c
     at true f e' = more_listed (λ r. list_any (lists r) (take i items)) x g xs h f (sym e')
     at false f e' = absurd cc
 
-pub step_none : (xs set : List Record) (items : List Item) (i : ℕ) (x : Item) → i < length items → x ≡ get_or items i x → None ≡ (if x.class == class_in then find (alike (as_record x)) xs else None)
+pub step_none : (xs set : List Record) (items : List ResourceRecord) (i : ℕ) (x : ResourceRecord) → i < length items → x ≡ get_or items i x → None ≡ (if x.class == class_in then find (alike (as_record x)) xs else None)
     → set ≡ listed xs (take i items) → set ≡ listed xs (take (i + 1) items)
 step_none xs set items i x lt is e s = s ∙ none_listed (λ r. list_any (lists r) (take i items)) x xs (sym e) ∙ each_more xs items i x lt is
 
@@ -155,16 +155,16 @@ swapped p q (x ∷ xs) = at (p x) (q x) refl refl (swapped p q xs)
     at false true f g rest = rest ∙ (λ j. cond (sym f j) (x ∷ filter p (filter q xs)) (filter p (filter q xs)))
     at false false f g rest = rest
 
-counted : (xs : List Record) (items : List Item) (i : Item) → is_counted (listed xs items) xs i ≡ is_rrset xs items i
+counted : (xs : List Record) (items : List ResourceRecord) (i : ResourceRecord) → is_counted (listed xs items) xs i ≡ is_rrset xs items i
 counted xs items i =
     let p : Record → Bool = λ r. list_any (lists r) items in
     let of_it : Record → Bool = λ r. names_eq r.owner i.owner && r.rtype == i.rtype in
     ap (λ b. has (as_record i) xs && b) (ap (λ (ys : List Record). length ys == length (rrset xs i.owner i.rtype)) (swapped p of_it xs) ∙ as_many p (rrset xs i.owner i.rtype))
 
-all_counted : (xs : List Record) (items rest : List Item) → list_all (is_met (listed xs items) xs) rest ≡ list_all (λ i. not (i.class == class_in) || is_rrset xs items i) rest
+all_counted : (xs : List Record) (items rest : List ResourceRecord) → list_all (is_met (listed xs items) xs) rest ≡ list_all (λ i. not (i.class == class_in) || is_rrset xs items i) rest
 all_counted xs items [] = refl
 all_counted xs items (i ∷ rest) = λ j. (not (i.class == class_in) || counted xs items i j) && all_counted xs items rest j
 
 -- each is met by what is listed
-pub all_met : (xs set : List Record) (items : List Item) → set ≡ listed xs items → list_all (is_met set xs) items ≡ are_rrsets xs items
+pub all_met : (xs set : List Record) (items : List ResourceRecord) → set ≡ listed xs items → list_all (is_met set xs) items ≡ are_rrsets xs items
 all_met xs set items e = ap (λ (ys : List Record). list_all (is_met ys xs) items) e ∙ all_counted xs items items

@@ -10,7 +10,7 @@ use Rattle.std.proofs.lemmas.Map.Views.{list_any-from_Contains}
 use Rattle.dns_names.specs.Name.{Labels, names_eq, name_cmp}
 use Rattle.dns_names.specs.Compare.{name_cmp-total, name_cmp-ties, same_labels, same_labels-Decides, same_labels-equiv}
 use Rattle.dns_zone.specs.Order.{names_same, names_itself}
-use Rattle.dns_wire.specs.Message.{Item}
+use Rattle.dns_wire.specs.Message.{ResourceRecord}
 use Rattle.dns_update.specs.Touched.{AreTouched}
 
 names_equiv : IsEquivalence names_eq
@@ -28,11 +28,11 @@ first_in n names = (0, omega arith, refl)
 later_in : (m n : Labels) (names : List Labels) → Contains names n → Contains (m ∷ names) n
 later_in m n names (k, inside, is) = (suc k, omega arith, is)
 
-each_owner : (names : List Labels) (items : List Item) → ((n : Labels) → Contains (map (λ i. i.owner) items) n → list_any (names_eq n) names ≡ true) → AllByRecursion (λ i. list_any (names_eq i.owner) names ≡ true) items
+each_owner : (names : List Labels) (items : List ResourceRecord) → ((n : Labels) → Contains (map (λ i. i.owner) items) n → list_any (names_eq n) names ≡ true) → AllByRecursion (λ i. list_any (names_eq i.owner) names ≡ true) items
 each_owner names [] h = tt
 each_owner names (i ∷ rest) h = (h i.owner (first_in i.owner (map (λ j. j.owner) rest)), each_owner names rest (λ n c. h n (later_in i.owner n (map (λ j. j.owner) rest) c)))
 
-pub touched_by : (apex : Labels) (items : List Item) (xs ys zs : List Labels) → xs ≡ apex ∷ map (λ i. i.owner) items → IsPermutation xs ys → IsSorted name_cmp ys → zs ≡ dedup same_labels ys → AreTouched apex items zs
+pub touched_by : (apex : Labels) (items : List ResourceRecord) (xs ys zs : List Labels) → xs ≡ apex ∷ map (λ i. i.owner) items → IsPermutation xs ys → IsSorted name_cmp ys → zs ≡ dedup same_labels ys → AreTouched apex items zs
 touched_by apex items xs ys zs is p s e = record {
   rise = subst (IsStrictlySortedBy name_cmp) (sym e) (IsStrictlySortedBy-dedup name_cmp-total name_cmp-ties ys s);
   top = among apex (first_in apex (map (λ i. i.owner) items));

@@ -13,9 +13,9 @@ use Rattle.dns_zone.specs.Zone.{soas}
 use Rattle.dns_zone.specs.Order.{record_total, both_true, names_same, names_itself, tied_key}
 use Rattle.dns_zone.specs.Sets.{equal_is, told}
 use Rattle.dns_zone.specs.Twice.{any_by}
-use Rattle.dns_wire.specs.Message.{Item}
+use Rattle.dns_wire.specs.Message.{ResourceRecord}
 use Rattle.dns_serial.specs.Serial.{greater, next_serial}
-use Rattle.dns_update.specs.Item.{as_record}
+use Rattle.dns_update.specs.ResourceRecord.{as_record}
 use Rattle.dns_update.specs.Effect.{is_of, replaced, owns_other, succeeds, added, is_vital, deleted_set, deleted, effect, effects}
 use Rattle.std.specs.Cmp.{tied_itself}
 use Rattle.dns_update.specs.Verdict.{with_next_serial}
@@ -148,7 +148,7 @@ module _ (apex : Labels) where
       at false true e = h
       at false false e = keeps xs h (λ s. not (is_eq (record_cmp r s))) (ap not (untied e))
 
-  takes_effect : (xs : List Record) → HasSoa apex xs → (i : Item) → HasSoa apex (effect apex xs i)
+  takes_effect : (xs : List Record) → HasSoa apex xs → (i : ResourceRecord) → HasSoa apex (effect apex xs i)
   takes_effect xs h i = at (i.class == class_in) (i.class == class_any)
     where
       at : (a b : Bool) → HasSoa apex (if a then added xs (as_record i) else if b then deleted_set apex xs i.owner i.rtype else deleted apex xs (as_record i))
@@ -169,6 +169,6 @@ module _ (apex : Labels) where
   next_soa xs h = record { soa = with_serial h.soa (next_serial (serial_of h.soa)); one = next_alone xs h; owner = h.owner }
 
   -- behind all items the zone has one SOA still
-  pub soa_stays : (xs : List Record) → HasSoa apex xs → (items : List Item) → HasSoa apex (effects apex xs items)
+  pub soa_stays : (xs : List Record) → HasSoa apex xs → (items : List ResourceRecord) → HasSoa apex (effects apex xs items)
   soa_stays xs h [] = h
   soa_stays xs h (i ∷ rest) = soa_stays (effect apex xs i) (takes_effect xs h i) rest

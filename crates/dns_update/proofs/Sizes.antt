@@ -10,8 +10,8 @@ use Rattle.dns_names.specs.Name.{Labels}
 use Rattle.dns_records.specs.Types.{type_cname, type_soa, class_in, class_any}
 use Rattle.dns_records.specs.Record.{Record, record_cmp, serial_of, with_serial}
 use Rattle.dns_zone.specs.Records.{put, without, owns_type}
-use Rattle.dns_wire.specs.Message.{Item}
-use Rattle.dns_update.specs.Item.{as_record}
+use Rattle.dns_wire.specs.Message.{ResourceRecord}
+use Rattle.dns_update.specs.ResourceRecord.{as_record}
 use Rattle.dns_update.specs.Effect.{is_of, replaced, owns_other, succeeds, added, is_vital, deleted_set, is_spared, deleted, effect, effects}
 use Rattle.dns_serial.specs.Serial.{next_serial}
 use Rattle.dns_update.specs.Verdict.{with_next_serial}
@@ -48,7 +48,7 @@ module _ (apex : Labels) (xs : List Record) where
       at true = omega arith
       at false = let kept = no_more (λ s. not (is_eq (record_cmp r s))) xs in omega arith
 
-  effect_more : (i : Item) → length (effect apex xs i) ≤ length xs + 1
+  effect_more : (i : ResourceRecord) → length (effect apex xs i) ≤ length xs + 1
   effect_more i = at (i.class == class_in) (i.class == class_any)
     where
       at : (a b : Bool) → length (if a then added xs (as_record i) else if b then deleted_set apex xs i.owner i.rtype else deleted apex xs (as_record i)) ≤ length xs + 1
@@ -56,7 +56,7 @@ module _ (apex : Labels) (xs : List Record) where
       at false true = (let kept = no_more (λ r. not (is_of i.owner i.rtype r && not (is_vital apex r))) xs in omega arith)
       at false false = deleted_more (as_record i)
 
-pub effects_more : (apex : Labels) (xs : List Record) (items : List Item) → length (effects apex xs items) ≤ length xs + length items
+pub effects_more : (apex : Labels) (xs : List Record) (items : List ResourceRecord) → length (effects apex xs items) ≤ length xs + length items
 effects_more apex xs [] = omega arith
 effects_more apex xs (i ∷ rest) = let more = effect_more apex xs i in let others = effects_more apex (effect apex xs i) rest in omega arith
 

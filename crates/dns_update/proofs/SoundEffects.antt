@@ -16,13 +16,13 @@ use Rattle.dns_zone.specs.Soa.{HasSoa}
 use Rattle.dns_zone.proofs.Kept.{numbers_same}
 use Rattle.dns_zone.proofs.OneSoa.{is_soa, is_one, untrue}
 use Rattle.dns_changes.specs.Applied.{not_true, one_in}
-use Rattle.dns_wire.specs.Message.{Item}
+use Rattle.dns_wire.specs.Message.{ResourceRecord}
 use Rattle.dns_serial.specs.Serial.{next_serial}
-use Rattle.dns_update.specs.Item.{HasForm, as_record, first_fault}
+use Rattle.dns_update.specs.ResourceRecord.{HasForm, as_record, first_fault}
 use Rattle.dns_update.specs.Prescan.{prescan_fault}
 use Rattle.dns_update.specs.Effect.{is_of, replaced, owns_other, succeeds, added, is_vital, deleted_set, is_spared, deleted, effect, effects}
 use Rattle.dns_update.specs.Verdict.{with_next_serial}
-use Rattle.dns_update.proofs.Items.{no_fault}
+use Rattle.dns_update.proofs.ResourceRecords.{no_fault}
 use Rattle.dns_update.proofs.Forms.{fit}
 use Rattle.dns_update.proofs.OneSoa.{puts, aliases, replaces, deletes_set, deletes, next_soa}
 use Rattle.dns_update.proofs.Sound.{IsSound, IsPlaced, AreApart, is_alias, is_server, later, refuted, of_none, one_any, put_any, kept_any, server_key, put_alone, put_placed, kept_alone}
@@ -162,7 +162,7 @@ module _ (apex : Labels) (xs : List Record) (h : IsSound apex xs) where
       at false e = stay (λ s. not (is_eq (record_cmp r s))) (subst (λ b. HasSoa apex (if b then xs else without r xs)) e (deletes apex xs h.soa r)) (servers_left r e)
 
   -- ---- an item
-  takes_effect : (i : Item) → (i.class ≡ class_in → IsPlaced apex (as_record i)) → IsSound apex (effect apex xs i)
+  takes_effect : (i : ResourceRecord) → (i.class ≡ class_in → IsPlaced apex (as_record i)) → IsSound apex (effect apex xs i)
   takes_effect i p = at (i.class == class_in) (i.class == class_any) refl
     where
       at : (a b : Bool) → (i.class == class_in) ≡ a → IsSound apex (if a then added xs (as_record i) else if b then deleted_set apex xs i.owner i.rtype else deleted apex xs (as_record i))
@@ -211,7 +211,7 @@ module _ (apex : Labels) (xs : List Record) (h : IsSound apex xs) where
       }
 
 -- all items
-pub sound_stays : (apex : Labels) (xs : List Record) → IsSound apex xs → (items : List Item) → first_fault (prescan_fault apex) items ≡ None → AllByRecursion HasForm items → IsSound apex (effects apex xs items)
+pub sound_stays : (apex : Labels) (xs : List Record) → IsSound apex xs → (items : List ResourceRecord) → first_fault (prescan_fault apex) items ≡ None → AllByRecursion HasForm items → IsSound apex (effects apex xs items)
 sound_stays apex xs h [] e f = h
 sound_stays apex xs h (i ∷ rest) e f =
     let both = no_fault (prescan_fault apex i) (first_fault (prescan_fault apex) rest) e in

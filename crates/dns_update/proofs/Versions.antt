@@ -18,11 +18,11 @@ use Rattle.dns_zone.proofs.OneSoa.{is_one, zone_soa, conditions}
 use Rattle.dns_changes.specs.Applied.{one_in, change_leads}
 use Rattle.dns_changes.specs.Change.{Change, IsChange}
 use Rattle.dns_serial.specs.Serial.{greater, next_serial}
-use Rattle.dns_wire.specs.Message.{Item}
+use Rattle.dns_wire.specs.Message.{ResourceRecord}
 use Rattle.dns_update.specs.declared.Judged.{Judged}
 use Rattle.dns_update.specs.declared.Judged.TheVariants as told
 use Rattle.dns_wire.specs.declared.codes.Rcode.TheVariants as code
-use Rattle.dns_update.specs.Item.{HasForm, first_fault}
+use Rattle.dns_update.specs.ResourceRecord.{HasForm, first_fault}
 use Rattle.dns_update.specs.Prescan.{prescan_fault}
 use Rattle.dns_update.specs.Effect.{effects}
 use Rattle.dns_update.specs.Verdict.{Verdict, Refuses, Keeps, Leaves, IsTold, same_set, versioned, with_next_serial}
@@ -98,7 +98,7 @@ next_from records z h (Leaves after) f j (d, left, is, holds, change) c next e =
     subst (IsNext z c) (sym there) (record { leads = leads; version = version })
 
 -- what the items of an update that is not refused leave
-pub sound_after : (z : Zone) → IsZone z → (items : List Item) → first_fault (prescan_fault z.apex) items ≡ None → AllByRecursion HasForm items → IsSound z.apex (effects z.apex z.records items)
+pub sound_after : (z : Zone) → IsZone z → (items : List ResourceRecord) → first_fault (prescan_fault z.apex) items ≡ None → AllByRecursion HasForm items → IsSound z.apex (effects z.apex z.records items)
 sound_after z h items e f = sound_stays z.apex z.records (sound_from z.apex z.records (sorted_from z.records h.ordered) (zone_soa z h) (conditions z.apex z.records h.valid)) items e f
 
 pub next_told : {X : Type 0} {E : Type 0} (records : X → List Record) (z : Zone) → IsZone z → (after : List Record) → IsSound z.apex after → ∥ AllByRecursion IsRecord after ∥₁ → (r : Result (Judged X) E)

@@ -6,8 +6,8 @@ use Rattle.dns_records.specs.Types.{type_ns, type_cname, type_soa, type_any, cla
 use Rattle.dns_records.specs.Record.{Record, serial_of}
 use Rattle.dns_zone.specs.Records.{put, without, rrset, owns_type}
 use Rattle.dns_serial.specs.Serial.{greater}
-use Rattle.dns_wire.specs.Message.{Item}
-use Rattle.dns_update.specs.Item.{as_record}
+use Rattle.dns_wire.specs.Message.{ResourceRecord}
+use Rattle.dns_update.specs.ResourceRecord.{as_record}
 
 -- The record is of that name, and of that type where it isn't ANY.
 abbrev pub is_of : Labels → ℕ → Record → Bool
@@ -52,13 +52,13 @@ abbrev pub deleted : Labels → List Record → Record → List Record
 deleted apex records r = if is_spared apex records r then records else without r records
 
 -- What one item does.
-abbrev pub effect : Labels → List Record → Item → List Record
+abbrev pub effect : Labels → List Record → ResourceRecord → List Record
 effect apex records i =
     if i.class == class_in then added records (as_record i)
     else if i.class == class_any then deleted_set apex records i.owner i.rtype
     else deleted apex records (as_record i)
 
 -- What the items do, each to what those before it left.
-abbrev pub effects : Labels → List Record → List Item → List Record
+abbrev pub effects : Labels → List Record → List ResourceRecord → List Record
 effects apex records [] = records
 effects apex records (i ∷ rest) = effects apex (effect apex records i) rest

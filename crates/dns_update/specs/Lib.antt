@@ -1,4 +1,4 @@
-pub mod Item
+pub mod ResourceRecord
 pub mod Prerequisites
 pub mod Listed
 pub mod Prescan

@@ -4,10 +4,10 @@ use Rattle.dns_records.specs.Record.{Record, serial_of, with_serial}
 use Rattle.dns_zone.specs.Records.{put, without, same}
 use Rattle.dns_zone.specs.Zone.{Zone, soas}
 use Rattle.dns_serial.specs.Serial.{greater, next_serial}
-use Rattle.dns_wire.specs.Message.{Item}
+use Rattle.dns_wire.specs.Message.{ResourceRecord}
 use Rattle.dns_changes.specs.Change.{Change, IsChange}
 use Rattle.dns_changes.specs.Version.{serial_in}
-use Rattle.dns_update.specs.Item.{first_fault, otherwise}
+use Rattle.dns_update.specs.ResourceRecord.{first_fault, otherwise}
 use Rattle.dns_update.specs.Prerequisites.{prerequisites_fault}
 use Rattle.dns_update.specs.Prescan.{prescan_fault}
 use Rattle.dns_update.specs.Effect.{effects}
@@ -48,7 +48,7 @@ unless (Some rcode) verdict = Refuses rcode
 unless None verdict = verdict
 
 -- The prerequisites, then the scan of all items, then their effect (RFC 2136 3.2, 3.4).
-abbrev pub verdict : Zone → List Item → List Item → Verdict
+abbrev pub verdict : Zone → List ResourceRecord → List ResourceRecord → Verdict
 verdict z prerequisites items =
     unless (otherwise (prerequisites_fault z prerequisites) (first_fault (prescan_fault z.apex) items))
     (versioned z.records (effects z.apex z.records items))
@@ -61,5 +61,5 @@ IsTold {X} records before (Leaves after) j =
     (c : Change) × (next : X) × (j ≡ told.Accepted c next) × (records next ≡ after) × IsChange before after c
 
 -- The answer section of an update is its prerequisites, the authority section what is to be done (RFC 2136 2).
-abbrev pub IsJudged : {X : Type 0} → (X → List Record) → Zone → List Item → List Item → Judged X → Type 0
+abbrev pub IsJudged : {X : Type 0} → (X → List Record) → Zone → List ResourceRecord → List ResourceRecord → Judged X → Type 0
 IsJudged records z prerequisites items j = IsTold records z.records (verdict z prerequisites items) j

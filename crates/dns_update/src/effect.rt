@@ -8,11 +8,11 @@ ghost use Rattle.dns_records.specs.Record.{record_cmp, serial_of};
 ghost use Rattle.dns_records.specs.Types.{type_soa};
 ghost use Rattle.dns_serial.specs.Serial.{greater};
 ghost use Rattle.dns_zone.specs.Records.{alike, without};
-ghost use Rattle.dns_update.specs.Item.{as_record, HasForm, first_fault};
+ghost use Rattle.dns_update.specs.ResourceRecord.{as_record, HasForm, first_fault};
 ghost use Rattle.dns_update.specs.Prescan.{prescan_fault};
 ghost use Rattle.dns_update.specs.Effect.{added, deleted, deleted_set, effect, effects, is_of, is_spared, is_vital, owns_other, replaced, succeeds};
 
-use crate::item::{Item, find_named};
+use crate::item::{ResourceRecord, find_named};
 use dns_memory::Heap;
 use dns_names::{Name, NameRef};
 use dns_records::Record;
@@ -215,7 +215,7 @@ fn delete_set<I: ZoneIndex>(
 }
 
 /// Whether the item names a SOA, or the last NS of the apex.
-fn is_spared<I: ZoneIndex>(set: &I, apex: &NameRef<'_>, item: &Item) -> bool
+fn is_spared<I: ZoneIndex>(set: &I, apex: &NameRef<'_>, item: &ResourceRecord) -> bool
     ensures { result ≡ is_spared apex.now (I.records set.now) (as_record item.now) }
 {
     let last = set.rrset(apex, NS).len() == 1;
@@ -223,14 +223,14 @@ fn is_spared<I: ZoneIndex>(set: &I, apex: &NameRef<'_>, item: &Item) -> bool
 }
 
 /// A copy of the record that the item names, if it is there.
-fn named<I: ZoneIndex>(set: &I, item: &Item) -> Result<Option<Record>, AllocError>
+fn named<I: ZoneIndex>(set: &I, item: &ResourceRecord) -> Result<Option<Record>, AllocError>
     ensures { IfOk result (λ found. found ≡ find (alike (as_record item.now)) (I.records set.now)) }
 {
     copy_of(find_named(set, item))
 }
 
 /// Deletes one record (RFC 2136 section 3.4.2.4).
-fn delete<I: ZoneIndex>(set: &mut I, apex: &NameRef<'_>, item: &Item) -> Result<(), AllocError>
+fn delete<I: ZoneIndex>(set: &mut I, apex: &NameRef<'_>, item: &ResourceRecord) -> Result<(), AllocError>
     ensures { OnOk result (I.records set.new ≡ deleted apex.now (I.records set.old) (as_record item.now)) }
 {
     if is_spared(set, apex, item) {
@@ -247,7 +247,7 @@ fn take_effect<I: ZoneIndex>(
     alloc: Heap,
     set: &mut I,
     apex: &NameRef<'_>,
-    item: &Item,
+    item: &ResourceRecord,
 ) -> Result<(), AllocError>
     requires passes { prescan_fault apex.now item.now ≡ None }
     requires form { HasForm item.now }
@@ -265,7 +265,7 @@ pub(crate) fn take_effects<I: ZoneIndex>(
     alloc: Heap,
     set: &mut I,
     apex: &NameRef<'_>,
-    items: &[Item],
+    items: &[ResourceRecord],
 ) -> Result<(), AllocError>
     requires pass { first_fault (prescan_fault apex.now) items.now ≡ None }
     requires form { AllByRecursion HasForm items.now }

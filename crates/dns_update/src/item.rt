@@ -7,7 +7,7 @@ ghost use Rattle.dns_records.specs.Record.{IsRData, data_of};
 ghost use Rattle.dns_records.specs.Refusals.{RefusesData};
 ghost use Rattle.dns_records.specs.Types.{is_data_type, is_known};
 ghost use Rattle.dns_zone.specs.Records.{alike};
-ghost use Rattle.dns_update.specs.Item.{as_record, is_empty, is_meta};
+ghost use Rattle.dns_update.specs.ResourceRecord.{as_record, is_empty, is_meta};
 
 use dns_memory::Heap;
 use dns_names::{Name, NameRef};
@@ -20,7 +20,7 @@ use std::marker::Model;
 
 /// A record of an update, of any class and type (RFC 2136 sections 2.4 and 2.5).
 #[derive(Debug, Drop)]
-pub(crate) struct Item {
+pub(crate) struct ResourceRecord {
     owner: Name,
     rtype: u16,
     class: u16,
@@ -28,20 +28,20 @@ pub(crate) struct Item {
     rdata: Vec<u8, Heap>,
 }
 
-impl Model for Item {
-    ghost use Rattle.dns_wire.specs.Message.{Item as Stated};
+impl Model for ResourceRecord {
+    ghost use Rattle.dns_wire.specs.Message.{ResourceRecord as Stated};
 
     ghost Value = { Stated };
 
     ghost view = { λ i. record { owner = i.owner; rtype = i.rtype; class = i.class; ttl = i.ttl; rdata = i.rdata.items } };
 }
 
-impl Item {
+impl ResourceRecord {
     /// The record of a message.
-    fn of(alloc: Heap, view: &RecordView<'_>) -> Result<Item, AllocError>
+    fn of(alloc: Heap, view: &RecordView<'_>) -> Result<ResourceRecord, AllocError>
         ensures { IfOk result (λ item. item ≡ view.now) }
     {
-        Ok(Item {
+        Ok(ResourceRecord {
             owner: view.owner().to_name(alloc)?,
             rtype: view.rtype(),
             class: view.class(),
@@ -146,7 +146,7 @@ impl Item {
 }
 
 /// The record of the item's owner, type and data, if the set has it.
-pub(crate) fn find_named<'s, I: ZoneIndex>(set: &'s I, item: &Item) -> Option<&'s Record>
+pub(crate) fn find_named<'s, I: ZoneIndex>(set: &'s I, item: &ResourceRecord) -> Option<&'s Record>
     ensures { option_copied result ≡ find (alike (as_record item.now)) (I.records set.now) }
 {
     let owner = item.owner().lend();
@@ -155,7 +155,7 @@ pub(crate) fn find_named<'s, I: ZoneIndex>(set: &'s I, item: &Item) -> Option<&'
 }
 
 /// What is said of data that is refused though it has the form of its type: memory was.
-fn refused_memory(error: RecordError, item: &Item) -> AllocError
+fn refused_memory(error: RecordError, item: &ResourceRecord) -> AllocError
     requires rtype { is_data_type item.now.rtype ≡ true }
     requires short { length item.now.rdata ≤ 4096 }
     requires form { IsRData item.now.rtype item.now.rdata }
@@ -171,7 +171,7 @@ fn refused_memory(error: RecordError, item: &Item) -> AllocError
 }
 
 /// The records of a section, in order.
-pub(crate) fn items_of(alloc: Heap, section: Section<'_>) -> Result<Vec<Item, Heap>, AllocError>
+pub(crate) fn items_of(alloc: Heap, section: Section<'_>) -> Result<Vec<ResourceRecord, Heap>, AllocError>
     ensures all { IfOk result (λ items. items.items ≡ section.entry) }
     ensures few { length section.entry < 2 ^ 16 }
 {
@@ -179,7 +179,7 @@ pub(crate) fn items_of(alloc: Heap, section: Section<'_>) -> Result<Vec<Item, He
     let _count = section.len();
     let mut items = Vec::new(alloc);
     'items: while let Some(view) = section.next() {
-        items.push(Item::of(alloc, &view)?)?;
+        items.push(ResourceRecord::of(alloc, &view)?)?;
     }
     Ok(items)
 }

@@ -4,11 +4,11 @@ ghost use Rattle.std.specs.List.{find, list_all};
 ghost use Rattle.std.specs.Option.{option_copied};
 ghost use Rattle.dns_records.specs.Types.{class_in};
 ghost use Rattle.dns_zone.specs.Records.{alike, owns};
-ghost use Rattle.dns_update.specs.Item.{as_record, first_fault};
+ghost use Rattle.dns_update.specs.ResourceRecord.{as_record, first_fault};
 ghost use Rattle.dns_update.specs.Listed.{is_counted, is_met, listed};
 ghost use Rattle.dns_update.specs.Prerequisites.{are_rrsets, in_use_fault, prerequisite_fault, prerequisites_fault, unused_fault};
 
-use crate::item::{Item, find_named};
+use crate::item::{ResourceRecord, find_named};
 use dns_memory::Heap;
 use dns_names::NameRef;
 use dns_records::Record;
@@ -25,7 +25,7 @@ fn owns<I: ZoneIndex>(index: &I, name: &NameRef<'_>) -> bool
 }
 
 /// What fails a prerequisite of class ANY: that the name is in use, or that the RRset exists (RFC 2136 section 3.2.1).
-fn in_use_fault<I: ZoneIndex>(index: &I, item: &Item) -> Option<Rcode>
+fn in_use_fault<I: ZoneIndex>(index: &I, item: &ResourceRecord) -> Option<Rcode>
     ensures { result ≡ in_use_fault (I.records index.now) item.now }
 {
     let name = item.owner().lend();
@@ -39,7 +39,7 @@ fn in_use_fault<I: ZoneIndex>(index: &I, item: &Item) -> Option<Rcode>
 }
 
 /// What fails a prerequisite of class NONE: that the name is not in use, or that the RRset doesn't exist (RFC 2136 section 3.2.2).
-fn unused_fault<I: ZoneIndex>(index: &I, item: &Item) -> Option<Rcode>
+fn unused_fault<I: ZoneIndex>(index: &I, item: &ResourceRecord) -> Option<Rcode>
     ensures { result ≡ unused_fault (I.records index.now) item.now }
 {
     let name = item.owner().lend();
@@ -53,7 +53,7 @@ fn unused_fault<I: ZoneIndex>(index: &I, item: &Item) -> Option<Rcode>
 }
 
 /// What fails a prerequisite by itself (RFC 2136 section 3.2).
-fn prerequisite_fault<I: ZoneIndex>(zone: &Zone<I>, item: &Item) -> Option<Rcode>
+fn prerequisite_fault<I: ZoneIndex>(zone: &Zone<I>, item: &ResourceRecord) -> Option<Rcode>
     ensures { result ≡ prerequisite_fault zone.now item.now }
 {
     if item.ttl() != 0 {
@@ -71,7 +71,7 @@ fn prerequisite_fault<I: ZoneIndex>(zone: &Zone<I>, item: &Item) -> Option<Rcode
 }
 
 /// What fails the first prerequisite that fails by itself.
-fn first_fault<I: ZoneIndex>(zone: &Zone<I>, items: &[Item]) -> Option<Rcode>
+fn first_fault<I: ZoneIndex>(zone: &Zone<I>, items: &[ResourceRecord]) -> Option<Rcode>
     ensures { result ≡ first_fault (prerequisite_fault zone.now) items.now }
 {
     for item in items {
@@ -84,7 +84,7 @@ fn first_fault<I: ZoneIndex>(zone: &Zone<I>, items: &[Item]) -> Option<Rcode>
 }
 
 /// The record that the item lists: one of class IN lists that of its owner, type and data.
-fn listed_record<'s, I: ZoneIndex>(index: &'s I, item: &Item) -> Option<&'s Record>
+fn listed_record<'s, I: ZoneIndex>(index: &'s I, item: &ResourceRecord) -> Option<&'s Record>
     ensures { option_copied result
         ≡ (if item.now.class == class_in then find (alike (as_record item.now)) (I.records index.now) else None) }
 {
@@ -95,7 +95,7 @@ fn listed_record<'s, I: ZoneIndex>(index: &'s I, item: &Item) -> Option<&'s Reco
 }
 
 /// The set of the records that the items list.
-fn listed_set<I: ZoneIndex>(alloc: Heap, index: &I, items: &[Item]) -> Result<I, AllocError>
+fn listed_set<I: ZoneIndex>(alloc: Heap, index: &I, items: &[ResourceRecord]) -> Result<I, AllocError>
     ensures { IfOk result (λ set. I.records set ≡ listed (I.records index.now) items.now) }
 {
     let mut set = I::empty(alloc)?;
@@ -108,7 +108,7 @@ fn listed_set<I: ZoneIndex>(alloc: Heap, index: &I, items: &[Item]) -> Result<I,
 }
 
 /// Whether the item's record is there, and of its RRset as many are listed as there are.
-fn is_counted<I: ZoneIndex>(index: &I, listed: &I, item: &Item) -> bool
+fn is_counted<I: ZoneIndex>(index: &I, listed: &I, item: &ResourceRecord) -> bool
     ensures { result ≡ is_counted (I.records listed.now) (I.records index.now) item.now }
 {
     let owner = item.owner().lend();
@@ -117,14 +117,14 @@ fn is_counted<I: ZoneIndex>(index: &I, listed: &I, item: &Item) -> bool
 }
 
 /// Whether the item isn't of class IN, or its RRset is listed.
-fn is_met<I: ZoneIndex>(index: &I, listed: &I, item: &Item) -> bool
+fn is_met<I: ZoneIndex>(index: &I, listed: &I, item: &ResourceRecord) -> bool
     ensures { result ≡ is_met (I.records listed.now) (I.records index.now) item.now }
 {
     item.class() != CLASS_IN || is_counted(index, listed, item)
 }
 
 /// Whether of no RRset a part is listed.
-fn all_met<I: ZoneIndex>(index: &I, listed: &I, items: &[Item]) -> bool
+fn all_met<I: ZoneIndex>(index: &I, listed: &I, items: &[ResourceRecord]) -> bool
     ensures { result ≡ list_all (is_met (I.records listed.now) (I.records index.now)) items.now }
 {
     items.iter().all(|item| is_met(index, listed, item))
@@ -132,7 +132,7 @@ fn all_met<I: ZoneIndex>(index: &I, listed: &I, items: &[Item]) -> bool
 
 /// Whether what is listed is the RRset, no more and no less, for each name and type (RFC 2136 section 3.2.3). What is listed is
 /// gathered as a set, so that two counts tell whether it is the whole of an RRset.
-fn are_rrsets<I: ZoneIndex>(alloc: Heap, index: &I, items: &[Item]) -> Result<bool, AllocError>
+fn are_rrsets<I: ZoneIndex>(alloc: Heap, index: &I, items: &[ResourceRecord]) -> Result<bool, AllocError>
     ensures { IfOk result (λ met. met ≡ are_rrsets (I.records index.now) items.now) }
 {
     let listed: I = listed_set(alloc, index, items)?;
@@ -143,7 +143,7 @@ fn are_rrsets<I: ZoneIndex>(alloc: Heap, index: &I, items: &[Item]) -> Result<bo
 pub(crate) fn prerequisites_fault<I: ZoneIndex>(
     alloc: Heap,
     zone: &Zone<I>,
-    items: &[Item],
+    items: &[ResourceRecord],
 ) -> Result<Option<Rcode>, AllocError>
     ensures { IfOk result (λ fault. fault ≡ prerequisites_fault zone.now items.now) }
 {

@@ -2,13 +2,13 @@
 ghost use Rattle.std.specs.Prelude.{◌≡◌, ◌∷◌, map, IfOk};
 ghost use Rattle.dns_update.specs.Touched.{AreTouched};
 
-use crate::item::Item;
+use crate::item::ResourceRecord;
 use dns_memory::Heap;
 use dns_names::Name;
 use std::alloc::AllocError;
 
 /// The apex and the owners of the items, as they come.
-fn owners(alloc: Heap, apex: &Name, items: &[Item]) -> Result<Vec<Name, Heap>, AllocError>
+fn owners(alloc: Heap, apex: &Name, items: &[ResourceRecord]) -> Result<Vec<Name, Heap>, AllocError>
     ensures { IfOk result (λ names. names.items ≡ apex.now ∷ map (λ i. i.owner) items.now) }
 {
     let mut names = Vec::new(alloc);
@@ -23,7 +23,7 @@ fn owners(alloc: Heap, apex: &Name, items: &[Item]) -> Result<Vec<Name, Heap>, A
 pub(crate) fn touched_names(
     alloc: Heap,
     apex: &Name,
-    items: &[Item],
+    items: &[ResourceRecord],
 ) -> Result<Vec<Name, Heap>, AllocError>
     ensures { IfOk result (λ names. AreTouched apex.now items.now names.items) }
 {

@@ -7,7 +7,7 @@ ghost use Rattle.dns_zone.specs.Records.{records_at};
 ghost use Rattle.dns_zone.specs.Zone.{soas};
 ghost use Rattle.dns_changes.specs.Change.{Change as StatedChange};
 ghost use Rattle.dns_changes.specs.Touched.{DifferAt};
-ghost use Rattle.dns_update.specs.Item.{HasForm, first_fault, otherwise};
+ghost use Rattle.dns_update.specs.ResourceRecord.{HasForm, first_fault, otherwise};
 ghost use Rattle.dns_update.specs.Prerequisites.{prerequisites_fault};
 ghost use Rattle.dns_update.specs.Prescan.{prescan_fault};
 ghost use Rattle.dns_zone.specs.Soa.{HasSoa};
@@ -16,7 +16,7 @@ ghost use Rattle.dns_update.specs.Verdict.{IsTold, IsJudged, Leaves, same_set, v
 
 use crate::Judged;
 use crate::effect::take_effects;
-use crate::item::{Item, items_of};
+use crate::item::{ResourceRecord, items_of};
 use crate::prerequisites::prerequisites_fault;
 use crate::prescan::prescan;
 use crate::touched::touched_names;
@@ -130,8 +130,8 @@ fn versioned<I: ZoneIndex>(
 fn fault<I: ZoneIndex>(
     alloc: Heap,
     zone: &Zone<I>,
-    prerequisites: &[Item],
-    items: &[Item],
+    prerequisites: &[ResourceRecord],
+    items: &[ResourceRecord],
 ) -> Result<Option<Rcode>, AllocError>
     ensures { IfOk result
         (λ fault. fault
@@ -148,8 +148,8 @@ fn fault<I: ZoneIndex>(
 fn judge_items<I: ZoneIndex>(
     alloc: Heap,
     zone: &Zone<I>,
-    prerequisites: &[Item],
-    items: &[Item],
+    prerequisites: &[ResourceRecord],
+    items: &[ResourceRecord],
 ) -> Result<Judged<I>, AllocError>
     requires few { length items.now < 2 ^ 16 }
     requires form { AllByRecursion HasForm items.now }

@@ -11,7 +11,7 @@ use Rattle.dns_names.specs.Lower.{lower_low}
 use Rattle.dns_names.specs.PlainLaws.{wire_read}
 use Rattle.dns_wire.specs.NameAt.{IsPointer, NameAt}
 use Rattle.dns_wire.specs.NameLaws.{length-wire, opening, Closing, closing, by_root, by_pointer, zero_ends, pointer_ends, pointer_unique, some_octet}
-use Rattle.dns_wire.specs.Packed.{run_octets}
+use Rattle.dns_wire.specs.Compressed.{run_octets}
 
 -- the octets of labels that stand, in lower case
 pub run_read : (m : List ℕ) (at : ℕ) (labels : Labels) (stop : ℕ) → LabelsAt m at labels stop → map to_ascii_lowercase (take (length (run_octets labels)) (drop at m)) ≡ run_octets labels

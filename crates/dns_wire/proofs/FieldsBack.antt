@@ -5,14 +5,14 @@ use Rattle.std.proofs.lemmas.List.{length-append, length-take-le, drop_at}
 use Rattle.dns_names.specs.Name.{Labels, IsName, wire, labels_of}
 use Rattle.dns_records.specs.Types.{Field, Values, octet_count, Name, UncompressedName, Strings, form}
 use Rattle.dns_records.specs.Record.{IsRData, Record, IsField, AreFields}
-use Rattle.dns_wire.specs.Pack.{Place, Packing, pack_name, packed_name, packed_fields, packed_rdata}
+use Rattle.dns_wire.specs.Compress.{Place, Compressing, compress_name, compressed_name, compressed_fields, compressed_rdata}
 use Rattle.dns_wire.specs.NameAt.{FullNameAt}
 use Rattle.dns_wire.specs.Reads.{FieldAt, FieldsAt, RDataAt}
 use Rattle.dns_wire.proofs.FieldsPut.{octets_room, octets_behind, name_behind}
 use Rattle.dns_wire.proofs.Fronts.{labels_of_front}
 use Rattle.dns_wire.proofs.NamesBack.{Readable, readable_more, readable_next, name_back, full_back}
 use Rattle.dns_wire.proofs.Places.{some_written}
-use Rattle.dns_wire.proofs.TextPacked.{Rest, piece, rest_as}
+use Rattle.dns_wire.proofs.TextCompressed.{Rest, piece, rest_as}
 
 -- what stands, read as octets
 plain_at : (text : List ℕ) (at : ℕ) (octets back : List ℕ) → Rest text at (octets ++ back) → (at + length octets ≤ length text) × (octets ≡ slice_range text at (at + length octets))
@@ -46,15 +46,15 @@ name_split fields rdata (front, rest, is, (name, valid, plain), more) =
     (subst IsName (sym same) valid, subst (λ (n : Labels). rdata ≡ wire n ++ drop (length (wire n)) rdata) (sym same) split)
 
 pub record FieldsBack (text : List ℕ) (places : List Place) (at : ℕ) (fields : List Field) (rdata : List ℕ) : Type 0 where
-  pub stand : FieldsAt text at fields rdata (at + length (packed_fields places at fields rdata).octets)
-  pub table : Readable text (packed_fields places at fields rdata).places (at + length (packed_fields places at fields rdata).octets)
+  pub stand : FieldsAt text at fields rdata (at + length (compressed_fields places at fields rdata).octets)
+  pub table : Readable text (compressed_fields places at fields rdata).places (at + length (compressed_fields places at fields rdata).octets)
 
-pub fields_back : (text : List ℕ) (places : List Place) (at : ℕ) (fields : List Field) (rdata back : List ℕ) → AreFields fields rdata → Readable text places at → 12 ≤ at → Rest text at ((packed_fields places at fields rdata).octets ++ back) → FieldsBack text places at fields rdata
+pub fields_back : (text : List ℕ) (places : List Place) (at : ℕ) (fields : List Field) (rdata back : List ℕ) → AreFields fields rdata → Readable text places at → 12 ≤ at → Rest text at ((compressed_fields places at fields rdata).octets ++ back) → FieldsBack text places at fields rdata
 fields_back text places at [] rdata back form table far h = record { stand = plain_back text at [] rdata back form h; table = readable_more text places at (at + length rdata) (omega arith) table }
 fields_back text places at (UncompressedName ∷ fields) rdata back form table far h = record { stand = plain_back text at (UncompressedName ∷ fields) rdata back form h; table = readable_more text places at (at + length rdata) (omega arith) table }
 fields_back text places at (Strings ∷ fields) rdata back form table far h = record { stand = plain_back text at (Strings ∷ fields) rdata back form h; table = readable_more text places at (at + length rdata) (omega arith) table }
 fields_back text places at (Values vs ∷ fields) rdata back form table far h =
-    let after = packed_fields places (at + octet_count vs) fields (drop (octet_count vs) rdata) in
+    let after = compressed_fields places (at + octet_count vs) fields (drop (octet_count vs) rdata) in
     let front = take (octet_count vs) rdata in
     let here = rest_as text at at ((front ++ after.octets) ++ back) (front ++ (after.octets ++ back)) refl (append_assoc front after.octets back) h in
     let p = piece text at front (after.octets ++ back) here in
@@ -78,11 +78,11 @@ fields_back text places at (Values vs ∷ fields) rdata back form table far h =
     split n xs = sym (take-append-drop n xs)
 fields_back text places at (Name ∷ fields) rdata back form table far h =
     let name = labels_of rdata in
-    let octets = pack_name places name in
-    let here = packed_name places at name in
+    let octets = compress_name places name in
+    let here = compressed_name places at name in
     let behind = drop (length (wire name)) rdata in
     let mid = at + length octets in
-    let after = packed_fields here.places mid fields behind in
+    let after = compressed_fields here.places mid fields behind in
     let n = name_split fields rdata form in
     let stands = rest_as text at at ((octets ++ after.octets) ++ back) (octets ++ (after.octets ++ back)) refl (append_assoc octets after.octets back) h in
     let p = piece text at octets (after.octets ++ back) stands in
@@ -105,59 +105,59 @@ nothing [] e = refl
 nothing (x ∷ xs) e = absurd (omega (arith, e))
 
 -- nothing is written for no data alone
-none_written : (places : List Place) (at : ℕ) (fields : List Field) (rdata : List ℕ) → length (packed_fields places at fields rdata).octets ≡ 0 → rdata ≡ []
+none_written : (places : List Place) (at : ℕ) (fields : List Field) (rdata : List ℕ) → length (compressed_fields places at fields rdata).octets ≡ 0 → rdata ≡ []
 none_written places at [] rdata e = nothing rdata e
 none_written places at (UncompressedName ∷ fields) rdata e = nothing rdata e
 none_written places at (Strings ∷ fields) rdata e = nothing rdata e
 none_written places at (Name ∷ fields) rdata e =
-    let here = packed_name places at (labels_of rdata) in
-    let after = packed_fields here.places (at + length here.octets) fields (drop (length (wire (labels_of rdata))) rdata) in
+    let here = compressed_name places at (labels_of rdata) in
+    let after = compressed_fields here.places (at + length here.octets) fields (drop (length (wire (labels_of rdata))) rdata) in
     absurd (omega (arith, e, length-append here.octets after.octets, some_written places (labels_of rdata)))
 none_written places at (Values vs ∷ fields) rdata e =
-    let after = packed_fields places (at + octet_count vs) fields (drop (octet_count vs) rdata) in
+    let after = compressed_fields places (at + octet_count vs) fields (drop (octet_count vs) rdata) in
     let sum = length-append (take (octet_count vs) rdata) after.octets in
     let first : take (octet_count vs) rdata ≡ [] = nothing (take (octet_count vs) rdata) (omega (arith, e, sum)) in
     let rest : drop (octet_count vs) rdata ≡ [] = none_written places (at + octet_count vs) fields (drop (octet_count vs) rdata) (omega (arith, e, sum)) in
     sym (take-append-drop (octet_count vs) rdata) ∙ ap (λ (xs : List ℕ). xs ++ drop (octet_count vs) rdata) first ∙ rest
 
 pub record DataBack (text : List ℕ) (places : List Place) (at : ℕ) (r : Record) : Type 0 where
-  pub stands : RDataAt text at r.rtype (length (packed_rdata places at r).octets) r.rdata
-  pub table : Readable text (packed_rdata places at r).places (at + length (packed_rdata places at r).octets)
+  pub stands : RDataAt text at r.rtype (length (compressed_rdata places at r).octets) r.rdata
+  pub table : Readable text (compressed_rdata places at r).places (at + length (compressed_rdata places at r).octets)
 
 rdata_known : (text : List ℕ) (at rtype size : ℕ) (fields : List Field) (rdata : List ℕ) → form rtype ≡ Some fields → (size ≡ 0 → rdata ≡ []) → at + size ≤ length text → FieldsAt text at fields rdata (at + size) → RDataAt text at rtype size rdata
 rdata_known text at rtype zero fields rdata e none inside h = none refl
 rdata_known text at rtype (suc n) fields rdata e none inside h = (inside, subst (λ (f : Option (List Field)). MatchOption f (rdata ≡ slice_range text at (at + suc n)) (λ fs. FieldsAt text at fs rdata (at + suc n))) (sym e) h)
 
-formed_back : (text : List ℕ) (places : List Place) (at : ℕ) (r : Record) (back : List ℕ) (fields : List Field) → form r.rtype ≡ Some fields → AreFields fields r.rdata → Readable text places at → 12 ≤ at → Rest text at ((packed_rdata places at r).octets ++ back) → DataBack text places at r
+formed_back : (text : List ℕ) (places : List Place) (at : ℕ) (r : Record) (back : List ℕ) (fields : List Field) → form r.rtype ≡ Some fields → AreFields fields r.rdata → Readable text places at → 12 ≤ at → Rest text at ((compressed_rdata places at r).octets ++ back) → DataBack text places at r
 formed_back text places at r back fields e fits table far h =
-    let parts = packed_fields places at fields r.rdata in
-    let same : parts ≡ packed_rdata places at r = sym (rw (e, packed_rdata) refl) in
-    let stands = rest_as text at at ((packed_rdata places at r).octets ++ back) (parts.octets ++ back) refl (ap (λ (p : Packing). p.octets ++ back) (sym same)) h in
+    let parts = compressed_fields places at fields r.rdata in
+    let same : parts ≡ compressed_rdata places at r = sym (rw (e, compressed_rdata) refl) in
+    let stands = rest_as text at at ((compressed_rdata places at r).octets ++ back) (parts.octets ++ back) refl (ap (λ (p : Compressing). p.octets ++ back) (sym same)) h in
     let b = fields_back text places at fields r.rdata back fits table far stands in
     let inside = (piece text at parts.octets back stands).here.inside in
     let known = rdata_known text at r.rtype (length parts.octets) fields r.rdata e (none_written places at fields r.rdata) inside b.stand in
     record {
-      stands = subst (λ (p : Packing). RDataAt text at r.rtype (length p.octets) r.rdata) same known;
-      table = subst (λ (p : Packing). Readable text p.places (at + length p.octets)) same b.table;
+      stands = subst (λ (p : Compressing). RDataAt text at r.rtype (length p.octets) r.rdata) same known;
+      table = subst (λ (p : Compressing). Readable text p.places (at + length p.octets)) same b.table;
     }
 
 rdata_opaque : (text : List ℕ) (at rtype size : ℕ) (rdata : List ℕ) → form rtype ≡ None → (size ≡ 0 → rdata ≡ []) → at + size ≤ length text → rdata ≡ slice_range text at (at + size) → RDataAt text at rtype size rdata
 rdata_opaque text at rtype zero rdata e none inside h = none refl
 rdata_opaque text at rtype (suc n) rdata e none inside h = (inside, subst (λ (f : Option (List Field)). MatchOption f (rdata ≡ slice_range text at (at + suc n)) (λ fs. FieldsAt text at fs rdata (at + suc n))) (sym e) h)
 
-opaque_back : (text : List ℕ) (places : List Place) (at : ℕ) (r : Record) (back : List ℕ) → form r.rtype ≡ None → Readable text places at → Rest text at ((packed_rdata places at r).octets ++ back) → DataBack text places at r
+opaque_back : (text : List ℕ) (places : List Place) (at : ℕ) (r : Record) (back : List ℕ) → form r.rtype ≡ None → Readable text places at → Rest text at ((compressed_rdata places at r).octets ++ back) → DataBack text places at r
 opaque_back text places at r back e table h =
-    let whole : Packing = record { octets = r.rdata; places = places } in
-    let same : whole ≡ packed_rdata places at r = sym (rw (e, packed_rdata) refl) in
-    let stands = rest_as text at at ((packed_rdata places at r).octets ++ back) (r.rdata ++ back) refl (ap (λ (p : Packing). p.octets ++ back) (sym same)) h in
+    let whole : Compressing = record { octets = r.rdata; places = places } in
+    let same : whole ≡ compressed_rdata places at r = sym (rw (e, compressed_rdata) refl) in
+    let stands = rest_as text at at ((compressed_rdata places at r).octets ++ back) (r.rdata ++ back) refl (ap (λ (p : Compressing). p.octets ++ back) (sym same)) h in
     let here = (piece text at r.rdata back stands).here in
     let opaque = rdata_opaque text at r.rtype (length r.rdata) r.rdata e (nothing r.rdata) here.inside (sym here.read) in
     record {
-      stands = subst (λ (p : Packing). RDataAt text at r.rtype (length p.octets) r.rdata) same opaque;
-      table = subst (λ (p : Packing). Readable text p.places (at + length p.octets)) same (readable_more text places at (at + length r.rdata) (omega arith) table);
+      stands = subst (λ (p : Compressing). RDataAt text at r.rtype (length p.octets) r.rdata) same opaque;
+      table = subst (λ (p : Compressing). Readable text p.places (at + length p.octets)) same (readable_more text places at (at + length r.rdata) (omega arith) table);
     }
 
-pub rdata_back : (text : List ℕ) (places : List Place) (at : ℕ) (r : Record) (back : List ℕ) → IsRData r.rtype r.rdata → Readable text places at → 12 ≤ at → Rest text at ((packed_rdata places at r).octets ++ back) → DataBack text places at r
+pub rdata_back : (text : List ℕ) (places : List Place) (at : ℕ) (r : Record) (back : List ℕ) → IsRData r.rtype r.rdata → Readable text places at → 12 ≤ at → Rest text at ((compressed_rdata places at r).octets ++ back) → DataBack text places at r
 rdata_back text places at r back fits table far h = go (form r.rtype) refl fits
   where
     go : (f : Option (List Field)) → form r.rtype ≡ f → IfSome f (λ fields. AreFields fields r.rdata) → DataBack text places at r

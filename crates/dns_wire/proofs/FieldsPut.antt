@@ -4,16 +4,16 @@ use Rattle.std.proofs.lemmas.List.{length-append, length-take-le, drop_at}
 use Rattle.dns_names.specs.Name.{Labels, wire, labels_of}
 use Rattle.dns_records.specs.Types.{Field, Value, Values, octet_count, Name}
 use Rattle.dns_records.specs.Record.{AreFields}
-use Rattle.dns_wire.specs.Pack.{Place, Packing, packed_name, packed_fields}
+use Rattle.dns_wire.specs.Compress.{Place, Compressing, compressed_name, compressed_fields}
 use Rattle.dns_wire.specs.Puts.{RefusesUpTo, BeginsWithName}
 use Rattle.dns_wire.specs.declared.WireError.{WireError}
 use Rattle.dns_wire.proofs.Puts.{Leaves, leaves_next, refuses_part}
 use Rattle.dns_wire.proofs.Fronts.{labels_of_front}
 
 -- these parts are still to be written
-abbrev pub FieldsLeft : List ℕ → Packing → List ℕ → List Place → List Field → List ℕ → Type 0
+abbrev pub FieldsLeft : List ℕ → Compressing → List ℕ → List Place → List Field → List ℕ → Type 0
 FieldsLeft before whole octets places fields rdata =
-    let tail = packed_fields places (length octets) fields rdata in
+    let tail = compressed_fields places (length octets) fields rdata in
     Leaves before whole octets tail.octets tail.places
 
 pub octets_room : (vs : List Value) (fields : List Field) (rdata : List ℕ) → AreFields (Values vs ∷ fields) rdata → octet_count vs ≤ length rdata
@@ -33,39 +33,39 @@ name_behind fields rdata (front, rest, is, (name, valid, plain), more) =
     subst (AreFields fields) (sym back) more
 
 -- octets are written
-pub octets_next : (before : List ℕ) (whole : Packing) (octets : List ℕ) (places : List Place) (vs : List Value) (fields : List Field) (rdata front after : List ℕ) (places' : List Place) → octet_count vs ≤ length rdata → front ≡ take (octet_count vs) rdata → after ≡ octets ++ front → places' ≡ places
+pub octets_next : (before : List ℕ) (whole : Compressing) (octets : List ℕ) (places : List Place) (vs : List Value) (fields : List Field) (rdata front after : List ℕ) (places' : List Place) → octet_count vs ≤ length rdata → front ≡ take (octet_count vs) rdata → after ≡ octets ++ front → places' ≡ places
     → FieldsLeft before whole octets places (Values vs ∷ fields) rdata → FieldsLeft before whole after places' fields (drop (octet_count vs) rdata)
 octets_next before whole octets places vs fields rdata front after places' room is grown same h =
     let size : length octets + octet_count vs ≡ length after = sym (ap length grown ∙ length-append octets front ∙ ap (λ (k : ℕ). length octets + k) (ap length is ∙ length-take-le (octet_count vs) rdata room)) in
-    let tail = packed_fields places (length octets + octet_count vs) fields (drop (octet_count vs) rdata) in
+    let tail = compressed_fields places (length octets + octet_count vs) fields (drop (octet_count vs) rdata) in
     let next : Leaves before whole after tail.octets tail.places = leaves_next before whole octets (take (octet_count vs) rdata ++ tail.octets) tail.places (take (octet_count vs) rdata) tail.octets after refl (grown ∙ ap (λ (xs : List ℕ). octets ++ xs) is) h in
-    let placed : Leaves before whole after (packed_fields places' (length octets + octet_count vs) fields (drop (octet_count vs) rdata)).octets (packed_fields places' (length octets + octet_count vs) fields (drop (octet_count vs) rdata)).places =
-    subst (λ (ps : List Place). Leaves before whole after (packed_fields ps (length octets + octet_count vs) fields (drop (octet_count vs) rdata)).octets (packed_fields ps (length octets + octet_count vs) fields (drop (octet_count vs) rdata)).places) (sym same) next in
-    subst (λ (k : ℕ). Leaves before whole after (packed_fields places' k fields (drop (octet_count vs) rdata)).octets (packed_fields places' k fields (drop (octet_count vs) rdata)).places) size placed
+    let placed : Leaves before whole after (compressed_fields places' (length octets + octet_count vs) fields (drop (octet_count vs) rdata)).octets (compressed_fields places' (length octets + octet_count vs) fields (drop (octet_count vs) rdata)).places =
+    subst (λ (ps : List Place). Leaves before whole after (compressed_fields ps (length octets + octet_count vs) fields (drop (octet_count vs) rdata)).octets (compressed_fields ps (length octets + octet_count vs) fields (drop (octet_count vs) rdata)).places) (sym same) next in
+    subst (λ (k : ℕ). Leaves before whole after (compressed_fields places' k fields (drop (octet_count vs) rdata)).octets (compressed_fields places' k fields (drop (octet_count vs) rdata)).places) size placed
 
 -- a name is written
-pub names_next : (before : List ℕ) (whole : Packing) (octets : List ℕ) (places : List Place) (fields : List Field) (rdata after : List ℕ) (places' : List Place) → after ≡ octets ++ (packed_name places (length octets) (labels_of rdata)).octets → places' ≡ (packed_name places (length octets) (labels_of rdata)).places
+pub names_next : (before : List ℕ) (whole : Compressing) (octets : List ℕ) (places : List Place) (fields : List Field) (rdata after : List ℕ) (places' : List Place) → after ≡ octets ++ (compressed_name places (length octets) (labels_of rdata)).octets → places' ≡ (compressed_name places (length octets) (labels_of rdata)).places
     → FieldsLeft before whole octets places (Name ∷ fields) rdata → FieldsLeft before whole after places' fields (drop (length (wire (labels_of rdata))) rdata)
 names_next before whole octets places fields rdata after places' grown same h =
-    let here = packed_name places (length octets) (labels_of rdata) in
+    let here = compressed_name places (length octets) (labels_of rdata) in
     let behind = drop (length (wire (labels_of rdata))) rdata in
     let size : length octets + length here.octets ≡ length after = sym (ap length grown ∙ length-append octets here.octets) in
-    let tail = packed_fields here.places (length octets + length here.octets) fields behind in
+    let tail = compressed_fields here.places (length octets + length here.octets) fields behind in
     let next : Leaves before whole after tail.octets tail.places = leaves_next before whole octets (here.octets ++ tail.octets) tail.places here.octets tail.octets after refl grown h in
-    let placed : Leaves before whole after (packed_fields places' (length octets + length here.octets) fields behind).octets (packed_fields places' (length octets + length here.octets) fields behind).places =
-    subst (λ (ps : List Place). Leaves before whole after (packed_fields ps (length octets + length here.octets) fields behind).octets (packed_fields ps (length octets + length here.octets) fields behind).places) (sym same) next in
-    subst (λ (k : ℕ). Leaves before whole after (packed_fields places' k fields behind).octets (packed_fields places' k fields behind).places) size placed
+    let placed : Leaves before whole after (compressed_fields places' (length octets + length here.octets) fields behind).octets (compressed_fields places' (length octets + length here.octets) fields behind).places =
+    subst (λ (ps : List Place). Leaves before whole after (compressed_fields ps (length octets + length here.octets) fields behind).octets (compressed_fields ps (length octets + length here.octets) fields behind).places) (sym same) next in
+    subst (λ (k : ℕ). Leaves before whole after (compressed_fields places' k fields behind).octets (compressed_fields places' k fields behind).places) size placed
 
 -- they are refused
-pub octets_refused : (limit : ℕ) (before : List ℕ) (whole : Packing) (octets : List ℕ) (places : List Place) (now : ℕ) (vs : List Value) (fields : List Field) (rdata front : List ℕ) (e : WireError) → front ≡ take (octet_count vs) rdata → now ≡ limit
+pub octets_refused : (limit : ℕ) (before : List ℕ) (whole : Compressing) (octets : List ℕ) (places : List Place) (now : ℕ) (vs : List Value) (fields : List Field) (rdata front : List ℕ) (e : WireError) → front ≡ take (octet_count vs) rdata → now ≡ limit
     → FieldsLeft before whole octets places (Values vs ∷ fields) rdata → RefusesUpTo now (length octets + length front) e → RefusesUpTo limit (length before + length whole.octets) e
 octets_refused limit before whole octets places now vs fields rdata front e is same h r =
-    let tail = packed_fields places (length octets + octet_count vs) fields (drop (octet_count vs) rdata) in
+    let tail = compressed_fields places (length octets + octet_count vs) fields (drop (octet_count vs) rdata) in
     refuses_part limit before whole octets (take (octet_count vs) rdata ++ tail.octets) tail.places now front tail.octets e (ap (λ (xs : List ℕ). xs ++ tail.octets) (sym is)) same h r
 
-pub names_refused : (limit : ℕ) (before : List ℕ) (whole : Packing) (octets : List ℕ) (places : List Place) (now : ℕ) (fields : List Field) (rdata : List ℕ) (e : WireError) → now ≡ limit
-    → FieldsLeft before whole octets places (Name ∷ fields) rdata → RefusesUpTo now (length octets + length (packed_name places (length octets) (labels_of rdata)).octets) e → RefusesUpTo limit (length before + length whole.octets) e
+pub names_refused : (limit : ℕ) (before : List ℕ) (whole : Compressing) (octets : List ℕ) (places : List Place) (now : ℕ) (fields : List Field) (rdata : List ℕ) (e : WireError) → now ≡ limit
+    → FieldsLeft before whole octets places (Name ∷ fields) rdata → RefusesUpTo now (length octets + length (compressed_name places (length octets) (labels_of rdata)).octets) e → RefusesUpTo limit (length before + length whole.octets) e
 names_refused limit before whole octets places now fields rdata e same h r =
-    let here = packed_name places (length octets) (labels_of rdata) in
-    let tail = packed_fields here.places (length octets + length here.octets) fields (drop (length (wire (labels_of rdata))) rdata) in
+    let here = compressed_name places (length octets) (labels_of rdata) in
+    let tail = compressed_fields here.places (length octets + length here.octets) fields (drop (length (wire (labels_of rdata))) rdata) in
     refuses_part limit before whole octets (here.octets ++ tail.octets) tail.places now here.octets tail.octets e refl same h r

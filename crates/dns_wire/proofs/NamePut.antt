@@ -5,23 +5,23 @@ use Rattle.std.specs.Option.{option_map}
 use Rattle.std.proofs.lemmas.Bool.Decides.{nat_tests}
 use Rattle.std.proofs.lemmas.List.{append-nil, length-append}
 use Rattle.dns_names.specs.Name.{Labels}
-use Rattle.dns_wire.specs.Pack.{Place, Packing, place_of, pointer, pack_name, new_places, packed_name}
+use Rattle.dns_wire.specs.Compress.{Place, Compressing, place_of, pointer, compress_name, new_places, compressed_name}
 use Rattle.dns_wire.specs.Puts.{noted}
 use Rattle.dns_wire.proofs.Puts.{Leaves, leaves_first, leaves_next, leaves_as}
 
 -- what is left of a name to be written at an offset
-abbrev pub NameLeft : List ℕ → Packing → List Place → List ℕ → List Place → Labels → Type 0
-NameLeft before whole known octets places name = Leaves before whole octets (pack_name known name) (places ++ new_places known (length octets) name)
+abbrev pub NameLeft : List ℕ → Compressing → List Place → List ℕ → List Place → Labels → Type 0
+NameLeft before whole known octets places name = Leaves before whole octets (compress_name known name) (places ++ new_places known (length octets) name)
 
-pub packed_known : (known : List Place) (label : List ℕ) (rest : Labels) (offset : ℕ) → Some offset ≡ option_map (λ p. p.offset) (place_of known (label ∷ rest)) → pack_name known (label ∷ rest) ≡ pointer offset
-packed_known known label rest offset e = go (place_of known (label ∷ rest)) refl
+pub compressed_known : (known : List Place) (label : List ℕ) (rest : Labels) (offset : ℕ) → Some offset ≡ option_map (λ p. p.offset) (place_of known (label ∷ rest)) → compress_name known (label ∷ rest) ≡ pointer offset
+compressed_known known label rest offset e = go (place_of known (label ∷ rest)) refl
   where
-    go : (o : Option Place) → place_of known (label ∷ rest) ≡ o → pack_name known (label ∷ rest) ≡ pointer offset
+    go : (o : Option Place) → place_of known (label ∷ rest) ≡ o → compress_name known (label ∷ rest) ≡ pointer offset
     go None is = let bad : Some offset ≡ None = e ∙ ap (λ (o : Option Place). option_map (λ p. p.offset) o) is in absurd cc
     go (Some p) is =
         let one : Some offset ≡ Some p.offset = e ∙ ap (λ (o : Option Place). option_map (λ p. p.offset) o) is in
         let same : p.offset ≡ offset = cc in
-        rw (is, pack_name) (ap pointer same)
+        rw (is, compress_name) (ap pointer same)
 
 pub no_places_known : (known : List Place) (at : ℕ) (label : List ℕ) (rest : Labels) (offset : ℕ) → Some offset ≡ option_map (λ p. p.offset) (place_of known (label ∷ rest)) → new_places known at (label ∷ rest) ≡ []
 no_places_known known at label rest offset e = go (place_of known (label ∷ rest)) refl
@@ -37,8 +37,8 @@ not_known known name e = go (place_of known name) refl
     go None is = is
     go (Some p) is = let bad : None ≡ Some p.offset = e ∙ ap (λ (o : Option Place). option_map (λ p. p.offset) o) is in absurd cc
 
-pub packed_label : (known : List Place) (label : List ℕ) (rest : Labels) → place_of known (label ∷ rest) ≡ None → pack_name known (label ∷ rest) ≡ (length label ∷ label) ++ pack_name known rest
-packed_label known label rest e = rw (e, pack_name) refl
+pub compressed_label : (known : List Place) (label : List ℕ) (rest : Labels) → place_of known (label ∷ rest) ≡ None → compress_name known (label ∷ rest) ≡ (length label ∷ label) ++ compress_name known rest
+compressed_label known label rest e = rw (e, compress_name) refl
 
 -- behind the places that a pointer can name, none is added
 none_high : (known : List Place) (at : ℕ) (name : Labels) → nat_lt at 16384 ≡ false → new_places known at name ≡ []
@@ -76,22 +76,22 @@ places_next known places at label rest after e place = go (nat_lt at 16384) refl
         ∙ ap (λ (xs : List Place). (places ++ noted at (label ∷ rest)) ++ xs) (sym none')
 
 -- one label more is written
-pub name_next : (before : List ℕ) (whole : Packing) (known : List Place) (octets : List ℕ) (places : List Place) (label : List ℕ) (rest : Labels) (after : List ℕ) (places' : List Place) → place_of known (label ∷ rest) ≡ None → after ≡ octets ++ (length label ∷ label) → places' ≡ places ++ noted (length octets) (label ∷ rest)
+pub name_next : (before : List ℕ) (whole : Compressing) (known : List Place) (octets : List ℕ) (places : List Place) (label : List ℕ) (rest : Labels) (after : List ℕ) (places' : List Place) → place_of known (label ∷ rest) ≡ None → after ≡ octets ++ (length label ∷ label) → places' ≡ places ++ noted (length octets) (label ∷ rest)
     → NameLeft before whole known octets places (label ∷ rest) → NameLeft before whole known after places' rest
 name_next before whole known octets places label rest after places' e grown kept h =
     let size : length after ≡ length octets + 1 + length label = (let s : length after ≡ length octets + suc (length label) = ap length grown ∙ length-append octets (length label ∷ label) in omega (arith, s)) in
     let table : places ++ new_places known (length octets) (label ∷ rest) ≡ places' ++ new_places known (length after) rest =
     places_next known places (length octets) label rest (length after) e size ∙ ap (λ (xs : List Place). xs ++ new_places known (length after) rest) (sym kept) in
-    leaves_as before whole after (pack_name known rest) (pack_name known rest) (places ++ new_places known (length octets) (label ∷ rest)) (places' ++ new_places known (length after) rest) refl table
-    (leaves_next before whole octets (pack_name known (label ∷ rest)) (places ++ new_places known (length octets) (label ∷ rest)) (length label ∷ label) (pack_name known rest) after (packed_label known label rest e) grown h)
+    leaves_as before whole after (compress_name known rest) (compress_name known rest) (places ++ new_places known (length octets) (label ∷ rest)) (places' ++ new_places known (length after) rest) refl table
+    (leaves_next before whole octets (compress_name known (label ∷ rest)) (places ++ new_places known (length octets) (label ∷ rest)) (length label ∷ label) (compress_name known rest) after (compressed_label known label rest e) grown h)
 
-pub name_first : (known : List Place) (before : List ℕ) (name : Labels) → NameLeft before (packed_name known (length before) name) known before known name
-name_first known before name = leaves_first before (packed_name known (length before) name)
+pub name_first : (known : List Place) (before : List ℕ) (name : Labels) → NameLeft before (compressed_name known (length before) name) known before known name
+name_first known before name = leaves_first before (compressed_name known (length before) name)
 
 -- a pointer is left
-pub name_known : (before : List ℕ) (whole : Packing) (known : List Place) (octets : List ℕ) (places : List Place) (label : List ℕ) (rest : Labels) (offset : ℕ) (pointed : List ℕ) → Some offset ≡ option_map (λ p. p.offset) (place_of known (label ∷ rest)) → pointed ≡ pointer offset
+pub name_known : (before : List ℕ) (whole : Compressing) (known : List Place) (octets : List ℕ) (places : List Place) (label : List ℕ) (rest : Labels) (offset : ℕ) (pointed : List ℕ) → Some offset ≡ option_map (λ p. p.offset) (place_of known (label ∷ rest)) → pointed ≡ pointer offset
     → NameLeft before whole known octets places (label ∷ rest) → Leaves before whole octets pointed places
 name_known before whole known octets places label rest offset pointed e is h =
-    leaves_as before whole octets (pack_name known (label ∷ rest)) pointed (places ++ new_places known (length octets) (label ∷ rest)) places
-    (packed_known known label rest offset e ∙ sym is)
+    leaves_as before whole octets (compress_name known (label ∷ rest)) pointed (places ++ new_places known (length octets) (label ∷ rest)) places
+    (compressed_known known label rest offset e ∙ sym is)
     (ap (λ (xs : List Place). places ++ xs) (no_places_known known (length octets) label rest offset e) ∙ append-nil places) h

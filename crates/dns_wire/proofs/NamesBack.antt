@@ -1,4 +1,4 @@
--- Names that are packed read back.
+-- Names that are compressed read back.
 use Rattle.std.proofs.Common.{◌≡◌, ℕ, ◌+◌, ◌-◌, ◌/◌, ◌%◌, ◌<◌, ◌≤◌, Bool, true, false, List, [], ◌∷◌, ◌++◌, length, map, Option, Some, None, refl, sym, ap, subst, ◌∙◌, arith, append_assoc}
 use Rattle.std.specs.Prelude.{nat_lt, slice_get}
 use Rattle.std.specs.Option.{option_or}
@@ -9,10 +9,10 @@ use Rattle.std.proofs.lemmas.Option.{none-some}
 use Rattle.dns_names.specs.Name.{Labels, IsLabel, IsName, names_eq, wire}
 use Rattle.dns_names.specs.Octets.{LabelAt, LabelsAt}
 use Rattle.dns_wire.specs.NameAt.{IsPointer, NameAt, ends, points, FullNameAt}
-use Rattle.dns_wire.specs.Pack.{Place, place_of, pointer, pack_name, new_places}
-use Rattle.dns_wire.proofs.NamePut.{packed_label}
+use Rattle.dns_wire.specs.Compress.{Place, place_of, pointer, compress_name, new_places}
+use Rattle.dns_wire.proofs.NamePut.{compressed_label}
 use Rattle.dns_wire.proofs.Places.{names_same, written_size}
-use Rattle.dns_wire.proofs.TextPacked.{Rest, piece, rest_as, in_full}
+use Rattle.dns_wire.proofs.TextCompressed.{Rest, piece, rest_as, in_full}
 
 get_front : (front : List ℕ) (k : ℕ) (more : List ℕ) → slice_get (front ++ k ∷ more) (length front) ≡ Some k
 get_front [] k more = refl
@@ -88,28 +88,28 @@ pointer_done text at offset more h =
       offset = omega arith;
     }
 
--- a name that is packed is a run of labels and its end
-pub name_tail : (text : List ℕ) (places : List Place) (start at : ℕ) (name : Labels) (back : List ℕ) → Readable text places start → AllByRecursion IsLabel name → Rest text at (pack_name places name ++ back) → Tail text start at name (at + length (pack_name places name))
+-- a name that is compressed is a run of labels and its end
+pub name_tail : (text : List ℕ) (places : List Place) (start at : ℕ) (name : Labels) (back : List ℕ) → Readable text places start → AllByRecursion IsLabel name → Rest text at (compress_name places name ++ back) → Tail text start at name (at + length (compress_name places name))
 name_tail text places start at [] back table valid h = to_root at refl (first_of text at 0 back h) refl
 name_tail text places start at (label ∷ rest) back table valid h = go (place_of places (label ∷ rest)) refl (λ d. name_tail text places start (at + 1 + length label) rest back table valid.1 d)
   where
-    go : (o : Option Place) → place_of places (label ∷ rest) ≡ o → (Rest text (at + 1 + length label) (pack_name places rest ++ back) → Tail text start (at + 1 + length label) rest (at + 1 + length label + length (pack_name places rest))) → Tail text start at (label ∷ rest) (at + length (pack_name places (label ∷ rest)))
+    go : (o : Option Place) → place_of places (label ∷ rest) ≡ o → (Rest text (at + 1 + length label) (compress_name places rest ++ back) → Tail text start (at + 1 + length label) rest (at + 1 + length label + length (compress_name places rest))) → Tail text start at (label ∷ rest) (at + length (compress_name places (label ∷ rest)))
     go None e inner =
-        let octets : pack_name places (label ∷ rest) ≡ (length label ∷ label) ++ pack_name places rest = packed_label places label rest e in
-        let d = label_done text at label (pack_name places rest ++ back) valid.0 (rest_as text at at (pack_name places (label ∷ rest) ++ back) ((length label ∷ label) ++ (pack_name places rest ++ back)) refl
-        (ap (λ (xs : List ℕ). xs ++ back) octets ∙ append_assoc (length label ∷ label) (pack_name places rest) back) h) in
+        let octets : compress_name places (label ∷ rest) ≡ (length label ∷ label) ++ compress_name places rest = compressed_label places label rest e in
+        let d = label_done text at label (compress_name places rest ++ back) valid.0 (rest_as text at at (compress_name places (label ∷ rest) ++ back) ((length label ∷ label) ++ (compress_name places rest ++ back)) refl
+        (ap (λ (xs : List ℕ). xs ++ back) octets ∙ append_assoc (length label ∷ label) (compress_name places rest) back) h) in
         let size = written_size places label rest e in
-        let end : at + 1 + length label + length (pack_name places rest) ≡ at + length (pack_name places (label ∷ rest)) = omega (arith, size) in
-        subst (λ (k : ℕ). Tail text start at (label ∷ rest) k) end (tail_label text start at label rest (at + 1 + length label + length (pack_name places rest)) d.label-at (inner d.behind))
+        let end : at + 1 + length label + length (compress_name places rest) ≡ at + length (compress_name places (label ∷ rest)) = omega (arith, size) in
+        subst (λ (k : ℕ). Tail text start at (label ∷ rest) k) end (tail_label text start at label rest (at + 1 + length label + length (compress_name places rest)) d.label-at (inner d.behind))
     go (Some p) e inner =
-        let octets : pack_name places (label ∷ rest) ≡ pointer p.offset = rw (e, pack_name) refl in
+        let octets : compress_name places (label ∷ rest) ≡ pointer p.offset = rw (e, compress_name) refl in
         let r = table.reads (label ∷ rest) p e in
-        let here = pointer_done text at p.offset back (rest_as text at at (pack_name places (label ∷ rest) ++ back) (pointer p.offset ++ back) refl (ap (λ (xs : List ℕ). xs ++ back) octets) h) in
+        let here = pointer_done text at p.offset back (rest_as text at at (compress_name places (label ∷ rest) ++ back) (pointer p.offset ++ back) refl (ap (λ (xs : List ℕ). xs ++ back) octets) h) in
         to_pointer [] (label ∷ rest) at p.offset r.end refl here r.far r.back r.stands refl (ap (λ (xs : List ℕ). at + length xs) octets)
 
-pub name_back : (text : List ℕ) (places : List Place) (at : ℕ) (name : Labels) (back : List ℕ) → Readable text places at → IsName name → Rest text at (pack_name places name ++ back) → FullNameAt text at name (at + length (pack_name places name))
+pub name_back : (text : List ℕ) (places : List Place) (at : ℕ) (name : Labels) (back : List ℕ) → Readable text places at → IsName name → Rest text at (compress_name places name ++ back) → FullNameAt text at name (at + length (compress_name places name))
 name_back text places at name back table valid h = record {
-  stands = tail_name text at at name (at + length (pack_name places name)) (omega arith) (name_tail text places at at name back table valid.labels h);
+  stands = tail_name text at at name (at + length (compress_name places name)) (omega arith) (name_tail text places at at name back table valid.labels h);
   valid = valid;
 }
 
@@ -117,18 +117,18 @@ name_back text places at name back table valid h = record {
 pub full_back : (text : List ℕ) (at : ℕ) (name : Labels) (back : List ℕ) → IsName name → Rest text at (wire name ++ back) → FullNameAt text at name (at + length (wire name))
 full_back text at name back valid h =
     subst (λ (xs : List ℕ). FullNameAt text at name (at + length xs)) (in_full name)
-    (name_back text [] at name back (readable_none text at) valid (rest_as text at at (wire name ++ back) (pack_name [] name ++ back) refl (ap (λ (xs : List ℕ). xs ++ back) (sym (in_full name))) h))
+    (name_back text [] at name back (readable_none text at) valid (rest_as text at at (wire name ++ back) (compress_name [] name ++ back) refl (ap (λ (xs : List ℕ). xs ++ back) (sym (in_full name))) h))
 
 -- the places that a name adds stand
-new_back : (text : List ℕ) (places : List Place) (start at : ℕ) (name : Labels) (back : List ℕ) → Readable text places start → start ≤ at → 12 ≤ at → AllByRecursion IsLabel name → Rest text at (pack_name places name ++ back)
-    → (suffix : Labels) (p : Place) → place_of (new_places places at name) suffix ≡ Some p → ReadAt text (at + length (pack_name places name)) p.offset suffix
+new_back : (text : List ℕ) (places : List Place) (start at : ℕ) (name : Labels) (back : List ℕ) → Readable text places start → start ≤ at → 12 ≤ at → AllByRecursion IsLabel name → Rest text at (compress_name places name ++ back)
+    → (suffix : Labels) (p : Place) → place_of (new_places places at name) suffix ≡ Some p → ReadAt text (at + length (compress_name places name)) p.offset suffix
 new_back text places start at [] back table up far valid h suffix p e = absurd (none-some p e)
 new_back text places start at (label ∷ rest) back table up far valid h suffix p e =
     go (place_of places (label ∷ rest)) refl (nat_lt at 16384) refl (names_eq (label ∷ rest) suffix) refl (λ d g. new_back text places start (at + 1 + length label) rest back table (omega arith) (omega arith) valid.1 d suffix p g)
   where
     go : (o : Option Place) → place_of places (label ∷ rest) ≡ o → (b : Bool) → nat_lt at 16384 ≡ b → (c : Bool) → names_eq (label ∷ rest) suffix ≡ c
-        → (Rest text (at + 1 + length label) (pack_name places rest ++ back) → place_of (new_places places (at + 1 + length label) rest) suffix ≡ Some p → ReadAt text (at + 1 + length label + length (pack_name places rest)) p.offset suffix)
-        → ReadAt text (at + length (pack_name places (label ∷ rest))) p.offset suffix
+        → (Rest text (at + 1 + length label) (compress_name places rest ++ back) → place_of (new_places places (at + 1 + length label) rest) suffix ≡ Some p → ReadAt text (at + 1 + length label + length (compress_name places rest)) p.offset suffix)
+        → ReadAt text (at + length (compress_name places (label ∷ rest))) p.offset suffix
     go (Some q) i b lt c same behind = absurd (let none : place_of (new_places places at (label ∷ rest)) suffix ≡ None = rw (i, new_places) refl in none-some p (sym none ∙ e))
     go None i false lt c same behind = absurd (let none : place_of (new_places places at (label ∷ rest)) suffix ≡ None = rw (i, lt, new_places) refl in none-some p (sym none ∙ e))
     go None i true lt true same behind =
@@ -137,30 +137,30 @@ new_back text places start at (label ∷ rest) back table up far valid h suffix 
         let one : Some here ≡ Some p = sym some ∙ e in
         let is : here ≡ p = cc in
         let size = written_size places label rest i in
-        let stands = tail_name text start at (label ∷ rest) (at + length (pack_name places (label ∷ rest))) up (name_tail text places start at (label ∷ rest) back table valid h) in
-        let made : ReadAt text (at + length (pack_name places (label ∷ rest))) at (label ∷ rest) = record { far = far; back = omega (arith, size); end = at + length (pack_name places (label ∷ rest)); stands = stands } in
-        subst (λ (x : Labels). ReadAt text (at + length (pack_name places (label ∷ rest))) p.offset x) (names_same (label ∷ rest) suffix same)
-        (subst (λ (k : ℕ). ReadAt text (at + length (pack_name places (label ∷ rest))) k (label ∷ rest)) (ap (λ (x : Place). x.offset) is) made)
+        let stands = tail_name text start at (label ∷ rest) (at + length (compress_name places (label ∷ rest))) up (name_tail text places start at (label ∷ rest) back table valid h) in
+        let made : ReadAt text (at + length (compress_name places (label ∷ rest))) at (label ∷ rest) = record { far = far; back = omega (arith, size); end = at + length (compress_name places (label ∷ rest)); stands = stands } in
+        subst (λ (x : Labels). ReadAt text (at + length (compress_name places (label ∷ rest))) p.offset x) (names_same (label ∷ rest) suffix same)
+        (subst (λ (k : ℕ). ReadAt text (at + length (compress_name places (label ∷ rest))) k (label ∷ rest)) (ap (λ (x : Place). x.offset) is) made)
     go None i true lt false same behind =
         let goes : place_of (new_places places at (label ∷ rest)) suffix ≡ place_of (new_places places (at + 1 + length label) rest) suffix = rw (i, lt, new_places, same) refl in
-        let octets : pack_name places (label ∷ rest) ≡ (length label ∷ label) ++ pack_name places rest = packed_label places label rest i in
-        let d = label_done text at label (pack_name places rest ++ back) valid.0 (rest_as text at at (pack_name places (label ∷ rest) ++ back) ((length label ∷ label) ++ (pack_name places rest ++ back)) refl
-        (ap (λ (xs : List ℕ). xs ++ back) octets ∙ append_assoc (length label ∷ label) (pack_name places rest) back) h) in
+        let octets : compress_name places (label ∷ rest) ≡ (length label ∷ label) ++ compress_name places rest = compressed_label places label rest i in
+        let d = label_done text at label (compress_name places rest ++ back) valid.0 (rest_as text at at (compress_name places (label ∷ rest) ++ back) ((length label ∷ label) ++ (compress_name places rest ++ back)) refl
+        (ap (λ (xs : List ℕ). xs ++ back) octets ∙ append_assoc (length label ∷ label) (compress_name places rest) back) h) in
         let size = written_size places label rest i in
-        let end : at + 1 + length label + length (pack_name places rest) ≡ at + length (pack_name places (label ∷ rest)) = omega (arith, size) in
+        let end : at + 1 + length label + length (compress_name places rest) ≡ at + length (compress_name places (label ∷ rest)) = omega (arith, size) in
         subst (λ (k : ℕ). ReadAt text k p.offset suffix) end (behind d.behind (sym goes ∙ e))
 
 -- the table stays readable over one more name
-pub readable_next : (text : List ℕ) (places : List Place) (at : ℕ) (name : Labels) (back : List ℕ) → Readable text places at → 12 ≤ at → AllByRecursion IsLabel name → Rest text at (pack_name places name ++ back)
-    → Readable text (places ++ new_places places at name) (at + length (pack_name places name))
+pub readable_next : (text : List ℕ) (places : List Place) (at : ℕ) (name : Labels) (back : List ℕ) → Readable text places at → 12 ≤ at → AllByRecursion IsLabel name → Rest text at (compress_name places name ++ back)
+    → Readable text (places ++ new_places places at name) (at + length (compress_name places name))
 readable_next text places at name back table far valid h = record { reads = λ suffix p e. go suffix p (place_of places suffix) refl (sym (find-append (λ q. names_eq q.suffix suffix) places (new_places places at name)) ∙ e) }
   where
-    go : (suffix : Labels) (p : Place) (o : Option Place) → place_of places suffix ≡ o → option_or (place_of places suffix) (place_of (new_places places at name) suffix) ≡ Some p → ReadAt text (at + length (pack_name places name)) p.offset suffix
+    go : (suffix : Labels) (p : Place) (o : Option Place) → place_of places suffix ≡ o → option_or (place_of places suffix) (place_of (new_places places at name) suffix) ≡ Some p → ReadAt text (at + length (compress_name places name)) p.offset suffix
     go suffix p (Some q) i e =
         let new = place_of (new_places places at name) suffix in
         let is : Some q ≡ Some p = sym (ap (λ (o : Option Place). option_or o new) i) ∙ e in
         let old : place_of places suffix ≡ Some p = i ∙ is in
-        (readable_more text places at (at + length (pack_name places name)) (omega arith) table).reads suffix p old
+        (readable_more text places at (at + length (compress_name places name)) (omega arith) table).reads suffix p old
     go suffix p None i e =
         let new = place_of (new_places places at name) suffix in
         let is : new ≡ Some p = sym (ap (λ (o : Option Place). option_or o new) i) ∙ e in

@@ -1,31 +1,31 @@
 -- Octets that are written piece by piece.
 use Rattle.std.proofs.Common.{◌≡◌, ℕ, ◌+◌, ◌≤◌, List, [], ◌++◌, length, refl, sym, ap, subst, ◌∙◌, arith, append_assoc}
 use Rattle.std.proofs.lemmas.List.{length-append, append-nil}
-use Rattle.dns_wire.specs.Pack.{Place, Packing}
+use Rattle.dns_wire.specs.Compress.{Place, Compressing}
 use Rattle.dns_wire.specs.Puts.{Wrote, RefusesUpTo}
 use Rattle.dns_wire.specs.declared.WireError.{WireError}
 use Rattle.dns_wire.specs.declared.WireError.TheVariants.{OutOfMemory, Short, BadPointer, ReservedLabel, NameTooLong, Cut, Trailing, BadData, DoesNotFit}
 
 -- behind what stands now are still to come these octets, and then the table is as said
-pub record Leaves (before : List ℕ) (whole : Packing) (octets rest : List ℕ) (places : List Place) : Type 0 where
+pub record Leaves (before : List ℕ) (whole : Compressing) (octets rest : List ℕ) (places : List Place) : Type 0 where
   pub octets-are : before ++ whole.octets ≡ octets ++ rest
   pub places-are : whole.places ≡ places
 
-pub leaves_first : (before : List ℕ) (whole : Packing) → Leaves before whole before whole.octets whole.places
+pub leaves_first : (before : List ℕ) (whole : Compressing) → Leaves before whole before whole.octets whole.places
 leaves_first before whole = record { octets-are = refl; places-are = refl }
 
-pub leaves_next : (before : List ℕ) (whole : Packing) (octets rest : List ℕ) (places : List Place) (more tail after : List ℕ) → rest ≡ more ++ tail → after ≡ octets ++ more → Leaves before whole octets rest places → Leaves before whole after tail places
+pub leaves_next : (before : List ℕ) (whole : Compressing) (octets rest : List ℕ) (places : List Place) (more tail after : List ℕ) → rest ≡ more ++ tail → after ≡ octets ++ more → Leaves before whole octets rest places → Leaves before whole after tail places
 leaves_next before whole octets rest places more tail after e grown h = record {
   octets-are = h.octets-are ∙ ap (λ (xs : List ℕ). octets ++ xs) e ∙ sym (append_assoc octets more tail) ∙ ap (λ (xs : List ℕ). xs ++ tail) (sym grown);
   places-are = h.places-are;
 }
 
 -- the same octets and table, otherwise written
-pub leaves_as : (before : List ℕ) (whole : Packing) (octets rest rest' : List ℕ) (places places' : List Place) → rest ≡ rest' → places ≡ places' → Leaves before whole octets rest places → Leaves before whole octets rest' places'
+pub leaves_as : (before : List ℕ) (whole : Compressing) (octets rest rest' : List ℕ) (places places' : List Place) → rest ≡ rest' → places ≡ places' → Leaves before whole octets rest places → Leaves before whole octets rest' places'
 leaves_as before whole octets rest rest' places places' e f h = record { octets-are = h.octets-are ∙ ap (λ (xs : List ℕ). octets ++ xs) e; places-are = h.places-are ∙ f }
 
 -- what was to come was written
-pub wrote_last : (limit : ℕ) (before : List ℕ) (whole : Packing) (octets rest : List ℕ) (places : List Place) (now : ℕ) (after : List ℕ) (limit' : ℕ) (places' : List Place) (last : Packing) → last.octets ≡ rest → last.places ≡ places → now ≡ limit
+pub wrote_last : (limit : ℕ) (before : List ℕ) (whole : Compressing) (octets rest : List ℕ) (places : List Place) (now : ℕ) (after : List ℕ) (limit' : ℕ) (places' : List Place) (last : Compressing) → last.octets ≡ rest → last.places ≡ places → now ≡ limit
     → Leaves before whole octets rest places → Wrote now octets after limit' places' last → Wrote limit before after limit' places' whole
 wrote_last limit before whole octets rest places now after limit' places' last e f same h w = record {
   octets = w.octets ∙ ap (λ (xs : List ℕ). octets ++ xs) e ∙ sym h.octets-are;
@@ -46,13 +46,13 @@ refuses_more limit a b Trailing up h = h
 refuses_more limit a b BadData up h = h
 
 -- what was to come was refused, or its first part was
-pub refuses_part : (limit : ℕ) (before : List ℕ) (whole : Packing) (octets rest : List ℕ) (places : List Place) (now : ℕ) (more tail : List ℕ) (e : WireError) → rest ≡ more ++ tail → now ≡ limit
+pub refuses_part : (limit : ℕ) (before : List ℕ) (whole : Compressing) (octets rest : List ℕ) (places : List Place) (now : ℕ) (more tail : List ℕ) (e : WireError) → rest ≡ more ++ tail → now ≡ limit
     → Leaves before whole octets rest places → RefusesUpTo now (length octets + length more) e → RefusesUpTo limit (length before + length whole.octets) e
 refuses_part limit before whole octets rest places now more tail e is same h r =
     let size : length before + length whole.octets ≡ length octets + length rest = sym (length-append before whole.octets) ∙ ap length h.octets-are ∙ length-append octets rest in
     let part : length rest ≡ length more + length tail = ap length is ∙ length-append more tail in
     refuses_more limit (length octets + length more) (length before + length whole.octets) e (omega (arith, size, part)) (subst (λ (k : ℕ). RefusesUpTo k (length octets + length more) e) same r)
 
-pub refuses_last : (limit : ℕ) (before : List ℕ) (whole : Packing) (octets rest : List ℕ) (places : List Place) (now : ℕ) (e : WireError) → now ≡ limit
+pub refuses_last : (limit : ℕ) (before : List ℕ) (whole : Compressing) (octets rest : List ℕ) (places : List Place) (now : ℕ) (e : WireError) → now ≡ limit
     → Leaves before whole octets rest places → RefusesUpTo now (length octets + length rest) e → RefusesUpTo limit (length before + length whole.octets) e
 refuses_last limit before whole octets rest places now e same h r = refuses_part limit before whole octets rest places now rest [] e (sym (append-nil rest)) same h r

@@ -13,14 +13,14 @@ use Rattle.dns_names.specs.PlainLaws.{Front, wire_stands}
 use Rattle.dns_records.specs.Record.{Record, IsRecord, number_of}
 use Rattle.dns_wire.specs.Message.{Header, bit, header_of}
 use Rattle.dns_wire.specs.NameAt.{ends}
-use Rattle.dns_wire.specs.Pack.{Place, place_of, new_places}
-use Rattle.dns_wire.specs.Reads.{NumberAt, QuestionAt, QuestionsAt, ItemsAt, Reads}
-use Rattle.dns_wire.specs.Text.{Echo, Reply, header_octets, question_octets, question_places, text}
-use Rattle.dns_wire.specs.Valid.{IsEcho, IsReply, item_of, question_of, questions_of, message_of_reply}
+use Rattle.dns_wire.specs.Compress.{Place, place_of, new_places}
+use Rattle.dns_wire.specs.Reads.{NumberAt, QuestionAt, QuestionsAt, ResourceRecordsAt, Reads}
+use Rattle.dns_wire.specs.Text.{EchoedQuestion, Reply, header_octets, question_octets, question_places, text}
+use Rattle.dns_wire.specs.Valid.{IsEchoed, IsReply, item_of, question_of, questions_of, message_of_reply}
 use Rattle.dns_wire.proofs.NamesBack.{Readable, readable_none, readable_more, ReadAt}
 use Rattle.dns_wire.proofs.NumbersBack.{flags, two_back, qr_back, opcode_back, aa_back, tc_back, rd_back}
 use Rattle.dns_wire.proofs.RecordsBack.{number_done, all_back}
-use Rattle.dns_wire.proofs.TextPacked.{Rest, piece, rest_as}
+use Rattle.dns_wire.proofs.TextCompressed.{Rest, piece, rest_as}
 use Rattle.dns_wire.proofs.TextPut.{first_all, second_all, third_all, text_is, text_size}
 use Rattle.dns_wire.proofs.Places.{names_same}
 
@@ -59,7 +59,7 @@ slice_within text at octets back i inside h =
     number_done text (at + i) 2 (number_of one) one (rest ++ back) two refl (rest_as text (at + length front) (at + i) (one ++ (rest ++ back)) (one ++ (rest ++ back)) (ap (λ (x : ℕ). at + x) width) refl p.behind)
 
 -- the name of a question stands in full
-asked_name : (text : List ℕ) (e : Echo) (back : List ℕ) → IsEcho e → Rest text 12 (e.octets ++ back) → Front text 12 (length (wire e.name)) e.name
+asked_name : (text : List ℕ) (e : EchoedQuestion) (back : List ℕ) → IsEchoed e → Rest text 12 (e.octets ++ back) → Front text 12 (length (wire e.name)) e.name
 asked_name text e back valid h =
     let n = length (wire e.name) in
     let size : length e.octets ≡ n + 4 = valid.size in
@@ -68,7 +68,7 @@ asked_name text e back valid h =
     let read : map to_ascii_lowercase (take n (drop 12 text)) ≡ wire e.name = ap (λ (xs : List ℕ). map to_ascii_lowercase (take n xs)) behind ∙ ap (map to_ascii_lowercase) (take-append-le n e.octets back inside) ∙ valid.name in
     wire_stands text 12 n e.name valid.valid.labels read (omega (arith, ap length behind, length-append e.octets back, inside))
 
-question_back : (text : List ℕ) (e : Echo) (back : List ℕ) → IsEcho e → Rest text 12 (e.octets ++ back) → QuestionAt text 12 (question_of e) (12 + length e.octets)
+question_back : (text : List ℕ) (e : EchoedQuestion) (back : List ℕ) → IsEchoed e → Rest text 12 (e.octets ++ back) → QuestionAt text 12 (question_of e) (12 + length e.octets)
 question_back text e back valid h =
     let n = length (wire e.name) in
     let size : length e.octets ≡ n + 4 = valid.size in
@@ -84,7 +84,7 @@ question_back text e back valid h =
       last = omega arith;
     }
 
-questions_back : (text : List ℕ) (q : Option Echo) (octets back : List ℕ) → IfSome q IsEcho → octets ≡ elim q [ None ↦ [] | Some e ↦ e.octets ] → Rest text 12 (octets ++ back) → QuestionsAt text 12 (questions_of q) (12 + length octets)
+questions_back : (text : List ℕ) (q : Option EchoedQuestion) (octets back : List ℕ) → IfSome q IsEchoed → octets ≡ elim q [ None ↦ [] | Some e ↦ e.octets ] → Rest text 12 (octets ++ back) → QuestionsAt text 12 (questions_of q) (12 + length octets)
 questions_back text None octets back valid e h = omega (arith, ap length e)
 questions_back text (Some q) octets back valid e h =
     (12 + length octets, subst (λ (xs : List ℕ). QuestionAt text 12 (question_of q) (12 + length xs)) (sym e) (question_back text q back valid (rest_as text 12 12 (octets ++ back) (q.octets ++ back) refl (ap (λ (xs : List ℕ). xs ++ back) e) h)), refl)
@@ -110,7 +110,7 @@ stood text at (label ∷ rest) stop h z far suffix p e =
         let goes : place_of (new_places [] at (label ∷ rest)) suffix ≡ place_of (new_places [] (at + 1 + length label) rest) suffix = rw (lt, new_places, same) refl in
         behind (sym goes ∙ e)
 
-places_back : (text : List ℕ) (q : Option Echo) (octets back : List ℕ) → IfSome q IsEcho → octets ≡ elim q [ None ↦ [] | Some e ↦ e.octets ] → Rest text 12 (octets ++ back) → Readable text (elim q [ None ↦ [] | Some e ↦ new_places [] 12 e.name ]) (12 + length octets)
+places_back : (text : List ℕ) (q : Option EchoedQuestion) (octets back : List ℕ) → IfSome q IsEchoed → octets ≡ elim q [ None ↦ [] | Some e ↦ e.octets ] → Rest text 12 (octets ++ back) → Readable text (elim q [ None ↦ [] | Some e ↦ new_places [] 12 e.name ]) (12 + length octets)
 places_back text None octets back valid e h = readable_none text (12 + length octets)
 places_back text (Some q) octets back valid e h =
     let f = asked_name text q back valid (rest_as text 12 12 (octets ++ back) (q.octets ++ back) refl (ap (λ (xs : List ℕ). xs ++ back) e) h) in
@@ -118,7 +118,7 @@ places_back text (Some q) octets back valid e h =
     let last : 12 + length (wire q.name) ≡ f.stop + 1 = f.last in
     readable_more text (new_places [] 12 q.name) (f.stop + 1) (12 + length octets) (omega (arith, ap length e, last)) (record { reads = λ suffix p i. stood text 12 q.name f.stop f.stand f.root (omega arith) suffix p i })
 
-one_question : (q : Option Echo) → length (questions_of q) ≡ number_of (to_be_bytes w16 (elim q [ None ↦ 0 | Some e ↦ 1 ]))
+one_question : (q : Option EchoedQuestion) → length (questions_of q) ≡ number_of (to_be_bytes w16 (elim q [ None ↦ 0 | Some e ↦ 1 ]))
 one_question None = refl
 one_question (Some e) = refl
 
@@ -163,7 +163,7 @@ reads_back r valid =
       questions = questions_back (text r) r.question question (a.octets ++ (b.octets ++ (c.octets ++ []))) valid.question refl h1;
       answers = answers.stand;
       authorities = authorities.stand;
-      additionals = subst (λ (k : ℕ). ItemsAt (text r) (n + length a.octets + length b.octets) (map item_of r.additional) k) last additionals.stand;
+      additionals = subst (λ (k : ℕ). ResourceRecordsAt (text r) (n + length a.octets + length b.octets) (map item_of r.additional) k) last additionals.stand;
     }
   where
     grouped : (h q a b c : List ℕ) → (h ++ q) ++ ((a ++ b) ++ c) ≡ h ++ (q ++ (a ++ (b ++ (c ++ []))))

@@ -5,33 +5,33 @@ use Rattle.std.proofs.Math.Seq.{drop-cons}
 use Rattle.std.proofs.lemmas.List.{length-append, length-take, length-drop, take_at, drop_at}
 use Rattle.dns_records.specs.Types.{class_in}
 use Rattle.dns_records.specs.Record.{Record}
-use Rattle.dns_wire.specs.Pack.{Place, Packing, packed_name, packed_rdata, packed_record}
-use Rattle.dns_wire.specs.Puts.{RefusesUpTo, fixed_octets, packed_all}
+use Rattle.dns_wire.specs.Compress.{Place, Compressing, compressed_name, compressed_rdata, compressed_record}
+use Rattle.dns_wire.specs.Puts.{RefusesUpTo, fixed_octets, compressed_all}
 use Rattle.dns_wire.specs.declared.WireError.{WireError}
 use Rattle.dns_wire.proofs.Puts.{Leaves, leaves_next, refuses_part}
 
 -- these records are still to be written
-abbrev pub RecordsLeft : List ℕ → Packing → List ℕ → List Place → List Record → Type 0
+abbrev pub RecordsLeft : List ℕ → Compressing → List ℕ → List Place → List Record → Type 0
 RecordsLeft before whole octets places rs =
-    let tail = packed_all places (length octets) rs in
+    let tail = compressed_all places (length octets) rs in
     Leaves before whole octets tail.octets tail.places
 
-pub records_next : (before : List ℕ) (whole : Packing) (octets : List ℕ) (places : List Place) (r : Record) (rs : List Record) (after : List ℕ) (places' : List Place) → after ≡ octets ++ (packed_record places (length octets) r).octets → places' ≡ (packed_record places (length octets) r).places
+pub records_next : (before : List ℕ) (whole : Compressing) (octets : List ℕ) (places : List Place) (r : Record) (rs : List Record) (after : List ℕ) (places' : List Place) → after ≡ octets ++ (compressed_record places (length octets) r).octets → places' ≡ (compressed_record places (length octets) r).places
     → RecordsLeft before whole octets places (r ∷ rs) → RecordsLeft before whole after places' rs
 records_next before whole octets places r rs after places' grown same h =
-    let here = packed_record places (length octets) r in
+    let here = compressed_record places (length octets) r in
     let size : length octets + length here.octets ≡ length after = sym (ap length grown ∙ length-append octets here.octets) in
-    let tail = packed_all here.places (length octets + length here.octets) rs in
+    let tail = compressed_all here.places (length octets + length here.octets) rs in
     let next : Leaves before whole after tail.octets tail.places = leaves_next before whole octets (here.octets ++ tail.octets) tail.places here.octets tail.octets after refl grown h in
-    let placed : Leaves before whole after (packed_all places' (length octets + length here.octets) rs).octets (packed_all places' (length octets + length here.octets) rs).places =
-    subst (λ (ps : List Place). Leaves before whole after (packed_all ps (length octets + length here.octets) rs).octets (packed_all ps (length octets + length here.octets) rs).places) (sym same) next in
-    subst (λ (k : ℕ). Leaves before whole after (packed_all places' k rs).octets (packed_all places' k rs).places) size placed
+    let placed : Leaves before whole after (compressed_all places' (length octets + length here.octets) rs).octets (compressed_all places' (length octets + length here.octets) rs).places =
+    subst (λ (ps : List Place). Leaves before whole after (compressed_all ps (length octets + length here.octets) rs).octets (compressed_all ps (length octets + length here.octets) rs).places) (sym same) next in
+    subst (λ (k : ℕ). Leaves before whole after (compressed_all places' k rs).octets (compressed_all places' k rs).places) size placed
 
-pub records_refused : (limit : ℕ) (before : List ℕ) (whole : Packing) (octets : List ℕ) (places : List Place) (now : ℕ) (r : Record) (rs : List Record) (e : WireError) → now ≡ limit
-    → RecordsLeft before whole octets places (r ∷ rs) → RefusesUpTo now (length octets + length (packed_record places (length octets) r).octets) e → RefusesUpTo limit (length before + length whole.octets) e
+pub records_refused : (limit : ℕ) (before : List ℕ) (whole : Compressing) (octets : List ℕ) (places : List Place) (now : ℕ) (r : Record) (rs : List Record) (e : WireError) → now ≡ limit
+    → RecordsLeft before whole octets places (r ∷ rs) → RefusesUpTo now (length octets + length (compressed_record places (length octets) r).octets) e → RefusesUpTo limit (length before + length whole.octets) e
 records_refused limit before whole octets places now r rs e same h f =
-    let here = packed_record places (length octets) r in
-    let tail = packed_all here.places (length octets + length here.octets) rs in
+    let here = compressed_record places (length octets) r in
+    let tail = compressed_all here.places (length octets + length here.octets) rs in
     refuses_part limit before whole octets (here.octets ++ tail.octets) tail.places now here.octets tail.octets e refl same h f
 
 pub records_left : (rs : List Record) (i : ℕ) (d : Record) → i < length rs → drop i rs ≡ get_or rs i d ∷ drop (i + 1) rs
@@ -55,34 +55,34 @@ sized front zeros rdata all start two e place =
 regroup : (b o t c l s d : List ℕ) → (((b ++ o) ++ ((t ++ c) ++ l)) ++ s) ++ d ≡ b ++ (((((o ++ t) ++ c) ++ l) ++ s) ++ d)
 regroup b o t c l s d = simp append_assoc
 
-pub record_places : (before : List ℕ) (places : List Place) (r : Record) (one two : List ℕ) (p q : List Place) → one ≡ before ++ (packed_name places (length before) r.owner).octets → p ≡ (packed_name places (length before) r.owner).places → two ≡ one ++ fixed_octets r.rtype r.ttl → q ≡ p
-    → packed_rdata q (length two) r ≡ packed_rdata (packed_name places (length before) r.owner).places (length before + length (packed_name places (length before) r.owner).octets + 10) r
+pub record_places : (before : List ℕ) (places : List Place) (r : Record) (one two : List ℕ) (p q : List Place) → one ≡ before ++ (compressed_name places (length before) r.owner).octets → p ≡ (compressed_name places (length before) r.owner).places → two ≡ one ++ fixed_octets r.rtype r.ttl → q ≡ p
+    → compressed_rdata q (length two) r ≡ compressed_rdata (compressed_name places (length before) r.owner).places (length before + length (compressed_name places (length before) r.owner).octets + 10) r
 record_places before places r one two p q e1 e2 e3 e4 =
-    let owner = packed_name places (length before) r.owner in
+    let owner = compressed_name places (length before) r.owner in
     let ten : length (fixed_octets r.rtype r.ttl) ≡ 10 = refl in
     let place : length two ≡ length before + length owner.octets + 10 = ap length e3 ∙ length-append one (fixed_octets r.rtype r.ttl) ∙ ap (λ (k : ℕ). k + 10) (ap length e1 ∙ length-append before owner.octets) in
-    ap (λ (ps : List Place). packed_rdata ps (length two) r) (e4 ∙ e2) ∙ ap (λ (k : ℕ). packed_rdata owner.places k r) place
+    ap (λ (ps : List Place). compressed_rdata ps (length two) r) (e4 ∙ e2) ∙ ap (λ (k : ℕ). compressed_rdata owner.places k r) place
 
 -- a record, its length filled in
-pub record_octets : (before : List ℕ) (places : List Place) (r : Record) (one two three four : List ℕ) (p q : List Place) (start : ℕ) → one ≡ before ++ (packed_name places (length before) r.owner).octets → p ≡ (packed_name places (length before) r.owner).places → two ≡ one ++ fixed_octets r.rtype r.ttl → q ≡ p
-    → three ≡ two ++ (packed_rdata q (length two) r).octets → start ≡ length two → four ≡ take (start - 2) three ++ to_be_bytes w16 (length three - start) ++ drop start three
-    → four ≡ before ++ (packed_record places (length before) r).octets
+pub record_octets : (before : List ℕ) (places : List Place) (r : Record) (one two three four : List ℕ) (p q : List Place) (start : ℕ) → one ≡ before ++ (compressed_name places (length before) r.owner).octets → p ≡ (compressed_name places (length before) r.owner).places → two ≡ one ++ fixed_octets r.rtype r.ttl → q ≡ p
+    → three ≡ two ++ (compressed_rdata q (length two) r).octets → start ≡ length two → four ≡ take (start - 2) three ++ to_be_bytes w16 (length three - start) ++ drop start three
+    → four ≡ before ++ (compressed_record places (length before) r).octets
 record_octets before places r one two three four p q start e1 e2 e3 e4 e5 e6 e7 =
-    let owner = packed_name places (length before) r.owner in
+    let owner = compressed_name places (length before) r.owner in
     let mid : List ℕ = (to_be_bytes w16 r.rtype ++ to_be_bytes w16 class_in) ++ to_be_bytes w32 r.ttl in
     let zeros : List ℕ = 0 ∷ 0 ∷ [] in
     let front : List ℕ = (before ++ owner.octets) ++ mid in
     let two-is : two ≡ front ++ zeros = e3 ∙ ap (λ (xs : List ℕ). xs ++ (mid ++ zeros)) e1 ∙ sym (append_assoc (before ++ owner.octets) mid zeros) in
-    let rdata = packed_rdata owner.places (length before + length owner.octets + 10) r in
-    let same : packed_rdata q (length two) r ≡ rdata = record_places before places r one two p q e1 e2 e3 e4 in
-    let three-is : three ≡ (front ++ zeros) ++ rdata.octets = e5 ∙ ap (λ (xs : List ℕ). xs ++ (packed_rdata q (length two) r).octets) two-is ∙ ap (λ (x : Packing). (front ++ zeros) ++ x.octets) same in
+    let rdata = compressed_rdata owner.places (length before + length owner.octets + 10) r in
+    let same : compressed_rdata q (length two) r ≡ rdata = record_places before places r one two p q e1 e2 e3 e4 in
+    let three-is : three ≡ (front ++ zeros) ++ rdata.octets = e5 ∙ ap (λ (xs : List ℕ). xs ++ (compressed_rdata q (length two) r).octets) two-is ∙ ap (λ (x : Compressing). (front ++ zeros) ++ x.octets) same in
     e7 ∙ sized front zeros rdata.octets three start refl three-is (e6 ∙ ap length two-is) ∙ regroup before owner.octets (to_be_bytes w16 r.rtype) (to_be_bytes w16 class_in) (to_be_bytes w32 r.ttl) (to_be_bytes w16 (length rdata.octets)) rdata.octets
 
 pub record_size : (places : List Place) (at : ℕ) (r : Record)
-    → length (packed_record places at r).octets ≡ length (packed_name places at r.owner).octets + 10 + length (packed_rdata (packed_name places at r.owner).places (at + length (packed_name places at r.owner).octets + 10) r).octets
+    → length (compressed_record places at r).octets ≡ length (compressed_name places at r.owner).octets + 10 + length (compressed_rdata (compressed_name places at r.owner).places (at + length (compressed_name places at r.owner).octets + 10) r).octets
 record_size places at r =
-    let owner = packed_name places at r.owner in
-    let rdata = packed_rdata owner.places (at + length owner.octets + 10) r in
+    let owner = compressed_name places at r.owner in
+    let rdata = compressed_rdata owner.places (at + length owner.octets + 10) r in
     let all = owner.octets ++ to_be_bytes w16 r.rtype ++ to_be_bytes w16 class_in ++ to_be_bytes w32 r.ttl ++ to_be_bytes w16 (length rdata.octets) in
     let front : length all ≡ length owner.octets + 2 + 2 + 4 + 2 = simp length-append in
     omega (arith, length-append all rdata.octets, front)

@@ -4,13 +4,13 @@ use Rattle.std.specs.Int.{w16, w32, to_be_bytes}
 use Rattle.dns_records.specs.Types.{class_in}
 use Rattle.dns_names.specs.Name.{Labels, IsName, wire}
 use Rattle.dns_records.specs.Record.{Record}
-use Rattle.dns_wire.specs.Pack.{Place, Packing, new_places, packed_record}
-use Rattle.dns_wire.specs.Text.{Echo}
+use Rattle.dns_wire.specs.Compress.{Place, Compressing, new_places, compressed_record}
+use Rattle.dns_wire.specs.Text.{EchoedQuestion}
 use Rattle.dns_wire.specs.declared.WireError.{WireError}
 use Rattle.dns_wire.specs.declared.WireError.TheVariants.{OutOfMemory, Short, BadPointer, ReservedLabel, NameTooLong, Cut, Trailing, BadData, DoesNotFit}
 
 -- More octets stand behind those that stood, within the limit, and the table of places is as said.
-pub record Wrote (limit : ℕ) (before after : List ℕ) (limit' : ℕ) (places' : List Place) (more : Packing) : Type 0 where
+pub record Wrote (limit : ℕ) (before after : List ℕ) (limit' : ℕ) (places' : List Place) (more : Compressing) : Type 0 where
   pub octets : after ≡ before ++ more.octets
   pub places : places' ≡ more.places
   pub fits : length after ≤ limit
@@ -29,15 +29,15 @@ RefusesUpTo limit size Trailing = ⊥
 RefusesUpTo limit size BadData = ⊥
 
 -- Octets alone, which add no place.
-abbrev pub plain_octets : List Place → List ℕ → Packing
+abbrev pub plain_octets : List Place → List ℕ → Compressing
 plain_octets places octets = record { octets = octets; places = places }
 
 -- Records one behind the other, and the places behind them.
-abbrev pub packed_all : List Place → ℕ → List Record → Packing
-packed_all places at [] = record { octets = []; places = places }
-packed_all places at (r ∷ rs) =
-    let here = packed_record places at r in
-    let after = packed_all here.places (at + length here.octets) rs in
+abbrev pub compressed_all : List Place → ℕ → List Record → Compressing
+compressed_all places at [] = record { octets = []; places = places }
+compressed_all places at (r ∷ rs) =
+    let here = compressed_record places at r in
+    let after = compressed_all here.places (at + length here.octets) rs in
     record { octets = here.octets ++ after.octets; places = after.places }
 
 -- The plain form of a name stands at the front of the octets.
@@ -56,6 +56,6 @@ abbrev pub noted : ℕ → Labels → List Place
 noted at name = if nat_lt at 16384 then record { offset = at; suffix = name } ∷ [] else []
 
 -- The question of a reply, and the places of its name.
-abbrev pub asked : Option Echo → Packing
+abbrev pub asked : Option EchoedQuestion → Compressing
 asked None = record { octets = []; places = [] }
 asked (Some q) = record { octets = q.octets; places = new_places [] 12 q.name }

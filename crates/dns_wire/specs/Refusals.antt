@@ -87,8 +87,8 @@ pub record DataRefused (message : List ℕ) (mid : ℕ) (e : WireError) : Type 0
   pub counted : NumberAt message (mid + 8) 2 size
   pub fault : ((length message < mid + 10 + size) × (e ≡ Cut)) ⊎ RDataRefused message (mid + 10) rtype size e
 
-abbrev pub ItemRefused : List ℕ → ℕ → WireError → Type 0
-ItemRefused message at e =
+abbrev pub ResourceRecordRefused : List ℕ → ℕ → WireError → Type 0
+ResourceRecordRefused message at e =
     NoName message at e
     ⊎ ((owner : Labels) × (mid : ℕ) × FullNameAt message at owner mid × (((length message < mid + 10) × (e ≡ Cut)) ⊎ DataRefused message mid e))
 
@@ -108,7 +108,7 @@ One message Records = SomeItem message
 
 abbrev pub OneRefused : List ℕ → Kind → ℕ → WireError → Type 0
 OneRefused message Questions = QuestionRefused message
-OneRefused message Records = ItemRefused message
+OneRefused message Records = ResourceRecordRefused message
 
 abbrev pub SectionsRefused : List ℕ → List (Kind × ℕ) → ℕ → WireError → Type 0
 SectionsRefused message [] at e = (at < length message) × (e ≡ Trailing)

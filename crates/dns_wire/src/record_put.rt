@@ -5,10 +5,10 @@ ghost use Rattle.dns_names.specs.Name.{labels_of, wire};
 ghost use Rattle.dns_names.specs.Plain.{IsPlain};
 ghost use Rattle.dns_records.specs.Record.{AreFields};
 ghost use Rattle.dns_records.specs.Fields.{stated_fields};
-ghost use Rattle.dns_wire.specs.Pack.{packed_fields, packed_rdata, packed_record};
-ghost use Rattle.dns_wire.specs.Puts.{Wrote, RefusesUpTo, BeginsWithName, fixed_octets, packed_all};
+ghost use Rattle.dns_wire.specs.Compress.{compressed_fields, compressed_rdata, compressed_record};
+ghost use Rattle.dns_wire.specs.Puts.{Wrote, RefusesUpTo, BeginsWithName, fixed_octets, compressed_all};
 
-use crate::packer::Packer;
+use crate::compressor::Compressor;
 use crate::{ReplyRecord, WireError};
 use dns_records::{Field, count_within, form};
 
@@ -35,7 +35,7 @@ fn fixed(rtype: u16, ttl: u32) -> [u8; 10]
     [t[0], t[1], 0, 1, l[0], l[1], l[2], l[3], 0, 0]
 }
 
-impl<'a> Packer<'a> {
+impl<'a> Compressor<'a> {
     /// Writes the parts of the data of a record. Uncompressed names stand in full, and no
     /// pointer names them (RFC 2782).
     fn put_fields(&mut self, fields: &[Field], rdata: &'a [u8]) -> Result<(), WireError>
@@ -43,10 +43,10 @@ impl<'a> Packer<'a> {
         requires room { length self.old.octets.items ≤ self.old.limit }
         ensures written { OnOk result
             (Wrote self.old.limit self.old.octets.items self.new.octets.items self.new.limit self.new.places.items
-            (packed_fields self.old.places.items (length self.old.octets.items) (stated_fields fields.now) rdata.now)) }
+            (compressed_fields self.old.places.items (length self.old.octets.items) (stated_fields fields.now) rdata.now)) }
         ensures refused { IfErr result
             (RefusesUpTo self.old.limit
-            (length self.old.octets.items + length (packed_fields self.old.places.items (length self.old.octets.items) (stated_fields fields.now) rdata.now).octets)) }
+            (length self.old.octets.items + length (compressed_fields self.old.places.items (length self.old.octets.items) (stated_fields fields.now) rdata.now).octets)) }
     {
         let mut rest = rdata;
         for field in fields.iter() {
@@ -90,10 +90,10 @@ impl<'a> Packer<'a> {
         requires room { length self.old.octets.items ≤ self.old.limit }
         ensures written { OnOk result
             (Wrote self.old.limit self.old.octets.items self.new.octets.items self.new.limit self.new.places.items
-            (packed_rdata self.old.places.items (length self.old.octets.items) one.now)) }
+            (compressed_rdata self.old.places.items (length self.old.octets.items) one.now)) }
         ensures refused { IfErr result
             (RefusesUpTo self.old.limit
-            (length self.old.octets.items + length (packed_rdata self.old.places.items (length self.old.octets.items) one.now).octets)) }
+            (length self.old.octets.items + length (compressed_rdata self.old.places.items (length self.old.octets.items) one.now).octets)) }
     {
         let rdata = one.rdata();
         match form(one.rtype()) {
@@ -108,10 +108,10 @@ impl<'a> Packer<'a> {
         requires small { self.old.limit < 65536 }
         ensures written { OnOk result
             (Wrote self.old.limit self.old.octets.items self.new.octets.items self.new.limit self.new.places.items
-            (packed_record self.old.places.items (length self.old.octets.items) one.now)) }
+            (compressed_record self.old.places.items (length self.old.octets.items) one.now)) }
         ensures refused { IfErr result
             (RefusesUpTo self.old.limit
-            (length self.old.octets.items + length (packed_record self.old.places.items (length self.old.octets.items) one.now).octets)) }
+            (length self.old.octets.items + length (compressed_record self.old.places.items (length self.old.octets.items) one.now).octets)) }
     {
         self.put_name(one.owner().as_wire())?;
         self.put(&fixed(one.rtype(), one.ttl()))?;
@@ -127,10 +127,10 @@ impl<'a> Packer<'a> {
         requires small { self.old.limit < 65536 }
         ensures written { OnOk result
             (Wrote self.old.limit self.old.octets.items self.new.octets.items self.new.limit self.new.places.items
-            (packed_all self.old.places.items (length self.old.octets.items) records.now)) }
+            (compressed_all self.old.places.items (length self.old.octets.items) records.now)) }
         ensures refused { IfErr result
             (RefusesUpTo self.old.limit
-            (length self.old.octets.items + length (packed_all self.old.places.items (length self.old.octets.items) records.now).octets)) }
+            (length self.old.octets.items + length (compressed_all self.old.places.items (length self.old.octets.items) records.now).octets)) }
     {
         for one in records.iter() {
             self.put_record(one)?;

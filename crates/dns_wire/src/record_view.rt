@@ -22,14 +22,14 @@ pub struct RecordView<'a> {
 }
 
 impl<'a> Model for RecordView<'a> {
-    ghost use Rattle.dns_wire.specs.Message.{Item};
-    ghost use Rattle.dns_wire.specs.Viewed.{item_shown, IsItemShown};
+    ghost use Rattle.dns_wire.specs.Message.{ResourceRecord};
+    ghost use Rattle.dns_wire.specs.Viewed.{item_shown, IsResourceRecordShown};
 
-    ghost Value = { Item };
+    ghost Value = { ResourceRecord };
 
     ghost view = { λ r. item_shown r.message.now r.at r.behind_owner };
 
-    ghost invariant = { λ r. IsItemShown r.message.now r.at r.behind_owner };
+    ghost invariant = { λ r. IsResourceRecordShown r.message.now r.at r.behind_owner };
 }
 
 impl<'a> RecordView<'a> {
@@ -100,23 +100,23 @@ pub struct Section<'a> {
 
 impl<'a> Model for Section<'a> {
     ghost use Rattle.std.specs.Prelude.{List};
-    ghost use Rattle.dns_wire.specs.Message.{Item};
-    ghost use Rattle.dns_wire.specs.Viewed.{items_left, AreItemsLeft};
+    ghost use Rattle.dns_wire.specs.Message.{ResourceRecord};
+    ghost use Rattle.dns_wire.specs.Viewed.{items_left, AreResourceRecordsLeft};
 
-    ghost Value = { List Item };
+    ghost Value = { List ResourceRecord };
 
     ghost view = { λ s. items_left s.message.now s.next s.left };
 
-    ghost invariant = { λ s. AreItemsLeft s.message.now s.next s.left };
+    ghost invariant = { λ s. AreResourceRecordsLeft s.message.now s.next s.left };
 }
 
 impl<'a> Section<'a> {
     ghost use Rattle.std.specs.Prelude.{◌≡◌, [], ◌∷◌, length, IfSome, OnSome, IfNone};
-    ghost use Rattle.dns_wire.specs.Viewed.{items_left, AreItemsLeft};
+    ghost use Rattle.dns_wire.specs.Viewed.{items_left, AreResourceRecordsLeft};
 
     /// So many records from an offset on.
     pub(crate) fn over(message: &'a [u8], next: usize, left: u16) -> Section<'a>
-        requires { AreItemsLeft message.now next left }
+        requires { AreResourceRecordsLeft message.now next left }
         ensures { result ≡ items_left message.now next left }
     {
         Section {

@@ -29,16 +29,16 @@ impl<'a> Model for ReplyRecord<'a> {
 
 impl<'a> ReplyRecord<'a> {
     /// The record of a zone under another owner and with another TTL.
-    pub fn new(owner: NameRef<'a>, ttl: u32, held: &'a Record) -> ReplyRecord<'a>
+    pub fn new(owner: NameRef<'a>, ttl: u32, stored: &'a Record) -> ReplyRecord<'a>
         ensures owner { result.owner ≡ owner.entry }
         ensures ttl { result.ttl ≡ ttl }
-        ensures rtype { result.rtype ≡ held.now.rtype }
-        ensures rdata { result.rdata ≡ held.now.rdata }
+        ensures rtype { result.rtype ≡ stored.now.rtype }
+        ensures rdata { result.rdata ≡ stored.now.rdata }
     {
         ReplyRecord {
             owner,
             ttl,
-            record: held,
+            record: stored,
         }
     }
 
@@ -46,7 +46,7 @@ impl<'a> ReplyRecord<'a> {
     pub fn owner(&self) -> NameRef<'a>
         ensures { result ≡ self.now.owner }
     {
-        self.owner.again()
+        self.owner.reborrow()
     }
 
     /// The type of the record.
@@ -75,7 +75,7 @@ impl<'a> ReplyRecord<'a> {
 
 /// A question as it came, octet for octet, and its name.
 #[derive(Drop)]
-pub struct Echo<'a> {
+pub struct EchoedQuestion<'a> {
     pub octets: &'a [u8],
     pub name: NameRef<'a>,
 }
@@ -95,7 +95,7 @@ pub struct Reply<'a> {
     pub rd: bool,
     /// The response code.
     pub rcode: Rcode,
-    pub question: Option<Echo<'a>>,
+    pub question: Option<EchoedQuestion<'a>>,
     pub answer: Vec<ReplyRecord<'a>, Heap>,
     pub authority: Vec<ReplyRecord<'a>, Heap>,
     pub additional: Vec<ReplyRecord<'a>, Heap>,

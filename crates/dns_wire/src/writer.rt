@@ -7,11 +7,11 @@ ghost use Rattle.dns_wire.specs.Reads.{Reads};
 ghost use Rattle.dns_wire.specs.Valid.{IsReply, message_of_reply};
 ghost use Rattle.dns_wire.specs.Text.{Reply as Stated, text, header_octets};
 ghost use Rattle.dns_names.specs.Name.{Labels};
-ghost use Rattle.dns_wire.specs.Pack.{Place, pack_name, new_places};
-ghost use Rattle.dns_wire.specs.Packed.{Used, StandsAt, IsWritten, AreThePlaces, IsPacked, and_field};
+ghost use Rattle.dns_wire.specs.Compress.{Place, compress_name, new_places};
+ghost use Rattle.dns_wire.specs.Compressed.{Used, StandsAt, IsWritten, AreThePlaces, IsCompressed, and_field};
 
-use crate::packer::Packer;
-use crate::{Echo, Reply, ReplyRecord, WireError};
+use crate::compressor::Compressor;
+use crate::{EchoedQuestion, Reply, ReplyRecord, WireError};
 use dns_memory::Heap;
 
 /// Writes messages.
@@ -61,9 +61,9 @@ fn header(reply: &Reply<'_>) -> Result<[u8; 12], WireError>
     ])
 }
 
-impl<'a> Packer<'a> {
+impl<'a> Compressor<'a> {
     /// Writes the question of a reply as it came, behind the header.
-    fn put_question(&mut self, question: &Option<Echo<'a>>) -> Result<(), WireError>
+    fn put_question(&mut self, question: &Option<EchoedQuestion<'a>>) -> Result<(), WireError>
         requires header { length self.old.octets.items ≡ 12 }
         requires first { self.old.places.items ≡ [] }
         requires room { length self.old.octets.items ≤ self.old.limit }
@@ -83,7 +83,7 @@ impl<'a> Packer<'a> {
 }
 
 impl Writer {
-    /// The one packed text of a reply (RFC 1035 section 4.1), if it has at most so many octets: a datagram takes 512,
+    /// The one compressed text of a reply (RFC 1035 section 4.1), if it has at most so many octets: a datagram takes 512,
     /// and the length before a message on a stream tells at most 65,535 (RFC 1035 section 4.2). It refuses with `DoesNotFit`
     /// where the text is longer, and with `OutOfMemory` where memory is wanting.
     pub fn write(alloc: Heap, reply: &Reply<'_>, limit: usize) -> Result<Vec<u8, Heap>, WireError>
@@ -91,39 +91,39 @@ impl Writer {
         ensures found { IfOk result (λ octets. (octets.items ≡ text (stated reply.now)) × (length octets.items ≤ limit)) }
         ensures refused { IfErr result (RefusesUpTo limit (length (text (stated reply.now)))) }
     {
-        let mut packer = Packer {
+        let mut compressor = Compressor {
             octets: Vec::with_capacity(alloc, 512)?,
             places: Vec::with_capacity(alloc, 32)?,
             limit,
         };
-        packer.put(&header(reply)?)?;
-        packer.put_question(&reply.question)?;
-        packer.put_records(reply.answer.as_slice())?;
-        packer.put_records(reply.authority.as_slice())?;
-        packer.put_records(reply.additional.as_slice())?;
-        let Packer {
+        compressor.put(&header(reply)?)?;
+        compressor.put_question(&reply.question)?;
+        compressor.put_records(reply.answer.as_slice())?;
+        compressor.put_records(reply.authority.as_slice())?;
+        compressor.put_records(reply.additional.as_slice())?;
+        let Compressor {
             octets,
             places: _,
             limit: _,
-        } = packer;
+        } = compressor;
         Ok(octets)
     }
 }
 
-/// A reply has at most one packed text, and the computed text is that, and reads as the reply. Each record takes ten octets or
-/// more. The computed packing writes a name as it is to be written, and keeps its table of places right.
-pub fn one_packed_text()
-    ensures once { (t u : List ℕ) (r : Stated) → IsPacked t r → IsPacked u r → t ≡ u }
-    ensures packed { (r : Stated) → IsReply r → IsPacked (text r) r }
+/// A reply has at most one compressed text, and the computed text is that, and reads as the reply. Each record takes ten octets or
+/// more. The computed compression writes a name as it is to be written, and keeps its table of places right.
+pub fn one_compressed_text()
+    ensures once { (t u : List ℕ) (r : Stated) → IsCompressed t r → IsCompressed u r → t ≡ u }
+    ensures compressed { (r : Stated) → IsReply r → IsCompressed (text r) r }
     ensures long { (r : Stated) → 12 + 10 * (length r.answer + length r.authority + length r.additional) ≤ length (text r) }
     ensures reads_back { (r : Stated) → IsReply r → Reads (text r) (message_of_reply r) }
     ensures written { (earlier : List Used) (places : List Place) (name : Labels)
         → AreThePlaces (StandsAt earlier) places
-        → IsWritten (StandsAt earlier) name (pack_name places name) }
+        → IsWritten (StandsAt earlier) name (compress_name places name) }
     ensures first { AreThePlaces (StandsAt []) [] }
     ensures next { (earlier : List Used) (places : List Place) (at : ℕ) (name : Labels)
         → AreThePlaces (StandsAt earlier) places
         → ((offset : ℕ) (suffix : Labels) → StandsAt earlier offset suffix → offset < at)
-        → AreThePlaces (StandsAt (and_field earlier at (at + length (pack_name places name)) name))
+        → AreThePlaces (StandsAt (and_field earlier at (at + length (compress_name places name)) name))
         (places ++ new_places places at name) }
 {}

@@ -49,7 +49,7 @@ impl ZoneIndex for RecordList {
     }
 
     fn rrset(&self, name: &NameRef<'_>, rtype: u16) -> &[Record] {
-        let key = Key::Type(name.again(), rtype);
+        let key = Key::Type(name.reborrow(), rtype);
         matching(&self.items, &key, self.near(name))
     }
 

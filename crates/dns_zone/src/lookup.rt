@@ -35,7 +35,7 @@ pub(crate) fn records_near<'s>(
     requires { is_ordered records.now ≡ true }
     ensures { result.now ≡ records_at records.now name.now }
 {
-    matching(records, &Key::Owner(name.again()), near)
+    matching(records, &Key::Owner(name.reborrow()), near)
 }
 
 /// The records that the name owns, where its place is known.
@@ -44,7 +44,7 @@ fn records_from<'s>(records: &'s [Record], name: &NameRef<'_>, place: usize) -> 
     requires place { IsPlaceOf name.now records.now place }
     ensures { result.now ≡ records_at records.now name.now }
 {
-    let key = Key::Owner(name.again());
+    let key = Key::Owner(name.reborrow());
     &records[place..end_of_match(records, &key, place)]
 }
 
@@ -61,7 +61,7 @@ fn closest_encloser<'n>(records: &[Record], name: &NameRef<'n>, place: usize) ->
     requires place { IsPlaceOf name.now records.now place }
     ensures { result ≡ encloser records.now name.now }
 {
-    let mut here = name.again();
+    let mut here = name.reborrow();
     'ancestors: while !is_owned_beside(records, place, &here) {
         match here.parent() {
             Some(above) => here = above,
@@ -102,7 +102,7 @@ fn shortest_cut<'n, 's>(
     ensures none { IfNone result (cut (record { apex = apex.now; records = records.now }) name.now ≡ None) }
 {
     let mut shortest = None;
-    let mut here = name.again();
+    let mut here = name.reborrow();
     'ancestors: while is_below(&here, apex) {
         let owned = records_near(records, &here, Some(near));
         let above = here.parent();
@@ -162,7 +162,7 @@ fn match_owner<'n, 's>(
     }
     let owned = records_from(records, name, place);
     if is_cut(apex, name, owned) {
-        return Match::Cut(name.again(), owned);
+        return Match::Cut(name.reborrow(), owned);
     }
     Match::Name(owned)
 }
@@ -194,7 +194,7 @@ fn wildcard_near<'s>(
 {
     let octets = starred(above);
     let source = NameRef::over(octets.as_slice());
-    let place = count_before(records, &Key::Owner(source.again()), Some(near));
+    let place = count_before(records, &Key::Owner(source.reborrow()), Some(near));
     if is_owned_at(records, place, &source) {
         return Some(records_from(records, &source, place));
     }
@@ -232,7 +232,7 @@ pub(crate) fn exists(records: &[Record], name: &NameRef<'_>) -> bool
     requires { is_ordered records.now ≡ true }
     ensures { result ≡ exists records.now name.now }
 {
-    let place = count_before(records, &Key::Owner(name.again()), None);
+    let place = count_before(records, &Key::Owner(name.reborrow()), None);
     is_owned_at(records, place, name)
 }
 
@@ -245,7 +245,7 @@ pub(crate) fn find_node<'n, 's>(
     requires { is_ordered records.now ≡ true }
     ensures { IsMatch (record { apex = apex.now; records = records.now }) name.now result }
 {
-    let place = count_before(records, &Key::Owner(name.again()), None);
+    let place = count_before(records, &Key::Owner(name.reborrow()), None);
     if is_owned_at(records, place, name) {
         return match_owner(records, apex, name, place);
     }

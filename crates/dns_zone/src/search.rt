@@ -161,7 +161,7 @@ pub fn find_parts<'r>(
     ensures { option_copied result
         ≡ find (alike (record { owner = owner.now; rtype = rtype; ttl = 0; rdata = rdata.now })) records.now }
 {
-    let key = Key::Parts(owner.again(), rtype, rdata);
+    let key = Key::Parts(owner.reborrow(), rtype, rdata);
     let at = count_before(records, &key, None);
     if at < records.len() && is_match(&key, &records[at]) {
         return Some(&records[at]);

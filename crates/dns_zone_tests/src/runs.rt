@@ -131,7 +131,7 @@ fn are_all(copies: &Copies, plain: &[Record], name: &Name) -> bool {
 /// The shortest name below the apex that owns NS, of a name and those above it.
 fn shortest_cut<'n>(plain: &[Record], apex: &Name, name: &NameRef<'n>) -> Option<NameRef<'n>> {
     let mut shortest = None;
-    let mut rest = Some(name.again());
+    let mut rest = Some(name.reborrow());
     for _ in 0..128u8 {
         let Some(here) = rest else { break };
         rest = here.parent();
@@ -147,7 +147,7 @@ fn shortest_cut<'n>(plain: &[Record], apex: &Name, name: &NameRef<'n>) -> Option
 
 /// The longest name that exists, of a name and those above it.
 fn encloser<'n>(plain: &[Record], name: &NameRef<'n>) -> NameRef<'n> {
-    let mut here = name.again();
+    let mut here = name.reborrow();
     for _ in 0..128u8 {
         if exists(plain, &here) {
             break;

@@ -14,9 +14,9 @@ same_bytes (x ∷ xs) (y ∷ ys) = ap (λ (b : Bool). nat_eq x y && b) (same_byt
 
 pub returns : goal.returns
 returns c =
-    let held = c.args.held.now in
+    let stored = c.args.stored.now in
     let shown = c.args.shown.now in
-    let owner : c.is.result ≡ names_eq held.owner shown.owner =
+    let owner : c.is.result ≡ names_eq stored.owner shown.owner =
     tied_same c.is.result c.lend.result c.owner-2.result c.is.ensures.0 c.is.ensures.1 ∙ (λ i. names_eq ((c.lend.ensures ∙ c.owner.ensures) i) (c.owner-2.ensures i)) in
-    let rdata : c.eq.result ≡ bytes_eq held.rdata shown.rdata = c.eq.ensures ∙ same_bytes c.rdata.result.now c.rdata-2.result.now ∙ (λ i. bytes_eq (c.rdata.ensures.octets i) (c.rdata-2.ensures.octets i)) in
+    let rdata : c.eq.result ≡ bytes_eq stored.rdata shown.rdata = c.eq.ensures ∙ same_bytes c.rdata.result.now c.rdata-2.result.now ∙ (λ i. bytes_eq (c.rdata.ensures.octets i) (c.rdata-2.ensures.octets i)) in
     λ i. ((owner i && nat_eq (c.rtype.ensures i) (c.rtype-2.ensures i)) && rdata i) && nat_eq (c.ttl.ensures i) (c.ttl-2.ensures i)

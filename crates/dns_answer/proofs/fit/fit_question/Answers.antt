@@ -9,4 +9,4 @@ use Rattle.dns_answer.proofs.fit.fit_question.Goals as goal
 pub returns-in-Udp : goal.returns-in-Udp
 returns-in-Udp c = IfOk-weaker c.truncated.result _ _ (λ octets e whole is over.
     let many = subst (λ (t : Transport). most_records t < length whole.answer + length whole.authority) c.in-Udp.is over in
-    e ∙ ap truncated is ∙ sym (too_many whole many c.one_packed_text.ensures.long) ∙ ap (λ (t : Transport). fitted t whole) (sym c.in-Udp.is)) c.truncated.ensures
+    e ∙ ap truncated is ∙ sym (too_many whole many c.one_compressed_text.ensures.long) ∙ ap (λ (t : Transport). fitted t whole) (sym c.in-Udp.is)) c.truncated.ensures

@@ -4,37 +4,37 @@ use Rattle.std.proofs.lemmas.Bool.Decides.{nat_tests}
 use Rattle.std.proofs.lemmas.Result.{IfOk-weaker}
 use Rattle.dns_lookup.specs.Lookup.{resolve}
 use Rattle.dns_lookup.specs.Lookup as lookup
-use Rattle.dns_lookup.specs.Told.{AreTold}
-use Rattle.dns_lookup.specs.ToldLaws.{told_length}
-use Rattle.dns_lookup.specs.Held.{AreHeld}
-use Rattle.dns_lookup.specs.declared.chain.Found.{Found as Told}
+use Rattle.dns_lookup.specs.Represented.{RepresentAll}
+use Rattle.dns_lookup.specs.RepresentedLaws.{represented_length}
+use Rattle.dns_lookup.specs.Lent.{AllLend}
+use Rattle.dns_lookup.specs.declared.chain.Found.{Found as Represented}
 use Rattle.dns_answer.specs.Answer.{fitted, reply_for}
 use Rattle.dns_answer.proofs.Replies.{answered-is, refused}
 use Rattle.dns_answer.proofs.question.answer.Goals as goal
 
 pub returns-then-is_empty : goal.returns-then-is_empty
-returns-then-is_empty g c = IfOk-weaker c.fit.result _ _ (λ out e q asked.
+returns-then-is_empty g c = IfOk-weaker c.fit.result _ _ (λ out e q echoes typed.
     let zones = c.args.zones.now in
-    let t = c.args.asked.qtype in
-    let fs = resolve zones c.again.result t in
-    let same : fs ≡ resolve zones q.name q.qtype = λ i. resolve zones ((c.again.ensures ∙ asked.name_as) i) (asked.qtype_as i) in
-    let told = told_length zones fs c.in_ok-found.found.items c.in_ok-found.ensures.told in
+    let t = c.args.qtype in
+    let fs = resolve zones c.reborrow.result t in
+    let same : fs ≡ resolve zones q.name q.qtype = λ i. resolve zones ((c.reborrow.ensures ∙ echoes.name_as) i) (typed i) in
+    let returned = represented_length zones fs c.in_ok-found.found.items c.in_ok-found.ensures.represents in
     let empty : vec_len c.in_ok-found.found ≡ 0 = grind (arith, nat_tests, c.if-is_empty.ensures) in
-    let items : length fs ≡ 0 = omega (arith, told, empty, c.in_ok-found.found.ok) in
+    let items : length fs ≡ 0 = omega (arith, returned, empty, c.in_ok-found.found.ok) in
     let none : length (resolve zones q.name q.qtype) ≡ 0 = ap length (sym same) ∙ items in
-    e ∙ ap (fitted c.args.transport) (c.reply_with_question-reply.ensures.stated q asked ∙ refused zones c.args.message.now.octets c.args.message.now.message q none)) c.fit.ensures
+    e ∙ ap (fitted c.args.transport) (c.reply_with_question-reply.ensures.stated q echoes ∙ refused zones c.args.message.now.octets c.args.message.now.message q none)) c.fit.ensures
 
 pub returns : goal.returns
-returns g c = IfOk-weaker c.reply_to.result _ _ (λ out e q asked.
+returns g c = IfOk-weaker c.reply_to.result _ _ (λ out e q echoes typed.
     let zones = c.args.zones.now in
-    let t = c.args.asked.qtype in
-    let fs = resolve zones c.again.result t in
-    let told = c.in_ok-found.ensures.told in
-    let are = subst (λ (ones : List Told). AreTold zones fs ones) (sym c.as_slice.ensures.value) told in
-    let held = subst (λ (n : ℕ). AreHeld zones n c.as_slice.result.now) asked.qtype_as (subst (λ (ones : List Told). AreHeld zones t ones) (sym c.as_slice.ensures.value) c.in_ok-found.ensures.held) in
-    let same : fs ≡ resolve zones q.name q.qtype = λ i. resolve zones ((c.again.ensures ∙ asked.name_as) i) (asked.qtype_as i) in
-    let lengths = told_length zones fs c.in_ok-found.found.items told in
+    let t = c.args.qtype in
+    let fs = resolve zones c.reborrow.result t in
+    let returned = c.in_ok-found.ensures.represents in
+    let are = subst (λ (ones : List Represented). RepresentAll zones fs ones) (sym c.as_slice.ensures.value) returned in
+    let stored = subst (λ (n : ℕ). AllLend zones n c.as_slice.result.now) typed (subst (λ (ones : List Represented). AllLend zones t ones) (sym c.as_slice.ensures.value) c.in_ok-found.ensures.lent) in
+    let same : fs ≡ resolve zones q.name q.qtype = λ i. resolve zones ((c.reborrow.ensures ∙ echoes.name_as) i) (typed i) in
+    let lengths = represented_length zones fs c.in_ok-found.found.items returned in
     let some : length fs ≡ 0 → ⊥ = λ e. (let empty : vec_len c.in_ok-found.found ≡ 0 = omega (arith, lengths, e, c.in_ok-found.found.ok) in let not_empty = c.if-is_empty.ensures in let is : false ≡ true = not_empty ∙ ap (λ (n : ℕ). n == 0) empty in cc) in
     let octets = c.args.message.now.octets in
     let m = c.args.message.now.message in
-    e q fs asked are held ∙ ap (λ (found : List lookup.Found). fitted c.args.transport (reply_for octets m q found)) same ∙ ap (fitted c.args.transport) (answered-is zones octets m q (λ e. some (ap length same ∙ e)))) c.reply_to.ensures
+    e q fs echoes are stored ∙ ap (λ (found : List lookup.Found). fitted c.args.transport (reply_for octets m q found)) same ∙ ap (fitted c.args.transport) (answered-is zones octets m q (λ e. some (ap length same ∙ e)))) c.reply_to.ensures

@@ -1,5 +1,5 @@
 use Rattle.std.proofs.Common.{sym, ◌∙◌}
-use Rattle.dns_changes.proofs.Steps.{held_step, removed_step, removed_end}
+use Rattle.dns_changes.proofs.Steps.{present_step, removed_step, removed_end}
 use Rattle.dns_changes.proofs.change.take_each.Goals as goal
 
 pub loop-record-preserved : goal.loop-record-preserved
@@ -9,10 +9,10 @@ loop-record-preserved g c =
     let gone = c.args.gone.now in
     let i = c.loop-record.record-index in
     let r = c.record-item.result in
-    let there = sym c.in_ok-take_out.ensures.held ∙ c.if-not-branch.false in
+    let there = sym c.in_ok-take_out.ensures.present ∙ c.if-not-branch.false in
     let left = c.in_ok-take_out.ensures.left c.if-not-branch.false in
     record {
-      held = held_step cur next gone i r c.loop-record-test.true c.record-item.is there left ∙ c.loop-record.invariant.held;
+      present = present_step cur next gone i r c.loop-record-test.true c.record-item.is there left ∙ c.loop-record.invariant.present;
       left = removed_step cur next gone i r (g.met.I.ZoneIndex.ordered c.loop-record.set) c.loop-record-test.true c.record-item.is there left ∙ c.loop-record.invariant.left;
     }
 

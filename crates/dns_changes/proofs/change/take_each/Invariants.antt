@@ -1,5 +1,5 @@
 use Rattle.std.proofs.Common.{◌≡◌, drop}
-use Rattle.dns_changes.specs.Change.{are_held, removed_from}
+use Rattle.dns_changes.specs.Change.{are_present, removed_from}
 use Rattle.dns_changes.proofs.change.take_each.Given as goal
 
 abbrev pub invariant-loop-record : goal.invariant-loop-record
@@ -8,6 +8,6 @@ invariant-loop-record g l =
     let set = g.I.ZoneIndex.records l.set in
     let first = g.I.ZoneIndex.records l.initial.set in
     record {
-      held : are_held set rest ≡ are_held first l.gone;
+      present : are_present set rest ≡ are_present first l.gone;
       left : removed_from set rest ≡ removed_from first l.gone;
     }

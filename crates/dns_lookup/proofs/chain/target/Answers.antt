@@ -20,14 +20,14 @@ unless_none (Some x) P h = tt
 
 pub returns-in_err-first-clause-none : goal.returns-in_err-first-clause-none
 returns-in_err-first-clause-none c =
-    subst (λ o. IfNone o ((z : Zone) (node : Labels) → c.args.aliases.now ≡ rrset z.records node type_cname → owns_type z.records node type_cname ≡ false)) (sym c.from_residual.ensures) (λ z node held.
-    let empty : slice_get (rrset z.records node type_cname) 0 ≡ None = sym (ap option_copied (sym c.in_err-first.was) ∙ c.first.ensures.value ∙ ap (λ rs. slice_get rs 0) held) in
+    subst (λ o. IfNone o ((z : Zone) (node : Labels) → c.args.aliases.now ≡ rrset z.records node type_cname → owns_type z.records node type_cname ≡ false)) (sym c.from_residual.ensures) (λ z node lent.
+    let empty : slice_get (rrset z.records node type_cname) 0 ≡ None = sym (ap option_copied (sym c.in_err-first.was) ∙ c.first.ensures.value ∙ ap (λ rs. slice_get rs 0) lent) in
     owned (owns_type z.records node type_cname) (sym (none_first (rrset z.records node type_cname) empty) ∙ owns_no_type z.records node type_cname))
 
 pub returns-clause-none : goal.returns-clause-none
-returns-clause-none c = unless_none c.as_name.result _ (λ unnamed z node held.
+returns-clause-none c = unless_none c.as_name.result _ (λ unnamed z node lent.
     let r = c.in_ok-first.field-0.now in
-    let first : slice_get (rrset z.records node type_cname) 0 ≡ Some r = sym (c.in_ok-first.ensures.value ∙ ap (λ rs. slice_get rs 0) held) in
+    let first : slice_get (rrset z.records node type_cname) 0 ≡ Some r = sym (c.in_ok-first.ensures.value ∙ ap (λ rs. slice_get rs 0) lent) in
     let typed : r.rtype ≡ type_cname = first_typed z.records node type_cname r first in
     let some : c.as_name.result ≡ Some (labels_of r.rdata) = c.as_name.ensures.value ∙ ap name_of c.data.ensures ∙ ap (λ t. cond (is_name_type t) (Some (labels_of r.rdata)) None) typed in
     absurd cc)

@@ -2,7 +2,7 @@ use Rattle.std.proofs.Common.{◌≡◌, Bool, Some, None, false, sym, ap, ◌�
 use Rattle.std.specs.Prelude.{if◌then◌else◌}
 use Rattle.std.specs.List.{find}
 use Rattle.dns_zone.specs.Records.{alike, without}
-use Rattle.dns_update.specs.Item.{as_record}
+use Rattle.dns_update.specs.ResourceRecord.{as_record}
 use Rattle.dns_update.specs.Effect.{is_spared}
 use Rattle.dns_update.proofs.Gone.{found_goes, untied_all}
 use Rattle.dns_update.proofs.effect.delete.Goals as goal

@@ -1,5 +1,5 @@
 use Rattle.dns_update.specs.Prescan.{prescan_fault}
-use Rattle.dns_update.proofs.Items.{passes_at}
+use Rattle.dns_update.proofs.ResourceRecords.{passes_at}
 use Rattle.dns_update.proofs.effect.take_effects.Goals as goal
 
 pub take_effect-requires-clause-passes : goal.take_effect-requires-clause-passes

@@ -1,6 +1,6 @@
 use Rattle.std.proofs.Common.{sym, ◌∙◌}
 use Rattle.dns_update.specs.Prerequisites.{prerequisite_fault}
-use Rattle.dns_update.proofs.Items.{fault_stops}
+use Rattle.dns_update.proofs.ResourceRecords.{fault_stops}
 use Rattle.dns_update.proofs.prerequisites.first_fault.Goals as goal
 
 pub returns-then-is_some : goal.returns-then-is_some

@@ -1,5 +1,5 @@
 use Rattle.std.proofs.Common.{◌≡◌, drop}
-use Rattle.dns_update.specs.Item.{first_fault}
+use Rattle.dns_update.specs.ResourceRecord.{first_fault}
 use Rattle.dns_update.specs.Prerequisites.{prerequisite_fault}
 use Rattle.dns_update.proofs.prerequisites.first_fault.Given as goal
 

@@ -2,7 +2,7 @@ use Rattle.std.proofs.Common.{length, ◌∙◌}
 use Rattle.std.specs.Prelude.{◌&&◌, ◌==◌}
 use Rattle.std.specs.Option.{option_copied}
 use Rattle.dns_zone.specs.Records.{rrset}
-use Rattle.dns_update.specs.Item.{as_record}
+use Rattle.dns_update.specs.ResourceRecord.{as_record}
 use Rattle.dns_update.proofs.Listing.{has_found, some_copied}
 use Rattle.dns_update.proofs.prerequisites.is_counted.Goals as goal
 

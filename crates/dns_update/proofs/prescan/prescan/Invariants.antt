@@ -1,5 +1,5 @@
 use Rattle.std.proofs.Common.{◌≡◌, drop}
-use Rattle.dns_update.specs.Item.{first_fault}
+use Rattle.dns_update.specs.ResourceRecord.{first_fault}
 use Rattle.dns_update.specs.Prescan.{prescan_fault}
 use Rattle.dns_update.proofs.prescan.prescan.Given as goal
 

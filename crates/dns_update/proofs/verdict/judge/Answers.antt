@@ -1,6 +1,6 @@
 use Rattle.std.proofs.Common.{sym, subst, ◌∙◌}
 use Rattle.std.specs.List.{AllByRecursion}
-use Rattle.dns_update.specs.Item.{HasForm}
+use Rattle.dns_update.specs.ResourceRecord.{HasForm}
 use Rattle.dns_update.proofs.Forms.{updates_formed}
 use Rattle.dns_update.proofs.verdict.judge.Goals as goal
 

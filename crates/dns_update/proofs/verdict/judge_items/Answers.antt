@@ -2,10 +2,10 @@ use Rattle.std.proofs.Common.{◌≡◌, true, List, length, refl, sym, ap, subs
 use Rattle.std.specs.List.{list_any}
 use Rattle.dns_names.specs.Name.{Labels, names_eq}
 use Rattle.dns_update.specs.Effect.{effects}
-use Rattle.dns_update.specs.Item.{first_fault}
+use Rattle.dns_update.specs.ResourceRecord.{first_fault}
 use Rattle.dns_update.specs.Prerequisites.{prerequisites_fault}
 use Rattle.dns_update.specs.Prescan.{prescan_fault}
-use Rattle.dns_update.proofs.Items.{no_fault}
+use Rattle.dns_update.proofs.ResourceRecords.{no_fault}
 use Rattle.dns_zone.proofs.OneSoa.{zone_soa, zone_few, has_soa_at}
 use Rattle.dns_changes.specs.Touched.{records_aside, DifferAt}
 use Rattle.dns_update.specs.Touched.{AreTouched}

@@ -1,4 +1,4 @@
-use Rattle.dns_wire.proofs.ItemsShown.{long_number_is}
+use Rattle.dns_wire.proofs.ResourceRecordsShown.{long_number_is}
 use Rattle.dns_wire.proofs.fields.long_number.Goals as goal
 
 pub returns : goal.returns

@@ -7,7 +7,7 @@ use Rattle.dns_zone.proofs.Uncut.{under_itself, under_above}
 use Rattle.dns_zone.proofs.lookup.closest_encloser.Goals as goal
 
 pub ancestors-init : goal.ancestors-init
-ancestors-init c = record { above = under_itself c.args.name.now c.again-here.result c.again-here.ensures; same = ap (encloser c.args.records.now) c.again-here.ensures }
+ancestors-init c = record { above = under_itself c.args.name.now c.reborrow-here.result c.reborrow-here.ensures; same = ap (encloser c.args.records.now) c.reborrow-here.ensures }
 
 pub ancestors-preserved : goal.ancestors-preserved
 ancestors-preserved c =

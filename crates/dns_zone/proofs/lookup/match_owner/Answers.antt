@@ -9,8 +9,8 @@ returns-then-is_cut c =
     let z : Zone = record { apex = c.args.apex.now; records = c.args.records.now } in
     let cuts = sym c.if-is_cut.true ∙ c.is_cut.ensures c.args.records.now c.requires.order c.records_from-owned.ensures in
     record {
-      cut = c.in_default.ensures.none ∙ ap (λ b. cond b (Some c.args.name.now) None) (sym cuts) ∙ ap (λ n. Some n) (sym c.again.ensures);
-      owned = c.records_from-owned.ensures ∙ ap (records_at c.args.records.now) (sym c.again.ensures);
+      cut = c.in_default.ensures.none ∙ ap (λ b. cond b (Some c.args.name.now) None) (sym cuts) ∙ ap (λ n. Some n) (sym c.reborrow.ensures);
+      owned = c.records_from-owned.ensures ∙ ap (records_at c.args.records.now) (sym c.reborrow.ensures);
     }
 
 pub returns : goal.returns

@@ -7,14 +7,14 @@ use Rattle.dns_zone.proofs.lookup.wildcard_near.Goals as goal
 pub records_from-requires-clause-place : goal.records_from-requires-clause-place
 records_from-requires-clause-place c =
     let place = c.count_before-place in
-    place_from c.over-source.result c.again.result c.args.records.now place.result c.again.ensures place.ensures.bound place.ensures.before place.ensures.behind
+    place_from c.over-source.result c.reborrow.result c.args.records.now place.result c.reborrow.ensures place.ensures.bound place.ensures.before place.ensures.behind
 
 pub returns-then-is_owned_at-clause-found : goal.returns-then-is_owned_at-clause-found
 returns-then-is_owned_at-clause-found c =
     let records = c.args.records.now in
     let source : c.over-source.result ≡ wildcard c.args.above.now = c.over-source.ensures ∙ ap labels_of c.as_slice.ensures.value ∙ c.starred-octets.ensures.labels in
     let place = c.count_before-place in
-    let tells = place_tells records c.over-source.result place.result c.requires.order (place_from c.over-source.result c.again.result records place.result c.again.ensures place.ensures.bound place.ensures.before place.ensures.behind) in
+    let tells = place_tells records c.over-source.result place.result c.requires.order (place_from c.over-source.result c.reborrow.result records place.result c.reborrow.ensures place.ensures.bound place.ensures.before place.ensures.behind) in
     (ap (exists records) (sym source) ∙ sym tells ∙ sym c.if-is_owned_at.ensures, c.records_from.ensures ∙ ap (records_at records) source)
 
 pub returns-clause-none : goal.returns-clause-none
@@ -22,5 +22,5 @@ returns-clause-none c =
     let records = c.args.records.now in
     let source : c.over-source.result ≡ wildcard c.args.above.now = c.over-source.ensures ∙ ap labels_of c.as_slice.ensures.value ∙ c.starred-octets.ensures.labels in
     let place = c.count_before-place in
-    let tells = place_tells records c.over-source.result place.result c.requires.order (place_from c.over-source.result c.again.result records place.result c.again.ensures place.ensures.bound place.ensures.before place.ensures.behind) in
+    let tells = place_tells records c.over-source.result place.result c.requires.order (place_from c.over-source.result c.reborrow.result records place.result c.reborrow.ensures place.ensures.bound place.ensures.before place.ensures.behind) in
     ap (exists records) (sym source) ∙ sym tells ∙ sym c.if-is_owned_at.ensures

@@ -1,7 +1,7 @@
 use Rattle.std.proofs.Common.{ap, ◌∙◌}
 use Rattle.dns_wire.specs.Message.{Message}
 use Rattle.dns_wire.specs.Received.{received}
-use Rattle.dns_wire.proofs.ItemsShown.{left_is, items_within, section, message_of_view}
+use Rattle.dns_wire.proofs.ResourceRecordsShown.{left_is, items_within, section, message_of_view}
 use Rattle.dns_wire.proofs.Shown.{behind_header}
 use Rattle.dns_wire.proofs.message.Message.authorities.Goals as goal
 

@@ -1,10 +1,10 @@
 use Rattle.std.proofs.Common.{◌≡◌, ◌≤◌, ◌+◌, ◌-◌, ◌∷◌, [], ℕ, List, length, refl, sym, ap, subst, ◌∙◌, arith}
-use Rattle.dns_wire.specs.Message.{Item}
-use Rattle.dns_wire.specs.Viewed.{AreItemsLeft, item_shown, items_left}
-use Rattle.dns_wire.proofs.ItemsShown.{left_is, next_item, owner_place, next_end, item_is_shown}
+use Rattle.dns_wire.specs.Message.{ResourceRecord}
+use Rattle.dns_wire.specs.Viewed.{AreResourceRecordsLeft, item_shown, items_left}
+use Rattle.dns_wire.proofs.ResourceRecordsShown.{left_is, next_item, owner_place, next_end, item_is_shown}
 use Rattle.dns_wire.proofs.record_view.Section.next.Goals as goal
 
-none : (xs : List Item) → length xs ≡ 0 → xs ≡ []
+none : (xs : List ResourceRecord) → length xs ≡ 0 → xs ≡ []
 none [] e = refl
 none (x ∷ xs) e = absurd (omega (arith, e))
 
@@ -41,7 +41,7 @@ invariant_of-self c =
     let n = next_item s.message.now s.next s.left c.self.invariant c.if-self-eq0.false in
     let f = c.in-Ok.ensures.found in
     let e = next_end s.message.now s.next n.item n.mid n.stands f.0 c.in-Ok.behind_owner c.number-size.result f.1 c.number-size.ensures in
-    subst (λ (k : ℕ). AreItemsLeft s.message.now k (s.left - 1)) e.end n.behind
+    subst (λ (k : ℕ). AreResourceRecordsLeft s.message.now k (s.left - 1)) e.end n.behind
 
 pub returns-clause-some : goal.returns-clause-some
 returns-clause-some c =
@@ -52,4 +52,4 @@ returns-clause-some c =
     let e = next_end m s.next n.item n.mid n.stands f.0 c.in-Ok.behind_owner c.number-size.result f.1 c.number-size.ensures in
     let shown : n.item ≡ item_shown m s.next c.in-Ok.behind_owner = sym (item_is_shown m s.next n.item n.mid n.stands) ∙ ap (item_shown m s.next) e.place in
     let rest : n.rest ≡ items_left m (c.in-Ok.behind_owner + 10 + c.number-size.result) (s.left - 1) = sym (left_is m n.mid (s.left - 1) n.behind ∙ n.left) ∙ ap (λ (k : ℕ). items_left m k (s.left - 1)) e.end in
-    sym c.self.view_is ∙ left_is m s.next s.left c.self.invariant ∙ n.is ∙ ap (λ (r : Item). r ∷ n.rest) shown ∙ ap (λ (xs : List Item). item_shown m s.next c.in-Ok.behind_owner ∷ xs) rest
+    sym c.self.view_is ∙ left_is m s.next s.left c.self.invariant ∙ n.is ∙ ap (λ (r : ResourceRecord). r ∷ n.rest) shown ∙ ap (λ (xs : List ResourceRecord). item_shown m s.next c.in-Ok.behind_owner ∷ xs) rest

@@ -1,8 +1,8 @@
 use Rattle.std.proofs.Common.{◌≡◌, ◌≤◌, ◌<◌, ◌+◌, ◌++◌, List, ℕ, length, sym, ap, subst, ◌∙◌, arith}
-use Rattle.dns_wire.specs.Pack.{Packing}
+use Rattle.dns_wire.specs.Compress.{Compressing}
 use Rattle.dns_wire.specs.Text.{text}
 use Rattle.dns_wire.specs.Reply.{stated}
-use Rattle.dns_wire.specs.Puts.{RefusesUpTo, packed_all}
+use Rattle.dns_wire.specs.Puts.{RefusesUpTo, compressed_all}
 use Rattle.dns_wire.proofs.Exits.{err_exit}
 use Rattle.dns_wire.proofs.TextPut.{text_long, first_refused, second_refused, third_refused, Begun, begun, Answered, answered, Authorised, authorised, whole_text}
 use Rattle.dns_wire.proofs.writer.Writer.write.Goals as goal
@@ -28,15 +28,15 @@ two : (c : In_ok-put_records) → Begun (stated c.args.reply.now) c.put_question
 two c h =
     let q = c.put_question.new.self in
     let w = c.in_ok-put_records.ensures.written in
-    let same = ap (packed_all q.places.items (length q.octets.items)) c.as_slice.ensures.value in
-    answered (stated c.args.reply.now) q.octets.items c.put_records.new.self.octets.items q.places.items c.put_records.new.self.places.items h (w.octets ∙ ap (λ (p : Packing). q.octets.items ++ p.octets) same) (w.places ∙ ap (λ (p : Packing). p.places) same)
+    let same = ap (compressed_all q.places.items (length q.octets.items)) c.as_slice.ensures.value in
+    answered (stated c.args.reply.now) q.octets.items c.put_records.new.self.octets.items q.places.items c.put_records.new.self.places.items h (w.octets ∙ ap (λ (p : Compressing). q.octets.items ++ p.octets) same) (w.places ∙ ap (λ (p : Compressing). p.places) same)
 
 three : (c : In_ok-put_records-2) → Answered (stated c.args.reply.now) c.put_records.new.self.octets.items c.put_records.new.self.places.items → Authorised (stated c.args.reply.now) c.put_records-2.new.self.octets.items c.put_records-2.new.self.places.items
 three c h =
     let q = c.put_records.new.self in
     let w = c.in_ok-put_records-2.ensures.written in
-    let same = ap (packed_all q.places.items (length q.octets.items)) c.as_slice-2.ensures.value in
-    authorised (stated c.args.reply.now) q.octets.items c.put_records-2.new.self.octets.items q.places.items c.put_records-2.new.self.places.items h (w.octets ∙ ap (λ (p : Packing). q.octets.items ++ p.octets) same) (w.places ∙ ap (λ (p : Packing). p.places) same)
+    let same = ap (compressed_all q.places.items (length q.octets.items)) c.as_slice-2.ensures.value in
+    authorised (stated c.args.reply.now) q.octets.items c.put_records-2.new.self.octets.items q.places.items c.put_records-2.new.self.places.items h (w.octets ∙ ap (λ (p : Compressing). q.octets.items ++ p.octets) same) (w.places ∙ ap (λ (p : Compressing). p.places) same)
 
 pub returns-in_err-put_records-clause-refused : goal.returns-in_err-put_records-clause-refused
 returns-in_err-put_records-clause-refused c =
@@ -76,7 +76,7 @@ returns-clause-found c =
     let h = three at.In_ok-put_records-2 (two at.In_ok-put_records (one at.In_ok-put_question)) in
     let w = c.in_ok-put_records-3.ensures.written in
     let limit : q.limit ≡ c.args.limit = c.in_ok-put_records-2.ensures.written.same ∙ c.in_ok-put_records.ensures.written.same ∙ c.in_ok-put_question.ensures.written.same ∙ c.in_ok-put.ensures.written.same in
-    let same = ap (packed_all q.places.items (length q.octets.items)) c.as_slice-3.ensures.value in (
-      whole_text r q.octets.items c.put_records-3.new.self.octets.items q.places.items h (w.octets ∙ ap (λ (p : Packing). q.octets.items ++ p.octets) same),
+    let same = ap (compressed_all q.places.items (length q.octets.items)) c.as_slice-3.ensures.value in (
+      whole_text r q.octets.items c.put_records-3.new.self.octets.items q.places.items h (w.octets ∙ ap (λ (p : Compressing). q.octets.items ++ p.octets) same),
       subst (λ (k : ℕ). length c.put_records-3.new.self.octets.items ≤ k) limit w.fits,
     )

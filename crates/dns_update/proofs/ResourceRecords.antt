@@ -1,0 +1,68 @@
+-- Tests of items and records.
+use Rattle.std.proofs.Common.{◌≡◌, ℕ, zero, suc, ◌+◌, ◌<◌, true, false, ◌&&◌, List, [], ◌∷◌, Option, Some, None, length, drop, get_or, refl, subst, sym, ap, ◌∙◌, arith}
+use Rattle.std.specs.Prelude.{is_some, ◌==◌}
+use Rattle.std.specs.List.{AllByRecursion, list_any, find}
+use Rattle.std.specs.Ordering.{is_eq}
+use Rattle.dns_names.specs.Name.{names_eq}
+use Rattle.dns_records.specs.Record.{Record, record_cmp}
+use Rattle.dns_zone.specs.Records.{alike, has, rrset}
+use Rattle.dns_zone.specs.Order.{both_true, names_same, names_itself, number_itself}
+use Rattle.dns_zone.specs.Twice.{alike_is, any_by}
+use Rattle.dns_changes.proofs.Steps.{tied_here}
+use Rattle.dns_wire.specs.Message.{ResourceRecord}
+use Rattle.dns_update.specs.ResourceRecord.{HasForm, first_fault, otherwise}
+use Rattle.dns_wire.specs.declared.codes.Rcode.{Rcode}
+use Rattle.dns_zone.proofs.Kept.{find_kept, numbers_same}
+
+-- one of the RRset is alike exactly where one of the zone is
+pub alike_here : (r : Record) (xs : List Record) → list_any (alike r) (rrset xs r.owner r.rtype) ≡ has r xs
+alike_here r xs = any_by (alike r) (λ s. is_eq (record_cmp r s)) (λ s. sym (alike_is r s)) (rrset xs r.owner r.rtype) ∙ tied_here r xs
+
+pub found_here : (r : Record) (xs : List Record) → find (alike r) (rrset xs r.owner r.rtype) ≡ find (alike r) xs
+found_here r xs = find_kept (alike r) (λ s. names_eq s.owner r.owner && s.rtype == r.rtype) xs
+    (λ s e. (let two = both_true (names_eq r.owner s.owner && r.rtype == s.rtype) _ e in
+    let three = both_true (names_eq r.owner s.owner) (r.rtype == s.rtype) two.0 in
+    let owner = names_same r.owner s.owner three.0 in
+    let rtype = numbers_same r.rtype s.rtype three.1 in
+    (λ i. names_eq (sym owner i) r.owner && (sym rtype i == r.rtype)) ∙ (λ i. names_itself r.owner i && number_itself r.rtype i)))
+
+-- ---- the first fault of items
+next_at : (xs : List ResourceRecord) (i : ℕ) (r : ResourceRecord) → i < length xs → r ≡ get_or xs i r → drop i xs ≡ r ∷ drop (i + 1) xs
+next_at [] i r lt is = absurd (omega arith)
+next_at (x ∷ xs) zero r lt is = ap (λ (y : ResourceRecord). y ∷ xs) (sym is)
+next_at (x ∷ xs) (suc i) r lt is =
+    let next : suc i + 1 ≡ suc (i + 1) = omega arith in
+    next_at xs i r (omega arith) is ∙ ap (λ (n : ℕ). r ∷ drop n (x ∷ xs)) (sym next)
+
+pub fault_at : (fault : ResourceRecord → Option Rcode) (xs : List ResourceRecord) (i : ℕ) (r : ResourceRecord) → i < length xs → r ≡ get_or xs i r → first_fault fault (drop i xs) ≡ otherwise (fault r) (first_fault fault (drop (i + 1) xs))
+fault_at fault xs i r lt is = ap (first_fault fault) (next_at xs i r lt is)
+
+stops : (o x : Option Rcode) → is_some o ≡ true → otherwise o x ≡ o
+stops (Some rcode) x e = refl
+stops None x e = absurd cc
+
+goes_on : (o x : Option Rcode) → is_some o ≡ false → otherwise o x ≡ x
+goes_on (Some rcode) x e = absurd cc
+goes_on None x e = refl
+
+-- the item at a place fails, and none before it did
+pub fault_stops : (fault : ResourceRecord → Option Rcode) (xs : List ResourceRecord) (i : ℕ) (r : ResourceRecord) (o : Option Rcode) → i < length xs → r ≡ get_or xs i r → o ≡ fault r → is_some o ≡ true → first_fault fault xs ≡ first_fault fault (drop i xs) → o ≡ first_fault fault xs
+fault_stops fault xs i r o lt is e some h = sym (h ∙ fault_at fault xs i r lt is ∙ ap (λ (x : Option Rcode). otherwise x (first_fault fault (drop (i + 1) xs))) (sym e) ∙ stops o _ some)
+
+pub fault_passes : (fault : ResourceRecord → Option Rcode) (xs : List ResourceRecord) (i : ℕ) (r : ResourceRecord) (o : Option Rcode) → i < length xs → r ≡ get_or xs i r → o ≡ fault r → is_some o ≡ false → first_fault fault xs ≡ first_fault fault (drop i xs) → first_fault fault xs ≡ first_fault fault (drop (i + 1) xs)
+fault_passes fault xs i r o lt is e none h = h ∙ fault_at fault xs i r lt is ∙ ap (λ (x : Option Rcode). otherwise x (first_fault fault (drop (i + 1) xs))) (sym e) ∙ goes_on o _ none
+
+-- ---- items that all pass
+pub no_fault : (a b : Option Rcode) → otherwise a b ≡ None → (a ≡ None) × (b ≡ None)
+no_fault (Some rcode) b e = absurd cc
+no_fault None b e = (refl, e)
+
+pub passes_at : (fault : ResourceRecord → Option Rcode) (xs : List ResourceRecord) (i : ℕ) (r : ResourceRecord) → first_fault fault xs ≡ None → i < length xs → r ≡ get_or xs i r → fault r ≡ None
+passes_at fault [] i r e lt is = absurd (omega arith)
+passes_at fault (x ∷ xs) zero r e lt is = ap fault is ∙ (no_fault (fault x) (first_fault fault xs) e).0
+passes_at fault (x ∷ xs) (suc i) r e lt is = passes_at fault xs i r (no_fault (fault x) (first_fault fault xs) e).1 (omega arith) is
+
+pub form_at : (xs : List ResourceRecord) (i : ℕ) (r : ResourceRecord) → AllByRecursion HasForm xs → i < length xs → r ≡ get_or xs i r → HasForm r
+form_at [] i r h lt is = absurd (omega arith)
+form_at (x ∷ xs) zero r h lt is = subst HasForm (sym is) h.0
+form_at (x ∷ xs) (suc i) r h lt is = form_at xs i r h.1 (omega arith) is
