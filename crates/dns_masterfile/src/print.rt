@@ -7,6 +7,7 @@ ghost use Rattle.dns_masterfile.specs.Opaque.{hex_octet, opaque_words};
 ghost use Rattle.dns_masterfile.specs.Printed.{spaced, printed_data, printed_record};
 ghost use Rattle.dns_names.specs.Text.{printed_name};
 
+use dns_names::EscapedOctet;
 use dns_policy::print_address;
 use dns_records::{Mx, RData, Record, Soa, Srv, Strings, types};
 use std::fmt;
@@ -24,12 +25,7 @@ impl fmt::Display for QuotedOctet {
         match octet {
             b'"' | b'\\' => write!(f, "\\{}", octet as char),
             32..=126 => write!(f, "{}", octet as char),
-            _ => {
-                let hundreds = (b'0' + octet / 100) as char;
-                let tens = (b'0' + octet / 10 % 10) as char;
-                let ones = (b'0' + octet % 10) as char;
-                write!(f, "\\{hundreds}{tens}{ones}")
-            }
+            _ => write!(f, "{}", EscapedOctet(octet)),
         }
     }
 }

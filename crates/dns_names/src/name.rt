@@ -2,9 +2,9 @@
 ghost use Rattle.std.specs.Prelude.{◌≡◌, ℕ, ◌+◌, ◌≤◌, List, length, map, take, slice_get, Some, None, IfOk, IfErr, IsTrue, ◌↔◌, [], Ok, Err, ◌⊎◌, MatchResult};
 ghost use Rattle.dns_names.specs.Text.{name_of_text, printed_name};
 ghost use Rattle.std.specs.Char.{to_ascii_lowercase};
-ghost use Rattle.dns_names.specs.Name.{Labels, IsName, IsUnder, wire, parent, wildcard, name_cmp};
+ghost use Rattle.dns_names.specs.Name.{Labels, IsName, IsUnder, wire, parent, wildcard, name_cmp, names_eq};
 ghost use Rattle.dns_names.specs.Octets.{LabelsAt, Explains};
-ghost use Rattle.dns_names.specs.Compare.{same_labels, same_labels-per, same_labels-equiv, name_cmp-total, name_cmp-ties, name_cmp-po};
+ghost use Rattle.dns_names.specs.Compare.{names_eq-per, names_eq-equiv, name_cmp-total, name_cmp-ties, name_cmp-po};
 ghost use Rattle.std.specs.Ordering.{as_partial_cmp};
 ghost use Rattle.std.specs.Prelude.{refl};
 
@@ -220,12 +220,12 @@ impl Clone for Name {
 }
 
 impl PartialEq for Name {
-    ghost eq = { same_labels };
+    ghost eq = { names_eq };
 
-    ghost laws = { same_labels-per };
+    ghost laws = { names_eq-per };
 
     fn eq(&self, other: &Self) -> bool
-        ensures value { result ≡ same_labels self.now other.now }
+        ensures value { result ≡ names_eq self.now other.now }
         ensures same { IsTrue result ↔ (self.now ≡ other.now) }
     {
         self.octets.as_slice() == other.octets.as_slice()
@@ -233,7 +233,7 @@ impl PartialEq for Name {
 }
 
 impl Eq for Name {
-    ghost laws = { same_labels-equiv };
+    ghost laws = { names_eq-equiv };
 }
 
 impl PartialOrd for Name {

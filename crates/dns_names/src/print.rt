@@ -1,9 +1,25 @@
 //! Names in print.
 ghost use Rattle.std.specs.Prelude.{Some};
-ghost use Rattle.dns_names.specs.Text.{printed_octet, printed_label, printed_name};
+ghost use Rattle.dns_names.specs.Text.{escaped, printed_octet, printed_label, printed_name};
 
 use crate::{Name, NameRef, labels};
 use std::fmt;
+
+/// An octet as `\DDD`: its number in three decimal digits behind a `\` (RFC 1035 section 5.1).
+#[derive(Drop)]
+pub struct EscapedOctet(pub u8);
+
+impl fmt::Display for EscapedOctet {
+    ghost output = { λ o. Some (escaped o.0) };
+
+    fn fmt<W: fmt::Write>(&self, f: &mut fmt::Formatter<W>) -> fmt::Result {
+        let octet = self.0;
+        let hundreds = (b'0' + octet / 100) as char;
+        let tens = (b'0' + octet / 10 % 10) as char;
+        let ones = (b'0' + octet % 10) as char;
+        write!(f, "\\{hundreds}{tens}{ones}")
+    }
+}
 
 /// An octet of a label: what has a meaning of its own stands behind a `\`, and what is no visible ASCII is `\DDD`.
 #[derive(Drop)]
@@ -19,12 +35,7 @@ impl fmt::Display for PrintedOctet {
                 write!(f, "\\{}", octet as char)
             }
             33..=126 => write!(f, "{}", octet as char),
-            _ => {
-                let hundreds = (b'0' + octet / 100) as char;
-                let tens = (b'0' + octet / 10 % 10) as char;
-                let ones = (b'0' + octet % 10) as char;
-                write!(f, "\\{hundreds}{tens}{ones}")
-            }
+            _ => write!(f, "{}", EscapedOctet(octet)),
         }
     }
 }
@@ -71,12 +82,16 @@ impl fmt::Display for Name {
 }
 
 impl fmt::Debug for NameRef<'_> {
+    ghost debug_output = { λ name. Some (printed_name name) };
+
     fn fmt<W: fmt::Write>(&self, f: &mut fmt::Formatter<W>) -> fmt::Result {
         write!(f, "{}", self)
     }
 }
 
 impl fmt::Debug for Name {
+    ghost debug_output = { λ name. Some (printed_name name) };
+
     fn fmt<W: fmt::Write>(&self, f: &mut fmt::Formatter<W>) -> fmt::Result {
         write!(f, "{}", self.lend())
     }

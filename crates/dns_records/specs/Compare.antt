@@ -7,8 +7,8 @@ use Rattle.std.specs.declared.cmp.Ordering.{Ordering}
 use Rattle.std.specs.Cmp.{IsPartialEquivalence, IsEquivalence, IsPartialOrder, IsTotalOrder, partial_equiv_from_equiv, and_equiv, on_equiv, nat_eq_equiv, po, on_total, then_total, nat_cmp_total, unsigned_ties, both_tied, first_so, second_so}
 use borrow.Author.Tests.{eqb-true}
 use Rattle.std.specs.Cmp.Lexicographic.{pointwise, slice_cmp, bytes_decides, nat_list_cmp_total, nat_list_eq_equiv, texts_ties}
-use Rattle.dns_names.specs.Name.{Labels}
-use Rattle.dns_names.specs.Compare.{same_labels, same_labels-Decides, same_labels-equiv}
+use Rattle.dns_names.specs.Name.{Labels, names_eq}
+use Rattle.dns_names.specs.Compare.{names_eq-Decides, names_eq-equiv}
 use Rattle.dns_records.specs.Record.{Data, Record, data_of}
 
 -- Whether two data are the same.
@@ -21,7 +21,7 @@ data_cmp a b = ordering_then (nat_cmp a.rtype b.rtype) (slice_cmp nat_cmp a.octe
 
 -- Whether two records are the same, with their TTLs.
 abbrev pub same_record : Record → Record → Bool
-same_record a b = same_labels a.owner b.owner && a.ttl == b.ttl && same_data (data_of a) (data_of b)
+same_record a b = names_eq a.owner b.owner && a.ttl == b.ttl && same_data (data_of a) (data_of b)
 
 pub same_data-equiv : IsEquivalence same_data
 same_data-equiv = and_equiv (on_equiv (λ (d : Data). d.rtype) nat_eq_equiv) (on_equiv (λ (d : Data). d.octets) nat_list_eq_equiv)
@@ -53,7 +53,7 @@ data_cmp-po = po data_cmp-total data_cmp-ties
 
 pub same_record-equiv : IsEquivalence same_record
 same_record-equiv =
-    and_equiv (and_equiv (on_equiv (λ (r : Record). r.owner) same_labels-equiv) (on_equiv (λ (r : Record). r.ttl) nat_eq_equiv))
+    and_equiv (and_equiv (on_equiv (λ (r : Record). r.owner) names_eq-equiv) (on_equiv (λ (r : Record). r.ttl) nat_eq_equiv))
     (on_equiv (λ (r : Record). data_of r) same_data-equiv)
 
 pub same_record-per : IsPartialEquivalence same_record
@@ -65,9 +65,9 @@ joined owner ttl d = record { owner = owner; rtype = d.rtype; ttl = ttl; rdata =
 pub same_record-Decides : (a b : Record) → Decides (same_record a b) (a ≡ b)
 same_record-Decides a b = (
   λ t.
-      let front = first_so (same_labels a.owner b.owner && a.ttl == b.ttl) (same_data (data_of a) (data_of b)) t in
-      ap (λ (n : Labels). joined n a.ttl (data_of a)) ((same_labels-Decides a.owner b.owner).0 (first_so (same_labels a.owner b.owner) (a.ttl == b.ttl) front))
-      ∙ ap (λ (k : ℕ). joined b.owner k (data_of a)) (eqb-true a.ttl b.ttl (second_so (same_labels a.owner b.owner) (a.ttl == b.ttl) front))
-      ∙ ap (joined b.owner b.ttl) ((same_data-Decides (data_of a) (data_of b)).0 (second_so (same_labels a.owner b.owner && a.ttl == b.ttl) (same_data (data_of a) (data_of b)) t)),
+      let front = first_so (names_eq a.owner b.owner && a.ttl == b.ttl) (same_data (data_of a) (data_of b)) t in
+      ap (λ (n : Labels). joined n a.ttl (data_of a)) ((names_eq-Decides a.owner b.owner).0 (first_so (names_eq a.owner b.owner) (a.ttl == b.ttl) front))
+      ∙ ap (λ (k : ℕ). joined b.owner k (data_of a)) (eqb-true a.ttl b.ttl (second_so (names_eq a.owner b.owner) (a.ttl == b.ttl) front))
+      ∙ ap (joined b.owner b.ttl) ((same_data-Decides (data_of a) (data_of b)).0 (second_so (names_eq a.owner b.owner && a.ttl == b.ttl) (same_data (data_of a) (data_of b)) t)),
   λ e. ap (same_record a) (sym e) ∙ same_record-equiv.refl a,
 )

@@ -8,7 +8,7 @@ use Rattle.std.proofs.lemmas.List.{length-map}
 use Rattle.std.proofs.lemmas.List.Folds.{Any-from_list_any}
 use Rattle.std.proofs.lemmas.Result.{err_from_is_err_and}
 use Rattle.std.specs.Result.{IsErrAnd}
-use Rattle.dns_names.specs.Compare.{same_labels}
+use Rattle.dns_names.specs.Name.{names_eq}
 use Rattle.dns_names.specs.Text.{name_of_text}
 use Rattle.std.specs.Str.{IsUtf8}
 use Rattle.std.specs.declared.net.ip_addr.IpAddr.{IpAddr}
@@ -145,7 +145,7 @@ same_zone d z w h k = (names h.origin.text k.origin.text h.origin.stands k.origi
     devices a b = cc
 
 alike_too : (z u w v : ZoneSettings) → z.origin ≡ w.origin → string_bytes z.device ≡ string_bytes w.device → u.origin ≡ v.origin → string_bytes u.device ≡ string_bytes v.device → are_alike z u ≡ are_alike w v
-alike_too z u w v a b c d = (λ i. same_labels (a i) (c i) || bytes_eq (b i) (d i))
+alike_too z u w v a b c d = (λ i. names_eq (a i) (c i) || bytes_eq (b i) (d i))
 
 -- Sixteen zones before a further one are too many.
 pub too_many : (tables : List Value) (i : ℕ) (zs ws : List ZoneSettings) → i < length tables → AllZip IsSettings (map view (take i tables)) zs → length zs ≡ 16 → AreSettings (map view tables) ws → ⊥

@@ -12,7 +12,7 @@ use Rattle.std.specs.declared.net.ip_addr.IpAddr.{IpAddr}
 use Rattle.std.specs.declared.net.ip_addr.IpAddr.TheVariants.{V4, V6}
 use Rattle.std.specs.declared.net.socket_addr.SocketAddr.{SocketAddr}
 use Rattle.dns_names.specs.Name.{Labels}
-use Rattle.dns_names.specs.Compare.{same_labels}
+use Rattle.dns_names.specs.Name.{names_eq}
 use Rattle.dns_names.specs.Text.{name_of_text}
 use Rattle.dns_policy.specs.Address.{IsAddress}
 use Rattle.dns_policy.specs.Prefix.{IsPrefix}
@@ -56,7 +56,7 @@ HasCounts z = AreCounts z.snapshot_sectors z.journal_sectors z.keep
 
 -- Two zones have one apex or one device.
 abbrev pub are_alike : ZoneSettings → ZoneSettings → Bool
-are_alike z other = same_labels z.origin other.origin || bytes_eq (string_bytes z.device) (string_bytes other.device)
+are_alike z other = names_eq z.origin other.origin || bytes_eq (string_bytes z.device) (string_bytes other.device)
 
 abbrev pub AreApart : ZoneSettings → ZoneSettings → Type 0
 AreApart z other = are_alike z other ≡ false

@@ -8,7 +8,7 @@ use Rattle.std.proofs.lemmas.List.Kept.{IsStrictlySortedBy-dedup, Contains-dedup
 use Rattle.std.proofs.lemmas.List.Sorted.{Contains-permutation}
 use Rattle.std.proofs.lemmas.Map.Views.{list_any-from_Contains}
 use Rattle.dns_names.specs.Name.{Labels, names_eq, name_cmp}
-use Rattle.dns_names.specs.Compare.{name_cmp-total, name_cmp-ties, same_labels, same_labels-Decides, same_labels-equiv}
+use Rattle.dns_names.specs.Compare.{name_cmp-total, name_cmp-ties, names_eq-Decides, names_eq-equiv}
 use Rattle.dns_zone.specs.Order.{names_same, names_itself}
 use Rattle.dns_wire.specs.Message.{ResourceRecord}
 use Rattle.dns_update.specs.Touched.{AreTouched}
@@ -32,7 +32,7 @@ each_owner : (names : List Labels) (items : List ResourceRecord) → ((n : Label
 each_owner names [] h = tt
 each_owner names (i ∷ rest) h = (h i.owner (first_in i.owner (map (λ j. j.owner) rest)), each_owner names rest (λ n c. h n (later_in i.owner n (map (λ j. j.owner) rest) c)))
 
-pub touched_by : (apex : Labels) (items : List ResourceRecord) (xs ys zs : List Labels) → xs ≡ apex ∷ map (λ i. i.owner) items → IsPermutation xs ys → IsSorted name_cmp ys → zs ≡ dedup same_labels ys → AreTouched apex items zs
+pub touched_by : (apex : Labels) (items : List ResourceRecord) (xs ys zs : List Labels) → xs ≡ apex ∷ map (λ i. i.owner) items → IsPermutation xs ys → IsSorted name_cmp ys → zs ≡ dedup names_eq ys → AreTouched apex items zs
 touched_by apex items xs ys zs is p s e = record {
   rise = subst (IsStrictlySortedBy name_cmp) (sym e) (IsStrictlySortedBy-dedup name_cmp-total name_cmp-ties ys s);
   top = among apex (first_in apex (map (λ i. i.owner) items));
@@ -42,5 +42,5 @@ touched_by apex items xs ys zs is p s e = record {
     among : (n : Labels) → Contains (apex ∷ map (λ i. i.owner) items) n → list_any (names_eq n) zs ≡ true
     among n c =
         (let there : Contains xs n = subst (λ (ks : List Labels). Contains ks n) (sym is) c in
-        let kept = Contains-dedup same_labels-equiv (λ a b. (same_labels-Decides a b).0) ys n (Contains-permutation xs ys n p there) in
+        let kept = Contains-dedup names_eq-equiv (λ a b. (names_eq-Decides a b).0) ys n (Contains-permutation xs ys n p there) in
         list_any-from_Contains names_equiv n zs (subst (λ (ks : List Labels). Contains ks n) (sym e) kept))

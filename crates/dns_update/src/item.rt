@@ -1,5 +1,5 @@
 //! A record of an update as it came, and the record of a zone that it names.
-ghost use Rattle.std.specs.Prelude.{◌≡◌, ◌<◌, ◌≤◌, ◌^◌, true, length, IfOk};
+ghost use Rattle.std.specs.Prelude.{◌≡◌, ◌<◌, ◌≤◌, ◌^◌, ◌⊎◌, true, length, IfOk};
 ghost use Rattle.std.specs.List.{find};
 ghost use Rattle.std.specs.Option.{option_copied};
 ghost use Rattle.dns_names.specs.Name.{names_eq, under};
@@ -159,7 +159,7 @@ fn refused_memory(error: RecordError, item: &ResourceRecord) -> AllocError
     requires rtype { is_data_type item.now.rtype ≡ true }
     requires short { length item.now.rdata ≤ 4096 }
     requires form { IsRData item.now.rtype item.now.rdata }
-    requires refused { RefusesData (data_of (as_record item.now)) error }
+    requires refused { (error ≡ RecordError.OutOfMemory) ⊎ RefusesData (data_of (as_record item.now)) error }
     ensures { error ≡ RecordError.OutOfMemory }
 {
     match error {

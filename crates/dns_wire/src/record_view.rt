@@ -1,5 +1,5 @@
 //! A record of a message: its fields, and the record that it is.
-ghost use Rattle.std.specs.Prelude.{◌≡◌, ◌+◌, ◌≤◌, [], ◌∷◌, ◌++◌, length, IfOk, IfErr, IfSome, IfNone};
+ghost use Rattle.std.specs.Prelude.{◌≡◌, ◌+◌, ◌≤◌, [], ◌∷◌, ◌++◌, ◌⊎◌, length, IfOk, IfErr, IfSome, IfNone};
 ghost use Rattle.dns_records.specs.Refusals.{RefusesData};
 ghost use Rattle.dns_wire.specs.Message.{record_of_item, data_of_item};
 
@@ -81,7 +81,7 @@ impl<'a> RecordView<'a> {
     /// The record of class IN with this owner, TTL, type and data, whatever the class here. It is refused as its data is.
     pub fn to_record(&self, alloc: Heap) -> Result<Record, RecordError>
         ensures found { IfOk result (λ r. r ≡ record_of_item self.now) }
-        ensures refused { IfErr result (RefusesData (data_of_item self.now)) }
+        ensures refused { IfErr result (λ e. (e ≡ RecordError.OutOfMemory) ⊎ RefusesData (data_of_item self.now) e) }
     {
         let owner = self.owner().to_name(alloc)?;
         let octets = self.rdata(alloc)?;
