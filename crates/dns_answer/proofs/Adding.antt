@@ -76,16 +76,6 @@ adds_then a b c xs ys one two =
           ∙ ap (λ (t : List Record). a.additional.items ++ t) (sym (unseen_append (stood a) xs ys));
     }
 
--- one record, by the test
-pub unseen_one : (s : List Record) (r : Record) → list_any (same r) s ≡ true → unseen s (r ∷ []) ≡ []
-unseen_one s r e = opened s r [] ∙ ap (λ (b : Bool). chosen b [] (r ∷ [])) e
-
-pub unseen_new : (s : List Record) (r : Record) → list_any (same r) s ≡ false → unseen s (r ∷ []) ≡ r ∷ []
-unseen_new s r e = opened s r [] ∙ ap (λ (b : Bool). chosen b [] (r ∷ [])) e
-
-pub stood_among : (s : Sections) (r : Record) → list_any (same r) (stood s) ≡ ((list_any (same r) s.answer.items || list_any (same r) s.authority.items) || list_any (same r) s.additional.items)
-stood_among s r = list_any-append (same r) (s.answer.items ++ s.authority.items) s.additional.items ∙ ap (λ (b : Bool). b || list_any (same r) s.additional.items) (list_any-append (same r) s.answer.items s.authority.items)
-
 -- a record of a zone as it is shown
 abbrev pub shown_in : Zone → Record → Shown
 shown_in z r = record { zone = z; shown = r }

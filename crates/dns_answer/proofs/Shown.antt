@@ -238,24 +238,6 @@ no_error kinds.Answers at other = refl
 no_error kinds.NoData at other = refl
 no_error kinds.NameError at other = absurd (other refl)
 
-abbrev pub authoritative_by : Outcome → Bool
-authoritative_by o = is_authoritative ((record { zone = record { apex = []; records = [] }; name = []; outcome = o }) ∷ [])
-
-pub first_authority : (zones : List Zone) (fs : List Found) (returned : List Represented) (one : Represented) → RepresentAll zones fs returned → Some one ≡ slice_get returned 0 → is_authoritative fs ≡ authoritative_by (outcome_of one.kind one.node)
-first_authority zones [] [] one are e = absurd cc
-first_authority zones [] (x ∷ returned) one are e = absurd are
-first_authority zones (f ∷ fs) [] one are e = absurd are
-first_authority zones (f ∷ fs) (x ∷ returned) one are e =
-    let same : x ≡ one = cc in
-    ap authoritative_by (represented_is f.outcome f.name x.kind x.node are.0.kind) ∙ ap (λ (y : Represented). authoritative_by (outcome_of y.kind y.node)) same
-
-pub is_authority : (kind : Kind) (at : Labels) → (kind ≡ kinds.Referral → ⊥) → authoritative_by (outcome_of kind at) ≡ true
-is_authority kinds.Referral at other = absurd (other refl)
-is_authority kinds.Alias at other = refl
-is_authority kinds.Answers at other = refl
-is_authority kinds.NoData at other = refl
-is_authority kinds.NameError at other = refl
-
 pub none_first : (zones : List Zone) (fs : List Found) (returned : List Represented) → RepresentAll zones fs returned → None ≡ slice_get returned 0 → fs ≡ []
 none_first zones [] returned are e = refl
 none_first zones (f ∷ fs) [] are e = absurd are

@@ -28,10 +28,6 @@ count_rises a b xs h =
 pub up_to_none : (most : ℕ) (s : Sections) → AddsUpTo most s s []
 up_to_none most s = record { first = []; rest = []; split = refl; added = adds_none s; stopped = inl refl; idle = λ h. refl }
 
--- nothing where there are more already
-pub up_to_over : (most : ℕ) (s : Sections) (xs : List Record) → most < count_of s → AddsUpTo most s s xs
-up_to_over most s xs over = record { first = []; rest = xs; split = refl; added = adds_none s; stopped = inr over; idle = λ h. refl }
-
 -- all, where there were not more
 pub up_to_all : (most : ℕ) (a b : Sections) (xs : List Record) → (most < count_of a → ⊥) → AddsUnseen a b xs → AddsUpTo most a b xs
 up_to_all most a b xs room h = record { first = xs; rest = []; split = sym (append-nil xs); added = h; stopped = inl refl; idle = λ over. absurd (room over) }

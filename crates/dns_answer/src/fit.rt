@@ -12,7 +12,7 @@ use dns_memory::Heap;
 use dns_records::types;
 use dns_request::Transport;
 use dns_wire::limits::{MOST_BY_TCP, MOST_BY_UDP};
-use dns_wire::{Rcode, Reply, ReplyRecord, WireError, Writer, one_compressed_text};
+use dns_wire::{Rcode, Reply, ReplyRecord, WriteError, Writer, one_compressed_text};
 use std::alloc::AllocError;
 
 /// The text of the reply, if it has at most so many octets.
@@ -28,11 +28,8 @@ fn text_within(
 {
     match Writer::write(alloc, reply, limit) {
         Ok(octets) => Ok(Some(octets)),
-        Err(error) => match error {
-            WireError::DoesNotFit => Ok(None),
-            WireError::OutOfMemory => Err(AllocError),
-            _ => unreachable!(),
-        },
+        Err(WriteError::DoesNotFit) => Ok(None),
+        Err(WriteError::OutOfMemory) => Err(AllocError),
     }
 }
 

@@ -95,9 +95,6 @@ pub record IsRead (behind : List ℕ) (rs : List Record) (rest : List ℕ) : Typ
   pub valid : AllByRecursion IsRecord rs
   pub stands : flat_map plain rs ++ rest ≡ behind
 
-pub read_more : (behind : List ℕ) (rs : List Record) (rest : List ℕ) (r : Record) (x : List ℕ) → IsRead behind rs rest → IsRecord r × (rest ≡ plain r ++ x) → IsRead behind (rs ++ r ∷ []) x
-read_more behind rs rest r x h g = record { valid = all_push rs r h.valid g.0; stands = flat_push rs r rest x g.1 ∙ h.stands }
-
 -- where a list is to be read one more record stands
 pub one_more : (octets behind : List ℕ) (n : ℕ) (rs : List Record) (rest : List ℕ) → (n < 2 ^ 32) × (octets ≡ to_be_bytes w32 n ++ behind) → IsRead behind rs rest → length rs < n
     → (ss : List Record) (x : List ℕ) → AllByRecursion IsRecord ss → length ss < 2 ^ 32 → octets ≡ counted ss ++ x → OneMore rest
@@ -105,12 +102,6 @@ one_more octets behind n rs rest count h less ss x valid few e =
     let both = count_first n ss behind x count.0 few (sym count.1 ∙ e) in
     let n_is : n ≡ length ss = both.0 in
     flat_more rs ss rest x h.valid valid (omega arith) (h.stands ∙ both.1)
-
-pub all_read : (octets behind : List ℕ) (n : ℕ) (rs : List Record) (rest : List ℕ) → octets ≡ to_be_bytes w32 n ++ behind → IsRead behind rs rest → length rs ≡ n → octets ≡ counted rs ++ rest
-all_read octets behind n rs rest e h size = e ∙ (λ i. to_be_bytes w32 (sym size i) ++ sym h.stands i) ∙ sym (counted_parts rs rest)
-
-pub none_counted : (octets : List ℕ) → length octets < 4 → (rs : List Record) (x : List ℕ) → octets ≡ counted rs ++ x → ⊥
-none_counted octets short rs x e = omega (arith, ap length (e ∙ counted_parts rs x))
 
 -- ---- the parts of an entry
 pub entry_parts : (c : Change) → entry c ≡ plain c.old_soa ++ (plain c.new_soa ++ (counted c.removed ++ counted c.added))

@@ -60,9 +60,6 @@ present_next xs r rest e =
     ∙ split_not (list_all (contains xs) rest) (list_any (alike r) rest) (has_twice rest)
     ∙ ap (λ b. b && not (has_twice rest)) (sym others)
 
-pub present_none : (xs : List Record) (r : Record) (rest : List Record) → contains xs r ≡ false → are_present xs (r ∷ rest) ≡ false
-present_none xs r rest e = ap (λ b. (b && list_all (contains xs) rest) && not (list_any (alike r) rest || has_twice rest)) e
-
 -- of a set the record itself alone ties with it
 tie_is_same : (r a : Record) (xs : List Record) → Sorted xs → contains xs r ≡ true → contains xs a ≡ true → same a r ≡ is_eq (record_cmp r a)
 tie_is_same r a xs h there present =
@@ -242,9 +239,6 @@ next_at (x ∷ xs) (suc i) r lt is =
 pub present_step : (cur next gone : List Record) (i : ℕ) (r : Record) → i < length gone → r ≡ get_or gone i r → contains cur r ≡ true → next ≡ without r cur → are_present next (drop (i + 1) gone) ≡ are_present cur (drop i gone)
 present_step cur next gone i r lt is there e = ap (λ ys. are_present ys (drop (i + 1) gone)) e ∙ sym (present_next cur r (drop (i + 1) gone) there) ∙ ap (are_present cur) (sym (next_at gone i r lt is))
 
-pub present_stop : (cur gone : List Record) (i : ℕ) (r : Record) → i < length gone → r ≡ get_or gone i r → contains cur r ≡ false → are_present cur (drop i gone) ≡ false
-present_stop cur gone i r lt is absent = ap (are_present cur) (next_at gone i r lt is) ∙ present_none cur r (drop (i + 1) gone) absent
-
 pub removed_step : (cur next gone : List Record) (i : ℕ) (r : Record) → is_ordered cur ≡ true → i < length gone → r ≡ get_or gone i r → contains cur r ≡ true → next ≡ without r cur → removed_from next (drop (i + 1) gone) ≡ removed_from cur (drop i gone)
 removed_step cur next gone i r h lt is there e = ap (λ ys. removed_from ys (drop (i + 1) gone)) e ∙ sym (removed_next cur r (drop (i + 1) gone) (sorted_from cur h) there) ∙ ap (removed_from cur) (sym (next_at gone i r lt is))
 
@@ -253,9 +247,6 @@ removed_end cur gone i past = ap (removed_from cur) (drop_all i gone past) ∙ r
 
 pub new_step : (cur next come : List Record) (i : ℕ) (r : Record) → i < length come → r ≡ get_or come i r → has r cur ≡ false → next ≡ put r cur → are_new next (drop (i + 1) come) ≡ are_new cur (drop i come)
 new_step cur next come i r lt is absent e = ap (λ ys. are_new ys (drop (i + 1) come)) e ∙ sym (new_next cur r (drop (i + 1) come) absent) ∙ ap (are_new cur) (sym (next_at come i r lt is))
-
-pub new_stop : (cur come : List Record) (i : ℕ) (r : Record) → i < length come → r ≡ get_or come i r → has r cur ≡ true → are_new cur (drop i come) ≡ false
-new_stop cur come i r lt is there = ap (are_new cur) (next_at come i r lt is) ∙ new_none cur r (drop (i + 1) come) there
 
 pub united_step : (cur next come : List Record) (i : ℕ) (r : Record) → is_ordered cur ≡ true → i < length come → r ≡ get_or come i r → next ≡ put r cur → are_new cur (drop i come) ≡ true → united next (drop (i + 1) come) ≡ united cur (drop i come)
 united_step cur next come i r h lt is e new =
@@ -267,16 +258,6 @@ pub removes_absent : (c : Change) (xs one : List Record) → contains xs c.old_s
 removes_absent c xs one present e f =
     let going : are_present xs (c.old_soa ∷ c.removed) ≡ false = present_next xs c.old_soa c.removed present ∙ ap (λ ys. are_present ys c.removed) (sym e) ∙ f in
     λ i. if not (present i) then Some WrongSoa else if not (going i) then Some RemovesAbsent else if not (are_new (removed_from xs (c.old_soa ∷ c.removed)) (c.new_soa ∷ c.added)) then Some AddsPresent else None
-
-pub adds_present : (c : Change) (xs left : List Record) → (contains xs c.old_soa ≡ true) × (are_present xs (c.old_soa ∷ c.removed) ≡ true) → left ≡ removed_from xs (c.old_soa ∷ c.removed) → are_new left (c.new_soa ∷ c.added) ≡ false → change_fault c xs ≡ Some AddsPresent
-adds_present c xs left present e f =
-    let coming : are_new (removed_from xs (c.old_soa ∷ c.removed)) (c.new_soa ∷ c.added) ≡ false = ap (λ ys. are_new ys (c.new_soa ∷ c.added)) (sym e) ∙ f in
-    λ i. if not (present.0 i) then Some WrongSoa else if not (present.1 i) then Some RemovesAbsent else if not (coming i) then Some AddsPresent else None
-
-pub change_fits : (c : Change) (xs left : List Record) → (contains xs c.old_soa ≡ true) × (are_present xs (c.old_soa ∷ c.removed) ≡ true) → left ≡ removed_from xs (c.old_soa ∷ c.removed) → are_new left (c.new_soa ∷ c.added) ≡ true → change_fault c xs ≡ None
-change_fits c xs left present e f =
-    let coming : are_new (removed_from xs (c.old_soa ∷ c.removed)) (c.new_soa ∷ c.added) ≡ true = ap (λ ys. are_new ys (c.new_soa ∷ c.added)) (sym e) ∙ f in
-    λ i. if not (present.0 i) then Some WrongSoa else if not (present.1 i) then Some RemovesAbsent else if not (coming i) then Some AddsPresent else None
 
 -- ---- one record and others
 pub present_both : (xs one : List Record) (r : Record) (rest : List Record) → contains xs r ≡ true → one ≡ without r xs → are_present xs (r ∷ rest) ≡ are_present one rest

@@ -139,9 +139,6 @@ module _ (before after : List Record) (c : Change) (hb : Sorted before) (ha : So
           let self : same a c.old_soa ≡ true = subst (λ r. same a r ≡ true) is (same_itself a) in
           ap (λ b. not (b || contains c.removed a)) self
 
-  combined : Record → Option Record → Option Record → Option Record
-  combined q x y = or_else (cond (ties q c.new_soa) (Some c.new_soa) (only comes x)) (only stays y)
-
   without_new : (q : Record) (x y : Option Record)
       → ties q c.new_soa ≡ false
       → or_else (cond (ties q c.new_soa) (Some c.new_soa) (only comes x)) (only stays y) ≡ or_else (only comes x) (only stays y)

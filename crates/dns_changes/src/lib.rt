@@ -12,20 +12,26 @@ pub mod laws;
 pub use change::Change;
 pub use entry::{plain_len, split_record};
 use std::alloc::AllocError;
+use thiserror::Error;
 
 /// Why a change can't be applied, or octets are none. Of the first three `WrongSoa` comes before `RemovesAbsent`, and that
 /// before `AddsPresent`.
-#[derive(Clone, Copy, Debug, PartialEq, Eq)]
+#[derive(Clone, Copy, Debug, Error, PartialEq, Eq)]
 pub enum ChangeError {
     /// Memory was refused.
+    #[error("memory was refused")]
     OutOfMemory,
     /// The SOA before the change isn't there.
+    #[error("the SOA before the change is not there")]
     WrongSoa,
     /// A record that is to go isn't there, with its TTL, or goes twice.
+    #[error("a record that is to go is not there")]
     RemovesAbsent,
     /// A record that is to come is there already behind the removal, whatever its TTL, or comes twice.
+    #[error("a record that is to come is there already")]
     AddsPresent,
     /// The octets are the entry of no change.
+    #[error("the octets are the entry of no change")]
     BadBytes,
 }
 

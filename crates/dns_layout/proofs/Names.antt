@@ -25,19 +25,6 @@ pub record Walked (field : List ℕ) (at : ℕ) : Type 0 where
   pub spelled : take at field ≡ labels_plain front
   pub others : (n : ℕ) → IsPlain (take n field) → More field at n
 
-pub walk_begins : (field : List ℕ) → Walked field 0
-walk_begins field = record {
-  front = [];
-  labels = tt;
-  spelled = refl;
-  others = λ n plain. record {
-    more = plain.name;
-    labels = plain.labels;
-    rest_is = sym (take-append-drop n field) ∙ ap (λ (l : List ℕ). l ++ drop n field) plain.is;
-    size_is = omega (arith, ap (λ (l : List ℕ). length l) plain.is, length-append (labels_plain plain.name) (0 ∷ []));
-  };
-}
-
 -- what the next octet says of the labels that are left
 head_is : (s : ℕ) (rest xs : List ℕ) → s ∷ rest ≡ xs → s ≡ get_or xs 0 0
 head_is s rest xs is = ap (λ (l : List ℕ). get_or l 0 0) is

@@ -33,9 +33,6 @@ bind_joined : (front : List ℕ) (r : Taken (List ℕ)) → (r >>= λ x. Ok (fro
 bind_joined front (Ok x) = refl
 bind_joined front (Err e) = refl
 
-pub joined_end : (all : Taken (List ℕ)) (front : List ℕ) (words : List Word) → all ≡ joined front (Ok ([], words)) → all ≡ Ok (front, words)
-joined_end all front words h = h ∙ ap (λ (octets : List ℕ). Ok (octets, words)) (append-nil front)
-
 -- one more number or address
 pub fixed_more : (f : Value) (fs : List Value) (all : Taken (List ℕ)) (front more : List ℕ) (words rest : List Word) (w : Word) → all ≡ joined front (take_values (f ∷ fs) words) → next_word words ≡ Ok (w, rest) → octets_of_text f (text_of w) ≡ Some more → all ≡ joined (front ++ more) (take_values fs rest)
 fixed_more f fs all front more words rest w h word octets =
@@ -50,11 +47,6 @@ pub fixed_missing : (f : Value) (fs : List Value) (all : Taken (List ℕ)) (fron
 fixed_missing f fs all front words e h word =
     h ∙ ap (λ (r : Taken Word). joined front (r >>= λ w. ok_or (octets_of_text f (text_of w.0)) (fault_of f) >>= λ o. take_values fs w.1 >>= λ r. Ok (o ++ r.0, r.1))) word
 
-pub fixed_refused : (f : Value) (fs : List Value) (all : Taken (List ℕ)) (front : List ℕ) (words rest : List Word) (w : Word) → all ≡ joined front (take_values (f ∷ fs) words) → next_word words ≡ Ok (w, rest) → octets_of_text f (text_of w) ≡ None → all ≡ Err (fault_of f)
-fixed_refused f fs all front words rest w h word none =
-    h ∙ ap (λ (r : Taken Word). joined front (r >>= λ w. ok_or (octets_of_text f (text_of w.0)) (fault_of f) >>= λ o. take_values fs w.1 >>= λ r. Ok (o ++ r.0, r.1))) word
-    ∙ ap (λ (o : Option (List ℕ)). joined front (ok_or o (fault_of f) >>= λ o. take_values fs rest >>= λ r. Ok (o ++ r.0, r.1))) none
-
 -- one more part of data
 pub fields_more : (origin : Labels) (f : Field) (fs : List Field) (all : Taken (List ℕ)) (front more : List ℕ) (words rest : List Word) → all ≡ joined front (take_data origin (f ∷ fs) words) → take_field origin f words ≡ Ok (more, rest) → all ≡ joined (front ++ more) (take_data origin fs rest)
 fields_more origin f fs all front more words rest h field =
@@ -62,19 +54,12 @@ fields_more origin f fs all front more words rest h field =
     ∙ ap (joined front) (bind_joined more (take_data origin fs rest))
     ∙ joined_twice front more (take_data origin fs rest)
 
-pub fields_refused : (origin : Labels) (f : Field) (fs : List Field) (all : Taken (List ℕ)) (front : List ℕ) (words : List Word) (e : FileError) → all ≡ joined front (take_data origin (f ∷ fs) words) → take_field origin f words ≡ Err e → all ≡ Err e
-fields_refused origin f fs all front words e h field =
-    h ∙ ap (λ (r : Taken (List ℕ)). joined front (r >>= λ a. take_data origin fs a.1 >>= λ b. Ok (a.0 ++ b.0, b.1))) field
-
 -- parts that are still to come complete those before
 abbrev pub Completes : List Field → List Field → List ℕ → Type 0
 Completes all fs front = (tail : List ℕ) → FitFields fs tail → FitFields all (front ++ tail)
 
 pub completes_more : (all fs : List Field) (f : Field) (front more : List ℕ) → Completes all (f ∷ fs) front → FitField f more → Completes all fs (front ++ more)
 completes_more all fs f front more h fit = λ tail rest. subst (FitFields all) (sym (append_assoc front more tail)) (h (more ++ tail) (more, tail, refl, fit, rest))
-
-pub completes_all : (all : List Field) (front : List ℕ) → Completes all [] front → FitFields all front
-completes_all all front h = subst (FitFields all) (append-nil front) (h [] refl)
 
 -- strings before those that are taken
 abbrev pub strung : List ℕ → Outcome (List ℕ) → Outcome (List ℕ)
@@ -184,13 +169,6 @@ digits_more all front text words rest w h at same digits =
     ∙ ap (strung front) (bind_strung (text_of w) (digits_in rest))
     ∙ strung_twice front (text_of w) (digits_in rest)
     ∙ ap (λ (x : List ℕ). strung (front ++ x) (digits_in rest)) (sym same)
-
--- a word that is no digits
-pub digits_refused : (all : Outcome (List ℕ)) (front text : List ℕ) (words rest : List Word) (w : Word) → all ≡ strung front (digits_in words) → words ≡ w ∷ rest → text ≡ text_of w → list_all is_hex_digit text ≡ false → all ≡ Err BadData
-digits_refused all front text words rest w h at same digits =
-    let passed : list_all is_hex_digit (text_of w) ≡ false = ap (list_all is_hex_digit) (sym same) ∙ digits in
-    h ∙ ap (λ (ws : List Word). strung front (digits_in ws)) at
-    ∙ ap (λ (b : Bool). strung front (is_or_bad b >>= λ _. digits_in rest >>= λ more. Ok (text_of w ++ more))) passed
 
 -- what stands behind the last part of data
 abbrev pub no_field : Part

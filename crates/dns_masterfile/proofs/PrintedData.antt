@@ -22,9 +22,6 @@ use Rattle.std.specs.Net.Text.{ipv4_text}
 use Rattle.dns_masterfile.specs.Text.{printed_string, printed_ipv6}
 use Rattle.dns_masterfile.specs.Printed.{spaced, data_words, printed_data}
 
-pub number_2 : (n : ℕ) → n < 2 ^ 16 → number_of (to_be_bytes w16 n) ≡ n
-number_2 n h = omega arith
-
 pub number_4 : (n : ℕ) → n < 2 ^ 32 → number_of (to_be_bytes w32 n) ≡ n
 number_4 n h = omega arith
 
@@ -45,12 +42,6 @@ front_within ((c ∷ l) ∷ ls) rest (suc more) valid lt =
 
 pub labels_of-front : (name : Labels) (rest : List ℕ) → IsName name → labels_of (wire name ++ rest) ≡ name
 labels_of-front name rest valid = front_within name rest (length (wire name ++ rest)) valid.labels (omega (arith, fewer_labels name, length-append (wire name) rest))
-
-pub mx_words : (m : Mx) → m.preference < 2 ^ 16 → IsName m.exchange → printed_data (mx_data m) ≡ spaced (decimal m.preference ∷ printed_name m.exchange ∷ [])
-mx_words m small valid = rw (number_2 m.preference small, labels_of-wire m.exchange valid.labels) refl
-
-pub srv_words : (s : Srv) → s.priority < 2 ^ 16 → s.weight < 2 ^ 16 → s.port < 2 ^ 16 → IsName s.target → printed_data (srv_data s) ≡ spaced (decimal s.priority ∷ decimal s.weight ∷ decimal s.port ∷ printed_name s.target ∷ [])
-srv_words s one two three valid = rw (number_2 s.priority one, number_2 s.weight two, number_2 s.port three, labels_of-wire s.target valid.labels) refl
 
 name_step : (fields : List Field) (name : Labels) (rest : List ℕ) → IsName name → data_words (Name ∷ fields) (wire name ++ rest) ≡ printed_name name ∷ data_words fields rest
 name_step fields name rest valid =
@@ -73,19 +64,6 @@ soa_words s m r fit =
     ∙ ap spaced (name_step (Name ∷ Values (U32 ∷ U32 ∷ U32 ∷ U32 ∷ U32 ∷ []) ∷ []) s.mname (wire s.rname ++ soa_numbers s) m
     ∙ ap (λ (ws : List (List ℕ)). printed_name s.mname ∷ ws) (name_step (Values (U32 ∷ U32 ∷ U32 ∷ U32 ∷ U32 ∷ []) ∷ []) s.rname (soa_numbers s) r
     ∙ ap (λ (ws : List (List ℕ)). printed_name s.rname ∷ ws) (soa_number_words s fit)))
-
-pub txt_words : (strings : List (List ℕ)) → printed_data (txt_data strings) ≡ spaced (map printed_string strings)
-txt_words strings = ap (λ (ss : List (List ℕ)). spaced (map printed_string ss)) (strings_of-flat _ strings refl)
-
-pub name_words : (d : Data) (name : Labels) → Some name ≡ name_of d → printed_data d ≡ spaced (printed_name name ∷ [])
-name_words d name e = go (is_name_type d.rtype) refl e
-  where
-    go : (b : Bool) → is_name_type d.rtype ≡ b → Some name ≡ (if b then Some (labels_of d.octets) else None) → printed_data d ≡ spaced (printed_name name ∷ [])
-    go true t h = (let same : name ≡ labels_of d.octets = cc in rw (name_form d.rtype t, same) refl)
-    go false t h = absurd (cc)
-
-pub a_words : (o : List ℕ) → length o ≡ 4 → printed_data (a_data o) ≡ spaced (ipv4_text o ∷ [])
-a_words o long = let all : take 4 o ≡ o = take_all 4 o (omega arith) in ap (λ (x : List ℕ). spaced (ipv4_text x ∷ [])) (ap (take 4) all ∙ all)
 
 pub aaaa_words : (o : List ℕ) → length o ≡ 16 → printed_data (aaaa_data o) ≡ spaced (printed_ipv6 o ∷ [])
 aaaa_words o long = let all : take 16 o ≡ o = take_all 16 o (omega arith) in ap (λ (x : List ℕ). spaced (printed_ipv6 x ∷ [])) (ap (take 16) all ∙ all)

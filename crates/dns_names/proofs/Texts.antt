@@ -85,30 +85,15 @@ joined_octet : (done : Labels) (tail : List ℕ) (c : ℕ) (p : Labels × List �
 joined_octet done tail c ([], rest) = ap (λ (x : List ℕ). (done, x)) (sym (append_assoc tail (c ∷ []) rest))
 joined_octet done tail c (label ∷ labels, rest) = ap (λ (x : List ℕ). (done ++ x ∷ labels, rest)) (sym (append_assoc tail (c ∷ []) label))
 
-joined_dot : (done : Labels) (tail : List ℕ) (p : Labels × List ℕ) → joined done tail (before_dot p) ≡ joined (done ++ tail ∷ []) [] p
-joined_dot done tail ([], rest) = ap (λ (x : List ℕ). (done ++ x ∷ [], rest)) (append-nil tail)
-joined_dot done tail (label ∷ labels, rest) =
-    ap (λ (x : List ℕ). (done ++ x ∷ label ∷ labels, rest)) (append-nil tail) ∙ ap (λ (x : Labels). (x, rest)) (sym (append_assoc done (tail ∷ []) (label ∷ labels)))
-
 dotted_octet : (l : Letter) (ls : List Letter) → is_dot l ≡ false → dotted (l ∷ ls) ≡ before_label (to_ascii_lowercase (octet_of l)) (dotted ls)
 dotted_octet l ls h = rw (h, dotted) refl
-
-dotted_dot : (l : Letter) (ls : List Letter) → is_dot l ≡ true → dotted (l ∷ ls) ≡ before_dot (dotted ls)
-dotted_dot l ls h = rw (h, dotted) refl
 
 pub after_octet : (done : Labels) (tail : List ℕ) (l : Letter) (o : Option (List Letter)) → is_dot l ≡ false → after done tail (parts_of (onto l o)) ≡ after done (tail ++ to_ascii_lowercase (octet_of l) ∷ []) (parts_of o)
 after_octet done tail l None h = refl
 after_octet done tail l (Some ls) h = ap (λ (p : Labels × List ℕ). some_parts (joined done tail p)) (dotted_octet l ls h) ∙ ap (some_parts) (joined_octet done tail (to_ascii_lowercase (octet_of l)) (dotted ls))
 
-pub after_dot : (done : Labels) (tail : List ℕ) (l : Letter) (o : Option (List Letter)) → is_dot l ≡ true → after done tail (parts_of (onto l o)) ≡ after (done ++ tail ∷ []) [] (parts_of o)
-after_dot done tail l None h = refl
-after_dot done tail l (Some ls) h = ap (λ (p : Labels × List ℕ). some_parts (joined done tail p)) (dotted_dot l ls h) ∙ ap (some_parts) (joined_dot done tail (dotted ls))
-
 pub after_all : (done : Labels) (tail : List ℕ) → after done tail (parts_of (Some [])) ≡ Some (done, tail)
 after_all done tail = ap (λ (x : List ℕ). some_parts (done, x)) (append-nil tail)
-
-pub after_none : (o : Option (Labels × List ℕ)) → o ≡ None → (p : Option (Labels × List ℕ)) → p ≡ o → p ≡ None
-after_none o e p f = f ∙ e
 
 -- the whole is read: what refuses it
 no_empty : (name : Labels) → AllByRecursion IsLabel name → list_any none_of name ≡ false
@@ -135,10 +120,6 @@ pub any_long : (done : Labels) (tail : List ℕ) (origin : Labels) → AllByRecu
 any_long done [] origin h = sym (ap (λ (x : Bool). list_any long_of done || x) (grind (arith, nat_tests)) ∙ or_none (list_any long_of done))
 any_long done (c ∷ tail) origin h =
     list_any-append long_of done ((c ∷ tail) ∷ origin) ∙ ap (λ (x : Bool). list_any long_of done || (nat_lt 63 (suc (length tail)) || x)) (no_long origin h) ∙ ap (λ (x : Bool). list_any long_of done || x) (or_none (nat_lt 63 (suc (length tail))))
-
--- within the limits
-pub refused_empty : (name : Labels) → list_any none_of name ≡ true → limited name ≡ Err EmptyLabel
-refused_empty name e = rw e refl
 
 pub refused_long : (name : Labels) → list_any none_of name ≡ false → list_any long_of name ≡ true → limited name ≡ Err LabelTooLong
 refused_long name e l = rw (e, l) refl
@@ -209,12 +190,6 @@ octet_taken b done tail behind octet low false e other h =
     let apart : octet ≡ 46 → ⊥ = other refl in
     let dot : (octet == 46) ≡ false = grind (arith, nat_tests) in
     (done, tail ++ low ∷ [], h, after_octet done tail (Itself octet) behind dot ∙ ap (λ (x : ℕ). after done (tail ++ x ∷ []) (parts_of behind)) (sym e))
-
-pub dot_taken : (b : Builder) (done : Labels) (tail : List ℕ) (behind : Option (List Letter)) (octet : ℕ) (escaped : Bool) → escaped ≡ false → octet ≡ 46 → IsBuilt b (done ++ tail ∷ []) [] → TakesLetter b done tail (if escaped then Escaped octet else Itself octet) behind
-dot_taken b done tail behind octet true e dot h = absurd (cc)
-dot_taken b done tail behind octet false e dot h =
-    let is : (octet == 46) ≡ true = grind (arith, nat_tests) in
-    (done ++ tail ∷ [], [], h, after_dot done tail (Itself octet) behind is)
 
 -- the limits of the code and those of the name
 pub both_small : (b : Bool) (n : ℕ) → b ≡ false → n ≤ 63 → (b || nat_lt 63 n) ≡ false

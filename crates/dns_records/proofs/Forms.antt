@@ -42,9 +42,6 @@ name_lacks o fields none h = none h.3.0 h.1 h.3.1 (h.2 ∙ ap (λ (x : List ℕ)
 pub name_none : (fields : List Field) (o : List ℕ) → ((name : Labels) (rest : List ℕ) → IsName name → o ≡ wire name ++ rest → ⊥) → AreFields (Name ∷ fields) o → ⊥
 name_none fields o none h = name_lacks o fields none h
 
-pub target_none : (fields : List Field) (o : List ℕ) → ((name : Labels) (rest : List ℕ) → IsName name → o ≡ wire name ++ rest → ⊥) → AreFields (UncompressedName ∷ fields) o → ⊥
-target_none fields o none h = name_lacks o fields none h
-
 -- strings alone
 pub strings_alone : (o : List ℕ) → IsField Strings o ↔ AreFields (Strings ∷ []) o
 strings_alone o = (

@@ -39,9 +39,6 @@ owner_first octets name behind valid e r rest f =
     let valid_owner : IsName r.owner = f.owner in
     (wire_first name r.owner behind (behind_owner r rest) valid.labels valid_owner.labels (sym e ∙ f.whole ∙ plain_parts r rest)).1
 
-pub owner_none : (octets : List ℕ) → ((name : Labels) (rest : List ℕ) → IsName name → octets ≡ wire name ++ rest → ⊥) → (r : Record) (rest : List ℕ) → IsFramed octets r rest → ⊥
-owner_none octets none r rest f = none r.owner (behind_owner r rest) f.owner (f.whole ∙ plain_parts r rest)
-
 pub type_first : (b : List ℕ) (n : ℕ) (behind : List ℕ) → b ≡ to_be_bytes w16 n ++ behind → (r : Record) (rest : List ℕ) → b ≡ behind_owner r rest → behind ≡ behind_type r rest
 type_first b n behind e r rest h = (parts_same (to_be_bytes w16 n) (to_be_bytes w16 r.rtype) behind (behind_type r rest) (sym e ∙ h) refl).1
 

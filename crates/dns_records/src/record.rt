@@ -9,17 +9,22 @@ use dns_names::Name;
 use std::alloc::AllocError;
 use std::cmp::Ordering;
 use std::marker::Model;
+use thiserror::Error;
 
 /// Why octets are no record.
-#[derive(Clone, Copy, Debug, PartialEq, Eq)]
+#[derive(Clone, Copy, Debug, Error, PartialEq, Eq)]
 pub enum RecordError {
     /// Memory was refused.
+    #[error("memory was refused")]
     OutOfMemory,
     /// The octets end too early, or the data has not the form of its type.
+    #[error("the data has not the form of its type")]
     BadData,
     /// The data has more than 4,096 octets.
+    #[error("the data has more than 4096 octets")]
     TooLong,
     /// The type is none of which a zone can have records.
+    #[error("a zone can have no records of this type")]
     UnknownType,
 }
 

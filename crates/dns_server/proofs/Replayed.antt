@@ -13,7 +13,7 @@ use Rattle.dns_server.specs.declared.configuration.Configuration.{Configuration}
 use Rattle.dns_server.specs.declared.configuration.ZoneSettings.{ZoneSettings}
 use Rattle.dns_server.specs.declared.files.File.{File}
 use Rattle.dns_server.specs.declared.files.Fault.{Fault}
-use Rattle.dns_server.specs.Checks.{is_memory, line, told}
+use Rattle.dns_server.specs.Checks.{is_memory, line, fault_text}
 use Rattle.dns_server.specs.Replays.{AreHeld, Holds, IsFirstFault, IsLoaded, IsScriptFault, ReplayEnds, ScriptEnds, held, octets_at}
 
 -- The first file with a path, from a place on.
@@ -43,10 +43,10 @@ fault_or_memory files all n z zones fault inside e h (inl memory) = inl memory
 fault_or_memory files all n z zones fault inside e h (inr k) = inr (first_fault files all n z zones fault inside e h k)
 
 -- A script that can't be read, or whose line is no command.
-pub script_refused : {E : Type 0} (zones : List Zone) (script : File) (fault : Fault) (out out_after err err_after : Option (List ℕ)) (r : Result ℕ E) → is_memory fault ≡ false → IsScriptFault zones (option_copied script.octets) fault out out_after → IfOk r (λ status. MatchBool (is_memory fault) (status ≡ 3) ((status ≡ 1) × Appends err err_after (line (told script.path.now fault)))) → IfOk r (ScriptEnds zones script out out_after err err_after)
+pub script_refused : {E : Type 0} (zones : List Zone) (script : File) (fault : Fault) (out out_after err err_after : Option (List ℕ)) (r : Result ℕ E) → is_memory fault ≡ false → IsScriptFault zones (option_copied script.octets) fault out out_after → IfOk r (λ status. MatchBool (is_memory fault) (status ≡ 3) ((status ≡ 1) × Appends err err_after (line (fault_text script.path.now fault)))) → IfOk r (ScriptEnds zones script out out_after err err_after)
 script_refused zones script fault out out_after err err_after (Err e) is h k = tt
 script_refused zones script fault out out_after err err_after (Ok status) is h k =
-    let said : (status ≡ 1) × Appends err err_after (line (told script.path.now fault)) = subst (λ (b : Bool). MatchBool b (status ≡ 3) ((status ≡ 1) × Appends err err_after (line (told script.path.now fault)))) is k in
+    let said : (status ≡ 1) × Appends err err_after (line (fault_text script.path.now fault)) = subst (λ (b : Bool). MatchBool b (status ≡ 3) ((status ≡ 1) × Appends err err_after (line (fault_text script.path.now fault)))) is k in
     record {
       done = λ e. absurd (omega (arith, e, said.0));
       refused = λ _. (fault, h, said.1);
@@ -58,11 +58,11 @@ script_ran config files script zones out out_after err err_after (Err e) held h 
 script_ran config files script zones out out_after err err_after (Ok status) held h = inr (inl (zones, held, h))
 
 -- A master file that holds no zone is told.
-pub file_told : {E : Type 0} (config : File) (files : List File) (script : File) (c : Configuration) (path : List ℕ) (fault : Fault) (out err err_after : Option (List ℕ)) (r : Result ℕ E) → Holds (option_copied config.octets) (Ok c) → ((is_memory fault ≡ true) ⊎ IsFirstFault files c.zones.items path fault) → IfOk r (λ status. MatchBool (is_memory fault) (status ≡ 3) ((status ≡ 1) × Appends err err_after (line (told path fault)))) → IfOk r (ReplayEnds config files script out out err err_after)
+pub file_told : {E : Type 0} (config : File) (files : List File) (script : File) (c : Configuration) (path : List ℕ) (fault : Fault) (out err err_after : Option (List ℕ)) (r : Result ℕ E) → Holds (option_copied config.octets) (Ok c) → ((is_memory fault ≡ true) ⊎ IsFirstFault files c.zones.items path fault) → IfOk r (λ status. MatchBool (is_memory fault) (status ≡ 3) ((status ≡ 1) × Appends err err_after (line (fault_text path fault)))) → IfOk r (ReplayEnds config files script out out err err_after)
 file_told config files script c path fault out err err_after (Err e) holds why k = tt
 file_told config files script c path fault out err err_after (Ok status) holds why k = go (is_memory fault) refl why k
   where
-    go : (b : Bool) → is_memory fault ≡ b → ((is_memory fault ≡ true) ⊎ IsFirstFault files c.zones.items path fault) → MatchBool b (status ≡ 3) ((status ≡ 1) × Appends err err_after (line (told path fault))) → ReplayEnds config files script out out err err_after status
+    go : (b : Bool) → is_memory fault ≡ b → ((is_memory fault ≡ true) ⊎ IsFirstFault files c.zones.items path fault) → MatchBool b (status ≡ 3) ((status ≡ 1) × Appends err err_after (line (fault_text path fault))) → ReplayEnds config files script out out err err_after status
     go true is h e = inr (inr e)
     go false is (inl memory) said = absurd cc
     go false is (inr first) said = inl (said.0, Keeps-refl out, (path, fault, inr (c, holds, first), said.1))

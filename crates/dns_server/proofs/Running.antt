@@ -55,9 +55,6 @@ pub record IsRunUpTo (zones : List Zone) (all : List (List ℕ)) (number : ℕ) 
   pub written : Appends out out_now text
   pub goes_on : (more : List ℕ) (ending : Ending) → Runs zones number left more ending → Runs zones 1 all (text ++ more) ending
 
-pub run_begins : (zones : List Zone) (all : List (List ℕ)) (out : Option (List ℕ)) → IsRunUpTo zones all 1 all out out
-run_begins zones all out = record { text = []; written = nothing_more out; goes_on = λ more ending r. r }
-
 pub run_more : (zones : List Zone) (all : List (List ℕ)) (number : ℕ) (line : List ℕ) (left whole : List (List ℕ)) (out out_now out_after : Option (List ℕ)) → whole ≡ line ∷ left → IsRunUpTo zones all number whole out out_now → PrintsInto zones line out_now out_after → IsRunUpTo zones all (number + 1) left out out_after
 run_more zones all number line left whole out out_now out_after e h p = record {
   text = h.text ++ p.0;

@@ -1,9 +1,10 @@
--- What is told of files, and what `check` says of one.
-use Rattle.std.specs.Prelude.{◌≡◌, ◌⊎◌, ℕ, ◌≤◌, Bool, true, false, List, [], ◌∷◌, ◌++◌, length, Option, Some, None, Result, Ok, Err, Contains, codes, decimal}
+-- What is said of files, and what `check` says of one.
+use Rattle.std.specs.Prelude.{◌≡◌, ◌⊎◌, ℕ, ◌≤◌, Bool, true, false, List, [], ◌∷◌, ◌++◌, length, Option, Some, None, Result, Ok, Err, Contains, chars, codes, decimal, flat_map, if◌then◌else◌}
+use Rattle.std.specs.Char.{encode_utf8, is_control}
 use Rattle.std.specs.Io.KnownBytes.{Appends, Keeps}
 use Rattle.dns_names.specs.Name.{Labels}
 use Rattle.dns_names.specs.declared.NameError.{NameError}
-use Rattle.dns_names.specs.Text.{name_of_text}
+use Rattle.dns_names.specs.Text.{escaped, name_of_text}
 use Rattle.dns_records.specs.Types.{type_soa}
 use Rattle.dns_records.specs.Record.{Record, serial_of}
 use Rattle.dns_zone.specs.Zone.{zone_fault}
@@ -45,15 +46,25 @@ is_memory (Entry line file.OutOfMemory) = true
 is_memory (NoZone zone.OutOfMemory) = true
 is_memory _ = false
 
--- A fault, behind the path or the text that it is of.
-abbrev pub told : List ℕ → Fault → List ℕ
-told what OutOfMemory = what ++ codes ": OutOfMemory"
-told what Unreadable = what ++ codes ": Unreadable"
-told what BadConfig = what ++ codes ": BadConfig"
-told what BadOrigin = what ++ codes ": BadOrigin"
-told what (Syntax number) = what ++ codes ":" ++ decimal number ++ codes ": Syntax"
-told what (Entry number e) = what ++ codes ":" ++ decimal number ++ codes ": " ++ entry_word e
-told what (NoZone e) = what ++ codes ": " ++ zone_word e
+-- A text in which each control character is `\DDD`, its number.
+abbrev pub printable_char : ℕ → List ℕ
+printable_char c = if is_control c then escaped c else encode_utf8 c
+
+abbrev pub printable : List ℕ → List ℕ
+printable text = flat_map printable_char (chars text)
+
+-- What is wrong, behind the path or the text that it is of.
+abbrev pub fault_words : Fault → List ℕ
+fault_words OutOfMemory = codes ": OutOfMemory"
+fault_words Unreadable = codes ": Unreadable"
+fault_words BadConfig = codes ": BadConfig"
+fault_words BadOrigin = codes ": BadOrigin"
+fault_words (Syntax number) = codes ":" ++ decimal number ++ codes ": Syntax"
+fault_words (Entry number e) = codes ":" ++ decimal number ++ codes ": " ++ entry_word e
+fault_words (NoZone e) = codes ": " ++ zone_word e
+
+abbrev pub fault_text : List ℕ → Fault → List ℕ
+fault_text what fault = printable what ++ fault_words fault
 
 abbrev pub line : List ℕ → List ℕ
 line text = text ++ 10 ∷ []
@@ -90,7 +101,7 @@ pub record IsGood (octets : Option (List ℕ)) (origin text : List ℕ) : Type 0
 pub record IsUnnamed (origin text : List ℕ) : Type 0 where
   pub error : NameError
   pub refused : name_of_text [] origin ≡ Err error
-  pub says : text ≡ told origin BadOrigin
+  pub says : text ≡ fault_text origin BadOrigin
 
 -- The file holds no zone of that origin, and the text says why.
 pub record IsBad (octets : Option (List ℕ)) (path origin text : List ℕ) : Type 0 where
@@ -98,7 +109,7 @@ pub record IsBad (octets : Option (List ℕ)) (path origin text : List ℕ) : Ty
   pub fault : Fault
   pub named : name_of_text [] origin ≡ Ok apex
   pub refused : loaded octets apex ≡ Err fault
-  pub says : text ≡ told path fault
+  pub says : text ≡ fault_text path fault
 
 -- What a run of `check` wrote to the two writers, by its exit status. With status 3 a writer failed or memory was refused.
 pub record CheckEnds (octets : Option (List ℕ)) (path origin : List ℕ) (out out_after err err_after : Option (List ℕ)) (status : ℕ) : Type 0 where

@@ -13,7 +13,7 @@ use Rattle.dns_server.specs.declared.files.File.{File}
 use Rattle.dns_server.specs.declared.files.Fault.{Fault}
 use Rattle.dns_server.specs.declared.files.Fault.TheVariants.{OutOfMemory, Unreadable, BadConfig, Syntax}
 use Rattle.dns_server.specs.declared.script.Ending.TheVariants as ending
-use Rattle.dns_server.specs.Checks.{line, loaded, told}
+use Rattle.dns_server.specs.Checks.{line, loaded, fault_text}
 use Rattle.dns_server.specs.Scripts.{RunsInto, lines}
 use Rattle.dns_server.specs.Settings.{IsDescribedBy}
 
@@ -69,7 +69,7 @@ pub record ScriptEnds (zones : List Zone) (script : File) (out out_after err err
   pub refused : status ≡ 1
       → (fault : Fault)
       × IsScriptFault zones (option_copied script.octets) fault out out_after
-      × Appends err err_after (line (told script.path.now fault))
+      × Appends err err_after (line (fault_text script.path.now fault))
   pub others : status ≤ 1 ⊎ (status ≡ 3)
 
 -- The fault that is told, behind a path, before the script runs: of the configuration, or else of the first master file that
@@ -83,6 +83,6 @@ IsFault config files path fault =
 -- zones that are held; or, with status 3, a writer failed or memory was refused.
 abbrev pub ReplayEnds : File → List File → File → Option (List ℕ) → Option (List ℕ) → Option (List ℕ) → Option (List ℕ) → ℕ → Type 0
 ReplayEnds config files script out out_after err err_after status =
-    ((status ≡ 1) × Keeps out out_after × ((path : List ℕ) × (fault : Fault) × IsFault config files path fault × Appends err err_after (line (told path fault))))
+    ((status ≡ 1) × Keeps out out_after × ((path : List ℕ) × (fault : Fault) × IsFault config files path fault × Appends err err_after (line (fault_text path fault))))
     ⊎ ((zones : List Zone) × AreHeld (option_copied config.octets) files zones × ScriptEnds zones script out out_after err err_after status)
     ⊎ (status ≡ 3)

@@ -7,8 +7,9 @@ ghost use Rattle.dns_names.specs.Text.{name_of_text};
 ghost use Rattle.dns_names.specs.declared.NameError.{NameError as StatedError};
 ghost use Rattle.dns_records.specs.Record.{Record};
 ghost use Rattle.dns_zone.specs.Made.{IsSetOf};
-ghost use Rattle.dns_server.specs.Checks.{CheckEnds, entry_word, is_memory, line, loaded, ok_text, told, zone_word};
+ghost use Rattle.dns_server.specs.Checks.{CheckEnds, entry_word, is_memory, line, loaded, ok_text, fault_text, zone_word};
 
+use crate::printable::Printable;
 use dns_masterfile::{FileError, read_zone};
 use dns_memory::Heap;
 use dns_names::{Name, NameError};
@@ -93,15 +94,15 @@ fn is_memory(fault: Fault) -> bool
     }
 }
 
-/// What is wrong with a file or a word, behind its path or its text.
+/// What is wrong with a file or a word, behind its path or its text, whose control characters are escaped.
 #[derive(Drop)]
-struct Told<'a>(&'a str, Fault);
+struct FaultText<'a>(&'a str, Fault);
 
-impl fmt::Display for Told<'_> {
-    ghost output = { λ t. Some (told t.0.now t.1) };
+impl fmt::Display for FaultText<'_> {
+    ghost output = { λ t. Some (fault_text t.0.now t.1) };
 
     fn fmt<W: fmt::Write>(&self, f: &mut fmt::Formatter<W>) -> fmt::Result {
-        let what = self.0;
+        let what = Printable(self.0);
         match self.1 {
             Fault::OutOfMemory => write!(f, "{what}: OutOfMemory"),
             Fault::Unreadable => write!(f, "{what}: Unreadable"),
@@ -118,12 +119,12 @@ impl fmt::Display for Told<'_> {
 pub(crate) fn tell<E: Write>(err: &mut E, what: &str, fault: Fault) -> io::Result<u8>
     ensures { IfOk result
         (λ status. MatchBool (is_memory fault) (status ≡ FAILED)
-        ((status ≡ REFUSED) × Appends (E.contents err.old) (E.contents err.new) (line (told what.now fault)))) }
+        ((status ≡ REFUSED) × Appends (E.contents err.old) (E.contents err.new) (line (fault_text what.now fault)))) }
 {
     if is_memory(fault) {
         return Ok(FAILED);
     }
-    writeln!(err, "{}", Told(what, fault))?;
+    writeln!(err, "{}", FaultText(what, fault))?;
     Ok(REFUSED)
 }
 

@@ -4,6 +4,7 @@
 mod configuration;
 mod datagram;
 mod files;
+mod printable;
 mod run;
 mod script;
 

@@ -14,10 +14,6 @@ use Rattle.dns_update.specs.ResourceRecord.{HasForm, first_fault, otherwise}
 use Rattle.dns_wire.specs.declared.codes.Rcode.{Rcode}
 use Rattle.dns_zone.proofs.Kept.{find_kept, numbers_same}
 
--- one of the RRset is alike exactly where one of the zone is
-pub alike_here : (r : Record) (xs : List Record) → list_any (alike r) (rrset xs r.owner r.rtype) ≡ has r xs
-alike_here r xs = any_by (alike r) (λ s. is_eq (record_cmp r s)) (λ s. sym (alike_is r s)) (rrset xs r.owner r.rtype) ∙ tied_here r xs
-
 pub found_here : (r : Record) (xs : List Record) → find (alike r) (rrset xs r.owner r.rtype) ≡ find (alike r) xs
 found_here r xs = find_kept (alike r) (λ s. names_eq s.owner r.owner && s.rtype == r.rtype) xs
     (λ s e. (let two = both_true (names_eq r.owner s.owner && r.rtype == s.rtype) _ e in
@@ -48,9 +44,6 @@ goes_on None x e = refl
 -- the item at a place fails, and none before it did
 pub fault_stops : (fault : ResourceRecord → Option Rcode) (xs : List ResourceRecord) (i : ℕ) (r : ResourceRecord) (o : Option Rcode) → i < length xs → r ≡ get_or xs i r → o ≡ fault r → is_some o ≡ true → first_fault fault xs ≡ first_fault fault (drop i xs) → o ≡ first_fault fault xs
 fault_stops fault xs i r o lt is e some h = sym (h ∙ fault_at fault xs i r lt is ∙ ap (λ (x : Option Rcode). otherwise x (first_fault fault (drop (i + 1) xs))) (sym e) ∙ stops o _ some)
-
-pub fault_passes : (fault : ResourceRecord → Option Rcode) (xs : List ResourceRecord) (i : ℕ) (r : ResourceRecord) (o : Option Rcode) → i < length xs → r ≡ get_or xs i r → o ≡ fault r → is_some o ≡ false → first_fault fault xs ≡ first_fault fault (drop i xs) → first_fault fault xs ≡ first_fault fault (drop (i + 1) xs)
-fault_passes fault xs i r o lt is e none h = h ∙ fault_at fault xs i r lt is ∙ ap (λ (x : Option Rcode). otherwise x (first_fault fault (drop (i + 1) xs))) (sym e) ∙ goes_on o _ none
 
 -- ---- items that all pass
 pub no_fault : (a b : Option Rcode) → otherwise a b ≡ None → (a ≡ None) × (b ≡ None)

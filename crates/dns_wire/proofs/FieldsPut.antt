@@ -6,7 +6,7 @@ use Rattle.dns_records.specs.Types.{Field, Value, Values, octet_count, Name}
 use Rattle.dns_records.specs.Record.{AreFields}
 use Rattle.dns_wire.specs.Compress.{Place, Compressing, compressed_name, compressed_fields}
 use Rattle.dns_wire.specs.Puts.{RefusesUpTo, BeginsWithName}
-use Rattle.dns_wire.specs.declared.WireError.{WireError}
+use Rattle.dns_wire.specs.declared.WriteError.{WriteError}
 use Rattle.dns_wire.proofs.Puts.{Leaves, leaves_next, refuses_part}
 use Rattle.dns_wire.proofs.Fronts.{labels_of_front}
 
@@ -21,9 +21,6 @@ octets_room vs fields rdata (front, rest, is, size, more) = omega (arith, ap len
 
 pub octets_behind : (vs : List Value) (fields : List Field) (rdata : List ℕ) → AreFields (Values vs ∷ fields) rdata → AreFields fields (drop (octet_count vs) rdata)
 octets_behind vs fields rdata (front, rest, is, size, more) = subst (AreFields fields) (sym (ap (drop (octet_count vs)) is ∙ drop_at front rest (octet_count vs) size)) more
-
-pub name_front : (fields : List Field) (rdata : List ℕ) → AreFields (Name ∷ fields) rdata → BeginsWithName rdata
-name_front fields rdata (front, rest, is, (name, valid, plain), more) = record { name = name; rest = rest; valid = valid; is = is ∙ ap (λ (xs : List ℕ). xs ++ rest) plain }
 
 pub name_behind : (fields : List Field) (rdata : List ℕ) → AreFields (Name ∷ fields) rdata → AreFields fields (drop (length (wire (labels_of rdata))) rdata)
 name_behind fields rdata (front, rest, is, (name, valid, plain), more) =
@@ -57,13 +54,13 @@ names_next before whole octets places fields rdata after places' grown same h =
     subst (λ (k : ℕ). Leaves before whole after (compressed_fields places' k fields behind).octets (compressed_fields places' k fields behind).places) size placed
 
 -- they are refused
-pub octets_refused : (limit : ℕ) (before : List ℕ) (whole : Compressing) (octets : List ℕ) (places : List Place) (now : ℕ) (vs : List Value) (fields : List Field) (rdata front : List ℕ) (e : WireError) → front ≡ take (octet_count vs) rdata → now ≡ limit
+pub octets_refused : (limit : ℕ) (before : List ℕ) (whole : Compressing) (octets : List ℕ) (places : List Place) (now : ℕ) (vs : List Value) (fields : List Field) (rdata front : List ℕ) (e : WriteError) → front ≡ take (octet_count vs) rdata → now ≡ limit
     → FieldsLeft before whole octets places (Values vs ∷ fields) rdata → RefusesUpTo now (length octets + length front) e → RefusesUpTo limit (length before + length whole.octets) e
 octets_refused limit before whole octets places now vs fields rdata front e is same h r =
     let tail = compressed_fields places (length octets + octet_count vs) fields (drop (octet_count vs) rdata) in
     refuses_part limit before whole octets (take (octet_count vs) rdata ++ tail.octets) tail.places now front tail.octets e (ap (λ (xs : List ℕ). xs ++ tail.octets) (sym is)) same h r
 
-pub names_refused : (limit : ℕ) (before : List ℕ) (whole : Compressing) (octets : List ℕ) (places : List Place) (now : ℕ) (fields : List Field) (rdata : List ℕ) (e : WireError) → now ≡ limit
+pub names_refused : (limit : ℕ) (before : List ℕ) (whole : Compressing) (octets : List ℕ) (places : List Place) (now : ℕ) (fields : List Field) (rdata : List ℕ) (e : WriteError) → now ≡ limit
     → FieldsLeft before whole octets places (Name ∷ fields) rdata → RefusesUpTo now (length octets + length (compressed_name places (length octets) (labels_of rdata)).octets) e → RefusesUpTo limit (length before + length whole.octets) e
 names_refused limit before whole octets places now fields rdata e same h r =
     let here = compressed_name places (length octets) (labels_of rdata) in

@@ -22,18 +22,6 @@ lower_wire (l ∷ ls) valid =
     map-append to_ascii_lowercase l (wire ls) ∙ ap (λ (xs : List ℕ). xs ++ map to_ascii_lowercase (wire ls)) valid.0.lower ∙ ap (λ (xs : List ℕ). l ++ xs) (lower_wire ls valid.1) in
     ap (λ (k : ℕ). k ∷ map to_ascii_lowercase (l ++ wire ls)) (lower_low (length l) low) ∙ ap (λ (xs : List ℕ). length l ∷ xs) rest
 
--- a plain form is in lower case
-pub lower_whole : (octets : List ℕ) (name : Labels) → octets ≡ wire name → IsName name → map to_ascii_lowercase (take (length octets) octets) ≡ wire name
-lower_whole octets name e valid = ap (map to_ascii_lowercase) (take_all (length octets) octets (omega arith)) ∙ ap (map to_ascii_lowercase) e ∙ lower_wire name valid.labels
-
--- one name stands at the front of a plain form
-pub read_plain : (octets : List ℕ) (name other : Labels) (n : ℕ) → octets ≡ wire name → IsName name → IsName other → n ≤ length octets → map to_ascii_lowercase (take n octets) ≡ wire other → other ≡ name
-read_plain octets name other n e valid valid' fits h =
-    let whole : map to_ascii_lowercase (take (length octets) (drop 0 octets)) ≡ wire name = lower_whole octets name e valid in
-    let a = wire_stands octets 0 (length octets) name valid.labels whole (omega arith) in
-    let b = wire_stands octets 0 n other valid'.labels h fits in
-    (run_unique octets 0 name a.stop 0 other b.stop 0 a.stand (zero_ends octets a.stop a.root) b.stand (zero_ends octets b.stop b.root)).0
-
 -- two names are one where their plain forms are
 pub same_wire : (a b : Labels) (octets : List ℕ) (r : Bool) → IsName a → IsName b → octets ≡ wire a → r ≡ bytes_eq octets (wire b) → (IsTrue r → a ≡ b) × (a ≡ b → IsTrue r)
 same_wire a b octets r valid valid' e h = (

@@ -3,8 +3,8 @@ use Rattle.std.proofs.Common.{◌≡◌, ℕ, ◌+◌, ◌≤◌, List, [], ◌+
 use Rattle.std.proofs.lemmas.List.{length-append, append-nil}
 use Rattle.dns_wire.specs.Compress.{Place, Compressing}
 use Rattle.dns_wire.specs.Puts.{Wrote, RefusesUpTo}
-use Rattle.dns_wire.specs.declared.WireError.{WireError}
-use Rattle.dns_wire.specs.declared.WireError.TheVariants.{OutOfMemory, Short, BadPointer, ReservedLabel, NameTooLong, Cut, Trailing, BadData, DoesNotFit}
+use Rattle.dns_wire.specs.declared.WriteError.{WriteError}
+use Rattle.dns_wire.specs.declared.WriteError.TheVariants.{OutOfMemory, DoesNotFit}
 
 -- behind what stands now are still to come these octets, and then the table is as said
 pub record Leaves (before : List ℕ) (whole : Compressing) (octets rest : List ℕ) (places : List Place) : Type 0 where
@@ -34,25 +34,18 @@ wrote_last limit before whole octets rest places now after limit' places' last e
   same = w.same ∙ same;
 }
 
-pub refuses_more : (limit a b : ℕ) (e : WireError) → a ≤ b → RefusesUpTo limit a e → RefusesUpTo limit b e
+pub refuses_more : (limit a b : ℕ) (e : WriteError) → a ≤ b → RefusesUpTo limit a e → RefusesUpTo limit b e
 refuses_more limit a b OutOfMemory up h = h
 refuses_more limit a b DoesNotFit up h = omega arith
-refuses_more limit a b Short up h = h
-refuses_more limit a b BadPointer up h = h
-refuses_more limit a b ReservedLabel up h = h
-refuses_more limit a b NameTooLong up h = h
-refuses_more limit a b Cut up h = h
-refuses_more limit a b Trailing up h = h
-refuses_more limit a b BadData up h = h
 
 -- what was to come was refused, or its first part was
-pub refuses_part : (limit : ℕ) (before : List ℕ) (whole : Compressing) (octets rest : List ℕ) (places : List Place) (now : ℕ) (more tail : List ℕ) (e : WireError) → rest ≡ more ++ tail → now ≡ limit
+pub refuses_part : (limit : ℕ) (before : List ℕ) (whole : Compressing) (octets rest : List ℕ) (places : List Place) (now : ℕ) (more tail : List ℕ) (e : WriteError) → rest ≡ more ++ tail → now ≡ limit
     → Leaves before whole octets rest places → RefusesUpTo now (length octets + length more) e → RefusesUpTo limit (length before + length whole.octets) e
 refuses_part limit before whole octets rest places now more tail e is same h r =
     let size : length before + length whole.octets ≡ length octets + length rest = sym (length-append before whole.octets) ∙ ap length h.octets-are ∙ length-append octets rest in
     let part : length rest ≡ length more + length tail = ap length is ∙ length-append more tail in
     refuses_more limit (length octets + length more) (length before + length whole.octets) e (omega (arith, size, part)) (subst (λ (k : ℕ). RefusesUpTo k (length octets + length more) e) same r)
 
-pub refuses_last : (limit : ℕ) (before : List ℕ) (whole : Compressing) (octets rest : List ℕ) (places : List Place) (now : ℕ) (e : WireError) → now ≡ limit
+pub refuses_last : (limit : ℕ) (before : List ℕ) (whole : Compressing) (octets rest : List ℕ) (places : List Place) (now : ℕ) (e : WriteError) → now ≡ limit
     → Leaves before whole octets rest places → RefusesUpTo now (length octets + length rest) e → RefusesUpTo limit (length before + length whole.octets) e
 refuses_last limit before whole octets rest places now e same h r = refuses_part limit before whole octets rest places now rest [] e (sym (append-nil rest)) same h r

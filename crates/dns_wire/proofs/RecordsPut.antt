@@ -7,7 +7,7 @@ use Rattle.dns_records.specs.Types.{class_in}
 use Rattle.dns_records.specs.Record.{Record}
 use Rattle.dns_wire.specs.Compress.{Place, Compressing, compressed_name, compressed_rdata, compressed_record}
 use Rattle.dns_wire.specs.Puts.{RefusesUpTo, fixed_octets, compressed_all}
-use Rattle.dns_wire.specs.declared.WireError.{WireError}
+use Rattle.dns_wire.specs.declared.WriteError.{WriteError}
 use Rattle.dns_wire.proofs.Puts.{Leaves, leaves_next, refuses_part}
 
 -- these records are still to be written
@@ -16,18 +16,7 @@ RecordsLeft before whole octets places rs =
     let tail = compressed_all places (length octets) rs in
     Leaves before whole octets tail.octets tail.places
 
-pub records_next : (before : List ℕ) (whole : Compressing) (octets : List ℕ) (places : List Place) (r : Record) (rs : List Record) (after : List ℕ) (places' : List Place) → after ≡ octets ++ (compressed_record places (length octets) r).octets → places' ≡ (compressed_record places (length octets) r).places
-    → RecordsLeft before whole octets places (r ∷ rs) → RecordsLeft before whole after places' rs
-records_next before whole octets places r rs after places' grown same h =
-    let here = compressed_record places (length octets) r in
-    let size : length octets + length here.octets ≡ length after = sym (ap length grown ∙ length-append octets here.octets) in
-    let tail = compressed_all here.places (length octets + length here.octets) rs in
-    let next : Leaves before whole after tail.octets tail.places = leaves_next before whole octets (here.octets ++ tail.octets) tail.places here.octets tail.octets after refl grown h in
-    let placed : Leaves before whole after (compressed_all places' (length octets + length here.octets) rs).octets (compressed_all places' (length octets + length here.octets) rs).places =
-    subst (λ (ps : List Place). Leaves before whole after (compressed_all ps (length octets + length here.octets) rs).octets (compressed_all ps (length octets + length here.octets) rs).places) (sym same) next in
-    subst (λ (k : ℕ). Leaves before whole after (compressed_all places' k rs).octets (compressed_all places' k rs).places) size placed
-
-pub records_refused : (limit : ℕ) (before : List ℕ) (whole : Compressing) (octets : List ℕ) (places : List Place) (now : ℕ) (r : Record) (rs : List Record) (e : WireError) → now ≡ limit
+pub records_refused : (limit : ℕ) (before : List ℕ) (whole : Compressing) (octets : List ℕ) (places : List Place) (now : ℕ) (r : Record) (rs : List Record) (e : WriteError) → now ≡ limit
     → RecordsLeft before whole octets places (r ∷ rs) → RefusesUpTo now (length octets + length (compressed_record places (length octets) r).octets) e → RefusesUpTo limit (length before + length whole.octets) e
 records_refused limit before whole octets places now r rs e same h f =
     let here = compressed_record places (length octets) r in

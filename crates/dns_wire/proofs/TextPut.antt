@@ -5,7 +5,7 @@ use Rattle.dns_records.specs.Record.{Record}
 use Rattle.dns_wire.specs.Compress.{Place, Compressing, compressed_record, compressed_records}
 use Rattle.dns_wire.specs.Text.{EchoedQuestion, Reply, header_octets, question_octets, question_places, text}
 use Rattle.dns_wire.specs.Puts.{RefusesUpTo, asked, compressed_all}
-use Rattle.dns_wire.specs.declared.WireError.{WireError}
+use Rattle.dns_wire.specs.declared.WriteError.{WriteError}
 use Rattle.dns_wire.proofs.Puts.{refuses_more}
 use Rattle.dns_wire.proofs.RecordsPut.{record_size}
 
@@ -171,17 +171,17 @@ whole_text r four octets before h e =
     e ∙ ap (λ (p : Compressing). four ++ p.octets) h.next ∙ ap (λ (xs : List ℕ). xs ++ c) h.octets-are ∙ grouped ∙ sym (text_is r)
 
 -- a section is refused
-pub first_refused : (r : Reply) (octets : List ℕ) (places : List Place) (now limit : ℕ) (records : List Record) (e : WireError) → Begun r octets places → records ≡ r.answer → now ≡ limit → RefusesUpTo now (length octets + length (compressed_all places (length octets) records).octets) e → RefusesUpTo limit (length (text r)) e
+pub first_refused : (r : Reply) (octets : List ℕ) (places : List Place) (now limit : ℕ) (records : List Record) (e : WriteError) → Begun r octets places → records ≡ r.answer → now ≡ limit → RefusesUpTo now (length octets + length (compressed_all places (length octets) records).octets) e → RefusesUpTo limit (length (text r)) e
 first_refused r octets places now limit records e h same up f =
     let size : length (compressed_all places (length octets) records).octets ≡ length (first_all r).octets = ap (λ (p : Compressing). length p.octets) (ap (compressed_all places (length octets)) same ∙ h.next) in
     subst (λ (k : ℕ). RefusesUpTo k (length (text r)) e) up (refuses_more now (length octets + length (compressed_all places (length octets) records).octets) (length (text r)) e (omega (arith, size, h.size, text_size r)) f)
 
-pub second_refused : (r : Reply) (octets : List ℕ) (places : List Place) (now limit : ℕ) (records : List Record) (e : WireError) → Answered r octets places → records ≡ r.authority → now ≡ limit → RefusesUpTo now (length octets + length (compressed_all places (length octets) records).octets) e → RefusesUpTo limit (length (text r)) e
+pub second_refused : (r : Reply) (octets : List ℕ) (places : List Place) (now limit : ℕ) (records : List Record) (e : WriteError) → Answered r octets places → records ≡ r.authority → now ≡ limit → RefusesUpTo now (length octets + length (compressed_all places (length octets) records).octets) e → RefusesUpTo limit (length (text r)) e
 second_refused r octets places now limit records e h same up f =
     let size : length (compressed_all places (length octets) records).octets ≡ length (second_all r).octets = ap (λ (p : Compressing). length p.octets) (ap (compressed_all places (length octets)) same ∙ h.next) in
     subst (λ (k : ℕ). RefusesUpTo k (length (text r)) e) up (refuses_more now (length octets + length (compressed_all places (length octets) records).octets) (length (text r)) e (omega (arith, size, h.size, text_size r)) f)
 
-pub third_refused : (r : Reply) (octets : List ℕ) (places : List Place) (now limit : ℕ) (records : List Record) (e : WireError) → Authorised r octets places → records ≡ r.additional → now ≡ limit → RefusesUpTo now (length octets + length (compressed_all places (length octets) records).octets) e → RefusesUpTo limit (length (text r)) e
+pub third_refused : (r : Reply) (octets : List ℕ) (places : List Place) (now limit : ℕ) (records : List Record) (e : WriteError) → Authorised r octets places → records ≡ r.additional → now ≡ limit → RefusesUpTo now (length octets + length (compressed_all places (length octets) records).octets) e → RefusesUpTo limit (length (text r)) e
 third_refused r octets places now limit records e h same up f =
     let size : length (compressed_all places (length octets) records).octets ≡ length (third_all r).octets = ap (λ (p : Compressing). length p.octets) (ap (compressed_all places (length octets)) same ∙ h.next) in
     subst (λ (k : ℕ). RefusesUpTo k (length (text r)) e) up (refuses_more now (length octets + length (compressed_all places (length octets) records).octets) (length (text r)) e (omega (arith, size, h.size, text_size r)) f)

@@ -6,8 +6,8 @@ use Rattle.dns_names.specs.Name.{Labels, IsName, wire}
 use Rattle.dns_records.specs.Record.{Record}
 use Rattle.dns_wire.specs.Compress.{Place, Compressing, new_places, compressed_record}
 use Rattle.dns_wire.specs.Text.{EchoedQuestion}
-use Rattle.dns_wire.specs.declared.WireError.{WireError}
-use Rattle.dns_wire.specs.declared.WireError.TheVariants.{OutOfMemory, Short, BadPointer, ReservedLabel, NameTooLong, Cut, Trailing, BadData, DoesNotFit}
+use Rattle.dns_wire.specs.declared.WriteError.{WriteError}
+use Rattle.dns_wire.specs.declared.WriteError.TheVariants.{OutOfMemory, DoesNotFit}
 
 -- More octets stand behind those that stood, within the limit, and the table of places is as said.
 pub record Wrote (limit : ℕ) (before after : List ℕ) (limit' : ℕ) (places' : List Place) (more : Compressing) : Type 0 where
@@ -17,16 +17,9 @@ pub record Wrote (limit : ℕ) (before after : List ℕ) (limit' : ℕ) (places'
   pub same : limit' ≡ limit
 
 -- Why octets up to a length aren't written: they are more than the limit, or memory is wanting.
-abbrev pub RefusesUpTo : ℕ → ℕ → WireError → Type 0
+abbrev pub RefusesUpTo : ℕ → ℕ → WriteError → Type 0
 RefusesUpTo limit size OutOfMemory = Unit {0}
 RefusesUpTo limit size DoesNotFit = limit < size
-RefusesUpTo limit size Short = ⊥
-RefusesUpTo limit size BadPointer = ⊥
-RefusesUpTo limit size ReservedLabel = ⊥
-RefusesUpTo limit size NameTooLong = ⊥
-RefusesUpTo limit size Cut = ⊥
-RefusesUpTo limit size Trailing = ⊥
-RefusesUpTo limit size BadData = ⊥
 
 -- Octets alone, which add no place.
 abbrev pub plain_octets : List Place → List ℕ → Compressing

@@ -6,7 +6,7 @@ ghost use Rattle.dns_names.specs.Plain.{IsPlain};
 ghost use Rattle.dns_wire.specs.Compress.{place_of as stated_place_of, new_places, compressed_name, pointer as stated_pointer};
 ghost use Rattle.dns_wire.specs.Puts.{Wrote, RefusesUpTo, plain_octets, noted};
 
-use crate::WireError;
+use crate::WriteError;
 use dns_memory::Heap;
 use std::alloc::AllocError;
 use std::marker::Model;
@@ -65,7 +65,7 @@ pub(crate) struct Compressor<'a> {
 
 impl<'a> Compressor<'a> {
     /// Writes octets as they are.
-    pub(crate) fn put(&mut self, octets: &[u8]) -> Result<(), WireError>
+    pub(crate) fn put(&mut self, octets: &[u8]) -> Result<(), WriteError>
         requires { length self.old.octets.items ≤ self.old.limit }
         ensures written { OnOk result
             (Wrote self.old.limit self.old.octets.items self.new.octets.items self.new.limit self.new.places.items
@@ -73,7 +73,7 @@ impl<'a> Compressor<'a> {
         ensures refused { IfErr result (RefusesUpTo self.old.limit (length self.old.octets.items + length octets.now)) }
     {
         if self.limit - self.octets.len() < octets.len() {
-            return Err(WireError::DoesNotFit);
+            return Err(WriteError::DoesNotFit);
         }
         self.octets.extend_from_slice(octets)?;
         Ok(())
@@ -115,7 +115,7 @@ impl<'a> Compressor<'a> {
     }
 
     /// Writes a name: the fewest labels, and a pointer to the rest where some rest stands earlier (RFC 1035 section 4.1.4).
-    pub(crate) fn put_name(&mut self, name: &'a [u8]) -> Result<(), WireError>
+    pub(crate) fn put_name(&mut self, name: &'a [u8]) -> Result<(), WriteError>
         requires plain { IsPlain name.now }
         requires room { length self.old.octets.items ≤ self.old.limit }
         ensures written { OnOk result

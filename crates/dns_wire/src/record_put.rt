@@ -9,7 +9,7 @@ ghost use Rattle.dns_wire.specs.Compress.{compressed_fields, compressed_rdata, c
 ghost use Rattle.dns_wire.specs.Puts.{Wrote, RefusesUpTo, BeginsWithName, fixed_octets, compressed_all};
 
 use crate::compressor::Compressor;
-use crate::{ReplyRecord, WireError};
+use crate::{ReplyRecord, WriteError};
 use dns_records::{Field, count_within, form};
 
 /// The name at the front of plain octets, and the octets behind it.
@@ -38,7 +38,7 @@ fn fixed(rtype: u16, ttl: u32) -> [u8; 10]
 impl<'a> Compressor<'a> {
     /// Writes the parts of the data of a record. Uncompressed names stand in full, and no
     /// pointer names them (RFC 2782).
-    fn put_fields(&mut self, fields: &[Field], rdata: &'a [u8]) -> Result<(), WireError>
+    fn put_fields(&mut self, fields: &[Field], rdata: &'a [u8]) -> Result<(), WriteError>
         requires form { AreFields (stated_fields fields.now) rdata.now }
         requires room { length self.old.octets.items ≤ self.old.limit }
         ensures written { OnOk result
@@ -86,7 +86,7 @@ impl<'a> Compressor<'a> {
     }
 
     /// Writes the data of a record, by the form of its type.
-    fn put_rdata(&mut self, one: &ReplyRecord<'a>) -> Result<(), WireError>
+    fn put_rdata(&mut self, one: &ReplyRecord<'a>) -> Result<(), WriteError>
         requires room { length self.old.octets.items ≤ self.old.limit }
         ensures written { OnOk result
             (Wrote self.old.limit self.old.octets.items self.new.octets.items self.new.limit self.new.places.items
@@ -103,7 +103,7 @@ impl<'a> Compressor<'a> {
     }
 
     /// Writes a record (RFC 1035 section 4.1.3).
-    fn put_record(&mut self, one: &ReplyRecord<'a>) -> Result<(), WireError>
+    fn put_record(&mut self, one: &ReplyRecord<'a>) -> Result<(), WriteError>
         requires room { length self.old.octets.items ≤ self.old.limit }
         requires small { self.old.limit < 65536 }
         ensures written { OnOk result
@@ -122,7 +122,7 @@ impl<'a> Compressor<'a> {
     }
 
     /// Writes records one behind the other.
-    pub(crate) fn put_records(&mut self, records: &[ReplyRecord<'a>]) -> Result<(), WireError>
+    pub(crate) fn put_records(&mut self, records: &[ReplyRecord<'a>]) -> Result<(), WriteError>
         requires room { length self.old.octets.items ≤ self.old.limit }
         requires small { self.old.limit < 65536 }
         ensures written { OnOk result

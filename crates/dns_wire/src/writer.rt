@@ -11,28 +11,28 @@ ghost use Rattle.dns_wire.specs.Compress.{Place, compress_name, new_places};
 ghost use Rattle.dns_wire.specs.Compressed.{Used, StandsAt, IsWritten, AreThePlaces, IsCompressed, and_field};
 
 use crate::compressor::Compressor;
-use crate::{EchoedQuestion, Reply, ReplyRecord, WireError};
+use crate::{EchoedQuestion, Reply, ReplyRecord, WriteError};
 use dns_memory::Heap;
 
 /// Writes messages.
 pub struct Writer;
 
 /// How many records a section has, as the header says it.
-fn count(records: &[ReplyRecord<'_>]) -> Result<[u8; 2], WireError>
+fn count(records: &[ReplyRecord<'_>]) -> Result<[u8; 2], WriteError>
     ensures found { IfOk result (λ octets. octets ≡ be_octets w16 (length records.now)) }
-    ensures refused { IfErr result (λ e. (e ≡ WireError.DoesNotFit) × (65535 < length records.now)) }
+    ensures refused { IfErr result (λ e. (e ≡ WriteError.DoesNotFit) × (65535 < length records.now)) }
 {
     match u16::try_from(records.len()) {
         Ok(count) => Ok(count.to_be_bytes()),
-        Err(_) => Err(WireError::DoesNotFit),
+        Err(_) => Err(WriteError::DoesNotFit),
     }
 }
 
 /// The header of a reply (RFC 1035 section 4.1.1).
-fn header(reply: &Reply<'_>) -> Result<[u8; 12], WireError>
+fn header(reply: &Reply<'_>) -> Result<[u8; 12], WriteError>
     ensures found { IfOk result (λ octets. octets ≡ header_octets (stated reply.now)) }
     ensures refused { IfErr result
-        (λ e. (e ≡ WireError.DoesNotFit)
+        (λ e. (e ≡ WriteError.DoesNotFit)
         × (65535 < length reply.now.answer.items + length reply.now.authority.items + length reply.now.additional.items)) }
 {
     let id = reply.id.to_be_bytes();
@@ -63,7 +63,7 @@ fn header(reply: &Reply<'_>) -> Result<[u8; 12], WireError>
 
 impl<'a> Compressor<'a> {
     /// Writes the question of a reply as it came, behind the header.
-    fn put_question(&mut self, question: &Option<EchoedQuestion<'a>>) -> Result<(), WireError>
+    fn put_question(&mut self, question: &Option<EchoedQuestion<'a>>) -> Result<(), WriteError>
         requires header { length self.old.octets.items ≡ 12 }
         requires first { self.old.places.items ≡ [] }
         requires room { length self.old.octets.items ≤ self.old.limit }
@@ -86,7 +86,7 @@ impl Writer {
     /// The one compressed text of a reply (RFC 1035 section 4.1), if it has at most so many octets: a datagram takes 512,
     /// and the length before a message on a stream tells at most 65,535 (RFC 1035 section 4.2). It refuses with `DoesNotFit`
     /// where the text is longer, and with `OutOfMemory` where memory is wanting.
-    pub fn write(alloc: Heap, reply: &Reply<'_>, limit: usize) -> Result<Vec<u8, Heap>, WireError>
+    pub fn write(alloc: Heap, reply: &Reply<'_>, limit: usize) -> Result<Vec<u8, Heap>, WriteError>
         requires { limit < 65536 }
         ensures found { IfOk result (λ octets. (octets.items ≡ text (stated reply.now)) × (length octets.items ≤ limit)) }
         ensures refused { IfErr result (RefusesUpTo limit (length (text (stated reply.now)))) }

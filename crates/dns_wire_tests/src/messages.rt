@@ -1,7 +1,7 @@
 //! Messages that are read, or refused.
 use crate::samples::SAMPLES;
 use dns_memory::{Heap, heap};
-use dns_wire::{Message, Section, WireError};
+use dns_wire::{Message, Section, ReadError};
 use std::alloc::AllocError;
 use std::test::Fail;
 
@@ -22,15 +22,15 @@ fn ttls(mut section: Section<'_>) -> u32 {
 }
 
 /// The word of the samples for a fault.
-fn word(error: WireError) -> &'static str {
+fn word(error: ReadError) -> &'static str {
     match error {
-        WireError::Short => "short",
-        WireError::BadPointer => "pointer",
-        WireError::ReservedLabel => "reserved",
-        WireError::NameTooLong => "long",
-        WireError::Cut => "cut",
-        WireError::Trailing => "trailing",
-        WireError::BadData => "data",
+        ReadError::Short => "short",
+        ReadError::BadPointer => "pointer",
+        ReadError::ReservedLabel => "reserved",
+        ReadError::NameTooLong => "long",
+        ReadError::Cut => "cut",
+        ReadError::Trailing => "trailing",
+        ReadError::BadData => "data",
         _ => "another",
     }
 }
@@ -86,7 +86,7 @@ fn samples(rt: HostRuntime) -> Result<(), Fail> {
 }
 
 /// Why octets are no message.
-pub(crate) fn fault(octets: &[u8]) -> Option<WireError> {
+pub(crate) fn fault(octets: &[u8]) -> Option<ReadError> {
     Message::read(octets).err()
 }
 
@@ -98,9 +98,9 @@ fn cut_at_each_octet(rt: HostRuntime) -> Result<(), Fail> {
     assert_eq!(rt; fault(&octets), None);
     for end in 0..octets.len() {
         let wanted = if end < 12 {
-            WireError::Short
+            ReadError::Short
         } else {
-            WireError::Cut
+            ReadError::Cut
         };
         assert_eq!(rt; fault(&octets[..end]), Some(wanted), "{end}");
     }
@@ -113,7 +113,7 @@ fn one_octet_more(rt: HostRuntime) -> Result<(), Fail> {
     let alloc = heap(rt.alloc())?;
     let mut octets = hex::decode(alloc, REPLY)?;
     octets.push(0)?;
-    assert_eq!(rt; fault(&octets), Some(WireError::Trailing));
+    assert_eq!(rt; fault(&octets), Some(ReadError::Trailing));
     Ok(())
 }
 

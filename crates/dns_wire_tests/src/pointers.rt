@@ -2,7 +2,7 @@
 use crate::messages::fault;
 use dns_memory::{Heap, heap};
 use dns_names::{Name, NameRef};
-use dns_wire::{Message, NameView, WireError};
+use dns_wire::{Message, NameView, ReadError};
 use std::alloc::AllocError;
 use std::test::Fail;
 
@@ -81,7 +81,7 @@ fn refused_pointers(rt: HostRuntime) -> Result<(), Fail> {
         let mut octets = *b"\x00\x00\x00\x00\x00\x01\x00\x00\x00\x00\x00\x00..\x00\x01\x00\x01";
         octets[12] = high;
         octets[13] = low;
-        assert_eq!(rt; fault(&octets), Some(WireError::BadPointer));
+        assert_eq!(rt; fault(&octets), Some(ReadError::BadPointer));
     }
     Ok(())
 }
@@ -91,7 +91,7 @@ fn reserved_labels(rt: HostRuntime) -> Result<(), Fail> {
     for first in [64u8, 127, 128, 191] {
         let mut octets = *b"\x00\x00\x00\x00\x00\x01\x00\x00\x00\x00\x00\x00.\x00\x00\x01\x00\x01";
         octets[12] = first;
-        assert_eq!(rt; fault(&octets), Some(WireError::ReservedLabel));
+        assert_eq!(rt; fault(&octets), Some(ReadError::ReservedLabel));
     }
     Ok(())
 }
@@ -121,9 +121,9 @@ fn name_at(alloc: Heap, octets: &[u8], at: usize) -> Option<Name> {
 }
 
 /// Where the name at an offset ends, and whether it is another.
-fn read_at(octets: &[u8], at: usize, name: &NameRef<'_>) -> Result<(usize, bool), WireError> {
+fn read_at(octets: &[u8], at: usize, name: &NameRef<'_>) -> Result<(usize, bool), ReadError> {
     if at > octets.len() {
-        return Err(WireError::Cut);
+        return Err(ReadError::Cut);
     }
     let (read, end) = NameView::read(octets, at)?;
     Ok((end, read.is(name)))
@@ -140,7 +140,7 @@ fn the_longest_name_behind_a_pointer(rt: HostRuntime) -> Result<(), Fail> {
     let name = longest.lend();
     assert_eq!(rt; read_at(&octets, 12, &name), Ok((267, true)));
     assert_eq!(rt; read_at(&octets, 267, &name), Ok((269, true)));
-    assert_eq!(rt; read_at(&octets, 269, &name), Err(WireError::NameTooLong));
+    assert_eq!(rt; read_at(&octets, 269, &name), Err(ReadError::NameTooLong));
     // Behind its first label there is room for one more.
     assert_eq!(rt; read_at(&octets, 273, &name), Ok((277, false)));
     Ok(())

@@ -2,12 +2,12 @@
 use dns_memory::{Heap, heap};
 use dns_names::Name;
 use dns_records::{RData, Record, types};
-use dns_wire::{Message, Opcode, Rcode, Reply, ReplyRecord, WireError, Writer};
+use dns_wire::{Message, Opcode, Rcode, Reply, ReplyRecord, WriteError, Writer};
 use std::alloc::AllocError;
 use std::test::Fail;
 
 /// A TXT at the root with strings of these lengths.
-fn text_of(alloc: Heap, lengths: &[u8]) -> Result<Record, WireError> {
+fn text_of(alloc: Heap, lengths: &[u8]) -> Result<Record, WriteError> {
     let mut octets: Vec<u8, Heap> = Vec::new(alloc);
     for len in lengths {
         octets.extend_from_slice(&[*len])?;
@@ -16,7 +16,7 @@ fn text_of(alloc: Heap, lengths: &[u8]) -> Result<Record, WireError> {
     match RData::new(alloc, types::TXT, &octets) {
         Ok(rdata) => Ok(Record::new(Name::root(alloc), 60, rdata)),
         // Strings are data of a TXT, so that nothing but memory can be wanting.
-        Err(_) => Err(WireError::OutOfMemory),
+        Err(_) => Err(WriteError::OutOfMemory),
     }
 }
 
@@ -53,7 +53,7 @@ fn answers<'a>(
 }
 
 /// The text of the response with so many records whose data has 4,096 octets, and one TXT with strings of these lengths.
-fn text(alloc: Heap, times: u8, lengths: &[u8], limit: u16) -> Result<Vec<u8, Heap>, WireError> {
+fn text(alloc: Heap, times: u8, lengths: &[u8], limit: u16) -> Result<Vec<u8, Heap>, WriteError> {
     let root = Name::root(alloc);
     let full = text_of(alloc, &[255; 16])?;
     let last = text_of(alloc, lengths)?;
@@ -63,7 +63,7 @@ fn text(alloc: Heap, times: u8, lengths: &[u8], limit: u16) -> Result<Vec<u8, He
 }
 
 /// How many octets that text has, and how many answers are read from it.
-fn measured(alloc: Heap, times: u8, lengths: &[u8], limit: u16) -> Result<(usize, u16), WireError> {
+fn measured(alloc: Heap, times: u8, lengths: &[u8], limit: u16) -> Result<(usize, u16), WriteError> {
     let octets = text(alloc, times, lengths, limit)?;
     let answers = Message::read(&octets)?.answer_count();
     Ok((octets.len(), answers))
@@ -73,7 +73,7 @@ fn measured(alloc: Heap, times: u8, lengths: &[u8], limit: u16) -> Result<(usize
 #[test]
 fn the_limit_of_a_datagram(rt: HostRuntime) -> Result<(), Fail> {
     let alloc = heap(rt.alloc())?;
-    let over = Err(WireError::DoesNotFit);
+    let over = Err(WriteError::DoesNotFit);
     assert_eq!(rt; measured(alloc, 0, &[255, 232], 512), Ok((512, 1)));
     assert_eq!(rt; measured(alloc, 0, &[255, 233], 512), over);
     assert_eq!(rt; measured(alloc, 0, &[255, 233], 513), Ok((513, 1)));
@@ -81,7 +81,7 @@ fn the_limit_of_a_datagram(rt: HostRuntime) -> Result<(), Fail> {
 }
 
 /// The same of fifteen full records, and one whose last string has this length, on a stream.
-fn sixteen(alloc: Heap, last: u8) -> Result<(usize, u16), WireError> {
+fn sixteen(alloc: Heap, last: u8) -> Result<(usize, u16), WriteError> {
     let mut lengths = [255; 16];
     lengths[15] = last;
     measured(alloc, 15, &lengths, 65535)
@@ -92,12 +92,12 @@ fn sixteen(alloc: Heap, last: u8) -> Result<(usize, u16), WireError> {
 fn the_limit_of_a_stream(rt: HostRuntime) -> Result<(), Fail> {
     let alloc = heap(rt.alloc())?;
     assert_eq!(rt; sixteen(alloc, 66), Ok((65535, 16)));
-    assert_eq!(rt; sixteen(alloc, 67), Err(WireError::DoesNotFit));
+    assert_eq!(rt; sixteen(alloc, 67), Err(WriteError::DoesNotFit));
     Ok(())
 }
 
 /// Whether the text of one full record is this one.
-fn is_text(alloc: Heap, whole: &[u8]) -> Result<bool, WireError> {
+fn is_text(alloc: Heap, whole: &[u8]) -> Result<bool, WriteError> {
     Ok(text(alloc, 0, &[255; 16], 65535)?.as_slice() == whole)
 }
 
@@ -112,7 +112,7 @@ fn a_text_that_is_refused_memory(rt: HostRuntime) -> Result<(), Fail> {
     for n in 1..=calls {
         alloc.refuse(n);
         let error = is_text(alloc, &whole).err();
-        assert_eq!(rt; error, Some(WireError::OutOfMemory));
+        assert_eq!(rt; error, Some(WriteError::OutOfMemory));
     }
     alloc.refuse(0);
     assert_eq!(rt; is_text(alloc, &whole), Ok(true));

@@ -48,6 +48,3 @@ name_kept (Some p) = Some p.0
 -- one ancestor up, where it is kept if it passes
 pub up_kept : (p : Labels → Bool) (here above : Labels) (b : Bool) (o kept : Option Labels) → Some above ≡ parent here → b ≡ p here → kept ≡ cond b (Some here) o → or_else (find p (reverse (ancestors here))) o ≡ or_else (find p (reverse (ancestors above))) kept
 up_kept p here above b o kept e is k = up_once p here above o e ∙ ap (or_else (find p (reverse (ancestors above)))) (sym (k ∙ ap (λ (t : Bool). cond t (Some here) o) is))
-
-pub end_kept : (p : Labels → Bool) (here : Labels) (b : Bool) (o kept : Option Labels) → None ≡ parent here → b ≡ p here → kept ≡ cond b (Some here) o → or_else (find p (reverse (ancestors here))) o ≡ kept
-end_kept p here b o kept e is k = at_root p here o e ∙ sym (k ∙ ap (λ (t : Bool). cond t (Some here) o) is)
