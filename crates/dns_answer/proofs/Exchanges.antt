@@ -3,7 +3,7 @@ use Rattle.std.specs.Prelude.{◌≡◌, [], ◌∷◌, refl, codes}
 use Rattle.dns_request.specs.declared.request.Transport.TheVariants.{Udp}
 use Rattle.dns_answer.specs.Answer.{NoReply, Replies, handled}
 use Rattle.dns_answer.proofs.Hex.{hex}
-use Rattle.dns_lookup.specs.ExampleZone.{example_zone}
+use Rattle.dns_zone.specs.ExampleZone.{example_zone}
 
 -- an address that stands
 pub address_of_host1 : handled (example_zone ∷ []) (hex (codes "12340000000100000000000005686f737431076578616d706c650000010001")) Udp ≡ Replies (hex (codes "12348400000100010000000005686f737431076578616d706c650000010001c00c0001000100000e100004c0000201"))

@@ -36,7 +36,8 @@ pub record AreSections (t : ℕ) (found : List Found) (s : Sections) : Type 0 wh
 -- How many records that reply has.
 abbrev pub reply_count : ℕ → List Found → ℕ
 reply_count t found =
-    length (records_of (answer_of t found)) + length (records_of (authority_of found)) + length (additional_of (answer_of t found ++ authority_of found))
+    length (records_of (answer_of t found)) + length (records_of (authority_of found)) + length
+    (additional_of (answer_of t found ++ authority_of found))
 
 -- They are, unless that reply has more than so many records; the first two sections are in any case.
 pub record AreSectionsUpTo (most t : ℕ) (found : List Found) (s : Sections) : Type 0 where

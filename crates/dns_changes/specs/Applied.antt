@@ -107,7 +107,8 @@ module _ (before after : List Record) (c : Change) (hb : Sorted before) (ha : So
   kept b i e = elim (told (contains (c.old_soa ∷ c.removed) b)) [
     | inr f ↦ ap not f
     | inl t ↦ elim (either_true (same b c.old_soa) (contains c.removed b) t) [
-      | inl s ↦ apart (is_soa b) (subst (λ r. is_soa r ≡ true) (sym (same_is b c.old_soa s)) (one_in before c.old_soa h.old_soa).0) i
+      | inl s ↦ apart (is_soa b) (subst (λ r. is_soa r ≡ true) (sym (same_is b c.old_soa s)) (one_in before c.old_soa h.old_soa).0)
+          i
       | inr s ↦
           (let there = filter_contains b goes before (subst (λ xs. contains xs b ≡ true) h.removed s) in
           let out = both_true (not (is_soa b)) (not (contains after b)) there.0 in
@@ -125,7 +126,8 @@ module _ (before after : List Record) (c : Change) (hb : Sorted before) (ha : So
     | inl i ↦ lost_soa i
     | inr i ↦
         (let passes : goes a ≡ true = ap (λ b. not b && not (contains after a)) i ∙ ap not f in
-        let there : contains c.removed a ≡ true = subst (λ xs. contains xs a ≡ true) (sym h.removed) (contains_filter a goes before e passes) in
+        let there : contains c.removed a ≡ true =
+            subst (λ xs. contains xs a ≡ true) (sym h.removed) (contains_filter a goes before e passes) in
         ap not (later (same a c.old_soa) (contains c.removed a) there))
   ]
     where
@@ -147,7 +149,8 @@ module _ (before after : List Record) (c : Change) (hb : Sorted before) (ha : So
   new_untied : (q : Record) → found q after ≡ None → ties q c.new_soa ≡ false
   new_untied q e = elim (told (ties q c.new_soa)) [
     | inr f ↦ f
-    | inl t ↦ (let one = found_tied q c.new_soa t after in let two = contains_found c.new_soa after ha (one_in after c.new_soa h.new_soa).1 in absurd cc)
+    | inl t ↦ (let one = found_tied q c.new_soa t after in let two =
+        contains_found c.new_soa after ha (one_in after c.new_soa h.new_soa).1 in absurd cc)
   ]
 
   stays_none : (q : Record) (y : Option Record) → found q after ≡ None → found q before ≡ y → only stays y ≡ None
@@ -182,7 +185,8 @@ module _ (before after : List Record) (c : Change) (hb : Sorted before) (ha : So
         | inl i ↦
             (let is = one_is after c.new_soa b h.new_soa there.1 i in
             let t : ties q c.new_soa ≡ true = subst (λ r. ties q r ≡ true) is there.0 in
-            ap (λ d. or_else (cond d (Some c.new_soa) (only comes (Some b))) (only stays y)) t ∙ ap (λ (r : Record). Some r) (sym is))
+            ap (λ d. or_else (cond d (Some c.new_soa) (only comes (Some b))) (only stays y)) t
+                ∙ ap (λ (r : Record). Some r) (sym is))
         | inr i ↦
             (let t : ties q c.new_soa ≡ false = elim (told (ties q c.new_soa)) [
               | inr g ↦ g
@@ -201,7 +205,8 @@ module _ (before after : List Record) (c : Change) (hb : Sorted before) (ha : So
   same_found : (q : Record) → found q (applied c before) ≡ found q after
   same_found q =
       found_united q (removed_from before (c.old_soa ∷ c.removed)) (c.new_soa ∷ c.added)
-      ∙ ap (λ x. or_else (cond (ties q c.new_soa) (Some c.new_soa) x) (found q (removed_from before (c.old_soa ∷ c.removed)))) (ap (found q) h.added ∙ found_filter q comes after ha)
+      ∙ ap (λ x. or_else (cond (ties q c.new_soa) (Some c.new_soa) x) (found q (removed_from before (c.old_soa ∷ c.removed))))
+          (ap (found q) h.added ∙ found_filter q comes after ha)
       ∙ ap (or_else (cond (ties q c.new_soa) (Some c.new_soa) (only comes (found q after)))) (found_filter q stays before hb)
       ∙ at_key q (found q after) (found q before) refl refl
 
@@ -230,7 +235,8 @@ module _ (before after : List Record) (c : Change) (hb : Sorted before) (ha : So
                   let two = contains_found a after ha g in
                   let three = contains_found r after ha new.1 in
                   let is : a ≡ r = cc in
-                  apart (contains before r) (subst (λ x. contains before x ≡ true) is there.1) (not_true (contains before r) both.1))
+                  apart (contains before r) (subst (λ x. contains before x ≡ true) is there.1)
+                      (not_true (contains before r) both.1))
             ])
       ] in
       ap (λ b. cond b (Some a) None) (lost a there.1 out)
@@ -252,13 +258,18 @@ module _ (before after : List Record) (c : Change) (hb : Sorted before) (ha : So
   pub fits_is : change_fault c before ≡ None
   fits_is =
       let old : contains before c.old_soa ≡ true = (one_in before c.old_soa h.old_soa).1 in
-      let removes : list_all (contains before) c.removed ≡ true = all_of (contains before) c.removed (λ r e. (filter_contains r goes before (subst (λ xs. contains xs r ≡ true) h.removed e)).1) in
+      let removes : list_all (contains before) c.removed ≡ true =
+          all_of (contains before) c.removed (λ r e. (filter_contains r goes before
+          (subst (λ xs. contains xs r ≡ true) h.removed e)).1) in
       let adds : list_any (λ r. has r (removed_from before (c.old_soa ∷ c.removed))) (c.new_soa ∷ c.added) ≡ false =
       none_of (λ r. has r (removed_from before (c.old_soa ∷ c.removed))) (c.new_soa ∷ c.added)
-      (λ r e. unfound r (removed_from before (c.old_soa ∷ c.removed)) (found_filter r stays before hb ∙ absent_at r (found r before) e refl)) in
+      (λ r e. unfound r (removed_from before (c.old_soa ∷ c.removed)) (found_filter r stays before hb
+          ∙ absent_at r (found r before) e refl)) in
       let going : are_present before (c.old_soa ∷ c.removed) ≡ true = λ i. (old i && removes i) && not (gone_once i) in
-      let coming : are_new (removed_from before (c.old_soa ∷ c.removed)) (c.new_soa ∷ c.added) ≡ true = λ i. not (adds i) && not (come_once i) in
-      λ i. if not (old i) then Some WrongSoa else if not (going i) then Some RemovesAbsent else if not (coming i) then Some AddsPresent else None
+      let coming : are_new (removed_from before (c.old_soa ∷ c.removed)) (c.new_soa ∷ c.added) ≡ true = λ i. not (adds i)
+          && not (come_once i) in
+      λ i. if not (old i) then Some WrongSoa else if not (going i) then Some RemovesAbsent
+          else if not (coming i) then Some AddsPresent else None
 
 pub change_leads : ChangeLeads
 change_leads before after c ob oa h = record {

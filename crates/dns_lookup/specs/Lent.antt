@@ -21,7 +21,8 @@ records_found records kinds.NameError node t = []
 -- The records of one name that was searched are those that it finds in its zone.
 abbrev pub Lends : List Zone → ℕ → Found → Type 0
 Lends zones t returned =
-    (z : Zone) → slice_get zones returned.zone ≡ Some z → returned.records.now ≡ records_found z.records returned.kind returned.node t
+    (z : Zone) → slice_get zones returned.zone ≡ Some z → returned.records.now
+        ≡ records_found z.records returned.kind returned.node t
 
 -- Those of all of them.
 abbrev pub AllLend : List Zone → ℕ → List Found → Type 0

@@ -25,7 +25,8 @@ represented_is (NoData n) name kind at h = λ i. outcome_of (sym h.0 i) (sym h.1
 represented_is NameError name kind at h = λ i. outcome_of (sym h.0 i) at
 
 -- as many are returned as were found
-pub represented_length : (zones : List Zone) (fs : List lookup.Found) (returned : List Found) → RepresentAll zones fs returned → length fs ≡ length returned
+pub represented_length : (zones : List Zone) (fs : List lookup.Found) (returned : List Found) → RepresentAll zones fs returned
+    → length fs ≡ length returned
 represented_length zones [] [] h = refl
 represented_length zones (f ∷ fs) (one ∷ returned) h = ap suc (represented_length zones fs returned h.1)
 represented_length zones [] (one ∷ returned) h = absurd h
@@ -45,8 +46,10 @@ pub represented_at : (zones : List Zone) (fs : List lookup.Found) (returned : Li
 represented_at zones [] [] i one h inside e = absurd (omega (arith, inside))
 represented_at zones [] (t ∷ returned) i one h inside e = absurd h
 represented_at zones (f ∷ fs) [] i one h inside e = absurd h
-represented_at zones (f ∷ fs) (t ∷ returned) zero one h inside e = record { found = f; is = subst (λ (x : Found). Represents zones f x) (sym e) h.0; next = refl }
+represented_at zones (f ∷ fs) (t ∷ returned) zero one h inside e =
+    record { found = f; is = subst (λ (x : Found). Represents zones f x) (sym e) h.0; next = refl }
 represented_at zones (f ∷ fs) (t ∷ returned) (suc i) one h inside e =
     let rest = represented_at zones fs returned i one h.1 (omega (arith, inside)) e in
     let up : suc i + 1 ≡ suc (i + 1) = omega arith in
-    record { found = rest.found; is = rest.is; next = ap (λ (n : ℕ). take n (f ∷ fs)) up ∙ ap (λ (xs : List lookup.Found). f ∷ xs) rest.next }
+    record { found = rest.found; is = rest.is; next = ap (λ (n : ℕ). take n (f ∷ fs)) up
+        ∙ ap (λ (xs : List lookup.Found). f ∷ xs) rest.next }

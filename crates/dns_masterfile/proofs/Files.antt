@@ -10,7 +10,7 @@ use Rattle.dns_masterfile.specs.Reading.{read_file}
 use Rattle.dns_zone.specs.declared.ZoneError.TheVariants.{NoNs}
 use Rattle.dns_zone.specs.Zone.{zone_fault}
 use Rattle.dns_masterfile.specs.Printed.{printed_zone, in_print_order}
-use Rattle.dns_masterfile.proofs.ZoneE.{records_e}
+use Rattle.dns_zone.specs.ExampleZone.{example_records}
 
 -- lines, each ended by a line feed
 abbrev pub lines : List (List ℕ) → List ℕ
@@ -89,11 +89,11 @@ print_e = lines (
     ∷ codes "subdel.example. 3600 IN NS ns.example.net."
     ∷ [])
 
-pub e_printed : printed_zone records_e ≡ print_e
+pub e_printed : printed_zone example_records ≡ print_e
 unfolding digits
 e_printed = refl
 
-pub e_read : read_file print_e [] ≡ Ok (in_print_order records_e)
+pub e_read : read_file print_e [] ≡ Ok (in_print_order example_records)
 unfolding read_ipv4 read_octet read_number read_ipv6 read_segments read_segment
 e_read = refl
 

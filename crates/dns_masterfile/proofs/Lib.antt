@@ -13,7 +13,6 @@ mod Samples
 mod Sound
 mod StringsBack
 mod Written
-mod ZoneE
 pub mod Fits
 pub mod Items
 pub mod Joins

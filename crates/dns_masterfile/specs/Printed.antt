@@ -25,7 +25,8 @@ abbrev pub data_words : List Field → List ℕ → List (List ℕ)
 data_words [] octets = []
 data_words (Values vs ∷ fs) octets = value_words vs (take (octet_count vs) octets) ++ data_words fs (drop (octet_count vs) octets)
 data_words (Name ∷ fs) octets = let name = labels_of octets in printed_name name ∷ data_words fs (drop (length (wire name)) octets)
-data_words (UncompressedName ∷ fs) octets = let name = labels_of octets in printed_name name ∷ data_words fs (drop (length (wire name)) octets)
+data_words (UncompressedName ∷ fs) octets = let name = labels_of octets in printed_name name
+    ∷ data_words fs (drop (length (wire name)) octets)
 data_words (Strings ∷ fs) octets = map printed_string (strings_of octets)
 
 -- The words of the data of a type: of the parts of its form, or of its octets where it has none.

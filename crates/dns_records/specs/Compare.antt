@@ -35,8 +35,10 @@ made rtype octets = record { rtype = rtype; octets = octets }
 pub same_data-Decides : (a b : Data) → Decides (same_data a b) (a ≡ b)
 same_data-Decides a b = (
   λ t.
-      ap (λ (k : ℕ). made k a.octets) (eqb-true a.rtype b.rtype (first_so (a.rtype == b.rtype) (pointwise ◌==◌ a.octets b.octets) t))
-      ∙ ap (made b.rtype) ((bytes_decides a.octets b.octets).0 (second_so (a.rtype == b.rtype) (pointwise ◌==◌ a.octets b.octets) t)),
+      ap (λ (k : ℕ). made k a.octets) (eqb-true a.rtype b.rtype (first_so (a.rtype == b.rtype) (pointwise ◌==◌ a.octets b.octets)
+          t))
+      ∙ ap (made b.rtype) ((bytes_decides a.octets b.octets).0 (second_so (a.rtype == b.rtype) (pointwise ◌==◌ a.octets b.octets)
+          t)),
   λ e. ap (same_data a) (sym e) ∙ same_data-equiv.refl a,
 )
 
@@ -66,8 +68,11 @@ pub same_record-Decides : (a b : Record) → Decides (same_record a b) (a ≡ b)
 same_record-Decides a b = (
   λ t.
       let front = first_so (names_eq a.owner b.owner && a.ttl == b.ttl) (same_data (data_of a) (data_of b)) t in
-      ap (λ (n : Labels). joined n a.ttl (data_of a)) ((names_eq-Decides a.owner b.owner).0 (first_so (names_eq a.owner b.owner) (a.ttl == b.ttl) front))
-      ∙ ap (λ (k : ℕ). joined b.owner k (data_of a)) (eqb-true a.ttl b.ttl (second_so (names_eq a.owner b.owner) (a.ttl == b.ttl) front))
-      ∙ ap (joined b.owner b.ttl) ((same_data-Decides (data_of a) (data_of b)).0 (second_so (names_eq a.owner b.owner && a.ttl == b.ttl) (same_data (data_of a) (data_of b)) t)),
+      ap (λ (n : Labels). joined n a.ttl (data_of a)) ((names_eq-Decides a.owner b.owner).0
+          (first_so (names_eq a.owner b.owner) (a.ttl == b.ttl) front))
+      ∙ ap (λ (k : ℕ). joined b.owner k (data_of a)) (eqb-true a.ttl b.ttl
+          (second_so (names_eq a.owner b.owner) (a.ttl == b.ttl) front))
+      ∙ ap (joined b.owner b.ttl) ((same_data-Decides (data_of a) (data_of b)).0
+          (second_so (names_eq a.owner b.owner && a.ttl == b.ttl) (same_data (data_of a) (data_of b)) t)),
   λ e. ap (same_record a) (sym e) ∙ same_record-equiv.refl a,
 )

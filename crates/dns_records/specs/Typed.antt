@@ -30,14 +30,16 @@ name_of d = if is_name_type d.rtype then Some (labels_of d.octets) else None
 -- Two names and five numbers of 32 bits (RFC 1035 3.3.13).
 abbrev pub soa_numbers : Soa → List ℕ
 soa_numbers soa =
-    to_be_bytes w32 soa.serial ++ to_be_bytes w32 soa.refresh ++ to_be_bytes w32 soa.retry ++ to_be_bytes w32 soa.expire ++ to_be_bytes w32 soa.minimum
+    to_be_bytes w32 soa.serial ++ to_be_bytes w32 soa.refresh ++ to_be_bytes w32 soa.retry ++ to_be_bytes w32 soa.expire
+        ++ to_be_bytes w32 soa.minimum
 
 abbrev pub soa_data : Soa → Data
 soa_data soa = record { rtype = type_soa; octets = wire soa.mname ++ wire soa.rname ++ soa_numbers soa }
 
 -- The serial stands before the last four of the five numbers.
 abbrev pub soa_with : Data → ℕ → Data
-soa_with d serial = let at = length d.octets - 20 in record { rtype = d.rtype; octets = take at d.octets ++ to_be_bytes w32 serial ++ drop (at + 4) d.octets }
+soa_with d serial = let at = length d.octets - 20 in
+    record { rtype = d.rtype; octets = take at d.octets ++ to_be_bytes w32 serial ++ drop (at + 4) d.octets }
 
 -- A preference of 16 bits and a name (RFC 1035 3.3.9).
 abbrev pub mx_data : Mx → Data

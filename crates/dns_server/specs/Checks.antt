@@ -112,7 +112,8 @@ pub record IsBad (octets : Option (List ℕ)) (path origin text : List ℕ) : Ty
   pub says : text ≡ fault_text path fault
 
 -- What a run of `check` wrote to the two writers, by its exit status. With status 3 a writer failed or memory was refused.
-pub record CheckEnds (octets : Option (List ℕ)) (path origin : List ℕ) (out out_after err err_after : Option (List ℕ)) (status : ℕ) : Type 0 where
+pub record CheckEnds (octets : Option (List ℕ)) (path origin : List ℕ) (out out_after err err_after : Option (List ℕ)) (status : ℕ)
+    : Type 0 where
   pub done : status ≡ 0 → (text : List ℕ) × IsGood octets origin text × Appends out out_after (line text) × Keeps err err_after
   pub refused : status ≡ 1
       → (text : List ℕ)

@@ -64,7 +64,8 @@ abbrev pub Ran : List Zone → Option (List ℕ) → Option (List ℕ) → Optio
 Ran zones None out out_after = ⊥
 Ran zones (Some octets) out out_after = RunsInto zones (lines octets) ending.Done out out_after
 
-pub record ScriptEnds (zones : List Zone) (script : File) (out out_after err err_after : Option (List ℕ)) (status : ℕ) : Type 0 where
+pub record ScriptEnds (zones : List Zone) (script : File) (out out_after err err_after : Option (List ℕ)) (status : ℕ) : Type 0
+    where
   pub done : status ≡ 0 → Ran zones (option_copied script.octets) out out_after × Keeps err err_after
   pub refused : status ≡ 1
       → (fault : Fault)
@@ -83,6 +84,9 @@ IsFault config files path fault =
 -- zones that are held; or, with status 3, a writer failed or memory was refused.
 abbrev pub ReplayEnds : File → List File → File → Option (List ℕ) → Option (List ℕ) → Option (List ℕ) → Option (List ℕ) → ℕ → Type 0
 ReplayEnds config files script out out_after err err_after status =
-    ((status ≡ 1) × Keeps out out_after × ((path : List ℕ) × (fault : Fault) × IsFault config files path fault × Appends err err_after (line (fault_text path fault))))
-    ⊎ ((zones : List Zone) × AreHeld (option_copied config.octets) files zones × ScriptEnds zones script out out_after err err_after status)
+    ((status ≡ 1) × Keeps out out_after
+        × ((path : List ℕ) × (fault : Fault) × IsFault config files path fault
+        × Appends err err_after (line (fault_text path fault))))
+    ⊎ ((zones : List Zone) × AreHeld (option_copied config.octets) files zones
+        × ScriptEnds zones script out out_after err err_after status)
     ⊎ (status ≡ 3)

@@ -61,7 +61,8 @@ printed_reply peer _ = []
 abbrev pub Prints : List Zone → List ℕ → List ℕ → Type 0
 Prints zones line text =
     (IsSkipped line × (text ≡ []))
-    ⊎ ((peer : IpAddr) × (hex octets : List ℕ) × ¬ (IsSkipped line) × IsDatagram line peer hex × HasOctets hex octets × (text ≡ printed_reply peer (served zones octets)))
+    ⊎ ((peer : IpAddr) × (hex octets : List ℕ) × ¬ (IsSkipped line) × IsDatagram line peer hex × HasOctets hex octets
+        × (text ≡ printed_reply peer (served zones octets)))
 
 -- That is written to a writer; or the line is no command, and nothing is written.
 abbrev pub PrintsInto : List Zone → List ℕ → Option (List ℕ) → Option (List ℕ) → Type 0

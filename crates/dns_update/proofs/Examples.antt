@@ -9,7 +9,7 @@ use Rattle.dns_wire.specs.Message.{ResourceRecord}
 use Rattle.dns_wire.specs.declared.codes.Rcode.TheVariants.{NxDomain, Refused, YxDomain, YxRrset, NxRrset, NotZone}
 use Rattle.dns_changes.specs.Version.{serial_in}
 use Rattle.dns_update.specs.Verdict.{Verdict, Refuses, Keeps, Leaves, verdict}
-use Rattle.dns_update.proofs.ExampleZone.{example_zone, example, host1, host2, ns_com, ns_net, soa_data}
+use Rattle.dns_zone.specs.ExampleZone.{example_zone, example, host1, host2, ns_com, ns_net, soa_data}
 
 abbrev records_in : Verdict → List Record
 records_in (Leaves records) = records

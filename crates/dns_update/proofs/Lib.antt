@@ -11,5 +11,4 @@ pub mod Versions
 pub mod Aside
 pub mod Naming
 pub mod Listing
-pub mod ExampleZone
 pub mod Examples

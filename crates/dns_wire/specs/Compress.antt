@@ -30,7 +30,8 @@ abbrev pub new_places : List Place → ℕ → Labels → List Place
 new_places places at [] = []
 new_places places at (label ∷ rest) = elim (place_of places (label ∷ rest)) [
   | Some p ↦ []
-  | None ↦ if nat_lt at 16384 then (record { offset = at; suffix = label ∷ rest }) ∷ new_places places (at + 1 + length label) rest else []
+  | None ↦ if nat_lt at 16384 then (record { offset = at; suffix = label ∷ rest }) ∷ new_places places (at + 1 + length label) rest
+      else []
 ]
 
 -- Octets, and the places behind them.
@@ -69,7 +70,8 @@ compressed_record places at r =
     let rdata = compressed_rdata owner.places data_at r in
     record {
       octets =
-          owner.octets ++ to_be_bytes w16 r.rtype ++ to_be_bytes w16 class_in ++ to_be_bytes w32 r.ttl ++ to_be_bytes w16 (length rdata.octets) ++ rdata.octets;
+          owner.octets ++ to_be_bytes w16 r.rtype ++ to_be_bytes w16 class_in ++ to_be_bytes w32 r.ttl
+              ++ to_be_bytes w16 (length rdata.octets) ++ rdata.octets;
       places = rdata.places;
     }
 

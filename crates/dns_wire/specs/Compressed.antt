@@ -83,7 +83,8 @@ PartsCompressed text earlier at (UncompressedName ∷ fields) rdata stop later =
 PartsCompressed text earlier at (Strings ∷ fields) rdata stop later = OctetsAt text at rdata stop × (later ≡ earlier)
 
 -- A record (RFC 1035 4.1.3): its owner is compressed, RDLENGTH counts the octets of the compressed data.
-pub record RecordCompressed (text : List ℕ) (earlier : List Used) (at : ℕ) (r : Record) (stop : ℕ) (later : List Used) : Type 0 where
+pub record RecordCompressed (text : List ℕ) (earlier : List Used) (at : ℕ) (r : Record) (stop : ℕ) (later : List Used) : Type 0
+    where
   pub mid : ℕ
   pub size : ℕ
   pub owner : FieldCompressed text earlier at r.owner mid

@@ -123,7 +123,8 @@ impl<'a> Compressor<'a> {
             (compressed_name self.old.places.items (length self.old.octets.items) (labels_of name.now))) }
         ensures refused { IfErr result
             (RefusesUpTo self.old.limit
-            (length self.old.octets.items + length (compressed_name self.old.places.items (length self.old.octets.items) (labels_of name.now)).octets)) }
+            (length self.old.octets.items + length (compressed_name self.old.places.items (length self.old.octets.items)
+                (labels_of name.now)).octets)) }
     {
         let known = self.places.len();
         let mut rest = name;

@@ -28,7 +28,8 @@ matched z name = elim (cut z name) [
   | Some at ↦ Cut at (records_at z.records at)
   | None ↦
       if exists z.records name then Owner (records_at z.records name)
-      else if exists z.records (source z.records name) then Wildcard (encloser z.records name) (records_at z.records (source z.records name))
+      else if exists z.records (source z.records name) then Wildcard (encloser z.records name)
+          (records_at z.records (source z.records name))
       else Nothing
 ]
 

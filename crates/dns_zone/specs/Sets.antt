@@ -69,7 +69,8 @@ found_head x xs = ap (λ o. cond (is_eq o) (Some x) (found x xs)) (tied_itself r
 
 pub found_tied : (q a : Record) → ties q a ≡ true → (xs : List Record) → found q xs ≡ found a xs
 found_tied q a t [] = refl
-found_tied q a t (x ∷ xs) = λ i. cond (is_eq (record_total.congr q a x (equal_is (record_cmp q a) t) i)) (Some x) (found_tied q a t xs i)
+found_tied q a t (x ∷ xs) =
+    λ i. cond (is_eq (record_total.congr q a x (equal_is (record_cmp q a) t) i)) (Some x) (found_tied q a t xs i)
 
 -- lists in order that find the same are the same
 missed : (x y : Record) (xs ys : List Record) → record_cmp x y ≡ Less → Below y ys → found x (x ∷ xs) ≢ found x (y ∷ ys)
@@ -84,7 +85,8 @@ tails : (x q : Record) (xs ys : List Record)
     → found q (x ∷ xs) ≡ found q (x ∷ ys)
     → found q xs ≡ found q ys
 tails x q xs ys g h e = elim (told (ties q x)) [
-  | inl t ↦ (let tied = equal_is (record_cmp q x) t in not_found q xs (below_tied q x xs tied g) ∙ sym (not_found q ys (below_tied q x ys tied h)))
+  | inl t ↦ (let tied = equal_is (record_cmp q x) t in not_found q xs (below_tied q x xs tied g)
+      ∙ sym (not_found q ys (below_tied q x ys tied h)))
   | inr t ↦ (let left : found q (x ∷ xs) ≡ found q xs = ap (λ b. cond b (Some x) (found q xs)) t in
       let right : found q (x ∷ ys) ≡ found q ys = ap (λ b. cond b (Some x) (found q ys)) t in sym left ∙ e ∙ right)
 ]
@@ -104,7 +106,9 @@ same_sets (x ∷ xs) (y ∷ ys) g h is =
           let at : found x (y ∷ ys) ≡ Some y = ap (λ o. cond (is_eq o) (Some y) (found x ys)) e in
           let some : Some x ≡ Some y = sym (found_head x xs) ∙ is x ∙ at in
           let heads : x ≡ y = cc in
-          let rest = same_sets xs ys g.1 h.1 (λ q. tails x q xs ys g.0 (below_tied x y ys e h.0) (is q ∙ ap (λ r. found q (r ∷ ys)) (sym heads))) in
+          let rest =
+              same_sets xs ys g.1 h.1 (λ q. tails x q xs ys g.0 (below_tied x y ys e h.0)
+              (is q ∙ ap (λ r. found q (r ∷ ys)) (sym heads))) in
           λ i. heads i ∷ rest i
     ] refl
 
@@ -124,16 +128,20 @@ joins q x y a b = sym (record_total.congr q x y (equal_is (record_cmp q x) a)) �
 pub found_put : (q r : Record) (xs : List Record) → found q (put r xs) ≡ cond (ties q r) (Some r) (found q xs)
 found_put q r [] = refl
 found_put q r (x ∷ xs) =
-    elim (record_cmp r x) as (λ o. record_cmp r x ≡ o → found q (by_order o (r ∷ x ∷ xs) (r ∷ xs) (x ∷ put r xs)) ≡ cond (ties q r) (Some r) (found q (x ∷ xs))) [
+    elim (record_cmp r x) as (λ o. record_cmp r x ≡ o → found q (by_order o (r ∷ x ∷ xs) (r ∷ xs) (x ∷ put r xs))
+        ≡ cond (ties q r) (Some r) (found q (x ∷ xs))) [
       | Less ↦ λ e. refl
-      | Equal ↦ λ e. shadowed (ties q r) (Some r) (Some x) (found q xs) ∙ ap (λ o. cond (ties q r) (Some r) (cond (is_eq o) (Some x) (found q xs))) (alike_right record_total r x q e)
-      | Greater ↦ λ e. ap (cond (ties q x) (Some x)) (found_put q r xs) ∙ swapped (ties q x) (ties q r) (Some x) (Some r) (found q xs) (λ a b. (let tied = joins q r x b a in absurd cc))
+      | Equal ↦ λ e. shadowed (ties q r) (Some r) (Some x) (found q xs)
+          ∙ ap (λ o. cond (ties q r) (Some r) (cond (is_eq o) (Some x) (found q xs))) (alike_right record_total r x q e)
+      | Greater ↦ λ e. ap (cond (ties q x) (Some x)) (found_put q r xs)
+          ∙ swapped (ties q x) (ties q r) (Some x) (Some r) (found q xs) (λ a b. (let tied = joins q r x b a in absurd cc))
     ] refl
 
 below_put : (y r : Record) (xs : List Record) → record_cmp y r ≡ Less → Below y xs → Below y (put r xs)
 below_put y r [] e h = (e, tt)
 below_put y r (x ∷ xs) e h =
-    elim (record_cmp r x) as (λ o. Below y (by_order o (r ∷ x ∷ xs) (r ∷ xs) (x ∷ put r xs))) [ Less ↦ (e, h) | Equal ↦ (e, h.1) | Greater ↦ (h.0, below_put y r xs e h.1) ]
+    elim (record_cmp r x) as (λ o. Below y (by_order o (r ∷ x ∷ xs) (r ∷ xs) (x ∷ put r xs)))
+        [ Less ↦ (e, h) | Equal ↦ (e, h.1) | Greater ↦ (h.0, below_put y r xs e h.1) ]
 
 pub sorted_put : (r : Record) (xs : List Record) → Sorted xs → Sorted (put r xs)
 sorted_put r [] h = (tt, tt)
@@ -159,7 +167,8 @@ pub sorted_filter : (test : Record → Bool) (xs : List Record) → Sorted xs �
 sorted_filter test [] h = tt
 sorted_filter test (x ∷ xs) h =
     let rest = sorted_filter test xs h.1 in
-    elim (test x) as (λ b. Sorted (cond b (x ∷ filter test xs) (filter test xs))) [ true ↦ (below_filter x test xs h.0, rest) | false ↦ rest ]
+    elim (test x) as (λ b. Sorted (cond b (x ∷ filter test xs) (filter test xs)))
+        [ true ↦ (below_filter x test xs h.0, rest) | false ↦ rest ]
 
 found_passed : (q x : Record) (test : Record → Bool) (xs : List Record) (b t : Bool)
     → test x ≡ b
@@ -167,10 +176,12 @@ found_passed : (q x : Record) (test : Record → Bool) (xs : List Record) (b t :
     → Below x xs
     → found q (filter test xs) ≡ only test (found q xs)
     → found q (cond b (x ∷ filter test xs) (filter test xs)) ≡ only test (cond t (Some x) (found q xs))
-found_passed q x test xs true true e f h is = ap (λ c. cond c (Some x) (found q (filter test xs))) f ∙ sym (ap (λ c. cond c (Some x) None) e)
+found_passed q x test xs true true e f h is = ap (λ c. cond c (Some x) (found q (filter test xs))) f
+    ∙ sym (ap (λ c. cond c (Some x) None) e)
 found_passed q x test xs true false e f h is = ap (λ c. cond c (Some x) (found q (filter test xs))) f ∙ is
 found_passed q x test xs false true e f h is =
-    let none : found q (filter test xs) ≡ None = not_found q (filter test xs) (below_tied q x (filter test xs) (equal_is (record_cmp q x) f) (below_filter x test xs h)) in
+    let none : found q (filter test xs) ≡ None =
+        not_found q (filter test xs) (below_tied q x (filter test xs) (equal_is (record_cmp q x) f) (below_filter x test xs h)) in
     none ∙ sym (ap (λ c. cond c (Some x) None) e)
 found_passed q x test xs false false e f h is = is
 
@@ -191,7 +202,8 @@ cond_else false r a b = refl
 
 pub found_united : (q : Record) (xs rs : List Record) → found q (united xs rs) ≡ or_else (found q rs) (found q xs)
 found_united q xs [] = refl
-found_united q xs (r ∷ rs) = found_put q r (united xs rs) ∙ ap (cond (ties q r) (Some r)) (found_united q xs rs) ∙ cond_else (ties q r) r (found q rs) (found q xs)
+found_united q xs (r ∷ rs) = found_put q r (united xs rs) ∙ ap (cond (ties q r) (Some r)) (found_united q xs rs)
+    ∙ cond_else (ties q r) r (found q rs) (found q xs)
 
 pub sorted_united : (xs rs : List Record) → Sorted xs → Sorted (united xs rs)
 sorted_united xs [] h = h
@@ -240,7 +252,8 @@ pub filter_contains : (a : Record) (test : Record → Bool) (xs : List Record)
     → (test a ≡ true) × (contains xs a ≡ true)
 filter_contains a test [] e = absurd cc
 filter_contains a test (x ∷ xs) e =
-    elim (test x) as (λ b. test x ≡ b → contains (cond b (x ∷ filter test xs) (filter test xs)) a ≡ true → (test a ≡ true) × (contains (x ∷ xs) a ≡ true)) [
+    elim (test x) as (λ b. test x ≡ b → contains (cond b (x ∷ filter test xs) (filter test xs)) a ≡ true → (test a ≡ true)
+        × (contains (x ∷ xs) a ≡ true)) [
       | true ↦ λ t c. elim (either_true (same a x) (contains (filter test xs) a) c) [
         | inl s ↦ (subst (λ r. test r ≡ true) (sym (same_is a x s)) t, ap (λ b. b || contains xs a) s)
         | inr s ↦ (let rest = filter_contains a test xs s in (rest.0, grow (same a x) (contains xs a) rest.1))
@@ -262,7 +275,8 @@ contains_filter a test (x ∷ xs) e t = elim (either_true (same a x) (contains x
       let passes : test x ≡ true = subst (λ r. test r ≡ true) is t in
       rw passes (ap (λ b. b || contains (filter test xs) a) s))
   | inr s ↦ (let rest = contains_filter a test xs s t in
-      elim (test x) as (λ b. contains (cond b (x ∷ filter test xs) (filter test xs)) a ≡ true) [ true ↦ grow (same a x) (contains (filter test xs) a) rest | false ↦ rest ])
+      elim (test x) as (λ b. contains (cond b (x ∷ filter test xs) (filter test xs)) a ≡ true)
+          [ true ↦ grow (same a x) (contains (filter test xs) a) rest | false ↦ rest ])
 ]
   where
     grow : (b c : Bool) → c ≡ true → (b || c) ≡ true
