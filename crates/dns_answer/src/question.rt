@@ -7,7 +7,7 @@ ghost use Rattle.dns_wire.specs.Text.{question_octets};
 ghost use Rattle.dns_lookup.specs.Lookup.{Found as Stated};
 ghost use Rattle.dns_lookup.specs.Represented.{RepresentAll};
 ghost use Rattle.dns_lookup.specs.Lent.{AllLend};
-ghost use Rattle.dns_answer.specs.Answer.{with_question, answered, echo_of, fitted, reply_for};
+ghost use Rattle.dns_answer.specs.Answer.{with_question, answered, fitted, reply_for};
 ghost use Rattle.dns_answer.specs.Echoes.{Echoes};
 
 use crate::additional::Sections;
@@ -22,14 +22,13 @@ use dns_wire::{EchoedQuestion, Message, Opcode, Rcode, Reply};
 use dns_zone::{Zone, ZoneIndex};
 use std::alloc::AllocError;
 
-/// The question of a request as it goes out again, with its name in lower case.
-fn echoed<'a>(request: &RequestMessage<'a>, name: &'a Name) -> EchoedQuestion<'a>
-    ensures octets { result.octets.now ≡ (echo_of request.now.message.octets request.now.question).octets }
-    ensures short { length result.octets.now < 65524 }
+/// A question as it goes out again: its octets as they came, and its name.
+fn echoed<'a>(octets: &'a [u8], name: &'a Name) -> EchoedQuestion<'a>
+    ensures octets { result.octets.now ≡ octets.now }
     ensures name { result.name ≡ name.now }
 {
     EchoedQuestion {
-        octets: request.message.question_octets(),
+        octets,
         name: name.lend(),
     }
 }
@@ -139,7 +138,8 @@ pub fn reply<I: ZoneIndex>(
 {
     let name = query.question.name().to_name(alloc)?;
     let qtype = query.question.qtype();
-    let question = echoed(query, &name);
+    let octets = query.message.question_octets();
+    let question = echoed(octets, &name);
     answer(alloc, zones, &query.message, question, qtype, transport)
 }
 
@@ -156,6 +156,7 @@ pub fn refuse(
         (with_question query.now.message.octets query.now.message.message query.now.question (number_of_rcode rcode))) }
 {
     let name = query.question.name().to_name(alloc)?;
-    let reply = reply_with_question(alloc, &query.message, echoed(query, &name), rcode);
+    let octets = query.message.question_octets();
+    let reply = reply_with_question(alloc, &query.message, echoed(octets, &name), rcode);
     fit(alloc, reply, transport)
 }
