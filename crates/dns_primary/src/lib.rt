@@ -2,9 +2,12 @@
 #![tactic(auto)]
 
 mod admission;
+mod effects;
 mod event;
 mod flush;
 mod primary;
+mod queue;
+mod serve;
 mod step;
 mod update;
 
