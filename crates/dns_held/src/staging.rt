@@ -100,6 +100,7 @@ pub fn stage<I: ZoneIndex, S: ZoneStore>(
     ensures stays { (k : Kept) → IsHeld S.keeps zone.now behind.old k → OnErr result (IsHeld S.keeps zone.now behind.new k) }
     ensures room { (k : Kept) → IsHeld S.keeps zone.now behind.old k → HasRoomBy k (I.records records) result }
     ensures still { StandsStill S.moment S.left_since behind.old.store behind.new.store }
+    ensures quiet { S.failed behind.new.store ≡ S.failed behind.old.store }
 {
     let _valid = newest(&*zone, &*behind).apex();
     let octets = octets_after(behind.octets, change);

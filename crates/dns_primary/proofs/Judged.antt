@@ -41,11 +41,11 @@ leaving {X} records before (Leaves after) c next e =
     let records_are : after ≡ records next = sym e.3 ∙ ap records set in
     record { is = ap (λ xs. Leaves xs) records_are; change = subst (λ (x : Change). IsChange before (records next) x) change (subst (λ (xs : List Record). IsChange before xs e.0) records_are e.4) }
 
-tested : {A : Type 0} (b : Bool) (x y : A) → b ≡ true → (if b then x else y) ≡ x
+pub tested : {A : Type 0} (b : Bool) (x y : A) → b ≡ true → (if b then x else y) ≡ x
 tested true x y e = refl
 tested false x y e = absurd (cc e)
 
-untested : {A : Type 0} (b : Bool) (x y : A) → b ≡ false → (if b then x else y) ≡ y
+pub untested : {A : Type 0} (b : Bool) (x y : A) → b ≡ false → (if b then x else y) ≡ y
 untested true x y e = absurd (cc e)
 untested false x y e = refl
 

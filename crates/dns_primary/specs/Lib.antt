@@ -6,3 +6,5 @@ pub mod Connections
 pub mod Step
 pub mod Keeps
 pub mod Outcome
+pub mod Queue
+pub mod Steps

@@ -2,9 +2,13 @@
 #![tactic(auto)]
 
 mod admission;
+mod connections;
+mod effects;
 mod event;
 mod flush;
 mod primary;
+mod queue;
+mod serve;
 mod step;
 mod update;
 

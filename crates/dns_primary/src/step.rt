@@ -1,21 +1,25 @@
 //! The events, one step each.
-ghost use Rattle.std.specs.Prelude.{◌≡◌, List, Bool, length, map};
+ghost use Rattle.std.specs.Prelude.{◌≡◌, ◌≢◌, ◌≤◌, [], false, None, length, map};
 ghost use Rattle.dns_sectors.specs.Device.{LeavesOnly};
 ghost use Rattle.dns_store.specs.Versions.{OpensAsLeft};
 ghost use Rattle.dns_held.specs.Each.{Each3};
-ghost use Rattle.dns_held.specs.Flush.{FailedWhere};
+ghost use Rattle.dns_primary.specs.declared.event.Noted.TheVariants.{OutOfMemory as StatedLack};
 ghost use Rattle.dns_primary.specs.Machine.{Machine, kept_of};
-ghost use Rattle.dns_primary.specs.Step.{Effects as Stated, IsFlushed, noted_of};
-ghost use Rattle.dns_primary.specs.Keeps.{IsKept, IsToldBy};
+ghost use Rattle.dns_primary.specs.Step.{Arrives, IsFlushed, Step, noted_of, takes_memory};
+ghost use Rattle.dns_primary.specs.Keeps.{IsKept};
+ghost use Rattle.dns_primary.specs.Steps.{Stepped, event_shown};
 
 use crate::flush::flush;
-use crate::{Effects, Noted, Primary};
+use crate::{Effects, Event, Noted, Primary, To};
+use dns_memory::Heap;
+use dns_request::Transport;
 use dns_store::ZoneStore;
 use dns_zone::ZoneIndex;
 
 /// The first device that failed, as it is noted.
 fn noted(failed: Option<usize>) -> Noted
-    ensures { result ≡ noted_of failed }
+    ensures value { result ≡ noted_of failed }
+    ensures memory { result ≢ StatedLack }
 {
     match failed {
         Some(place) => Noted::Device(place),
@@ -29,8 +33,11 @@ impl<I: ZoneIndex, S: ZoneStore> Primary<I, S> {
     pub fn flush(&mut self) -> Effects
         // Whatever older versions there were, it is the step of the machine.
         ensures step { (old : Machine) → IsKept self.old old
-            → (fails : List Bool) × FailedWhere (λ b. S.failed b.store) fails self.old.behind.items self.new.behind.items
-            × (new : Machine) × (stated : Stated) × IsFlushed fails old stated new × IsToldBy stated result × IsKept self.new new }
+            → Stepped self.old self.new result (λ fails stated next. IsFlushed fails old stated next) }
+        ensures few { length result.headers.items ≤ 32 }
+        ensures bare { result.message ≡ None }
+        ensures empty { self.new.waiting.items ≡ [] }
+        ensures memory { result.noted ≢ StatedLack }
         // A crash at any moment of it leaves each zone's device so that it opens as the versions shown and the first of those staged.
         ensures any_moment { (old : Machine) → IsKept self.old old
             → Each3 (λ a b k. LeavesOnly S.moment S.left_since a.store b.store (OpensAsLeft S.opens k)) self.old.behind.items self.new.behind.items (map kept_of old.zones) }
@@ -41,6 +48,44 @@ impl<I: ZoneIndex, S: ZoneStore> Primary<I, S> {
             message: None,
             accepted: None,
             noted: noted(failed),
+        }
+    }
+
+    /// Does with a message on a connection what is to be done with it. On a connection that isn't there nothing happens.
+    fn arrive(&mut self, alloc: Heap, number: usize, octets: &[u8]) -> Effects
+        ensures step { (old : Machine) → IsKept self.old old
+            → Stepped self.old self.new result (λ fails stated next. Step fails old (Arrives number octets.now) stated next) }
+    {
+        match self.connections.get(number).copied() {
+            Some(peer) => self.serve(alloc, peer, To::Connection(number), octets, Transport::Tcp),
+            None => Effects::nothing(),
+        }
+    }
+
+    /// Lets an event happen, and tells what it does to the world.
+    ///
+    /// - `Datagram`, `Message`: queries are answered of what is shown, transfers with NOTIMP. An update is tested, judged on the
+    ///   newest version and staged, and its reply waits for the next flush; one that is refused before it is judged, or whose entry
+    ///   is over what is left of the journal, is answered at once. Where 32 wait, a flush comes first.
+    /// - `Connect`: the connection gets a number that no other has, or none where there are 64.
+    /// - `Flush`: what was staged is made durable and shown, and what waits goes out. `Closed`: what waits to go there goes nowhere.
+    ///   Neither takes memory.
+    ///
+    /// Where memory is refused, a request is answered with SERVFAIL, and nothing has changed but by the flush that came first.
+    pub fn step(&mut self, alloc: Heap, event: Event<'_>) -> Effects
+        // Whatever older versions there were, it is the step of the machine.
+        ensures step { (old : Machine) → IsKept self.old old
+            → Stepped self.old self.new result (λ fails stated next. Step fails old (event_shown event.entry) stated next) }
+        ensures memory { takes_memory (event_shown event.entry) ≡ false → result.noted ≢ StatedLack }
+    {
+        match event {
+            Event::Datagram(peer, octets) => {
+                self.serve(alloc, peer, To::Address(peer), octets, Transport::Udp)
+            }
+            Event::Connect(peer) => self.connect(peer),
+            Event::Message(number, octets) => self.arrive(alloc, number, octets),
+            Event::Flush => self.flush(),
+            Event::Closed(number) => self.close(number),
         }
     }
 }

@@ -46,6 +46,7 @@ pub(crate) fn judge_and_stage<I: ZoneIndex, S: ZoneStore>(
     ensures done { (k : Kept) → IsHeld S.keeps zone.now behind.old k → k.closed ≡ false
         → IsDone (λ k. IsHeld S.keeps zone.now behind.new k) k (verdict (newest_zone k) message.now.message.answers message.now.message.authorities) result }
     ensures still { StandsStill S.moment S.left_since behind.old.store behind.new.store }
+    ensures quiet { S.failed behind.new.store ≡ S.failed behind.old.store }
 {
     match judge(alloc, newest(&*zone, &*behind), message) {
         Ok(Judged::Refused(rcode)) => Outcome::Waits(rcode),

@@ -24,21 +24,22 @@ returns-clause-step g c old kept =
     let done = c.flush-headers.ensures.flushed old given kept.waiting_are in
     let fails = done.0 in
     let z = refilled zones.len c.flush-headers.new.zones zones.items (omega (arith, c.flush-headers.auto.zones, ap length a, zones.ok)) in
-    let y = refilled behind.len c.flush-headers.new.behind behind.items (omega (arith, c.flush-headers.auto.behind, ap length b, behind.ok)) in (
-      fails,
-      failed_at (λ b. g.S.ZoneStore.failed b.store) fails b (sym y) done.2,
-      flushed fails old,
-      record { sent = flush_sends fails old; accepted = None; noted = noted_of (first_true fails) },
-      (done.1, record { state = refl; sent = refl; accepted = refl; noted = refl }),
-      record { sent = sym done.4 ∙ sym (append-nil (map header_out c.flush-headers.result.0.items)); accepted = refl; noted = sym (c.noted.ensures ∙ ap noted_of done.5) },
-      record {
+    let y = refilled behind.len c.flush-headers.new.behind behind.items (omega (arith, c.flush-headers.auto.behind, ap length b, behind.ok)) in
+    record {
+      fails = fails;
+      failed = failed_at (λ b. g.S.ZoneStore.failed b.store) fails b (sym y) done.2;
+      next = flushed fails old;
+      stated = record { sent = flush_sends fails old; accepted = None; noted = noted_of (first_true fails) };
+      is = (done.1, record { state = refl; sent = refl; accepted = refl; noted = refl });
+      told = record { sent = sym done.4 ∙ sym (append-nil (map header_out c.flush-headers.result.0.items)); accepted = refl; noted = sym (c.noted.ensures.value ∙ ap noted_of done.5) };
+      kept = record {
         zones_are = moved3 (sym z) (sym y) (map kept_of (flushed fails old).zones) (λ z b k. IsHeld g.S.ZoneStore.keeps z b k) done.3;
         settings_are = flushed_settings c.args.self.now.settings.items fails old.zones kept.settings_are;
         connections_are = kept.connections_are;
         as_many = kept.as_many;
         waiting_are = subst (λ (l : List Waiting). Each2 IsWaiting l (flushed fails old).waiting) (sym c.flush-headers.ensures.empty) tt;
-      },
-    )
+      };
+    }
 
 pub returns-clause-any_moment : goal.returns-clause-any_moment
 returns-clause-any_moment g c old kept =

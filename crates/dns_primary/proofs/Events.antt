@@ -1,0 +1,28 @@
+-- Requests that are served, as events of the machine.
+use Rattle.std.proofs.Common.{◌≡◌, ◌⊎◌, inl, inr, ⊎_elim, ℕ, Bool, List, [], ◌++◌, Option, Some, None, refl, sym, ap, subst, ◌∙◌}
+use Rattle.dns_request.specs.declared.request.Transport.TheVariants.{Udp, Tcp}
+use Rattle.dns_primary.specs.declared.event.Peer.{Peer}
+use Rattle.dns_primary.specs.declared.event.To.TheVariants.{Address, Connection}
+use Rattle.dns_primary.specs.Machine.{Machine, peer_at}
+use Rattle.dns_primary.specs.Flush.{Sent, flush_sends}
+use Rattle.dns_primary.specs.Step.{Effects, Datagram, Arrives, IsArrived, Step, failures, failure, failure_on}
+use Rattle.dns_primary.specs.Steps.{IsServedOrLacks, LacksRequest, nothing}
+use Rattle.dns_primary.proofs.Served.{gives_none}
+
+pub came : (old next : Machine) (peer : Peer) (octets : List ℕ) (fails : List Bool) (stated : Effects) → IsServedOrLacks old peer (Address peer) octets Udp fails stated next → Step fails old (Datagram peer octets) stated next
+came old next peer octets fails stated h = ⊎_elim (λ s. inl s) (λ l. inr (record { takes = refl; noted = l.noted; accepted = l.accepted; stays = l.stays })) h
+
+pub arrived : (old next : Machine) (number : ℕ) (peer : Peer) (octets : List ℕ) (fails : List Bool) (stated : Effects) → peer_at number old.connections ≡ Some peer
+    → IsServedOrLacks old peer (Connection number) octets Tcp fails stated next → Step fails old (Arrives number octets) stated next
+arrived old next number peer octets fails stated e h =
+    let goes : failures old (Arrives number octets) ≡ failure (Connection number) octets = ap (λ (o : Option Peer). failure_on number o octets) e in
+    ⊎_elim (λ s. inl (subst (λ (o : Option Peer). IsArrived fails old number o octets stated next) (sym e) s))
+    (λ (l : LacksRequest fails old (Connection number) octets stated next). inr (record {
+      takes = refl;
+      noted = l.noted;
+      accepted = l.accepted;
+      stays = ⊎_elim (λ s. inl (s.0, s.1, s.2 ∙ sym goes)) (λ s. inr (s.0, s.1, s.2, s.3 ∙ ap (λ (x : List Sent). flush_sends fails old ++ x) (sym goes))) l.stays;
+    })) h
+
+pub arrived_nowhere : (old : Machine) (number : ℕ) (octets : List ℕ) → peer_at number old.connections ≡ None → Step [] old (Arrives number octets) nothing old
+arrived_nowhere old number octets e = inl (subst (λ (o : Option Peer). IsArrived [] old number o octets nothing old) (sym e) (refl, gives_none old))

@@ -1,0 +1,155 @@
+-- What is judged ends as the versions of its zone say, and its reply waits.
+use Rattle.std.proofs.Common.{◌≡◌, ℕ, Bool, true, false, not, List, [], ◌∷◌, ◌++◌, map, refl, sym, ap, subst, ◌∙◌}
+use Rattle.std.specs.Prelude.{Some, None, Option, slice_get, slice_set, slice_index_or, nat_le, ◌==◌, IsTrue, ◌↔◌, if◌then◌else◌}
+use Rattle.std.specs.declared.net.ip_addr.IpAddr.{IpAddr}
+use Rattle.std.proofs.lemmas.List.{map-append}
+use Rattle.dns_records.specs.Record.{Record}
+use Rattle.dns_records.specs.Types.{type_soa, class_in}
+use Rattle.dns_request.specs.Request.{rcode_formerr, rcode_refused}
+use Rattle.dns_wire.specs.Message.{header_of}
+use Rattle.dns_wire.specs.Codes.{number_of_rcode}
+use Rattle.dns_wire.specs.declared.codes.Rcode.{Rcode}
+use Rattle.dns_wire.specs.declared.codes.Rcode.TheVariants.{NoError, ServFail}
+use Rattle.dns_zone.specs.Zone.{Zone}
+use Rattle.dns_update.specs.Verdict.{Verdict, Refuses, Keeps, Leaves}
+use Rattle.dns_policy.specs.Prefix.{IsAllowed}
+use Rattle.dns_store.specs.Versions.{Kept, newest_of, staged_with}
+use Rattle.dns_store.specs.Room.{entry_between, sectors_left}
+use Rattle.dns_held.specs.declared.behind.Behind.{Behind}
+use Rattle.dns_held.specs.Each.{Each2, Each3}
+use Rattle.dns_held.specs.Held.{IsHeld}
+use Rattle.dns_held.specs.Staging.{has_room}
+use Rattle.dns_primary.specs.declared.event.Waiting.{Waiting}
+use Rattle.dns_primary.specs.declared.primary.ZoneSettings.{ZoneSettings}
+use Rattle.dns_primary.specs.declared.update.Outcome.{Outcome}
+use Rattle.dns_primary.specs.declared.update.Outcome.TheVariants as outcome
+use Rattle.dns_primary.specs.Machine.{Setting, Made, ZoneState, Machine, Connection, kept_of, updates_of, versions_of}
+use Rattle.dns_primary.specs.Flush.{Sent, rcode_servfail}
+use Rattle.dns_primary.specs.Update.{Asked, Admission, Rejects, Admits, admission, admission_at, admission_in, place_of, rcode_notauth, waits, stages, replies, with_staged, judged_in}
+use Rattle.dns_primary.specs.Outcome.{Ends, end_of}
+use Rattle.dns_primary.specs.Keeps.{AreHeld, IsSet, IsWaiting}
+use Rattle.dns_primary.specs.Queue.{Holds}
+use Rattle.dns_primary.proofs.Places.{set_same, map_set, map_get, at3, mid_set, right_set, push2}
+
+pub kept_staged : (made : Made) (z : ZoneState) → kept_of (with_staged made z) ≡ staged_with made.records (kept_of z)
+kept_staged made z = λ i. record { shape = z.setting.shape; loaded = z.loaded; shown = versions_of z.shown; staged = map-append (λ (x : Made). x.records) z.staged (made ∷ []) i; base = z.base; closed = z.closed }
+
+-- the reply waits, and the zone at the place has these versions
+pub record Waited (m : Machine) (a : Asked) (place : ℕ) (z : ZoneState) (rcode : Rcode) (versions : Kept) (ended : Machine × List Sent) : Type 0 where
+  pub zone : ZoneState
+  pub updates : List Made
+  pub ended_is : ended ≡ (waits (record m { zones = slice_set m.zones place zone }) a place (number_of_rcode rcode) updates, [])
+  pub versions_are : kept_of zone ≡ versions
+  pub setting_is : zone.setting ≡ z.setting
+
+abbrev pub EndsAs : Machine → Asked → ℕ → ZoneState → Outcome → Kept → Machine × List Sent → Type 0
+EndsAs m a place z (outcome.Waits rcode) versions ended = Waited m a place z rcode versions ended
+EndsAs m a place z (outcome.AtOnce rcode) versions ended = (ended ≡ (m, replies a (number_of_rcode rcode) ∷ [])) × (versions ≡ kept_of z)
+EndsAs m a place z outcome.OutOfMemory versions ended = Unit {0}
+
+module _ (m : Machine) (a : Asked) (place : ℕ) (z : ZoneState) (there : slice_get m.zones place ≡ Some z) where
+  unchanged : (rcode : Rcode) → Waited m a place z rcode (kept_of z) (waits m a place (number_of_rcode rcode) (updates_of z), [])
+  unchanged rcode = record {
+    zone = z;
+    updates = updates_of z;
+    ended_is = ap (λ (zs : List ZoneState). (waits (record m { zones = zs }) a place (number_of_rcode rcode) (updates_of z), [])) (sym (set_same m.zones place z there));
+    versions_are = refl;
+    setting_is = refl;
+  }
+
+  staged : (records : List Record) → Waited m a place z NoError (staged_with records (kept_of z)) (stages m a place z records, [])
+  staged records = record {
+    zone = with_staged (record { update = a.message; records = records }) z;
+    updates = updates_of (with_staged (record { update = a.message; records = records }) z);
+    ended_is = refl;
+    versions_are = kept_staged (record { update = a.message; records = records }) z;
+    setting_is = refl;
+  }
+
+  abbrev end_by : Bool → Bool → List Record → Ends
+  end_by b c after =
+      if not b then record { outcome = outcome.Waits ServFail; versions = kept_of z }
+      else if c then record { outcome = outcome.Waits NoError; versions = staged_with after (kept_of z) }
+      else record { outcome = outcome.AtOnce ServFail; versions = kept_of z }
+
+  abbrev ended_by : Bool → Bool → List Record → Machine × List Sent
+  ended_by b c after =
+      if not b then (waits m a place rcode_servfail (updates_of z), [])
+      else if c then (stages m a place z after, [])
+      else (m, replies a rcode_servfail ∷ [])
+
+  accepted : (b c : Bool) (after : List Record) → EndsAs m a place z (end_by b c after).outcome (end_by b c after).versions (ended_by b c after)
+  accepted true true after = staged after
+  accepted true false after = (refl, refl)
+  accepted false c after = unchanged ServFail
+
+  pub ends_as : (v : Verdict) → EndsAs m a place z (end_of (kept_of z) v).outcome (end_of (kept_of z) v).versions (judged_in m a place z v)
+  ends_as (Refuses rcode) = unchanged rcode
+  ends_as Keeps = unchanged NoError
+  ends_as (Leaves after) = accepted (has_room (kept_of z) after) (nat_le (entry_between (newest_of (kept_of z)) after) (sectors_left (kept_of z))) after
+
+  pub ends_waiting : (v : Verdict) (rcode : Rcode) → outcome.Waits rcode ≡ (end_of (kept_of z) v).outcome → Waited m a place z rcode (end_of (kept_of z) v).versions (judged_in m a place z v)
+  ends_waiting v rcode e = subst (λ (o : Outcome). EndsAs m a place z o (end_of (kept_of z) v).versions (judged_in m a place z v)) (sym e) (ends_as v)
+
+  pub ends_at_once : (v : Verdict) (rcode : Rcode) → outcome.AtOnce rcode ≡ (end_of (kept_of z) v).outcome
+      → (judged_in m a place z v ≡ (m, replies a (number_of_rcode rcode) ∷ [])) × ((end_of (kept_of z) v).versions ≡ kept_of z)
+  ends_at_once v rcode e = subst (λ (o : Outcome). EndsAs m a place z o (end_of (kept_of z) v).versions (judged_in m a place z v)) (sym e) (ends_as v)
+
+module _ {I S : Type 0} (keeps : S → Kept → Type 0) (zones : List Zone) (behind : List (Behind I S)) (settings : List ZoneSettings) (waiting : List Waiting) (m : Machine) (place : ℕ) (z : ZoneState) where
+  pub was_held : (d : Zone) (e : Behind I S) → Holds keeps zones behind settings waiting m.connections m → slice_get m.zones place ≡ Some z
+      → IsHeld keeps (slice_index_or zones place d) (slice_index_or behind place e) (kept_of z)
+  was_held d e held there = at3 (λ (z : Zone) (b : Behind I S) (k : Kept). IsHeld keeps z b k) zones behind (map kept_of m.zones) place d e (kept_of z) held.zones_are (map_get kept_of m.zones place z there)
+
+  -- the machine stays, and what stands behind the zone keeps the same versions
+  pub still_holds : (d : Zone) (new : Behind I S) → Holds keeps zones behind settings waiting m.connections m → slice_get m.zones place ≡ Some z
+      → IsHeld keeps (slice_index_or zones place d) new (kept_of z) → Holds keeps zones (slice_set behind place new) settings waiting m.connections m
+  still_holds d new held there one = record {
+    zones_are =
+        subst (λ (ks : List Kept). Each3 (λ (z : Zone) (b : Behind I S) (k : Kept). IsHeld keeps z b k) zones (slice_set behind place new) ks) (set_same (map kept_of m.zones) place (kept_of z) (map_get kept_of m.zones place z there))
+        (mid_set (λ (z : Zone) (b : Behind I S) (k : Kept). IsHeld keeps z b k) zones behind (map kept_of m.zones) place d new (kept_of z) held.zones_are one);
+    settings_are = held.settings_are;
+    waiting_are = held.waiting_are;
+    connections_are = held.connections_are;
+  }
+
+  -- one reply more waits, and the zone has other versions
+  pub holds_more : (d : Zone) (new : Behind I S) (a : Asked) (rcode : Rcode) (versions : Kept) (ended : Machine × List Sent) (one : Waiting) → Holds keeps zones behind settings waiting m.connections m → slice_get m.zones place ≡ Some z
+      → Waited m a place z rcode versions ended → IsHeld keeps (slice_index_or zones place d) new versions
+      → one.to ≡ a.to → header_of one.request ≡ a.message.header → one.rcode ≡ rcode → one.zone ≡ place
+      → (ended.1 ≡ []) × Holds keeps zones (slice_set behind place new) settings (waiting ++ one ∷ []) m.connections ended.0
+  holds_more d new a rcode versions ended one held there w is to_is header_is rcode_is zone_is =
+      let after : Machine = waits (record m { zones = slice_set m.zones place w.zone }) a place (number_of_rcode rcode) w.updates in
+      let behind_is : IsHeld keeps (slice_index_or zones place d) new (kept_of w.zone) = subst (λ (k : Kept). IsHeld keeps (slice_index_or zones place d) new k) (sym w.versions_are) is in
+      let holds : Holds keeps zones (slice_set behind place new) settings (waiting ++ one ∷ []) m.connections after = record {
+        zones_are =
+            subst (λ (ks : List Kept). Each3 (λ (z : Zone) (b : Behind I S) (k : Kept). IsHeld keeps z b k) zones (slice_set behind place new) ks) (sym (map_set kept_of m.zones place w.zone))
+            (mid_set (λ (z : Zone) (b : Behind I S) (k : Kept). IsHeld keeps z b k) zones behind (map kept_of m.zones) place d new (kept_of w.zone) held.zones_are behind_is);
+        settings_are = right_set IsSet settings m.zones place z w.zone held.settings_are there
+            (λ s set. record { update = λ x. subst (λ (t : Setting). IsTrue (t.may_update x) ↔ IsAllowed s.update.items x) (sym w.setting_is) (set.update x) });
+        waiting_are = push2 IsWaiting waiting m.waiting one (record { to = a.to; header = a.message.header; rcode = number_of_rcode rcode; zone = place; updates = w.updates }) held.waiting_are
+            (record { to = to_is; header = header_is; rcode = ap number_of_rcode rcode_is; zone = zone_is });
+        connections_are = held.connections_are;
+      } in
+      (ap (λ (p : Machine × List Sent). p.1) w.ended_is, subst (λ (p : Machine × List Sent). Holds keeps zones (slice_set behind place new) settings (waiting ++ one ∷ []) m.connections p.0) (sym w.ended_is) holds)
+
+-- an update is admitted for an open zone alone
+open_in : (b c : Bool) (place other : ℕ) (z s : ZoneState) → s.closed ≡ c → (if not b then Rejects rcode_refused else if c then Rejects rcode_servfail else Admits place s) ≡ Admits other z → (place ≡ other) × (s ≡ z) × (z.closed ≡ false)
+open_in true true place other z s is e = absurd (cc e)
+open_in true false place other z s is e = let p : place ≡ other = cc e in let q : s ≡ z = cc e in (p, q, sym (ap (λ (t : ZoneState). t.closed) q) ∙ is)
+open_in false c place other z s is e = absurd (cc e)
+
+open_at : (address : IpAddr) (place other : ℕ) (z : ZoneState) (o : Option ZoneState) → admission_in address place o ≡ Admits other z → z.closed ≡ false
+open_at address place other z None e = absurd (cc e)
+open_at address place other z (Some s) e = (open_in (s.setting.may_update address) s.closed place other z s refl e).2
+
+open_among : (zones : List ZoneState) (address : IpAddr) (other : ℕ) (z : ZoneState) (o : Option ℕ) → admission_at zones address o ≡ Admits other z → z.closed ≡ false
+open_among zones address other z None e = absurd (cc e)
+open_among zones address other z (Some place) e = open_at address place other z (slice_get zones place) e
+
+past : (b c : Bool) (x : Admission) (other : ℕ) (z : ZoneState) → (if not b then Rejects rcode_formerr else if not c then Rejects rcode_notauth else x) ≡ Admits other z → x ≡ Admits other z
+past true true x other z e = e
+past true false x other z e = absurd (cc e)
+past false c x other z e = absurd (cc e)
+
+pub admitted_open : (zones : List ZoneState) (a : Asked) (place : ℕ) (z : ZoneState) → admission zones a ≡ Admits place z → z.closed ≡ false
+admitted_open zones a place z e = open_among zones a.address place z (place_of a.zone.name zones) (past (a.zone.qtype == type_soa) (a.zone.qclass == class_in) (admission_at zones a.address (place_of a.zone.name zones)) place z e)

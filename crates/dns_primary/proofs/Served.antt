@@ -1,0 +1,266 @@
+-- What is done with requests, as steps.
+use Rattle.std.proofs.Common.{◌≡◌, ◌⊎◌, inl, inr, ⊎_elim, ◌<◌, ℕ, Bool, true, false, not, List, [], ◌∷◌, ◌++◌, length, map, Option, Some, None, Result, Ok, Err, refl, sym, ap, subst, ◌∙◌, arith, append-nil}
+use Rattle.std.specs.Prelude.{◌==◌, ◌&&◌, ◌||◌, nat_lt, IfOk, IfErr, if◌then◌else◌}
+use Rattle.std.proofs.lemmas.Bool.Decides.{nat_tests}
+use Rattle.dns_records.specs.Types.{type_ixfr, type_axfr, type_mailb, type_maila, class_in}
+use Rattle.dns_wire.specs.Message.{Header, Question, Message, header_of}
+use Rattle.dns_wire.specs.Codes.{number_of_rcode}
+use Rattle.dns_wire.specs.Reading.{message_of}
+use Rattle.dns_wire.specs.Text.{text}
+use Rattle.dns_zone.specs.Zone.{Zone}
+use Rattle.dns_zone.specs.declared.index.ZoneIndex as index
+use Rattle.dns_request.specs.Request as request
+use Rattle.dns_request.specs.Request.{opcode_query, opcode_update, rcode_notimp, rcode_formerr, rcode_refused, request_of, read_as, message_as, question_as, has_counts, too_long}
+use Rattle.dns_request.specs.declared.request.Transport.{Transport}
+use Rattle.dns_answer.specs.Answer.{Handled, Replies, bare_reply, handled, handled_as}
+use Rattle.dns_store.specs.declared.zone_store.ZoneStore as store
+use Rattle.dns_store.specs.Versions.{Kept}
+use Rattle.dns_held.specs.declared.behind.Behind.{Behind}
+use Rattle.dns_held.specs.Each.{Each2}
+use Rattle.dns_held.specs.Flush.{FailedWhere, HasFailed}
+use Rattle.dns_held.specs.Held.{IsHeld, shown_zone}
+use Rattle.dns_primary.specs.declared.event.Peer.{Peer}
+use Rattle.dns_primary.specs.declared.event.To.{To}
+use Rattle.dns_primary.specs.declared.event.Effects.{Effects}
+use Rattle.dns_primary.specs.declared.event.Noted.TheVariants.{OutOfMemory}
+use Rattle.dns_primary.specs.declared.primary.Primary.{Primary}
+use Rattle.dns_primary.specs.declared.update.Outcome.{Outcome}
+use Rattle.dns_primary.specs.declared.update.Outcome.TheVariants as outcome
+use Rattle.dns_primary.specs.Machine.{ZoneState, Machine, kept_of, shown_zones}
+use Rattle.dns_primary.specs.Flush.{Sent, Replied, flushed, flush_sends, rcode_servfail}
+use Rattle.dns_primary.specs.Update.{Asked, admission, admitted, is_full, made_place, replies, updated}
+use Rattle.dns_primary.specs.Step as machine
+use Rattle.dns_primary.specs.Step.{AreFailures, Gives, IsServed, failure, is_asking}
+use Rattle.dns_primary.specs.Keeps.{AreHeld, IsKept, IsToldBy}
+use Rattle.dns_primary.specs.Queue.{IsAnswered, IsUntouched}
+use Rattle.dns_primary.specs.Steps.{Stepped, nothing, one_reply, answered_with, LacksUpdate, IsUpdatedOrLacks, LacksRequest, IsServedOrLacks}
+use Rattle.dns_primary.proofs.Judged.{tested, untested}
+
+-- the zones are those that the machine shows
+pub are_shown : {I S : Type 0} (keeps : S → Kept → Type 0) (zones : List Zone) (behind : List (Behind I S)) (states : List ZoneState) → AreHeld keeps zones behind states → zones ≡ map (λ z. shown_zone (kept_of z)) states
+are_shown keeps [] [] [] each = refl
+are_shown keeps (z ∷ zones) (b ∷ behind) (s ∷ states) each = λ i. each.0.zone_is i ∷ are_shown keeps zones behind states each.1 i
+are_shown keeps _ _ _ each = absurd each
+
+-- where no device is touched the failures stay
+pub failed_still : {S B : Type 0} (store : B → S) (failed : S → ℕ) (moment : S → ℕ) (left_since : S → ℕ → List (List ℕ) → Type 0) (fails : List Bool) (olds mids news : List B)
+    → FailedWhere (λ b. failed (store b)) fails olds mids → Each2 (λ a b. IsUntouched moment left_since failed (store a) (store b)) mids news → FailedWhere (λ b. failed (store b)) fails olds news
+failed_still store failed moment left_since [] olds mids news h same = tt
+failed_still store failed moment left_since (f ∷ fails) (a ∷ olds) (b ∷ mids) (c ∷ news) h same =
+    (λ e. subst (λ n. HasFailed (failed (store a)) n) (sym same.0.quiet) (h.0 e), failed_still store failed moment left_since fails olds mids news h.1 same.1)
+failed_still store failed moment left_since (f ∷ fails) [] mids news h same = absurd h
+failed_still store failed moment left_since (f ∷ fails) (a ∷ olds) [] news h same = absurd h
+failed_still store failed moment left_since (f ∷ fails) (a ∷ olds) (b ∷ mids) [] h same = absurd same
+
+-- octets that are some request get a reply
+asking_by : (short response : Bool) (x r : request.Request) → (if short || response then request.Ignored else x) ≡ r → (r ≡ request.Ignored → ⊥) → (not short && not response) ≡ true
+asking_by true response x r e some = absurd (some (sym e))
+asking_by false true x r e some = absurd (some (sym e))
+asking_by false false x r e some = refl
+
+pub asking : (octets : List ℕ) (transport : Transport) (r : request.Request) → request_of octets transport ≡ r → (r ≡ request.Ignored → ⊥) → is_asking octets ≡ true
+asking octets transport r e some =
+    asking_by (nat_lt (length octets) 12) (header_of octets).qr
+    (if not ((header_of octets).opcode == opcode_query || (header_of octets).opcode == opcode_update) then request.Refused rcode_notimp
+    else if too_long transport octets then request.Refused rcode_formerr
+    else read_as (message_of octets)) r e some
+
+-- an update has the opcode of one
+past_tests : (b o l : Bool) (x : request.Request) (m : Message) (q : Question)
+    → (if b then request.Ignored else if not o then request.Refused rcode_notimp else if l then request.Refused rcode_formerr else x) ≡ request.Update m q → x ≡ request.Update m q
+past_tests true o l x m q e = absurd (cc e)
+past_tests false true true x m q e = absurd (cc e)
+past_tests false true false x m q e = e
+past_tests false false l x m q e = absurd (cc e)
+
+past_counts : (b : Bool) (x : request.Request) (m : Message) (q : Question) → (if b then x else request.Refused rcode_formerr) ≡ request.Update m q → x ≡ request.Update m q
+past_counts true x m q e = e
+past_counts false x m q e = absurd (cc e)
+
+kind : (a b c d : Bool) (n m : Message) (p q : Question)
+    → (if a then request.Update n p else if b then request.Transfer n p else if c then request.NotServed n p rcode_notimp else if not d then request.NotServed n p rcode_refused else request.Query n p) ≡ request.Update m q
+    → (n ≡ m) × (a ≡ true)
+kind true b c d n m p q e = let same : n ≡ m = cc e in (same, refl)
+kind false true c d n m p q e = absurd (cc e)
+kind false false true d n m p q e = absurd (cc e)
+kind false false false false n m p q e = absurd (cc e)
+kind false false false true n m p q e = absurd (cc e)
+
+by_questions : (n m : Message) (q : Question) (qs : List Question) → message_as n qs ≡ request.Update m q → (m.header.opcode == opcode_update) ≡ true
+by_questions n m q [] e = absurd (cc e)
+by_questions n m q (p ∷ []) e =
+    let k = kind (n.header.opcode == opcode_update) (p.qtype == type_ixfr || p.qtype == type_axfr) (p.qtype == type_mailb || p.qtype == type_maila) (p.qclass == class_in) n m p q (past_counts (has_counts n p) (question_as n p) m q e) in
+    subst (λ (x : Message). (x.header.opcode == opcode_update) ≡ true) k.0 k.1
+by_questions n m q (p ∷ r ∷ rest) e = absurd (cc e)
+
+by_reading : (o : Option Message) (m : Message) (q : Question) → read_as o ≡ request.Update m q → (m.header.opcode == opcode_update) ≡ true
+by_reading None m q e = absurd (cc e)
+by_reading (Some n) m q e = by_questions n m q n.questions e
+
+pub update_opcode : (octets : List ℕ) (transport : Transport) (m : Message) (q : Question) → request_of octets transport ≡ request.Update m q → (m.header.opcode == opcode_update) ≡ true
+update_opcode octets transport m q e =
+    by_reading (message_of octets) m q
+    (past_tests (nat_lt (length octets) 12 || (header_of octets).qr) ((header_of octets).opcode == opcode_query || (header_of octets).opcode == opcode_update) (too_long transport octets) (read_as (message_of octets)) m q e)
+
+-- SERVFAIL, made from the header of octets that get a reply
+pub failure_is : (to : To) (octets : List ℕ) (h : Header) → is_asking octets ≡ true → h ≡ header_of octets → failure to octets ≡ Replied to (text (bare_reply h rcode_servfail)) ∷ []
+failure_is to octets h asks is =
+    tested (is_asking octets) (Replied to (text (bare_reply (header_of octets) rcode_servfail)) ∷ []) [] asks ∙ ap (λ (x : Header). Replied to (text (bare_reply x rcode_servfail)) ∷ []) (sym is)
+
+-- a place was made for the reply of an update
+full_place : (old : Machine) (fails : List Bool) → is_full old ≡ true → made_place fails old ≡ (flushed fails old, flush_sends fails old)
+full_place old fails e = tested (is_full old) (flushed fails old, flush_sends fails old) (old, []) e
+
+free_place : (old : Machine) (fails : List Bool) → is_full old ≡ false → made_place fails old ≡ (old, [])
+free_place old fails e = untested (is_full old) (flushed fails old, flush_sends fails old) (old, []) e
+
+abbrev IsPlaced : Machine → List Bool → machine.Effects → Machine → Type 0
+IsPlaced old fails stated mid = AreFailures (is_full old) old fails × Gives stated mid (made_place fails old).0 (made_place fails old).1 fails
+
+pub placed_full : (old : Machine) (fails : List Bool) (stated : machine.Effects) (mid : Machine) → is_full old ≡ true → AreFailures true old fails × Gives stated mid (flushed fails old) (flush_sends fails old) fails → IsPlaced old fails stated mid
+placed_full old fails stated mid full h = (
+  subst (λ (b : Bool). AreFailures b old fails) (sym full) h.0,
+  subst (λ (p : Machine × List Sent). Gives stated mid p.0 p.1 fails) (sym (full_place old fails full)) h.1,
+)
+
+pub placed_free : (old : Machine) → is_full old ≡ false → IsPlaced old [] nothing old
+placed_free old free = (
+  subst (λ (b : Bool). AreFailures b old []) (sym free) refl,
+  subst (λ (p : Machine × List Sent). Gives nothing old p.0 p.1 []) (sym (free_place old [] free)) (record { state = refl; sent = refl; accepted = refl; noted = refl }),
+)
+
+lacks_by : (b : Bool) (old mid : Machine) (a : Asked) (fails : List Bool) (stated : machine.Effects) → is_full old ≡ b → IsPlaced old fails stated mid
+    → LacksUpdate fails old a (record stated { sent = stated.sent ++ replies a rcode_servfail ∷ []; noted = OutOfMemory }) mid
+lacks_by true old mid a fails stated is h = record {
+  noted = refl;
+  accepted = h.1.accepted;
+  stays =
+      let place = full_place old fails is in
+      inr (
+        is,
+        subst (λ (b : Bool). AreFailures b old fails) is h.0,
+        h.1.state ∙ ap (λ (p : Machine × List Sent). p.0) place,
+        ap (λ (l : List Sent). l ++ replies a rcode_servfail ∷ []) (h.1.sent ∙ ap (λ (p : Machine × List Sent). p.1) place),
+      );
+}
+lacks_by false old mid a fails stated is h = record {
+  noted = refl;
+  accepted = h.1.accepted;
+  stays =
+      let place = free_place old fails is in
+      inl (
+        subst (λ (b : Bool). AreFailures b old fails) is h.0,
+        h.1.state ∙ ap (λ (p : Machine × List Sent). p.0) place,
+        ap (λ (l : List Sent). l ++ replies a rcode_servfail ∷ []) (h.1.sent ∙ ap (λ (p : Machine × List Sent). p.1) place),
+      );
+}
+
+-- behind it the update is answered
+abbrev ends_from : Asked → Machine → Machine × List Sent
+ends_from a m = admitted m a (admission m.zones a)
+
+pub record Answers (held : Machine → Type 0) (old : Machine) (a : Asked) (fails : List Bool) (effects : machine.Effects) : Type 0 where
+  pub next : Machine
+  pub is : IsUpdatedOrLacks old a fails effects next
+  pub kept : held next
+
+pub answered : (held : Machine → Type 0) (old mid : Machine) (a : Asked) (fails : List Bool) (stated : machine.Effects) (o : Outcome) → IsPlaced old fails stated mid → IsAnswered held mid a (ends_from a mid) o
+    → Answers held old a fails (answered_with stated a o)
+answered held old mid a fails stated (outcome.Waits rcode) h is = record {
+  next = (ends_from a mid).0;
+  is =
+      let more : List Sent = (ends_from a (made_place fails old).0).1 in
+      let none : more ≡ [] = ap (λ (m : Machine). (ends_from a m).1) (sym h.1.state) ∙ is.0 in
+      inl (
+        h.0,
+        record {
+          state = ap (λ (m : Machine). (ends_from a m).0) h.1.state;
+          sent = h.1.sent ∙ sym (append-nil (made_place fails old).1) ∙ ap (λ (l : List Sent). (made_place fails old).1 ++ l) (sym none);
+          accepted = h.1.accepted;
+          noted = h.1.noted;
+        },
+      );
+  kept = is.1;
+}
+answered held old mid a fails stated (outcome.AtOnce rcode) h is = record {
+  next = (ends_from a mid).0;
+  is =
+      let more : List Sent = (ends_from a (made_place fails old).0).1 in
+      let one : more ≡ replies a (number_of_rcode rcode) ∷ [] = ap (λ (m : Machine). (ends_from a m).1) (sym h.1.state) ∙ is.0 in
+      inl (
+        h.0,
+        record {
+          state = ap (λ (m : Machine). (ends_from a m).0) h.1.state;
+          sent = λ i. h.1.sent i ++ sym one i;
+          accepted = h.1.accepted;
+          noted = h.1.noted;
+        },
+      );
+  kept = is.1;
+}
+answered held old mid a fails stated outcome.OutOfMemory h is = record {
+  next = mid;
+  is = inr (lacks_by (is_full old) old mid a fails stated refl h);
+  kept = is;
+}
+
+-- what is told of an update, of machines that are held otherwise
+pub held_as : (f g : Machine → Type 0) → ((m : Machine) → f m → g m) → (old : Machine) (a : Asked) (ended : Machine × List Sent) (o : Outcome) → IsAnswered f old a ended o → IsAnswered g old a ended o
+held_as f g go old a ended (outcome.Waits rcode) h = (h.0, go ended.0 h.1)
+held_as f g go old a ended (outcome.AtOnce rcode) h = (h.0, go ended.0 h.1)
+held_as f g go old a ended outcome.OutOfMemory h = go old h
+
+module _ {I S : Type 0} {i : index.Ghosts I} {s : store.Ghosts S} where
+  -- nothing changes, and this is what goes out
+  pub stays : (p : Primary I S i s) (m : Machine) (effects : Effects) (stated : machine.Effects) (step : List Bool → machine.Effects → Machine → Type 0) → IsKept p m → IsToldBy stated effects → step [] stated m → Stepped p p effects step
+  stays p m effects stated step kept told is = record { fails = []; failed = tt; next = m; stated = stated; is = is; told = told; kept = kept }
+
+-- a request is served, as what it is
+pub served_as : (old new : Machine) (peer : Peer) (to : To) (octets : List ℕ) (transport : Transport) (r : request.Request) (fails : List Bool) (stated : machine.Effects) → r ≡ request_of octets transport
+    → IsServed fails old to peer (handled_as (shown_zones old) octets transport r) stated new → IsServedOrLacks old peer to octets transport fails stated new
+served_as old new peer to octets transport r fails stated e h = inl (subst (λ (x : request.Request). IsServed fails old to peer (handled_as (shown_zones old) octets transport x) stated new) e h)
+
+abbrev pub lack : Sent → machine.Effects
+lack reply = record (one_reply reply) { noted = OutOfMemory }
+
+pub gives_one : (m : Machine) (reply : Sent) → Gives (one_reply reply) m m (reply ∷ []) []
+gives_one m reply = record { state = refl; sent = refl; accepted = refl; noted = refl }
+
+pub gives_none : (m : Machine) → Gives nothing m m [] []
+gives_none m = record { state = refl; sent = refl; accepted = refl; noted = refl }
+
+pub lacks_one : (m : Machine) (to : To) (octets : List ℕ) (transport : Transport) (r : request.Request) → r ≡ request_of octets transport → (r ≡ request.Ignored → ⊥)
+    → LacksRequest [] m to octets (lack (Replied to (text (bare_reply (header_of octets) rcode_servfail)))) m
+lacks_one m to octets transport r e some = record { noted = refl; accepted = refl; stays = inl (refl, refl, sym (failure_is to octets (header_of octets) (asking octets transport r (sym e) some) refl)) }
+
+-- a reply that was made, or memory was refused
+pub replied : {V E : Type 0} (items : V → List ℕ) (r : Result V E) (effects : Effects) (to : To) (octets failed : List ℕ) → IfOk r (λ v. items v ≡ octets) → IfOk r (λ v. IsToldBy (one_reply (Replied to (items v))) effects)
+    → IfErr r (λ _. IsToldBy (lack (Replied to failed)) effects) → IsToldBy (one_reply (Replied to octets)) effects ⊎ IsToldBy (lack (Replied to failed)) effects
+replied items (Ok v) effects to octets failed is told none = inl (subst (λ (l : List ℕ). IsToldBy (one_reply (Replied to l)) effects) is told)
+replied items (Err e) effects to octets failed is told none = inr none
+
+-- an update that lacked memory, as a request
+pub lacks_update : (fails : List Bool) (old new : Machine) (a : Asked) (octets : List ℕ) (effects : machine.Effects) → is_asking octets ≡ true → a.message.header ≡ header_of octets → (a.message.header.opcode == opcode_update) ≡ true
+    → LacksUpdate fails old a effects new → LacksRequest fails old a.to octets effects new
+lacks_update fails old new a octets effects asks is kind l =
+    let goes = failure_is a.to octets a.message.header asks is in
+    let opcode : ((header_of octets).opcode == opcode_update) ≡ true = ap (λ (h : Header). h.opcode == opcode_update) (sym is) ∙ kind in
+    record {
+      noted = l.noted;
+      accepted = l.accepted;
+      stays = ⊎_elim (λ h. inl (h.0, h.1, h.2 ∙ sym goes)) (λ h. inr (λ j. opcode j && h.0 j, h.1, h.2, h.3 ∙ ap (λ (x : List Sent). flush_sends fails old ++ x) (sym goes))) l.stays;
+    }
+
+module _ {I S : Type 0} {i : index.Ghosts I} {s : store.Ghosts S} where
+  -- a request that changes nothing is replied to, or lacks memory
+  pub replies_or_lacks : (p : Primary I S i s) (m : Machine) (effects : Effects) (peer : Peer) (to : To) (octets : List ℕ) (transport : Transport) (r : request.Request) (reply : List ℕ)
+      → r ≡ request_of octets transport → (r ≡ request.Ignored → ⊥) → handled_as (shown_zones m) octets transport r ≡ Replies reply → IsKept p m
+      → IsToldBy (one_reply (Replied to reply)) effects ⊎ IsToldBy (lack (Replied to (text (bare_reply (header_of octets) rcode_servfail)))) effects
+      → Stepped p p effects (IsServedOrLacks m peer to octets transport)
+  replies_or_lacks p m effects peer to octets transport r reply e some is kept told =
+      ⊎_elim
+      (λ t. stays p m effects (one_reply (Replied to reply)) (IsServedOrLacks m peer to octets transport) kept t
+      (served_as m m peer to octets transport r [] (one_reply (Replied to reply)) e
+      (subst (λ (h : Handled). IsServed [] m to peer h (one_reply (Replied to reply)) m) (sym is) (refl, gives_one m (Replied to reply)))))
+      (λ t. stays p m effects (lack (Replied to (text (bare_reply (header_of octets) rcode_servfail)))) (IsServedOrLacks m peer to octets transport) kept t (inr (lacks_one m to octets transport r e some)))
+      told

@@ -1,0 +1,49 @@
+use Rattle.std.proofs.Common.{◌≡◌, ℕ, List, length, map, refl, sym, ap, subst, ◌∙◌, arith}
+use Rattle.std.specs.Vec.{with_items}
+use Rattle.slab.specs.Slab.{get, slab_len}
+use Rattle.dns_zone.specs.Zone.{Zone}
+use Rattle.dns_held.specs.Each.{Each2}
+use Rattle.dns_held.specs.Held.{IsHeld}
+use Rattle.dns_primary.specs.declared.primary.ZoneSettings.{ZoneSettings}
+use Rattle.dns_primary.specs.Machine.{Machine, Connection, kept_of, peer_at}
+use Rattle.dns_primary.specs.Update.{admission, admitted}
+use Rattle.dns_primary.specs.Keeps.{IsKept, IsSet}
+use Rattle.dns_primary.specs.Queue.{Holds, IsUntouched, asked_of}
+use Rattle.dns_primary.proofs.Flushed.{refilled, moved3}
+use Rattle.dns_primary.proofs.Served.{held_as}
+use Rattle.dns_primary.proofs.primary.Primary.judge.Goals as goal
+
+pub returns-clause-done : goal.returns-clause-done
+returns-clause-done g c old kept =
+    let self = c.args.self.now in
+    let new = c.admit_and_judge.new.behind in
+    let a = asked_of c.args.update.now in
+    let zones = c.as_slice-zones.ensures.value in
+    let behind = c.deref_mut.ensures.value in
+    let settings = c.as_slice-settings.ensures.value in
+    let y = refilled self.behind.len new self.behind.items (omega (arith, c.admit_and_judge.auto.behind, ap length behind, self.behind.ok)) in
+    let given : Holds g.S.ZoneStore.keeps c.as_slice-zones.result.now c.deref_mut.result.now c.as_slice-settings.result.now self.waiting.items old.connections old = record {
+      zones_are = moved3 (sym zones) (sym behind) (map kept_of old.zones) (λ z b k. IsHeld g.S.ZoneStore.keeps z b k) kept.zones_are;
+      settings_are = subst (λ l. Each2 IsSet l old.zones) (sym settings) kept.settings_are;
+      waiting_are = kept.waiting_are;
+      connections_are = refl;
+    } in
+    let done = c.admit_and_judge.ensures.done old given in
+    held_as (Holds g.S.ZoneStore.keeps c.as_slice-zones.result.now new c.as_slice-settings.result.now c.admit_and_judge.new.waiting.items old.connections)
+    (IsKept {i = g.I.ZoneIndex} {s = g.S.ZoneStore} (record { zones = self.zones; behind = with_items self.behind new; settings = self.settings; waiting = c.admit_and_judge.new.waiting; connections = self.connections; as_many = _; settled = _ }))
+    (λ m h. record {
+      zones_are = moved3 zones (sym y) (map kept_of m.zones) (λ z b k. IsHeld g.S.ZoneStore.keeps z b k) h.zones_are;
+      settings_are = subst (λ l. Each2 IsSet l m.zones) settings h.settings_are;
+      waiting_are = h.waiting_are;
+      connections_are = λ number. kept.connections_are number ∙ ap (peer_at number) (sym h.connections_are);
+      as_many = kept.as_many ∙ ap length (sym h.connections_are);
+    }) old a (admitted old a (admission old.zones a)) c.admit_and_judge.result done
+
+pub returns-clause-still : goal.returns-clause-still
+returns-clause-still g c =
+    let self = c.args.self.now in
+    let new = c.admit_and_judge.new.behind in
+    let behind = c.deref_mut.ensures.value in
+    let y = refilled self.behind.len new self.behind.items (omega (arith, c.admit_and_judge.auto.behind, ap length behind, self.behind.ok)) in
+    subst (λ l. Each2 (λ a b. IsUntouched g.S.ZoneStore.moment g.S.ZoneStore.left_since g.S.ZoneStore.failed a.store b.store) self.behind.items l) (sym y)
+    (subst (λ l. Each2 (λ a b. IsUntouched g.S.ZoneStore.moment g.S.ZoneStore.left_since g.S.ZoneStore.failed a.store b.store) l new) behind c.admit_and_judge.ensures.still)

@@ -1,0 +1,119 @@
+//! How effects are put together.
+ghost use Rattle.std.specs.Prelude.{◌≡◌, ◌<◌, ◌∷◌, ◌++◌, [], None, false, length, IfOk, IfErr};
+ghost use Rattle.dns_wire.specs.Message.{header_of};
+ghost use Rattle.dns_wire.specs.Codes.{number_of_rcode};
+ghost use Rattle.dns_wire.specs.Text.{text};
+ghost use Rattle.dns_answer.specs.Answer.{bare_reply};
+ghost use Rattle.dns_primary.specs.To.{is_nowhere};
+ghost use Rattle.dns_primary.specs.Flush.{Replied, rcode_servfail};
+ghost use Rattle.dns_primary.specs.Step.{Effects as Stated};
+ghost use Rattle.dns_primary.specs.Keeps.{IsToldBy};
+ghost use Rattle.dns_primary.specs.Queue.{asked_of};
+ghost use Rattle.dns_primary.specs.Steps.{answered_with, nothing, one_reply};
+ghost use Rattle.dns_primary.specs.declared.event.Noted.TheVariants.{OutOfMemory as StatedLack};
+
+use crate::queue::UpdateRequest;
+use crate::update::Outcome;
+use crate::{Effects, HeaderTo, Noted, To};
+use arrayvec::ArrayVec;
+use dns_answer::header_only;
+use dns_memory::Heap;
+use dns_wire::Rcode;
+use std::alloc::AllocError;
+
+impl Effects {
+    /// Nothing goes out, and nothing is to be known.
+    pub(crate) fn nothing() -> Effects
+        ensures told { IsToldBy nothing result }
+        ensures empty { result.headers.items ≡ [] }
+        ensures bare { result.message ≡ None }
+    {
+        Effects {
+            headers: ArrayVec::new(),
+            message: None,
+            accepted: None,
+            noted: Noted::Nothing,
+        }
+    }
+
+    /// One reply more, a header alone.
+    pub(crate) fn with_header(mut self, to: To, octets: [u8; 12]) -> Effects
+        requires room { length self.headers.items < 33 }
+        requires bare { self.message ≡ None }
+        requires somewhere { is_nowhere to ≡ false }
+        ensures told { (stated : Stated)
+            → IsToldBy stated self
+            → IsToldBy (record stated { sent = stated.sent ++ Replied to octets ∷ [] }) result }
+    {
+        self.headers.push(HeaderTo { to, octets });
+        self
+    }
+
+    /// One reply alone, the header of a request with a response code.
+    pub(crate) fn refusal(to: To, header: &[u8; 12], rcode: Rcode) -> Effects
+        requires { is_nowhere to ≡ false }
+        ensures { IsToldBy (one_reply (Replied to (text (bare_reply (header_of header.now) (number_of_rcode rcode))))) result }
+    {
+        Effects::nothing().with_header(to, header_only(header, rcode))
+    }
+
+    /// SERVFAIL for want of memory, the header of a request alone.
+    pub(crate) fn out_of_memory(to: To, header: &[u8; 12]) -> Effects
+        requires { is_nowhere to ≡ false }
+        ensures { IsToldBy
+            (record (one_reply (Replied to (text (bare_reply (header_of header.now) rcode_servfail)))) { noted = StatedLack })
+            result }
+    {
+        let mut effects = Effects::refusal(to, header, Rcode::ServFail);
+        effects.noted = Noted::OutOfMemory;
+        effects
+    }
+
+    /// The reply to a request, or SERVFAIL where memory was refused.
+    pub(crate) fn reply(
+        to: To,
+        header: &[u8; 12],
+        reply: Result<Vec<u8, Heap>, AllocError>,
+    ) -> Effects
+        requires { is_nowhere to ≡ false }
+        ensures sent { IfOk reply.entry (λ octets. IsToldBy (one_reply (Replied to octets.items)) result) }
+        ensures failed { IfErr reply.entry
+            (λ _. IsToldBy
+            (record (one_reply (Replied to (text (bare_reply (header_of header.now) rcode_servfail)))) { noted = StatedLack })
+            result) }
+    {
+        match reply {
+            Ok(octets) => {
+                let mut effects = Effects::nothing();
+                effects.message = Some((to, octets));
+                effects
+            }
+            Err(_) => Effects::out_of_memory(to, header),
+        }
+    }
+
+    /// What becomes of an update, behind what goes out before.
+    pub(crate) fn with_outcome(self, update: &UpdateRequest<'_>, outcome: Outcome) -> Effects
+        requires room { length self.headers.items < 33 }
+        requires bare { self.message ≡ None }
+        requires somewhere { is_nowhere update.now.to ≡ false }
+        requires header { header_of update.now.header.now ≡ update.now.request.message.message.header }
+        ensures { (stated : Stated)
+            → IsToldBy stated self
+            → IsToldBy (answered_with stated (asked_of update.now) outcome) result }
+    {
+        match outcome {
+            Outcome::Waits(_) => self,
+            Outcome::AtOnce(rcode) => self.with_header(
+                update.to,
+                header_only(update.header, rcode),
+            ),
+            Outcome::OutOfMemory => {
+                let octets = header_only(update.header, Rcode::ServFail);
+                let mut effects = self.with_header(update.to, octets);
+                effects.noted = Noted::OutOfMemory;
+                effects
+            }
+        }
+    }
+}
