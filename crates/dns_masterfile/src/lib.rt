@@ -21,6 +21,7 @@ mod words;
 mod zone;
 
 pub use read::read_zone;
+pub use values::number;
 use std::alloc::{AllocError, AllocFailed};
 pub use zone::print_zone;
 use thiserror::Error;

@@ -4,7 +4,7 @@ use Rattle.std.specs.Prelude.{nat_lt, not, cond, filter, position, MatchOption}
 use Rattle.std.specs.List.{after_first, before_first, onto_first, position_or_len, slice_split}
 use Rattle.std.proofs.lemmas.Bool.Decides.{nat_tests}
 use Rattle.std.proofs.lemmas.List.Splits.{slice_split_first}
-use Rattle.dns_server.specs.Scripts.{is_blank, words}
+use Rattle.dns_server.specs.Lines.{is_blank, words}
 
 pub split_none : (p : ℕ → Bool) (xs : List ℕ) → nat_lt (position_or_len p xs) (length xs) ≡ false → slice_split p xs ≡ xs ∷ []
 split_none p [] e = refl
