@@ -1,5 +1,5 @@
 -- A zone as it is shown, and what stands behind it.
-use Rattle.std.specs.Prelude.{◌≡◌, [], Option, Some, None}
+use Rattle.std.specs.Prelude.{◌≡◌, [], length, Option, Some, None}
 use Rattle.dns_zone.specs.Zone.{Zone}
 use Rattle.dns_store.specs.Versions.{Kept, shown_of, newest_of}
 use Rattle.dns_held.specs.Plain.{octets_of}
@@ -25,6 +25,7 @@ IsTip (Some tip) k = tip ≡ newest_zone k
 pub record IsHeld {I S : Type 0} (keeps : S → Kept → Type 0) (zone : Zone) (b : Behind I S) (k : Kept) : Type 0 where
   pub zone_is : zone ≡ shown_zone k
   pub tip_is : IsTip b.tip k
+  pub number_is : b.number ≡ length k.shown
   pub octets_are : b.octets ≡ octets_of (newest_of k)
   pub snapshot_is : b.snapshot ≡ k.shape.snapshot
   pub journal_is : b.journal ≡ k.shape.journal

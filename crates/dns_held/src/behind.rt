@@ -14,6 +14,8 @@ pub struct Behind<I: ZoneIndex, S: ZoneStore> {
     pub tip: Option<Zone<I>>,
     /// Keeps the versions.
     pub store: S,
+    /// The number of the version that is shown; the loaded one has 0.
+    pub number: u64,
     /// How many octets a snapshot of the newest version has.
     pub octets: usize,
     /// How many sectors there are for a snapshot.
@@ -33,9 +35,11 @@ impl<I: ZoneIndex, S: ZoneStore> Behind<I, S> {
             → k.shape.journal ≡ journal
             → IsHeld S.keeps zone.now result k }
     {
+        let number = store.newest();
         Behind {
             tip: None,
             store,
+            number,
             octets: snapshot_len(zone),
             snapshot,
             journal,

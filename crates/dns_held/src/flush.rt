@@ -25,6 +25,7 @@ pub fn flush_zone<I: ZoneIndex, S: ZoneStore>(zone: &mut Zone<I>, behind: &mut B
             if let Some(tip) = behind.tip.take() {
                 *zone = tip;
             }
+            behind.number = behind.store.newest();
             false
         }
         Err(FlushError::Device) => true,

@@ -8,3 +8,4 @@ pub mod Keeps
 pub mod Outcome
 pub mod Queue
 pub mod Steps
+pub mod Fresh

@@ -10,6 +10,7 @@ mod primary;
 mod queue;
 mod serve;
 mod step;
+mod unkept;
 mod update;
 
 pub use event::{Effects, Event, HeaderTo, Noted, Peer, To, Waiting};

@@ -1,11 +1,12 @@
 //! The events, one step each.
-ghost use Rattle.std.specs.Prelude.{◌≡◌, ◌≢◌, ◌≤◌, [], false, None, length, map};
+ghost use Rattle.std.specs.Prelude.{◌≡◌, ◌≢◌, ◌≤◌, [], false, None, MatchOption, length, map, slice_get};
 ghost use Rattle.dns_sectors.specs.Device.{LeavesOnly};
 ghost use Rattle.dns_store.specs.Versions.{OpensAsLeft};
 ghost use Rattle.dns_held.specs.Each.{Each3};
 ghost use Rattle.dns_primary.specs.declared.event.Noted.TheVariants.{OutOfMemory as StatedLack};
 ghost use Rattle.dns_primary.specs.Machine.{Machine, kept_of};
 ghost use Rattle.dns_primary.specs.Step.{Arrives, IsFlushed, Step, noted_of, takes_memory};
+ghost use Rattle.dns_primary.specs.Fresh.{IsShown};
 ghost use Rattle.dns_primary.specs.Keeps.{IsKept};
 ghost use Rattle.dns_primary.specs.Steps.{Stepped, event_shown};
 
@@ -14,7 +15,7 @@ use crate::{Effects, Event, Noted, Primary, To};
 use dns_memory::Heap;
 use dns_request::Transport;
 use dns_store::ZoneStore;
-use dns_zone::ZoneIndex;
+use dns_zone::{Zone, ZoneIndex};
 
 /// The first device that failed, as it is noted.
 fn noted(failed: Option<usize>) -> Noted
@@ -86,6 +87,17 @@ impl<I: ZoneIndex, S: ZoneStore> Primary<I, S> {
             Event::Message(number, octets) => self.arrive(alloc, number, octets),
             Event::Flush => self.flush(),
             Event::Closed(number) => self.close(number),
+        }
+    }
+
+    /// The version of the zone at a place that is shown: its number, the loaded one having 0, and the zone.
+    pub fn shown(&self, place: usize) -> Option<(u64, &Zone<I>)>
+        ensures { (m : Machine) → IsKept self.now m
+            → MatchOption result (slice_get m.zones place ≡ None) (λ shown. IsShown shown.0 shown.1.now (slice_get m.zones place)) }
+    {
+        match self.zones.get(place) {
+            Some(zone) => Some((self.behind[place].number, zone)),
+            None => None,
         }
     }
 }

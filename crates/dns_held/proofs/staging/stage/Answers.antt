@@ -54,6 +54,7 @@ returns-clause-staged g c k held =
     record {
       zone_is = held.zone_is;
       tip_is = version ∙ named ∙ (λ i. record { apex = k.shape.apex; records = sym (staged_newest k after) i });
+      number_is = held.number_is;
       octets_are = octets few ∙ ap octets_of (sym (staged_newest k after));
       snapshot_is = held.snapshot_is;
       journal_is = held.journal_is;

@@ -1,0 +1,36 @@
+-- Primaries that were just made, and what is shown of a zone.
+use Rattle.std.specs.Prelude.{◌≡◌, ℕ, false, List, [], length, slice_get, Option, Some, None}
+use Rattle.dns_zone.specs.Zone.{Zone}
+use Rattle.dns_store.specs.declared.unkept.Unkept.{Unkept}
+use Rattle.dns_store.specs.Unkept.{IsUnkept}
+use Rattle.dns_store.specs.Versions.{Kept}
+use Rattle.dns_held.specs.Each.{Each3}
+use Rattle.dns_held.specs.Held.{shown_zone}
+use Rattle.dns_primary.specs.declared.primary.ZoneSettings.{ZoneSettings}
+use Rattle.dns_primary.specs.Machine.{ZoneState, Machine, kept_of}
+use Rattle.dns_primary.specs.Keeps.{IsSet}
+
+-- The zone is as it was loaded: no update was accepted.
+pub record IsLoaded (zone : Zone) (settings : ZoneSettings) (z : ZoneState) : Type 0 where
+  pub shape : z.setting.shape ≡ record { apex = zone.apex; snapshot = settings.snapshot; journal = settings.journal }
+  pub set : IsSet settings z
+  pub loaded : z.loaded ≡ zone.records
+  pub shown : z.shown ≡ []
+  pub staged : z.staged ≡ []
+  pub base : z.base ≡ 0
+  pub opened : z.closed ≡ false
+
+-- What a store keeps that is in memory alone.
+abbrev pub keeps_unkept : Unkept → Kept → Type 0
+keeps_unkept s k = IsUnkept s.left s.newest k
+
+-- A machine of these zones to which nothing has happened.
+pub record IsFresh (zones : List Zone) (settings : List ZoneSettings) (m : Machine) : Type 0 where
+  pub zones_are : Each3 IsLoaded zones settings m.zones
+  pub waiting : m.waiting ≡ []
+  pub connections : m.connections ≡ []
+
+-- The number of the version that is shown, and the zone.
+abbrev pub IsShown : ℕ → Zone → Option ZoneState → Type 0
+IsShown number zone None = ⊥
+IsShown number zone (Some z) = (number ≡ length z.shown) × (zone ≡ shown_zone (kept_of z))
