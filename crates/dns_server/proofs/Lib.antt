@@ -1,7 +1,10 @@
 pub mod Ended
 pub mod Hosts
 pub mod Ports
+pub mod Replayed
+pub mod Running
 pub mod Soas
+pub mod Spoken
 pub mod Unread
 pub mod Words
 pub mod Zipped

@@ -3,7 +3,7 @@ ghost use Rattle.std.specs.Prelude.{◌≡◌, ℕ, List, [], ◌∷◌, length,
 ghost use Rattle.dns_server.specs.Commands.{AreWordsOf, Command as Stated, HasOctets, IsNumber, Says, is_comment, said};
 ghost use Rattle.dns_server.specs.Lines.{words};
 
-use crate::words::{first_word, only_word, two_words};
+use crate::lines::{first_word, only_word, two_words};
 use dns_masterfile::number;
 use dns_memory::Heap;
 use dns_policy::address;

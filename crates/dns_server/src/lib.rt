@@ -4,10 +4,10 @@
 mod command;
 mod configuration;
 mod files;
+mod lines;
 mod printable;
 mod run;
 mod script;
-mod words;
 
 pub use configuration::{Configuration, ConfigurationError, ZoneSettings};
 pub use files::{DONE, FAILED, File, REFUSED, USAGE, check};

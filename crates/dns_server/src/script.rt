@@ -12,7 +12,7 @@ ghost use Rattle.dns_server.specs.Scripts.{IsNoCommand, RunsInto, event_of, peer
 ghost use Rattle.dns_server.specs.Runs.{RanCommand, RanLine, RanScript, replies_out};
 
 use crate::command::{Command, read_command};
-use crate::words::{cut_at_feed, without_return};
+use crate::lines::{cut_at_feed, without_return};
 use dns_memory::Heap;
 use dns_names::Name;
 use dns_policy::print_address;
