@@ -16,18 +16,18 @@ use Rattle.dns_policy.specs.Prefix.{IsAllowed}
 use Rattle.dns_store.specs.Versions.{Kept, newest_of, staged_with}
 use Rattle.dns_store.specs.Room.{entry_between, sectors_left}
 use Rattle.dns_held.specs.declared.behind.Behind.{Behind}
-use Rattle.dns_held.specs.Each.{Each2, Each3}
+use Rattle.dns_held.specs.Each.{Each3}
 use Rattle.dns_held.specs.Held.{IsHeld}
 use Rattle.dns_held.specs.Staging.{has_room}
 use Rattle.dns_primary.specs.declared.event.Waiting.{Waiting}
 use Rattle.dns_primary.specs.declared.primary.ZoneSettings.{ZoneSettings}
 use Rattle.dns_primary.specs.declared.update.Outcome.{Outcome}
 use Rattle.dns_primary.specs.declared.update.Outcome.TheVariants as outcome
-use Rattle.dns_primary.specs.Machine.{Setting, Made, ZoneState, Machine, Connection, kept_of, updates_of, versions_of}
+use Rattle.dns_primary.specs.Machine.{Setting, Made, ZoneState, Machine, kept_of, updates_of, versions_of}
 use Rattle.dns_primary.specs.Flush.{Sent, rcode_servfail}
 use Rattle.dns_primary.specs.Update.{Asked, Admission, Rejects, Admits, admission, admission_at, admission_in, place_of, rcode_notauth, waits, stages, replies, with_staged, judged_in}
 use Rattle.dns_primary.specs.Outcome.{Ends, end_of}
-use Rattle.dns_primary.specs.Keeps.{AreHeld, IsSet, IsWaiting}
+use Rattle.dns_primary.specs.Keeps.{IsSet, IsWaiting}
 use Rattle.dns_primary.specs.Queue.{Holds}
 use Rattle.dns_primary.proofs.Places.{set_same, map_set, map_get, at3, mid_set, right_set, push2}
 

@@ -1,7 +1,6 @@
 -- What is done with requests, as steps.
-use Rattle.std.proofs.Common.{◌≡◌, ◌⊎◌, inl, inr, ⊎_elim, ◌<◌, ℕ, Bool, true, false, not, List, [], ◌∷◌, ◌++◌, length, map, Option, Some, None, Result, Ok, Err, refl, sym, ap, subst, ◌∙◌, arith, append-nil}
+use Rattle.std.proofs.Common.{◌≡◌, ◌⊎◌, inl, inr, ⊎_elim, ℕ, Bool, true, false, not, List, [], ◌∷◌, ◌++◌, length, map, Option, Some, None, Result, Ok, Err, refl, sym, ap, subst, ◌∙◌, append-nil}
 use Rattle.std.specs.Prelude.{◌==◌, ◌&&◌, ◌||◌, nat_lt, IfOk, IfErr, if◌then◌else◌}
-use Rattle.std.proofs.lemmas.Bool.Decides.{nat_tests}
 use Rattle.dns_records.specs.Types.{type_ixfr, type_axfr, type_mailb, type_maila, class_in}
 use Rattle.dns_wire.specs.Message.{Header, Question, Message, header_of}
 use Rattle.dns_wire.specs.Codes.{number_of_rcode}
@@ -12,13 +11,13 @@ use Rattle.dns_zone.specs.declared.index.ZoneIndex as index
 use Rattle.dns_request.specs.Request as request
 use Rattle.dns_request.specs.Request.{opcode_query, opcode_update, rcode_notimp, rcode_formerr, rcode_refused, request_of, read_as, message_as, question_as, has_counts, too_long}
 use Rattle.dns_request.specs.declared.request.Transport.{Transport}
-use Rattle.dns_answer.specs.Answer.{Handled, Replies, bare_reply, handled, handled_as}
+use Rattle.dns_answer.specs.Answer.{Handled, Replies, bare_reply, handled_as}
 use Rattle.dns_store.specs.declared.zone_store.ZoneStore as store
 use Rattle.dns_store.specs.Versions.{Kept}
 use Rattle.dns_held.specs.declared.behind.Behind.{Behind}
 use Rattle.dns_held.specs.Each.{Each2}
 use Rattle.dns_held.specs.Flush.{FailedWhere, HasFailed}
-use Rattle.dns_held.specs.Held.{IsHeld, shown_zone}
+use Rattle.dns_held.specs.Held.{shown_zone}
 use Rattle.dns_primary.specs.declared.event.Peer.{Peer}
 use Rattle.dns_primary.specs.declared.event.To.{To}
 use Rattle.dns_primary.specs.declared.event.Effects.{Effects}
@@ -28,7 +27,7 @@ use Rattle.dns_primary.specs.declared.update.Outcome.{Outcome}
 use Rattle.dns_primary.specs.declared.update.Outcome.TheVariants as outcome
 use Rattle.dns_primary.specs.Machine.{ZoneState, Machine, kept_of, shown_zones}
 use Rattle.dns_primary.specs.Flush.{Sent, Replied, flushed, flush_sends, rcode_servfail}
-use Rattle.dns_primary.specs.Update.{Asked, admission, admitted, is_full, made_place, replies, updated}
+use Rattle.dns_primary.specs.Update.{Asked, admission, admitted, is_full, made_place, replies}
 use Rattle.dns_primary.specs.Step as machine
 use Rattle.dns_primary.specs.Step.{AreFailures, Gives, IsServed, failure, is_asking}
 use Rattle.dns_primary.specs.Keeps.{AreHeld, IsKept, IsToldBy}

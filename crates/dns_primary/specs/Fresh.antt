@@ -1,5 +1,5 @@
 -- Primaries that were just made, and what is shown of a zone.
-use Rattle.std.specs.Prelude.{◌≡◌, ℕ, false, List, [], length, slice_get, Option, Some, None}
+use Rattle.std.specs.Prelude.{◌≡◌, ℕ, false, List, [], length, Option, Some, None}
 use Rattle.dns_zone.specs.Zone.{Zone}
 use Rattle.dns_store.specs.declared.unkept.Unkept.{Unkept}
 use Rattle.dns_store.specs.Unkept.{IsUnkept}

@@ -1,5 +1,5 @@
 -- Steps of a primary, and what is told of them.
-use Rattle.std.specs.Prelude.{◌≡◌, ◌⊎◌, ℕ, Bool, true, ◌&&◌, ◌==◌, List, [], ◌∷◌, ◌++◌, Option, Some, None}
+use Rattle.std.specs.Prelude.{◌≡◌, ◌⊎◌, ℕ, Bool, true, ◌&&◌, ◌==◌, List, [], ◌∷◌, ◌++◌, None}
 use Rattle.dns_wire.specs.Message.{header_of}
 use Rattle.dns_wire.specs.Codes.{number_of_rcode}
 use Rattle.dns_request.specs.Request.{opcode_update}

@@ -3,8 +3,7 @@ use Rattle.std.proofs.lemmas.List.{length-map}
 use Rattle.dns_wire.specs.Codes.{number_of_rcode}
 use Rattle.dns_held.specs.Held.{IsHeld}
 use Rattle.dns_held.proofs.Lists.{long3}
-use Rattle.dns_primary.specs.Machine.{Machine, kept_of}
-use Rattle.dns_primary.specs.Flush.{Sent}
+use Rattle.dns_primary.specs.Machine.{kept_of}
 use Rattle.dns_primary.specs.Update.{Admission, Admits, Rejects, admission, admitted, replies}
 use Rattle.dns_primary.specs.Keeps.{admits_at}
 use Rattle.dns_primary.specs.Queue.{Holds, IsAnswered, IsUntouched, asked_of}

@@ -1,15 +1,13 @@
-use Rattle.std.proofs.Common.{◌≡◌, List, sym, ap, subst, ◌∙◌}
+use Rattle.std.proofs.Common.{List, sym, ap, subst}
 use Rattle.std.proofs.Common.{refl}
 use Rattle.std.specs.Prelude.{slice_index_or, slice_set}
-use Rattle.dns_store.specs.Versions.{Kept}
-use Rattle.dns_update.specs.Verdict.{Verdict, verdict}
+use Rattle.dns_update.specs.Verdict.{verdict}
 use Rattle.dns_held.specs.Held.{IsHeld, newest_zone}
 use Rattle.dns_primary.specs.declared.event.Waiting.{Waiting}
-use Rattle.dns_primary.specs.declared.update.Outcome.{Outcome}
 use Rattle.dns_primary.specs.Machine.{Machine, kept_of}
 use Rattle.dns_primary.specs.Flush.{Sent}
 use Rattle.dns_primary.specs.Update.{judged_in}
-use Rattle.dns_primary.specs.Outcome.{IsDone, end_of}
+use Rattle.dns_primary.specs.Outcome.{end_of}
 use Rattle.dns_primary.specs.Queue.{Holds, IsUntouched, asked_of}
 use Rattle.dns_primary.proofs.Places.{changed2}
 use Rattle.dns_primary.proofs.Queued.{ends_waiting, ends_at_once, was_held, still_holds, holds_more}

@@ -1,6 +1,6 @@
-use Rattle.std.proofs.Common.{◌≡◌, ◌<◌, ◌+◌, ◌++◌, ◌∷◌, [], List, length, map, take, refl, sym, ap, subst, ◌∙◌, arith, add-one}
+use Rattle.std.proofs.Common.{◌≡◌, ◌+◌, ◌++◌, ◌∷◌, [], List, length, map, take, sym, ap, subst, ◌∙◌, arith, add-one}
 use Rattle.std.specs.Prelude.{slice_index_or}
-use Rattle.std.proofs.lemmas.List.{length-append, map-append, take_all, length-map}
+use Rattle.std.proofs.lemmas.List.{length-append, map-append, take_all}
 use Rattle.dns_store.specs.declared.unkept.Unkept.{Unkept}
 use Rattle.dns_store.specs.Versions.{Kept}
 use Rattle.dns_held.specs.declared.behind.Behind.{Behind}
@@ -8,7 +8,7 @@ use Rattle.dns_held.specs.Each.{Each3}
 use Rattle.dns_held.specs.Held.{IsHeld}
 use Rattle.dns_primary.specs.declared.primary.ZoneSettings.{ZoneSettings}
 use Rattle.dns_zone.specs.Zone.{Zone}
-use Rattle.dns_primary.specs.Machine.{ZoneState, Setting, kept_of, versions_of}
+use Rattle.dns_primary.specs.Machine.{ZoneState, kept_of, versions_of}
 use Rattle.dns_primary.specs.Keeps.{AreHeld}
 use Rattle.dns_primary.specs.Fresh.{IsLoaded, keeps_unkept}
 use Rattle.dns_primary.proofs.Loaded.{loaded_shown}

@@ -8,7 +8,7 @@ use Rattle.dns_update.specs.declared.Judged.TheVariants as told
 use Rattle.dns_held.specs.Held.{IsHeld, newest_zone}
 use Rattle.dns_primary.specs.declared.update.Outcome.{Outcome}
 use Rattle.dns_primary.specs.Outcome.{IsDone}
-use Rattle.dns_primary.proofs.Judged.{refused_is, leaving, done_refused, done_staged, done_unstaged}
+use Rattle.dns_primary.proofs.Judged.{refused_is, kept_is, leaving, done_refused, done_kept, done_staged, done_unstaged}
 use Rattle.dns_primary.proofs.update.judge_and_stage.Goals as goal
 
 pub returns-in-Ok-Refused-clause-done : goal.returns-in-Ok-Refused-clause-done
@@ -21,6 +21,16 @@ returns-in-Ok-Refused-clause-done g c k held opened =
     subst (λ (j : Judged g.row.I.Denot). IsTold g.I.ZoneIndex.records before.records (verdict before answers items) j) c.in-Ok-Refused.field-0-is c.in-Ok-Refused.ensures.verdict in
     let is = refused_is g.I.ZoneIndex.records before.records (verdict before answers items) rcode here in
     done_refused (λ k. IsHeld g.S.ZoneStore.keeps c.args.zone.now c.args.behind.now k) k (verdict (newest_zone k) answers items) rcode (ap (λ (z : Zone). verdict z answers items) (sym (c.newest.ensures.held k held)) ∙ is) held
+
+pub returns-in-Ok-NoChange-clause-done : goal.returns-in-Ok-NoChange-clause-done
+returns-in-Ok-NoChange-clause-done g c k held opened =
+    let answers = c.args.message.now.message.answers in
+    let items = c.args.message.now.message.authorities in
+    let before = c.newest.result.now in
+    let here : IsTold g.I.ZoneIndex.records before.records (verdict before answers items) told.NoChange =
+    subst (λ (j : Judged g.row.I.Denot). IsTold g.I.ZoneIndex.records before.records (verdict before answers items) j) c.in-Ok-NoChange.field-0-is c.in-Ok-NoChange.ensures.verdict in
+    let is = kept_is g.I.ZoneIndex.records before.records (verdict before answers items) here in
+    done_kept (λ k. IsHeld g.S.ZoneStore.keeps c.args.zone.now c.args.behind.now k) k (verdict (newest_zone k) answers items) (ap (λ (z : Zone). verdict z answers items) (sym (c.newest.ensures.held k held)) ∙ is) held
 
 pub stage-requires-clause-next : goal.stage-requires-clause-next
 stage-requires-clause-next g c =

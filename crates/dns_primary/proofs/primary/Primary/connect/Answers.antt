@@ -1,9 +1,9 @@
-use Rattle.std.proofs.Common.{◌≡◌, ◌<◌, ◌≤◌, List, [], length, inl, inr, Some, None, refl, sym, ap, ◌∙◌, arith}
+use Rattle.std.proofs.Common.{◌<◌, ◌≤◌, [], length, inl, inr, Some, None, refl, sym, ap, ◌∙◌, arith}
 use Rattle.slab.specs.Slab.{Slab, get, slab_len}
 use Rattle.dns_primary.specs.declared.event.Peer.{Peer}
 use Rattle.dns_primary.specs.declared.event.Noted.TheVariants.{Nothing, OutOfMemory}
 use Rattle.dns_primary.specs.Connections.{connected}
-use Rattle.dns_primary.specs.Step.{Step, Connect, Effects}
+use Rattle.dns_primary.specs.Step.{Step, Connect}
 use Rattle.dns_primary.specs.Steps.{nothing}
 use Rattle.dns_primary.proofs.Connected.{connected_are}
 use Rattle.dns_primary.proofs.Served.{gives_none, stays}

@@ -1,11 +1,8 @@
-use Rattle.std.proofs.Common.{◌≡◌, ℕ, List, length, map, refl, sym, ap, subst, ◌∙◌, arith}
+use Rattle.std.proofs.Common.{length, map, refl, sym, ap, subst, ◌∙◌, arith}
 use Rattle.std.specs.Vec.{with_items}
-use Rattle.slab.specs.Slab.{get, slab_len}
-use Rattle.dns_zone.specs.Zone.{Zone}
 use Rattle.dns_held.specs.Each.{Each2}
 use Rattle.dns_held.specs.Held.{IsHeld}
-use Rattle.dns_primary.specs.declared.primary.ZoneSettings.{ZoneSettings}
-use Rattle.dns_primary.specs.Machine.{Machine, Connection, kept_of, peer_at}
+use Rattle.dns_primary.specs.Machine.{kept_of, peer_at}
 use Rattle.dns_primary.specs.Update.{admission, admitted}
 use Rattle.dns_primary.specs.Keeps.{IsKept, IsSet}
 use Rattle.dns_primary.specs.Queue.{Holds, IsUntouched, asked_of}

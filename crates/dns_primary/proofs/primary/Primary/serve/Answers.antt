@@ -1,4 +1,4 @@
-use Rattle.std.proofs.Common.{◌≡◌, inl, inr, ⊎_elim, ℕ, Bool, true, List, [], ◌∷◌, refl, sym, ap, subst, ◌∙◌}
+use Rattle.std.proofs.Common.{◌≡◌, inr, ⊎_elim, ℕ, List, [], refl, sym, ap, subst, ◌∙◌}
 use Rattle.dns_wire.specs.Codes.{number_of_rcode}
 use Rattle.dns_wire.specs.Message.{Header, header_of}
 use Rattle.dns_wire.specs.Text.{text}
@@ -7,14 +7,12 @@ use Rattle.dns_request.specs.Request as request
 use Rattle.dns_request.specs.Request.{rcode_notimp, request_of}
 use Rattle.std.specs.Prelude.{IfOk, IfErr}
 use Rattle.dns_primary.specs.Update.{Asked}
-use Rattle.dns_request.specs.Shown.{request_shown}
 use Rattle.dns_answer.specs.Answer.{answered, bare_reply, fitted, with_question}
 use Rattle.dns_primary.specs.Machine.{shown_zones}
 use Rattle.dns_primary.specs.Flush.{Replied, rcode_servfail}
 use Rattle.dns_primary.specs.Keeps.{IsToldBy}
-use Rattle.dns_primary.specs.Queue.{asked_of}
 use Rattle.dns_primary.specs.Steps.{IsServedOrLacks, nothing, one_reply}
-use Rattle.dns_primary.proofs.Served.{are_shown, asking, gives_none, gives_one, lack, lacks_one, lacks_update, replied, replies_or_lacks, served_as, stays, update_opcode}
+use Rattle.dns_primary.proofs.Served.{are_shown, asking, gives_none, gives_one, lack, lacks_update, replied, replies_or_lacks, served_as, stays, update_opcode}
 use Rattle.dns_primary.proofs.primary.Primary.serve.Goals as goal
 
 pub returns-in-Ignored : goal.returns-in-Ignored

@@ -6,7 +6,7 @@ use Rattle.dns_primary.specs.Machine.{kept_of}
 use Rattle.dns_primary.proofs.Loaded.{shown_at}
 use Rattle.dns_primary.proofs.Places.{long3_first}
 use Rattle.dns_primary.proofs.primary.Primary.shown.Goals as goal
-use Rattle.std.proofs.Common.{◌≡◌, ◌<◌, ◌≤◌, ◌∙◌}
+use Rattle.std.proofs.Common.{◌<◌, ◌≤◌, ◌∙◌}
 use Rattle.std.specs.Prelude.{slice_index_or}
 
 pub returns-in-Some : goal.returns-in-Some

@@ -1,4 +1,4 @@
-use Rattle.std.proofs.Common.{ap, sym, [], ◌∷◌, inr, inl, refl}
+use Rattle.std.proofs.Common.{ap, [], ◌∷◌, inr, inl, refl}
 use Rattle.dns_wire.specs.Message.{Header}
 use Rattle.dns_wire.specs.Text.{text}
 use Rattle.dns_answer.specs.Answer.{bare_reply}
@@ -6,7 +6,6 @@ use Rattle.dns_primary.specs.Flush.{Replied, rcode_servfail}
 use Rattle.dns_primary.specs.Steps.{IsUpdatedOrLacks, answered_with}
 use Rattle.dns_primary.specs.Keeps.{IsKept}
 use Rattle.dns_primary.specs.Queue.{asked_of}
-use Rattle.dns_primary.specs.declared.event.Noted.TheVariants.{OutOfMemory}
 use Rattle.dns_primary.proofs.Served.{lack, stays, answered, failed_still}
 use Rattle.dns_wire.specs.Message.{header_of}
 use Rattle.dns_primary.proofs.primary.Primary.update.Goals as goal

@@ -1,13 +1,12 @@
-use Rattle.std.proofs.Common.{◌≡◌, List, [], length, map, refl, sym, ap, subst, ◌∙◌}
+use Rattle.std.proofs.Common.{List, [], length, sym, ap, subst, ◌∙◌}
 use Rattle.std.specs.Prelude.{Option, None, slice_index_or, count_by, is_some}
 use Rattle.dns_primary.specs.declared.event.Peer.{Peer}
-use Rattle.slab.specs.Slab.{Slab, get, slab_len}
 use Rattle.dns_zone.specs.Zone.{Zone}
 use Rattle.dns_held.specs.Each.{Each2, Each3}
 use Rattle.dns_primary.specs.declared.event.Waiting.{Waiting}
 use Rattle.dns_primary.specs.declared.primary.ZoneSettings.{ZoneSettings}
-use Rattle.dns_primary.specs.Machine.{Connection, Waits, peer_at}
-use Rattle.dns_primary.specs.Keeps.{AreHeld, IsSet, IsWaiting}
+use Rattle.dns_primary.specs.Machine.{Waits, peer_at}
+use Rattle.dns_primary.specs.Keeps.{AreHeld, IsWaiting}
 use Rattle.dns_primary.specs.Fresh.{IsLoaded, keeps_unkept}
 use Rattle.dns_primary.proofs.Loaded.{loaded_set}
 use Rattle.dns_primary.proofs.unkept.Primary+I+Unkept.unkept.Goals as goal
