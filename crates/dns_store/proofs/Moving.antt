@@ -57,13 +57,13 @@ changes_again apex before (v ∷ vs) (e ∷ es) (f ∷ fs) (c ∷ cs) are led en
   changes_again apex v vs es fs cs are.1 led.1 entries.1,
 )
 
-led_count : (before : List Record) (vs : Versions) (cs : List Change) → AreLed before vs cs → length cs ≡ length vs
+pub led_count : (before : List Record) (vs : Versions) (cs : List Change) → AreLed before vs cs → length cs ≡ length vs
 led_count before [] [] led = refl
 led_count before [] (c ∷ cs) led = absurd led
 led_count before (v ∷ vs) [] led = absurd led
 led_count before (v ∷ vs) (c ∷ cs) led = omega (arith, led_count v vs cs led.1)
 
-newest_on : (first : List Record) (n m : ℕ) (vs : Versions) → newest_after (newest_after first (take n vs)) (take m (drop n vs)) ≡ newest_after first (take (n + m) vs)
+pub newest_on : (first : List Record) (n m : ℕ) (vs : Versions) → newest_after (newest_after first (take n vs)) (take m (drop n vs)) ≡ newest_after first (take (n + m) vs)
 newest_on first n m vs = sym (newest_append first (take n vs) (take m (drop n vs))) ∙ ap (λ (l : Versions). newest_after first l) (sym (take-add n m vs))
 
 -- What is stored behind a turn is the later base, and the changes from there.

@@ -116,7 +116,7 @@ fn is_geometry(snapshot: u32, journal: u32, count: usize) -> bool
 }
 
 // How many octets the zone's snapshot has.
-fn snapshot_len<I: ZoneIndex>(zone: &Zone<I>) -> usize
+pub(crate) fn snapshot_len<I: ZoneIndex>(zone: &Zone<I>) -> usize
     requires { length zone.now.records ≤ 65536 }
     ensures { result ≡ length (flat_map plain zone.now.records) }
 {
@@ -128,7 +128,10 @@ fn snapshot_len<I: ZoneIndex>(zone: &Zone<I>) -> usize
 }
 
 // The zone's snapshot: its records in plain form, in order.
-fn snapshot_of<I: ZoneIndex>(alloc: Heap, zone: &Zone<I>) -> Result<Vec<u8, Heap>, AllocError>
+pub(crate) fn snapshot_of<I: ZoneIndex>(
+    alloc: Heap,
+    zone: &Zone<I>,
+) -> Result<Vec<u8, Heap>, AllocError>
     ensures { IfOk result (λ octets. octets.items ≡ flat_map plain zone.now.records) }
 {
     let mut octets = Vec::new(alloc);
