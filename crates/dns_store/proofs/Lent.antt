@@ -120,6 +120,17 @@ module _ {D : Type 0} {g : Ghosts D} (journal : Journal D g) (base : Zone) (chan
       most_one sectors_for changes (λ size. size) (entries_of k) keep (min keep (newest_of journal)) (journal_room_of journal - room) m n same_length same_sums (omega arith)
       (λ i few there. omega (arith, few, there, same_length, count, newest_is)) one (subst (λ j. IsMostKept (λ size. size) (entries_of k) keep (j - room) n) (sym journal_is) other)
 
+  pub kept_number : (keep room m : ℕ) → IsMostKept sectors_for changes (min keep (newest_of journal)) (journal_room_of journal - room) m → IsKeptNumber k keep room m
+  kept_number keep room m one =
+      let least : min keep (newest_of journal) ≤ keep = omega arith in
+      subst (λ j. IsMostKept (λ size. size) (entries_of k) keep (j - room) m) journal_is
+      (record {
+        few = omega (arith, one.few, least);
+        there = omega (arith, one.there, same_length);
+        fits = omega (arith, one.fits, same_sums m);
+        most = λ i few there fits. one.most i (omega (arith, few, there, same_length, count, newest_is)) (omega (arith, there, same_length)) (omega (arith, fits, same_sums i));
+      })
+
   module _ (m : ℕ) (le : m ≤ length changes) where
     abbrev pub gone : Versions
     gone = take (length changes - m) (drop k.base k.shown)

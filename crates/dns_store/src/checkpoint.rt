@@ -97,6 +97,9 @@ impl<D: Sectors + Drop, I: ZoneIndex> OpenStore<D, I> {
         ensures moved { (k : Kept) (n : ℕ) → IsLent self.old.store.journal self.old.base self.old.changes.items k
             → IsKeptNumber k keep room n → OnOk result (IsLent self.new.store.journal self.new.base self.new.changes.items
             (moved_to (length k.shown - n) k)) }
+        // How many changes are kept.
+        ensures kept { (k : Kept) → IsLent self.old.store.journal self.old.base self.old.changes.items k
+            → OnOk result (IsKeptNumber k keep room (length self.new.changes.items)) }
         ensures failed { (k : Kept) (n : ℕ) → IsLent self.old.store.journal self.old.base self.old.changes.items k
             → IsKeptNumber k keep room n → result ≡ Err CheckpointError.Device
             → (k.closed ≡ false) × IsClosedEither self.new.store.journal k (length k.shown - n) }

@@ -1,6 +1,6 @@
 use Rattle.std.proofs.Common.{◌≡◌, ⊎_elim, ◌-◌, ◌≤◌, ◌<◌, false, ℕ, List, Err, length, take, drop, refl, sym, ◌∙◌, ap, subst, arith, rules}
 use Rattle.std.proofs.lemmas.Result.{err_from_is_err_and}
-use Rattle.std.proofs.lemmas.List.{take_rest}
+use Rattle.std.proofs.lemmas.List.{length-drop, take_rest}
 use Rattle.std.specs.List.{flat_map}
 use Rattle.dns_records.specs.Record.{Record, plain}
 use Rattle.dns_changes.specs.Change.{Change}
@@ -11,9 +11,9 @@ use Rattle.dns_journal.specs.declared.turn.TurnError.{TurnError}
 use Rattle.dns_store.specs.Versions.{newest_after}
 use Rattle.dns_store.specs.Recovered.{AreLed}
 use Rattle.dns_store.specs.Opening.{store_device}
-use Rattle.dns_store.specs.Checkpoint.{IsBaseOf, IsClosedEither, IsLent, OpensAsEither, checkpoint_error, moved_to, sectors_of_snapshot, version_at}
+use Rattle.dns_store.specs.Checkpoint.{IsBaseOf, IsClosedEither, IsKeptNumber, IsLent, OpensAsEither, checkpoint_error, moved_to, sectors_of_snapshot, version_at}
 use Rattle.dns_store.specs.declared.checkpoint.CheckpointError.{CheckpointError}
-use Rattle.dns_store.proofs.Lent.{rest_either, snapshot_is, kept_is, gone_led, gone_zones, next_records, is_base, is_lent}
+use Rattle.dns_store.proofs.Lent.{rest_either, snapshot_is, kept_is, kept_number, gone_led, gone_zones, next_records, is_base, is_lent}
 use Rattle.dns_store.proofs.recovery.OpenStore.checkpoint.Goals as goal
 
 device_only : (e : TurnError) → checkpoint_error e ≡ CheckpointError.Device → e ≡ TurnError.Device
@@ -193,3 +193,15 @@ returns-clause-fits g c k n lent is =
     let octets = found.octets_are ∙ ap (λ (rs : List Record). flat_map plain rs) (next_records journal base items k lent opened m le) in
     subst (λ j. sectors_of_snapshot (version_at k (length k.shown - j)) ≤ k.shape.snapshot) same
     (subst (λ r. sectors_of_snapshot (version_at k (length k.shown - m)) ≤ r) room (subst (λ (o : List ℕ). snapshot_sectors (length o) ≤ c.snapshot_room-rooms.result) octets c.in_ok-base.ensures.fits))
+
+pub returns-clause-kept : goal.returns-clause-kept
+returns-clause-kept g c k lent =
+    let items = c.args.self.now.changes.items in
+    let m = c.kept_number-kept.result in
+    let opened : is_closed c.args.self.now.store.journal ≡ false = search rules in
+    let le : c.kept_number-kept.result ≤ length c.args.self.now.changes.items = c.kept_number-kept.ensures.there in
+    let gone : c.len.result - c.kept_number-kept.result ≡ length c.args.self.now.changes.items - c.kept_number-kept.result = omega (arith, c.len.ensures, c.args.self.now.changes.ok) in
+    let newest : c.keep_newest.new.changes.items ≡ drop (length c.args.self.now.changes.items - c.kept_number-kept.result) c.args.self.now.changes.items = c.keep_newest.ensures ∙ ap (λ i. drop i c.args.self.now.changes.items) gone in
+    let size : length c.keep_newest.new.changes.items ≡ c.kept_number-kept.result =
+    ap (λ (l : List Change). length l) newest ∙ length-drop (length items - m) items ∙ omega (arith, le) in
+    subst (λ j. IsKeptNumber k c.args.keep c.args.room j) (sym size) (kept_number c.args.self.now.store.journal c.args.self.now.base items k lent opened c.args.keep c.args.room m c.kept_number-kept.ensures)
