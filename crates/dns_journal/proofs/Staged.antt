@@ -5,6 +5,7 @@ use Rattle.dns_sectors.specs.Crash.{Write}
 use Rattle.dns_sectors.specs.Phase.{pairs}
 use Rattle.dns_sectors.specs.declared.device.Sectors.{Ghosts}
 use Rattle.dns_layout.specs.Sector.{open_count, number}
+use Rattle.dns_layout.specs.Forms.{SaysRoot}
 use Rattle.dns_layout.specs.Journal.{Entry, size_of, IsNextEntry, IsBatch, writes_from, body_writes, head_writes, place_behind, version_behind, AllBehind}
 use Rattle.dns_journal.specs.declared.read.Cursor.{Cursor}
 use Rattle.dns_layout.specs.Store.{Shape, Stored, OpensBy, journal_place, bank_end, version_of}
@@ -12,7 +13,7 @@ use Rattle.dns_journal.specs.State.{Keeps}
 use Rattle.dns_journal.specs.Staging.{Stages}
 use Rattle.dns_journal.specs.declared.journal.Journal.{Journal}
 
-batch_more : (es : List Entry) (e : Entry) (until at version opened : ℕ) → IsBatch until at version opened es → IsNextEntry until (place_behind at es) (version_behind version es) opened e → open_count e.head ≡ opened → IsBatch until at version opened (es ++ e ∷ [])
+pub batch_more : (es : List Entry) (e : Entry) (until at version opened : ℕ) → IsBatch until at version opened es → IsNextEntry until (place_behind at es) (version_behind version es) opened e → open_count e.head ≡ opened → IsBatch until at version opened (es ++ e ∷ [])
 batch_more [] e until at version opened batch next same = (next, same, tt)
 batch_more (f ∷ es) e until at version opened batch next same = (batch.0, batch.1, batch_more es e until (at + size_of f) (version + 1) opened batch.2 next same)
 
@@ -34,7 +35,7 @@ version_more : (es : List Entry) (e : Entry) (version : ℕ) → version_behind 
 version_more [] e version = refl
 version_more (f ∷ es) e version = version_more es e (version + 1)
 
-module _ {D : Type 0} {g : Ghosts D} (shape : Shape) (old new : Journal D g) (k : Stored) (staged : List Entry) (keeps : Keeps shape old k staged) (device : new.device ≡ old.device) (closed : new.is_closed ≡ old.is_closed) where
+module _ {D : Type 0} {g : Ghosts D} (shape : Shape) (old new : Journal D g) (k : Stored) (staged : List Entry) (keeps : Keeps shape old k staged) (device : new.device ≡ old.device) (closed : new.is_closed ≡ old.is_closed) (same_root : new.root ≡ old.root) where
   abbrev root : List ℕ
   root = keeps.0
 
@@ -56,6 +57,7 @@ module _ {D : Type 0} {g : Ghosts D} (shape : Shape) (old new : Journal D g) (k 
           honest = subst (λ d. g.is_honest d) (sym device) keeps.2.honest;
           durable = subst (λ d. (c : List (List ℕ)) → g.may_leave d c → c ≡ g.seen d) (sym device) keeps.2.durable;
           opens = subst (λ d. OpensBy shape (g.seen d) root keeps.1 k) (sym device) keeps.2.opens;
+          says = subst (λ r. SaysRoot root r) (sym same_root) keeps.2.says;
           bank = keeps.2.bank;
           behind = subst (λ d. AllBehind (open_count root) (version_of k) (g.seen d)) (sym device) keeps.2.behind;
           batch = batch_more staged e (bank_end shape (number root)) first (version_of k) (open_count root) keeps.2.batch next (stages.opened ∙ keeps.2.opened_is);
@@ -78,6 +80,7 @@ module _ {D : Type 0} {g : Ghosts D} (shape : Shape) (old new : Journal D g) (k 
       honest = subst (λ d. g.is_honest d) (sym device) keeps.2.honest;
       durable = subst (λ d. (c : List (List ℕ)) → g.may_leave d c → c ≡ g.seen d) (sym device) keeps.2.durable;
       opens = subst (λ d. OpensBy shape (g.seen d) root keeps.1 k) (sym device) keeps.2.opens;
+      says = subst (λ r. SaysRoot root r) (sym same_root) keeps.2.says;
       bank = keeps.2.bank;
       behind = subst (λ d. AllBehind (open_count root) (version_of k) (g.seen d)) (sym device) keeps.2.behind;
       batch = keeps.2.batch;

@@ -1,7 +1,7 @@
 //! A journal that is written: staged entries become durable in two phases, first their bodies and then their heads. Its
 //! entries are `stage` and `flush`.
 ghost use Rattle.std.specs.Prelude.{length, take, drop, replicate, ◌≤◌, ◌+◌, ◌-◌, ◌^◌, ◌++◌, ◌∷◌, ◌≡◌, ◌≢◌, ◌<◌, ◌↔◌, [], ℕ, List};
-ghost use Rattle.std.specs.Prelude.{true, false, IsOk, OnOk, OnErr};
+ghost use Rattle.std.specs.Prelude.{true, false, ◌*◌, IsOk, OnOk, OnErr};
 ghost use Rattle.dns_sectors.specs.Device.{Only, LeavesOnly, CountsFailure};
 ghost use Rattle.dns_sectors.specs.Crash.{applied, CrashOf};
 ghost use Rattle.dns_sectors.specs.Phase.{pairs, AllWithin};
@@ -12,7 +12,7 @@ ghost use Rattle.dns_journal.specs.Staging.{Stages, PushesBodies};
 
 use crate::Cursor;
 use dns_changes::Change;
-use dns_layout::{Body, HEAD_ROOM, Head, PAYLOAD_ROOM, entry_sectors, first_padded, padded};
+use dns_layout::{Body, HEAD_ROOM, Head, PAYLOAD_ROOM, Root, entry_sectors, first_padded, padded};
 use dns_memory::Heap;
 use dns_sectors::{DeviceError, SectorWrite, Sectors, write_phase};
 use std::alloc::AllocError;
@@ -51,37 +51,45 @@ pub enum FlushError {
 /// durable. Where the device fails it is closed for good.
 #[derive(Drop)]
 pub struct Journal<D: Sectors> {
-    device: D,
+    pub(crate) device: D,
     bodies: Vec<SectorWrite, Heap>,
     heads: Vec<SectorWrite, Heap>,
-    is_closed: bool,
+    pub(crate) is_closed: bool,
     // where the next entry goes, behind those that are staged, and the store's open count
-    next: Cursor,
+    pub(crate) next: Cursor,
+    // the first sector, which names the bank
+    pub(crate) root: Root,
     ghost bodies_within: { AllWithin (D.count device) bodies.items },
     ghost heads_within: { AllWithin (D.count device) heads.items },
     ghost next_within: { next.until ≤ D.count device },
     ghost next_until: { next.at ≤ next.until },
     ghost next_small: { next.until ≤ 2 ^ 20 },
+    ghost banks_within: { 1 + 2 * (root.snapshot_room + root.journal_room) ≤ D.count device },
+    ghost banks_small: { 1 + 2 * (root.snapshot_room + root.journal_room) ≤ 2 ^ 20 },
 }
 
 impl<D: Sectors> Journal<D> {
     ghost use Rattle.dns_layout.specs.Sector.{open_count, bank_open, number};
+    ghost use Rattle.dns_layout.specs.Forms.{SaysRoot};
     ghost use Rattle.dns_layout.specs.Journal.{Entry, size_of, octets_of, AllBehind, place_behind};
     ghost use Rattle.dns_layout.specs.Store.{Shape, Stored, OpensBy, with_more, bank_end, journal_place, version_of};
     ghost use Rattle.dns_journal.specs.State.{Keeps, LeavesPart, JournalLeavesOnly, HasFailed, is_closed, device_of, left_of};
     ghost use Rattle.dns_journal.specs.State.{newest_of};
+    ghost use Rattle.dns_journal.specs.Bank.{snapshot_room_of, journal_room_of};
 
-    /// A journal on a device that was opened, with nothing staged. It makes no device operation.
-    pub fn over(alloc: Heap, device: D, next: Cursor) -> Journal<D>
+    /// A journal on a device that was opened by this root, with nothing staged. It makes no device operation.
+    pub fn over(alloc: Heap, device: D, next: Cursor, root: Root) -> Journal<D>
         requires within { next.until ≤ D.count device }
         requires until { next.at ≤ next.until }
         requires small { next.until ≤ 2 ^ 20 }
-        ensures keeps { (shape : Shape) (k : Stored) (root : List ℕ) (parts : List (List ℕ)) → D.is_honest device
+        requires banks_within { 1 + 2 * (root.snapshot_room + root.journal_room) ≤ D.count device }
+        requires banks_small { 1 + 2 * (root.snapshot_room + root.journal_room) ≤ 2 ^ 20 }
+        ensures keeps { (shape : Shape) (k : Stored) (x : List ℕ) (parts : List (List ℕ)) → D.is_honest device
             → Only (D.seen device) (D.may_leave device)
-            → OpensBy shape (D.seen device) root parts k → bank_open root ≤ open_count root
-            → AllBehind (open_count root) (version_of k) (D.seen device)
-            → next.until ≡ bank_end shape (number root) → next.at ≡ place_behind (journal_place shape (number root)) k.entries
-            → next.version ≡ version_of k → next.opened ≡ open_count root
+            → OpensBy shape (D.seen device) x parts k → SaysRoot x root → bank_open x ≤ open_count x
+            → AllBehind (open_count x) (version_of k) (D.seen device)
+            → next.until ≡ bank_end shape (number x) → next.at ≡ place_behind (journal_place shape (number x)) k.entries
+            → next.version ≡ version_of k → next.opened ≡ open_count x
             → Keeps shape result k [] }
         ensures device { device_of result ≡ device }
     {
@@ -91,6 +99,7 @@ impl<D: Sectors> Journal<D> {
             heads: Vec::new(alloc),
             is_closed: false,
             next,
+            root,
         }
     }
 
@@ -185,6 +194,20 @@ impl<D: Sectors> Journal<D> {
         }
     }
 
+    /// How many sectors a bank has for a snapshot.
+    pub fn snapshot_room(&self) -> u32
+        ensures { result ≡ snapshot_room_of self.now }
+    {
+        self.root.snapshot_room
+    }
+
+    /// How many sectors a bank has for entries.
+    pub fn journal_room(&self) -> u32
+        ensures { result ≡ journal_room_of self.now }
+    {
+        self.root.journal_room
+    }
+
     /// The device, in whatever state it is. What was staged is forgotten.
     pub fn into_device(self) -> D
         ensures { result ≡ device_of self }
@@ -195,6 +218,7 @@ impl<D: Sectors> Journal<D> {
             heads: _,
             is_closed: _,
             next: _,
+            root: _,
         } = self;
         device
     }
@@ -241,7 +265,7 @@ fn stage_octets(
 }
 
 // Puts the bodies of an entry with this head, from this place on, behind those that are to be written.
-fn push_bodies(
+pub(crate) fn push_bodies(
     bodies: &mut Vec<SectorWrite, Heap>,
     at: usize,
     head: &Head,

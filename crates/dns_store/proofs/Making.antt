@@ -1,6 +1,6 @@
 -- A store that is made: what the sectors behind its root say, and that it opens.
 use Rattle.std.proofs.Common.{◌≡◌, ◌⊎◌, inl, inr, ⊎_elim, ℕ, zero, suc, ◌+◌, ◌-◌, ◌*◌, ◌≤◌, ◌<◌, List, [], ◌∷◌, ◌++◌, length, take, drop, replicate, refl, sym, ◌∙◌, ap, subst, arith, add-one}
-use Rattle.std.specs.Prelude.{get_or, min, slice_set}
+use Rattle.std.specs.Prelude.{get_or, slice_set}
 use Rattle.std.proofs.Math.Seq.{take-append_seam, drop-append_seam}
 use Rattle.std.proofs.lemmas.Bool.{cases_lt}
 use Rattle.std.proofs.lemmas.List.{get_or_past, length-set, take_all}
@@ -16,17 +16,17 @@ use Rattle.dns_layout.specs.Sector.{AreZeros, sector_at, tag, open_count, sequen
 use Rattle.dns_layout.specs.Forms.{SaysPart, SaysRoot}
 use Rattle.dns_layout.specs.Journal.{Stand}
 use Rattle.dns_layout.specs.Store.{Shape as Sizes, AreParts, OpensBy, IsTidy, all_sectors, snapshot_place, journal_place}
-use Rattle.dns_layout.specs.declared.part.SnapshotPart.{SnapshotPart}
 use Rattle.dns_layout.specs.declared.root.Root.{Root}
 use Rattle.dns_layout.specs.declared.root.Bank.TheVariants.{Zero}
 use Rattle.dns_journal.specs.Reads.{sectors_from}
+use Rattle.dns_journal.specs.Bank.{piece, part_of}
 use Rattle.dns_journal.proofs.Looking.{from_stands, length-from, flat_from}
 use Rattle.dns_journal.proofs.Places.{at_set-same, at_set-other}
-use Rattle.dns_journal.proofs.Pushing.{part_more, front_is}
+use Rattle.dns_journal.proofs.Pushing.{part_more}
 use Rattle.dns_journal.proofs.Encoded.{are_zeros}
 use Rattle.dns_store.specs.Versions.{Shape}
 use Rattle.dns_store.specs.Opens.{opens, sizes_of}
-use Rattle.dns_store.specs.Formatting.{IsGeometry, piece, part_of, IsLaid, IsLaidTo, HasBlankRoot, IsMade, first_of, LeftByFormat, LeftByMaking}
+use Rattle.dns_store.specs.Formatting.{IsGeometry, IsLaid, IsLaidTo, HasBlankRoot, IsMade, first_of, LeftByFormat, LeftByMaking}
 use Rattle.dns_store.proofs.Parts.{are_from}
 
 -- Octets that are no head: zeros, and none.
@@ -53,15 +53,6 @@ parts_of octets n lt = omega (arith, lt)
 parts_hold : (octets : ℕ) → octets ≤ payload_room * snapshot_sectors octets
 unfolding snapshot_sectors
 parts_hold octets = omega arith
-
-abbrev part_with : ℕ → ℕ → ℕ → List ℕ → SnapshotPart
-part_with opened base index held = record { bank_open = opened; base = base; index = index; octets = held }
-
-pub part_is : (opened base index from size : ℕ) (octets left held : List ℕ) → from ≡ payload_room * index → left ≡ drop from octets → size ≡ min (length left) payload_room
-    → held ≡ take size left ++ replicate (payload_room - length (take size left)) 0 → part_with opened base index held ≡ part_of opened base octets index
-part_is opened base index from size octets left held from_is left_is size_is held_is =
-    let front : take size left ≡ piece octets index = ap (λ n. take n left) size_is ∙ front_is octets left index (left_is ∙ ap (λ n. drop n octets) from_is) in
-    ap (λ (l : List ℕ). part_with opened base index l) (held_is ∙ ap (λ (l : List ℕ). l ++ replicate (payload_room - length l) 0) front)
 
 -- So many parts of a snapshot stand there, one behind the other.
 module _ (opened base : ℕ) (octets : List ℕ) (c : Content) (at : ℕ) where

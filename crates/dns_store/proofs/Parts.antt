@@ -7,11 +7,8 @@ use Rattle.dns_layout.specs.Sector.{AreZeros, sector_at, number, payload, snapsh
 use Rattle.dns_layout.specs.Store.{Shape, Stored, IsPart, AreParts, OpensBy, snapshot_place}
 use Rattle.dns_journal.specs.Reads.{sectors_from}
 use Rattle.dns_journal.proofs.Looking.{from_more, length-from, stand_is}
+use Rattle.dns_journal.proofs.Laying.{parts_push}
 use Rattle.dns_store.specs.Snapshot.{HoldsSnapshot, IsWrongPart, IsWrongTail}
-
-pub are_more : (x : List ℕ) (i : ℕ) (xs : List (List ℕ)) (y : List ℕ) → AreParts x i xs → IsPart x (i + length xs) y → AreParts x i (xs ++ y ∷ [])
-are_more x i [] y are is = (subst (λ n. IsPart x n y) (omega arith) is, tt)
-are_more x i (z ∷ xs) y are is = (are.0, are_more x (i + 1) xs y are.1 (subst (λ n. IsPart x n y) (omega arith) is))
 
 pub are_split : (x : List ℕ) (i : ℕ) (xs : List (List ℕ)) (y : List ℕ) → AreParts x i (xs ++ y ∷ []) → AreParts x i xs × IsPart x (i + length xs) y
 are_split x i [] y are = (tt, subst (λ n. IsPart x n y) (omega arith) are.0)
@@ -20,7 +17,7 @@ are_split x i (z ∷ xs) y are = let rest = are_split x (i + 1) xs y are.1 in ((
 -- one part more
 pub are_from : (x : List ℕ) (c : Content) (at i : ℕ) → AreParts x 0 (sectors_from c at i) → IsPart x i (sector_at c (at + i)) → AreParts x 0 (sectors_from c at (i + 1))
 are_from x c at i are is =
-    subst (λ (xs : List (List ℕ)). AreParts x 0 xs) (sym (from_more c at i)) (are_more x 0 (sectors_from c at i) (sector_at c (at + i)) are (subst (λ n. IsPart x n (sector_at c (at + i))) (omega (arith, length-from c at i)) is))
+    subst (λ (xs : List (List ℕ)). AreParts x 0 xs) (sym (from_more c at i)) (parts_push x 0 (sectors_from c at i) (sector_at c (at + i)) are (subst (λ n. IsPart x n (sector_at c (at + i))) (omega (arith, length-from c at i)) is))
 
 -- each of them is a part
 pub are_at : (n : ℕ) (x : List ℕ) (c : Content) (at k : ℕ) → AreParts x 0 (sectors_from c at n) → k < n → IsPart x k (sector_at c (at + k))

@@ -1,12 +1,12 @@
 -- What a device holds while a store is made on it, and then.
-use Rattle.std.specs.Prelude.{◌≡◌, ◌⊎◌, ◌≤◌, ◌<◌, ◌+◌, ◌-◌, ◌*◌, ℕ, List, [], ◌++◌, length, take, drop, replicate}
+use Rattle.std.specs.Prelude.{◌≡◌, ◌⊎◌, ◌≤◌, ◌<◌, ◌+◌, ◌*◌, ℕ, List, [], length}
 use Rattle.dns_records.specs.Record.{Record}
 use Rattle.dns_sectors.specs.Device.{Content}
 use Rattle.dns_sectors.specs.declared.device.Sectors.{Ghosts}
-use Rattle.dns_layout.specs.Sector.{sector_at, blank, payload_room, snapshot_sectors}
+use Rattle.dns_layout.specs.Sector.{sector_at, blank, snapshot_sectors}
 use Rattle.dns_layout.specs.Forms.{SaysPart, SaysRoot}
-use Rattle.dns_layout.specs.declared.part.SnapshotPart.{SnapshotPart}
 use Rattle.dns_layout.specs.declared.root.Root.{Root}
+use Rattle.dns_journal.specs.Bank.{part_of}
 use Rattle.dns_store.specs.Versions.{Shape, Opened}
 use Rattle.dns_store.specs.Opens.{opens}
 
@@ -17,15 +17,6 @@ pub record IsGeometry (snapshot journal count : ℕ) : Type 0 where
   pub some_entries : 8 ≤ journal
   pub entries : journal ≤ 65536
   pub size : count ≡ 1 + 2 * (snapshot + journal)
-
--- the octets of a snapshot that its part with this index holds
-abbrev pub piece : List ℕ → ℕ → List ℕ
-piece octets index = take payload_room (drop (payload_room * index) octets)
-
--- the part with this index, with zeros behind the snapshot's end
-abbrev pub part_of : ℕ → ℕ → List ℕ → ℕ → SnapshotPart
-part_of opened base octets index =
-    record { bank_open = opened; base = base; index = index; octets = piece octets index ++ replicate (payload_room - length (piece octets index)) 0 }
 
 -- The sector that stands at this index behind the root of a new store: a part of the snapshot, or zeros behind the last.
 pub record IsLaid (octets : List ℕ) (index : ℕ) (x : List ℕ) : Type 0 where

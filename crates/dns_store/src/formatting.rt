@@ -3,15 +3,16 @@ ghost use Rattle.std.specs.Prelude.{◌≡◌, ◌⊎◌, ◌≤◌, ◌<◌, �
 ghost use Rattle.std.specs.List.{flat_map};
 ghost use Rattle.dns_records.specs.Record.{plain};
 ghost use Rattle.dns_sectors.specs.Device.{Only, LeavesOnly, CountsFailure};
-ghost use Rattle.dns_layout.specs.Sector.{sector_at, payload_room, snapshot_sectors as sectors_of_snapshot};
+ghost use Rattle.dns_layout.specs.Sector.{sector_at, snapshot_sectors as sectors_of_snapshot};
 ghost use Rattle.dns_journal.specs.Reads.{HasRisen};
 ghost use Rattle.dns_store.specs.Opens.{opens};
-ghost use Rattle.dns_store.specs.Formatting.{IsGeometry, part_of, IsLaid, IsLaidTo, HasBlankRoot, IsMade, first_of, LeftByFormat};
+ghost use Rattle.dns_store.specs.Formatting.{IsGeometry, IsLaid, IsLaidTo, HasBlankRoot, IsMade, first_of, LeftByFormat};
 ghost use Rattle.dns_store.specs.Formatting.{LeftByMaking};
 
 use crate::recovery::{MOST_SECTORS, apex_of};
 use dns_changes::plain_len;
-use dns_layout::{Bank, PAYLOAD_ROOM, Root, SnapshotPart, padded, snapshot_sectors};
+use dns_journal::snapshot_part;
+use dns_layout::{Bank, PAYLOAD_ROOM, Root, snapshot_sectors};
 use dns_memory::Heap;
 use dns_sectors::{DeviceError, Sector, SectorWrite, Sectors, write_phase};
 use dns_zone::{Records, Zone, ZoneIndex};
@@ -115,7 +116,7 @@ fn is_geometry(snapshot: u32, journal: u32, count: usize) -> bool
 }
 
 // How many octets the zone's snapshot has.
-fn snapshot_len<I: ZoneIndex>(zone: &Zone<I>) -> usize
+pub(crate) fn snapshot_len<I: ZoneIndex>(zone: &Zone<I>) -> usize
     requires { length zone.now.records ≤ 65536 }
     ensures { result ≡ length (flat_map plain zone.now.records) }
 {
@@ -127,7 +128,10 @@ fn snapshot_len<I: ZoneIndex>(zone: &Zone<I>) -> usize
 }
 
 // The zone's snapshot: its records in plain form, in order.
-fn snapshot_of<I: ZoneIndex>(alloc: Heap, zone: &Zone<I>) -> Result<Vec<u8, Heap>, AllocError>
+pub(crate) fn snapshot_of<I: ZoneIndex>(
+    alloc: Heap,
+    zone: &Zone<I>,
+) -> Result<Vec<u8, Heap>, AllocError>
     ensures { IfOk result (λ octets. octets.items ≡ flat_map plain zone.now.records) }
 {
     let mut octets = Vec::new(alloc);
@@ -190,19 +194,4 @@ fn sector_behind(octets: &[u8], index: u32) -> Sector
         return [0; 512];
     }
     snapshot_part(0, 0, octets, index).encode()
-}
-
-// The part with this index of a snapshot.
-fn snapshot_part(bank_open: u64, base: u64, octets: &[u8], index: u32) -> SnapshotPart
-    requires { payload_room * index ≤ length octets.now }
-    ensures { result ≡ part_of bank_open base octets.now index }
-{
-    let rest = &octets[index as usize * PAYLOAD_ROOM..];
-    let size = rest.len().min(PAYLOAD_ROOM);
-    SnapshotPart {
-        bank_open,
-        base,
-        index,
-        octets: padded(&rest[..size]),
-    }
 }

@@ -1,6 +1,7 @@
 //! A zone's store, as the layer above sees it: in versions and a base. `open` gives the store of a device.
 #![tactic(auto)]
 
+mod checkpoint;
 mod device_store;
 mod formatting;
 mod records;
@@ -11,6 +12,7 @@ mod unkept;
 mod versions;
 mod zone_store;
 
+pub use checkpoint::CheckpointError;
 pub use device_store::DeviceStore;
 pub use dns_journal::{FlushError, StageError};
 pub use formatting::{FEWEST_ENTRIES, FormatError, format};

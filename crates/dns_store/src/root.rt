@@ -76,7 +76,8 @@ pub(crate) fn read_root<D: Sectors>(
         (record { snapshot = snapshot; journal = journal; apex = apex.now }) (D.count device.old)
         (sector_at (D.seen device.old) 0)) }
     ensures fits { IfOk result (λ root. (sectors_of_snapshot root.snapshot_length ≤ snapshot)
-        × (D.count device.old ≡ 1 + 2 * (snapshot + journal)) × (root.open_count < 2 ^ 64 - 1)) }
+        × (D.count device.old ≡ 1 + 2 * (snapshot + journal)) × (root.open_count < 2 ^ 64 - 1)
+        × (root.snapshot_room ≡ snapshot) × (root.journal_room ≡ journal)) }
     ensures refused { D.is_honest device.old → IfErr result
         (λ e. (e ≡ OpenError.Device) ⊎ RootRefusal (record { snapshot = snapshot; journal = journal; apex = apex.now })
         (D.count device.old) (sector_at (D.seen device.old) 0) e) }
@@ -153,6 +154,7 @@ pub(crate) fn raise_root<D: Sectors>(device: &mut D, root: &mut Root) -> Result<
         → OnOk result ((y : List ℕ) × SaysRoot y root.new × IsRaised x y × OpensBy s (D.seen device.new) y parts k
         × (bank_open y ≤ open_count y) × ((version : ℕ) → AllBehind (open_count y) version (D.seen device.new))) }
     ensures durable { D.is_honest device.old → OnOk result (Only (D.seen device.new) (D.may_leave device.new)) }
+    ensures root { root.new ≡ record root.old { open_count = root.old.open_count + 1 } }
     ensures failed { CountsFailure result (D.failed device.old) (D.failed device.new) }
     ensures honest { D.is_honest device.new ↔ D.is_honest device.old }
     ensures count { D.count device.new ≡ D.count device.old }

@@ -49,7 +49,7 @@ returns-clause-opened g c honest range may =
     let tidy = subst (λ (e : Content). IsTidy e) (sym same) is.1.2 in
     let raised = c.in-Ok-raise_root.ensures.raised sz s (sector_at d 0) there.0 mid only by tidy read.says in
     let bank = raised.2.names.bank in
-    let keeps = c.over.ensures.keeps shape o s raised.0 there.0 (c.raise_root.ensures.honest.1 mid) (c.in-Ok-raise_root.ensures.durable mid) raised.3 raised.4 (raised.5 (version_of s)) is.1.3
+    let keeps = c.over.ensures.keeps shape o s raised.0 there.0 (c.raise_root.ensures.honest.1 mid) (c.in-Ok-raise_root.ensures.durable mid) raised.3 raised.1 raised.4 (raised.5 (version_of s)) is.1.3
     (read.until_is ∙ ap (λ n. bank_end sz n) (sym bank)) (read.at_is ∙ ap (λ n. place_behind (journal_place sz n) s.entries) (sym bank)) read.version_is (sym raised.1.opened_is) in
     (o, (d, left, is.1), record { keeps = keeps; base_is = read.base_is; led = read.led; newest_is = read.newest_is })
 

@@ -1,0 +1,55 @@
+use Rattle.std.proofs.Common.{◌≡◌, ◌⊎◌, ◌+◌, ◌-◌, List, refl, sym, length, subst, arith}
+use Rattle.dns_sectors.specs.Phase.{pairs}
+use Rattle.dns_sectors.specs.declared.phase.SectorWrite.{SectorWrite}
+use Rattle.dns_sectors.proofs.Moments.{weaker}
+use Rattle.dns_layout.specs.Forms.{bank_number}
+use Rattle.dns_layout.specs.Store.{OpensAs, IsTidy}
+use Rattle.dns_journal.specs.Bank.{other_of, LaysBank, LeavesEither}
+use Rattle.dns_journal.proofs.Laying.{snapshot_short}
+use Rattle.dns_journal.proofs.Turned.{rooms_of, stored, is_turned, turns, leaves_either, turned_keeps}
+use Rattle.dns_journal.proofs.journal.Journal.turn.Goals as goal
+
+pub overflow_cast-self : goal.overflow_cast-self
+overflow_cast-self g c = omega (arith, snapshot_short (length c.args.octets.now) c.args.self.now.root.snapshot_room (omega (arith, c.args.self.now.banks_small)) c.requires.fits)
+
+pub returns-in-Ok-clause-any_moment : goal.returns-in-Ok-clause-any_moment
+returns-in-Ok-clause-any_moment g c shape k keeps =
+    let old = c.args.self.now in
+    let base = c.args.self.now.next.version - length c.args.changes.now in
+    let base_is : c.args.self.now.next.version - length c.args.changes.now + length c.args.changes.now ≡ c.args.self.now.next.version = omega (arith, c.requires.few) in
+    let ws = pairs c.deref.result.now in
+    let lays = subst (λ (l : List SectorWrite). LaysBank (rooms_of old.root) (other_of (bank_number old.root.bank)) old.root.open_count base c.args.octets.now c.args.changes.now (pairs l) c.in_ok-writes.next) (sym c.deref.ensures.value) c.in_ok-writes.ensures.laid in
+    let new = stored shape old k keeps c.args.octets.now c.args.changes.now c.other_bank-self.result base ws c.in_ok-writes.next c.other_bank-self.ensures base_is c.requires.fits lays in
+    let turn = turns shape old k keeps c.args.octets.now c.args.changes.now c.other_bank-self.result base ws c.in_ok-writes.next c.other_bank-self.ensures base_is c.requires.fits lays in
+    weaker g.D.Sectors.moment g.D.Sectors.left_since c.args.self.now.device c.turn_to.new.device (λ d. (OpensAs shape d k ⊎ OpensAs shape d new) × IsTidy d) (LeavesEither shape k c.args.octets.now c.args.changes.now)
+    (c.turn_to.ensures.any_moment shape k new keeps.0 keeps.1 keeps.2.honest keeps.2.durable keeps.2.opens keeps.2.bank keeps.2.behind turn)
+    (λ d left. leaves_either shape old k keeps c.args.octets.now c.args.changes.now c.other_bank-self.result base ws c.in_ok-writes.next c.other_bank-self.ensures base_is c.requires.fits lays d left)
+
+pub returns-in-Ok-clause-turned : goal.returns-in-Ok-clause-turned
+returns-in-Ok-clause-turned g c shape k keeps =
+    let old = c.args.self.now in
+    let base = c.args.self.now.next.version - length c.args.changes.now in
+    let base_is : c.args.self.now.next.version - length c.args.changes.now + length c.args.changes.now ≡ c.args.self.now.next.version = omega (arith, c.requires.few) in
+    let ws = pairs c.deref.result.now in
+    let lays = subst (λ (l : List SectorWrite). LaysBank (rooms_of old.root) (other_of (bank_number old.root.bank)) old.root.open_count base c.args.octets.now c.args.changes.now (pairs l) c.in_ok-writes.next) (sym c.deref.ensures.value) c.in_ok-writes.ensures.laid in
+    let new = stored shape old k keeps c.args.octets.now c.args.changes.now c.other_bank-self.result base ws c.in_ok-writes.next c.other_bank-self.ensures base_is c.requires.fits lays in
+    let turn = turns shape old k keeps c.args.octets.now c.args.changes.now c.other_bank-self.result base ws c.in_ok-writes.next c.other_bank-self.ensures base_is c.requires.fits lays in
+    let to = c.in-Ok.ensures.turned shape k new keeps.0 keeps.1 keeps.2.honest keeps.2.durable keeps.2.opens keeps.2.bank keeps.2.behind turn in (
+      new,
+      is_turned shape old k keeps c.args.octets.now c.args.changes.now c.other_bank-self.result base ws c.in_ok-writes.next c.other_bank-self.ensures base_is c.requires.fits lays,
+      turned_keeps shape old k keeps c.args.octets.now c.args.changes.now c.other_bank-self.result base ws c.in_ok-writes.next c.other_bank-self.ensures base_is c.requires.fits lays _ keeps.2.is_open (c.turn_to.ensures.honest.1 keeps.2.honest)
+          (c.in-Ok.ensures.durable keeps.2.honest) to refl refl refl refl,
+    )
+
+pub returns-clause-any_moment : goal.returns-clause-any_moment
+returns-clause-any_moment g c shape k keeps =
+    let old = c.args.self.now in
+    let base = c.args.self.now.next.version - length c.args.changes.now in
+    let base_is : c.args.self.now.next.version - length c.args.changes.now + length c.args.changes.now ≡ c.args.self.now.next.version = omega (arith, c.requires.few) in
+    let ws = pairs c.deref.result.now in
+    let lays = subst (λ (l : List SectorWrite). LaysBank (rooms_of old.root) (other_of (bank_number old.root.bank)) old.root.open_count base c.args.octets.now c.args.changes.now (pairs l) c.in_ok-writes.next) (sym c.deref.ensures.value) c.in_ok-writes.ensures.laid in
+    let new = stored shape old k keeps c.args.octets.now c.args.changes.now c.other_bank-self.result base ws c.in_ok-writes.next c.other_bank-self.ensures base_is c.requires.fits lays in
+    let turn = turns shape old k keeps c.args.octets.now c.args.changes.now c.other_bank-self.result base ws c.in_ok-writes.next c.other_bank-self.ensures base_is c.requires.fits lays in
+    weaker g.D.Sectors.moment g.D.Sectors.left_since c.args.self.now.device c.turn_to.new.device (λ d. (OpensAs shape d k ⊎ OpensAs shape d new) × IsTidy d) (LeavesEither shape k c.args.octets.now c.args.changes.now)
+    (c.turn_to.ensures.any_moment shape k new keeps.0 keeps.1 keeps.2.honest keeps.2.durable keeps.2.opens keeps.2.bank keeps.2.behind turn)
+    (λ d left. leaves_either shape old k keeps c.args.octets.now c.args.changes.now c.other_bank-self.result base ws c.in_ok-writes.next c.other_bank-self.ensures base_is c.requires.fits lays d left)

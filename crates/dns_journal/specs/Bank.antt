@@ -1,0 +1,156 @@
+-- A bank that is written whole, and a root that is turned to it.
+use Rattle.std.specs.Prelude.{◌≡◌, ◌⊎◌, ◌≤◌, ℕ, zero, suc, ◌+◌, ◌-◌, ◌*◌, List, [], ◌∷◌, ◌++◌, length, take, drop, replicate}
+use Rattle.std.specs.List.{flat_map}
+use Rattle.dns_sectors.specs.Device.{Content}
+use Rattle.dns_sectors.specs.Crash.{Write}
+use Rattle.dns_layout.specs.Apex.{apex_octets}
+use Rattle.dns_layout.specs.Sector.{open_count, sequence, number, bank_open, snapshot_length, payload, payload_room, entry_sectors, snapshot_sectors}
+use Rattle.dns_layout.specs.Forms.{SaysRoot, bank_number}
+use Rattle.dns_layout.specs.Journal.{Entry, size_of, octets_of, IsNextEntry, IsBatch, AllBehind, writes_from, place_behind, version_behind}
+use Rattle.dns_layout.specs.Store.{Shape, Stored, OpensBy, OpensAs, IsTidy, AreParts, version_of, snapshot_place, journal_place, bank_end}
+use Rattle.dns_layout.specs.declared.root.Root.{Root}
+use Rattle.dns_layout.specs.declared.part.SnapshotPart.{SnapshotPart}
+use Rattle.dns_changes.specs.Change.{Change}
+use Rattle.dns_changes.specs.Entry.{entry}
+use Rattle.dns_journal.specs.declared.journal.Journal.{Journal}
+use Rattle.dns_journal.specs.declared.read.Cursor.{Cursor}
+use Rattle.dns_sectors.specs.declared.device.Sectors.{Ghosts}
+
+-- the two roots name the same bank, with the same snapshot
+pub record NamesSameBank (old new : List ℕ) : Type 0 where
+  pub bank : number new ≡ number old
+  pub bank_open : bank_open new ≡ bank_open old
+  pub base : sequence new ≡ sequence old
+  pub length : snapshot_length new ≡ snapshot_length old
+
+-- the bank that isn't in use
+abbrev pub other_of : ℕ → ℕ
+other_of zero = 1
+other_of (suc n) = 0
+
+-- the octets of a snapshot that its part with this index holds
+abbrev pub piece : List ℕ → ℕ → List ℕ
+piece octets index = take payload_room (drop (payload_room * index) octets)
+
+-- the part with this index, with zeros behind the snapshot's end
+abbrev pub part_of : ℕ → ℕ → List ℕ → ℕ → SnapshotPart
+part_of opened base octets index =
+    record { bank_open = opened; base = base; index = index; octets = piece octets index ++ replicate (payload_room - length (piece octets index)) 0 }
+
+-- So many parts of a snapshot are put there from this place on: they hold its octets, and zeros behind them.
+pub record PushesParts (at opened base : ℕ) (octets : List ℕ) (count : ℕ) (old new : List Write) : Type 0 where
+  pub sectors : List (List ℕ)
+  pub count_is : length sectors ≡ count
+  pub are : (x : List ℕ) → bank_open x ≡ opened → sequence x ≡ base → AreParts x 0 sectors
+  pub holds : flat_map payload sectors ≡ take (payload_room * count) octets ++ replicate (payload_room * count - length octets) 0
+  pub written : new ≡ old ++ writes_from at sectors
+
+-- the sectors of entries, each head with its bodies behind it
+abbrev pub sectors_of : List Entry → List (List ℕ)
+sectors_of [] = []
+sectors_of (e ∷ es) = e.head ∷ (e.bodies ++ sectors_of es)
+
+-- how many sectors the entry of a change takes
+abbrev pub sectors_for : Change → ℕ
+sectors_for c = entry_sectors (length (entry c))
+
+-- An entry with these octets is put at the cursor, whose open count it has.
+pub record PushesEntry (old new : Cursor) (octets : List ℕ) (before after : List Write) : Type 0 where
+  pub entry : Entry
+  pub holds : octets_of entry ≡ octets
+  pub next : IsNextEntry old.until old.at old.version old.opened entry
+  pub opened : open_count entry.head ≡ old.opened
+  pub size : size_of entry ≡ entry_sectors (length octets)
+  pub written : after ≡ before ++ writes_from old.at (entry.head ∷ entry.bodies)
+  pub place : new.at ≡ old.at + size_of entry
+  pub until_stays : new.until ≡ old.until
+  pub version_is : new.version ≡ old.version + 1
+  pub opened_stays : new.opened ≡ old.opened
+
+-- The entry holds the change.
+pub record IsEntryOf (c : Change) (e : Entry) : Type 0 where
+  pub octets_are : octets_of e ≡ entry c
+  pub size_is : size_of e ≡ entry_sectors (length (entry c))
+
+-- The entries hold the changes.
+abbrev pub AreEntries : List Change → List Entry → Type 0
+AreEntries [] [] = Unit {0}
+AreEntries (c ∷ cs) (e ∷ es) = IsEntryOf c e × AreEntries cs es
+AreEntries [] (e ∷ es) = ⊥
+AreEntries (c ∷ cs) [] = ⊥
+
+-- The entries of these changes are put at the cursor, one behind the other.
+pub record PushesEntries (old new : Cursor) (changes : List Change) (before after : List Write) : Type 0 where
+  pub entries : List Entry
+  pub are : AreEntries changes entries
+  pub batch : IsBatch old.until old.at old.version old.opened entries
+  pub written : after ≡ before ++ writes_from old.at (sectors_of entries)
+  pub place : new.at ≡ place_behind old.at entries
+  pub until_stays : new.until ≡ old.until
+  pub version_is : new.version ≡ version_behind old.version entries
+  pub opened_stays : new.opened ≡ old.opened
+
+-- What is stored begins at a later version, with these octets as its snapshot, and keeps the newest changes alone.
+pub record IsTurned (k : Stored) (octets : List ℕ) (changes : List Change) (new : Stored) : Type 0 where
+  pub base : new.base + length changes ≡ version_of k
+  pub snapshot : new.snapshot ≡ octets
+  pub entries : AreEntries changes new.entries
+
+-- A crash left what was stored, or what is stored behind the turn.
+abbrev pub LeavesEither : Shape → Stored → List ℕ → List Change → Content → Type 0
+LeavesEither shape k octets changes c =
+    (OpensAs shape c k ⊎ ((new : Stored) × IsTurned k octets changes new × OpensAs shape c new)) × IsTidy c
+
+-- how many sectors a bank has for its snapshot, and for its journal
+abbrev pub snapshot_room_of : {D : Type 0} {g : Ghosts D} → Journal D g → ℕ
+snapshot_room_of journal = journal.root.snapshot_room
+
+abbrev pub journal_room_of : {D : Type 0} {g : Ghosts D} → Journal D g → ℕ
+journal_room_of journal = journal.root.journal_room
+
+-- These writes put a snapshot and the entries of changes into a bank, all with this open count, and the cursor is behind them.
+pub record LaysBank (s : Shape) (bank opened base : ℕ) (octets : List ℕ) (changes : List Change) (ws : List Write) (next : Cursor) : Type 0 where
+  pub parts : List (List ℕ)
+  pub count : length parts ≡ snapshot_sectors (length octets)
+  pub expected : (x : List ℕ) → bank_open x ≡ opened → sequence x ≡ base → AreParts x 0 parts
+  pub holds : flat_map payload parts ≡ take (payload_room * snapshot_sectors (length octets)) octets ++ replicate
+      (payload_room * snapshot_sectors (length octets) - length octets) 0
+  pub entries : List Entry
+  pub are : AreEntries changes entries
+  pub batch : IsBatch (bank_end s bank) (journal_place s bank) base opened entries
+  pub written : ws ≡ writes_from (snapshot_place s bank) parts ++ writes_from (journal_place s bank) (sectors_of entries)
+  pub at_is : next.at ≡ place_behind (journal_place s bank) entries
+  pub until_is : next.until ≡ bank_end s bank
+  pub version_is : next.version ≡ version_behind base entries
+  pub opened_is : next.opened ≡ opened
+
+-- The writes put what is to be stored into the bank that the root x doesn't name, and r is the root that names it.
+pub record Turns (s : Shape) (k new : Stored) (x : List ℕ) (r : Root) (ws : List Write) : Type 0 where
+  pub opened : r.open_count ≡ open_count x
+  pub bank : bank_number r.bank ≡ other_of (number x)
+  pub bank_open_is : r.bank_open ≡ open_count x
+  pub base : r.base ≡ new.base
+  pub length_is : r.snapshot_length ≡ length new.snapshot
+  pub snapshot_room : r.snapshot_room ≡ s.snapshot
+  pub journal_room : r.journal_room ≡ s.journal
+  pub apex : apex_octets r.apex ≡ apex_octets s.apex
+  pub fits : snapshot_sectors (length new.snapshot) ≤ s.snapshot
+  pub newest : version_of new ≡ version_of k
+  pub parts : List (List ℕ)
+  pub count : length parts ≡ snapshot_sectors (length new.snapshot)
+  pub expected : (y : List ℕ) → bank_open y ≡ open_count x → sequence y ≡ new.base → AreParts y 0 parts
+  pub holds : flat_map payload parts ≡ take (payload_room * snapshot_sectors (length new.snapshot)) new.snapshot ++ replicate
+      (payload_room * snapshot_sectors (length new.snapshot) - length new.snapshot) 0
+  pub batch : IsBatch (bank_end s (other_of (number x))) (journal_place s (other_of (number x))) new.base (open_count x) new.entries
+  pub written : ws ≡ writes_from (snapshot_place s (other_of (number x))) parts ++ writes_from
+      (journal_place s (other_of (number x))) (sectors_of new.entries)
+
+-- It opens as what was to be stored, by this root, and no head that stands anywhere is ahead.
+pub record IsTurnedTo (s : Shape) (new : Stored) (r : Root) (opened : ℕ) (c : Content) : Type 0 where
+  pub root : List ℕ
+  pub parts : List (List ℕ)
+  pub says : SaysRoot root r
+  pub opens : OpensBy s c root parts new
+  pub bank : bank_open root ≤ open_count root
+  pub behind : AllBehind (open_count root) (version_of new) c
+  pub opened_is : open_count root ≡ opened

@@ -1,0 +1,187 @@
+-- A store with its base and its changes: what a checkpoint keeps of them.
+use Rattle.std.proofs.Common.{◌≡◌, inl, ℕ, zero, suc, ◌+◌, ◌-◌, ◌≤◌, Bool, true, false, List, [], ◌∷◌, length, take, drop, refl, sym, ◌∙◌, ap, subst, arith, drop-drop}
+use Rattle.std.proofs.lemmas.List.{length-drop}
+use Rattle.std.proofs.lemmas.List.Sums.{sum_by-cons}
+use Rattle.std.specs.Prelude.{sum_by, min}
+use Rattle.std.specs.List.{flat_map}
+use Rattle.dns_names.specs.Name.{Labels}
+use Rattle.dns_records.specs.Record.{Record, plain}
+use Rattle.dns_zone.specs.Zone.{Zone}
+use Rattle.dns_changes.specs.Change.{Change}
+use Rattle.dns_sectors.specs.Device.{Content, LeavesOnly}
+use Rattle.dns_sectors.specs.declared.device.Sectors.{Ghosts}
+use Rattle.dns_sectors.proofs.Moments.{started}
+use Rattle.dns_layout.specs.Journal.{Entry}
+use Rattle.dns_layout.specs.Store.{Stored}
+use Rattle.dns_journal.specs.State.{is_closed, device_of, newest_of}
+use Rattle.dns_journal.specs.Bank.{sectors_for, journal_room_of, snapshot_room_of}
+use Rattle.dns_journal.specs.declared.journal.Journal.{Journal}
+use Rattle.dns_store.specs.Versions.{Versions, Kept, newest_after}
+use Rattle.dns_store.specs.Room.{entry_between, entries_along}
+use Rattle.dns_store.specs.Staged.{entry_is, entries_length}
+use Rattle.dns_store.specs.Opens.{AreChanges, IsKeptBy, KeepsBy}
+use Rattle.dns_store.specs.Laws.{at_rest_of}
+use Rattle.dns_store.specs.Recovered.{AreLed}
+use Rattle.dns_store.specs.Checkpoint.{newest_sectors, IsMostKept, IsKeptNumber, IsLent, AllZones, IsBaseOf, IsNextBase, OpensAsEither, entries_of, moved_to, version_at}
+use Rattle.dns_store.proofs.Places.{along_drop, number_kept}
+use Rattle.dns_store.proofs.Moving.{led_count, newest_on}
+
+-- the sectors of the entries of changes, and of those between the versions
+led_sums : (before : List Record) (vs : Versions) (cs : List Change) (i : ℕ) → AreLed before vs cs → sum_by sectors_for (drop i cs) ≡ sum_by (λ size. size) (drop i (entries_along before vs))
+led_sums before [] [] zero led = refl
+led_sums before [] [] (suc i) led = refl
+led_sums before [] (c ∷ cs) i led = absurd led
+led_sums before (v ∷ vs) [] i led = absurd led
+led_sums before (v ∷ vs) (c ∷ cs) zero led =
+    let rest = led_sums v vs cs zero led.1 in
+    let here : entry_between before v ≡ sectors_for c = entry_is before v c led.0 in
+    sum_by-cons sectors_for c cs ∙ omega (arith, rest, here) ∙ sym (sum_by-cons (λ size. size) (entry_between before v) (entries_along v vs))
+led_sums before (v ∷ vs) (c ∷ cs) (suc i) led = led_sums v vs cs i led.1
+
+zones_of : (apex : Labels) (before : List Record) (vs : Versions) (es : List Entry) → AreChanges apex before vs es → AllZones apex vs
+zones_of apex before [] es are = tt
+zones_of apex before (v ∷ vs) [] are = absurd are
+zones_of apex before (v ∷ vs) (e ∷ es) are = (are.0.valid, zones_of apex v vs es are.1)
+
+zones_take : (apex : Labels) (n : ℕ) (vs : Versions) → AllZones apex vs → AllZones apex (take n vs)
+zones_take apex zero vs zones = tt
+zones_take apex (suc n) [] zones = tt
+zones_take apex (suc n) (v ∷ vs) zones = (zones.0, zones_take apex n vs zones.1)
+
+led_take : (n : ℕ) (before : List Record) (vs : Versions) (cs : List Change) → AreLed before vs cs → AreLed before (take n vs) (take n cs)
+led_take zero before vs cs led = tt
+led_take (suc n) before [] [] led = tt
+led_take (suc n) before [] (c ∷ cs) led = absurd led
+led_take (suc n) before (v ∷ vs) [] led = absurd led
+led_take (suc n) before (v ∷ vs) (c ∷ cs) led = (led.0, led_take n v vs cs led.1)
+
+led_drop : (n : ℕ) (before : List Record) (vs : Versions) (cs : List Change) → AreLed before vs cs → AreLed (newest_after before (take n vs)) (drop n vs) (drop n cs)
+led_drop zero before vs cs led = led
+led_drop (suc n) before [] [] led = tt
+led_drop (suc n) before [] (c ∷ cs) led = absurd led
+led_drop (suc n) before (v ∷ vs) [] led = absurd led
+led_drop (suc n) before (v ∷ vs) (c ∷ cs) led = led_drop n v vs cs led.1
+
+most_one : {X Y : Type 0} (f : X → ℕ) (xs : List X) (h : Y → ℕ) (ys : List Y) (keep keep' room m n : ℕ) → length xs ≡ length ys → ((i : ℕ) → newest_sectors f xs i ≡ newest_sectors h ys i) → (keep' ≤ keep) → ((i : ℕ) → i ≤ keep → i ≤ length ys → i ≤ keep')
+    → IsMostKept f xs keep' room m → IsMostKept h ys keep room n → m ≡ n
+most_one f xs h ys keep keep' room m n same sums less more one other =
+    let up : m ≤ n = other.most m (omega (arith, one.few, less)) (omega (arith, one.there, same)) (omega (arith, one.fits, sums m)) in
+    let down : n ≤ m = one.most n (more n other.few other.there) (omega (arith, other.there, same)) (omega (arith, other.fits, sums n)) in
+    omega (arith, up, down)
+
+-- A store that isn't closed keeps its versions as entries.
+pub kept_open : {D : Type 0} {g : Ghosts D} (journal : Journal D g) (k : Kept) (closed : Bool) → is_closed journal ≡ false → KeepsBy journal k closed → (s : Stored) × (staged : List Entry) × IsKeptBy journal k s staged
+kept_open journal k false is_open kept = kept
+kept_open journal k true is_open kept = let both = kept.closed in absurd cc
+
+-- No device call was made.
+pub rest_either : {D : Type 0} {g : Ghosts D} (only_now : (d : D) (c : Content) → g.is_honest d → g.left_since d (g.moment d) c → g.may_leave d c) (old new : Journal D g) (k : Kept) (base : ℕ) → device_of new ≡ device_of old → KeepsBy old k k.closed
+    → LeavesOnly g.moment g.left_since (device_of old) (device_of new) (OpensAsEither k base)
+rest_either {D} {g} only_now old new k base same kept =
+    subst (λ (d : D). LeavesOnly g.moment g.left_since (device_of old) d (OpensAsEither k base)) (sym same)
+    (started g.moment g.left_since (device_of old) (OpensAsEither k base) (λ c left. inl (at_rest_of only_now old k k.closed kept c left)))
+
+module _ {D : Type 0} {g : Ghosts D} (journal : Journal D g) (base : Zone) (changes : List Change) (k : Kept) (lent : IsLent journal base changes k) (is_open : is_closed journal ≡ false) where
+  abbrev kept_as : (s : Stored) × (staged : List Entry) × IsKeptBy journal k s staged
+  kept_as = kept_open journal k k.closed is_open lent.keeps
+
+  abbrev kept : IsKeptBy journal k (kept_open journal k k.closed is_open lent.keeps).0 (kept_open journal k k.closed is_open lent.keeps).1
+  kept = (kept_open journal k k.closed is_open lent.keeps).2
+
+  so_far : k.base ≤ length k.shown
+  so_far = kept.part.so_far
+
+  count : length changes ≡ length k.shown - k.base
+  count = led_count (version_at k k.base) (drop k.base k.shown) changes lent.led ∙ length-drop k.base k.shown
+
+  pub journal_is : journal_room_of journal ≡ k.shape.journal
+  journal_is = sym kept.keeps.2.says.journal_room_is ∙ kept.keeps.2.opens.valid.journal
+
+  pub snapshot_is : snapshot_room_of journal ≡ k.shape.snapshot
+  snapshot_is = sym kept.keeps.2.says.snapshot_room_is ∙ kept.keeps.2.opens.valid.snapshot
+
+  newest_is : newest_of journal ≡ length k.shown
+  newest_is = omega (arith, number_kept journal k kept_as.0 kept_as.1 kept, ap (λ (vs : Versions). length vs) lent.nothing_staged)
+
+  entries_are : entries_of k ≡ entries_along (version_at k k.base) (drop k.base k.shown)
+  entries_are = along_drop k.base k.loaded k.shown
+
+  same_length : length changes ≡ length (entries_of k)
+  same_length = led_count (version_at k k.base) (drop k.base k.shown) changes lent.led ∙ sym (ap (λ (xs : List ℕ). length xs) entries_are ∙ entries_length (version_at k k.base) (drop k.base k.shown))
+
+  same_sums : (i : ℕ) → newest_sectors sectors_for changes i ≡ newest_sectors (λ size. size) (entries_of k) i
+  same_sums i =
+      led_sums (version_at k k.base) (drop k.base k.shown) changes (length changes - i) lent.led
+      ∙ ap (λ (xs : List ℕ). sum_by (λ size. size) (drop (length changes - i) xs)) (sym entries_are)
+      ∙ ap (λ n. sum_by (λ size. size) (drop (n - i) (entries_of k))) same_length
+
+  pub kept_is : (keep room m n : ℕ) → IsMostKept sectors_for changes (min keep (newest_of journal)) (journal_room_of journal - room) m → IsKeptNumber k keep room n → m ≡ n
+  kept_is keep room m n one other =
+      most_one sectors_for changes (λ size. size) (entries_of k) keep (min keep (newest_of journal)) (journal_room_of journal - room) m n same_length same_sums (omega arith)
+      (λ i few there. omega (arith, few, there, same_length, count, newest_is)) one (subst (λ j. IsMostKept (λ size. size) (entries_of k) keep (j - room) n) (sym journal_is) other)
+
+  pub kept_number : (keep room m : ℕ) → IsMostKept sectors_for changes (min keep (newest_of journal)) (journal_room_of journal - room) m → IsKeptNumber k keep room m
+  kept_number keep room m one =
+      let least : min keep (newest_of journal) ≤ keep = omega arith in
+      subst (λ j. IsMostKept (λ size. size) (entries_of k) keep (j - room) m) journal_is
+      (record {
+        few = omega (arith, one.few, least);
+        there = omega (arith, one.there, same_length);
+        fits = omega (arith, one.fits, same_sums m);
+        most = λ i few there fits. one.most i (omega (arith, few, there, same_length, count, newest_is)) (omega (arith, there, same_length)) (omega (arith, fits, same_sums i));
+      })
+
+  module _ (m : ℕ) (le : m ≤ length changes) where
+    abbrev pub gone : Versions
+    gone = take (length changes - m) (drop k.base k.shown)
+
+    abbrev pub next : ℕ
+    next = length k.shown - m
+
+    sum : k.base + (length changes - m) ≡ length k.shown - m
+    sum = omega (arith, count, so_far, le)
+
+    next_is : newest_after (version_at k k.base) (take (length changes - m) (drop k.base k.shown)) ≡ version_at k (length k.shown - m)
+    next_is = newest_on k.loaded k.base (length changes - m) k.shown ∙ ap (λ n. version_at k n) sum
+
+    rest_is : drop (length changes - m) (drop k.base k.shown) ≡ drop (length k.shown - m) k.shown
+    rest_is = drop-drop (length changes - m) k.base k.shown ∙ ap (λ n. drop n k.shown) sum
+
+    records_are : base.records ≡ version_at k k.base
+    records_are = ap (λ (z : Zone). z.records) lent.base_is
+
+    apex_is : base.apex ≡ k.shape.apex
+    apex_is = ap (λ (z : Zone). z.apex) lent.base_is
+
+    pub gone_led : AreLed base.records (take (length changes - m) (drop k.base k.shown)) (take (length changes - m) changes)
+    gone_led = subst (λ (rs : List Record). AreLed rs (take (length changes - m) (drop k.base k.shown)) (take (length changes - m) changes)) (sym records_are) (led_take (length changes - m) (version_at k k.base) (drop k.base k.shown) changes lent.led)
+
+    pub gone_zones : AllZones base.apex (take (length changes - m) (drop k.base k.shown))
+    gone_zones =
+        subst (λ (a : Labels). AllZones a (take (length changes - m) (drop k.base k.shown))) (sym apex_is)
+        (zones_take k.shape.apex (length changes - m) (drop k.base k.shown) (zones_of k.shape.apex (version_at k k.base) (drop k.base k.shown) kept_as.0.entries kept.part.changes))
+
+    pub next_records : newest_after base.records (take (length changes - m) (drop k.base k.shown)) ≡ version_at k (length k.shown - m)
+    next_records = ap (λ (rs : List Record). newest_after rs (take (length changes - m) (drop k.base k.shown))) records_are ∙ next_is
+
+    rest_led : AreLed (version_at k (length k.shown - m)) (drop (length k.shown - m) k.shown) (drop (length changes - m) changes)
+    rest_led =
+        subst (λ (rs : List Record). AreLed rs (drop (length k.shown - m) k.shown) (drop (length changes - m) changes)) next_is
+        (subst (λ (vs : Versions). AreLed (newest_after (version_at k k.base) (take (length changes - m) (drop k.base k.shown))) vs (drop (length changes - m) changes)) rest_is (led_drop (length changes - m) (version_at k k.base) (drop k.base k.shown) changes lent.led))
+
+    pub is_base : (next_zone : Zone) (octets : List ℕ) → IsNextBase base next_zone (take (length changes - m) (drop k.base k.shown)) octets → IsBaseOf k (length k.shown - m) octets (drop (length changes - m) changes)
+    is_base next_zone octets found = record {
+      later = omega (arith, sum);
+      so_far = omega arith;
+      octets_are = found.octets_are ∙ ap (λ (rs : List Record). flat_map plain rs) next_records;
+      led = rest_led;
+    }
+
+    pub is_lent : (new : Journal D g) (next_zone : Zone) (octets : List ℕ) → IsNextBase base next_zone (take (length changes - m) (drop k.base k.shown)) octets → KeepsBy new (moved_to (length k.shown - m) k) k.closed
+        → IsLent new next_zone (drop (length changes - m) changes) (moved_to (length k.shown - m) k)
+    is_lent new next_zone octets found keeps = record {
+      keeps = keeps;
+      nothing_staged = lent.nothing_staged;
+      base_is = λ i. record { apex = (found.apex ∙ apex_is) i; records = (found.records ∙ next_records) i };
+      led = rest_led;
+    }

@@ -1,0 +1,140 @@
+-- A base that moves to a later version: what is stored then, and what a crash leaves.
+use Rattle.std.proofs.Common.{◌≡◌, inl, inr, ℕ, zero, suc, ◌+◌, ◌-◌, ◌≤◌, Bool, true, false, List, [], ◌∷◌, length, take, drop, refl, sym, ◌∙◌, ap, subst, arith, drop-drop}
+use Rattle.std.proofs.Math.Seq.{take-add}
+use Rattle.std.proofs.lemmas.List.{append-nil, length-drop}
+use Rattle.dns_records.specs.Record.{Record}
+use Rattle.dns_names.specs.Name.{Labels}
+use Rattle.dns_zone.specs.Zone.{IsZone}
+use Rattle.dns_changes.specs.Change.{Change}
+use Rattle.dns_changes.specs.Entry.{HasEntry}
+use Rattle.dns_changes.specs.Applied.{change_is_one}
+use Rattle.dns_sectors.specs.Device.{Content, LeavesOnly}
+use Rattle.dns_sectors.specs.declared.device.Sectors.{Ghosts}
+use Rattle.dns_sectors.proofs.Moments.{started, weaker}
+use Rattle.dns_layout.specs.Journal.{Entry}
+use Rattle.dns_layout.specs.Store.{Shape, Stored, OpensAs, IsTidy}
+use Rattle.dns_journal.specs.Bank.{AreEntries, IsTurned, LeavesEither}
+use Rattle.dns_journal.specs.State.{Keeps, is_closed, device_of, left_of, newest_of}
+use Rattle.dns_journal.specs.declared.journal.Journal.{Journal}
+use Rattle.dns_store.specs.Versions.{Versions, Kept, newest_after, OpensAsLeft}
+use Rattle.dns_store.specs.Opens.{AreChanges, IsPartOf, IsKeptBy, KeepsBy, opens, sizes_of, durable_part}
+use Rattle.dns_store.specs.Recovered.{AreLed}
+use Rattle.dns_store.specs.Checkpoint.{moved_to, version_at, IsBaseOf, OpensAsEither, IsClosedEither}
+use Rattle.dns_store.proofs.Leaves.{newest_append}
+use Rattle.dns_store.proofs.Places.{versions_behind, left_kept, number_kept}
+
+changes_drop : (apex : Labels) (n : ℕ) (before : List Record) (vs : Versions) (es : List Entry) → AreChanges apex before vs es → AreChanges apex (newest_after before (take n vs)) (drop n vs) (drop n es)
+changes_drop apex zero before vs es are = are
+changes_drop apex (suc n) before [] [] are = tt
+changes_drop apex (suc n) before [] (e ∷ es) are = absurd are
+changes_drop apex (suc n) before (v ∷ vs) [] are = absurd are
+changes_drop apex (suc n) before (v ∷ vs) (e ∷ es) are = changes_drop apex n v vs es are.1
+
+changes_valid : (apex : Labels) (n : ℕ) (before : List Record) (vs : Versions) (es : List Entry) → IsZone (record { apex = apex; records = before }) → AreChanges apex before vs es → IsZone (record { apex = apex; records = newest_after before (take n vs) })
+changes_valid apex zero before vs es valid are = valid
+changes_valid apex (suc n) before [] es valid are = valid
+changes_valid apex (suc n) before (v ∷ vs) [] valid are = absurd are
+changes_valid apex (suc n) before (v ∷ vs) (e ∷ es) valid are = changes_valid apex n v vs es are.0.valid are.1
+
+-- The same changes, in entries that were written anew.
+changes_again : (apex : Labels) (before : List Record) (vs : Versions) (es fs : List Entry) (cs : List Change) → AreChanges apex before vs es → AreLed before vs cs → AreEntries cs fs → AreChanges apex before vs fs
+changes_again apex before [] [] [] [] are led entries = tt
+changes_again apex before [] [] (f ∷ fs) [] are led entries = absurd entries
+changes_again apex before [] [] fs (c ∷ cs) are led entries = absurd led
+changes_again apex before [] (e ∷ es) fs cs are led entries = absurd are
+changes_again apex before (v ∷ vs) [] fs cs are led entries = absurd are
+changes_again apex before (v ∷ vs) (e ∷ es) fs [] are led entries = absurd led
+changes_again apex before (v ∷ vs) (e ∷ es) [] (c ∷ cs) are led entries = absurd entries
+changes_again apex before (v ∷ vs) (e ∷ es) (f ∷ fs) (c ∷ cs) are led entries = (
+  record {
+    change = c;
+    leads = led.0;
+    written = subst (λ (d : Change). HasEntry d) (change_is_one before v are.0.change c are.0.leads led.0) are.0.written;
+    octets_are = entries.0.octets_are;
+    size_is = entries.0.size_is;
+    valid = are.0.valid;
+  },
+  changes_again apex v vs es fs cs are.1 led.1 entries.1,
+)
+
+pub led_count : (before : List Record) (vs : Versions) (cs : List Change) → AreLed before vs cs → length cs ≡ length vs
+led_count before [] [] led = refl
+led_count before [] (c ∷ cs) led = absurd led
+led_count before (v ∷ vs) [] led = absurd led
+led_count before (v ∷ vs) (c ∷ cs) led = omega (arith, led_count v vs cs led.1)
+
+pub newest_on : (first : List Record) (n m : ℕ) (vs : Versions) → newest_after (newest_after first (take n vs)) (take m (drop n vs)) ≡ newest_after first (take (n + m) vs)
+newest_on first n m vs = sym (newest_append first (take n vs) (take m (drop n vs))) ∙ ap (λ (l : Versions). newest_after first l) (sym (take-add n m vs))
+
+-- What is stored behind a turn is the later base, and the changes from there.
+pub part_turned : (k : Kept) (s turned : Stored) (base : ℕ) (octets : List ℕ) (changes : List Change) → IsPartOf k.shape.apex (durable_part k) s → IsBaseOf k base octets changes → IsTurned s octets changes turned
+    → IsPartOf k.shape.apex (durable_part (moved_to base k)) turned
+part_turned k s turned base octets changes part is turn =
+    let gone = base - k.base in
+    let old = newest_after k.loaded (take k.base k.shown) in
+    let sum : k.base + (base - k.base) ≡ base = omega (arith, is.later) in
+    let on : newest_after old (take gone (drop k.base k.shown)) ≡ version_at k base = newest_on k.loaded k.base gone k.shown ∙ ap (λ n. version_at k n) sum in
+    let rest : drop gone (drop k.base k.shown) ≡ drop base k.shown = drop-drop gone k.base k.shown ∙ ap (λ n. drop n k.shown) sum in
+    let are : AreChanges k.shape.apex (version_at k base) (drop base k.shown) (drop gone s.entries) =
+    subst (λ (v : List Record). AreChanges k.shape.apex v (drop base k.shown) (drop gone s.entries)) on
+    (subst (λ (vs : Versions). AreChanges k.shape.apex (newest_after old (take gone (drop k.base k.shown))) vs (drop gone s.entries)) rest (changes_drop k.shape.apex gone old (drop k.base k.shown) s.entries part.changes)) in
+    record {
+      number = omega (arith, turn.base, led_count (version_at k base) (drop base k.shown) changes is.led, length-drop base k.shown, is.so_far, versions_behind k.shape.apex s.base old (drop k.base k.shown) s.entries part.changes, length-drop k.base k.shown, part.number, part.so_far);
+      so_far = is.so_far;
+      valid = subst (λ (v : List Record). IsZone (record { apex = k.shape.apex; records = v })) on (changes_valid k.shape.apex gone old (drop k.base k.shown) s.entries part.valid part.changes);
+      snapshot = turn.snapshot ∙ is.octets_are;
+      changes = changes_again k.shape.apex (version_at k base) (drop base k.shown) (drop gone s.entries) turned.entries changes are is.led turn.entries;
+    }
+
+-- what is stored is the durable version, and nothing is lost
+left_of_stored : (k : Kept) (s : Stored) (c : Content) → OpensAs (sizes_of k.shape) c s → IsTidy c → IsPartOf k.shape.apex (durable_part k) s → OpensAsLeft opens k c
+left_of_stored k s c opens_by tidy part = (durable_part k, record { loaded = refl; kept = []; lost = k.staged; front = refl; versions = sym (append-nil k.shown); base = refl }, (s, opens_by, tidy, part))
+
+pub either_left : (k : Kept) (s : Stored) (base : ℕ) (octets : List ℕ) (changes : List Change) → IsPartOf k.shape.apex (durable_part k) s → IsBaseOf k base octets changes → (c : Content) → LeavesEither (sizes_of k.shape) s octets changes c → OpensAsEither k base c
+either_left k s base octets changes part is c (inl before, tidy) = inl (left_of_stored k s c before tidy part)
+either_left k s base octets changes part is c (inr (turned, turn, after), tidy) = inr (left_of_stored (moved_to base k) turned c after tidy (part_turned k s turned base octets changes part is turn))
+
+nothing_staged : (apex : Labels) (before : List Record) (vs : Versions) (es : List Entry) → vs ≡ [] → AreChanges apex before vs es → es ≡ []
+nothing_staged apex before vs es none are = only es (subst (λ (l : Versions). AreChanges apex before l es) none are)
+  where
+    only : (fs : List Entry) → AreChanges apex before [] fs → fs ≡ []
+    only [] are = refl
+    only (f ∷ fs) are = absurd are
+
+module _ {D : Type 0} {g : Ghosts D} (old new : Journal D g) (k : Kept) (none : k.staged ≡ []) (base : ℕ) (octets : List ℕ) (changes : List Change) (is : IsBaseOf k base octets changes) where
+  kept_bare : (s : Stored) (staged : List Entry) → IsKeptBy old k s staged → Keeps (sizes_of k.shape) old s []
+  kept_bare s staged kept = subst (λ (es : List Entry). Keeps (sizes_of k.shape) old s es) (nothing_staged k.shape.apex (newest_after k.loaded k.shown) k.staged staged none kept.changes) kept.keeps
+
+  pub turn_leaves : ((d : D) (c : Content) → g.is_honest d → g.left_since d (g.moment d) c → g.may_leave d c)
+      → ((shape : Shape) (s : Stored) → Keeps shape old s [] → LeavesOnly g.moment g.left_since (device_of old) (device_of new) (LeavesEither shape s octets changes))
+      → (is_closed old ≡ true → device_of new ≡ device_of old) → (closed : Bool) → KeepsBy old k closed → LeavesOnly g.moment g.left_since (device_of old) (device_of new) (OpensAsEither k base)
+  turn_leaves only_now any still false (s, staged, kept) =
+      weaker g.moment g.left_since (device_of old) (device_of new) (LeavesEither (sizes_of k.shape) s octets changes) (OpensAsEither k base) (any (sizes_of k.shape) s (kept_bare s staged kept)) (either_left k s base octets changes kept.part is)
+  turn_leaves only_now any still true kept =
+      subst (λ (d : D). LeavesOnly g.moment g.left_since (device_of old) d (OpensAsEither k base)) (sym (still kept.closed))
+      (started g.moment g.left_since (device_of old) (OpensAsEither k base) (λ c left. inl (kept.left c (only_now (device_of old) c kept.honest left))))
+
+  pub turn_keeps : ((shape : Shape) (s : Stored) → Keeps shape old s [] → (turned : Stored) × IsTurned s octets changes turned × Keeps shape new turned []) → (is_closed old ≡ true → ⊥) → (closed : Bool) → KeepsBy old k closed → KeepsBy new (moved_to base k) closed
+  turn_keeps turn not false (s, staged, kept) =
+      let after = turn (sizes_of k.shape) s (kept_bare s staged kept) in
+      (after.0, [], record { keeps = after.2; part = part_turned k s after.0 base octets changes kept.part is after.1; changes = subst (λ (vs : Versions). AreChanges k.shape.apex (newest_after k.loaded k.shown) vs []) (sym none) tt })
+  turn_keeps turn not true kept = absurd (not kept.closed)
+
+  pub turn_closes : ((d : D) (t : ℕ) (c : Content) → g.is_honest d → t ≤ g.moment d → g.may_leave d c → g.left_since d t c)
+      → ((shape : Shape) (s : Stored) → Keeps shape old s [] → LeavesOnly g.moment g.left_since (device_of old) (device_of new) (LeavesEither shape s octets changes))
+      → (g.is_honest (device_of old) → g.is_honest (device_of new)) → (is_closed old ≡ true → ⊥) → is_closed new ≡ true → left_of new ≡ left_of old → newest_of new ≡ newest_of old → (closed : Bool) → KeepsBy old k closed → (closed ≡ false) × IsClosedEither new k base
+  turn_closes counts_now any honest not closes left number false (s, staged, kept) =
+      let bare = kept_bare s staged kept in
+      let run = any (sizes_of k.shape) s bare in
+      let still_honest = honest kept.keeps.2.honest in
+      let nothing : length k.staged ≡ 0 = ap (λ (vs : Versions). length vs) none in (
+        refl,
+        record {
+          closed = closes;
+          honest = still_honest;
+          left_is = left ∙ left_kept old k s staged kept;
+          number_is = omega (arith, number, number_kept old k s staged kept, nothing);
+          left = λ c now. either_left k s base octets changes kept.part is c (run.each c (counts_now (device_of new) (g.moment (device_of old)) c still_honest run.later now));
+        },
+      )
+  turn_closes counts_now any honest not closes left number true kept = absurd (not kept.closed)

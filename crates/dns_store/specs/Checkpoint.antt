@@ -1,0 +1,101 @@
+-- What a checkpoint makes of a store: a later base, and the newest changes alone.
+use Rattle.std.specs.Prelude.{◌≡◌, ◌⊎◌, ◌≤◌, ◌-◌, ℕ, true, List, [], ◌∷◌, length, take, drop, sum_by}
+use Rattle.std.specs.List.{flat_map}
+use Rattle.dns_records.specs.Record.{Record, plain}
+use Rattle.dns_names.specs.Name.{Labels}
+use Rattle.dns_zone.specs.Zone.{Zone, IsZone}
+use Rattle.dns_layout.specs.Sector.{snapshot_sectors}
+use Rattle.dns_changes.specs.Change.{Change}
+use Rattle.dns_changes.specs.declared.ChangeError.{ChangeError}
+use Rattle.dns_journal.specs.declared.turn.TurnError.{TurnError}
+use Rattle.dns_sectors.specs.Device.{Content}
+use Rattle.dns_sectors.specs.declared.device.Sectors.{Ghosts}
+use Rattle.dns_journal.specs.State.{is_closed, device_of, left_of, newest_of}
+use Rattle.dns_journal.specs.declared.journal.Journal.{Journal}
+use Rattle.dns_store.specs.Versions.{Versions, Kept, newest_after, OpensAsLeft}
+use Rattle.dns_store.specs.Room.{entries_along, sectors_left}
+use Rattle.dns_store.specs.Opens.{opens, keeps as keeps_versions}
+use Rattle.dns_store.specs.declared.checkpoint.CheckpointError.{CheckpointError}
+use Rattle.dns_store.specs.declared.checkpoint.CheckpointError.TheVariants.{Device, Closed, WrongChanges, OutOfMemory}
+use Rattle.dns_store.specs.Recovered.{AreLed}
+
+-- the same versions with another base
+abbrev pub moved_to : ℕ → Kept → Kept
+moved_to base k = record k { base = base }
+
+-- the version with this number
+abbrev pub version_at : Kept → ℕ → List Record
+version_at k n = newest_after k.loaded (take n k.shown)
+
+-- Base is the number of a durable version that isn't older than the base; these octets are its snapshot, and these are the
+-- changes from there to the durable version.
+pub record IsBaseOf (k : Kept) (base : ℕ) (octets : List ℕ) (changes : List Change) : Type 0 where
+  pub later : k.base ≤ base
+  pub so_far : base ≤ length k.shown
+  pub octets_are : octets ≡ flat_map plain (version_at k base)
+  pub led : AreLed (version_at k base) (drop base k.shown) changes
+
+-- A crash leaves the durable version, with the old base or the new one.
+abbrev pub OpensAsEither : Kept → ℕ → Content → Type 0
+OpensAsEither k base c = OpensAsLeft opens k c ⊎ OpensAsLeft opens (moved_to base k) c
+
+-- The device failed: the store is closed, and a crash leaves the durable version, with the old base or the new one.
+pub record IsClosedEither {D : Type 0} {g : Ghosts D} (journal : Journal D g) (k : Kept) (base : ℕ) : Type 0 where
+  pub closed : is_closed journal ≡ true
+  pub honest : g.is_honest (device_of journal)
+  pub left_is : left_of journal ≡ sectors_left k
+  pub number_is : newest_of journal ≡ length k.shown
+  pub left : (c : Content) → g.may_leave (device_of journal) c → OpensAsEither k base c
+
+-- How many sectors the newest of some entries take, of each of which the sectors are known.
+abbrev pub newest_sectors : {X : Type 0} → (X → ℕ) → List X → ℕ → ℕ
+newest_sectors sectors entries n = sum_by sectors (drop (length entries - n) entries)
+
+-- The greatest number, at most `keep`, of newest entries that take at most `room` sectors.
+pub record IsMostKept {X : Type 0} (sectors : X → ℕ) (entries : List X) (keep room n : ℕ) : Type 0 where
+  pub few : n ≤ keep
+  pub there : n ≤ length entries
+  pub fits : newest_sectors sectors entries n ≤ room
+  pub most : (m : ℕ) → m ≤ keep → m ≤ length entries → newest_sectors sectors entries m ≤ room → m ≤ n
+
+-- how many sectors the entry of each version behind the base takes
+abbrev pub entries_of : Kept → List ℕ
+entries_of k = drop k.base (entries_along k.loaded k.shown)
+
+-- So many of the newest changes a checkpoint keeps.
+abbrev pub IsKeptNumber : Kept → ℕ → ℕ → ℕ → Type 0
+IsKeptNumber k keep room n = IsMostKept (λ size. size) (entries_of k) keep (k.shape.journal - room) n
+
+-- Nothing is staged, and these are the base version and the changes from there to the durable one.
+pub record IsLent {D : Type 0} {g : Ghosts D} (journal : Journal D g) (base : Zone) (changes : List Change) (k : Kept) : Type 0 where
+  pub keeps : keeps_versions journal k
+  pub nothing_staged : k.staged ≡ []
+  pub base_is : base ≡ record { apex = k.shape.apex; records = version_at k k.base }
+  pub led : AreLed (version_at k k.base) (drop k.base k.shown) changes
+
+-- each of these versions is a valid zone
+abbrev pub AllZones : Labels → Versions → Type 0
+AllZones apex [] = Unit {0}
+AllZones apex (v ∷ vs) = IsZone (record { apex = apex; records = v }) × AllZones apex vs
+
+-- how many sectors the snapshot of these records takes
+abbrev pub sectors_of_snapshot : List Record → ℕ
+sectors_of_snapshot records = snapshot_sectors (length (flat_map plain records))
+
+-- The new base with its snapshot, or why there is none.
+pub record IsNextBase (base next : Zone) (vs : Versions) (octets : List ℕ) : Type 0 where
+  pub apex : next.apex ≡ base.apex
+  pub records : next.records ≡ newest_after base.records vs
+  pub octets_are : octets ≡ flat_map plain (newest_after base.records vs)
+
+abbrev pub checkpoint_error : TurnError → CheckpointError
+checkpoint_error TurnError.Device = Device
+checkpoint_error TurnError.Closed = Closed
+checkpoint_error TurnError.OutOfMemory = OutOfMemory
+
+abbrev pub change_error : ChangeError → CheckpointError
+change_error ChangeError.OutOfMemory = OutOfMemory
+change_error ChangeError.WrongSoa = WrongChanges
+change_error ChangeError.RemovesAbsent = WrongChanges
+change_error ChangeError.AddsPresent = WrongChanges
+change_error ChangeError.BadBytes = WrongChanges
