@@ -4,7 +4,5 @@ pub mod Ports
 pub mod Replayed
 pub mod Running
 pub mod Soas
-pub mod Spoken
 pub mod Unread
-pub mod Words
 pub mod Zipped

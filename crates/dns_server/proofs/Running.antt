@@ -15,10 +15,10 @@ use Rattle.dns_primary.specs.Machine.{Machine}
 use Rattle.dns_primary.specs.Keeps.{IsKept}
 use Rattle.dns_server.specs.declared.script.Ending.{Ending}
 use Rattle.dns_server.specs.declared.script.Ending.TheVariants.{Done, Syntax}
-use Rattle.dns_server.specs.Lines.{is_feed, lines}
+use Rattle.dns_script.specs.Lines.{is_feed, lines}
 use Rattle.dns_server.specs.Scripts.{IsNoCommand, Prints, Runs, RunsInto}
 use Rattle.dns_server.specs.Runs.{RanLine, RanScript}
-use Rattle.dns_server.proofs.Words.{split_none}
+use Rattle.dns_script.proofs.Words.{split_none}
 
 pub nothing_more : (out : Option (List ℕ)) → Appends out out []
 nothing_more None = tt

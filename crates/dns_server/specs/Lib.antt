@@ -1,6 +1,4 @@
 pub mod Checks
-pub mod Commands
-pub mod Lines
 pub mod Replays
 pub mod Runs
 pub mod Scripts

@@ -20,7 +20,7 @@ use Rattle.dns_server.specs.declared.files.Fault.{Fault}
 use Rattle.dns_server.specs.declared.files.Fault.TheVariants.{OutOfMemory, Unreadable, BadConfig, Syntax}
 use Rattle.dns_server.specs.declared.script.Ending.TheVariants as ending
 use Rattle.dns_server.specs.Checks.{line, loaded, fault_text}
-use Rattle.dns_server.specs.Lines.{lines}
+use Rattle.dns_script.specs.Lines.{lines}
 use Rattle.dns_server.specs.Scripts.{RunsInto}
 use Rattle.dns_server.specs.Settings.{IsDescribedBy}
 

@@ -15,7 +15,7 @@ use Rattle.dns_primary.specs.Machine.{Machine}
 use Rattle.dns_primary.specs.Flush.{all_out}
 use Rattle.dns_primary.specs.Step.{Effects, Event, Step, Arrives, Closed}
 use Rattle.dns_primary.specs.Step as machine
-use Rattle.dns_server.specs.Commands.{Command, Nothing, Datagram, Connect, Message, Flush, Close, Says}
+use Rattle.dns_script.specs.Commands.{Command, Nothing, Datagram, Connect, Message, Flush, Close, Says}
 use Rattle.dns_server.specs.declared.script.Ending.{Ending}
 use Rattle.dns_server.specs.declared.script.Ending.TheVariants.{Done, Syntax}
 

@@ -1,10 +1,8 @@
 //! The edge of the server: files, and scripts of events.
 #![tactic(auto)]
 
-mod command;
 mod configuration;
 mod files;
-mod lines;
 mod printable;
 mod run;
 mod script;

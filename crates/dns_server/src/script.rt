@@ -6,13 +6,12 @@ ghost use Rattle.dns_primary.specs.Machine.{Machine};
 ghost use Rattle.dns_primary.specs.Keeps.{IsToldBy, header_out};
 ghost use Rattle.dns_primary.specs.Step.{Effects as Stated, Event as StatedEvent};
 ghost use Rattle.dns_primary.specs.Steps.{event_shown};
-ghost use Rattle.dns_server.specs.Commands.{Command as StatedCommand, said};
-ghost use Rattle.dns_server.specs.Lines.{lines};
+ghost use Rattle.dns_script.specs.Commands.{Command as StatedCommand, said};
+ghost use Rattle.dns_script.specs.Lines.{lines};
 ghost use Rattle.dns_server.specs.Scripts.{IsNoCommand, RunsInto, event_of, peer_of, printed_effects, printed_noted, printed_number, printed_reply, printed_to};
 ghost use Rattle.dns_server.specs.Runs.{RanCommand, RanLine, RanScript, replies_out};
 
-use crate::command::{Command, read_command};
-use crate::lines::{cut_at_feed, without_return};
+use dns_script::{Command, cut_at_feed, read_command, without_return};
 use dns_memory::Heap;
 use dns_names::Name;
 use dns_policy::print_address;

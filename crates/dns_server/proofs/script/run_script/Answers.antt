@@ -1,6 +1,6 @@
 use Rattle.std.proofs.Common.{◌≡◌, ◌∷◌, List, ℕ, Option, Some, None, sym, ap, subst, ◌∙◌, arith, rules}
 use Rattle.std.specs.Option.{option_copied}
-use Rattle.dns_server.specs.Lines.{lines}
+use Rattle.dns_script.specs.Lines.{lines}
 use Rattle.dns_server.proofs.Running.{AreRunUpTo, cut_lines, less_room, lines_left, room, begin_all, ends_all, more_all, stops_all}
 use Rattle.dns_server.proofs.script.run_script.Goals as goal
 

@@ -1,6 +1,6 @@
 use Rattle.std.proofs.Common.{◌+◌, ◌≤◌, length}
 use Rattle.std.specs.Option.{option_copied}
-use Rattle.dns_server.specs.Lines.{lines}
+use Rattle.dns_script.specs.Lines.{lines}
 use Rattle.dns_server.proofs.Running.{AreRunUpTo, lines_left, room}
 use Rattle.dns_server.proofs.script.run_script.Given as goal
 

@@ -1,9 +1,9 @@
 //! Lines and words of a script.
-ghost use Rattle.std.specs.Prelude.{◌≡◌, ◌≢◌, ◌<◌, ℕ, List, [], ◌∷◌, length, position, MatchOption, Some, None};
+ghost use Rattle.std.specs.Prelude.{◌≡◌, ◌≢◌, ◌<◌, ◌≤◌, ℕ, List, [], ◌∷◌, length, position, MatchOption, Some, None};
 ghost use Rattle.std.specs.Option.{option_copied};
 ghost use Rattle.std.specs.Str.Lines.{strip_carriage_return};
 ghost use Rattle.std.specs.List.{after_first, before_first};
-ghost use Rattle.dns_server.specs.Lines.{is_blank, is_feed, words};
+ghost use Rattle.dns_script.specs.Lines.{is_blank, is_feed, lines, lines_left, room, words};
 
 /// A space or a tab.
 fn is_blank(octet: u8) -> bool
@@ -75,7 +75,7 @@ fn first_feed(text: &[u8]) -> Option<usize>
 }
 
 /// What stands before the first line feed, and behind it if there is one.
-pub(crate) fn cut_at_feed(text: &[u8]) -> (&[u8], Option<&[u8]>)
+fn cut_at_feed(text: &[u8]) -> (&[u8], Option<&[u8]>)
     ensures { MatchOption (position is_feed text.now) ((result.0.now ≡ text.now) × (option_copied result.1 ≡ None))
         (λ _. (result.0.now ≡ before_first is_feed text.now) × (option_copied result.1 ≡ Some (after_first is_feed text.now))) }
 {
@@ -86,11 +86,20 @@ pub(crate) fn cut_at_feed(text: &[u8]) -> (&[u8], Option<&[u8]>)
 }
 
 /// A line without the carriage return at its end, if it has one.
-pub(crate) fn without_return(line: &[u8]) -> &[u8]
+fn without_return(line: &[u8]) -> &[u8]
     ensures { result.now ≡ strip_carriage_return line.now }
 {
     match line.split_last() {
         Some((b'\r', front)) => front,
         _ => line,
     }
+}
+
+/// The first line of a script, without what ends it, and what stands behind it if a line feed does. A line ends with LF or CR LF.
+pub fn split_line(script: &[u8]) -> (&[u8], Option<&[u8]>)
+    ensures line { lines script.now ≡ result.0.now ∷ lines_left (option_copied result.1) }
+    ensures less { room (option_copied result.1) ≤ length script.now }
+{
+    let (line, behind) = cut_at_feed(script);
+    (without_return(line), behind)
 }

@@ -1,7 +1,7 @@
 //! The commands of a script, one a line.
 ghost use Rattle.std.specs.Prelude.{◌≡◌, ℕ, List, [], ◌∷◌, length, MatchOption, IfOk, Some, codes};
-ghost use Rattle.dns_server.specs.Commands.{AreWordsOf, Command as Stated, HasOctets, IsNumber, Says, is_comment, said};
-ghost use Rattle.dns_server.specs.Lines.{words};
+ghost use Rattle.dns_script.specs.Commands.{AreWordsOf, Command as Stated, HasOctets, IsNumber, Says, is_comment, said};
+ghost use Rattle.dns_script.specs.Lines.{words};
 
 use crate::lines::{first_word, only_word, two_words};
 use dns_masterfile::number;
@@ -12,7 +12,7 @@ use std::net::IpAddr;
 
 /// What a line says.
 #[derive(Drop)]
-pub(crate) enum Command {
+pub enum Command {
     /// A blank line or a comment.
     Nothing,
     /// `udp ADDR HEX`: a datagram from an address.
@@ -141,7 +141,7 @@ fn is_comment(line: &[u8]) -> bool
 }
 
 /// The command that a line is, if it is one. Words are separated by spaces or tabs.
-pub(crate) fn read_command(alloc: Heap, line: &[u8]) -> Result<Option<Command>, AllocError>
+pub fn read_command(alloc: Heap, line: &[u8]) -> Result<Option<Command>, AllocError>
     ensures { IfOk result
         (λ read. MatchOption read ((c : Stated) → ¬ (Says line.now c)) (λ c. Says line.now (said c))) }
 {

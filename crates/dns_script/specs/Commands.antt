@@ -4,9 +4,9 @@ use Rattle.std.specs.declared.net.ip_addr.IpAddr.{IpAddr}
 use Rattle.hex.specs.Hex.{decode_of}
 use Rattle.dns_policy.specs.Address.{IsAddress}
 use Rattle.dns_masterfile.specs.Text.{number_of_text}
-use Rattle.dns_server.specs.declared.command.Command as code
-use Rattle.dns_server.specs.declared.command.Command.TheVariants as code_command
-use Rattle.dns_server.specs.Lines.{words}
+use Rattle.dns_script.specs.declared.command.Command as code
+use Rattle.dns_script.specs.declared.command.Command.TheVariants as code_command
+use Rattle.dns_script.specs.Lines.{words}
 
 pub data Command : Type 0 where
   Nothing : Command
