@@ -1,5 +1,5 @@
 -- Steps of a primary, and what is told of them.
-use Rattle.std.specs.Prelude.{◌≡◌, ◌⊎◌, ℕ, Bool, true, ◌&&◌, ◌==◌, List, [], ◌∷◌, ◌++◌, None}
+use Rattle.std.specs.Prelude.{◌≡◌, ◌⊎◌, ℕ, Bool, true, ◌&&◌, ◌==◌, List, [], ◌∷◌, ◌++◌, None, map}
 use Rattle.dns_wire.specs.Message.{header_of}
 use Rattle.dns_wire.specs.Codes.{number_of_rcode}
 use Rattle.dns_request.specs.Request.{opcode_update}
@@ -7,6 +7,10 @@ use Rattle.dns_request.specs.declared.request.Transport.{Transport}
 use Rattle.dns_answer.specs.Answer.{handled}
 use Rattle.dns_zone.specs.declared.index.ZoneIndex as index
 use Rattle.dns_store.specs.declared.zone_store.ZoneStore as store
+use Rattle.dns_sectors.specs.Device.{LeavesOnly}
+use Rattle.dns_store.specs.Versions.{OpensAsLeft}
+use Rattle.dns_held.specs.declared.behind.Behind.{Behind}
+use Rattle.dns_held.specs.Each.{Each3}
 use Rattle.dns_held.specs.Flush.{FailedWhere}
 use Rattle.dns_primary.specs.declared.event.Peer.{Peer}
 use Rattle.dns_primary.specs.declared.event.To.{To}
@@ -17,7 +21,7 @@ use Rattle.dns_primary.specs.declared.event.Noted.TheVariants.{Nothing, OutOfMem
 use Rattle.dns_primary.specs.declared.primary.Primary.{Primary}
 use Rattle.dns_primary.specs.declared.update.Outcome.{Outcome}
 use Rattle.dns_primary.specs.declared.update.Outcome.TheVariants as outcome
-use Rattle.dns_primary.specs.Machine.{Machine, shown_zones}
+use Rattle.dns_primary.specs.Machine.{Machine, kept_of, shown_zones}
 use Rattle.dns_primary.specs.Flush.{Sent, flushed, flush_sends, rcode_servfail}
 use Rattle.dns_primary.specs.Update.{Asked, replies, is_full}
 use Rattle.dns_primary.specs.Step as machine
@@ -32,12 +36,17 @@ event_shown (event.Message number octets) = machine.Arrives number octets.now
 event_shown event.Flush = machine.Flush
 event_shown (event.Closed number) = machine.Closed number
 
+-- A crash at any moment between the two leaves each device so that it opens as the versions shown and the first of those staged.
+abbrev pub AtAnyMoment : {I S : Type 0} → store.Ghosts S → Machine → List (Behind I S) → List (Behind I S) → Type 0
+AtAnyMoment s m olds news = Each3 (λ a b k. LeavesOnly s.moment s.left_since a.store b.store (OpensAsLeft s.opens k)) olds news (map kept_of m.zones)
+
 -- A primary took a step: of the devices these failed, each of which it is said, the machine that it kept went on to the next one,
 -- which it keeps now, and the effects are told. `step` says of a list of failures, effects and a machine that they are such a step.
-pub record Stepped {I S : Type 0} {i : index.Ghosts I} {s : store.Ghosts S} (old new : Primary I S i s) (effects : Effects)
+pub record Stepped {I S : Type 0} {i : index.Ghosts I} {s : store.Ghosts S} (m : Machine) (old new : Primary I S i s) (effects : Effects)
     (step : List Bool → machine.Effects → Machine → Type 0) : Type 0 where
   pub fails : List Bool
   pub failed : FailedWhere (λ b. s.failed b.store) fails old.behind.items new.behind.items
+  pub any_moment : AtAnyMoment s m old.behind.items new.behind.items
   pub next : Machine
   pub stated : machine.Effects
   pub is : step fails stated next
