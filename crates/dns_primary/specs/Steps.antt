@@ -38,11 +38,13 @@ event_shown (event.Closed number) = machine.Closed number
 
 -- A crash at any moment between the two leaves each device so that it opens as the versions shown and the first of those staged.
 abbrev pub AtAnyMoment : {I S : Type 0} → store.Ghosts S → Machine → List (Behind I S) → List (Behind I S) → Type 0
-AtAnyMoment s m olds news = Each3 (λ a b k. LeavesOnly s.moment s.left_since a.store b.store (OpensAsLeft s.opens k)) olds news (map kept_of m.zones)
+AtAnyMoment s m olds news =
+    Each3 (λ a b k. LeavesOnly s.moment s.left_since a.store b.store (OpensAsLeft s.opens k)) olds news (map kept_of m.zones)
 
 -- A primary took a step: of the devices these failed, each of which it is said, the machine that it kept went on to the next one,
 -- which it keeps now, and the effects are told. `step` says of a list of failures, effects and a machine that they are such a step.
-pub record Stepped {I S : Type 0} {i : index.Ghosts I} {s : store.Ghosts S} (m : Machine) (old new : Primary I S i s) (effects : Effects)
+pub record Stepped {I S : Type 0} {i : index.Ghosts I} {s : store.Ghosts S} (m : Machine)
+    (old new : Primary I S i s) (effects : Effects)
     (step : List Bool → machine.Effects → Machine → Type 0) : Type 0 where
   pub fails : List Bool
   pub failed : FailedWhere (λ b. s.failed b.store) fails old.behind.items new.behind.items
@@ -64,26 +66,31 @@ one_reply reply = record { sent = reply ∷ []; accepted = None; noted = Nothing
 abbrev pub answered_with : machine.Effects → Asked → Outcome → machine.Effects
 answered_with effects a (outcome.Waits rcode) = effects
 answered_with effects a (outcome.AtOnce rcode) = record effects { sent = effects.sent ++ replies a (number_of_rcode rcode) ∷ [] }
-answered_with effects a outcome.OutOfMemory = record effects { sent = effects.sent ++ replies a rcode_servfail ∷ []; noted = OutOfMemory }
+answered_with effects a outcome.OutOfMemory =
+    record effects { sent = effects.sent ++ replies a rcode_servfail ∷ []; noted = OutOfMemory }
 
 -- Memory was refused to an update, before its flush, if there is one, or behind it.
 pub record LacksUpdate (fails : List Bool) (old : Machine) (a : Asked) (effects : machine.Effects) (new : Machine) : Type 0 where
   pub noted : effects.noted ≡ OutOfMemory
   pub accepted : effects.accepted ≡ None
   pub stays : ((fails ≡ []) × (new ≡ old) × (effects.sent ≡ replies a rcode_servfail ∷ []))
-      ⊎ ((is_full old ≡ true) × AreFailures true old fails × (new ≡ flushed fails old) × (effects.sent ≡ flush_sends fails old ++ replies a rcode_servfail ∷ []))
+      ⊎ ((is_full old ≡ true) × AreFailures true old fails × (new ≡ flushed fails old)
+      × (effects.sent ≡ flush_sends fails old ++ replies a rcode_servfail ∷ []))
 
 abbrev pub IsUpdatedOrLacks : Machine → Asked → List Bool → machine.Effects → Machine → Type 0
 IsUpdatedOrLacks old a fails effects new = IsUpdated fails old a effects new ⊎ LacksUpdate fails old a effects new
 
 -- Memory was refused to a request.
-pub record LacksRequest (fails : List Bool) (old : Machine) (to : To) (octets : List ℕ) (effects : machine.Effects) (new : Machine) : Type 0 where
+pub record LacksRequest (fails : List Bool) (old : Machine) (to : To) (octets : List ℕ) (effects : machine.Effects)
+    (new : Machine) : Type 0 where
   pub noted : effects.noted ≡ OutOfMemory
   pub accepted : effects.accepted ≡ None
   pub stays : ((fails ≡ []) × (new ≡ old) × (effects.sent ≡ failure to octets))
-      ⊎ ((((header_of octets).opcode == opcode_update && is_full old) ≡ true) × AreFailures true old fails × (new ≡ flushed fails old) × (effects.sent ≡ flush_sends fails old ++ failure to octets))
+      ⊎ ((((header_of octets).opcode == opcode_update && is_full old) ≡ true) × AreFailures true old fails
+      × (new ≡ flushed fails old) × (effects.sent ≡ flush_sends fails old ++ failure to octets))
 
 -- What becomes of octets that came from a peer by a transport, their reply going there.
 abbrev pub IsServedOrLacks : Machine → Peer → To → List ℕ → Transport → List Bool → machine.Effects → Machine → Type 0
 IsServedOrLacks old peer to octets transport fails effects new =
-    IsServed fails old to peer (handled (shown_zones old) octets transport) effects new ⊎ LacksRequest fails old to octets effects new
+    IsServed fails old to peer (handled (shown_zones old) octets transport) effects new
+    ⊎ LacksRequest fails old to octets effects new

@@ -45,7 +45,8 @@ impl<I: ZoneIndex, S: ZoneStore> Primary<I, S> {
         ensures done { (old : Machine) → IsKept self.old old
             → IsAnswered (IsKept self.new) old (asked_of update.now)
             (admitted old (asked_of update.now) (admission old.zones (asked_of update.now))) result }
-        ensures still { Each2 (λ a b. IsUntouched S.moment S.left_since S.failed a.store b.store) self.old.behind.items self.new.behind.items }
+        ensures still { Each2 (λ a b. IsUntouched S.moment S.left_since S.failed a.store b.store)
+            self.old.behind.items self.new.behind.items }
     {
         let zones = self.zones.as_slice();
         let settings = self.settings.as_slice();
