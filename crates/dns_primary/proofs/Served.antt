@@ -1,5 +1,5 @@
 -- What is done with requests, as steps.
-use Rattle.std.proofs.Common.{◌≡◌, ◌⊎◌, inl, inr, ⊎_elim, ℕ, Bool, true, false, not, List, [], ◌∷◌, ◌++◌, length, map, Option, Some, None, Result, Ok, Err, refl, sym, ap, subst, ◌∙◌, append-nil}
+use Rattle.std.proofs.Common.{◌≡◌, ◌⊎◌, inl, inr, ⊎_elim, ℕ, Bool, true, false, not, List, [], ◌∷◌, ◌++◌, length, map, Option, Some, None, Result, Ok, Err, refl, sym, ap, subst, ◌∙◌, append-nil, arith}
 use Rattle.std.specs.Prelude.{◌==◌, ◌&&◌, ◌||◌, nat_lt, IfOk, IfErr, if◌then◌else◌}
 use Rattle.dns_records.specs.Types.{type_ixfr, type_axfr, type_mailb, type_maila, class_in}
 use Rattle.dns_wire.specs.Message.{Header, Question, Message, header_of}
@@ -13,11 +13,14 @@ use Rattle.dns_request.specs.Request.{opcode_query, opcode_update, rcode_notimp,
 use Rattle.dns_request.specs.declared.request.Transport.{Transport}
 use Rattle.dns_answer.specs.Answer.{Handled, Replies, bare_reply, handled_as}
 use Rattle.dns_store.specs.declared.zone_store.ZoneStore as store
-use Rattle.dns_store.specs.Versions.{Kept}
+use Rattle.dns_store.specs.Versions.{Kept, OpensAsLeft}
 use Rattle.dns_held.specs.declared.behind.Behind.{Behind}
-use Rattle.dns_held.specs.Each.{Each2}
+use Rattle.dns_sectors.specs.Device.{Content, LeavesOnly}
+use Rattle.dns_sectors.proofs.Moments.{started}
+use Rattle.dns_held.proofs.Lists.{diag}
+use Rattle.dns_held.specs.Each.{Each2, Each3}
 use Rattle.dns_held.specs.Flush.{FailedWhere, HasFailed}
-use Rattle.dns_held.specs.Held.{shown_zone}
+use Rattle.dns_held.specs.Held.{IsHeld, shown_zone}
 use Rattle.dns_primary.specs.declared.event.Peer.{Peer}
 use Rattle.dns_primary.specs.declared.event.To.{To}
 use Rattle.dns_primary.specs.declared.event.Effects.{Effects}
@@ -32,7 +35,7 @@ use Rattle.dns_primary.specs.Step as machine
 use Rattle.dns_primary.specs.Step.{AreFailures, Gives, IsServed, failure, is_asking}
 use Rattle.dns_primary.specs.Keeps.{AreHeld, IsKept, IsToldBy}
 use Rattle.dns_primary.specs.Queue.{IsAnswered, IsUntouched}
-use Rattle.dns_primary.specs.Steps.{Stepped, nothing, one_reply, answered_with, LacksUpdate, IsUpdatedOrLacks, LacksRequest, IsServedOrLacks}
+use Rattle.dns_primary.specs.Steps.{AtAnyMoment, Stepped, nothing, one_reply, answered_with, LacksUpdate, IsUpdatedOrLacks, LacksRequest, IsServedOrLacks}
 use Rattle.dns_primary.proofs.Judged.{tested, untested}
 
 -- the zones are those that the machine shows
@@ -50,6 +53,30 @@ failed_still store failed moment left_since (f ∷ fails) (a ∷ olds) (b ∷ mi
 failed_still store failed moment left_since (f ∷ fails) [] mids news h same = absurd h
 failed_still store failed moment left_since (f ∷ fails) (a ∷ olds) [] news h same = absurd h
 failed_still store failed moment left_since (f ∷ fails) (a ∷ olds) (b ∷ mids) [] h same = absurd same
+
+-- no call was made, or none more
+pub rests : {I S : Type 0} (s : store.Ghosts S) (zones : List Zone) (behind : List (Behind I S)) (ks : List Kept)
+    → ((x : S) (k : Kept) → s.keeps x k → (c : Content) → s.left_since x (s.moment x) c → OpensAsLeft s.opens k c) → Each3 (λ z b k. IsHeld s.keeps z b k) zones behind ks
+    → Each3 (λ a b k. LeavesOnly s.moment s.left_since a.store b.store (OpensAsLeft s.opens k)) behind behind ks
+rests {I} {S} s zones behind ks at_rest held =
+    diag (λ (z : Zone) (b : Behind I S) (k : Kept). IsHeld s.keeps z b k) (λ (a b : Behind I S) (k : Kept). LeavesOnly s.moment s.left_since a.store b.store (OpensAsLeft s.opens k)) zones behind ks held
+    (λ z b k h. started s.moment s.left_since b.store (OpensAsLeft s.opens k) (λ c left. at_rest b.store k h.kept c left))
+
+pub still_leaves : {S B : Type 0} (store : B → S) (failed : S → ℕ) (moment : S → ℕ) (left_since : S → ℕ → Content → Type 0) (P : Kept → Content → Type 0) (olds mids news : List B) (ks : List Kept)
+    → Each3 (λ a b k. LeavesOnly moment left_since (store a) (store b) (P k)) olds mids ks → Each2 (λ a b. IsUntouched moment left_since failed (store a) (store b)) mids news
+    → Each3 (λ a b k. LeavesOnly moment left_since (store a) (store b) (P k)) olds news ks
+still_leaves store failed moment left_since P [] [] [] [] each same = tt
+still_leaves store failed moment left_since P (a ∷ olds) (b ∷ mids) (c ∷ news) (k ∷ ks) each same = (
+  record {
+    later = omega (arith, each.0.later, same.0.still.no_later);
+    each = λ x left. each.0.each x (same.0.still.same (moment (store a)) x left);
+    before = λ t x le left. each.0.before t x le (same.0.still.same t x left);
+  },
+  still_leaves store failed moment left_since P olds mids news ks each.1 same.1,
+)
+still_leaves store failed moment left_since P [] [] (c ∷ news) [] each same = absurd same
+still_leaves store failed moment left_since P (a ∷ olds) (b ∷ mids) [] (k ∷ ks) each same = absurd same
+still_leaves store failed moment left_since P _ _ _ _ each same = absurd each
 
 -- octets that are some request get a reply
 asking_by : (short response : Bool) (x r : request.Request) → (if short || response then request.Ignored else x) ≡ r → (r ≡ request.Ignored → ⊥) → (not short && not response) ≡ true
@@ -211,8 +238,9 @@ held_as f g go old a ended outcome.OutOfMemory h = go old h
 
 module _ {I S : Type 0} {i : index.Ghosts I} {s : store.Ghosts S} where
   -- nothing changes, and this is what goes out
-  pub stays : (p : Primary I S i s) (m : Machine) (effects : Effects) (stated : machine.Effects) (step : List Bool → machine.Effects → Machine → Type 0) → IsKept p m → IsToldBy stated effects → step [] stated m → Stepped p p effects step
-  stays p m effects stated step kept told is = record { fails = []; failed = tt; next = m; stated = stated; is = is; told = told; kept = kept }
+  pub stays : (p : Primary I S i s) (m : Machine) (effects : Effects) (stated : machine.Effects) (step : List Bool → machine.Effects → Machine → Type 0) → AtAnyMoment s m p.behind.items p.behind.items → IsKept p m → IsToldBy stated effects → step [] stated m
+      → Stepped m p p effects step
+  stays p m effects stated step rest kept told is = record { fails = []; failed = tt; any_moment = rest; next = m; stated = stated; is = is; told = told; kept = kept }
 
 -- a request is served, as what it is
 pub served_as : (old new : Machine) (peer : Peer) (to : To) (octets : List ℕ) (transport : Transport) (r : request.Request) (fails : List Bool) (stated : machine.Effects) → r ≡ request_of octets transport
@@ -253,13 +281,13 @@ lacks_update fails old new a octets effects asks is kind l =
 module _ {I S : Type 0} {i : index.Ghosts I} {s : store.Ghosts S} where
   -- a request that changes nothing is replied to, or lacks memory
   pub replies_or_lacks : (p : Primary I S i s) (m : Machine) (effects : Effects) (peer : Peer) (to : To) (octets : List ℕ) (transport : Transport) (r : request.Request) (reply : List ℕ)
-      → r ≡ request_of octets transport → (r ≡ request.Ignored → ⊥) → handled_as (shown_zones m) octets transport r ≡ Replies reply → IsKept p m
+      → r ≡ request_of octets transport → (r ≡ request.Ignored → ⊥) → handled_as (shown_zones m) octets transport r ≡ Replies reply → AtAnyMoment s m p.behind.items p.behind.items → IsKept p m
       → IsToldBy (one_reply (Replied to reply)) effects ⊎ IsToldBy (lack (Replied to (text (bare_reply (header_of octets) rcode_servfail)))) effects
-      → Stepped p p effects (IsServedOrLacks m peer to octets transport)
-  replies_or_lacks p m effects peer to octets transport r reply e some is kept told =
+      → Stepped m p p effects (IsServedOrLacks m peer to octets transport)
+  replies_or_lacks p m effects peer to octets transport r reply e some is rest kept told =
       ⊎_elim
-      (λ t. stays p m effects (one_reply (Replied to reply)) (IsServedOrLacks m peer to octets transport) kept t
+      (λ t. stays p m effects (one_reply (Replied to reply)) (IsServedOrLacks m peer to octets transport) rest kept t
       (served_as m m peer to octets transport r [] (one_reply (Replied to reply)) e
       (subst (λ (h : Handled). IsServed [] m to peer h (one_reply (Replied to reply)) m) (sym is) (refl, gives_one m (Replied to reply)))))
-      (λ t. stays p m effects (lack (Replied to (text (bare_reply (header_of octets) rcode_servfail)))) (IsServedOrLacks m peer to octets transport) kept t (inr (lacks_one m to octets transport r e some)))
+      (λ t. stays p m effects (lack (Replied to (text (bare_reply (header_of octets) rcode_servfail)))) (IsServedOrLacks m peer to octets transport) rest kept t (inr (lacks_one m to octets transport r e some)))
       told

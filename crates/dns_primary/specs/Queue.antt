@@ -21,12 +21,14 @@ abbrev pub asked_of : UpdateRequest → Asked
 asked_of u = record { to = u.to; address = u.address; message = u.request.message.message; zone = u.request.question }
 
 -- No call was made on the device of the store, and so none failed.
-pub record IsUntouched {S : Type 0} (moment : S → ℕ) (left_since : S → ℕ → Content → Type 0) (failed : S → ℕ) (old new : S) : Type 0 where
+pub record IsUntouched {S : Type 0} (moment : S → ℕ) (left_since : S → ℕ → Content → Type 0) (failed : S → ℕ)
+    (old new : S) : Type 0 where
   pub still : StandsStill moment left_since old new
   pub quiet : failed new ≡ failed old
 
 -- The machine has these zones, with what stands behind them, these replies that wait, and those connections.
-pub record Holds {I S : Type 0} (keeps : S → Kept → Type 0) (zones : List Zone) (behind : List (Behind I S)) (settings : List ZoneSettings)
+pub record Holds {I S : Type 0} (keeps : S → Kept → Type 0) (zones : List Zone) (behind : List (Behind I S))
+    (settings : List ZoneSettings)
     (waiting : List Waiting) (connections : List Connection) (m : Machine) : Type 0 where
   pub zones_are : AreHeld keeps zones behind m.zones
   pub settings_are : Each2 IsSet settings m.zones

@@ -1,5 +1,5 @@
 -- Steps of a primary, and what is told of them.
-use Rattle.std.specs.Prelude.{◌≡◌, ◌⊎◌, ℕ, Bool, true, ◌&&◌, ◌==◌, List, [], ◌∷◌, ◌++◌, None}
+use Rattle.std.specs.Prelude.{◌≡◌, ◌⊎◌, ℕ, Bool, true, ◌&&◌, ◌==◌, List, [], ◌∷◌, ◌++◌, None, map}
 use Rattle.dns_wire.specs.Message.{header_of}
 use Rattle.dns_wire.specs.Codes.{number_of_rcode}
 use Rattle.dns_request.specs.Request.{opcode_update}
@@ -7,6 +7,10 @@ use Rattle.dns_request.specs.declared.request.Transport.{Transport}
 use Rattle.dns_answer.specs.Answer.{handled}
 use Rattle.dns_zone.specs.declared.index.ZoneIndex as index
 use Rattle.dns_store.specs.declared.zone_store.ZoneStore as store
+use Rattle.dns_sectors.specs.Device.{LeavesOnly}
+use Rattle.dns_store.specs.Versions.{OpensAsLeft}
+use Rattle.dns_held.specs.declared.behind.Behind.{Behind}
+use Rattle.dns_held.specs.Each.{Each3}
 use Rattle.dns_held.specs.Flush.{FailedWhere}
 use Rattle.dns_primary.specs.declared.event.Peer.{Peer}
 use Rattle.dns_primary.specs.declared.event.To.{To}
@@ -17,7 +21,7 @@ use Rattle.dns_primary.specs.declared.event.Noted.TheVariants.{Nothing, OutOfMem
 use Rattle.dns_primary.specs.declared.primary.Primary.{Primary}
 use Rattle.dns_primary.specs.declared.update.Outcome.{Outcome}
 use Rattle.dns_primary.specs.declared.update.Outcome.TheVariants as outcome
-use Rattle.dns_primary.specs.Machine.{Machine, shown_zones}
+use Rattle.dns_primary.specs.Machine.{Machine, kept_of, shown_zones}
 use Rattle.dns_primary.specs.Flush.{Sent, flushed, flush_sends, rcode_servfail}
 use Rattle.dns_primary.specs.Update.{Asked, replies, is_full}
 use Rattle.dns_primary.specs.Step as machine
@@ -32,12 +36,19 @@ event_shown (event.Message number octets) = machine.Arrives number octets.now
 event_shown event.Flush = machine.Flush
 event_shown (event.Closed number) = machine.Closed number
 
+-- A crash at any moment between the two leaves each device so that it opens as the versions shown and the first of those staged.
+abbrev pub AtAnyMoment : {I S : Type 0} → store.Ghosts S → Machine → List (Behind I S) → List (Behind I S) → Type 0
+AtAnyMoment s m olds news =
+    Each3 (λ a b k. LeavesOnly s.moment s.left_since a.store b.store (OpensAsLeft s.opens k)) olds news (map kept_of m.zones)
+
 -- A primary took a step: of the devices these failed, each of which it is said, the machine that it kept went on to the next one,
 -- which it keeps now, and the effects are told. `step` says of a list of failures, effects and a machine that they are such a step.
-pub record Stepped {I S : Type 0} {i : index.Ghosts I} {s : store.Ghosts S} (old new : Primary I S i s) (effects : Effects)
+pub record Stepped {I S : Type 0} {i : index.Ghosts I} {s : store.Ghosts S} (m : Machine)
+    (old new : Primary I S i s) (effects : Effects)
     (step : List Bool → machine.Effects → Machine → Type 0) : Type 0 where
   pub fails : List Bool
   pub failed : FailedWhere (λ b. s.failed b.store) fails old.behind.items new.behind.items
+  pub any_moment : AtAnyMoment s m old.behind.items new.behind.items
   pub next : Machine
   pub stated : machine.Effects
   pub is : step fails stated next
@@ -55,26 +66,31 @@ one_reply reply = record { sent = reply ∷ []; accepted = None; noted = Nothing
 abbrev pub answered_with : machine.Effects → Asked → Outcome → machine.Effects
 answered_with effects a (outcome.Waits rcode) = effects
 answered_with effects a (outcome.AtOnce rcode) = record effects { sent = effects.sent ++ replies a (number_of_rcode rcode) ∷ [] }
-answered_with effects a outcome.OutOfMemory = record effects { sent = effects.sent ++ replies a rcode_servfail ∷ []; noted = OutOfMemory }
+answered_with effects a outcome.OutOfMemory =
+    record effects { sent = effects.sent ++ replies a rcode_servfail ∷ []; noted = OutOfMemory }
 
 -- Memory was refused to an update, before its flush, if there is one, or behind it.
 pub record LacksUpdate (fails : List Bool) (old : Machine) (a : Asked) (effects : machine.Effects) (new : Machine) : Type 0 where
   pub noted : effects.noted ≡ OutOfMemory
   pub accepted : effects.accepted ≡ None
   pub stays : ((fails ≡ []) × (new ≡ old) × (effects.sent ≡ replies a rcode_servfail ∷ []))
-      ⊎ ((is_full old ≡ true) × AreFailures true old fails × (new ≡ flushed fails old) × (effects.sent ≡ flush_sends fails old ++ replies a rcode_servfail ∷ []))
+      ⊎ ((is_full old ≡ true) × AreFailures true old fails × (new ≡ flushed fails old)
+      × (effects.sent ≡ flush_sends fails old ++ replies a rcode_servfail ∷ []))
 
 abbrev pub IsUpdatedOrLacks : Machine → Asked → List Bool → machine.Effects → Machine → Type 0
 IsUpdatedOrLacks old a fails effects new = IsUpdated fails old a effects new ⊎ LacksUpdate fails old a effects new
 
 -- Memory was refused to a request.
-pub record LacksRequest (fails : List Bool) (old : Machine) (to : To) (octets : List ℕ) (effects : machine.Effects) (new : Machine) : Type 0 where
+pub record LacksRequest (fails : List Bool) (old : Machine) (to : To) (octets : List ℕ) (effects : machine.Effects)
+    (new : Machine) : Type 0 where
   pub noted : effects.noted ≡ OutOfMemory
   pub accepted : effects.accepted ≡ None
   pub stays : ((fails ≡ []) × (new ≡ old) × (effects.sent ≡ failure to octets))
-      ⊎ ((((header_of octets).opcode == opcode_update && is_full old) ≡ true) × AreFailures true old fails × (new ≡ flushed fails old) × (effects.sent ≡ flush_sends fails old ++ failure to octets))
+      ⊎ ((((header_of octets).opcode == opcode_update && is_full old) ≡ true) × AreFailures true old fails
+      × (new ≡ flushed fails old) × (effects.sent ≡ flush_sends fails old ++ failure to octets))
 
 -- What becomes of octets that came from a peer by a transport, their reply going there.
 abbrev pub IsServedOrLacks : Machine → Peer → To → List ℕ → Transport → List Bool → machine.Effects → Machine → Type 0
 IsServedOrLacks old peer to octets transport fails effects new =
-    IsServed fails old to peer (handled (shown_zones old) octets transport) effects new ⊎ LacksRequest fails old to octets effects new
+    IsServed fails old to peer (handled (shown_zones old) octets transport) effects new
+    ⊎ LacksRequest fails old to octets effects new

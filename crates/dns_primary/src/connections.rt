@@ -45,7 +45,7 @@ impl<I: ZoneIndex, S: ZoneStore> Primary<I, S> {
     /// A peer connects: it gets a number that no other has, or none where there are as many as may be.
     pub(crate) fn connect(&mut self, peer: Peer) -> Effects
         ensures step { (old : Machine) → IsKept self.old old
-            → Stepped self.old self.new result (λ fails stated next. Step fails old (Connect peer) stated next) }
+            → Stepped old self.old self.new result (λ fails stated next. Step fails old (Connect peer) stated next) }
     {
         let mut effects = Effects::nothing();
         if self.connections.len() >= MOST_CONNECTIONS {
@@ -61,7 +61,7 @@ impl<I: ZoneIndex, S: ZoneStore> Primary<I, S> {
     /// A connection is closed. What waits to go to it keeps its place, and goes nowhere.
     pub(crate) fn close(&mut self, number: usize) -> Effects
         ensures step { (old : Machine) → IsKept self.old old
-            → Stepped self.old self.new result (λ fails stated next. Step fails old (Closed number) stated next) }
+            → Stepped old self.old self.new result (λ fails stated next. Step fails old (Closed number) stated next) }
         ensures memory { result.noted ≢ StatedLack }
     {
         let _closed = self.connections.try_remove(number);

@@ -24,7 +24,7 @@ use dns_zone::ZoneIndex;
 impl<I: ZoneIndex, S: ZoneStore> Primary<I, S> {
     /// Makes a place for one more reply that waits: where as many wait as may, there is a flush.
     fn make_place(&mut self) -> Effects
-        ensures step { (old : Machine) → IsKept self.old old → Stepped self.old self.new result
+        ensures step { (old : Machine) → IsKept self.old old → Stepped old self.old self.new result
             (λ fails stated next. AreFailures (is_full old) old fails
             × Gives stated next (made_place fails old).0 (made_place fails old).1 fails) }
         ensures room { length self.new.waiting.items < 32 }
@@ -45,7 +45,8 @@ impl<I: ZoneIndex, S: ZoneStore> Primary<I, S> {
         ensures done { (old : Machine) → IsKept self.old old
             → IsAnswered (IsKept self.new) old (asked_of update.now)
             (admitted old (asked_of update.now) (admission old.zones (asked_of update.now))) result }
-        ensures still { Each2 (λ a b. IsUntouched S.moment S.left_since S.failed a.store b.store) self.old.behind.items self.new.behind.items }
+        ensures still { Each2 (λ a b. IsUntouched S.moment S.left_since S.failed a.store b.store)
+            self.old.behind.items self.new.behind.items }
     {
         let zones = self.zones.as_slice();
         let settings = self.settings.as_slice();
@@ -66,7 +67,7 @@ impl<I: ZoneIndex, S: ZoneStore> Primary<I, S> {
         requires somewhere { is_nowhere update.now.to ≡ false }
         requires header { header_of update.now.header.now ≡ update.now.request.message.message.header }
         ensures step { (old : Machine) → IsKept self.old old
-            → Stepped self.old self.new result (IsUpdatedOrLacks old (asked_of update.now)) }
+            → Stepped old self.old self.new result (IsUpdatedOrLacks old (asked_of update.now)) }
     {
         let Ok(name) = update.request.question.name().to_name(alloc) else {
             return Effects::out_of_memory(update.to, update.header);
@@ -87,7 +88,7 @@ impl<I: ZoneIndex, S: ZoneStore> Primary<I, S> {
     ) -> Effects
         requires { is_nowhere to ≡ false }
         ensures step { (old : Machine) → IsKept self.old old
-            → Stepped self.old self.new result (IsServedOrLacks old peer to octets.now transport) }
+            → Stepped old self.old self.new result (IsServedOrLacks old peer to octets.now transport) }
     {
         match classify(octets, transport) {
             Request::Ignored => Effects::nothing(),

@@ -1,10 +1,7 @@
 //! The events, one step each.
-ghost use Rattle.std.specs.Prelude.{◌≡◌, ◌≢◌, ◌≤◌, [], false, None, MatchOption, length, map, slice_get};
-ghost use Rattle.dns_sectors.specs.Device.{LeavesOnly};
-ghost use Rattle.dns_store.specs.Versions.{OpensAsLeft};
-ghost use Rattle.dns_held.specs.Each.{Each3};
+ghost use Rattle.std.specs.Prelude.{◌≡◌, ◌≢◌, ◌≤◌, [], false, None, MatchOption, length, slice_get};
 ghost use Rattle.dns_primary.specs.declared.event.Noted.TheVariants.{OutOfMemory as StatedLack};
-ghost use Rattle.dns_primary.specs.Machine.{Machine, kept_of};
+ghost use Rattle.dns_primary.specs.Machine.{Machine};
 ghost use Rattle.dns_primary.specs.Step.{Arrives, IsFlushed, Step, noted_of, takes_memory};
 ghost use Rattle.dns_primary.specs.Fresh.{IsShown};
 ghost use Rattle.dns_primary.specs.Keeps.{IsKept};
@@ -32,16 +29,14 @@ impl<I: ZoneIndex, S: ZoneStore> Primary<I, S> {
     /// Makes durable what was staged, shows it, and lets go out what waits for it: SERVFAIL where a zone's device failed. It
     /// takes no memory.
     pub fn flush(&mut self) -> Effects
-        // Whatever older versions there were, it is the step of the machine.
+        // Whatever older versions there were, it is the step of the machine, and a crash at any moment of it leaves each device so
+        // that it opens as the versions shown and the first of those staged.
         ensures step { (old : Machine) → IsKept self.old old
-            → Stepped self.old self.new result (λ fails stated next. IsFlushed fails old stated next) }
+            → Stepped old self.old self.new result (λ fails stated next. IsFlushed fails old stated next) }
         ensures few { length result.headers.items ≤ 32 }
         ensures bare { result.message ≡ None }
         ensures empty { self.new.waiting.items ≡ [] }
         ensures memory { result.noted ≢ StatedLack }
-        // A crash at any moment of it leaves each zone's device so that it opens as the versions shown and the first of those staged.
-        ensures any_moment { (old : Machine) → IsKept self.old old
-            → Each3 (λ a b k. LeavesOnly S.moment S.left_since a.store b.store (OpensAsLeft S.opens k)) self.old.behind.items self.new.behind.items (map kept_of old.zones) }
     {
         let (headers, failed) = flush(&mut self.zones, &mut self.behind, &mut self.waiting);
         Effects {
@@ -55,7 +50,7 @@ impl<I: ZoneIndex, S: ZoneStore> Primary<I, S> {
     /// Does with a message on a connection what is to be done with it. On a connection that isn't there nothing happens.
     fn arrive(&mut self, alloc: Heap, number: usize, octets: &[u8]) -> Effects
         ensures step { (old : Machine) → IsKept self.old old
-            → Stepped self.old self.new result (λ fails stated next. Step fails old (Arrives number octets.now) stated next) }
+            → Stepped old self.old self.new result (λ fails stated next. Step fails old (Arrives number octets.now) stated next) }
     {
         match self.connections.get(number).copied() {
             Some(peer) => self.serve(alloc, peer, To::Connection(number), octets, Transport::Tcp),
@@ -74,9 +69,10 @@ impl<I: ZoneIndex, S: ZoneStore> Primary<I, S> {
     ///
     /// Where memory is refused, a request is answered with SERVFAIL, and nothing has changed but by the flush that came first.
     pub fn step(&mut self, alloc: Heap, event: Event<'_>) -> Effects
-        // Whatever older versions there were, it is the step of the machine.
+        // Whatever older versions there were, it is the step of the machine, and a crash at any moment of it leaves each device so
+        // that it opens as the versions shown and the first of those staged.
         ensures step { (old : Machine) → IsKept self.old old
-            → Stepped self.old self.new result (λ fails stated next. Step fails old (event_shown event.entry) stated next) }
+            → Stepped old self.old self.new result (λ fails stated next. Step fails old (event_shown event.entry) stated next) }
         ensures memory { takes_memory (event_shown event.entry) ≡ false → result.noted ≢ StatedLack }
     {
         match event {

@@ -1,4 +1,4 @@
-use Rattle.std.proofs.Common.{◌<◌, ◌≤◌, [], length, inl, inr, Some, None, refl, sym, ap, ◌∙◌, arith}
+use Rattle.std.proofs.Common.{map, ◌<◌, ◌≤◌, [], length, inl, inr, Some, None, refl, sym, ap, ◌∙◌, arith}
 use Rattle.slab.specs.Slab.{Slab, get, slab_len}
 use Rattle.dns_primary.specs.declared.event.Peer.{Peer}
 use Rattle.dns_primary.specs.declared.event.Noted.TheVariants.{Nothing, OutOfMemory}
@@ -6,14 +6,15 @@ use Rattle.dns_primary.specs.Connections.{connected}
 use Rattle.dns_primary.specs.Step.{Step, Connect}
 use Rattle.dns_primary.specs.Steps.{nothing}
 use Rattle.dns_primary.proofs.Connected.{connected_are}
-use Rattle.dns_primary.proofs.Served.{gives_none, stays}
+use Rattle.dns_primary.specs.Machine.{kept_of}
+use Rattle.dns_primary.proofs.Served.{rests, gives_none, stays}
 use Rattle.dns_primary.proofs.primary.Primary.connect.Goals as goal
 
 pub returns-then-len-ge-MOST_CONNECTIONS : goal.returns-then-len-ge-MOST_CONNECTIONS
 returns-then-len-ge-MOST_CONNECTIONS g c = record {
   step = λ old kept.
       let most : 64 ≤ length old.connections = omega (arith, kept.as_many, c.len.ensures, c.if-len-ge-MOST_CONNECTIONS.true) in
-      stays c.args.self.now old c.nothing-effects.result nothing (λ fails stated next. Step fails old (Connect c.args.peer) stated next) kept c.nothing-effects.ensures.told
+      stays c.args.self.now old c.nothing-effects.result nothing (λ fails stated next. Step fails old (Connect c.args.peer) stated next) (rests g.S.ZoneStore c.args.self.now.zones.items c.args.self.now.behind.items (map kept_of old.zones) (λ x k h y left. g.met.S.ZoneStore.at_rest x k h y left) kept.zones_are) kept c.nothing-effects.ensures.told
       (inl (refl, inr (most, gives_none old)));
 }
 
@@ -26,6 +27,7 @@ returns-in-Ok g c = record {
       record {
         fails = [];
         failed = tt;
+        any_moment = (rests g.S.ZoneStore c.args.self.now.zones.items c.args.self.now.behind.items (map kept_of old.zones) (λ x k h y left. g.met.S.ZoneStore.at_rest x k h y left) kept.zones_are);
         next = connected number c.args.peer old;
         stated = record { sent = []; accepted = Some number; noted = Nothing };
         is = inl (refl, inl (few, (number, sym (kept.connections_are number) ∙ c.in-Ok.ensures.was_vacant, refl, refl)));
@@ -47,6 +49,7 @@ returns-in-Err g c = record {
       record {
         fails = [];
         failed = tt;
+        any_moment = (rests g.S.ZoneStore c.args.self.now.zones.items c.args.self.now.behind.items (map kept_of old.zones) (λ x k h y left. g.met.S.ZoneStore.at_rest x k h y left) kept.zones_are);
         next = old;
         stated = record { sent = []; accepted = None; noted = OutOfMemory };
         is = inr (record { takes = refl; noted = refl; accepted = refl; stays = inl (refl, refl, refl) });

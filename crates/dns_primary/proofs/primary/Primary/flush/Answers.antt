@@ -28,6 +28,7 @@ returns-clause-step g c old kept =
     record {
       fails = fails;
       failed = failed_at (λ b. g.S.ZoneStore.failed b.store) fails b (sym y) done.2;
+      any_moment = moved3 b (sym y) (map kept_of old.zones) (λ a b k. LeavesOnly g.S.ZoneStore.moment g.S.ZoneStore.left_since a.store b.store (OpensAsLeft g.S.ZoneStore.opens k)) (c.flush-headers.ensures.any_moment (map kept_of old.zones) given);
       next = flushed fails old;
       stated = record { sent = flush_sends fails old; accepted = None; noted = noted_of (first_true fails) };
       is = (done.1, record { state = refl; sent = refl; accepted = refl; noted = refl });
@@ -40,13 +41,3 @@ returns-clause-step g c old kept =
         waiting_are = subst (λ (l : List Waiting). Each2 IsWaiting l (flushed fails old).waiting) (sym c.flush-headers.ensures.empty) tt;
       };
     }
-
-pub returns-clause-any_moment : goal.returns-clause-any_moment
-returns-clause-any_moment g c old kept =
-    let zones = c.args.self.now.zones in
-    let behind = c.args.self.now.behind in
-    let a = c.deref_mut.ensures.value in
-    let b = c.deref_mut-2.ensures.value in
-    let given = moved3 (sym a) (sym b) (map kept_of old.zones) (λ z b k. IsHeld g.S.ZoneStore.keeps z b k) kept.zones_are in
-    let y = refilled behind.len c.flush-headers.new.behind behind.items (omega (arith, c.flush-headers.auto.behind, ap length b, behind.ok)) in
-    moved3 b (sym y) (map kept_of old.zones) (λ a b k. LeavesOnly g.S.ZoneStore.moment g.S.ZoneStore.left_since a.store b.store (OpensAsLeft g.S.ZoneStore.opens k)) (c.flush-headers.ensures.any_moment (map kept_of old.zones) given)

@@ -11,6 +11,7 @@ returns-in-Datagram-clause-step g c old kept =
     record {
       fails = s.fails;
       failed = s.failed;
+      any_moment = s.any_moment;
       next = s.next;
       stated = s.stated;
       is = subst (λ (e : Event). Step s.fails old e s.stated s.next) (sym is) (came old s.next c.in-Datagram.peer c.in-Datagram.octets.now s.fails s.stated s.is);
