@@ -6,4 +6,6 @@ mod given;
 #[cfg(test)]
 mod runs;
 #[cfg(test)]
+mod trees;
+#[cfg(test)]
 mod zones;

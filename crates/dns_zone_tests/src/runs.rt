@@ -6,6 +6,7 @@ use dns_records::Record;
 use dns_records::types::NS;
 use dns_zone::laws::{Command, Copies, Reply, run_index};
 use dns_zone::{RecordList, ZoneIndex};
+use dns_zoneindex::SharedTree;
 use std::cmp::Ordering;
 use std::test::Fail;
 
@@ -251,26 +252,42 @@ fn agrees(
     })
 }
 
-// The sorted list against a plain one, over four hundred calls.
-#[test]
-fn four_hundred_calls(rt: HostRuntime) -> Result<(), Fail> {
-    let heap = heap(rt.alloc())?;
-    let mut numbers = Numbers { state: 1 };
+/// Makes four hundred calls of an index, and says whether each reply and the set that is left are those of a plain list that comes to
+/// have more than five records.
+fn agrees_with_plain<I: ZoneIndex>(heap: Heap, index: I, seed: u64) -> Result<bool, Fail> {
+    let mut numbers = Numbers { state: seed };
     let mut commands = Vec::new(heap);
     for _ in 0..400 {
         commands.push(some_command(heap, &mut numbers)?)?;
     }
-    let (list, replies) = run_index(heap, RecordList::empty(heap)?, &commands)?;
-    assert_eq!(rt; replies.len(), commands.len());
+    let (set, replies) = run_index(heap, index, &commands)?;
     let mut plain: Vec<Record, Heap> = Vec::new(heap);
     for (command, reply) in commands.iter().zip(replies.iter()) {
-        assert!(rt; agrees(heap, &mut plain, command, reply)?);
+        if !agrees(heap, &mut plain, command, reply)? {
+            return Ok(false);
+        }
     }
-    assert!(rt;
-        plain
-            .iter()
-            .all(|r| list.records_at(&r.owner().lend()).contains(r))
-    );
-    assert!(rt; plain.len() > 5, "{} records", plain.len());
+    let held = plain
+        .iter()
+        .all(|r| set.records_at(&r.owner().lend()).contains(r));
+    Ok(held && set.len() == plain.len() && plain.len() > 5)
+}
+
+// The sorted list against a plain one.
+#[test]
+fn four_hundred_calls_of_a_list(rt: HostRuntime) -> Result<(), Fail> {
+    let heap = heap(rt.alloc())?;
+    assert!(rt; agrees_with_plain(heap, RecordList::empty(heap)?, 1)?);
+    Ok(())
+}
+
+// The shared tree against a plain list, by the same calls and by others.
+#[test]
+fn four_hundred_calls_of_a_tree(rt: HostRuntime) -> Result<(), Fail> {
+    let heap = heap(rt.alloc())?;
+    for seed in 1..6u64 {
+        let tree: SharedTree = ZoneIndex::empty(heap)?;
+        assert!(rt; agrees_with_plain(heap, tree, seed)?, "seed {seed}");
+    }
     Ok(())
 }

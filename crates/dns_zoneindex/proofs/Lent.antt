@@ -1,0 +1,107 @@
+-- Runs of the records that stand one behind another.
+use Rattle.std.proofs.Common.{◌≡◌, ℕ, zero, suc, ◌+◌, ◌-◌, ◌<◌, ◌≤◌, List, [], ◌∷◌, ◌++◌, length, map, take, drop, inl, inr, refl, sym, ap, subst, ◌∙◌, arith, append_assoc, length-append, length-drop}
+use Rattle.std.proofs.lemmas.List.{drop-append-le, map-append, length-map}
+use Rattle.std.proofs.Math.Seq.{drop-append-add}
+use Rattle.std.specs.Prelude.{slice_get, None}
+use Rattle.std.proofs.lemmas.Option.{slice_get_past}
+use Rattle.dns_records.specs.Record.{Record}
+use Rattle.dns_zone.specs.Records.{next_after}
+use Rattle.dns_zone.proofs.Searching.{told_nat}
+use Rattle.dns_zoneindex.specs.Entries.{Entry, Child, here, pushed, flat}
+use Rattle.dns_zoneindex.specs.Lent.{IsLent}
+use Rattle.dns_zoneindex.specs.Owned.{records_of}
+
+drop_none : (n : ℕ) → drop {A = Record} n [] ≡ []
+drop_none zero = refl
+drop_none (suc n) = refl
+
+pub lent_none : (place : ℕ) → IsLent [] place []
+lent_none place = record { run = ([], drop_none place); some = λ h. absurd (omega (arith, h)) }
+
+pub lent_front : (rs more : List Record) (place : ℕ) → place < length rs → IsLent (rs ++ more) place (drop place rs)
+lent_front rs more place inside = record {
+  run = (more, drop-append-le place rs more (omega arith));
+  some = λ h. omega (arith, length-drop place rs, inside);
+}
+
+pub lent_left : (a b : List Record) (place : ℕ) (run : List Record) → place < length a → IsLent a place run → IsLent (a ++ b) place run
+lent_left a b place run inside h = record {
+  run = (h.run.0 ++ b, drop-append-le place a b (omega arith) ∙ ap (λ z. z ++ b) h.run.1 ∙ append_assoc run h.run.0 b);
+  some = λ k. h.some inside;
+}
+
+pub lent_right : (a b : List Record) (place : ℕ) (run : List Record) → length a ≤ place → IsLent b (place - length a) run → IsLent (a ++ b) place run
+lent_right a b place run past h =
+    let at : place ≡ length a + (place - length a) = omega arith in
+    record {
+      run = (h.run.0, ap (λ n. drop n (a ++ b)) at ∙ drop-append-add a b (place - length a) ∙ h.run.1);
+      some = λ k. h.some (omega (arith, k, length-append a b));
+    }
+
+-- behind so many
+pub lent_past : (a b : List Record) (place k : ℕ) (run : List Record) → length a ≡ k → k ≤ place → IsLent b (place - k) run → IsLent (a ++ b) place run
+lent_past a b place k run e past h = lent_right a b place run (omega arith) (subst (λ n. IsLent b (place - n) run) (sym e) h)
+
+-- the end of a slice
+slice_end : (rs : List Record) (place : ℕ) → take (length rs - place) (drop place rs) ≡ drop place rs
+slice_end rs place = ap (λ n. take n (drop place rs)) (sym (length-drop place rs)) ∙ take-all (drop place rs)
+  where
+    take-all : (xs : List Record) → take (length xs) xs ≡ xs
+    take-all [] = refl
+    take-all (x ∷ xs) = ap (λ z. x ∷ z) (take-all xs)
+
+pub lent_slice : (rs more : List Record) (place : ℕ) → place < length rs → IsLent (rs ++ more) place (take (length rs - place) (drop place rs))
+lent_slice rs more place inside = subst (IsLent (rs ++ more) place) (sym (slice_end rs place)) (lent_front rs more place inside)
+
+-- the records of entries
+pub records_pushed : (l : List ℕ) (own : List Entry) → records_of (map (pushed l) own) ≡ records_of own
+records_pushed l [] = refl
+records_pushed l (e ∷ own) = ap (λ z. e.record_there ∷ z) (records_pushed l own)
+
+pub records_flat : (c : Child) (cs : List Child) → records_of (flat (c ∷ cs)) ≡ records_of c.own ++ records_of (flat cs)
+records_flat c cs = map-append (λ (e : Entry). e.record_there) (map (pushed c.label) c.own) (flat cs) ∙ ap (λ z. z ++ records_of (flat cs)) (records_pushed c.label c.own)
+
+pub records_around : (l : List Child) (c : Child) (r : List Child) → records_of (flat (l ++ c ∷ r)) ≡ records_of (flat l) ++ (records_of c.own ++ records_of (flat r))
+records_around [] c r = records_flat c r
+records_around (d ∷ l) c r =
+    records_flat d (l ++ c ∷ r)
+    ∙ ap (λ z. records_of d.own ++ z) (records_around l c r)
+    ∙ sym (append_assoc (records_of d.own) (records_of (flat l)) (records_of c.own ++ records_of (flat r)))
+    ∙ ap (λ z. z ++ (records_of c.own ++ records_of (flat r))) (sym (records_flat d l))
+
+pub records_own : (rs : List Record) (es : List Entry) → records_of (map here rs ++ es) ≡ rs ++ records_of es
+records_own [] es = refl
+records_own (r ∷ rs) es = ap (λ z. r ∷ z) (records_own rs es)
+
+pub records_count : (es : List Entry) → length (records_of es) ≡ length es
+records_count es = length-map es (λ e. e.record_there)
+
+-- the record of a place
+front_of : (xs : List Record) (n : ℕ) → slice_get xs n ≡ slice_get (drop n xs) 0
+front_of [] zero = refl
+front_of [] (suc n) = refl
+front_of (x ∷ xs) zero = refl
+front_of (x ∷ xs) (suc n) = front_of xs n
+
+pub lent_first : (xs : List Record) (place : ℕ) (lent : List Record) → IsLent xs place lent → slice_get lent 0 ≡ slice_get xs place
+lent_first xs place [] h = elim (told_nat place (length xs)) [
+  | inl lt ↦ absurd (omega (arith, h.some lt))
+  | inr ge ↦ sym (slice_get_past xs place ge)
+]
+lent_first xs place (r ∷ rest) h = sym (front_of xs place ∙ ap (λ z. slice_get z 0) h.run.1)
+
+-- no record where none is left
+pub lent_nothing : (xs : List Record) (place : ℕ) (lent : List Record) → IsLent xs place lent → lent ≡ [] → drop place xs ≡ []
+lent_nothing xs place lent h e = elim (told_nat place (length xs)) [
+  | inl lt ↦ absurd (omega (arith, h.some lt, ap length e))
+  | inr ge ↦ drop_past xs place ge
+]
+  where
+    drop_past : (ys : List Record) (n : ℕ) → length ys ≤ n → drop n ys ≡ []
+    drop_past [] n le = drop_none n
+    drop_past (y ∷ ys) zero le = absurd (omega (arith, le))
+    drop_past (y ∷ ys) (suc n) le = drop_past ys n (omega (arith, le))
+
+pub first_record : (xs : List Record) → slice_get xs 0 ≡ next_after None xs
+first_record [] = refl
+first_record (x ∷ xs) = refl

@@ -1,0 +1,15 @@
+pub mod Counts
+pub mod Down
+pub mod Exists
+pub mod Halves
+pub mod Keeping
+pub mod Led
+pub mod Lent
+pub mod Opened
+pub mod Owned
+pub mod Parted
+pub mod Paths
+pub mod Reaching
+pub mod Set
+pub mod Sides
+pub mod Under

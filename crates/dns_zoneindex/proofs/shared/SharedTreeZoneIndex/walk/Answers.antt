@@ -1,0 +1,18 @@
+use Rattle.std.proofs.Common.{◌≡◌, sym, ap, ◌∙◌}
+use Rattle.std.specs.Prelude.{slice_get}
+use Rattle.std.specs.Option.{option_copied}
+use Rattle.dns_zone.specs.Records.{next_after}
+use Rattle.dns_zoneindex.specs.Owned.{records_of}
+use Rattle.dns_zoneindex.proofs.Lent.{lent_first, first_record}
+use Rattle.dns_zoneindex.proofs.shared.SharedTreeZoneIndex.walk.Goals as goal
+use Rattle.dns_zoneindex.proofs.shared.SharedTreeZoneIndex.walk.Goals.{in-None, in-Some}
+
+pub returns : goal.returns
+returns c =
+    let xs = records_of c.args.self.now.tree in
+    let place = c.match-after.place in
+    let next : slice_get xs place ≡ next_after (option_copied c.args.after) xs = elim c.match-after.branch [
+      | in-None w ↦ ap (slice_get xs) w.place-is ∙ first_record xs ∙ ap (λ o. next_after (option_copied o) xs) (sym w.in-None.is)
+      | in-Some w ↦ ap (slice_get xs) w.place-is ∙ w.count_to-place.ensures ∙ ap (λ o. next_after (option_copied o) xs) (sym w.in-Some.is)
+    ] in
+    c.first.ensures.value ∙ lent_first xs place c.run_from.result.now c.run_from.ensures ∙ next

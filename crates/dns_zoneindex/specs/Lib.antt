@@ -1,0 +1,10 @@
+pub mod Entries
+pub mod Children
+pub mod Size
+pub mod Falls
+pub mod Assoc
+pub mod Setting
+pub mod Tree
+pub mod Owned
+pub mod Lent
+pub mod Reach

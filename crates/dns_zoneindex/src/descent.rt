@@ -1,0 +1,118 @@
+//! What a zone has for a name, by one walk along the name's labels from the root down (RFC 1034 section 4.3.2, step 3; RFC 4592
+//! section 3.3). It begins at `find_node`.
+ghost use Rattle.std.specs.Prelude.{◌≡◌, true, not, ◌&&◌, List, ◌∷◌};
+ghost use Rattle.dns_names.specs.Name.{Labels, under, names_eq};
+ghost use Rattle.dns_records.specs.Record.{Record as Stated};
+ghost use Rattle.dns_records.specs.Types.{type_ns};
+ghost use Rattle.dns_zone.specs.Node.{cuts_at, IsMatch};
+ghost use Rattle.dns_zone.specs.Records.{is_ordered, owns_type, records_at};
+ghost use Rattle.dns_zoneindex.specs.Entries.{Entry};
+ghost use Rattle.dns_zoneindex.specs.Owned.{records_of, are_owned};
+ghost use Rattle.dns_zoneindex.specs.Reach.{zone_of, LeadsTo, IsReached};
+
+use crate::node::Node;
+use crate::path::split;
+use dns_names::NameRef;
+use dns_records::{Record, types};
+use dns_zone::{Match, of_type};
+
+/// How far the labels of a name lead.
+#[derive(Drop)]
+pub(crate) enum Reached<'n, 's> {
+    /// The zone is cut above the name or at it: the cut, and the records that it owns.
+    Cut(NameRef<'n>, &'s [Record]),
+    /// The name exists, below no cut: what stands at and under it.
+    There(&'s Node),
+    /// The name doesn't exist, below no cut: its closest encloser, and what stands at and under that.
+    Above(NameRef<'n>, &'s Node),
+}
+
+/// Whether the name stands under the other and is not the other.
+fn is_below(name: &NameRef<'_>, other: &NameRef<'_>) -> bool
+    ensures { result ≡ (under name.now other.now && not (names_eq name.now other.now)) }
+{
+    name.is_under(other) & !name.is(other)
+}
+
+/// Whether a name owns NS, by the records that it owns.
+fn has_servers(owned: &[Record]) -> bool
+    ensures { (set : List Stated) (name : Labels)
+        → is_ordered set ≡ true
+        → owned.now ≡ records_at set name
+        → result ≡ owns_type set name type_ns }
+{
+    !of_type(owned, types::NS).is_empty()
+}
+
+/// Whether the zone of the apex is cut at a name that owns these records (RFC 1034 section 4.2.1).
+fn is_cut(apex: &NameRef<'_>, name: &NameRef<'_>, owned: &[Record]) -> bool
+    ensures { (set : List Stated)
+        → is_ordered set ≡ true
+        → owned.now ≡ records_at set name.now
+        → result ≡ cuts_at (record { apex = apex.now; records = set }) name.now }
+{
+    has_servers(owned) && is_below(name, apex)
+}
+
+/// One label further from a name that exists.
+fn next<'n, 's>(
+    node: &'s Node,
+    label: &[u8],
+    above: NameRef<'n>,
+    apex: &NameRef<'_>,
+    name: &NameRef<'n>,
+) -> Reached<'n, 's>
+    ensures { (es : List Entry)
+        → are_owned es ≡ true
+        → is_ordered (records_of es) ≡ true
+        → name.now ≡ label.now ∷ above.entry
+        → LeadsTo (zone_of apex.now es) es above.entry node.now.own
+        → IsReached (zone_of apex.now es) es name.now result }
+{
+    match node.child(label) {
+        Some(child) => {
+            let owned = child.records();
+            if is_cut(apex, name, owned) {
+                return Reached::Cut(name.again(), owned);
+            }
+            Reached::There(child)
+        }
+        None => Reached::Above(above, node),
+    }
+}
+
+/// How far the labels of a name lead from the root, in the zone of an apex.
+fn reach<'n, 's>(root: &'s Node, apex: &NameRef<'_>, name: &NameRef<'n>) -> Reached<'n, 's>
+    requires owned { are_owned root.now.own ≡ true }
+    requires order { is_ordered (records_of root.now.own) ≡ true }
+    ensures { IsReached (zone_of apex.now root.now.own) root.now.own name.now result }
+{
+    match split(name) {
+        None => Reached::There(root),
+        Some((label, above)) => match reach(root, apex, &above) {
+            Reached::Cut(cut, owned) => Reached::Cut(cut, owned),
+            Reached::There(node) => next(node, label, above, apex, name),
+            Reached::Above(encloser, node) => Reached::Above(encloser, node),
+        },
+    }
+}
+
+/// What the zone of an apex has for a name.
+pub(crate) fn find_node<'n, 's>(
+    root: &'s Node,
+    apex: &NameRef<'_>,
+    name: &NameRef<'n>,
+) -> Match<'n, 's>
+    requires owned { are_owned root.now.own ≡ true }
+    requires order { is_ordered (records_of root.now.own) ≡ true }
+    ensures { IsMatch (zone_of apex.now root.now.own) name.now result }
+{
+    match reach(root, apex, name) {
+        Reached::Cut(cut, owned) => Match::Cut(cut, owned),
+        Reached::There(node) => Match::Name(node.records()),
+        Reached::Above(encloser, node) => match node.child(b"*") {
+            Some(wildcard) => Match::Wildcard(encloser, wildcard.records()),
+            None => Match::Nothing,
+        },
+    }
+}

@@ -1,0 +1,16 @@
+//! Sets of records as trees of names, of which forks share what neither changed.
+#![tactic(auto)]
+
+mod balance;
+mod children;
+mod count;
+mod descent;
+mod edit;
+mod node;
+mod path;
+mod run;
+mod shared;
+mod tree;
+mod walk;
+
+pub use shared::SharedTree;

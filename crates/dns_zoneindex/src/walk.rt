@@ -1,0 +1,35 @@
+//! The place of a record in order.
+ghost use Rattle.std.specs.Prelude.{◌≡◌, ◌<◌, true, length, slice_get, Some};
+ghost use Rattle.dns_zone.specs.Records.{is_ordered, next_after};
+ghost use Rattle.dns_zoneindex.specs.Owned.{records_of};
+
+use crate::tree::Tree;
+use dns_records::Record;
+
+impl Tree {
+    /// How many records are not greater than one, which is looked for by halves.
+    pub(crate) fn count_to(&self, after: &Record) -> usize
+        requires { is_ordered (records_of self.now) ≡ true }
+        ensures { slice_get (records_of self.now) result ≡ next_after (Some after.now) (records_of self.now) }
+    {
+        let mut low = 0;
+        let mut high = self.count();
+        'places: while low < high {
+            let middle = low + (high - low) / 2;
+            if self.record(middle).compare(after).is_gt() {
+                high = middle;
+            } else {
+                low = middle + 1;
+            }
+        }
+        low
+    }
+
+    /// The record of a place.
+    fn record(&self, place: usize) -> &Record
+        requires { place < length (records_of self.now) }
+        ensures { slice_get (records_of self.now) place ≡ Some result.now }
+    {
+        &self.run_from(place)[0]
+    }
+}
