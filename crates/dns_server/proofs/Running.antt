@@ -15,30 +15,12 @@ use Rattle.dns_primary.specs.Machine.{Machine}
 use Rattle.dns_primary.specs.Keeps.{IsKept}
 use Rattle.dns_server.specs.declared.script.Ending.{Ending}
 use Rattle.dns_server.specs.declared.script.Ending.TheVariants.{Done, Syntax}
-use Rattle.dns_script.specs.Lines.{is_feed, lines}
 use Rattle.dns_server.specs.Scripts.{IsNoCommand, Prints, Runs, RunsInto}
 use Rattle.dns_server.specs.Runs.{RanLine, RanScript}
-use Rattle.dns_script.proofs.Words.{split_none}
 
 pub nothing_more : (out : Option (List ℕ)) → Appends out out []
 nothing_more None = tt
 nothing_more (Some xs) = sym (append-nil xs)
-
--- What is left of a script behind a line.
-abbrev pub lines_left : Option (List ℕ) → List (List ℕ)
-lines_left None = []
-lines_left (Some rest) = lines rest
-
-abbrev pub room : Option (List ℕ) → ℕ
-room None = 0
-room (Some rest) = suc (length rest)
-
-pub cut_lines : (text line : List ℕ) (behind : Option (List ℕ)) → MatchOption (position is_feed text) ((line ≡ text) × (behind ≡ None)) (λ _. (line ≡ before_first is_feed text) × (behind ≡ Some (after_first is_feed text))) → lines text ≡ strip_carriage_return line ∷ lines_left behind
-cut_lines text line behind h = go (nat_lt (position_or_len is_feed text) (length text)) refl h
-  where
-    go : (b : Bool) → nat_lt (position_or_len is_feed text) (length text) ≡ b → MatchOption (cond b (Some (position_or_len is_feed text)) None) ((line ≡ text) × (behind ≡ None)) (λ _. (line ≡ before_first is_feed text) × (behind ≡ Some (after_first is_feed text))) → lines text ≡ strip_carriage_return line ∷ lines_left behind
-    go true e is = (let inside : position_or_len is_feed text < length text = grind (arith, nat_tests, e) in rw (is.0, is.1) (ap (map strip_carriage_return) (slice_split_first is_feed text 0 inside)))
-    go false e is = rw (is.0, is.1) (ap (map strip_carriage_return) (split_none is_feed text e))
 
 pub appends_more : (a b c : Option (List ℕ)) (x y : List ℕ) → Appends a b x → Appends b c y → Appends a c (x ++ y)
 appends_more None b c x y p q = tt
@@ -96,10 +78,3 @@ module _ {I S : Type 0} {i : index.Ghosts I} {s : store.Ghosts S} (origins : Lis
   stops_all number line left whole out out_now out_after before now after e h none same keeps begun kept =
       let here = h begun kept in
       (here.0, run_stops origins begun all number line left whole out out_now out_after here.0 e here.1 none keeps, subst (λ (p : Primary I S i s). IsKept p here.0) (sym same) here.2)
-
-pub less_room : (text line : List ℕ) (behind : Option (List ℕ)) → MatchOption (position is_feed text) ((line ≡ text) × (behind ≡ None)) (λ _. (line ≡ before_first is_feed text) × (behind ≡ Some (after_first is_feed text))) → room behind ≤ length text
-less_room text line behind h = go (nat_lt (position_or_len is_feed text) (length text)) refl h
-  where
-    go : (b : Bool) → nat_lt (position_or_len is_feed text) (length text) ≡ b → MatchOption (cond b (Some (position_or_len is_feed text)) None) ((line ≡ text) × (behind ≡ None)) (λ _. (line ≡ before_first is_feed text) × (behind ≡ Some (after_first is_feed text))) → room behind ≤ length text
-    go true e is = (let inside : position_or_len is_feed text < length text = grind (arith, nat_tests, e) in rw (is.1) (omega (arith, length-drop (position_or_len is_feed text + 1) text, inside)))
-    go false e is = rw (is.1) (omega arith)

@@ -11,7 +11,7 @@ ghost use Rattle.dns_script.specs.Lines.{lines};
 ghost use Rattle.dns_server.specs.Scripts.{IsNoCommand, RunsInto, event_of, peer_of, printed_effects, printed_noted, printed_number, printed_reply, printed_to};
 ghost use Rattle.dns_server.specs.Runs.{RanCommand, RanLine, RanScript, replies_out};
 
-use dns_script::{Command, cut_at_feed, read_command, without_return};
+use dns_script::{Command, read_command, split_line};
 use dns_memory::Heap;
 use dns_names::Name;
 use dns_policy::print_address;
@@ -205,8 +205,8 @@ pub fn run_script<I: ZoneIndex, S: ZoneStore, W: Write>(
     let mut number: u64 = 1;
     let mut rest = Some(script);
     'lines: while let Some(text) = rest {
-        let (line, behind) = cut_at_feed(text);
-        match run_line(alloc, primary, origins, without_return(line), out) {
+        let (line, behind) = split_line(text);
+        match run_line(alloc, primary, origins, line, out) {
             Ok(true) => {}
             Ok(false) => return Ending::Syntax(number),
             Err(_) => return Ending::Failed,

@@ -84,13 +84,13 @@ fn lean_left(
             ..
         } = &**middle;
         if *height > first.height() {
-            let left = fork(alloc, first.again()?, head.clone()?, second.again()?)?;
-            let right = fork(alloc, third.again()?, node, right)?;
+            let left = fork(alloc, first.share()?, head.clone()?, second.share()?)?;
+            let right = fork(alloc, third.share()?, node, right)?;
             return fork(alloc, left, top.clone()?, right);
         }
     }
-    let right = fork(alloc, inner.again()?, node, right)?;
-    fork(alloc, first.again()?, head.clone()?, right)
+    let right = fork(alloc, inner.share()?, node, right)?;
+    fork(alloc, first.share()?, head.clone()?, right)
 }
 
 /// The same, turned to the left where the right side is too high.
@@ -119,13 +119,13 @@ fn lean_right(
             ..
         } = &**middle;
         if *height > last.height() {
-            let left = fork(alloc, left, node, second.again()?)?;
-            let right = fork(alloc, third.again()?, head.clone()?, last.again()?)?;
+            let left = fork(alloc, left, node, second.share()?)?;
+            let right = fork(alloc, third.share()?, head.clone()?, last.share()?)?;
             return fork(alloc, left, top.clone()?, right);
         }
     }
-    let left = fork(alloc, left, node, inner.again()?)?;
-    fork(alloc, left, head.clone()?, last.again()?)
+    let left = fork(alloc, left, node, inner.share()?)?;
+    fork(alloc, left, head.clone()?, last.share()?)
 }
 
 /// The children of both, where those of the first stand before those of the second.
@@ -135,10 +135,10 @@ pub(crate) fn joined(alloc: Heap, left: &Children, right: &Children) -> Result<C
     ensures kept { IfOk result (λ children. AreChildren (items children)) }
 {
     match right {
-        Children::Empty => left.again(),
+        Children::Empty => left.share(),
         Children::Fork(branch) => {
             let (first, rest) = branch.first(alloc)?;
-            balanced(alloc, left.again()?, first, rest)
+            balanced(alloc, left.share()?, first, rest)
         }
     }
 }

@@ -67,8 +67,8 @@ impl Children {
         }
     }
 
-    /// The same again.
-    pub(crate) fn again(&self) -> Result<Children, AllocError>
+    /// The same children, shared.
+    pub(crate) fn share(&self) -> Result<Children, AllocError>
         ensures { IfOk result (λ children. items children ≡ items self.now) }
     {
         match self {
@@ -97,12 +97,12 @@ impl Children {
                         alloc,
                         left.put(alloc, node)?,
                         middle.clone()?,
-                        right.again()?,
+                        right.share()?,
                     ),
-                    Ordering::Equal => fork(alloc, left.again()?, node, right.again()?),
+                    Ordering::Equal => fork(alloc, left.share()?, node, right.share()?),
                     Ordering::Greater => balanced(
                         alloc,
-                        left.again()?,
+                        left.share()?,
                         middle.clone()?,
                         right.put(alloc, node)?,
                     ),
@@ -150,12 +150,12 @@ impl Children {
                         alloc,
                         left.without(alloc, label)?,
                         middle.clone()?,
-                        right.again()?,
+                        right.share()?,
                     ),
                     Ordering::Equal => joined(alloc, left, right),
                     Ordering::Greater => balanced(
                         alloc,
-                        left.again()?,
+                        left.share()?,
                         middle.clone()?,
                         right.without(alloc, label)?,
                     ),
@@ -177,10 +177,10 @@ impl Branch {
             ..
         } = self;
         match left {
-            Children::Empty => Ok((node.clone()?, right.again()?)),
+            Children::Empty => Ok((node.clone()?, right.share()?)),
             Children::Fork(branch) => {
                 let (first, rest) = branch.first(alloc)?;
-                let rest = balanced(alloc, rest, node.clone()?, right.again()?)?;
+                let rest = balanced(alloc, rest, node.clone()?, right.share()?)?;
                 Ok((first, rest))
             }
         }

@@ -73,7 +73,7 @@ fn next<'n, 's>(
         Some(child) => {
             let owned = child.records();
             if is_cut(apex, name, owned) {
-                return Reached::Cut(name.again(), owned);
+                return Reached::Cut(name.reborrow(), owned);
             }
             Reached::There(child)
         }

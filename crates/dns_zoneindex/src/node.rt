@@ -187,7 +187,7 @@ impl Node {
             children,
         } = self;
         match path.split_first() {
-            None => Node::kept(alloc, own.as_slice(), records, children.again()?),
+            None => Node::kept(alloc, own.as_slice(), records, children.share()?),
             Some((label, rest)) => {
                 let child = match children.find(label) {
                     Some(child) => child.with_records(alloc, rest, records)?,

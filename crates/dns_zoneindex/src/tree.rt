@@ -54,7 +54,7 @@ impl Tree {
         Tree { root: Root::Empty }
     }
 
-    /// The same again, its nodes shared.
+    /// The same children, shared. its nodes shared.
     pub(crate) fn fork(&self) -> Result<Tree, AllocError>
         ensures { IfOk result (λ tree. tree ≡ self.now) }
     {

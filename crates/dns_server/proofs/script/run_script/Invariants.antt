@@ -1,7 +1,7 @@
 use Rattle.std.proofs.Common.{◌+◌, ◌≤◌, length}
 use Rattle.std.specs.Option.{option_copied}
-use Rattle.dns_script.specs.Lines.{lines}
-use Rattle.dns_server.proofs.Running.{AreRunUpTo, lines_left, room}
+use Rattle.dns_script.specs.Lines.{lines, lines_left, room}
+use Rattle.dns_server.proofs.Running.{AreRunUpTo}
 use Rattle.dns_server.proofs.script.run_script.Given as goal
 
 abbrev pub invariant-lines : goal.invariant-lines

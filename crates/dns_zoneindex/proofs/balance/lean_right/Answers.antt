@@ -8,16 +8,16 @@ fork-requires c =
     let inner = ap items c.in-Fork.is ∙ sym c.deref.ensures ∙ sym c.deref-in-Fork.view_is in
     let all = subst (λ k. AreChildren (items c.args.left ++ c.args.node.value ∷ k)) (sym c.branch.view_is) c.requires in
     let one = subst (λ k. AreChildren (items c.args.left ++ c.args.node.value ∷ k)) inner (right_front _ _ _ _ _ all) in
-    subst AreChildren (sym (three refl refl c.in_ok-again.ensures)) (right_front _ _ _ _ _ one)
+    subst AreChildren (sym (three refl refl c.in_ok-share.ensures)) (right_front _ _ _ _ _ one)
 
 pub fork-requires-then-height : goal.fork-requires-then-height
 fork-requires-then-height c =
     let inner = ap items c.in-Fork.is ∙ sym c.deref.ensures ∙ sym c.deref-in-Fork.view_is in
     let branch = sym c.branch.view_is ∙ three inner refl refl in
     let all = subst (λ k. AreChildren (items c.args.left ++ c.args.node.value ∷ k)) branch c.requires in
-    subst AreChildren (sym (three c.in_ok-again-2.ensures c.in_ok-clone.ensures.cases c.in_ok-again-3.ensures)) (left_back _ _ _ _ _ (right_back _ _ _ all))
+    subst AreChildren (sym (three c.in_ok-share-2.ensures c.in_ok-clone.ensures.cases c.in_ok-share-3.ensures)) (left_back _ _ _ _ _ (right_back _ _ _ all))
 
 pub fork-requires-2 : goal.fork-requires-2
 fork-requires-2 c =
     let all = subst (λ k. AreChildren (items c.args.left ++ c.args.node.value ∷ k)) (sym c.branch.view_is) c.requires in
-    subst AreChildren (sym (three refl refl c.in_ok-again-4.ensures)) (right_front _ _ _ _ _ all)
+    subst AreChildren (sym (three refl refl c.in_ok-share-4.ensures)) (right_front _ _ _ _ _ all)

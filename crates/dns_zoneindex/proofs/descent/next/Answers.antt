@@ -16,7 +16,7 @@ returns-then-is_cut c = λ es at_owner order is led.
     let child_is = down name c.args.above c.args.label.now es c.args.node.now.own child is led.own_is c.in-Some.ensures.found in
     let held = owned name es child rs (owned_from es at_owner) child_is c.records-owned.ensures.own in
     let cuts : cuts_at (zone_of apex es) name ≡ true = sym (c.is_cut.ensures (records_of es) order held) ∙ c.if-is_cut.true in
-    subst (λ n. EndsAtCut (zone_of apex es) name n rs) (sym c.again.ensures) (to_cut apex es name c.args.above c.args.label.now c.args.node.now.own rs is led held cuts)
+    subst (λ n. EndsAtCut (zone_of apex es) name n rs) (sym c.reborrow.ensures) (to_cut apex es name c.args.above c.args.label.now c.args.node.now.own rs is led held cuts)
 
 pub returns-else-is_cut : goal.returns-else-is_cut
 returns-else-is_cut c = λ es at_owner order is led.

@@ -11,12 +11,12 @@ use Rattle.dns_zoneindex.proofs.Set.{set-here, set-below}
 use Rattle.dns_zoneindex.proofs.node.Node.+with_records.Goals as goal
 use Rattle.dns_zoneindex.proofs.node.Node.+with_records.Goals.{in-Some-find+in_ok-child-in-Some-find, in-None-find+in_ok-child-in-None-find}
 
-pub returns-in_ok-again-in-None-clause-set : goal.returns-in_ok-again-in-None-clause-set
-returns-in_ok-again-in-None-clause-set t c =
+pub returns-in_ok-share-in-None-clause-set : goal.returns-in_ok-share-in-None-clause-set
+returns-in_ok-share-in-None-clause-set t c =
     let i = c.self.inside in
     let rs = c.args.records.value.items in
     let e = set-here c.args.path.now i.records.value.items rs (items i.children) c.in-None.ensures.cases in
-    if_ok c.kept.result (λ o m. m ∙ ap (λ z. map here rs ++ flat z) c.in_ok-again-in-None.ensures ∙ e ∙ ap (λ x. set_at (labels_in c.args.path.now) rs x.own) c.self.view_is) c.kept.ensures.set
+    if_ok c.kept.result (λ o m. m ∙ ap (λ z. map here rs ++ flat z) c.in_ok-share-in-None.ensures ∙ e ∙ ap (λ x. set_at (labels_in c.args.path.now) rs x.own) c.self.view_is) c.kept.ensures.set
 
 pub replaced-requires-clause-label : goal.replaced-requires-clause-label
 replaced-requires-clause-label t c =
