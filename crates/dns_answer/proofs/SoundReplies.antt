@@ -47,12 +47,12 @@ first_part (x ∷ xs) ys h = (h.0, first_part xs ys h.1)
 module _ (long : (r : Reply) → 12 + 10 * (length r.answer + length r.authority + length r.additional) ≤ length (text r)) where
   short_is : (r : Reply) → IsSoundReply r → length (text r) ≤ 65535 → IsTextOf (text r)
   short_is r h short =
-    let most = long r in
-    (r, record { id = h.id; opcode = h.opcode; rcode = h.rcode; question = h.question; answer = omega arith; authority = omega arith; additional = omega arith; records = h.records }, refl)
+      let most = long r in
+      (r, record { id = h.id; opcode = h.opcode; rcode = h.rcode; question = h.question; answer = omega arith; authority = omega arith; additional = omega arith; records = h.records }, refl)
 
   bare_is : (r : Reply) → IsSoundReply r → r.answer ≡ [] → r.authority ≡ [] → r.additional ≡ [] → IsTextOf (text r)
   bare_is r h a b c =
-    (r, record { id = h.id; opcode = h.opcode; rcode = h.rcode; question = h.question; answer = none r.answer a; authority = none r.authority b; additional = none r.additional c; records = h.records }, refl)
+      (r, record { id = h.id; opcode = h.opcode; rcode = h.rcode; question = h.question; answer = none r.answer a; authority = none r.authority b; additional = none r.additional c; records = h.records }, refl)
     where
       none : (xs : List Record) → xs ≡ [] → length xs < 2 ^ 16
       none [] e = omega arith
@@ -141,11 +141,11 @@ module _ (long : (r : Reply) → 12 + 10 * (length r.answer + length r.authority
 
       question_is : IsValidFor (question_as m q)
       question_is =
-        either (m.header.opcode == opcode_update) (request.Update m q) _ tt
-        (either (q.qtype == type_ixfr || q.qtype == type_axfr) (request.Transfer m q) _ tt
-        (either (q.qtype == type_mailb || q.qtype == type_maila) (request.NotServed m q rcode_notimp) _ (not_served rcode_notimp (omega arith))
-        (either (not (q.qclass == class_in)) (request.NotServed m q rcode_refused) (request.Query m q) (not_served rcode_refused (omega arith))
-        (fitted_is transport (answered zones octets m q) answered_is))))
+          either (m.header.opcode == opcode_update) (request.Update m q) _ tt
+          (either (q.qtype == type_ixfr || q.qtype == type_axfr) (request.Transfer m q) _ tt
+          (either (q.qtype == type_mailb || q.qtype == type_maila) (request.NotServed m q rcode_notimp) _ (not_served rcode_notimp (omega arith))
+          (either (not (q.qclass == class_in)) (request.NotServed m q rcode_refused) (request.Query m q) (not_served rcode_refused (omega arith))
+          (fitted_is transport (answered zones octets m q) answered_is))))
 
     formerr : IsValidFor (request.Refused rcode_formerr)
     formerr = refused_is rcode_formerr (omega arith)
@@ -161,6 +161,6 @@ module _ (long : (r : Reply) → 12 + 10 * (length r.answer + length r.authority
 
     pub request_is : (read : Option Message) → IfSome read (λ m. (m.header ≡ header_of octets) × ((q : Question) → m.questions ≡ q ∷ [] → IsEchoed (echo_of octets q))) → IsValidFor (request_as octets transport read)
     request_is read h =
-      either (nat_lt (length octets) 12 || (header_of octets).qr) request.Ignored _ tt
-      (either (not ((header_of octets).opcode == opcode_query || (header_of octets).opcode == opcode_update)) (request.Refused rcode_notimp) _ (refused_is rcode_notimp (omega arith))
-      (either (too_long transport octets) (request.Refused rcode_formerr) (read_as read) formerr (read_is read h)))
+        either (nat_lt (length octets) 12 || (header_of octets).qr) request.Ignored _ tt
+        (either (not ((header_of octets).opcode == opcode_query || (header_of octets).opcode == opcode_update)) (request.Refused rcode_notimp) _ (refused_is rcode_notimp (omega arith))
+        (either (too_long transport octets) (request.Refused rcode_formerr) (read_as read) formerr (read_is read h)))

@@ -127,7 +127,7 @@ module _ (before after : List Record) (c : Change) (hb : Sorted before) (ha : So
     | inr i ↦
         (let passes : goes a ≡ true = ap (λ b. not b && not (contains after a)) i ∙ ap not f in
         let there : contains c.removed a ≡ true =
-            subst (λ xs. contains xs a ≡ true) (sym h.removed) (contains_filter a goes before e passes) in
+        subst (λ xs. contains xs a ≡ true) (sym h.removed) (contains_filter a goes before e passes) in
         ap not (later (same a c.old_soa) (contains c.removed a) there))
   ]
     where
@@ -186,7 +186,7 @@ module _ (before after : List Record) (c : Change) (hb : Sorted before) (ha : So
             (let is = one_is after c.new_soa b h.new_soa there.1 i in
             let t : ties q c.new_soa ≡ true = subst (λ r. ties q r ≡ true) is there.0 in
             ap (λ d. or_else (cond d (Some c.new_soa) (only comes (Some b))) (only stays y)) t
-                ∙ ap (λ (r : Record). Some r) (sym is))
+            ∙ ap (λ (r : Record). Some r) (sym is))
         | inr i ↦
             (let t : ties q c.new_soa ≡ false = elim (told (ties q c.new_soa)) [
               | inr g ↦ g
@@ -206,7 +206,7 @@ module _ (before after : List Record) (c : Change) (hb : Sorted before) (ha : So
   same_found q =
       found_united q (removed_from before (c.old_soa ∷ c.removed)) (c.new_soa ∷ c.added)
       ∙ ap (λ x. or_else (cond (ties q c.new_soa) (Some c.new_soa) x) (found q (removed_from before (c.old_soa ∷ c.removed))))
-          (ap (found q) h.added ∙ found_filter q comes after ha)
+      (ap (found q) h.added ∙ found_filter q comes after ha)
       ∙ ap (or_else (cond (ties q c.new_soa) (Some c.new_soa) (only comes (found q after)))) (found_filter q stays before hb)
       ∙ at_key q (found q after) (found q before) refl refl
 
@@ -236,7 +236,7 @@ module _ (before after : List Record) (c : Change) (hb : Sorted before) (ha : So
                   let three = contains_found r after ha new.1 in
                   let is : a ≡ r = cc in
                   apart (contains before r) (subst (λ x. contains before x ≡ true) is there.1)
-                      (not_true (contains before r) both.1))
+                  (not_true (contains before r) both.1))
             ])
       ] in
       ap (λ b. cond b (Some a) None) (lost a there.1 out)
@@ -259,17 +259,17 @@ module _ (before after : List Record) (c : Change) (hb : Sorted before) (ha : So
   fits_is =
       let old : contains before c.old_soa ≡ true = (one_in before c.old_soa h.old_soa).1 in
       let removes : list_all (contains before) c.removed ≡ true =
-          all_of (contains before) c.removed (λ r e. (filter_contains r goes before
-          (subst (λ xs. contains xs r ≡ true) h.removed e)).1) in
+      all_of (contains before) c.removed (λ r e. (filter_contains r goes before
+      (subst (λ xs. contains xs r ≡ true) h.removed e)).1) in
       let adds : list_any (λ r. has r (removed_from before (c.old_soa ∷ c.removed))) (c.new_soa ∷ c.added) ≡ false =
       none_of (λ r. has r (removed_from before (c.old_soa ∷ c.removed))) (c.new_soa ∷ c.added)
       (λ r e. unfound r (removed_from before (c.old_soa ∷ c.removed)) (found_filter r stays before hb
-          ∙ absent_at r (found r before) e refl)) in
+      ∙ absent_at r (found r before) e refl)) in
       let going : are_present before (c.old_soa ∷ c.removed) ≡ true = λ i. (old i && removes i) && not (gone_once i) in
       let coming : are_new (removed_from before (c.old_soa ∷ c.removed)) (c.new_soa ∷ c.added) ≡ true = λ i. not (adds i)
-          && not (come_once i) in
+      && not (come_once i) in
       λ i. if not (old i) then Some WrongSoa else if not (going i) then Some RemovesAbsent
-          else if not (coming i) then Some AddsPresent else None
+      else if not (coming i) then Some AddsPresent else None
 
 pub change_leads : ChangeLeads
 change_leads before after c ob oa h = record {

@@ -28,8 +28,7 @@ impl Model for Change {
 
     ghost view = { λ c. record { old_soa = c.old_soa; removed = c.removed.items; new_soa = c.new_soa; added = c.added.items } };
 
-    ghost invariant =
-        { λ c. AreFew c.removed.items c.added.items
+    ghost invariant = { λ c. AreFew c.removed.items c.added.items
         × (is_formed (record { old_soa = c.old_soa; removed = c.removed.items; new_soa = c.new_soa; added = c.added.items })
         ≡ true) };
 }

@@ -64,7 +64,7 @@ abbrev pub root_octets : Root → List ℕ
 root_octets r =
     sector_of root_tag r.open_count r.base (bank_number r.bank)
     (big_bytes 8 r.bank_open
-        ++ (big_bytes 4 r.snapshot_length ++ (big_bytes 4 r.snapshot_room ++ (big_bytes 4 r.journal_room ++ apex_octets r.apex))))
+    ++ (big_bytes 4 r.snapshot_length ++ (big_bytes 4 r.snapshot_room ++ (big_bytes 4 r.journal_room ++ apex_octets r.apex))))
 
 -- why a sector is refused as a root: another tag, a bank above 1, or no name with nothing but zeros behind it
 abbrev pub RootRefused : List ℕ → LayoutError → Type 0

@@ -23,8 +23,7 @@ impl Model for Apex {
 
     ghost view = { λ apex. take apex.len apex.field };
 
-    ghost invariant =
-        { λ apex. IsPlain (take apex.len apex.field) × (drop apex.len apex.field ≡ replicate (468 - apex.len) 0)
+    ghost invariant = { λ apex. IsPlain (take apex.len apex.field) × (drop apex.len apex.field ≡ replicate (468 - apex.len) 0)
         × (apex.len ≤ 255) };
 }
 

@@ -22,7 +22,7 @@ records_found records kinds.NameError node t = []
 abbrev pub Lends : List Zone → ℕ → Found → Type 0
 Lends zones t returned =
     (z : Zone) → slice_get zones returned.zone ≡ Some z → returned.records.now
-        ≡ records_found z.records returned.kind returned.node t
+    ≡ records_found z.records returned.kind returned.node t
 
 -- Those of all of them.
 abbrev pub AllLend : List Zone → ℕ → List Found → Type 0

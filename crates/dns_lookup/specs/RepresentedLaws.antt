@@ -51,5 +51,9 @@ represented_at zones (f ∷ fs) (t ∷ returned) zero one h inside e =
 represented_at zones (f ∷ fs) (t ∷ returned) (suc i) one h inside e =
     let rest = represented_at zones fs returned i one h.1 (omega (arith, inside)) e in
     let up : suc i + 1 ≡ suc (i + 1) = omega arith in
-    record { found = rest.found; is = rest.is; next = ap (λ (n : ℕ). take n (f ∷ fs)) up
-        ∙ ap (λ (xs : List lookup.Found). f ∷ xs) rest.next }
+    record {
+      found = rest.found;
+      is = rest.is;
+      next = ap (λ (n : ℕ). take n (f ∷ fs)) up
+          ∙ ap (λ (xs : List lookup.Found). f ∷ xs) rest.next;
+    }

@@ -21,10 +21,9 @@ mod words;
 mod zone;
 
 pub use read::read_zone;
-pub use values::number;
 use std::alloc::{AllocError, AllocFailed};
-pub use zone::print_zone;
 use thiserror::Error;
+pub use zone::print_zone;
 
 /// Why a master file is refused.
 #[derive(Clone, Copy, Debug, Error, PartialEq, Eq)]

@@ -63,8 +63,7 @@ impl fmt::Display for MxWords<'_> {
 struct SrvWords<'a>(&'a Srv<'a>);
 
 impl fmt::Display for SrvWords<'_> {
-    ghost output =
-        { λ s. Some (spaced (decimal s.0.now.priority ∷ decimal s.0.now.weight ∷ decimal s.0.now.port ∷ printed_name s.0.now.target
+    ghost output = { λ s. Some (spaced (decimal s.0.now.priority ∷ decimal s.0.now.weight ∷ decimal s.0.now.port ∷ printed_name s.0.now.target
         ∷ [])) };
 
     fn fmt<W: fmt::Write>(&self, f: &mut fmt::Formatter<W>) -> fmt::Result {
@@ -79,8 +78,7 @@ impl fmt::Display for SrvWords<'_> {
 struct SoaWords<'a>(&'a Soa<'a>);
 
 impl fmt::Display for SoaWords<'_> {
-    ghost output =
-        { λ s. Some (spaced (printed_name s.0.now.mname ∷ printed_name s.0.now.rname ∷ decimal s.0.now.serial
+    ghost output = { λ s. Some (spaced (printed_name s.0.now.mname ∷ printed_name s.0.now.rname ∷ decimal s.0.now.serial
         ∷ decimal s.0.now.refresh ∷ decimal s.0.now.retry ∷ decimal s.0.now.expire ∷ decimal s.0.now.minimum ∷ [])) };
 
     fn fmt<W: fmt::Write>(&self, f: &mut fmt::Formatter<W>) -> fmt::Result {

@@ -38,8 +38,8 @@ pub(crate) fn is_decimal(text: &[u8]) -> bool
     }
 }
 
-/// The number below 2^32 that the text is, in decimal digits (RFC 1035 section 5.1).
-pub fn number(text: &[u8]) -> Option<u32>
+/// The number below 2^32 that the text is, in decimal digits.
+pub(crate) fn number(text: &[u8]) -> Option<u32>
     ensures { result ≡ number_of_text (2 ^ 32) text.now }
 {
     if !is_decimal(text) {

@@ -42,7 +42,7 @@ same_plain p q h k =
 pub same_plain-labels : (p q : List ℕ) → IsPlain p → IsPlain q → pointwise ◌==◌ p q ≡ names_eq (labels_of p) (labels_of q)
 same_plain-labels p q h k =
     one_answer {P = labels_of p ≡ labels_of q} (pointwise ◌==◌ p q) (names_eq (labels_of p) (labels_of q)) (same_plain p q h k)
-        (names_eq-Decides (labels_of p) (labels_of q))
+    (names_eq-Decides (labels_of p) (labels_of q))
 
 reversed_once : (a b : Labels) → reverse a ≡ reverse b → a ≡ b
 reversed_once a b e = sym (reverse-reverse a) ∙ ap reverse e ∙ reverse-reverse b
@@ -51,7 +51,7 @@ same_reversed : (a b : Labels) → names_eq a b ≡ names_eq (reverse a) (revers
 same_reversed a b =
     let d = names_eq-Decides (reverse a) (reverse b) in
     one_answer {P = a ≡ b} (names_eq a b) (names_eq (reverse a) (reverse b)) (names_eq-Decides a b)
-        (λ t. reversed_once a b (d.0 t), λ e. d.1 (ap reverse e))
+    (λ t. reversed_once a b (d.0 t), λ e. d.1 (ap reverse e))
 
 pub name_cmp-total : IsTotalOrder name_cmp
 name_cmp-total = on_total reverse (lists_total nat_list_cmp_total)

@@ -36,9 +36,9 @@ pub same_data-Decides : (a b : Data) → Decides (same_data a b) (a ≡ b)
 same_data-Decides a b = (
   λ t.
       ap (λ (k : ℕ). made k a.octets) (eqb-true a.rtype b.rtype (first_so (a.rtype == b.rtype) (pointwise ◌==◌ a.octets b.octets)
-          t))
+      t))
       ∙ ap (made b.rtype) ((bytes_decides a.octets b.octets).0 (second_so (a.rtype == b.rtype) (pointwise ◌==◌ a.octets b.octets)
-          t)),
+      t)),
   λ e. ap (same_data a) (sym e) ∙ same_data-equiv.refl a,
 )
 
@@ -69,10 +69,10 @@ same_record-Decides a b = (
   λ t.
       let front = first_so (names_eq a.owner b.owner && a.ttl == b.ttl) (same_data (data_of a) (data_of b)) t in
       ap (λ (n : Labels). joined n a.ttl (data_of a)) ((names_eq-Decides a.owner b.owner).0
-          (first_so (names_eq a.owner b.owner) (a.ttl == b.ttl) front))
+      (first_so (names_eq a.owner b.owner) (a.ttl == b.ttl) front))
       ∙ ap (λ (k : ℕ). joined b.owner k (data_of a)) (eqb-true a.ttl b.ttl
-          (second_so (names_eq a.owner b.owner) (a.ttl == b.ttl) front))
+      (second_so (names_eq a.owner b.owner) (a.ttl == b.ttl) front))
       ∙ ap (joined b.owner b.ttl) ((same_data-Decides (data_of a) (data_of b)).0
-          (second_so (names_eq a.owner b.owner && a.ttl == b.ttl) (same_data (data_of a) (data_of b)) t)),
+      (second_so (names_eq a.owner b.owner && a.ttl == b.ttl) (same_data (data_of a) (data_of b)) t)),
   λ e. ap (same_record a) (sym e) ∙ same_record-equiv.refl a,
 )

@@ -30,10 +30,10 @@ data_step false t k fields others e is h known = h known
 pub known_is_data : (t : ℕ) → is_known t ≡ true → is_data_type t ≡ true
 known_is_data t =
     data_step (t == 1) t 1 _ _ refl refl (data_step (t == 2) t 2 _ _ refl refl
-        (data_step (t == 5) t 5 _ _ refl refl (data_step (t == 6) t 6 _ _ refl refl
-        (data_step (t == 12) t 12 _ _ refl refl (data_step (t == 15) t 15 _ _ refl refl
-        (data_step (t == 16) t 16 _ _ refl refl (data_step (t == 28) t 28 _ _ refl refl
-        (data_step (t == 33) t 33 _ _ refl refl (λ h. absurd cc)))))))))
+    (data_step (t == 5) t 5 _ _ refl refl (data_step (t == 6) t 6 _ _ refl refl
+    (data_step (t == 12) t 12 _ _ refl refl (data_step (t == 15) t 15 _ _ refl refl
+    (data_step (t == 16) t 16 _ _ refl refl (data_step (t == 28) t 28 _ _ refl refl
+    (data_step (t == 33) t 33 _ _ refl refl (λ h. absurd cc)))))))))
 
 pub formed_is_data : (t : ℕ) (fields : List Field) → form t ≡ Some fields → is_data_type t ≡ true
 formed_is_data t fields f = known_is_data t (ap is_some f)
@@ -110,19 +110,23 @@ soa_data-valid soa m r =
     let first_short : length first ≤ 255 = m.short in
     let second_short : length second ≤ 255 = r.short in
     let last : AreFields (Values (U32 ∷ U32 ∷ U32 ∷ U32 ∷ U32 ∷ []) ∷ []) numbers =
-        (numbers, [], sym (append-nil numbers), refl, refl) in
-    let parts : AreFields (Name ∷ Name ∷ Values (U32 ∷ U32 ∷ U32 ∷ U32 ∷ U32 ∷ []) ∷ []) (first ++ second ++ numbers) =
-    (first, second ++ numbers, append_assoc first second numbers, (soa.mname, m, refl),
-        (second, numbers, refl, (soa.rname, r, refl), last)) in
+    (numbers, [], sym (append-nil numbers), refl, refl) in
+    let parts : AreFields (Name ∷ Name ∷ Values (U32 ∷ U32 ∷ U32 ∷ U32 ∷ U32 ∷ []) ∷ []) (first ++ second ++ numbers) = (
+      first,
+      second ++ numbers,
+      append_assoc first second numbers,
+      (soa.mname, m, refl),
+      (second, numbers, refl, (soa.rname, r, refl), last),
+    ) in
     let number = number_octets w32 in
     let fit : AllByRecursion (λ octet. octet < 256) numbers =
     octets-append (to_be_bytes w32 soa.serial ++ to_be_bytes w32 soa.refresh ++ to_be_bytes w32 soa.retry
-        ++ to_be_bytes w32 soa.expire) (to_be_bytes w32 soa.minimum)
+    ++ to_be_bytes w32 soa.expire) (to_be_bytes w32 soa.minimum)
     (octets-append (to_be_bytes w32 soa.serial ++ to_be_bytes w32 soa.refresh ++ to_be_bytes w32 soa.retry)
-        (to_be_bytes w32 soa.expire)
+    (to_be_bytes w32 soa.expire)
     (octets-append (to_be_bytes w32 soa.serial ++ to_be_bytes w32 soa.refresh) (to_be_bytes w32 soa.retry)
     (octets-append (to_be_bytes w32 soa.serial) (to_be_bytes w32 soa.refresh) (number soa.serial) (number soa.refresh))
-        (number soa.retry)) (number soa.expire)) (number soa.minimum) in
+    (number soa.retry)) (number soa.expire)) (number soa.minimum) in
     record {
       rtype = refl;
       octets =
@@ -153,11 +157,11 @@ srv_data-valid srv valid =
     let name_short : length name ≤ 255 = valid.short in
     let last : AreFields (UncompressedName ∷ []) name = (name, [], sym (append-nil name), (srv.target, valid, refl), refl) in
     let parts : AreFields (Values (U16 ∷ U16 ∷ U16 ∷ []) ∷ UncompressedName ∷ []) (numbers ++ name) =
-        (numbers, name, refl, refl, last) in
+    (numbers, name, refl, refl, last) in
     let number = number_octets w16 in
     let fit = octets-append (to_be_bytes w16 srv.priority ++ to_be_bytes w16 srv.weight) (to_be_bytes w16 srv.port)
-        (octets-append (to_be_bytes w16 srv.priority) (to_be_bytes w16 srv.weight) (number srv.priority) (number srv.weight))
-        (number srv.port) in
+    (octets-append (to_be_bytes w16 srv.priority) (to_be_bytes w16 srv.weight) (number srv.priority) (number srv.weight))
+    (number srv.port) in
     record {
       rtype = refl;
       octets = octets-append numbers name fit (wire_octets srv.target valid.labels);
@@ -201,8 +205,8 @@ chosen false f g h k = k
 forms_last : (t : ℕ) → IfSome (form t) StringsLast
 forms_last t =
     chosen (t == type_a) _ _ tt (chosen (t == type_ns) _ _ tt (chosen (t == type_cname) _ _ tt
-        (chosen (t == type_soa) _ _ tt (chosen (t == type_ptr) _ _ tt (chosen (t == type_mx) _ _ tt
-        (chosen (t == type_txt) _ _ tt (chosen (t == type_aaaa) _ _ tt (chosen (t == type_srv) _ _ tt tt))))))))
+    (chosen (t == type_soa) _ _ tt (chosen (t == type_ptr) _ _ tt (chosen (t == type_mx) _ _ tt
+    (chosen (t == type_txt) _ _ tt (chosen (t == type_aaaa) _ _ tt (chosen (t == type_srv) _ _ tt tt))))))))
 
 pub form_last : (t : ℕ) (fields : List Field) → form t ≡ Some fields → StringsLast fields
 form_last t fields e = let h : IfSome (Some fields) StringsLast =

@@ -31,7 +31,7 @@ name_of d = if is_name_type d.rtype then Some (labels_of d.octets) else None
 abbrev pub soa_numbers : Soa → List ℕ
 soa_numbers soa =
     to_be_bytes w32 soa.serial ++ to_be_bytes w32 soa.refresh ++ to_be_bytes w32 soa.retry ++ to_be_bytes w32 soa.expire
-        ++ to_be_bytes w32 soa.minimum
+    ++ to_be_bytes w32 soa.minimum
 
 abbrev pub soa_data : Soa → Data
 soa_data soa = record { rtype = type_soa; octets = wire soa.mname ++ wire soa.rname ++ soa_numbers soa }

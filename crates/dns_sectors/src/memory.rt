@@ -118,8 +118,13 @@ impl MemorySectors {
     /// empty, and has the same room.
     pub fn crash(self, keep: Keep) -> MemorySectors
         ensures kept { result
-            ≡ record { start = applied (kept keep.entry 1 (disk_of self).pending) (disk_of self).durable; calls = []; room =
-                self.room; failures = self.failures } }
+            ≡ record {
+              start = applied (kept keep.entry 1 (disk_of self).pending) (disk_of self).durable;
+              calls = [];
+              room =
+                  self.room;
+              failures = self.failures;
+            } }
         ensures outcome { MayBeLeft (disk_of self) result.start }
     {
         let MemorySectors {

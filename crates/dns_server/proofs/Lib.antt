@@ -5,4 +5,5 @@ pub mod Replayed
 pub mod Running
 pub mod Soas
 pub mod Unread
+pub mod Words
 pub mod Zipped

@@ -1,6 +1,6 @@
 -- How a run of a script over the zones of a configuration ends.
-use Rattle.std.proofs.Common.{◌≡◌, ℕ, zero, suc, ◌<◌, ◌+◌, Bool, true, false, inl, inr, List, [], ◌∷◌, ◌++◌, length, take, drop, get_or, Option, Result, Ok, Err, IfOk, refl, sym, ap, subst, ◌∙◌, arith}
-use Rattle.std.specs.Prelude.{◌⊎◌, ◌↔◌, IsTrue, bytes_eq, if◌then◌else◌}
+use Rattle.std.proofs.Common.{◌≡◌, ℕ, zero, suc, ◌<◌, ◌+◌, Bool, true, false, inl, inr, List, [], ◌∷◌, ◌++◌, length, take, drop, get_or, Option, Result, Ok, Err, IfOk, refl, ap, subst, ◌∙◌, arith}
+use Rattle.std.specs.Prelude.{◌⊎◌, bytes_eq, if◌then◌else◌}
 use Rattle.std.specs.Bool.{MatchBool}
 use Rattle.std.specs.List.{AllZip}
 use Rattle.std.specs.Option.{option_copied}
@@ -8,20 +8,13 @@ use Rattle.std.specs.String.{string_bytes}
 use Rattle.std.specs.Io.KnownBytes.{Appends}
 use Rattle.std.proofs.KnownBytes.{Keeps-refl}
 use Rattle.std.proofs.lemmas.List.{drop_more}
-use Rattle.std.specs.declared.net.ip_addr.IpAddr.{IpAddr}
-use Rattle.dns_names.specs.Name.{Labels}
-use Rattle.dns_policy.specs.Prefix.{IsAllowed}
 use Rattle.dns_zone.specs.Zone.{Zone}
-use Rattle.dns_held.specs.Each.{Each3}
-use Rattle.dns_primary.specs.declared.primary.ZoneSettings as primary
-use Rattle.dns_primary.specs.Machine.{Machine, ZoneState}
-use Rattle.dns_primary.specs.Fresh as fresh
 use Rattle.dns_server.specs.declared.configuration.Configuration.{Configuration}
 use Rattle.dns_server.specs.declared.configuration.ZoneSettings.{ZoneSettings}
 use Rattle.dns_server.specs.declared.files.File.{File}
 use Rattle.dns_server.specs.declared.files.Fault.{Fault}
 use Rattle.dns_server.specs.Checks.{is_memory, line, fault_text}
-use Rattle.dns_server.specs.Replays.{Begins, Holds, IsBegun, IsFirstFault, IsLoaded, IsScriptFault, IsSettingOf, ReplayEnds, RunsOver, ScriptEnds, held, octets_at, origins_of}
+use Rattle.dns_server.specs.Replays.{AreHeld, Holds, IsFirstFault, IsLoaded, IsScriptFault, ReplayEnds, ScriptEnds, held, octets_at}
 
 -- The first file with a path, from a place on.
 pub file_here : (files : List File) (path : List ℕ) (i : ℕ) (f : File) → i < length files → bytes_eq (get_or files i f).path.now path ≡ true → octets_at (drop i files) path ≡ option_copied (get_or files i f).octets
@@ -50,9 +43,9 @@ fault_or_memory files all n z zones fault inside e h (inl memory) = inl memory
 fault_or_memory files all n z zones fault inside e h (inr k) = inr (first_fault files all n z zones fault inside e h k)
 
 -- A script that can't be read, or whose line is no command.
-pub script_refused : {E : Type 0} (origins : List Labels) (m : Machine) (script : File) (fault : Fault) (out out_after err err_after : Option (List ℕ)) (r : Result ℕ E) → is_memory fault ≡ false → IsScriptFault origins m (option_copied script.octets) fault out out_after → IfOk r (λ status. MatchBool (is_memory fault) (status ≡ 3) ((status ≡ 1) × Appends err err_after (line (fault_text script.path.now fault)))) → IfOk r (ScriptEnds origins m script out out_after err err_after)
-script_refused origins m script fault out out_after err err_after (Err e) is h k = tt
-script_refused origins m script fault out out_after err err_after (Ok status) is h k =
+pub script_refused : {E : Type 0} (zones : List Zone) (script : File) (fault : Fault) (out out_after err err_after : Option (List ℕ)) (r : Result ℕ E) → is_memory fault ≡ false → IsScriptFault zones (option_copied script.octets) fault out out_after → IfOk r (λ status. MatchBool (is_memory fault) (status ≡ 3) ((status ≡ 1) × Appends err err_after (line (fault_text script.path.now fault)))) → IfOk r (ScriptEnds zones script out out_after err err_after)
+script_refused zones script fault out out_after err err_after (Err e) is h k = tt
+script_refused zones script fault out out_after err err_after (Ok status) is h k =
     let said : (status ≡ 1) × Appends err err_after (line (fault_text script.path.now fault)) = subst (λ (b : Bool). MatchBool b (status ≡ 3) ((status ≡ 1) × Appends err err_after (line (fault_text script.path.now fault)))) is k in
     record {
       done = λ e. absurd (omega (arith, e, said.0));
@@ -60,42 +53,9 @@ script_refused origins m script fault out out_after err err_after (Ok status) is
       others = inl (omega (arith, said.0));
     }
 
--- The zones that were loaded are those of a machine to which nothing has happened.
-pub fresh_zones : (files : List File) (settings : List ZoneSettings) (known : List primary.ZoneSettings) (zones : List Zone) (states : List ZoneState) → AllZip (IsLoaded files) settings zones → AllZip IsSettingOf settings known → Each3 IsBegun settings zones states → Each3 fresh.IsLoaded zones known states
-fresh_zones files [] [] [] [] h k e = tt
-fresh_zones files (s ∷ ss) (p ∷ ps) (z ∷ zs) (m ∷ ms) h k e = (
-  record {
-    shape = e.0.shape ∙ (λ i. record { apex = z.apex; snapshot = sym k.0.snapshot i; journal = sym k.0.journal i });
-    set = record { update = λ a. subst (λ (ps : List (IpAddr × ℕ)). IsTrue (m.setting.may_update a) ↔ IsAllowed ps a) (sym k.0.update) (e.0.update a) };
-    loaded = e.0.loaded;
-    shown = e.0.shown;
-    staged = e.0.staged;
-    base = e.0.base;
-    opened = e.0.opened;
-  },
-  fresh_zones files ss ps zs ms h.1 k.1 e.1,
-)
-fresh_zones files [] [] (z ∷ zs) states h k e = absurd h
-fresh_zones files [] (p ∷ ps) zones states h k e = absurd k
-fresh_zones files (s ∷ ss) [] zones states h k e = absurd k
-fresh_zones files (s ∷ ss) (p ∷ ps) [] states h k e = absurd h
-fresh_zones files [] [] [] (m ∷ ms) h k e = absurd e
-fresh_zones files (s ∷ ss) (p ∷ ps) (z ∷ zs) [] h k e = absurd e
-
-pub is_fresh : (files : List File) (settings : List ZoneSettings) (known : List primary.ZoneSettings) (zones : List Zone) (m : Machine) → AllZip (IsLoaded files) settings zones → AllZip IsSettingOf settings known → Begins settings zones m → fresh.IsFresh zones known m
-is_fresh files settings known zones m h k b = record { zones_are = fresh_zones files settings known zones m.zones h k b.zones_are; waiting = b.waiting; connections = b.connections }
-
-pub as_many : {A B C : Type 0} (R : A → B → Type 0) (Q : A → C → Type 0) (xs : List A) (ys : List B) (zs : List C) → AllZip R xs ys → AllZip Q xs zs → length ys ≡ length zs
-as_many R Q [] [] [] h k = refl
-as_many R Q (x ∷ xs) (y ∷ ys) (z ∷ zs) h k = ap suc (as_many R Q xs ys zs h.1 k.1)
-as_many R Q [] (y ∷ ys) zs h k = absurd h
-as_many R Q [] [] (z ∷ zs) h k = absurd k
-as_many R Q (x ∷ xs) [] zs h k = absurd h
-as_many R Q (x ∷ xs) (y ∷ ys) [] h k = absurd k
-
-pub script_ran : {E : Type 0} (config : File) (files : List File) (script : File) (out out_after err err_after : Option (List ℕ)) (r : Result ℕ E) → IfOk r (RunsOver (option_copied config.octets) files script out out_after err err_after) → IfOk r (ReplayEnds config files script out out_after err err_after)
-script_ran config files script out out_after err err_after (Err e) h = tt
-script_ran config files script out out_after err err_after (Ok status) h = inr (inl h)
+pub script_ran : {E : Type 0} (config : File) (files : List File) (script : File) (zones : List Zone) (out out_after err err_after : Option (List ℕ)) (r : Result ℕ E) → AreHeld (option_copied config.octets) files zones → IfOk r (ScriptEnds zones script out out_after err err_after) → IfOk r (ReplayEnds config files script out out_after err err_after)
+script_ran config files script zones out out_after err err_after (Err e) held h = tt
+script_ran config files script zones out out_after err err_after (Ok status) held h = inr (inl (zones, held, h))
 
 -- A master file that holds no zone is told.
 pub file_told : {E : Type 0} (config : File) (files : List File) (script : File) (c : Configuration) (path : List ℕ) (fault : Fault) (out err err_after : Option (List ℕ)) (r : Result ℕ E) → Holds (option_copied config.octets) (Ok c) → ((is_memory fault ≡ true) ⊎ IsFirstFault files c.zones.items path fault) → IfOk r (λ status. MatchBool (is_memory fault) (status ≡ 3) ((status ≡ 1) × Appends err err_after (line (fault_text path fault)))) → IfOk r (ReplayEnds config files script out out err err_after)

@@ -1,10 +1,9 @@
 -- What is said of files, and what `check` says of one.
-use Rattle.std.specs.Prelude.{◌≡◌, ◌⊎◌, ℕ, ◌≤◌, Bool, true, false, List, [], ◌∷◌, ◌++◌, length, Option, Some, None, Result, Ok, Err, Contains, chars, codes, decimal, flat_map, if◌then◌else◌}
-use Rattle.std.specs.Char.{encode_utf8, is_control}
+use Rattle.std.specs.Prelude.{◌≡◌, ◌⊎◌, ℕ, ◌≤◌, Bool, true, false, List, [], ◌∷◌, ◌++◌, length, Option, Some, None, Result, Ok, Err, Contains, codes, decimal}
 use Rattle.std.specs.Io.KnownBytes.{Appends, Keeps}
 use Rattle.dns_names.specs.Name.{Labels}
 use Rattle.dns_names.specs.declared.NameError.{NameError}
-use Rattle.dns_names.specs.Text.{escaped, name_of_text}
+use Rattle.dns_names.specs.Text.{name_of_text}
 use Rattle.dns_records.specs.Types.{type_soa}
 use Rattle.dns_records.specs.Record.{Record, serial_of}
 use Rattle.dns_zone.specs.Zone.{zone_fault}
@@ -46,13 +45,6 @@ is_memory (Entry line file.OutOfMemory) = true
 is_memory (NoZone zone.OutOfMemory) = true
 is_memory _ = false
 
--- A text in which each control character is `\DDD`, its number.
-abbrev pub printable_char : ℕ → List ℕ
-printable_char c = if is_control c then escaped c else encode_utf8 c
-
-abbrev pub printable : List ℕ → List ℕ
-printable text = flat_map printable_char (chars text)
-
 -- What is wrong, behind the path or the text that it is of.
 abbrev pub fault_words : Fault → List ℕ
 fault_words OutOfMemory = codes ": OutOfMemory"
@@ -64,7 +56,7 @@ fault_words (Entry number e) = codes ":" ++ decimal number ++ codes ": " ++ entr
 fault_words (NoZone e) = codes ": " ++ zone_word e
 
 abbrev pub fault_text : List ℕ → Fault → List ℕ
-fault_text what fault = printable what ++ fault_words fault
+fault_text what fault = what ++ fault_words fault
 
 abbrev pub line : List ℕ → List ℕ
 line text = text ++ 10 ∷ []

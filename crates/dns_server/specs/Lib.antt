@@ -1,5 +1,5 @@
 pub mod Checks
 pub mod Replays
-pub mod Runs
 pub mod Scripts
+pub mod Served
 pub mod Settings

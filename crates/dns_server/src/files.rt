@@ -9,7 +9,6 @@ ghost use Rattle.dns_records.specs.Record.{Record};
 ghost use Rattle.dns_zone.specs.Made.{IsSetOf};
 ghost use Rattle.dns_server.specs.Checks.{CheckEnds, entry_word, is_memory, line, loaded, ok_text, fault_text, zone_word};
 
-use crate::printable::Printable;
 use dns_masterfile::{FileError, read_zone};
 use dns_memory::Heap;
 use dns_names::{Name, NameError};
@@ -94,7 +93,7 @@ fn is_memory(fault: Fault) -> bool
     }
 }
 
-/// What is wrong with a file or a word, behind its path or its text, whose control characters are escaped.
+/// What is wrong with a file or a word, behind its path or its text.
 #[derive(Drop)]
 struct FaultText<'a>(&'a str, Fault);
 
@@ -102,7 +101,7 @@ impl fmt::Display for FaultText<'_> {
     ghost output = { λ t. Some (fault_text t.0.now t.1) };
 
     fn fmt<W: fmt::Write>(&self, f: &mut fmt::Formatter<W>) -> fmt::Result {
-        let what = Printable(self.0);
+        let what = self.0;
         match self.1 {
             Fault::OutOfMemory => write!(f, "{what}: OutOfMemory"),
             Fault::Unreadable => write!(f, "{what}: Unreadable"),

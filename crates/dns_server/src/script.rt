@@ -1,26 +1,33 @@
-//! A script run over a primary: each line an event, and what it does to the world printed.
-ghost use Rattle.std.specs.Prelude.{◌≡◌, ◌≢◌, Some, flat_map, map, IfOk, OnOk};
+//! Scripts of events: one command a line.
+ghost use Rattle.std.specs.Prelude.{◌≡◌, ◌≢◌, ◌<◌, ℕ, List, [], ◌∷◌, length, position, IfOk, OnOk, MatchOption, Some, None};
+ghost use Rattle.std.specs.Option.{option_copied};
+ghost use Rattle.std.specs.Str.Lines.{strip_carriage_return};
 ghost use Rattle.std.specs.Bool.{MatchBool};
-ghost use Rattle.std.specs.Io.KnownBytes.{Appends, Keeps};
-ghost use Rattle.dns_primary.specs.Machine.{Machine};
-ghost use Rattle.dns_primary.specs.Keeps.{IsToldBy, header_out};
-ghost use Rattle.dns_primary.specs.Step.{Effects as Stated, Event as StatedEvent};
-ghost use Rattle.dns_primary.specs.Steps.{event_shown};
-ghost use Rattle.dns_script.specs.Commands.{Command as StatedCommand, said};
-ghost use Rattle.dns_script.specs.Lines.{lines};
-ghost use Rattle.dns_server.specs.Scripts.{IsNoCommand, RunsInto, event_of, peer_of, printed_effects, printed_noted, printed_number, printed_reply, printed_to};
-ghost use Rattle.dns_server.specs.Runs.{RanCommand, RanLine, RanScript, replies_out};
+ghost use Rattle.std.specs.Io.KnownBytes.{Appends};
+ghost use Rattle.dns_answer.specs.Answer.{Replies};
+ghost use Rattle.dns_server.specs.Served.{served};
+ghost use Rattle.std.specs.List.{after_first, before_first};
+ghost use Rattle.dns_server.specs.Scripts.{HasOctets, IsRead, PrintsInto, PrintsNone, RunsInto, is_blank, is_feed, lines, printed_reply, words};
 
-use dns_script::{Command, read_command, split_line};
+use crate::answer_datagram;
 use dns_memory::Heap;
-use dns_names::Name;
-use dns_policy::print_address;
-use dns_primary::{Effects, Event, HeaderTo, Noted, Peer, Primary, To};
-use dns_store::ZoneStore;
-use dns_zone::ZoneIndex;
-use std::fmt;
+use dns_policy::{address, print_address};
+use dns_zone::{Zone, ZoneIndex};
+use std::alloc::AllocError;
 use std::io::{self, Write};
 use std::net::IpAddr;
+
+/// One line of a script.
+#[derive(Drop)]
+enum Command<'a> {
+    /// A blank line or a comment.
+    Nothing,
+    /// A datagram from an address, its octets in hexadecimal.
+    Datagram(IpAddr, &'a [u8]),
+}
+
+/// A datagram has at most so many octets here.
+const MOST: usize = 65535;
 
 /// How a run ends.
 #[derive(Clone, Copy, Debug, PartialEq, Eq)]
@@ -33,180 +40,173 @@ pub enum Ending {
     Failed,
 }
 
-/// Where a reply goes.
-#[derive(Drop)]
-struct Destination(To);
+/// A space or a tab.
+fn is_blank(octet: u8) -> bool
+    ensures { result ≡ is_blank octet }
+{
+    octet == b' ' || octet == b'\t'
+}
 
-impl fmt::Display for Destination {
-    ghost output = { λ d. Some (printed_to d.0) };
+/// Where the first blank stands.
+fn first_blank(text: &[u8]) -> Option<usize>
+    ensures { result ≡ position is_blank text.now }
+{
+    text.iter().position(|octet| is_blank(*octet))
+}
 
-    fn fmt<W: fmt::Write>(&self, f: &mut fmt::Formatter<W>) -> fmt::Result {
-        match self.0 {
-            To::Address(peer) => write!(f, "udp {}", print_address(peer.address)),
-            To::Connection(number) => write!(f, "tcp {number}"),
-            To::Nowhere => Ok(()),
+/// What stands before the first blank, and behind it.
+fn cut_at_blank(text: &[u8]) -> (&[u8], &[u8])
+    ensures parts { MatchOption (position is_blank text.now) ((result.0.now ≡ text.now) × (result.1.now ≡ []))
+        (λ _. (result.0.now ≡ before_first is_blank text.now) × (result.1.now ≡ after_first is_blank text.now)) }
+    ensures shorter { 0 < length text.now → length result.1.now < length text.now }
+{
+    match first_blank(text) {
+        Some(end) => (&text[..end], &text[end + 1..]),
+        None => (text, &[]),
+    }
+}
+
+/// The first word of a text, and what stands behind it.
+fn first_word(text: &[u8]) -> Option<(&[u8], &[u8])>
+    ensures { MatchOption result (words text.now ≡ []) (λ w. words text.now ≡ w.0.now ∷ words w.1.now) }
+{
+    let mut rest = text;
+    'blanks: while !rest.is_empty() {
+        let (word, behind) = cut_at_blank(rest);
+        if !word.is_empty() {
+            return Some((word, behind));
         }
+        rest = behind;
+    }
+    None
+}
+
+/// The command that a line is, if it is one. Words are separated by spaces or tabs.
+fn read_command(line: &[u8]) -> Option<Command<'_>>
+    ensures { IsRead line.now result }
+{
+    if line.first() == Some(&b'#') {
+        return Some(Command::Nothing);
+    }
+    let Some((verb, behind)) = first_word(line) else {
+        return Some(Command::Nothing);
+    };
+    if verb != b"udp".as_slice() {
+        return None;
+    }
+    let (peer, behind) = first_word(behind)?;
+    let (octets, behind) = first_word(behind)?;
+    if first_word(behind).is_some() {
+        return None;
+    }
+    Some(Command::Datagram(address(peer)?, octets))
+}
+
+/// The octets that a datagram's text says: 1 to 65,535 of them.
+fn read_octets(alloc: Heap, text: &[u8]) -> Result<Option<Vec<u8, Heap>>, AllocError>
+    ensures { IfOk result
+        (λ read. MatchOption read ((octets : List ℕ) → ¬ (HasOctets text.now octets))
+        (λ octets. HasOctets text.now octets.items)) }
+{
+    match hex::decode(alloc, text) {
+        Ok(octets) if octets.is_empty() || octets.len() > MOST => Ok(None),
+        Ok(octets) => Ok(Some(octets)),
+        Err(hex::FromHexError::OutOfMemory) => Err(AllocError),
+        Err(_) => Ok(None),
     }
 }
 
 /// Prints a reply: where it goes, and its octets.
-fn print_reply<W: Write>(alloc: Heap, to: To, octets: &[u8], out: &mut W) -> io::Result<()>
-    ensures { OnOk result (Appends (W.contents out.old) (W.contents out.new) (printed_reply (to, octets.now))) }
+fn print_reply<W: Write>(alloc: Heap, peer: IpAddr, reply: &[u8], out: &mut W) -> io::Result<()>
+    ensures { OnOk result (Appends (W.contents out.old) (W.contents out.new) (printed_reply peer (Replies reply.now))) }
 {
-    let text = hex::encode(alloc, octets)?;
-    writeln!(out, "{} {text}", Destination(to))
+    let text = hex::encode(alloc, reply)?;
+    writeln!(out, "udp {} {text}", print_address(peer))
 }
 
-/// Prints replies that are a header alone.
-fn print_headers<W: Write>(alloc: Heap, headers: &[HeaderTo], out: &mut W) -> io::Result<()>
-    ensures { OnOk result
-        (Appends (W.contents out.old) (W.contents out.new) (flat_map printed_reply (map header_out headers.now))) }
+/// Answers a datagram from an address, and prints what is sent.
+fn run_datagram<I: ZoneIndex, W: Write>(
+    alloc: Heap,
+    zones: &[Zone<I>],
+    peer: IpAddr,
+    octets: &[u8],
+    out: &mut W,
+) -> io::Result<()>
+    ensures { OnOk result (Appends (W.contents out.old) (W.contents out.new) (printed_reply peer (served zones.now octets.now))) }
 {
-    for header in headers {
-        print_reply(alloc, header.to, &header.octets, out)?;
-    }
-    Ok(())
-}
-
-/// Prints the number of a new connection, or that there is none.
-fn print_number<W: Write>(accepted: Option<usize>, out: &mut W) -> io::Result<()>
-    ensures { OnOk result (Appends (W.contents out.old) (W.contents out.new) (printed_number accepted)) }
-{
-    match accepted {
-        Some(number) => writeln!(out, "conn {number}"),
-        None => writeln!(out, "conn none"),
-    }
-}
-
-/// Prints the zone whose device failed first, if one did.
-fn print_noted<W: Write>(origins: &[Name], noted: Noted, out: &mut W) -> io::Result<()>
-    ensures { OnOk result (Appends (W.contents out.old) (W.contents out.new) (printed_noted origins.now noted)) }
-{
-    let Noted::Device(place) = noted else {
-        return Ok(());
-    };
-    match origins.get(place) {
-        Some(origin) => writeln!(out, "device {origin}"),
+    match answer_datagram(alloc, zones, octets)? {
+        Some(reply) => print_reply(alloc, peer, reply.as_slice(), out),
         None => Ok(()),
     }
-}
-
-/// Prints the replies of an event: those that are a header alone, and then the longer one.
-fn print_replies<W: Write>(alloc: Heap, effects: &Effects, out: &mut W) -> io::Result<()>
-    ensures { OnOk result (Appends (W.contents out.old) (W.contents out.new) (flat_map printed_reply (replies_out effects.now))) }
-{
-    print_headers(alloc, effects.headers.as_slice(), out)?;
-    match &effects.message {
-        Some((to, octets)) => print_reply(alloc, *to, octets.as_slice(), out),
-        None => Ok(()),
-    }
-}
-
-/// Prints the effects of an event.
-fn print_effects<W: Write>(
-    alloc: Heap,
-    origins: &[Name],
-    event: Event<'_>,
-    effects: &Effects,
-    out: &mut W,
-) -> io::Result<()>
-    ensures { OnOk result
-        ((stated : Stated)
-        → IsToldBy stated effects.now
-        → Appends (W.contents out.old) (W.contents out.new) (printed_effects origins.now (event_shown event.entry) stated)) }
-{
-    print_replies(alloc, effects, out)?;
-    if let Event::Connect(_) = event {
-        print_number(effects.accepted, out)?;
-    }
-    print_noted(origins, effects.noted, out)
-}
-
-/// Lets an event happen, and prints what it does.
-fn run_event<I: ZoneIndex, S: ZoneStore, W: Write>(
-    alloc: Heap,
-    primary: &mut Primary<I, S>,
-    origins: &[Name],
-    event: Event<'_>,
-    out: &mut W,
-) -> io::Result<()>
-    ensures { OnOk result
-        (RanCommand origins.now (Some (event_shown event.entry)) primary.old primary.new (W.contents out.old) (W.contents out.new)) }
-{
-    let effects = primary.step(alloc, event);
-    print_effects(alloc, origins, event, &effects, out)
-}
-
-/// The peer of an address, which has no port in a script.
-fn peer_of(address: IpAddr) -> Peer
-    ensures { result ≡ peer_of address }
-{
-    Peer { address, port: 0 }
-}
-
-/// Runs a command.
-fn run_command<I: ZoneIndex, S: ZoneStore, W: Write>(
-    alloc: Heap,
-    primary: &mut Primary<I, S>,
-    origins: &[Name],
-    command: &Command,
-    out: &mut W,
-) -> io::Result<()>
-    ensures { OnOk result
-        (RanCommand origins.now (event_of (said command.now)) primary.old primary.new (W.contents out.old) (W.contents out.new)) }
-{
-    let event = match command {
-        Command::Nothing => return Ok(()),
-        Command::Datagram(address, octets) => {
-            Event::Datagram(peer_of(*address), octets.as_slice())
-        }
-        Command::Connect(address) => Event::Connect(peer_of(*address)),
-        Command::Message(number, octets) => Event::Message(*number as usize, octets.as_slice()),
-        Command::Flush => Event::Flush,
-        Command::Close(number) => Event::Closed(*number as usize),
-    };
-    run_event(alloc, primary, origins, event, out)
 }
 
 /// Runs one line, and says whether it is a command.
-fn run_line<I: ZoneIndex, S: ZoneStore, W: Write>(
+fn run_line<I: ZoneIndex, W: Write>(
     alloc: Heap,
-    primary: &mut Primary<I, S>,
-    origins: &[Name],
+    zones: &[Zone<I>],
     line: &[u8],
     out: &mut W,
 ) -> io::Result<bool>
     ensures { IfOk result
-        (λ is_command. MatchBool is_command
-        (RanLine origins.now line.now primary.old primary.new (W.contents out.old) (W.contents out.new))
-        (IsNoCommand line.now × (primary.new ≡ primary.old) × Keeps (W.contents out.old) (W.contents out.new))) }
+        (λ is_command. MatchBool is_command (PrintsInto zones.now line.now (W.contents out.old) (W.contents out.new))
+        (PrintsNone zones.now line.now (W.contents out.old) (W.contents out.new))) }
 {
-    match read_command(alloc, line)? {
-        Some(command) => {
-            run_command(alloc, primary, origins, &command, out)?;
-            Ok(true)
-        }
+    match read_command(line) {
         None => Ok(false),
+        Some(Command::Nothing) => Ok(true),
+        Some(Command::Datagram(peer, text)) => match read_octets(alloc, text)? {
+            Some(octets) => {
+                run_datagram(alloc, zones, peer, &octets, out)?;
+                Ok(true)
+            }
+            None => Ok(false),
+        },
     }
 }
 
-/// Runs a script over a primary, and writes the effects of each line in order. What was written before a line that is no command
-/// stays. A line ends with LF or CR LF. The origins are the names of the zones, in their order.
-pub fn run_script<I: ZoneIndex, S: ZoneStore, W: Write>(
+/// Where the first line feed stands.
+fn first_feed(text: &[u8]) -> Option<usize>
+    ensures { result ≡ position is_feed text.now }
+{
+    text.iter().position(|octet| *octet == b'\n')
+}
+
+/// What stands before the first line feed, and behind it if there is one.
+fn cut_at_feed(text: &[u8]) -> (&[u8], Option<&[u8]>)
+    ensures { MatchOption (position is_feed text.now) ((result.0.now ≡ text.now) × (option_copied result.1 ≡ None))
+        (λ _. (result.0.now ≡ before_first is_feed text.now) × (option_copied result.1 ≡ Some (after_first is_feed text.now))) }
+{
+    match first_feed(text) {
+        Some(end) => (&text[..end], Some(&text[end + 1..])),
+        None => (text, None),
+    }
+}
+
+/// A line without the carriage return at its end, if it has one.
+fn without_return(line: &[u8]) -> &[u8]
+    ensures { result.now ≡ strip_carriage_return line.now }
+{
+    match line.split_last() {
+        Some((b'\r', front)) => front,
+        _ => line,
+    }
+}
+
+/// Runs a script over the zones, and writes the effects of each line in order. What was written before a line that is no command
+/// stays. A line ends with LF or CR LF.
+pub fn run_script<I: ZoneIndex, W: Write>(
     alloc: Heap,
-    primary: &mut Primary<I, S>,
-    origins: &[Name],
+    zones: &[Zone<I>],
     script: &[u8],
     out: &mut W,
 ) -> Ending
-    ensures { result ≢ Ending.Failed
-        → RanScript origins.now (lines script.now) result primary.old primary.new (W.contents out.old) (W.contents out.new) }
+    ensures { result ≢ Ending.Failed → RunsInto zones.now (lines script.now) result (W.contents out.old) (W.contents out.new) }
 {
     let mut number: u64 = 1;
     let mut rest = Some(script);
     'lines: while let Some(text) = rest {
-        let (line, behind) = split_line(text);
-        match run_line(alloc, primary, origins, line, out) {
+        let (line, behind) = cut_at_feed(text);
+        match run_line(alloc, zones, without_return(line), out) {
             Ok(true) => {}
             Ok(false) => return Ending::Syntax(number),
             Err(_) => return Ending::Failed,

@@ -1,6 +1,7 @@
 //! Requests and replies whose octets were worked out by hand.
-use crate::given::{primary, reply_of};
+use crate::given::small;
 use dns_memory::{Heap, heap};
+use dns_server::answer_datagram;
 use std::test::Fail;
 
 /// The question of most exchanges, for the address of host1.example., behind an ID.
@@ -8,9 +9,9 @@ const HOST1: &str = "05686f737431076578616d706c650000010001";
 
 /// The reply to a request in hexadecimal, in hexadecimal; empty where there is none.
 fn reply_to(heap: Heap, request: &str) -> Result<String<Heap>, Fail> {
-    let mut primary = primary(heap)?;
+    let zone = small(heap)?;
     let request = hex::decode(heap, request)?;
-    match reply_of(heap, &mut primary, &request)? {
+    match answer_datagram(heap, &[zone], &request)? {
         Some(reply) => Ok(hex::encode(heap, reply.as_slice())?),
         None => Ok(String::new(heap)),
     }
@@ -91,7 +92,8 @@ fn replies_are_octet_for_octet(rt: HostRuntime) -> Result<(), Fail> {
 #[test]
 fn long_datagrams_are_malformed(rt: HostRuntime) -> Result<(), Fail> {
     let heap = heap(rt.alloc())?;
-    let mut primary = primary(heap)?;
+    let zone = small(heap)?;
+    let zones = [zone];
     let mut request = hex::decode(heap, "123400000001000000000000")?;
     request.extend_from_slice(hex::decode(heap, HOST1)?.as_slice())?;
     for size in [512usize, 513] {
@@ -101,7 +103,7 @@ fn long_datagrams_are_malformed(rt: HostRuntime) -> Result<(), Fail> {
             }
         }
         assert_eq!(rt; request.len(), size);
-        let reply = reply_of(heap, &mut primary, &request)?.ok_or("a reply")?;
+        let reply = answer_datagram(heap, &zones, &request)?.ok_or("a reply")?;
         assert!(rt; reply.as_slice() == [0x12, 0x34, 0x80, 1, 0, 0, 0, 0, 0, 0, 0, 0].as_slice());
     }
     Ok(())

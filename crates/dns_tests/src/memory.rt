@@ -1,7 +1,7 @@
 //! Calls with each allocation refused in turn.
-use crate::given::{primary, reply_of};
+use crate::given::small;
 use dns_memory::{Heap, heap};
-use dns_server::{DONE, FAILED, File, check};
+use dns_server::{DONE, FAILED, File, answer_datagram, check};
 use std::io;
 use std::test::Fail;
 
@@ -13,16 +13,17 @@ const FILE: &str =
 #[test]
 fn a_reply_that_is_refused_memory(rt: HostRuntime) -> Result<(), Fail> {
     let heap = heap(rt.alloc())?;
-    let mut primary = primary(heap)?;
+    let zone = small(heap)?;
+    let zones = [zone];
     let request = hex::decode(
         heap,
         "12340000000100000000000005686f737431076578616d706c650000010001",
     )?;
-    let whole = reply_of(heap, &mut primary, &request)?.ok_or("a reply")?;
+    let whole = answer_datagram(heap, &zones, &request)?.ok_or("a reply")?;
     let mut refusals = 0u64;
     for n in 1..50u64 {
         heap.refuse(n);
-        match reply_of(heap, &mut primary, &request) {
+        match answer_datagram(heap, &zones, &request) {
             Err(_) => refusals = n,
             Ok(reply) => {
                 heap.refuse(0);

@@ -1,5 +1,5 @@
 //! Scripts: their lines, and what is printed of them.
-use crate::given::{Full, primary};
+use crate::given::{Full, small};
 use dns_memory::{Heap, heap};
 use dns_server::{Ending, run_script};
 use std::test::Fail;
@@ -8,6 +8,8 @@ use std::test::Fail;
 #[test]
 fn lines_of_scripts(rt: HostRuntime) -> Result<(), Fail> {
     let heap = heap(rt.alloc())?;
+    let zone = small(heap)?;
+    let zones = [zone];
     for (script, ending) in [
         ("", Ending::Done),
         ("# a comment\r\n\r\n \t\n", Ending::Done),
@@ -23,17 +25,10 @@ fn lines_of_scripts(rt: HostRuntime) -> Result<(), Fail> {
         ("udp 127.0.0.1 0g\n", Ending::Syntax(1)),
         ("udp 127.0.0.1 00 00\n", Ending::Syntax(1)),
         ("UDP 127.0.0.1 00\n", Ending::Syntax(1)),
-        ("# one\n# two\nFLUSH\n", Ending::Syntax(3)),
-        ("flush\nclose 0\ntcp 4294967295 00\n", Ending::Done),
-        ("flush 1\n", Ending::Syntax(1)),
-        ("close 4294967296\n", Ending::Syntax(1)),
-        ("close -1\n", Ending::Syntax(1)),
-        ("tcp 00\n", Ending::Syntax(1)),
-        ("connect\n", Ending::Syntax(1)),
+        ("# one\n# two\nflush\n", Ending::Syntax(3)),
     ] {
         let mut out: Vec<u8> = Vec::new(rt.alloc());
-        let mut primary = primary(heap)?;
-        let given = run_script(heap, &mut primary, &[], script.as_bytes(), &mut out);
+        let given = run_script(heap, &zones, script.as_bytes(), &mut out);
         assert!(rt; given == ending, "{script:?} ends with {given:?}");
         assert!(rt; out.is_empty());
     }
@@ -44,28 +39,29 @@ fn lines_of_scripts(rt: HostRuntime) -> Result<(), Fail> {
 #[test]
 fn effects_of_scripts(rt: HostRuntime) -> Result<(), Fail> {
     let heap = heap(rt.alloc())?;
-    let mut primary = primary(heap)?;
+    let zone = small(heap)?;
+    let zones = [zone];
     let script =
         b"udp 10.0.0.7 123400000000000000000000\nudp 10.0.0.7 123410000000000000000000\nbad\n";
     let mut out: Vec<u8> = Vec::new(rt.alloc());
-    let ending = run_script(heap, &mut primary, &[], script, &mut out);
+    let ending = run_script(heap, &zones, script, &mut out);
     assert!(rt; ending == Ending::Syntax(3));
     let want = b"udp 10.0.0.7 123480010000000000000000\nudp 10.0.0.7 123490040000000000000000\n";
     assert!(rt; out.as_slice() == want.as_slice());
     let mut full = Full::after(50);
-    assert!(rt; run_script(heap, &mut primary, &[], script, &mut full) == Ending::Failed);
+    assert!(rt; run_script(heap, &zones, script, &mut full) == Ending::Failed);
     Ok(())
 }
 
 /// How a script of one line ends that has so many octets in hexadecimal.
 fn ending_of_zeros(heap: Heap, count: usize, out: &mut Vec<u8>) -> Result<Ending, Fail> {
-    let mut primary = primary(heap)?;
+    let zone = small(heap)?;
     let mut script = Vec::new(heap);
     script.extend_from_slice(b"udp 127.0.0.1 ")?;
     for _ in 0..count {
         script.extend_from_slice(b"00")?;
     }
-    Ok(run_script(heap, &mut primary, &[], &script, out))
+    Ok(run_script(heap, &[zone], &script, out))
 }
 
 // A line has at most 65,535 octets.

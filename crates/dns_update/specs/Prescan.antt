@@ -14,7 +14,7 @@ abbrev pub addition_fault : ResourceRecord → Option Rcode
 addition_fault i =
     if i.rtype == type_any || is_meta i.rtype || is_known i.rtype && is_empty i then Some FormErr
     else if not (is_data_type i.rtype) || nat_lt 4096 (length i.rdata) || i.rtype == type_ns
-        && is_wildcard i.owner then Some Refused
+    && is_wildcard i.owner then Some Refused
     else None
 
 -- Class ANY: an RRset is to be deleted, or all records of a name.

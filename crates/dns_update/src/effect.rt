@@ -230,7 +230,11 @@ fn named<I: ZoneIndex>(set: &I, item: &ResourceRecord) -> Result<Option<Record>,
 }
 
 /// Deletes one record (RFC 2136 section 3.4.2.4).
-fn delete<I: ZoneIndex>(set: &mut I, apex: &NameRef<'_>, item: &ResourceRecord) -> Result<(), AllocError>
+fn delete<I: ZoneIndex>(
+    set: &mut I,
+    apex: &NameRef<'_>,
+    item: &ResourceRecord,
+) -> Result<(), AllocError>
     ensures { OnOk result (I.records set.new ≡ deleted apex.now (I.records set.old) (as_record item.now)) }
 {
     if is_spared(set, apex, item) {

@@ -171,7 +171,10 @@ fn refused_memory(error: RecordError, item: &ResourceRecord) -> AllocError
 }
 
 /// The records of a section, in order.
-pub(crate) fn items_of(alloc: Heap, section: Section<'_>) -> Result<Vec<ResourceRecord, Heap>, AllocError>
+pub(crate) fn items_of(
+    alloc: Heap,
+    section: Section<'_>,
+) -> Result<Vec<ResourceRecord, Heap>, AllocError>
     ensures all { IfOk result (λ items. items.items ≡ section.entry) }
     ensures few { length section.entry < 2 ^ 16 }
 {

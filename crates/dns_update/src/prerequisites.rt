@@ -95,7 +95,11 @@ fn listed_record<'s, I: ZoneIndex>(index: &'s I, item: &ResourceRecord) -> Optio
 }
 
 /// The set of the records that the items list.
-fn listed_set<I: ZoneIndex>(alloc: Heap, index: &I, items: &[ResourceRecord]) -> Result<I, AllocError>
+fn listed_set<I: ZoneIndex>(
+    alloc: Heap,
+    index: &I,
+    items: &[ResourceRecord],
+) -> Result<I, AllocError>
     ensures { IfOk result (λ set. I.records set ≡ listed (I.records index.now) items.now) }
 {
     let mut set = I::empty(alloc)?;
@@ -132,7 +136,11 @@ fn all_met<I: ZoneIndex>(index: &I, listed: &I, items: &[ResourceRecord]) -> boo
 
 /// Whether what is listed is the RRset, no more and no less, for each name and type (RFC 2136 section 3.2.3). What is listed is
 /// gathered as a set, so that two counts tell whether it is the whole of an RRset.
-fn are_rrsets<I: ZoneIndex>(alloc: Heap, index: &I, items: &[ResourceRecord]) -> Result<bool, AllocError>
+fn are_rrsets<I: ZoneIndex>(
+    alloc: Heap,
+    index: &I,
+    items: &[ResourceRecord],
+) -> Result<bool, AllocError>
     ensures { IfOk result (λ met. met ≡ are_rrsets (I.records index.now) items.now) }
 {
     let listed: I = listed_set(alloc, index, items)?;

@@ -39,16 +39,16 @@ module _ (octets : List ℕ) (fits : AreOctets octets) where
     where
       go : QuestionsAt octets 12 (q ∷ []) reads.first → IsEchoed (record { octets = slice_range octets 12 (12 + length (wire q.name) + 4); name = q.name })
       go (mid, first, e) =
-        let n = length (wire q.name) in
-        let behind = drop 12 octets in
-        let size = first_name first.name.stands in
-        let inside : first.mid + 2 + 2 ≤ length octets = first.qclass.inside in
-        let narrow : 12 + n + 4 - 12 ≡ n + 4 = omega arith in
-        let long : length behind ≡ length octets - 12 = length-drop 12 octets in
-        let room : n + 4 ≤ length behind = omega (arith, size, inside, long) in
-        record {
-          valid = first.name.valid;
-          size = ap (λ (k : ℕ). length (take k behind)) narrow ∙ length-take-le (n + 4) behind room;
-          name = ap (λ (k : ℕ). map to_ascii_lowercase (take n (take k behind))) narrow ∙ ap (map to_ascii_lowercase) (take-take n (n + 4) behind (omega arith)) ∙ name_came first.name.stands;
-          octets = octets_fit (12 + n + 4 - 12) behind (octets_behind octets 12 fits);
-        }
+          let n = length (wire q.name) in
+          let behind = drop 12 octets in
+          let size = first_name first.name.stands in
+          let inside : first.mid + 2 + 2 ≤ length octets = first.qclass.inside in
+          let narrow : 12 + n + 4 - 12 ≡ n + 4 = omega arith in
+          let long : length behind ≡ length octets - 12 = length-drop 12 octets in
+          let room : n + 4 ≤ length behind = omega (arith, size, inside, long) in
+          record {
+            valid = first.name.valid;
+            size = ap (λ (k : ℕ). length (take k behind)) narrow ∙ length-take-le (n + 4) behind room;
+            name = ap (λ (k : ℕ). map to_ascii_lowercase (take n (take k behind))) narrow ∙ ap (map to_ascii_lowercase) (take-take n (n + 4) behind (omega arith)) ∙ name_came first.name.stands;
+            octets = octets_fit (12 + n + 4 - 12) behind (octets_behind octets 12 fits);
+          }

@@ -71,7 +71,7 @@ compressed_record places at r =
     record {
       octets =
           owner.octets ++ to_be_bytes w16 r.rtype ++ to_be_bytes w16 class_in ++ to_be_bytes w32 r.ttl
-              ++ to_be_bytes w16 (length rdata.octets) ++ rdata.octets;
+          ++ to_be_bytes w16 (length rdata.octets) ++ rdata.octets;
       places = rdata.places;
     }
 

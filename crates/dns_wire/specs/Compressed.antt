@@ -84,15 +84,15 @@ PartsCompressed text earlier at (Strings ∷ fields) rdata stop later = OctetsAt
 
 -- A record (RFC 1035 4.1.3): its owner is compressed, RDLENGTH counts the octets of the compressed data.
 pub record RecordCompressed (text : List ℕ) (earlier : List Used) (at : ℕ) (r : Record) (stop : ℕ) (later : List Used) : Type 0
-    where
-  pub mid : ℕ
-  pub size : ℕ
-  pub owner : FieldCompressed text earlier at r.owner mid
-  pub fixed : OctetsAt text mid
-      (to_be_bytes w16 r.rtype ++ to_be_bytes w16 class_in ++ to_be_bytes w32 r.ttl ++ to_be_bytes w16 size) (mid + 10)
-  pub last : stop ≡ mid + 10 + size
-  pub rdata : MatchOption (form r.rtype) (OctetsAt text (mid + 10) r.rdata stop × (later ≡ and_field earlier at mid r.owner))
-      (λ fields. PartsCompressed text (and_field earlier at mid r.owner) (mid + 10) fields r.rdata stop later)
+  where
+    pub mid : ℕ
+    pub size : ℕ
+    pub owner : FieldCompressed text earlier at r.owner mid
+    pub fixed : OctetsAt text mid
+        (to_be_bytes w16 r.rtype ++ to_be_bytes w16 class_in ++ to_be_bytes w32 r.ttl ++ to_be_bytes w16 size) (mid + 10)
+    pub last : stop ≡ mid + 10 + size
+    pub rdata : MatchOption (form r.rtype) (OctetsAt text (mid + 10) r.rdata stop × (later ≡ and_field earlier at mid r.owner))
+        (λ fields. PartsCompressed text (and_field earlier at mid r.owner) (mid + 10) fields r.rdata stop later)
 
 abbrev pub RecordsCompressed : List ℕ → List Used → ℕ → List Record → ℕ → Type 0
 RecordsCompressed text earlier at [] stop = at ≡ stop

@@ -89,7 +89,7 @@ abbrev pub ResourceRecordRefused : List ℕ → ℕ → ReadError → Type 0
 ResourceRecordRefused message at e =
     NoName message at e
     ⊎ ((owner : Labels) × (mid : ℕ) × FullNameAt message at owner mid
-        × (((length message < mid + 10) × (e ≡ Cut)) ⊎ DataRefused message mid e))
+    × (((length message < mid + 10) × (e ≡ Cut)) ⊎ DataRefused message mid e))
 
 -- Of so many, one behind the other, the first that doesn't stand.
 abbrev pub TimesRefused : (ℕ → ℕ → Type 0) → (ℕ → ReadError → Type 0) → ℕ → ℕ → ReadError → Type 0

@@ -33,8 +33,12 @@ item_of r = record { owner = r.owner; rtype = r.rtype; class = class_in; ttl = r
 abbrev pub question_of : EchoedQuestion → Question
 question_of e =
     let n = length (wire e.name) in
-    record { name = e.name; qtype = number_of (slice_range e.octets n (n + 2)); qclass =
-        number_of (slice_range e.octets (n + 2) (n + 4)) }
+    record {
+      name = e.name;
+      qtype = number_of (slice_range e.octets n (n + 2));
+      qclass =
+          number_of (slice_range e.octets (n + 2) (n + 4));
+    }
 
 abbrev pub questions_of : Option EchoedQuestion → List Question
 questions_of None = []

@@ -124,7 +124,7 @@ impl<'a> Compressor<'a> {
         ensures refused { IfErr result
             (RefusesUpTo self.old.limit
             (length self.old.octets.items + length (compressed_name self.old.places.items (length self.old.octets.items)
-                (labels_of name.now)).octets)) }
+            (labels_of name.now)).octets)) }
     {
         let known = self.places.len();
         let mut rest = name;

@@ -47,7 +47,7 @@ impl<'a> Compressor<'a> {
         ensures refused { IfErr result
             (RefusesUpTo self.old.limit
             (length self.old.octets.items + length (compressed_fields self.old.places.items (length self.old.octets.items)
-                (stated_fields fields.now) rdata.now).octets)) }
+            (stated_fields fields.now) rdata.now).octets)) }
     {
         let mut rest = rdata;
         for field in fields.iter() {
@@ -79,7 +79,7 @@ impl<'a> Compressor<'a> {
         requires small { length self.old.octets.items - start < 65536 }
         ensures octets { self.new.octets.items
             ≡ take (start - 2) self.old.octets.items ++ be_octets w16 (length self.old.octets.items - start)
-                ++ drop start self.old.octets.items }
+            ++ drop start self.old.octets.items }
         ensures places { self.new.places.items ≡ self.old.places.items }
         ensures limit { self.new.limit ≡ self.old.limit }
     {
@@ -96,7 +96,7 @@ impl<'a> Compressor<'a> {
         ensures refused { IfErr result
             (RefusesUpTo self.old.limit
             (length self.old.octets.items + length (compressed_rdata self.old.places.items (length self.old.octets.items)
-                one.now).octets)) }
+            one.now).octets)) }
     {
         let rdata = one.rdata();
         match form(one.rtype()) {
@@ -115,7 +115,7 @@ impl<'a> Compressor<'a> {
         ensures refused { IfErr result
             (RefusesUpTo self.old.limit
             (length self.old.octets.items + length (compressed_record self.old.places.items (length self.old.octets.items)
-                one.now).octets)) }
+            one.now).octets)) }
     {
         self.put_name(one.owner().as_wire())?;
         self.put(&fixed(one.rtype(), one.ttl()))?;
@@ -135,7 +135,7 @@ impl<'a> Compressor<'a> {
         ensures refused { IfErr result
             (RefusesUpTo self.old.limit
             (length self.old.octets.items + length (compressed_all self.old.places.items (length self.old.octets.items)
-                records.now).octets)) }
+            records.now).octets)) }
     {
         for one in records.iter() {
             self.put_record(one)?;

@@ -1,7 +1,7 @@
 //! Messages that are read, or refused.
 use crate::samples::SAMPLES;
 use dns_memory::{Heap, heap};
-use dns_wire::{Message, Section, ReadError};
+use dns_wire::{Message, ReadError, Section};
 use std::alloc::AllocError;
 use std::test::Fail;
 

@@ -63,7 +63,12 @@ fn text(alloc: Heap, times: u8, lengths: &[u8], limit: u16) -> Result<Vec<u8, He
 }
 
 /// How many octets that text has, and how many answers are read from it.
-fn measured(alloc: Heap, times: u8, lengths: &[u8], limit: u16) -> Result<(usize, u16), WriteError> {
+fn measured(
+    alloc: Heap,
+    times: u8,
+    lengths: &[u8],
+    limit: u16,
+) -> Result<(usize, u16), WriteError> {
     let octets = text(alloc, times, lengths, limit)?;
     let answers = Message::read(&octets)?.answer_count();
     Ok((octets.len(), answers))

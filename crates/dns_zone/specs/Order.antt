@@ -38,7 +38,7 @@ tied_key a b e =
     let one = first_equal (name_cmp a.owner b.owner) _ e in
     let two = first_equal (nat_cmp a.rtype b.rtype) _ one.1 in
     let reversed : reverse a.owner ≡ reverse b.owner =
-        slice_cmp-IsAntisymmetric (slice_cmp-IsAntisymmetric nat_cmp-IsAntisymmetric) _ _ one.0 in
+    slice_cmp-IsAntisymmetric (slice_cmp-IsAntisymmetric nat_cmp-IsAntisymmetric) _ _ one.0 in
     record {
       owner = sym (reverse-reverse a.owner) ∙ ap reverse reversed ∙ reverse-reverse b.owner;
       rtype = nat_cmp-IsAntisymmetric _ _ two.0;

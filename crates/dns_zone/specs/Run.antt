@@ -29,7 +29,7 @@ matched z name = elim (cut z name) [
   | None ↦
       if exists z.records name then Owner (records_at z.records name)
       else if exists z.records (source z.records name) then Wildcard (encloser z.records name)
-          (records_at z.records (source z.records name))
+      (records_at z.records (source z.records name))
       else Nothing
 ]
 

@@ -107,8 +107,8 @@ same_sets (x ∷ xs) (y ∷ ys) g h is =
           let some : Some x ≡ Some y = sym (found_head x xs) ∙ is x ∙ at in
           let heads : x ≡ y = cc in
           let rest =
-              same_sets xs ys g.1 h.1 (λ q. tails x q xs ys g.0 (below_tied x y ys e h.0)
-              (is q ∙ ap (λ r. found q (r ∷ ys)) (sym heads))) in
+          same_sets xs ys g.1 h.1 (λ q. tails x q xs ys g.0 (below_tied x y ys e h.0)
+          (is q ∙ ap (λ r. found q (r ∷ ys)) (sym heads))) in
           λ i. heads i ∷ rest i
     ] refl
 
@@ -129,7 +129,7 @@ pub found_put : (q r : Record) (xs : List Record) → found q (put r xs) ≡ con
 found_put q r [] = refl
 found_put q r (x ∷ xs) =
     elim (record_cmp r x) as (λ o. record_cmp r x ≡ o → found q (by_order o (r ∷ x ∷ xs) (r ∷ xs) (x ∷ put r xs))
-        ≡ cond (ties q r) (Some r) (found q (x ∷ xs))) [
+    ≡ cond (ties q r) (Some r) (found q (x ∷ xs))) [
       | Less ↦ λ e. refl
       | Equal ↦ λ e. shadowed (ties q r) (Some r) (Some x) (found q xs)
           ∙ ap (λ o. cond (ties q r) (Some r) (cond (is_eq o) (Some x) (found q xs))) (alike_right record_total r x q e)
@@ -141,7 +141,7 @@ below_put : (y r : Record) (xs : List Record) → record_cmp y r ≡ Less → Be
 below_put y r [] e h = (e, tt)
 below_put y r (x ∷ xs) e h =
     elim (record_cmp r x) as (λ o. Below y (by_order o (r ∷ x ∷ xs) (r ∷ xs) (x ∷ put r xs)))
-        [ Less ↦ (e, h) | Equal ↦ (e, h.1) | Greater ↦ (h.0, below_put y r xs e h.1) ]
+    [ Less ↦ (e, h) | Equal ↦ (e, h.1) | Greater ↦ (h.0, below_put y r xs e h.1) ]
 
 pub sorted_put : (r : Record) (xs : List Record) → Sorted xs → Sorted (put r xs)
 sorted_put r [] h = (tt, tt)
@@ -168,7 +168,7 @@ sorted_filter test [] h = tt
 sorted_filter test (x ∷ xs) h =
     let rest = sorted_filter test xs h.1 in
     elim (test x) as (λ b. Sorted (cond b (x ∷ filter test xs) (filter test xs)))
-        [ true ↦ (below_filter x test xs h.0, rest) | false ↦ rest ]
+    [ true ↦ (below_filter x test xs h.0, rest) | false ↦ rest ]
 
 found_passed : (q x : Record) (test : Record → Bool) (xs : List Record) (b t : Bool)
     → test x ≡ b
@@ -181,7 +181,7 @@ found_passed q x test xs true true e f h is = ap (λ c. cond c (Some x) (found q
 found_passed q x test xs true false e f h is = ap (λ c. cond c (Some x) (found q (filter test xs))) f ∙ is
 found_passed q x test xs false true e f h is =
     let none : found q (filter test xs) ≡ None =
-        not_found q (filter test xs) (below_tied q x (filter test xs) (equal_is (record_cmp q x) f) (below_filter x test xs h)) in
+    not_found q (filter test xs) (below_tied q x (filter test xs) (equal_is (record_cmp q x) f) (below_filter x test xs h)) in
     none ∙ sym (ap (λ c. cond c (Some x) None) e)
 found_passed q x test xs false false e f h is = is
 
@@ -253,7 +253,7 @@ pub filter_contains : (a : Record) (test : Record → Bool) (xs : List Record)
 filter_contains a test [] e = absurd cc
 filter_contains a test (x ∷ xs) e =
     elim (test x) as (λ b. test x ≡ b → contains (cond b (x ∷ filter test xs) (filter test xs)) a ≡ true → (test a ≡ true)
-        × (contains (x ∷ xs) a ≡ true)) [
+    × (contains (x ∷ xs) a ≡ true)) [
       | true ↦ λ t c. elim (either_true (same a x) (contains (filter test xs) a) c) [
         | inl s ↦ (subst (λ r. test r ≡ true) (sym (same_is a x s)) t, ap (λ b. b || contains xs a) s)
         | inr s ↦ (let rest = filter_contains a test xs s in (rest.0, grow (same a x) (contains xs a) rest.1))
@@ -276,7 +276,7 @@ contains_filter a test (x ∷ xs) e t = elim (either_true (same a x) (contains x
       rw passes (ap (λ b. b || contains (filter test xs) a) s))
   | inr s ↦ (let rest = contains_filter a test xs s t in
       elim (test x) as (λ b. contains (cond b (x ∷ filter test xs) (filter test xs)) a ≡ true)
-          [ true ↦ grow (same a x) (contains (filter test xs) a) rest | false ↦ rest ])
+      [ true ↦ grow (same a x) (contains (filter test xs) a) rest | false ↦ rest ])
 ]
   where
     grow : (b c : Bool) → c ≡ true → (b || c) ≡ true

@@ -23,13 +23,13 @@ alike_tied a b e =
     let rtype : a.rtype ≡ b.rtype = grind (arith, nat_tests, three.1) in
     let rdata = bytes_same a.rdata b.rdata two.1 in
     (λ i. ordering_then (name_cmp a.owner (sym owner i)) (ordering_then (nat_cmp a.rtype (sym rtype i))
-        (slice_cmp nat_cmp a.rdata (sym rdata i)))) ∙ tied_itself record_total a
+    (slice_cmp nat_cmp a.rdata (sym rdata i)))) ∙ tied_itself record_total a
 
 pub none_alike : (x : Record) (xs : List Record) → Below x xs → list_any (alike x) xs ≡ false
 none_alike x [] h = refl
 none_alike x (y ∷ ys) h =
     let apart : alike x y ≡ false =
-        elim (told (alike x y)) [ inl e ↦ (let tied = alike_tied x y e in let less = h.0 in absurd cc) | inr e ↦ e ] in
+    elim (told (alike x y)) [ inl e ↦ (let tied = alike_tied x y e in let less = h.0 in absurd cc) | inr e ↦ e ] in
     ap (λ (b : Bool). b || list_any (alike x) ys) apart ∙ none_alike x ys h.1
 
 -- no record of a list in order stands twice in it

@@ -18,10 +18,10 @@ returns c = λ zones octets out transport known fits handles.
     let header = c.question_law.ensures.header octets fits in
     let valid = request_is texts.long zones known octets header transport in
     let read : (m : Message) → Reads octets m → IsTextOf out = λ m reads.
-      subst AreValid (sym (handles.handled ∙ ap (handled_as zones octets transport) (handles.is.read m reads)))
-      (valid (Some m) (reads.header, λ q one. c.question_law.ensures.echoed octets m q fits reads one)) in
+    subst AreValid (sym (handles.handled ∙ ap (handled_as zones octets transport) (handles.is.read m reads)))
+    (valid (Some m) (reads.header, λ q one. c.question_law.ensures.echoed octets m q fits reads one)) in
     let unread : ((m : Message) → Reads octets m → ⊥) → IsTextOf out = λ none.
-      subst AreValid (sym (handles.handled ∙ ap (handled_as zones octets transport) (handles.is.unread none))) (valid None tt) in
+    subst AreValid (sym (handles.handled ∙ ap (handled_as zones octets transport) (handles.is.unread none))) (valid None tt) in
     let sent : IsTextOf out = elim (message_of octets) as (λ o. message_of octets ≡ o → IsTextOf out) [
       | Some m ↦ λ e. read m ((grammar octets m fits).1 e)
       | None ↦ λ e. unread (λ m reads. (let other = (grammar octets m fits).0 reads in absurd cc))

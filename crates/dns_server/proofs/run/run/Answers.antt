@@ -1,17 +1,14 @@
-use Rattle.std.proofs.Common.{rules, ◌≡◌, ◌⊎◌, true, length, MatchResult, IfOk, ℕ, ◌+◌, ◌-◌, ◌*◌, ◌<◌, ◌≤◌, ◌/◌, ◌%◌, Bool, false, nat_eq, nat_lt, List, [], ◌∷◌, ◌++◌, slice_index_or, slice_set, bit_and, bit_or, Fits, w8, w32, w64, Bor, MutBor}
-use Rattle.std.specs.List.{AllZip}
-use Rattle.std.specs.Option.{option_copied}
-use Rattle.std.specs.String.{string_bytes}
-use Rattle.dns_primary.specs.Machine.{Machine}
-use Rattle.dns_primary.specs.Fresh.{IsFresh}
-use Rattle.dns_server.specs.Checks.{is_memory}
-use Rattle.dns_server.specs.Replays.{Holds, IsFirstFault, IsLoaded, IsSettingOf, ReplayEnds, ScriptEnds, octets_at, origins_of}
+use Rattle.std.proofs.Common.{refl, rules}
+use Rattle.std.proofs.KnownBytes.{Keeps-refl}
+use Rattle.dns_server.specs.declared.files.Fault.TheVariants.{Syntax, Unreadable}
+use Rattle.dns_server.proofs.Replayed.{script_refused}
 use Rattle.dns_server.proofs.run.run.Goals as goal
 
--- src/run.rt:123:9
 pub returns-in_default : goal.returns-in_default
-returns-in_default g c = ?
+returns-in_default g c =
+    let out = g.W.Write.contents c.args.out.now in
+    script_refused c.args.zones.now c.args.script.now Unreadable out out (g.E.Write.contents c.args.err.now) (g.E.Write.contents c.tell.new.err) c.tell.result refl (rw c.in_default.is (Keeps-refl out)) c.tell.ensures
 
--- src/run.rt:121:1
 pub returns-in-Syntax : goal.returns-in-Syntax
-returns-in-Syntax g c = ?
+returns-in-Syntax g c =
+    script_refused c.args.zones.now c.args.script.now (Syntax c.in-Syntax.line) (g.W.Write.contents c.args.out.now) _ (g.E.Write.contents c.args.err.now) (g.E.Write.contents c.tell-in-Syntax.new.err) c.tell-in-Syntax.result refl (search rules) c.tell-in-Syntax.ensures

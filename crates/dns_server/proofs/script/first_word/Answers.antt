@@ -1,6 +1,6 @@
 use Rattle.std.proofs.Common.{◌<◌, length, ◌∙◌, rules}
-use Rattle.dns_script.proofs.Words.{cut_words, one_word}
-use Rattle.dns_script.proofs.lines.first_word.Goals as goal
+use Rattle.dns_server.proofs.Words.{cut_words, one_word}
+use Rattle.dns_server.proofs.script.first_word.Goals as goal
 
 pub returns-then-not-is_empty : goal.returns-then-not-is_empty
 returns-then-not-is_empty c =

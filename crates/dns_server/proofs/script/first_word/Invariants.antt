@@ -1,6 +1,6 @@
 use Rattle.std.proofs.Common.{◌≡◌, length}
-use Rattle.dns_script.specs.Lines.{words}
-use Rattle.dns_script.proofs.lines.first_word.Given as goal
+use Rattle.dns_server.specs.Scripts.{words}
+use Rattle.dns_server.proofs.script.first_word.Given as goal
 
 abbrev pub invariant-blanks : goal.invariant-blanks
 invariant-blanks l = words l.fn.text ≡ words l.rest
