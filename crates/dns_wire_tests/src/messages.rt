@@ -31,7 +31,6 @@ fn word(error: ReadError) -> &'static str {
         ReadError::Cut => "cut",
         ReadError::Trailing => "trailing",
         ReadError::BadData => "data",
-        _ => "another",
     }
 }
 
