@@ -1,7 +1,7 @@
 -- The reply to a query, put together.
 use Rattle.std.proofs.Common.{◌≡◌, ◌<◌, ◌≤◌, inl, inr, ℕ, Bool, true, false, List, [], ◌∷◌, ◌++◌, length, refl, sym, ap, ◌∙◌, arith}
 use Rattle.std.proofs.lemmas.Bool.Decides.{nat_tests}
-use Rattle.dns_zone.specs.Sets.{told}
+use Rattle.dns_zone.specs.Sets.{true_or_false}
 use Rattle.std.specs.Prelude.{nat_le, Option, Some, None, is_none, if◌then◌else◌}
 use Rattle.dns_names.specs.Name.{Labels}
 use Rattle.dns_zone.specs.Zone.{Zone}
@@ -62,4 +62,4 @@ module _ (octets : List ℕ) (m : Message) (q : Question) (fs : List Found) (b :
 
 -- what is not more
 pub at_most : (most count : ℕ) → (most < count → ⊥) → count ≤ most
-at_most most count h = elim (told (nat_le count most)) [ inl e ↦ grind (arith, nat_tests, e) | inr e ↦ absurd (let over : most < count = grind (arith, nat_tests, e) in h over) ]
+at_most most count h = elim (true_or_false (nat_le count most)) [ inl e ↦ grind (arith, nat_tests, e) | inr e ↦ absurd (let over : most < count = grind (arith, nat_tests, e) in h over) ]

@@ -13,7 +13,7 @@ use Rattle.dns_zone.specs.Place.{StandsAt, BelongsAt}
 use Rattle.dns_zone.specs.Zone.{has_twice}
 use Rattle.dns_zone.specs.Order.{record_total, both_true, same_is, same_itself, names_itself, number_itself, tied_key}
 use Rattle.dns_zone.specs.Twice.{alike_is, alike_flips, any_by}
-use Rattle.dns_zone.specs.Sets.{ties, found, Sorted, told, sorted_from, equal_is, found_tied, same_sets, sorted_filter, only, found_filter, or_else, found_put, found_united, sorted_put, sorted_united, found_contains, contains_found, filter_contains, contains_filter}
+use Rattle.dns_zone.specs.Sets.{ties, found, Sorted, true_or_false, sorted_from, equal_is, found_tied, same_sets, sorted_filter, only, found_filter, or_else, found_put, found_united, sorted_put, sorted_united, found_contains, contains_found, filter_contains, contains_filter}
 use Rattle.dns_zone.proofs.Listed.{ordered_from}
 use Rattle.dns_changes.specs.Change.{Change, change_fault, removed_from, are_present, are_new}
 use Rattle.dns_changes.specs.declared.ChangeError.TheVariants.{WrongSoa, RemovesAbsent, AddsPresent}
@@ -203,7 +203,7 @@ among_found r a xs h e =
     (λ s. subst (λ (x : Record). contains xs x ≡ true) ((same_record-Decides a r).0 s) (found_contains r a xs e).1)
 
 pub among_none : (r : Record) (xs : List Record) → Sorted xs → has r xs ≡ false → contains xs r ≡ false
-among_none r xs h e = elim (told (contains xs r)) [
+among_none r xs h e = elim (true_or_false (contains xs r)) [
   | inr f ↦ f
   | inl c ↦ (let some : is_some (found r xs) ≡ true = ap is_some (contains_found r xs h c) in let none = has_is r xs in absurd cc)
 ]

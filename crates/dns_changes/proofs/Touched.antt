@@ -11,7 +11,7 @@ use Rattle.dns_names.specs.Compare.{name_cmp-same}
 use Rattle.dns_records.specs.Record.{Record, record_cmp}
 use Rattle.dns_zone.specs.Records.{contains, records_at, same}
 use Rattle.dns_zone.specs.Order.{name_total, names_same, same_itself}
-use Rattle.dns_zone.specs.Sets.{Sorted, Below, told, either_true, filter_contains, contains_filter}
+use Rattle.dns_zone.specs.Sets.{Sorted, Below, true_or_false, either_true, filter_contains, contains_filter}
 use Rattle.dns_zone.proofs.Searching.{then_less}
 use Rattle.dns_changes.specs.Change.{is_soa, is_lone, only_in}
 use Rattle.dns_changes.specs.Touched.{is_owned_by, records_aside, DifferAt}
@@ -59,7 +59,7 @@ above_name n x y e h = elim (then_less (name_cmp x.owner y.owner) _ h) [
 ]
 
 other_name : (n m : Labels) → name_cmp n m ≡ Less → names_eq m n ≡ false
-other_name n m e = elim (told (names_eq m n)) [
+other_name n m e = elim (true_or_false (names_eq m n)) [
   | inr f ↦ f
   | inl t ↦ (let is : name_cmp n n ≡ Less = subst (λ (k : Labels). name_cmp n k ≡ Less) (names_same m n t) e in
       let tied : name_cmp n n ≡ Equal = tied_itself name_total n in absurd cc)

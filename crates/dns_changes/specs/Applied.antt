@@ -11,7 +11,7 @@ use Rattle.dns_changes.specs.declared.ChangeError.TheVariants.{WrongSoa, Removes
 use Rattle.dns_changes.specs.Laws.{ChangeLeads, ChangeIsOne}
 use Rattle.dns_zone.specs.Order.{both_true, same_is, same_itself, tied_key}
 use Rattle.dns_zone.specs.Twice.{alike_tied, once}
-use Rattle.dns_zone.specs.Sets.{ties, found, Sorted, told, sorted_from, found_tied, same_sets, joins, sorted_filter, only, found_filter, or_else, found_united, sorted_united, found_contains, either_true, contains_found, filter_contains, contains_filter}
+use Rattle.dns_zone.specs.Sets.{ties, found, Sorted, true_or_false, sorted_from, found_tied, same_sets, joins, sorted_filter, only, found_filter, or_else, found_united, sorted_united, found_contains, either_true, contains_found, filter_contains, contains_filter}
 
 pub not_true : (b : Bool) → not b ≡ true → b ≡ false
 not_true true e = absurd cc
@@ -45,7 +45,7 @@ none_of test (x ∷ xs) h =
 
 pub unfound : (q : Record) (xs : List Record) → found q xs ≡ None → list_any (ties q) xs ≡ false
 unfound q [] e = refl
-unfound q (x ∷ xs) e = elim (told (ties q x)) [
+unfound q (x ∷ xs) e = elim (true_or_false (ties q x)) [
   | inl t ↦ (let at : found q (x ∷ xs) ≡ Some x = ap (λ b. cond b (Some x) (found q xs)) t in absurd cc)
   | inr t ↦ (let at : found q (x ∷ xs) ≡ found q xs = ap (λ b. cond b (Some x) (found q xs)) t in
       ap (λ b. b || list_any (ties q) xs) t ∙ unfound q xs (sym at ∙ e))
@@ -70,7 +70,7 @@ not_alike : (s : Record) (test : Record → Bool) (xs : List Record)
     → is_soa s ≡ true
     → ((r : Record) → test r ≡ true → not (is_soa r) ≡ true)
     → list_any (alike s) (filter test xs) ≡ false
-not_alike s test xs i other = none_of (alike s) (filter test xs) (λ r e. elim (told (alike s r)) [
+not_alike s test xs i other = none_of (alike s) (filter test xs) (λ r e. elim (true_or_false (alike s r)) [
   | inr f ↦ f
   | inl t ↦ (let passes = filter_contains r test xs e in
       let key = tied_key s r (alike_tied s r t) in
@@ -104,7 +104,7 @@ module _ (before after : List Record) (c : Change) (hb : Sorted before) (ha : So
 
   -- a record of both versions that is no SOA stays
   kept : (b : Record) → is_soa b ≡ false → contains after b ≡ true → stays b ≡ true
-  kept b i e = elim (told (contains (c.old_soa ∷ c.removed) b)) [
+  kept b i e = elim (true_or_false (contains (c.old_soa ∷ c.removed) b)) [
     | inr f ↦ ap not f
     | inl t ↦ elim (either_true (same b c.old_soa) (contains c.removed b) t) [
       | inl s ↦ apart (is_soa b) (subst (λ r. is_soa r ≡ true) (sym (same_is b c.old_soa s)) (one_in before c.old_soa h.old_soa).0)
@@ -122,7 +122,7 @@ module _ (before after : List Record) (c : Change) (hb : Sorted before) (ha : So
       let is = one_is before c.old_soa a h.old_soa e i in
       let self : same a c.old_soa ≡ true = subst (λ r. same a r ≡ true) is (same_itself a) in
       ap (λ b. not (b || contains c.removed a)) self
-  lost a e (inr f) = elim (told (is_soa a)) [
+  lost a e (inr f) = elim (true_or_false (is_soa a)) [
     | inl i ↦ lost_soa i
     | inr i ↦
         (let passes : goes a ≡ true = ap (λ b. not b && not (contains after a)) i ∙ ap not f in
@@ -147,7 +147,7 @@ module _ (before after : List Record) (c : Change) (hb : Sorted before) (ha : So
   without_new q x y e = ap (λ b. or_else (cond b (Some c.new_soa) (only comes x)) (only stays y)) e
 
   new_untied : (q : Record) → found q after ≡ None → ties q c.new_soa ≡ false
-  new_untied q e = elim (told (ties q c.new_soa)) [
+  new_untied q e = elim (true_or_false (ties q c.new_soa)) [
     | inr f ↦ f
     | inl t ↦ (let one = found_tied q c.new_soa t after in let two =
         contains_found c.new_soa after ha (one_in after c.new_soa h.new_soa).1 in absurd cc)
@@ -157,7 +157,7 @@ module _ (before after : List Record) (c : Change) (hb : Sorted before) (ha : So
   stays_none q None e f = refl
   stays_none q (Some a) e f =
       let there = found_contains q a before f in
-      let absent : contains after a ≡ false = elim (told (contains after a)) [
+      let absent : contains after a ≡ false = elim (true_or_false (contains after a)) [
         | inr g ↦ g
         | inl t ↦ (let one = found_tied q a there.0 after in let two = contains_found a after ha t in absurd cc)
       ] in
@@ -181,18 +181,18 @@ module _ (before after : List Record) (c : Change) (hb : Sorted before) (ha : So
   at_key q None y e f = without_new q None y (new_untied q e) ∙ stays_none q y e f
   at_key q (Some b) y e f =
       let there = found_contains q b after e in
-      elim (told (is_soa b)) [
+      elim (true_or_false (is_soa b)) [
         | inl i ↦
             (let is = one_is after c.new_soa b h.new_soa there.1 i in
             let t : ties q c.new_soa ≡ true = subst (λ r. ties q r ≡ true) is there.0 in
             ap (λ d. or_else (cond d (Some c.new_soa) (only comes (Some b))) (only stays y)) t
             ∙ ap (λ (r : Record). Some r) (sym is))
         | inr i ↦
-            (let t : ties q c.new_soa ≡ false = elim (told (ties q c.new_soa)) [
+            (let t : ties q c.new_soa ≡ false = elim (true_or_false (ties q c.new_soa)) [
               | inr g ↦ g
               | inl g ↦ apart (is_soa b) (soa_tied q c.new_soa b g there.0 (one_in after c.new_soa h.new_soa).0) i
             ] in
-            without_new q (Some b) y t ∙ elim (told (contains before b)) [
+            without_new q (Some b) y t ∙ elim (true_or_false (contains before b)) [
               | inr g ↦
                   (let passes : comes b ≡ true = ap (λ d. not d && not (contains before b)) i ∙ ap not g in
                   ap (λ d. or_else (cond d (Some b) None) (only stays y)) passes)
@@ -228,7 +228,7 @@ module _ (before after : List Record) (c : Change) (hb : Sorted before) (ha : So
         | inr s ↦
             (let new = filter_contains r comes after (subst (λ xs. contains xs r ≡ true) h.added s) in
             let both = both_true (not (is_soa r)) (not (contains before r)) new.0 in
-            elim (told (contains after a)) [
+            elim (true_or_false (contains after a)) [
               | inr g ↦ inr g
               | inl g ↦
                   (let one = found_tied r a there.0 after in

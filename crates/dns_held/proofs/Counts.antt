@@ -4,7 +4,7 @@ use Rattle.std.specs.Prelude.{cond, filter}
 use Rattle.std.specs.List.{flat_map}
 use Rattle.dns_records.specs.Record.{Record, plain}
 use Rattle.dns_zone.specs.Records.{contains}
-use Rattle.dns_zone.specs.Sets.{Sorted, found, told, found_tied, same_sets, sorted_filter, only, found_filter, found_contains, contains_found}
+use Rattle.dns_zone.specs.Sets.{Sorted, found, true_or_false, found_tied, same_sets, sorted_filter, only, found_filter, found_contains, contains_found}
 use Rattle.dns_changes.specs.Change.{Change, IsChange, is_soa}
 use Rattle.dns_held.specs.Plain.{octets_of}
 
@@ -43,7 +43,7 @@ dropped t a ys e = ap (λ b. cond (not (t a) && b) (Some a) None) e ∙ none (no
     none false = refl
 
 absent : (q a : Record) (xs ys : List Record) → Sorted ys → found q xs ≡ Some a → (y : Option Record) → found q ys ≡ y → (y ≡ Some a → ⊥) → contains ys a ≡ false
-absent q a xs ys h e y f apart = elim (told (contains ys a)) [
+absent q a xs ys h e y f apart = elim (true_or_false (contains ys a)) [
   | inl t ↦ absurd (apart (sym f ∙ across q a xs ys h e t))
   | inr t ↦ t
 ]
@@ -52,13 +52,13 @@ at_key : (q : Record) (xs ys : List Record) → Sorted xs → Sorted ys → (x y
 at_key q xs ys hx hy None None e f = refl
 at_key q xs ys hx hy (Some a) None e f = dropped is_soa a ys (absent q a xs ys hy e None f (λ n. absurd (cc n)))
 at_key q xs ys hx hy None (Some b) e f = sym (dropped is_soa b xs (absent q b ys xs hx f None e (λ n. absurd (cc n))))
-at_key q xs ys hx hy (Some a) (Some b) e f = elim (told (contains ys a)) [
+at_key q xs ys hx hy (Some a) (Some b) e f = elim (true_or_false (contains ys a)) [
   | inl t ↦
       (let there = across q a xs ys hy e t in
       let is : a ≡ b = cc (sym there ∙ f) in
       let other : contains xs a ≡ true = (found_contains q a xs e).1 in
       ap (λ c. cond (not (is_soa a) && c) (Some a) None) (t ∙ sym other) ∙ ap (λ (r : Record). cond (not (is_soa r) && contains xs r) (Some r) None) is)
-  | inr t ↦ elim (told (contains xs b)) [
+  | inr t ↦ elim (true_or_false (contains xs b)) [
     | inl u ↦
         (let there = across q b ys xs hx f u in
         let is : a ≡ b = cc (sym e ∙ there) in

@@ -22,7 +22,7 @@ use Rattle.dns_held.specs.Staging.{has_room, HasRoomBy, staging_error}
 use Rattle.std.specs.Result.{IsErrAnd}
 use Rattle.dns_held.specs.declared.staging.StagingError.{StagingError}
 use Rattle.dns_held.specs.Plain.{octets_of}
-use Rattle.dns_held.specs.Held.{IsHeld, IsTip, newer, newest_zone, shown_zone}
+use Rattle.dns_held.specs.Held.{HasVersions, IsTip, newer, newest_zone, shown_zone}
 use Rattle.dns_held.specs.declared.behind.Behind.{Behind}
 use Rattle.dns_held.proofs.Counts.{counts, octets_more}
 
@@ -30,7 +30,7 @@ pub tip_newest : (zone : Zone) (o : Option Zone) (k : Kept) → zone ≡ shown_z
 tip_newest zone None k is none = is ∙ λ i. record { apex = k.shape.apex; records = newest_after k.loaded ((sym (append-nil k.shown) ∙ sym (ap (λ (vs : Versions). k.shown ++ vs) none)) i) }
 tip_newest zone (Some tip) k is none = none
 
-pub newer_is : {I S : Type 0} (keeps : S → Kept → Type 0) (zone : Zone) (b : Behind I S) (k : Kept) → IsHeld keeps zone b k → newer zone b.tip ≡ newest_zone k
+pub newer_is : {I S : Type 0} (keeps : S → Kept → Type 0) (zone : Zone) (b : Behind I S) (k : Kept) → HasVersions keeps zone b k → newer zone b.tip ≡ newest_zone k
 newer_is keeps zone b k held = tip_newest zone b.tip k held.zone_is held.tip_is
 
 short_one : (r : Record) → IsRecord r → length (plain r) ≤ 4359
@@ -43,11 +43,11 @@ short_all (r ∷ rs) each = let one = short_one r each.0 in let rest = short_all
 -- what is counted beside a version are its octets, where it has so few records
 pub counted : (before : Zone) (octets n : ℕ) (after : List Record) (c : Change) → IsZone before → IsNext before c after → IsChange before.records after c → octets ≡ octets_of before.records
     → ((kept : ℕ) → octets ≡ octets_of (c.old_soa ∷ c.removed) + kept → octets_of (c.new_soa ∷ c.added) + kept < 2 ^ 64 → n ≡ octets_of (c.new_soa ∷ c.added) + kept) → length after ≤ 65536 → n ≡ octets_of after
-counted before octets n after c valid next change is told few =
+counted before octets n after c valid next change is moved few =
     let sum = counts before.records after c (sorted_from before.records valid.ordered) (sorted_from after next.version.ordered) change in
     let test : nat_le (octets_of after) (4359 * length after) ≡ true = ∥∥₁_elim next.version.each (Bool-set (nat_le (octets_of after) (4359 * length after)) true) (λ all. let short = short_all after all in grind (arith, nat_tests, short)) in
     let short : octets_of after ≤ 4359 * length after = grind (arith, nat_tests, test) in
-    told sum.kept (is ∙ sum.old) (omega (arith, short, few, sum.new)) ∙ sym sum.new
+    moved sum.kept (is ∙ sum.old) (omega (arith, short, few, sum.new)) ∙ sym sum.new
 
 within : (b : Bool) → b ≡ false → (if b then Some TooMany else None) ≡ None
 within true e = absurd (cc e)

@@ -1,7 +1,7 @@
 //! What stands behind a zone that is shown.
 ghost use Rattle.std.specs.Prelude.{◌≡◌, []};
 ghost use Rattle.dns_store.specs.Versions.{Kept};
-ghost use Rattle.dns_held.specs.Held.{IsHeld, newer, newest_zone, shown_zone};
+ghost use Rattle.dns_held.specs.Held.{HasVersions, newer, newest_zone, shown_zone};
 
 use crate::octets::snapshot_len;
 use dns_store::ZoneStore;
@@ -33,7 +33,7 @@ impl<I: ZoneIndex, S: ZoneStore> Behind<I, S> {
             → S.keeps store k
             → k.shape.snapshot ≡ snapshot
             → k.shape.journal ≡ journal
-            → IsHeld S.keeps zone.now result k }
+            → HasVersions S.keeps zone.now result k }
     {
         let number = store.newest();
         Behind {
@@ -53,7 +53,7 @@ pub fn newest<'a, I: ZoneIndex, S: ZoneStore>(
     behind: &'a Behind<I, S>,
 ) -> &'a Zone<I>
     ensures either { result.now ≡ newer zone.now behind.now.tip }
-    ensures held { (k : Kept) → IsHeld S.keeps zone.now behind.now k → result.now ≡ newest_zone k }
+    ensures held { (k : Kept) → HasVersions S.keeps zone.now behind.now k → result.now ≡ newest_zone k }
 {
     match &behind.tip {
         Some(tip) => tip,

@@ -4,7 +4,7 @@ ghost use Rattle.dns_zone.specs.Zone.{Zone as Stated, IsZone, zone_fault};
 ghost use Rattle.dns_changes.specs.Change.{IsChange};
 ghost use Rattle.dns_changes.specs.Version.{IsNext};
 ghost use Rattle.dns_store.specs.Versions.{Kept, StandsStill, newest_of, staged_with};
-ghost use Rattle.dns_held.specs.Held.{IsHeld, newer};
+ghost use Rattle.dns_held.specs.Held.{HasVersions, newer};
 ghost use Rattle.dns_held.specs.Plain.{octets_of};
 ghost use Rattle.dns_held.specs.Staging.{HasRoomBy, has_room};
 
@@ -64,7 +64,7 @@ fn has_room<I: ZoneIndex, S: ZoneStore>(
     records: &I,
     octets: usize,
 ) -> bool
-    ensures room { (k : Kept) (zone : Stated) → IsHeld S.keeps zone behind.now k → IsChange (newest_of k) (I.records records.now) change.now
+    ensures room { (k : Kept) (zone : Stated) → HasVersions S.keeps zone behind.now k → IsChange (newest_of k) (I.records records.now) change.now
         → (length (I.records records.now) ≤ 65536 → octets ≡ octets_of (I.records records.now)) → result ≡ has_room k (I.records records.now) }
     ensures few { result ≡ true → length (I.records records.now) ≤ 65536 }
 {
@@ -95,10 +95,10 @@ pub fn stage<I: ZoneIndex, S: ZoneStore>(
     requires next { IsNext (newer zone.now behind.old.tip) change.now (I.records records) }
     requires change { IsChange (newer zone.now behind.old.tip).records (I.records records) change.now }
     ensures staged { (k : Kept)
-        → IsHeld S.keeps zone.now behind.old k
-        → OnOk result (IsHeld S.keeps zone.now behind.new (staged_with (I.records records) k)) }
-    ensures stays { (k : Kept) → IsHeld S.keeps zone.now behind.old k → OnErr result (IsHeld S.keeps zone.now behind.new k) }
-    ensures room { (k : Kept) → IsHeld S.keeps zone.now behind.old k → HasRoomBy k (I.records records) result }
+        → HasVersions S.keeps zone.now behind.old k
+        → OnOk result (HasVersions S.keeps zone.now behind.new (staged_with (I.records records) k)) }
+    ensures stays { (k : Kept) → HasVersions S.keeps zone.now behind.old k → OnErr result (HasVersions S.keeps zone.now behind.new k) }
+    ensures room { (k : Kept) → HasVersions S.keeps zone.now behind.old k → HasRoomBy k (I.records records) result }
     ensures still { StandsStill S.moment S.left_since behind.old.store behind.new.store }
     ensures quiet { S.failed behind.new.store ≡ S.failed behind.old.store }
 {

@@ -6,7 +6,7 @@ use Rattle.std.proofs.Math.Seq.{drop-cons}
 use Rattle.std.proofs.lemmas.Option.{slice_get-get_or}
 use Rattle.dns_names.specs.Name.{Labels, names_eq, parent, ancestors}
 use Rattle.dns_zone.specs.Order.{names_same, names_itself}
-use Rattle.dns_zone.specs.Sets.{told}
+use Rattle.dns_zone.specs.Sets.{true_or_false}
 use Rattle.dns_zone.specs.Zone.{Zone}
 use Rattle.dns_lookup.specs.Lookup.{zone_of}
 
@@ -14,7 +14,7 @@ pub eq_true : (a b : Labels) → a ≡ b → names_eq a b ≡ true
 eq_true a b e = subst (λ (x : Labels). names_eq a x ≡ true) e (names_itself a)
 
 pub eq_false : (a b : Labels) → (a ≡ b → ⊥) → names_eq a b ≡ false
-eq_false a b apart = elim (told (names_eq a b)) [ inl e ↦ absurd (apart (names_same a b e)) | inr e ↦ e ]
+eq_false a b apart = elim (true_or_false (names_eq a b)) [ inl e ↦ absurd (apart (names_same a b e)) | inr e ↦ e ]
 
 abbrev pub has_apex : Labels → Zone → Bool
 has_apex apex z = names_eq z.apex apex

@@ -9,12 +9,12 @@ use Rattle.dns_store.specs.Versions.{Kept}
 use Rattle.dns_held.specs.declared.behind.Behind.{Behind}
 use Rattle.dns_primary.specs.Machine.{ZoneState, kept_of}
 use Rattle.dns_held.specs.Each.{Each2}
-use Rattle.dns_held.specs.Held.{IsHeld}
+use Rattle.dns_held.specs.Held.{HasVersions}
 use Rattle.dns_held.proofs.Lists.{get3}
 use Rattle.dns_records.specs.Types.{type_soa, class_in}
 use Rattle.dns_request.specs.Request.{rcode_formerr}
 use Rattle.dns_primary.specs.Update.{Asked, Rejects, admission, admission_at, place_of, rcode_notauth}
-use Rattle.dns_primary.specs.Keeps.{AreHeld, IsSet}
+use Rattle.dns_primary.specs.Keeps.{HaveVersions, IsSet}
 use Rattle.dns_primary.specs.declared.primary.ZoneSettings.{ZoneSettings}
 use Rattle.dns_primary.proofs.Flushed.{mapped}
 
@@ -38,7 +38,7 @@ chosen true false i x y e f = absurd (cc e)
 chosen false true i x y e f = absurd (cc e)
 chosen false false i x y e f = f
 
-from_place : {I S : Type 0} (keeps : S → Kept → Type 0) (apex : Labels) (i : ℕ) (zones : List Zone) (behind : List (Behind I S)) (states : List ZoneState) → AreHeld keeps zones behind states
+from_place : {I S : Type 0} (keeps : S → Kept → Type 0) (apex : Labels) (i : ℕ) (zones : List Zone) (behind : List (Behind I S)) (states : List ZoneState) → HaveVersions keeps zones behind states
     → position_from (λ z. names_eq z.apex apex) i zones ≡ option_map (λ n. i + n) (place_of apex states)
 from_place keeps apex i [] [] [] each = refl
 from_place keeps apex i (z ∷ zones) (b ∷ behind) (s ∷ states) each =
@@ -46,7 +46,7 @@ from_place keeps apex i (z ∷ zones) (b ∷ behind) (s ∷ states) each =
     (ap (λ (x : Zone). names_eq x.apex apex) each.0.zone_is) (from_place keeps apex (i + 1) zones behind states each.1 ∙ moved i (place_of apex states))
 from_place keeps apex i _ _ _ each = absurd each
 
-pub same_place : {I S : Type 0} (keeps : S → Kept → Type 0) (apex : Labels) (zones : List Zone) (behind : List (Behind I S)) (states : List ZoneState) → AreHeld keeps zones behind states
+pub same_place : {I S : Type 0} (keeps : S → Kept → Type 0) (apex : Labels) (zones : List Zone) (behind : List (Behind I S)) (states : List ZoneState) → HaveVersions keeps zones behind states
     → position (λ z. names_eq z.apex apex) zones ≡ place_of apex states
 same_place keeps apex zones behind states each = position_from-zero (λ (z : Zone). names_eq z.apex apex) zones ∙ from_place keeps apex 0 zones behind states each ∙ from_zero (place_of apex states)
 
@@ -65,18 +65,18 @@ pub record At {I S : Type 0} (keeps : S → Kept → Type 0) (zones : List Zone)
   pub zone : Zone
   pub state : ZoneState
   pub there : slice_get states place ≡ Some state
-  pub held : IsHeld keeps zone (slice_index_or behind place b) (kept_of state)
+  pub held : HasVersions keeps zone (slice_index_or behind place b) (kept_of state)
   pub set : IsSet (slice_index_or settings place s) state
 
 pub at_place : {I S : Type 0} (keeps : S → Kept → Type 0) (zones : List Zone) (behind : List (Behind I S)) (settings : List ZoneSettings) (states : List ZoneState) (place : ℕ) (b : Behind I S) (s : ZoneSettings)
-    → AreHeld keeps zones behind states → Each2 IsSet settings states → place < length behind → At keeps zones behind settings states place b s
+    → HaveVersions keeps zones behind states → Each2 IsSet settings states → place < length behind → At keeps zones behind settings states place b s
 at_place {I} {S} keeps zones behind settings states place b s held set lt =
-    let k = get3 (λ (z : Zone) (b : Behind I S) (k : Kept). IsHeld keeps z b k) zones behind (map kept_of states) place (record { apex = []; records = [] }) b held lt in
+    let k = get3 (λ (z : Zone) (b : Behind I S) (k : Kept). HasVersions keeps z b k) zones behind (map kept_of states) place (record { apex = []; records = [] }) b held lt in
     let z = mapped states place k.0 k.1 in
     record {
       zone = slice_index_or zones place (record { apex = []; records = [] });
       state = z.0;
       there = z.1;
-      held = subst (λ (k : Kept). IsHeld keeps (slice_index_or zones place (record { apex = []; records = [] })) (slice_index_or behind place b) k) (sym z.2) k.2;
+      held = subst (λ (k : Kept). HasVersions keeps (slice_index_or zones place (record { apex = []; records = [] })) (slice_index_or behind place b) k) (sym z.2) k.2;
       set = get2 IsSet settings states place s z.0 set z.1;
     }

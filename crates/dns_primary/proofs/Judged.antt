@@ -1,4 +1,4 @@
--- What a verdict that is told says, and how an update ends by it.
+-- What a judgement says of its verdict, and how an update ends by it.
 use Rattle.std.proofs.Common.{◌≡◌, ◌<◌, ◌≤◌, Bool, true, false, not, List, refl, sym, ap, subst, ◌∙◌, arith}
 use Rattle.std.specs.Prelude.{Err, nat_le, if◌then◌else◌}
 use Rattle.std.proofs.lemmas.Bool.Decides.{nat_tests}
@@ -6,8 +6,8 @@ use Rattle.dns_records.specs.Record.{Record}
 use Rattle.dns_changes.specs.Change.{Change, IsChange}
 use Rattle.dns_wire.specs.declared.codes.Rcode.{Rcode}
 use Rattle.dns_wire.specs.declared.codes.Rcode.TheVariants.{NoError, ServFail}
-use Rattle.dns_update.specs.Verdict.{Verdict, Refuses, Keeps, Leaves, IsTold}
-use Rattle.dns_update.specs.declared.Judged.TheVariants as told
+use Rattle.dns_update.specs.Verdict.{Verdict, Refuses, Keeps, Leaves, IsVerdict}
+use Rattle.dns_update.specs.declared.Judged.TheVariants as judged
 use Rattle.dns_store.specs.Versions.{Kept, newest_of, staged_with}
 use Rattle.dns_store.specs.Room.{entry_between, sectors_left}
 use Rattle.dns_held.specs.declared.staging.StagingError.{StagingError}
@@ -17,12 +17,12 @@ use Rattle.dns_primary.specs.declared.update.Outcome.{Outcome}
 use Rattle.dns_primary.specs.declared.update.Outcome.TheVariants.{Waits, AtOnce}
 use Rattle.dns_primary.specs.Outcome.{Ends, end_of, IsDone, refused_as}
 
-pub refused_is : {X : Type 0} (records : X → List Record) (before : List Record) (v : Verdict) (rcode : Rcode) → IsTold records before v (told.Refused rcode) → v ≡ Refuses rcode
+pub refused_is : {X : Type 0} (records : X → List Record) (before : List Record) (v : Verdict) (rcode : Rcode) → IsVerdict records before v (judged.Refused rcode) → v ≡ Refuses rcode
 refused_is records before (Refuses r) rcode e = let same : r ≡ rcode = cc e in ap (λ x. Refuses x) same
 refused_is records before Keeps rcode e = absurd (cc e)
 refused_is records before (Leaves after) rcode e = absurd (let is = e.2 in cc is)
 
-pub kept_is : {X : Type 0} (records : X → List Record) (before : List Record) (v : Verdict) → IsTold records before v told.NoChange → v ≡ Keeps
+pub kept_is : {X : Type 0} (records : X → List Record) (before : List Record) (v : Verdict) → IsVerdict records before v judged.NoChange → v ≡ Keeps
 kept_is records before (Refuses r) e = absurd (cc e)
 kept_is records before Keeps e = refl
 kept_is records before (Leaves after) e = absurd (let is = e.2 in cc is)
@@ -31,7 +31,7 @@ pub record IsLeaving {X : Type 0} (records : X → List Record) (before : List R
   pub is : v ≡ Leaves (records next)
   pub change : IsChange before (records next) c
 
-pub leaving : {X : Type 0} (records : X → List Record) (before : List Record) (v : Verdict) (c : Change) (next : X) → IsTold records before v (told.Accepted c next) → IsLeaving records before v c next
+pub leaving : {X : Type 0} (records : X → List Record) (before : List Record) (v : Verdict) (c : Change) (next : X) → IsVerdict records before v (judged.Accepted c next) → IsLeaving records before v c next
 leaving records before (Refuses r) c next e = absurd (cc e)
 leaving records before Keeps c next e = absurd (cc e)
 leaving {X} records before (Leaves after) c next e =

@@ -17,7 +17,7 @@ use Rattle.dns_store.specs.Versions.{Kept, newest_of, staged_with}
 use Rattle.dns_store.specs.Room.{entry_between, sectors_left}
 use Rattle.dns_held.specs.declared.behind.Behind.{Behind}
 use Rattle.dns_held.specs.Each.{Each3}
-use Rattle.dns_held.specs.Held.{IsHeld}
+use Rattle.dns_held.specs.Held.{HasVersions}
 use Rattle.dns_held.specs.Staging.{has_room}
 use Rattle.dns_primary.specs.declared.event.Waiting.{Waiting}
 use Rattle.dns_primary.specs.declared.primary.ZoneSettings.{ZoneSettings}
@@ -97,16 +97,16 @@ module _ (m : Machine) (a : Asked) (place : ℕ) (z : ZoneState) (there : slice_
 
 module _ {I S : Type 0} (keeps : S → Kept → Type 0) (zones : List Zone) (behind : List (Behind I S)) (settings : List ZoneSettings) (waiting : List Waiting) (m : Machine) (place : ℕ) (z : ZoneState) where
   pub was_held : (d : Zone) (e : Behind I S) → Holds keeps zones behind settings waiting m.connections m → slice_get m.zones place ≡ Some z
-      → IsHeld keeps (slice_index_or zones place d) (slice_index_or behind place e) (kept_of z)
-  was_held d e held there = at3 (λ (z : Zone) (b : Behind I S) (k : Kept). IsHeld keeps z b k) zones behind (map kept_of m.zones) place d e (kept_of z) held.zones_are (map_get kept_of m.zones place z there)
+      → HasVersions keeps (slice_index_or zones place d) (slice_index_or behind place e) (kept_of z)
+  was_held d e held there = at3 (λ (z : Zone) (b : Behind I S) (k : Kept). HasVersions keeps z b k) zones behind (map kept_of m.zones) place d e (kept_of z) held.zones_are (map_get kept_of m.zones place z there)
 
   -- the machine stays, and what stands behind the zone keeps the same versions
   pub still_holds : (d : Zone) (new : Behind I S) → Holds keeps zones behind settings waiting m.connections m → slice_get m.zones place ≡ Some z
-      → IsHeld keeps (slice_index_or zones place d) new (kept_of z) → Holds keeps zones (slice_set behind place new) settings waiting m.connections m
+      → HasVersions keeps (slice_index_or zones place d) new (kept_of z) → Holds keeps zones (slice_set behind place new) settings waiting m.connections m
   still_holds d new held there one = record {
     zones_are =
-        subst (λ (ks : List Kept). Each3 (λ (z : Zone) (b : Behind I S) (k : Kept). IsHeld keeps z b k) zones (slice_set behind place new) ks) (set_same (map kept_of m.zones) place (kept_of z) (map_get kept_of m.zones place z there))
-        (mid_set (λ (z : Zone) (b : Behind I S) (k : Kept). IsHeld keeps z b k) zones behind (map kept_of m.zones) place d new (kept_of z) held.zones_are one);
+        subst (λ (ks : List Kept). Each3 (λ (z : Zone) (b : Behind I S) (k : Kept). HasVersions keeps z b k) zones (slice_set behind place new) ks) (set_same (map kept_of m.zones) place (kept_of z) (map_get kept_of m.zones place z there))
+        (mid_set (λ (z : Zone) (b : Behind I S) (k : Kept). HasVersions keeps z b k) zones behind (map kept_of m.zones) place d new (kept_of z) held.zones_are one);
     settings_are = held.settings_are;
     waiting_are = held.waiting_are;
     connections_are = held.connections_are;
@@ -114,16 +114,16 @@ module _ {I S : Type 0} (keeps : S → Kept → Type 0) (zones : List Zone) (beh
 
   -- one reply more waits, and the zone has other versions
   pub holds_more : (d : Zone) (new : Behind I S) (a : Asked) (rcode : Rcode) (versions : Kept) (ended : Machine × List Sent) (one : Waiting) → Holds keeps zones behind settings waiting m.connections m → slice_get m.zones place ≡ Some z
-      → Waited m a place z rcode versions ended → IsHeld keeps (slice_index_or zones place d) new versions
+      → Waited m a place z rcode versions ended → HasVersions keeps (slice_index_or zones place d) new versions
       → one.to ≡ a.to → header_of one.request ≡ a.message.header → one.rcode ≡ rcode → one.zone ≡ place
       → (ended.1 ≡ []) × Holds keeps zones (slice_set behind place new) settings (waiting ++ one ∷ []) m.connections ended.0
   holds_more d new a rcode versions ended one held there w is to_is header_is rcode_is zone_is =
       let after : Machine = waits (record m { zones = slice_set m.zones place w.zone }) a place (number_of_rcode rcode) w.updates in
-      let behind_is : IsHeld keeps (slice_index_or zones place d) new (kept_of w.zone) = subst (λ (k : Kept). IsHeld keeps (slice_index_or zones place d) new k) (sym w.versions_are) is in
+      let behind_is : HasVersions keeps (slice_index_or zones place d) new (kept_of w.zone) = subst (λ (k : Kept). HasVersions keeps (slice_index_or zones place d) new k) (sym w.versions_are) is in
       let holds : Holds keeps zones (slice_set behind place new) settings (waiting ++ one ∷ []) m.connections after = record {
         zones_are =
-            subst (λ (ks : List Kept). Each3 (λ (z : Zone) (b : Behind I S) (k : Kept). IsHeld keeps z b k) zones (slice_set behind place new) ks) (sym (map_set kept_of m.zones place w.zone))
-            (mid_set (λ (z : Zone) (b : Behind I S) (k : Kept). IsHeld keeps z b k) zones behind (map kept_of m.zones) place d new (kept_of w.zone) held.zones_are behind_is);
+            subst (λ (ks : List Kept). Each3 (λ (z : Zone) (b : Behind I S) (k : Kept). HasVersions keeps z b k) zones (slice_set behind place new) ks) (sym (map_set kept_of m.zones place w.zone))
+            (mid_set (λ (z : Zone) (b : Behind I S) (k : Kept). HasVersions keeps z b k) zones behind (map kept_of m.zones) place d new (kept_of w.zone) held.zones_are behind_is);
         settings_are = right_set IsSet settings m.zones place z w.zone held.settings_are there
             (λ s set. record { update = λ x. subst (λ (t : Setting). IsTrue (t.may_update x) ↔ IsAllowed s.update.items x) (sym w.setting_is) (set.update x) });
         waiting_are = push2 IsWaiting waiting m.waiting one (record { to = a.to; header = a.message.header; rcode = number_of_rcode rcode; zone = place; updates = w.updates }) held.waiting_are

@@ -20,7 +20,7 @@ use Rattle.dns_sectors.proofs.Moments.{started}
 use Rattle.dns_held.proofs.Lists.{diag}
 use Rattle.dns_held.specs.Each.{Each2, Each3}
 use Rattle.dns_held.specs.Flush.{FailedWhere, HasFailed}
-use Rattle.dns_held.specs.Held.{IsHeld, shown_zone}
+use Rattle.dns_held.specs.Held.{HasVersions, shown_zone}
 use Rattle.dns_primary.specs.declared.event.Peer.{Peer}
 use Rattle.dns_primary.specs.declared.event.To.{To}
 use Rattle.dns_primary.specs.declared.event.Effects.{Effects}
@@ -33,13 +33,13 @@ use Rattle.dns_primary.specs.Flush.{Sent, Replied, flushed, flush_sends, rcode_s
 use Rattle.dns_primary.specs.Update.{Asked, admission, admitted, is_full, made_place, replies}
 use Rattle.dns_primary.specs.Step as machine
 use Rattle.dns_primary.specs.Step.{AreFailures, Gives, IsServed, failure, is_asking}
-use Rattle.dns_primary.specs.Keeps.{AreHeld, IsKept, IsToldBy}
+use Rattle.dns_primary.specs.Keeps.{HaveVersions, IsKept, AreEffects}
 use Rattle.dns_primary.specs.Queue.{IsAnswered, IsUntouched}
 use Rattle.dns_primary.specs.Steps.{AtAnyMoment, Stepped, nothing, one_reply, answered_with, LacksUpdate, IsUpdatedOrLacks, LacksRequest, IsServedOrLacks}
 use Rattle.dns_primary.proofs.Judged.{tested, untested}
 
 -- the zones are those that the machine shows
-pub are_shown : {I S : Type 0} (keeps : S → Kept → Type 0) (zones : List Zone) (behind : List (Behind I S)) (states : List ZoneState) → AreHeld keeps zones behind states → zones ≡ map (λ z. shown_zone (kept_of z)) states
+pub are_shown : {I S : Type 0} (keeps : S → Kept → Type 0) (zones : List Zone) (behind : List (Behind I S)) (states : List ZoneState) → HaveVersions keeps zones behind states → zones ≡ map (λ z. shown_zone (kept_of z)) states
 are_shown keeps [] [] [] each = refl
 are_shown keeps (z ∷ zones) (b ∷ behind) (s ∷ states) each = λ i. each.0.zone_is i ∷ are_shown keeps zones behind states each.1 i
 are_shown keeps _ _ _ each = absurd each
@@ -56,10 +56,10 @@ failed_still store failed moment left_since (f ∷ fails) (a ∷ olds) (b ∷ mi
 
 -- no call was made, or none more
 pub rests : {I S : Type 0} (s : store.Ghosts S) (zones : List Zone) (behind : List (Behind I S)) (ks : List Kept)
-    → ((x : S) (k : Kept) → s.keeps x k → (c : Content) → s.left_since x (s.moment x) c → OpensAsLeft s.opens k c) → Each3 (λ z b k. IsHeld s.keeps z b k) zones behind ks
+    → ((x : S) (k : Kept) → s.keeps x k → (c : Content) → s.left_since x (s.moment x) c → OpensAsLeft s.opens k c) → Each3 (λ z b k. HasVersions s.keeps z b k) zones behind ks
     → Each3 (λ a b k. LeavesOnly s.moment s.left_since a.store b.store (OpensAsLeft s.opens k)) behind behind ks
 rests {I} {S} s zones behind ks at_rest held =
-    diag (λ (z : Zone) (b : Behind I S) (k : Kept). IsHeld s.keeps z b k) (λ (a b : Behind I S) (k : Kept). LeavesOnly s.moment s.left_since a.store b.store (OpensAsLeft s.opens k)) zones behind ks held
+    diag (λ (z : Zone) (b : Behind I S) (k : Kept). HasVersions s.keeps z b k) (λ (a b : Behind I S) (k : Kept). LeavesOnly s.moment s.left_since a.store b.store (OpensAsLeft s.opens k)) zones behind ks held
     (λ z b k h. started s.moment s.left_since b.store (OpensAsLeft s.opens k) (λ c left. at_rest b.store k h.kept c left))
 
 pub still_leaves : {S B : Type 0} (store : B → S) (failed : S → ℕ) (moment : S → ℕ) (left_since : S → ℕ → Content → Type 0) (P : Kept → Content → Type 0) (olds mids news : List B) (ks : List Kept)
@@ -238,9 +238,9 @@ held_as f g go old a ended outcome.OutOfMemory h = go old h
 
 module _ {I S : Type 0} {i : index.Ghosts I} {s : store.Ghosts S} where
   -- nothing changes, and this is what goes out
-  pub stays : (p : Primary I S i s) (m : Machine) (effects : Effects) (stated : machine.Effects) (step : List Bool → machine.Effects → Machine → Type 0) → AtAnyMoment s m p.behind.items p.behind.items → IsKept p m → IsToldBy stated effects → step [] stated m
+  pub stays : (p : Primary I S i s) (m : Machine) (effects : Effects) (stated : machine.Effects) (step : List Bool → machine.Effects → Machine → Type 0) → AtAnyMoment s m p.behind.items p.behind.items → IsKept p m → AreEffects stated effects → step [] stated m
       → Stepped m p p effects step
-  stays p m effects stated step rest kept told is = record { fails = []; failed = tt; any_moment = rest; next = m; stated = stated; is = is; told = told; kept = kept }
+  stays p m effects stated step rest kept effects_are is = record { fails = []; failed = tt; any_moment = rest; next = m; stated = stated; is = is; effects_are = effects_are; kept = kept }
 
 -- a request is served, as what it is
 pub served_as : (old new : Machine) (peer : Peer) (to : To) (octets : List ℕ) (transport : Transport) (r : request.Request) (fails : List Bool) (stated : machine.Effects) → r ≡ request_of octets transport
@@ -261,10 +261,10 @@ pub lacks_one : (m : Machine) (to : To) (octets : List ℕ) (transport : Transpo
 lacks_one m to octets transport r e some = record { noted = refl; accepted = refl; stays = inl (refl, refl, sym (failure_is to octets (header_of octets) (asking octets transport r (sym e) some) refl)) }
 
 -- a reply that was made, or memory was refused
-pub replied : {V E : Type 0} (items : V → List ℕ) (r : Result V E) (effects : Effects) (to : To) (octets failed : List ℕ) → IfOk r (λ v. items v ≡ octets) → IfOk r (λ v. IsToldBy (one_reply (Replied to (items v))) effects)
-    → IfErr r (λ _. IsToldBy (lack (Replied to failed)) effects) → IsToldBy (one_reply (Replied to octets)) effects ⊎ IsToldBy (lack (Replied to failed)) effects
-replied items (Ok v) effects to octets failed is told none = inl (subst (λ (l : List ℕ). IsToldBy (one_reply (Replied to l)) effects) is told)
-replied items (Err e) effects to octets failed is told none = inr none
+pub replied : {V E : Type 0} (items : V → List ℕ) (r : Result V E) (effects : Effects) (to : To) (octets failed : List ℕ) → IfOk r (λ v. items v ≡ octets) → IfOk r (λ v. AreEffects (one_reply (Replied to (items v))) effects)
+    → IfErr r (λ _. AreEffects (lack (Replied to failed)) effects) → AreEffects (one_reply (Replied to octets)) effects ⊎ AreEffects (lack (Replied to failed)) effects
+replied items (Ok v) effects to octets failed is effects_are none = inl (subst (λ (l : List ℕ). AreEffects (one_reply (Replied to l)) effects) is effects_are)
+replied items (Err e) effects to octets failed is effects_are none = inr none
 
 -- an update that lacked memory, as a request
 pub lacks_update : (fails : List Bool) (old new : Machine) (a : Asked) (octets : List ℕ) (effects : machine.Effects) → is_asking octets ≡ true → a.message.header ≡ header_of octets → (a.message.header.opcode == opcode_update) ≡ true
@@ -282,12 +282,12 @@ module _ {I S : Type 0} {i : index.Ghosts I} {s : store.Ghosts S} where
   -- a request that changes nothing is replied to, or lacks memory
   pub replies_or_lacks : (p : Primary I S i s) (m : Machine) (effects : Effects) (peer : Peer) (to : To) (octets : List ℕ) (transport : Transport) (r : request.Request) (reply : List ℕ)
       → r ≡ request_of octets transport → (r ≡ request.Ignored → ⊥) → handled_as (shown_zones m) octets transport r ≡ Replies reply → AtAnyMoment s m p.behind.items p.behind.items → IsKept p m
-      → IsToldBy (one_reply (Replied to reply)) effects ⊎ IsToldBy (lack (Replied to (text (bare_reply (header_of octets) rcode_servfail)))) effects
+      → AreEffects (one_reply (Replied to reply)) effects ⊎ AreEffects (lack (Replied to (text (bare_reply (header_of octets) rcode_servfail)))) effects
       → Stepped m p p effects (IsServedOrLacks m peer to octets transport)
-  replies_or_lacks p m effects peer to octets transport r reply e some is rest kept told =
+  replies_or_lacks p m effects peer to octets transport r reply e some is rest kept effects_are =
       ⊎_elim
       (λ t. stays p m effects (one_reply (Replied to reply)) (IsServedOrLacks m peer to octets transport) rest kept t
       (served_as m m peer to octets transport r [] (one_reply (Replied to reply)) e
       (subst (λ (h : Handled). IsServed [] m to peer h (one_reply (Replied to reply)) m) (sym is) (refl, gives_one m (Replied to reply)))))
       (λ t. stays p m effects (lack (Replied to (text (bare_reply (header_of octets) rcode_servfail)))) (IsServedOrLacks m peer to octets transport) rest kept t (inr (lacks_one m to octets transport r e some)))
-      told
+      effects_are

@@ -11,7 +11,7 @@ use Rattle.dns_policy.specs.Prefix.{IsAllowed}
 use Rattle.dns_store.specs.Versions.{Kept}
 use Rattle.dns_held.specs.declared.behind.Behind.{Behind}
 use Rattle.dns_held.specs.Each.{Each2, Each3}
-use Rattle.dns_held.specs.Held.{IsHeld}
+use Rattle.dns_held.specs.Held.{HasVersions}
 use Rattle.dns_primary.specs.declared.event.Waiting.{Waiting}
 use Rattle.dns_primary.specs.declared.event.HeaderTo.{HeaderTo}
 use Rattle.dns_primary.specs.declared.event.Effects.{Effects}
@@ -25,8 +25,8 @@ use Rattle.dns_primary.specs.Update.{Admission, Rejects, Admits, rcode_notauth}
 use Rattle.dns_primary.specs.Step as machine
 
 -- These are the versions of the zones, in order.
-abbrev pub AreHeld : {I S : Type 0} → (S → Kept → Type 0) → List Zone → List (Behind I S) → List ZoneState → Type 0
-AreHeld keeps zones behind states = Each3 (λ z b k. IsHeld keeps z b k) zones behind (map kept_of states)
+abbrev pub HaveVersions : {I S : Type 0} → (S → Kept → Type 0) → List Zone → List (Behind I S) → List ZoneState → Type 0
+HaveVersions keeps zones behind states = Each3 (λ z b k. HasVersions keeps z b k) zones behind (map kept_of states)
 
 -- A reply that waits, as it is stored: the updates before it are in no field.
 pub record IsWaiting (w : Waiting) (stated : Waits) : Type 0 where
@@ -42,7 +42,7 @@ pub record IsSet (s : ZoneSettings) (z : ZoneState) : Type 0 where
 -- What is shown, what stands behind it, what waits and the connections are those of the machine, whatever older versions there
 -- were.
 pub record IsKept {I S : Type 0} {i : index.Ghosts I} {s : store.Ghosts S} (p : Primary I S i s) (m : Machine) : Type 0 where
-  pub zones_are : AreHeld s.keeps p.zones.items p.behind.items m.zones
+  pub zones_are : HaveVersions s.keeps p.zones.items p.behind.items m.zones
   pub settings_are : Each2 IsSet p.settings.items m.zones
   pub waiting_are : Each2 IsWaiting p.waiting.items m.waiting
   pub connections_are : (number : ℕ) → get p.connections number ≡ peer_at number m.connections
@@ -55,16 +55,16 @@ abbrev pub message_out : Option (To × List ℕ) → List (To × List ℕ)
 message_out None = []
 message_out (Some one) = one ∷ []
 
--- The effects that are told: the headers in order, then the one longer message, if there is one.
-pub record IsToldBy (stated : machine.Effects) (effects : Effects) : Type 0 where
+-- These are the effects: the headers in order, then the one longer message, if there is one.
+pub record AreEffects (stated : machine.Effects) (effects : Effects) : Type 0 where
   pub sent : all_out stated.sent ≡ map header_out effects.headers.items ++ message_out (elim (effects.message) [ None ↦ None | Some m ↦ Some (m.0, m.1.items) ])
   pub accepted : stated.accepted ≡ effects.accepted
   pub noted : stated.noted ≡ effects.noted
 
 -- The admission that a test of the zone at a place tells, and one that names the place of a zone.
-abbrev pub admission_told : ℕ → ZoneState → Result (Unit {0}) Rcode → Admission
-admission_told place z (Ok v) = Admits place z
-admission_told place z (Err rcode) = Rejects (number_of_rcode rcode)
+abbrev pub admission_of_test : ℕ → ZoneState → Result (Unit {0}) Rcode → Admission
+admission_of_test place z (Ok v) = Admits place z
+admission_of_test place z (Err rcode) = Rejects (number_of_rcode rcode)
 
 abbrev pub admits_at : ℕ → Option ZoneState → Admission
 admits_at place None = Rejects rcode_notauth

@@ -14,7 +14,7 @@ use Rattle.dns_primary.specs.declared.update.Outcome.TheVariants as outcome
 use Rattle.dns_primary.specs.Machine.{Machine, Connection}
 use Rattle.dns_primary.specs.Flush.{Sent}
 use Rattle.dns_primary.specs.Update.{Asked, replies}
-use Rattle.dns_primary.specs.Keeps.{AreHeld, IsSet, IsWaiting}
+use Rattle.dns_primary.specs.Keeps.{HaveVersions, IsSet, IsWaiting}
 
 -- The update that the request is.
 abbrev pub asked_of : UpdateRequest → Asked
@@ -30,7 +30,7 @@ pub record IsUntouched {S : Type 0} (moment : S → ℕ) (left_since : S → ℕ
 pub record Holds {I S : Type 0} (keeps : S → Kept → Type 0) (zones : List Zone) (behind : List (Behind I S))
     (settings : List ZoneSettings)
     (waiting : List Waiting) (connections : List Connection) (m : Machine) : Type 0 where
-  pub zones_are : AreHeld keeps zones behind m.zones
+  pub zones_are : HaveVersions keeps zones behind m.zones
   pub settings_are : Each2 IsSet settings m.zones
   pub waiting_are : Each2 IsWaiting waiting m.waiting
   pub connections_are : m.connections ≡ connections

@@ -26,7 +26,7 @@ use Rattle.dns_primary.specs.Flush.{Sent, flushed, flush_sends, rcode_servfail}
 use Rattle.dns_primary.specs.Update.{Asked, replies, is_full}
 use Rattle.dns_primary.specs.Step as machine
 use Rattle.dns_primary.specs.Step.{AreFailures, IsServed, IsUpdated, failure}
-use Rattle.dns_primary.specs.Keeps.{IsKept, IsToldBy}
+use Rattle.dns_primary.specs.Keeps.{IsKept, AreEffects}
 
 -- The event of the machine.
 abbrev pub event_shown : code.Event → machine.Event
@@ -52,7 +52,7 @@ pub record Stepped {I S : Type 0} {i : index.Ghosts I} {s : store.Ghosts S} (m :
   pub next : Machine
   pub stated : machine.Effects
   pub is : step fails stated next
-  pub told : IsToldBy stated effects
+  pub effects_are : AreEffects stated effects
   pub kept : IsKept new next
 
 -- Nothing goes out; or one reply alone.

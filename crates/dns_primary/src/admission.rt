@@ -4,10 +4,10 @@ ghost use Rattle.std.specs.List.{position};
 ghost use Rattle.dns_names.specs.Name.{names_eq};
 ghost use Rattle.dns_zone.specs.Zone.{Zone as Stated};
 ghost use Rattle.dns_held.specs.Each.{Each2};
-ghost use Rattle.dns_held.specs.Held.{IsHeld};
+ghost use Rattle.dns_held.specs.Held.{HasVersions};
 ghost use Rattle.dns_primary.specs.Machine.{ZoneState, kept_of};
 ghost use Rattle.dns_primary.specs.Update.{Asked, admission, admission_in};
-ghost use Rattle.dns_primary.specs.Keeps.{AreHeld, IsSet, admission_shown, admission_told};
+ghost use Rattle.dns_primary.specs.Keeps.{HaveVersions, IsSet, admission_shown, admission_of_test};
 
 use crate::ZoneSettings;
 use dns_held::Behind;
@@ -42,9 +42,9 @@ fn admit_in<I: ZoneIndex, S: ZoneStore>(
     address: IpAddr,
 ) -> Result<(), Rcode>
     ensures { (place : ℕ) (zone : Stated) (z : ZoneState)
-        → IsHeld S.keeps zone behind.now (kept_of z)
+        → HasVersions S.keeps zone behind.now (kept_of z)
         → IsSet settings.now z
-        → admission_told place z result ≡ admission_in address place (Some z) }
+        → admission_of_test place z result ≡ admission_in address place (Some z) }
 {
     if !allows(&settings.update, address) {
         return Err(Rcode::Refused);
@@ -73,7 +73,7 @@ pub(crate) fn admit<I: ZoneIndex, S: ZoneStore>(
     requires as_many { length zones.now ≡ length behind.now }
     requires settled { length zones.now ≡ length settings.now }
     requires name { name.now ≡ question.now.name }
-    ensures told { (states : List ZoneState) (a : Asked) → AreHeld S.keeps zones.now behind.now states → Each2 IsSet settings.now states → a.zone ≡ question.now → a.address ≡ address
+    ensures admission { (states : List ZoneState) (a : Asked) → HaveVersions S.keeps zones.now behind.now states → Each2 IsSet settings.now states → a.zone ≡ question.now → a.address ≡ address
         → admission_shown states result ≡ admission states a }
     ensures inside { IfOk result (λ place. place < length zones.now) }
 {

@@ -7,7 +7,7 @@ ghost use Rattle.dns_answer.specs.Answer.{bare_reply};
 ghost use Rattle.dns_primary.specs.To.{is_nowhere};
 ghost use Rattle.dns_primary.specs.Flush.{Replied, rcode_servfail};
 ghost use Rattle.dns_primary.specs.Step.{Effects as Stated};
-ghost use Rattle.dns_primary.specs.Keeps.{IsToldBy};
+ghost use Rattle.dns_primary.specs.Keeps.{AreEffects};
 ghost use Rattle.dns_primary.specs.Queue.{asked_of};
 ghost use Rattle.dns_primary.specs.Steps.{answered_with, nothing, one_reply};
 ghost use Rattle.dns_primary.specs.declared.event.Noted.TheVariants.{OutOfMemory as StatedLack};
@@ -24,7 +24,7 @@ use std::alloc::AllocError;
 impl Effects {
     /// Nothing goes out, and nothing is to be known.
     pub(crate) fn nothing() -> Effects
-        ensures told { IsToldBy nothing result }
+        ensures effects_are { AreEffects nothing result }
         ensures empty { result.headers.items ≡ [] }
         ensures bare { result.message ≡ None }
     {
@@ -41,9 +41,9 @@ impl Effects {
         requires room { length self.headers.items < 33 }
         requires bare { self.message ≡ None }
         requires somewhere { is_nowhere to ≡ false }
-        ensures told { (stated : Stated)
-            → IsToldBy stated self
-            → IsToldBy (record stated { sent = stated.sent ++ Replied to octets ∷ [] }) result }
+        ensures effects_are { (stated : Stated)
+            → AreEffects stated self
+            → AreEffects (record stated { sent = stated.sent ++ Replied to octets ∷ [] }) result }
     {
         self.headers.push(HeaderTo { to, octets });
         self
@@ -52,7 +52,7 @@ impl Effects {
     /// One reply alone, the header of a request with a response code.
     pub(crate) fn refusal(to: To, header: &[u8; 12], rcode: Rcode) -> Effects
         requires { is_nowhere to ≡ false }
-        ensures { IsToldBy (one_reply (Replied to (text (bare_reply (header_of header.now) (number_of_rcode rcode))))) result }
+        ensures { AreEffects (one_reply (Replied to (text (bare_reply (header_of header.now) (number_of_rcode rcode))))) result }
     {
         Effects::nothing().with_header(to, header_only(header, rcode))
     }
@@ -60,7 +60,7 @@ impl Effects {
     /// SERVFAIL for want of memory, the header of a request alone.
     pub(crate) fn out_of_memory(to: To, header: &[u8; 12]) -> Effects
         requires { is_nowhere to ≡ false }
-        ensures { IsToldBy
+        ensures { AreEffects
             (record (one_reply (Replied to (text (bare_reply (header_of header.now) rcode_servfail)))) { noted = StatedLack })
             result }
     {
@@ -76,9 +76,9 @@ impl Effects {
         reply: Result<Vec<u8, Heap>, AllocError>,
     ) -> Effects
         requires { is_nowhere to ≡ false }
-        ensures sent { IfOk reply.entry (λ octets. IsToldBy (one_reply (Replied to octets.items)) result) }
+        ensures sent { IfOk reply.entry (λ octets. AreEffects (one_reply (Replied to octets.items)) result) }
         ensures failed { IfErr reply.entry
-            (λ _. IsToldBy
+            (λ _. AreEffects
             (record (one_reply (Replied to (text (bare_reply (header_of header.now) rcode_servfail)))) { noted = StatedLack })
             result) }
     {
@@ -99,8 +99,8 @@ impl Effects {
         requires somewhere { is_nowhere update.now.to ≡ false }
         requires header { header_of update.now.header.now ≡ update.now.request.message.message.header }
         ensures { (stated : Stated)
-            → IsToldBy stated self
-            → IsToldBy (answered_with stated (asked_of update.now) outcome) result }
+            → AreEffects stated self
+            → AreEffects (answered_with stated (asked_of update.now) outcome) result }
     {
         match outcome {
             Outcome::Waits(_) => self,

@@ -4,13 +4,13 @@ ghost use Rattle.dns_zone.specs.Zone.{Zone as Stated};
 ghost use Rattle.dns_sectors.specs.Device.{LeavesOnly};
 ghost use Rattle.dns_store.specs.Versions.{Kept, OpensAsLeft};
 ghost use Rattle.dns_held.specs.Each.{Each2, Each3};
-ghost use Rattle.dns_held.specs.Held.{IsHeld};
+ghost use Rattle.dns_held.specs.Held.{HasVersions};
 ghost use Rattle.dns_held.specs.Flush.{FailedWhere, first_true};
 ghost use Rattle.dns_primary.specs.Machine.{Machine, ZoneState, Waits};
 ghost use Rattle.dns_primary.specs.Flush.{all_out, flush_sends, flushed, goes_out, is_closed_in, rcode_servfail, released};
 ghost use Rattle.dns_wire.specs.Text.{text};
 ghost use Rattle.dns_answer.specs.Answer.{bare_reply};
-ghost use Rattle.dns_primary.specs.Keeps.{AreHeld, IsWaiting, header_out};
+ghost use Rattle.dns_primary.specs.Keeps.{HaveVersions, IsWaiting, header_out};
 
 use crate::{HeaderTo, Waiting};
 use arrayvec::ArrayVec;
@@ -23,7 +23,7 @@ use dns_zone::{Zone, ZoneIndex};
 /// Whether the zone at a place is closed, or there is none.
 fn is_closed_at<I: ZoneIndex, S: ZoneStore>(behind: &[Behind<I, S>], place: usize) -> bool
     ensures { (shown : List Stated) (zones : List ZoneState)
-        → AreHeld S.keeps shown behind.now zones
+        → HaveVersions S.keeps shown behind.now zones
         → result ≡ is_closed_in (slice_get zones place) }
 {
     match behind.get(place) {
@@ -37,7 +37,7 @@ fn released_octets<I: ZoneIndex, S: ZoneStore>(
     behind: &[Behind<I, S>],
     waiting: &Waiting,
 ) -> [u8; 12]
-    ensures { (shown : List Stated) (zones : List ZoneState) (w : Waits) → AreHeld S.keeps shown behind.now zones → IsWaiting waiting.now w
+    ensures { (shown : List Stated) (zones : List ZoneState) (w : Waits) → HaveVersions S.keeps shown behind.now zones → IsWaiting waiting.now w
         → result ≡ text (bare_reply w.header (if is_closed_in (slice_get zones w.zone) then rcode_servfail else w.rcode)) }
 {
     let rcode = if is_closed_at(behind, waiting.zone) {
@@ -55,7 +55,7 @@ fn release<I: ZoneIndex, S: ZoneStore>(
     headers: &mut ArrayVec<HeaderTo, 33>,
 )
     requires { length headers.old.items < 33 }
-    ensures sent { (shown : List Stated) (zones : List ZoneState) (w : Waits) → AreHeld S.keeps shown behind.now zones → IsWaiting waiting.now w
+    ensures sent { (shown : List Stated) (zones : List ZoneState) (w : Waits) → HaveVersions S.keeps shown behind.now zones → IsWaiting waiting.now w
         → map header_out headers.new.items ≡ map header_out headers.old.items ++ goes_out (released zones w) }
     ensures few { length headers.new.items ≤ length headers.old.items + 1 }
 {
@@ -73,7 +73,7 @@ fn release_all<I: ZoneIndex, S: ZoneStore>(
     behind: &[Behind<I, S>],
     waiting: &ArrayVec<Waiting, 32>,
 ) -> ArrayVec<HeaderTo, 33>
-    ensures sent { (shown : List Stated) (zones : List ZoneState) (ws : List Waits) → AreHeld S.keeps shown behind.now zones → Each2 IsWaiting waiting.now.items ws
+    ensures sent { (shown : List Stated) (zones : List ZoneState) (ws : List Waits) → HaveVersions S.keeps shown behind.now zones → Each2 IsWaiting waiting.now.items ws
         → map header_out result.items ≡ all_out (map (released zones) ws) }
     ensures few { length result.items ≤ 32 }
 {
@@ -92,13 +92,13 @@ pub(crate) fn flush<I: ZoneIndex, S: ZoneStore>(
     waiting: &mut ArrayVec<Waiting, 32>,
 ) -> (ArrayVec<HeaderTo, 33>, Option<usize>)
     requires { length zones.old ≡ length behind.old }
-    ensures flushed { (m : Machine) → AreHeld S.keeps zones.old behind.old m.zones → Each2 IsWaiting waiting.old.items m.waiting
+    ensures flushed { (m : Machine) → HaveVersions S.keeps zones.old behind.old m.zones → Each2 IsWaiting waiting.old.items m.waiting
         → (fails : List Bool) × (length fails ≡ length m.zones) × FailedWhere (λ b. S.failed b.store) fails behind.old behind.new
-        × AreHeld S.keeps zones.new behind.new (flushed fails m).zones
+        × HaveVersions S.keeps zones.new behind.new (flushed fails m).zones
         × (map header_out result.0.items ≡ all_out (flush_sends fails m)) × (result.1 ≡ first_true fails) }
     ensures empty { waiting.new.items ≡ [] }
     ensures few { length result.0.items ≤ 32 }
-    ensures any_moment { (ks : List Kept) → Each3 (λ z b k. IsHeld S.keeps z b k) zones.old behind.old ks
+    ensures any_moment { (ks : List Kept) → Each3 (λ z b k. HasVersions S.keeps z b k) zones.old behind.old ks
         → Each3 (λ a b k. LeavesOnly S.moment S.left_since a.store b.store (OpensAsLeft S.opens k)) behind.old behind.new ks }
 {
     let failed = flush_all(zones, behind);

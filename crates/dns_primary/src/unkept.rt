@@ -2,7 +2,7 @@
 ghost use Rattle.std.specs.Prelude.{◌≡◌, List, length, IfOk};
 ghost use Rattle.dns_held.specs.Each.{Each3};
 ghost use Rattle.dns_primary.specs.Machine.{Machine, ZoneState};
-ghost use Rattle.dns_primary.specs.Keeps.{AreHeld, IsKept};
+ghost use Rattle.dns_primary.specs.Keeps.{HaveVersions, IsKept};
 ghost use Rattle.dns_primary.specs.Fresh.{IsFresh, IsLoaded, keeps_unkept};
 
 use crate::{Primary, ZoneSettings};
@@ -25,7 +25,7 @@ fn behind_all<I: ZoneIndex>(
     ensures held { IfOk result
         (λ behind. (states : List ZoneState)
         → Each3 IsLoaded zones.now settings.now states
-        → AreHeld keeps_unkept zones.now behind.items states) }
+        → HaveVersions keeps_unkept zones.now behind.items states) }
 {
     let mut behind = Vec::new(alloc);
     for i in 0..zones.len() {

@@ -2,7 +2,7 @@
 ghost use Rattle.std.specs.Prelude.{◌≡◌, false};
 ghost use Rattle.dns_store.specs.Versions.{Kept, StandsStill};
 ghost use Rattle.dns_update.specs.Verdict.{verdict};
-ghost use Rattle.dns_held.specs.Held.{IsHeld, newest_zone};
+ghost use Rattle.dns_held.specs.Held.{HasVersions, newest_zone};
 ghost use Rattle.dns_primary.specs.Outcome.{IsDone, refused_as};
 
 use dns_held::{Behind, StagingError, newest, stage};
@@ -43,8 +43,8 @@ pub(crate) fn judge_and_stage<I: ZoneIndex, S: ZoneStore>(
     behind: &mut Behind<I, S>,
     message: &Message<'_>,
 ) -> Outcome
-    ensures done { (k : Kept) → IsHeld S.keeps zone.now behind.old k → k.closed ≡ false
-        → IsDone (λ k. IsHeld S.keeps zone.now behind.new k) k (verdict (newest_zone k) message.now.message.answers message.now.message.authorities) result }
+    ensures done { (k : Kept) → HasVersions S.keeps zone.now behind.old k → k.closed ≡ false
+        → IsDone (λ k. HasVersions S.keeps zone.now behind.new k) k (verdict (newest_zone k) message.now.message.answers message.now.message.authorities) result }
     ensures still { StandsStill S.moment S.left_since behind.old.store behind.new.store }
     ensures quiet { S.failed behind.new.store ≡ S.failed behind.old.store }
 {

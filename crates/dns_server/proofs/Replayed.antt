@@ -14,7 +14,7 @@ use Rattle.dns_server.specs.declared.configuration.ZoneSettings.{ZoneSettings}
 use Rattle.dns_server.specs.declared.files.File.{File}
 use Rattle.dns_server.specs.declared.files.Fault.{Fault}
 use Rattle.dns_server.specs.Checks.{is_memory, line, fault_text}
-use Rattle.dns_server.specs.Replays.{AreHeld, Holds, IsFirstFault, IsLoaded, IsScriptFault, ReplayEnds, ScriptEnds, held, octets_at}
+use Rattle.dns_server.specs.Replays.{AreLoaded, Holds, IsFirstFault, IsLoaded, IsScriptFault, ReplayEnds, ScriptEnds, loaded_by, octets_at}
 
 -- The first file with a path, from a place on.
 pub file_here : (files : List File) (path : List ℕ) (i : ℕ) (f : File) → i < length files → bytes_eq (get_or files i f).path.now path ≡ true → octets_at (drop i files) path ≡ option_copied (get_or files i f).octets
@@ -32,13 +32,13 @@ loaded_more files (x ∷ xs) (suc n) z [] zone inside e h k = absurd h
 loaded_more files (x ∷ xs) (suc n) z (w ∷ ws) zone inside e h k = (h.0, loaded_more files xs n z ws zone (omega (arith, inside)) e h.1 k)
 
 -- The first zone whose file holds none.
-pub first_fault : (files : List File) (all : List ZoneSettings) (n : ℕ) (z : ZoneSettings) (zones : List Zone) (fault : Fault) → n < length all → z ≡ get_or all n z → AllZip (IsLoaded files) (take n all) zones → held files z ≡ Err fault → IsFirstFault files all (string_bytes z.file) fault
+pub first_fault : (files : List File) (all : List ZoneSettings) (n : ℕ) (z : ZoneSettings) (zones : List Zone) (fault : Fault) → n < length all → z ≡ get_or all n z → AllZip (IsLoaded files) (take n all) zones → loaded_by files z ≡ Err fault → IsFirstFault files all (string_bytes z.file) fault
 first_fault files [] n z zones fault inside e h k = absurd (omega (arith, inside))
-first_fault files (x ∷ xs) zero z zones fault inside e h k = inl (ap (λ (s : ZoneSettings). string_bytes s.file) e, subst (λ (s : ZoneSettings). held files s ≡ Err fault) e k)
+first_fault files (x ∷ xs) zero z zones fault inside e h k = inl (ap (λ (s : ZoneSettings). string_bytes s.file) e, subst (λ (s : ZoneSettings). loaded_by files s ≡ Err fault) e k)
 first_fault files (x ∷ xs) (suc n) z [] fault inside e h k = absurd h
 first_fault files (x ∷ xs) (suc n) z (w ∷ ws) fault inside e h k = inr (h.0.records, h.0.read, first_fault files xs n z ws fault (omega (arith, inside)) e h.1 k)
 
-pub fault_or_memory : (files : List File) (all : List ZoneSettings) (n : ℕ) (z : ZoneSettings) (zones : List Zone) (fault : Fault) → n < length all → z ≡ get_or all n z → AllZip (IsLoaded files) (take n all) zones → ((is_memory fault ≡ true) ⊎ (held files z ≡ Err fault)) → (is_memory fault ≡ true) ⊎ IsFirstFault files all (string_bytes z.file) fault
+pub fault_or_memory : (files : List File) (all : List ZoneSettings) (n : ℕ) (z : ZoneSettings) (zones : List Zone) (fault : Fault) → n < length all → z ≡ get_or all n z → AllZip (IsLoaded files) (take n all) zones → ((is_memory fault ≡ true) ⊎ (loaded_by files z ≡ Err fault)) → (is_memory fault ≡ true) ⊎ IsFirstFault files all (string_bytes z.file) fault
 fault_or_memory files all n z zones fault inside e h (inl memory) = inl memory
 fault_or_memory files all n z zones fault inside e h (inr k) = inr (first_fault files all n z zones fault inside e h k)
 
@@ -53,7 +53,7 @@ script_refused zones script fault out out_after err err_after (Ok status) is h k
       others = inl (omega (arith, said.0));
     }
 
-pub script_ran : {E : Type 0} (config : File) (files : List File) (script : File) (zones : List Zone) (out out_after err err_after : Option (List ℕ)) (r : Result ℕ E) → AreHeld (option_copied config.octets) files zones → IfOk r (ScriptEnds zones script out out_after err err_after) → IfOk r (ReplayEnds config files script out out_after err err_after)
+pub script_ran : {E : Type 0} (config : File) (files : List File) (script : File) (zones : List Zone) (out out_after err err_after : Option (List ℕ)) (r : Result ℕ E) → AreLoaded (option_copied config.octets) files zones → IfOk r (ScriptEnds zones script out out_after err err_after) → IfOk r (ReplayEnds config files script out out_after err err_after)
 script_ran config files script zones out out_after err err_after (Err e) held h = tt
 script_ran config files script zones out out_after err err_after (Ok status) held h = inr (inl (zones, held, h))
 

@@ -31,12 +31,12 @@ octets_at [] path = None
 octets_at (f ∷ files) path = if bytes_eq f.path.now path then option_copied f.octets else octets_at files path
 
 -- What the file of a zone holds; the zone that it is.
-abbrev pub held : List File → ZoneSettings → Result (List Record) Fault
-held files z = loaded (octets_at files (string_bytes z.file)) z.origin
+abbrev pub loaded_by : List File → ZoneSettings → Result (List Record) Fault
+loaded_by files z = loaded (octets_at files (string_bytes z.file)) z.origin
 
 pub record IsLoaded (files : List File) (settings : ZoneSettings) (zone : Zone) : Type 0 where
   pub records : List Record
-  pub read : held files settings ≡ Ok records
+  pub read : loaded_by files settings ≡ Ok records
   pub apex : zone.apex ≡ settings.origin
   pub same : IsSetOf records zone.records
 
@@ -44,11 +44,11 @@ pub record IsLoaded (files : List File) (settings : ZoneSettings) (zone : Zone) 
 abbrev pub IsFirstFault : List File → List ZoneSettings → List ℕ → Fault → Type 0
 IsFirstFault files [] path fault = ⊥
 IsFirstFault files (z ∷ rest) path fault =
-    ((path ≡ string_bytes z.file) × (held files z ≡ Err fault))
-    ⊎ ((records : List Record) × (held files z ≡ Ok records) × IsFirstFault files rest path fault)
+    ((path ≡ string_bytes z.file) × (loaded_by files z ≡ Err fault))
+    ⊎ ((records : List Record) × (loaded_by files z ≡ Ok records) × IsFirstFault files rest path fault)
 
 -- The zones of the configuration that a file holds.
-pub record AreHeld (config : Option (List ℕ)) (files : List File) (zones : List Zone) : Type 0 where
+pub record AreLoaded (config : Option (List ℕ)) (files : List File) (zones : List Zone) : Type 0 where
   pub configuration : Configuration
   pub described : Holds config (Ok configuration)
   pub loaded : AllZip (IsLoaded files) configuration.zones.items zones
@@ -87,6 +87,6 @@ ReplayEnds config files script out out_after err err_after status =
     ((status ≡ 1) × Keeps out out_after
     × ((path : List ℕ) × (fault : Fault) × IsFault config files path fault
     × Appends err err_after (line (fault_text path fault))))
-    ⊎ ((zones : List Zone) × AreHeld (option_copied config.octets) files zones
+    ⊎ ((zones : List Zone) × AreLoaded (option_copied config.octets) files zones
     × ScriptEnds zones script out out_after err err_after status)
     ⊎ (status ≡ 3)

@@ -12,7 +12,7 @@ use Rattle.dns_records.specs.Types.{class_in}
 use Rattle.dns_records.specs.Record.{Record, record_cmp}
 use Rattle.dns_zone.specs.Records.{alike, contains, has, put, rrset, same}
 use Rattle.dns_zone.specs.Order.{record_total, number_itself, same_is, both_true}
-use Rattle.dns_zone.specs.Sets.{ties, found, Sorted, told, either_true, same_sets, joins, sorted_put, sorted_filter, only, found_put, found_filter, found_tied, found_contains}
+use Rattle.dns_zone.specs.Sets.{ties, found, Sorted, true_or_false, either_true, same_sets, joins, sorted_put, sorted_filter, only, found_put, found_filter, found_tied, found_contains}
 use Rattle.dns_zone.specs.Twice.{alike_is}
 use Rattle.dns_zone.proofs.Kept.{numbers_same}
 use Rattle.dns_changes.proofs.Steps.{has_is}
@@ -61,7 +61,7 @@ more_at p i g xs h c e q false None t f = refl
 more_at p i g xs h c e q false (Some a) t f =
     let there = found_contains q a xs f in
     let tied = (found_contains (as_record i) g xs e).0 in
-    let other : alike (as_record i) a ≡ false = elim (told (alike (as_record i) a)) [
+    let other : alike (as_record i) a ≡ false = elim (true_or_false (alike (as_record i) a)) [
       | inr n ↦ n
       | inl y ↦ (let one : ties (as_record i) a ≡ true = alike_is (as_record i) a ∙ y in
           let near : record_cmp a g ≡ Equal = joins (as_record i) a g one tied in

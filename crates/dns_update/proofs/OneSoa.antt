@@ -11,7 +11,7 @@ use Rattle.dns_records.specs.Record.{Record, record_cmp, serial_of, with_serial}
 use Rattle.dns_zone.specs.Records.{put, without, rrset, owns_type}
 use Rattle.dns_zone.specs.Zone.{soas}
 use Rattle.dns_zone.specs.Order.{record_total, both_true, names_same, names_itself, tied_key}
-use Rattle.dns_zone.specs.Sets.{equal_is, told}
+use Rattle.dns_zone.specs.Sets.{equal_is, true_or_false}
 use Rattle.dns_zone.specs.Twice.{any_by}
 use Rattle.dns_wire.specs.Message.{ResourceRecord}
 use Rattle.dns_serial.specs.Serial.{greater, next_serial}
@@ -94,7 +94,7 @@ module _ (apex : Labels) where
       of_soa = λ j. names_itself (h.soa).owner j && is_one apex xs h j
 
   other_type : (xs : List Record) (h : HasSoa apex xs) (t : ℕ) → (t == type_soa) ≡ false → ((h.soa).rtype == t) ≡ false
-  other_type xs h t e = elim (told ((h.soa).rtype == t)) [
+  other_type xs h t e = elim (true_or_false ((h.soa).rtype == t)) [
     | inr f ↦ f
     | inl f ↦ (let same = numbers_same (h.soa).rtype t f in
         let soa = is_one apex xs h in
@@ -138,7 +138,7 @@ module _ (apex : Labels) where
   deletes xs h r = at (is_soa r) (r.rtype == type_ns && names_eq r.owner apex && length (rrset xs apex type_ns) == 1) refl
     where
       untied : is_soa r ≡ false → is_eq (record_cmp r h.soa) ≡ false
-      untied e = elim (told (is_eq (record_cmp r h.soa))) [
+      untied e = elim (true_or_false (is_eq (record_cmp r h.soa))) [
         | inr f ↦ f
         | inl f ↦ (let same = soa_key r h.soa (equal_is (record_cmp r h.soa) f) in let one = is_one apex xs h in absurd cc)
       ]

@@ -14,7 +14,7 @@ use Rattle.dns_zone.specs.Zone.{soas, zone_fault, has_cname_and_other, is_wildca
 use Rattle.dns_zone.specs.declared.ZoneError.TheVariants.{NoSoa, ManySoa, NoNs, OutOfZone, Duplicate, CnameAndOther, WildcardNs, TooMany}
 use Rattle.dns_zone.specs.Order.{record_total, both_true, names_same, names_itself, same_is, same_itself, tied_key}
 use Rattle.dns_zone.specs.Owned.{owns_no_type}
-use Rattle.dns_zone.specs.Sets.{Sorted, told, either_true, filter_contains, contains_filter, sorted_filter}
+use Rattle.dns_zone.specs.Sets.{Sorted, true_or_false, either_true, filter_contains, contains_filter, sorted_filter}
 use Rattle.dns_zone.specs.Twice.{any_by, once}
 use Rattle.dns_zone.specs.Soa.{HasSoa}
 use Rattle.dns_zone.proofs.Kept.{any_kept}
@@ -185,7 +185,7 @@ few_of (a ∷ b ∷ ys) r h one =
     let less : record_cmp a b ≡ Less = h.0.0 in absurd cc
 
 from_alone : (xs : List Record) → Sorted xs → AreAlone xs → has_cname_and_other xs ≡ false
-from_alone xs h alone = none_of (λ x. is_alias x && nat_lt 1 (length (records_at xs x.owner))) xs (λ r there. elim (told (is_alias r)) [
+from_alone xs h alone = none_of (λ x. is_alias x && nat_lt 1 (length (records_at xs x.owner))) xs (λ r there. elim (true_or_false (is_alias r)) [
   | inr f ↦ ap (λ b. b && nat_lt 1 (length (records_at xs r.owner))) f
   | inl f ↦ ap (λ b. b && nat_lt 1 (length (records_at xs r.owner))) f ∙ few_of (records_at xs r.owner) r (sorted_filter (λ x. names_eq x.owner r.owner) xs h)
       (λ s e. (let here = filter_contains s (λ x. names_eq x.owner r.owner) xs e in alone r s there here.1 f here.0))

@@ -11,7 +11,7 @@ use Rattle.dns_zone.specs.Records.{put, contains, without, rrset, owns_type}
 use Rattle.dns_zone.specs.Zone.{soas}
 use Rattle.dns_zone.specs.Order.{both_true, number_itself, names_same, names_itself, same_itself}
 use Rattle.dns_zone.specs.Owned.{none_passes}
-use Rattle.dns_zone.specs.Sets.{Sorted, ties, told, joins, equal_is, filter_contains, contains_filter, sorted_put, sorted_filter}
+use Rattle.dns_zone.specs.Sets.{Sorted, ties, true_or_false, joins, equal_is, filter_contains, contains_filter, sorted_put, sorted_filter}
 use Rattle.dns_zone.specs.Soa.{HasSoa}
 use Rattle.dns_zone.proofs.Kept.{numbers_same}
 use Rattle.dns_zone.proofs.OneSoa.{is_soa, is_one, untrue}
@@ -39,9 +39,9 @@ over_left false b e = e
 one_left : (ys : List Record) (r : Record) → Sorted ys → (length ys == 0) ≡ false → (length ys == 1) ≡ false → (a : Record) × (contains ys a ≡ true) × (ties r a ≡ false)
 one_left [] r h some more = absurd cc
 one_left (a ∷ []) r h some more = absurd cc
-one_left (a ∷ b ∷ ys) r h some more = elim (told (ties r a)) [
+one_left (a ∷ b ∷ ys) r h some more = elim (true_or_false (ties r a)) [
   | inr f ↦ (a, ap (λ c. c || contains (b ∷ ys) a) (same_itself a), f)
-  | inl f ↦ elim (told (ties r b)) [
+  | inl f ↦ elim (true_or_false (ties r b)) [
     | inr g ↦ (b, later _ (contains (b ∷ ys) b) (ap (λ c. c || contains ys b) (same_itself b)), g)
     | inl g ↦ (let tied = joins r a b f g in let less : record_cmp a b ≡ Less = h.0.0 in absurd cc)
   ]
@@ -143,8 +143,8 @@ module _ (apex : Labels) (xs : List Record) (h : IsSound apex xs) where
       one_any (is_server apex) (without r xs) left.0 (contains_filter left.0 (λ s. not (is_eq (record_cmp r s))) xs there.1 (ap not left.2)) there.0
 
   servers_left : (r : Record) → is_spared apex xs r ≡ false → list_any (is_server apex) (without r xs) ≡ true
-  servers_left r e = elim (told (is_server apex r)) [
-    | inr f ↦ kept_any (is_server apex) (λ s. not (is_eq (record_cmp r s))) xs (λ s g. elim (told (is_eq (record_cmp r s))) [
+  servers_left r e = elim (true_or_false (is_server apex r)) [
+    | inr f ↦ kept_any (is_server apex) (λ s. not (is_eq (record_cmp r s))) xs (λ s g. elim (true_or_false (is_eq (record_cmp r s))) [
       | inr k ↦ ap not k
       | inl k ↦ refuted (is_server apex r) (server_key apex r s (equal_is (record_cmp r s) k) ∙ g) f
     ]) h.server
@@ -185,7 +185,7 @@ module _ (apex : Labels) (xs : List Record) (h : IsSound apex xs) where
       placed = let here = h.placed (h.soa).soa (one_in xs (h.soa).soa (h.soa).one).1 in record { inside = here.inside; server = here.server }
 
       no_server : (r : Record) → is_server apex r ≡ true → not (is_eq (record_cmp (h.soa).soa r)) ≡ true
-      no_server r e = elim (told (is_eq (record_cmp (h.soa).soa r))) [
+      no_server r e = elim (true_or_false (is_eq (record_cmp (h.soa).soa r))) [
         | inr f ↦ ap not f
         | inl f ↦
             (let is = server_key apex (h.soa).soa r (equal_is (record_cmp (h.soa).soa r) f) ∙ e in
@@ -199,7 +199,7 @@ module _ (apex : Labels) (xs : List Record) (h : IsSound apex xs) where
       apart : (r : Record) → contains (without (h.soa).soa xs) r ≡ true → names_eq r.owner ((h.soa).soa).owner ≡ true → AreApart (with_serial (h.soa).soa (next_serial (serial_of (h.soa).soa))) r
       apart r there o = record {
         coming = not_alias;
-        there = elim (told (is_alias r)) [
+        there = elim (true_or_false (is_alias r)) [
           | inr f ↦ f
           | inl f ↦
               (let here = (filter_contains r (λ x. not (is_eq (record_cmp (h.soa).soa x))) xs there).1 in

@@ -20,12 +20,12 @@ use Rattle.dns_changes.specs.Change.{Change, IsChange}
 use Rattle.dns_serial.specs.Serial.{greater, next_serial}
 use Rattle.dns_wire.specs.Message.{ResourceRecord}
 use Rattle.dns_update.specs.declared.Judged.{Judged}
-use Rattle.dns_update.specs.declared.Judged.TheVariants as told
+use Rattle.dns_update.specs.declared.Judged.TheVariants as judged
 use Rattle.dns_wire.specs.declared.codes.Rcode.TheVariants as code
 use Rattle.dns_update.specs.ResourceRecord.{HasForm, first_fault}
 use Rattle.dns_update.specs.Prescan.{prescan_fault}
 use Rattle.dns_update.specs.Effect.{effects}
-use Rattle.dns_update.specs.Verdict.{Verdict, Refuses, Keeps, Leaves, IsTold, same_set, versioned, with_next_serial}
+use Rattle.dns_update.specs.Verdict.{Verdict, Refuses, Keeps, Leaves, IsVerdict, same_set, versioned, with_next_serial}
 use Rattle.dns_changes.specs.Version.{serial_in, IsVersion, IsNext}
 use Rattle.dns_update.proofs.OneSoa.{next_alone}
 use Rattle.dns_update.proofs.Sound.{IsSound, sound_from, fault_of_sound}
@@ -86,7 +86,7 @@ module _ (z : Zone) (after : List Record) (h : IsSound z.apex after) (each : ∥
       at false false false e f is = absurd cc
 
 -- a change to a version is one that leads to it
-next_from : {X : Type 0} (records : X → List Record) (z : Zone) → IsZone z → (v : Verdict) → ((xs : List Record) → v ≡ Leaves xs → IsVersion z xs) → (j : Judged X) → IsTold records z.records v j → (c : Change) (next : X) → j ≡ told.Accepted c next → IsNext z c (records next)
+next_from : {X : Type 0} (records : X → List Record) (z : Zone) → IsZone z → (v : Verdict) → ((xs : List Record) → v ≡ Leaves xs → IsVersion z xs) → (j : Judged X) → IsVerdict records z.records v j → (c : Change) (next : X) → j ≡ judged.Accepted c next → IsNext z c (records next)
 next_from records z h (Refuses rcode) f j t c next e = absurd cc
 next_from records z h Keeps f j t c next e = absurd cc
 next_from records z h (Leaves after) f j (d, left, is, holds, change) c next e =
@@ -102,6 +102,6 @@ pub sound_after : (z : Zone) → IsZone z → (items : List ResourceRecord) → 
 sound_after z h items e f = sound_stays z.apex z.records (sound_from z.apex z.records (sorted_from z.records h.ordered) (zone_soa z h) (conditions z.apex z.records h.valid)) items e f
 
 pub next_told : {X : Type 0} {E : Type 0} (records : X → List Record) (z : Zone) → IsZone z → (after : List Record) → IsSound z.apex after → ∥ AllByRecursion IsRecord after ∥₁ → (r : Result (Judged X) E)
-    → IfOk r (IsTold records z.records (versioned z.records after)) → IfOk r (λ j. (c : Change) (next : X) → j ≡ told.Accepted c next → IsNext z c (records next))
+    → IfOk r (IsVerdict records z.records (versioned z.records after)) → IfOk r (λ j. (c : Change) (next : X) → j ≡ judged.Accepted c next → IsNext z c (records next))
 next_told records z h after sound each (Ok j) t = next_from records z h (versioned z.records after) (version_of z after sound each) j t
 next_told records z h after sound each (Err e) t = tt

@@ -14,7 +14,7 @@ use Rattle.dns_update.specs.Effect.{effects}
 use Rattle.dns_wire.specs.declared.codes.Rcode.{Rcode}
 use Rattle.dns_wire.specs.declared.codes.Rcode.TheVariants.{Refused}
 use Rattle.dns_update.specs.declared.Judged.{Judged}
-use Rattle.dns_update.specs.declared.Judged.TheVariants as told
+use Rattle.dns_update.specs.declared.Judged.TheVariants as judged
 
 -- The update is refused with a code, changes nothing, or leaves a set of records.
 pub data Verdict : Type 0 where
@@ -53,13 +53,13 @@ verdict z prerequisites items =
     unless (otherwise (prerequisites_fault z prerequisites) (first_fault (prescan_fault z.apex) items))
     (versioned z.records (effects z.apex z.records items))
 
--- The verdict as it is told: with the set that is left stands the change to it. `records` is what a set of the code contains.
-abbrev pub IsTold : {X : Type 0} → (X → List Record) → List Record → Verdict → Judged X → Type 0
-IsTold records before (Refuses rcode) j = j ≡ told.Refused rcode
-IsTold records before Keeps j = j ≡ told.NoChange
-IsTold {X} records before (Leaves after) j =
-    (c : Change) × (next : X) × (j ≡ told.Accepted c next) × (records next ≡ after) × IsChange before after c
+-- The judgement is this verdict: with the set that is left stands the change to it. `records` is what a set of the code contains.
+abbrev pub IsVerdict : {X : Type 0} → (X → List Record) → List Record → Verdict → Judged X → Type 0
+IsVerdict records before (Refuses rcode) j = j ≡ judged.Refused rcode
+IsVerdict records before Keeps j = j ≡ judged.NoChange
+IsVerdict {X} records before (Leaves after) j =
+    (c : Change) × (next : X) × (j ≡ judged.Accepted c next) × (records next ≡ after) × IsChange before after c
 
 -- The answer section of an update is its prerequisites, the authority section what is to be done (RFC 2136 2).
 abbrev pub IsJudged : {X : Type 0} → (X → List Record) → Zone → List ResourceRecord → List ResourceRecord → Judged X → Type 0
-IsJudged records z prerequisites items j = IsTold records z.records (verdict z prerequisites items) j
+IsJudged records z prerequisites items j = IsVerdict records z.records (verdict z prerequisites items) j

@@ -12,7 +12,7 @@ ghost use Rattle.dns_update.specs.Prerequisites.{prerequisites_fault};
 ghost use Rattle.dns_update.specs.Prescan.{prescan_fault};
 ghost use Rattle.dns_zone.specs.Soa.{HasSoa};
 ghost use Rattle.dns_changes.specs.Version.{IsNext};
-ghost use Rattle.dns_update.specs.Verdict.{IsTold, IsJudged, Leaves, same_set, versioned, with_next_serial};
+ghost use Rattle.dns_update.specs.Verdict.{IsVerdict, IsJudged, Leaves, same_set, versioned, with_next_serial};
 
 use crate::Judged;
 use crate::effect::take_effects;
@@ -72,7 +72,7 @@ fn change_to<I: ZoneIndex>(
     requires one { HasSoa zone.now.apex (I.records after) }
     requires few { length (I.records after) < 2 ^ 32 }
     requires touched { DifferAt names.now zone.now.records (I.records after) }
-    ensures { IfOk result (IsTold I.records zone.now.records (Leaves (I.records after))) }
+    ensures { IfOk result (IsVerdict I.records zone.now.records (Leaves (I.records after))) }
 {
     let new = soa_of(&after, &zone.apex().lend());
     let change = Change::between(alloc, zone.index(), zone.soa(), &after, new, names)?;
@@ -91,7 +91,7 @@ fn advanced_change<I: ZoneIndex>(
     requires touched { DifferAt names.now zone.now.records (I.records after) }
     requires apex { list_any (names_eq zone.now.apex) names.now ≡ true }
     ensures { IfOk result
-        (IsTold I.records zone.now.records (Leaves (with_next_serial (soas (I.records after)) (I.records after)))) }
+        (IsVerdict I.records zone.now.records (Leaves (with_next_serial (soas (I.records after)) (I.records after)))) }
 {
     let mut after = after;
     let soa = soa_of(&after, &zone.apex().lend()).clone()?;
@@ -110,7 +110,7 @@ fn versioned<I: ZoneIndex>(
     requires few { length (I.records after) + 1 < 2 ^ 32 }
     requires touched { DifferAt names.now zone.now.records (I.records after) }
     requires apex { list_any (names_eq zone.now.apex) names.now ≡ true }
-    ensures { IfOk result (IsTold I.records zone.now.records (versioned zone.now.records (I.records after))) }
+    ensures { IfOk result (IsVerdict I.records zone.now.records (versioned zone.now.records (I.records after))) }
 {
     if is_same_set(zone.index(), &after, names) {
         return Ok(Judged::NoChange);

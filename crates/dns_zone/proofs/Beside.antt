@@ -13,13 +13,13 @@ use Rattle.dns_records.specs.Record.{Record, record_cmp}
 use Rattle.dns_zone.specs.Records.{exists, is_ordered}
 use Rattle.dns_zone.specs.Order.{name_total}
 use Rattle.dns_zone.specs.Place.{IsPlaceOf, is_owned_at, is_owned_beside}
-use Rattle.dns_zone.specs.Sets.{Sorted, sorted_from, told}
+use Rattle.dns_zone.specs.Sets.{Sorted, sorted_from, true_or_false}
 use Rattle.dns_zone.specs.declared.search.Key.TheVariants as key
 use Rattle.dns_zone.proofs.Searching.{key_cut, not_less, less_true, told_nat}
 use Rattle.dns_zone.proofs.Under.{before_apart, convex, none_under, exists_some, exists_none}
 
 no_less : (o : Ordering) → (is_lt o ≡ true → ⊥) → is_lt o ≡ false
-no_less o h = elim (told (is_lt o)) [ inl e ↦ absurd (h e) | inr e ↦ e ]
+no_less o h = elim (true_or_false (is_lt o)) [ inl e ↦ absurd (h e) | inr e ↦ e ]
 
 -- a name under another does not stand before it
 under_behind : (a n : Labels) → under a n ≡ true → is_lt (name_cmp a n) ≡ false

@@ -22,7 +22,7 @@ use Rattle.dns_zone.specs.Made.{IsSetOf}
 use Rattle.dns_zone.specs.declared.ZoneError.{ZoneError}
 use Rattle.dns_zone.specs.declared.ZoneError.TheVariants.{NoSoa, ManySoa, NoNs, OutOfZone, Duplicate, CnameAndOther, WildcardNs, TooMany}
 use Rattle.dns_zone.specs.Order.{record_total}
-use Rattle.dns_zone.specs.Sets.{Sorted, sorted_from, told}
+use Rattle.dns_zone.specs.Sets.{Sorted, sorted_from, true_or_false}
 use Rattle.dns_zone.specs.Twice.{tied_alike, alike_flips, any_by}
 use Rattle.dns_zone.proofs.Searching.{below_at}
 
@@ -65,7 +65,7 @@ distinct_none (x ∷ xs) h = ap (λ b. b || has_twice xs) (no_other xs h.0) ∙ 
     no_other (y ∷ ys) g = ap (λ b. b || list_any (alike x) ys) g.0 ∙ no_other ys g.1
 
 once_more : (xs ys : List Record) → IsPermutation xs ys → has_twice xs ≡ true → has_twice ys ≡ true
-once_more xs ys h e = elim (told (has_twice ys)) [
+once_more xs ys h e = elim (true_or_false (has_twice ys)) [
   | inl t ↦ t
   | inr f ↦ (let none = distinct_none xs (IsDistinct-IsPermutation alike alike_flips ys xs (IsPermutation-sym xs ys h) (distinct_from ys f)) in absurd cc)
 ]
@@ -108,7 +108,7 @@ sorted_rest x xs h = λ k d low lt. (let next : suc k + 1 ≡ suc (k + 1) = omeg
 pub twice_from : (xs : List Record) → IsSorted record_cmp xs → is_ordered xs ≡ false → has_twice xs ≡ true
 twice_from [] h e = absurd cc
 twice_from (x ∷ []) h e = absurd cc
-twice_from (x ∷ y ∷ xs) h e = elim (told (is_lt (record_cmp x y))) [
+twice_from (x ∷ y ∷ xs) h e = elim (true_or_false (is_lt (record_cmp x y))) [
   | inl t ↦ (let rest : is_ordered (y ∷ xs) ≡ false = ap (λ b. b && is_ordered (y ∷ xs)) (sym t) ∙ e in
       later (list_any (alike x) (y ∷ xs)) (has_twice (y ∷ xs)) (twice_from (y ∷ xs) (sorted_rest x (y ∷ xs) h) rest))
   | inr f ↦ (let up : is_lt (record_cmp y x) ≡ false = h 0 x (omega arith) (omega arith) in

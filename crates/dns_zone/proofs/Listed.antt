@@ -14,7 +14,7 @@ use Rattle.dns_names.specs.Compare.{name_cmp-same}
 use Rattle.dns_records.specs.Record.{Record, record_cmp, IsRecord}
 use Rattle.dns_zone.specs.Records.{is_ordered, put, without, owns_type, records_at, rrset, next_after}
 use Rattle.dns_zone.specs.Zone.{has_cname_and_other, soas, zone_fault}
-use Rattle.dns_zone.specs.Survey.{Surveys, is_wildcard_ns, fault_told}
+use Rattle.dns_zone.specs.Survey.{Surveys, is_wildcard_ns, fault_found}
 use Rattle.dns_zone.specs.declared.survey.Survey.{Survey}
 use Rattle.dns_zone.specs.declared.ZoneError.{ZoneError}
 use Rattle.dns_zone.specs.declared.ZoneError.TheVariants.{NoSoa, ManySoa, NoNs, OutOfZone, Duplicate, CnameAndOther, WildcardNs, TooMany}
@@ -94,7 +94,7 @@ or_false true = refl
 or_false false = refl
 
 -- the refusal that is told is the refusal
-pub fault_is : (apex : Labels) (xs : List Record) (s : Survey) (a b : Bool) → Sorted xs → a ≡ not (owns_type xs apex type_soa) → b ≡ not (owns_type xs apex type_ns) → Surveys apex xs [] s → fault_told s a b ≡ zone_fault apex xs
+pub fault_is : (apex : Labels) (xs : List Record) (s : Survey) (a b : Bool) → Sorted xs → a ≡ not (owns_type xs apex type_soa) → b ≡ not (owns_type xs apex type_ns) → Surveys apex xs [] s → fault_found s a b ≡ zone_fault apex xs
 fault_is apex xs s a b h no_soa no_ns tells =
     let zero_soas : s.soas + 0 ≡ s.soas = omega arith in
     let zero_count : s.count + 0 ≡ s.count = omega arith in

@@ -12,7 +12,7 @@ use Rattle.dns_names.specs.Name.{Labels, name_cmp}
 use Rattle.dns_records.specs.Record.{Record, record_cmp}
 use Rattle.dns_zone.specs.Records.{is_ordered}
 use Rattle.dns_zone.specs.Order.{record_total, name_total}
-use Rattle.dns_zone.specs.Sets.{Sorted, Below, sorted_from, told}
+use Rattle.dns_zone.specs.Sets.{Sorted, Below, sorted_from, true_or_false}
 use Rattle.dns_zone.specs.Side.{side_of}
 use Rattle.dns_zone.specs.declared.search.Key.{Key}
 use Rattle.dns_zone.specs.declared.search.Key.TheVariants as key
@@ -82,7 +82,7 @@ key_cut (key.Parts name t octets) = cut_of record_cmp record_total (λ (r : Reco
 
 -- the halves
 pub told_nat : (i j : ℕ) → (i < j) ⊎ (j ≤ i)
-told_nat i j = elim (told (nat_lt i j)) [ inl e ↦ inl (ltb-true i j e) | inr e ↦ inr (ltb-false i j e) ]
+told_nat i j = elim (true_or_false (nat_lt i j)) [ inl e ↦ inl (ltb-true i j e) | inr e ↦ inr (ltb-false i j e) ]
 
 -- what holds of a record and of each before it, holds up to the middle
 pub low_half : (P : Record → Type 0) (xs : List Record) (middle : ℕ) → ((r s : Record) → record_cmp r s ≡ Less → P s → P r) → is_ordered xs ≡ true → middle < length xs
@@ -110,10 +110,10 @@ high_half P xs middle cut ordered inside r is h = λ k d from to.
 
 -- the same tests, turned
 pub not_less : (side : Record → Ordering) → IsCut side → (r s : Record) → record_cmp r s ≡ Less → is_lt (side r) ≡ false → is_lt (side s) ≡ false
-not_less side cut r s h e = elim (told (is_lt (side s))) [ inl up ↦ (let back = cut.less r s h up in absurd cc) | inr other ↦ other ]
+not_less side cut r s h e = elim (true_or_false (is_lt (side s))) [ inl up ↦ (let back = cut.less r s h up in absurd cc) | inr other ↦ other ]
 
 pub past : (side : Record → Ordering) → IsCut side → (r s : Record) → record_cmp r s ≡ Less → is_gt (side r) ≡ true → is_gt (side s) ≡ true
-past side cut r s h e = elim (told (is_gt (side s))) [ inl up ↦ up | inr other ↦ (let back = cut.most r s h other in absurd cc) ]
+past side cut r s h e = elim (true_or_false (is_gt (side s))) [ inl up ↦ up | inr other ↦ (let back = cut.most r s h other in absurd cc) ]
 
 -- what passes a test from one place up to another and nowhere else
 pub filter_range : (p : Record → Bool) (xs : List Record) (low high : ℕ) → low ≤ high → high ≤ length xs

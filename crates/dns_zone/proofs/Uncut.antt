@@ -10,7 +10,7 @@ use Rattle.dns_zone.specs.Node.{cut, cuts_at, encloser}
 use Rattle.dns_zone.specs.Uncut.{EndsAtMost}
 use Rattle.dns_zone.specs.Order.{names_same}
 use Rattle.dns_zone.specs.Ancestry.{under_from, under_with}
-use Rattle.dns_zone.specs.Sets.{told}
+use Rattle.dns_zone.specs.Sets.{true_or_false}
 use Rattle.dns_zone.proofs.Cuts.{or_else, up_once, at_root}
 use Rattle.dns_zone.proofs.Enclosers.{encloser_here, encloser_up, encloser_root}
 
@@ -30,7 +30,7 @@ same_under : (a n : Labels) → names_eq a n ≡ true → under a n ≡ true
 same_under a n e = under_with a n ([], names_same a n e)
 
 not_same : (a n : Labels) → under a n ≡ false → names_eq a n ≡ false
-not_same a n e = elim (told (names_eq a n)) [ inl s ↦ (let u = same_under a n s in absurd cc) | inr f ↦ f ]
+not_same a n e = elim (true_or_false (names_eq a n)) [ inl s ↦ (let u = same_under a n s in absurd cc) | inr f ↦ f ]
 
 none_either : (a b : Bool) → (a || b) ≡ false → (a ≡ false) × (b ≡ false)
 none_either true b e = absurd cc
@@ -57,7 +57,7 @@ absent_uncut z n e = both (under n z.apex) (not (names_eq n z.apex)) (owns_type 
 -- a name is cut where its closest encloser is
 pub cut_of_encloser : (z : Zone) (name : Labels) → cut z name ≡ cut z (encloser z.records name)
 cut_of_encloser z [] = ap (cut z) (sym (encloser_root z.records [] refl))
-cut_of_encloser z (l ∷ rest) = elim (told (exists z.records (l ∷ rest))) [
+cut_of_encloser z (l ∷ rest) = elim (true_or_false (exists z.records (l ∷ rest))) [
   | inl e ↦ ap (cut z) (sym (encloser_here z.records (l ∷ rest) e))
   | inr e ↦ cut_past z l rest (absent_uncut z (l ∷ rest) e) ∙ cut_of_encloser z rest ∙ ap (cut z) (sym (encloser_up z.records l rest e))
 ]
@@ -67,7 +67,7 @@ abbrev pub below : Labels → Labels → Bool
 below name apex = under name apex && not (names_eq name apex)
 
 itself_not_under : (l : List ℕ) (rest : Labels) → under rest (l ∷ rest) ≡ false
-itself_not_under l rest = elim (told (under rest (l ∷ rest))) [
+itself_not_under l rest = elim (true_or_false (under rest (l ∷ rest))) [
   | inl e ↦ (let h = under_from rest (l ∷ rest) e in
       let long : length rest ≡ length (h.0 ++ l ∷ rest) = ap length h.1 in
       absurd (omega (arith, long, length-append h.0 (l ∷ rest))))
@@ -84,7 +84,7 @@ none_above l rest apex e u = cases (names_eq (l ∷ rest) apex) refl
     cases false s = (let below_it : below (l ∷ rest) apex ≡ true = (λ i. (s i || u i) && not (s i)) in cc)
 
 not_above : (l : List ℕ) (rest apex : Labels) → below (l ∷ rest) apex ≡ false → below rest apex ≡ false
-not_above l rest apex e = elim (told (under rest apex)) [
+not_above l rest apex e = elim (true_or_false (under rest apex)) [
   | inl u ↦ absurd (none_above l rest apex e u)
   | inr f ↦ ap (λ (b : Bool). b && not (names_eq rest apex)) f
 ]

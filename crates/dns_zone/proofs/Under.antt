@@ -13,7 +13,7 @@ use Rattle.dns_names.specs.Name.{Labels, IsUnder, under, name_cmp}
 use Rattle.dns_records.specs.Record.{Record}
 use Rattle.dns_zone.specs.Records.{exists}
 use Rattle.dns_zone.specs.Ancestry.{under_from, under_with}
-use Rattle.dns_zone.specs.Sets.{Sorted, Below, told}
+use Rattle.dns_zone.specs.Sets.{Sorted, Below, true_or_false}
 use Rattle.dns_zone.proofs.Searching.{then_less}
 
 -- a list of labels that begins with another is not below it
@@ -42,7 +42,7 @@ turned a n h = ap reverse h.1 ∙ reverse-append h.0 n
 
 -- a name that stands before another isn't under it
 pub before_apart : (a n : Labels) → is_lt (name_cmp a n) ≡ true → under a n ≡ false
-before_apart a n e = elim (told (under a n)) [
+before_apart a n e = elim (true_or_false (under a n)) [
   | inl yes' ↦ (let h = under_from a n yes' in
       let clear : is_lt (name_cmp a n) ≡ false = ap (λ (x : Labels). is_lt (slice_cmp (slice_cmp nat_cmp) x (reverse n))) (turned a n h) ∙ not_below (reverse n) (reverse h.0) in absurd cc)
   | inr other ↦ other
@@ -64,7 +64,7 @@ convex a b n low order e =
 pub none_under : (s : Record) (n : Labels) (rest : List Record) → Below s rest → is_lt (name_cmp s.owner n) ≡ false → under s.owner n ≡ false → exists rest n ≡ false
 none_under s n [] h low e = refl
 none_under s n (x ∷ rest) h low e =
-    let here : under x.owner n ≡ false = elim (told (under x.owner n)) [
+    let here : under x.owner n ≡ false = elim (true_or_false (under x.owner n)) [
       | inl so ↦ (let back = convex s.owner x.owner n low (then_less (name_cmp s.owner x.owner) _ h.0) so in absurd cc)
       | inr other ↦ other
     ] in

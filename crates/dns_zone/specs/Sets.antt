@@ -56,9 +56,9 @@ sorted_from (x ∷ y ∷ xs) e =
     ((less, below_less x y xs less rest.0), rest)
 
 -- by cases on a test
-pub told : (b : Bool) → (b ≡ true) ⊎ (b ≡ false)
-told true = inl refl
-told false = inr refl
+pub true_or_false : (b : Bool) → (b ≡ true) ⊎ (b ≡ false)
+true_or_false true = inl refl
+true_or_false false = inr refl
 
 pub not_found : (q : Record) (xs : List Record) → Below q xs → found q xs ≡ None
 not_found q [] h = refl
@@ -84,7 +84,7 @@ tails : (x q : Record) (xs ys : List Record)
     → Below x ys
     → found q (x ∷ xs) ≡ found q (x ∷ ys)
     → found q xs ≡ found q ys
-tails x q xs ys g h e = elim (told (ties q x)) [
+tails x q xs ys g h e = elim (true_or_false (ties q x)) [
   | inl t ↦ (let tied = equal_is (record_cmp q x) t in not_found q xs (below_tied q x xs tied g)
       ∙ sym (not_found q ys (below_tied q x ys tied h)))
   | inr t ↦ (let left : found q (x ∷ xs) ≡ found q xs = ap (λ b. cond b (Some x) (found q xs)) t in
@@ -212,7 +212,7 @@ sorted_united xs (r ∷ rs) h = sorted_put r (united xs rs) (sorted_united xs rs
 -- what is found is contained, and what is contained is found
 pub found_contains : (q a : Record) (xs : List Record) → found q xs ≡ Some a → (ties q a ≡ true) × (contains xs a ≡ true)
 found_contains q a [] e = absurd cc
-found_contains q a (x ∷ xs) e = elim (told (ties q x)) [
+found_contains q a (x ∷ xs) e = elim (true_or_false (ties q x)) [
   | inl t ↦ (let at : found q (x ∷ xs) ≡ Some x = ap (λ b. cond b (Some x) (found q xs)) t in
       let is : x ≡ a = cc in
       let self : same a x ≡ true = subst (λ r. same a r ≡ true) (sym is) (same_itself a) in

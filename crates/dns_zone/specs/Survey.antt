@@ -32,8 +32,8 @@ behind (Some r) [] = []
 behind (Some r) (x ∷ xs) = cond (is_lt (record_cmp r x)) (x ∷ xs) (behind (Some r) xs)
 
 -- The lowest refusal that applies to a set.
-abbrev pub fault_told : Survey → (no_soa no_ns : Bool) → Option ZoneError
-fault_told s no_soa no_ns =
+abbrev pub fault_found : Survey → (no_soa no_ns : Bool) → Option ZoneError
+fault_found s no_soa no_ns =
     if no_soa then Some NoSoa
     else if nat_lt 1 s.soas then Some ManySoa
     else if no_ns then Some NoNs

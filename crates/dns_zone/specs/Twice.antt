@@ -13,7 +13,7 @@ use Rattle.dns_records.specs.Record.{Record, record_cmp}
 use Rattle.dns_zone.specs.Records.{alike}
 use Rattle.dns_zone.specs.Zone.{has_twice}
 use Rattle.dns_zone.specs.Order.{record_total, names_same, names_itself, number_itself, bytes_same, bytes_itself, both_true, tied_key}
-use Rattle.dns_zone.specs.Sets.{Sorted, Below, equal_is, told}
+use Rattle.dns_zone.specs.Sets.{Sorted, Below, equal_is, true_or_false}
 
 pub alike_tied : (a b : Record) → alike a b ≡ true → record_cmp a b ≡ Equal
 alike_tied a b e =
@@ -29,7 +29,7 @@ pub none_alike : (x : Record) (xs : List Record) → Below x xs → list_any (al
 none_alike x [] h = refl
 none_alike x (y ∷ ys) h =
     let apart : alike x y ≡ false =
-    elim (told (alike x y)) [ inl e ↦ (let tied = alike_tied x y e in let less = h.0 in absurd cc) | inr e ↦ e ] in
+    elim (true_or_false (alike x y)) [ inl e ↦ (let tied = alike_tied x y e in let less = h.0 in absurd cc) | inr e ↦ e ] in
     ap (λ (b : Bool). b || list_any (alike x) ys) apart ∙ none_alike x ys h.1
 
 -- no record of a list in order stands twice in it

@@ -3,7 +3,7 @@ ghost use Rattle.std.specs.Prelude.{◌≡◌, ◌⊎◌, Some, None, IfOk, IfEr
 ghost use Rattle.dns_zone.specs.Zone.{IsZone, zone_fault};
 ghost use Rattle.dns_zone.specs.Made.{IsSetOf};
 ghost use Rattle.dns_zone.specs.Node.{IsMatch};
-ghost use Rattle.dns_zone.specs.Survey.{fault_told};
+ghost use Rattle.dns_zone.specs.Survey.{fault_found};
 
 use crate::gather::{refusal_of_doubles, rises, set_of, sort};
 use crate::survey::{Survey, survey_of};
@@ -124,7 +124,7 @@ fn fault<I: ZoneIndex>(apex: &Name, index: &I) -> Option<ZoneError>
 
 /// The lowest refusal that applies, where it is known whether the apex lacks a SOA, and an NS.
 fn first_fault(survey: Survey, no_soa: bool, no_ns: bool) -> Option<ZoneError>
-    ensures { result ≡ fault_told survey no_soa no_ns }
+    ensures { result ≡ fault_found survey no_soa no_ns }
 {
     if no_soa {
         Some(ZoneError::NoSoa)

@@ -6,7 +6,7 @@ use Rattle.std.specs.declared.cmp.Ordering.{Ordering}
 use Rattle.std.specs.declared.cmp.Ordering.TheVariants.{Less, Equal, Greater}
 use Rattle.dns_records.specs.Record.{Record, record_cmp}
 use Rattle.dns_zone.specs.Order.{record_total}
-use Rattle.dns_zone.specs.Sets.{told}
+use Rattle.dns_zone.specs.Sets.{true_or_false}
 
 by_side : (a r s : Record) (o : Ordering) → record_cmp s a ≡ o → record_cmp r s ≡ Less → is_gt o ≡ false → is_gt (record_cmp r a) ≡ false
 by_side a r s Less e less h = ap is_gt (record_total.trans r s a less e)
@@ -19,4 +19,4 @@ not_greater a r s less h = by_side a r s (record_cmp s a) refl less h
 
 -- a record behind a greater one is greater
 pub greater : (a r s : Record) → record_cmp r s ≡ Less → is_gt (record_cmp r a) ≡ true → is_gt (record_cmp s a) ≡ true
-greater a r s less h = elim (told (is_gt (record_cmp s a))) [ inl e ↦ e | inr e ↦ (let low = not_greater a r s less e in absurd cc) ]
+greater a r s less h = elim (true_or_false (is_gt (record_cmp s a))) [ inl e ↦ e | inr e ↦ (let low = not_greater a r s less e in absurd cc) ]

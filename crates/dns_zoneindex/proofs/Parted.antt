@@ -13,7 +13,7 @@ use Rattle.dns_names.specs.Compare.{name_cmp-same}
 use Rattle.dns_records.specs.Record.{Record, record_cmp}
 use Rattle.dns_zone.specs.Order.{name_total, names_same, names_itself}
 use Rattle.dns_zone.specs.Records.{put, without, records_at, has}
-use Rattle.dns_zone.specs.Sets.{Sorted, Below, told}
+use Rattle.dns_zone.specs.Sets.{Sorted, Below, true_or_false}
 
 abbrev pub fore : Labels → Record → Bool
 fore name r = is_gt (name_cmp name r.owner)
@@ -31,7 +31,7 @@ not_more Equal b e = refl
 not_more Greater b e = absurd cc
 
 none_eq : (name owner : Labels) (o : Ordering) → name_cmp name owner ≡ o → (o ≡ Equal → ⊥) → names_eq owner name ≡ false
-none_eq name owner o e never = elim (told (names_eq owner name)) [
+none_eq name owner o e never = elim (true_or_false (names_eq owner name)) [
   | inl same ↦ absurd (never (sym e ∙ ap (λ n. name_cmp name n) (names_same owner name same) ∙ tied_itself name_total name))
   | inr other ↦ other
 ]

@@ -4,7 +4,7 @@ use Rattle.dns_sectors.specs.Device.{LeavesOnly}
 use Rattle.dns_sectors.proofs.Moments.{started, joined}
 use Rattle.dns_store.specs.Versions.{Kept, OpensAsLeft}
 use Rattle.dns_held.specs.Each.{Each3}
-use Rattle.dns_held.specs.Held.{IsHeld}
+use Rattle.dns_held.specs.Held.{HasVersions}
 use Rattle.dns_held.specs.Flush.{flushed, flushed_to, HasFailed}
 use Rattle.dns_held.proofs.Lists.{get3, set3, mid3, diag, long3, stands, more, fails_more, untouched, same_at}
 use Rattle.dns_held.proofs.flush.flush_all.Goals as goal
@@ -15,7 +15,7 @@ loop-i-init g c = record {
   count = refl;
   rest = refl;
   held = λ ks each. ([], refl, each, refl, tt);
-  moments = λ ks each. diag (λ z b k. IsHeld g.S.ZoneStore.keeps z b k) (λ a b k. LeavesOnly g.S.ZoneStore.moment g.S.ZoneStore.left_since a.store b.store (OpensAsLeft g.S.ZoneStore.opens k)) c.args.zones.now c.args.behind.now ks each
+  moments = λ ks each. diag (λ z b k. HasVersions g.S.ZoneStore.keeps z b k) (λ a b k. LeavesOnly g.S.ZoneStore.moment g.S.ZoneStore.left_since a.store b.store (OpensAsLeft g.S.ZoneStore.opens k)) c.args.zones.now c.args.behind.now ks each
       (λ z b k h. started g.S.ZoneStore.moment g.S.ZoneStore.left_since b.store (OpensAsLeft g.S.ZoneStore.opens k) (λ x left. g.met.S.ZoneStore.at_rest b.store k h.kept x left));
 }
 
@@ -33,14 +33,14 @@ loop-i-preserved g c =
           let was = c.loop-i.invariant.held ks each in
           let fails = was.0 in
           let failed = c.flush_zone-failed.result in
-          let there = get3 (λ z b k. IsHeld g.S.ZoneStore.keeps z b k) zones behind (flushed_to fails ks) i c.index-zones-i.result c.index-behind-i.result was.2 inside in
+          let there = get3 (λ z b k. HasVersions g.S.ZoneStore.keeps z b k) zones behind (flushed_to fails ks) i c.index-zones-i.result c.index-behind-i.result was.2 inside in
           let k = there.0 in
           let before : slice_get ks (length fails) ≡ Some k = sym (stands fails ks) ∙ subst (λ n. slice_get (flushed_to fails ks) n ≡ Some k) (sym was.1) there.1 in
           let grown : flushed_to (fails ++ failed ∷ []) ks ≡ slice_set (flushed_to fails ks) i (flushed failed k) = more fails ks failed k before ∙ ap (λ n. slice_set (flushed_to fails ks) n (flushed failed k)) was.1 in (
             fails ++ failed ∷ [],
             omega (arith, length-append fails (failed ∷ []), was.1),
-            subst (λ (l : List Kept). Each3 (λ z b k. IsHeld g.S.ZoneStore.keeps z b k) (slice_set zones i c.flush_zone-failed.new.zone) (slice_set behind i c.flush_zone-failed.new.behind) l) (sym grown)
-                (set3 (λ z b k. IsHeld g.S.ZoneStore.keeps z b k) zones behind (flushed_to fails ks) i c.flush_zone-failed.new.zone c.flush_zone-failed.new.behind (flushed failed k) was.2 (c.flush_zone-failed.ensures.held k there.2)),
+            subst (λ (l : List Kept). Each3 (λ z b k. HasVersions g.S.ZoneStore.keeps z b k) (slice_set zones i c.flush_zone-failed.new.zone) (slice_set behind i c.flush_zone-failed.new.behind) l) (sym grown)
+                (set3 (λ z b k. HasVersions g.S.ZoneStore.keeps z b k) zones behind (flushed_to fails ks) i c.flush_zone-failed.new.zone c.flush_zone-failed.new.behind (flushed failed k) was.2 (c.flush_zone-failed.ensures.held k there.2)),
             c.first_failure-first.ensures fails was.3 (sym was.1),
             fails_more (λ b. g.S.ZoneStore.failed b.store) fails c.args.behind.now behind i failed c.flush_zone-failed.new.behind c.index-behind-i.result was.1 was.4 (omega (arith, c.loop-i.invariant.count)) inside
                 (λ f. subst (λ b. HasFailed (g.S.ZoneStore.failed b.store) (g.S.ZoneStore.failed c.flush_zone-failed.new.behind.store)) (same_at behind c.args.behind.now i c.index-behind-i.result c.loop-i.invariant.rest) (c.flush_zone-failed.ensures.failed f)),
@@ -48,7 +48,7 @@ loop-i-preserved g c =
       moments = λ ks each.
           let was = c.loop-i.invariant.held ks each in
           let fails = was.0 in
-          let there = get3 (λ z b k. IsHeld g.S.ZoneStore.keeps z b k) zones behind (flushed_to fails ks) i c.index-zones-i.result c.index-behind-i.result was.2 inside in
+          let there = get3 (λ z b k. HasVersions g.S.ZoneStore.keeps z b k) zones behind (flushed_to fails ks) i c.index-zones-i.result c.index-behind-i.result was.2 inside in
           let k = there.0 in
           let before : slice_get ks i ≡ Some k = subst (λ n. slice_get ks n ≡ Some k) was.1 (sym (stands fails ks) ∙ subst (λ n. slice_get (flushed_to fails ks) n ≡ Some k) (sym was.1) there.1) in
           mid3 (λ a b k. LeavesOnly g.S.ZoneStore.moment g.S.ZoneStore.left_since a.store b.store (OpensAsLeft g.S.ZoneStore.opens k)) c.args.behind.now behind ks i c.index-behind-i.result c.flush_zone-failed.new.behind inside
@@ -62,5 +62,5 @@ loop-i-preserved g c =
 pub returns-clause-held : goal.returns-clause-held
 returns-clause-held g c ks each =
     let was = c.loop-i.invariant.held ks each in
-    let ended : length was.0 ≡ length ks = omega (arith, was.1, long3 (λ z b k. IsHeld g.S.ZoneStore.keeps z b k) c.args.zones.now c.args.behind.now ks each) in
+    let ended : length was.0 ≡ length ks = omega (arith, was.1, long3 (λ z b k. HasVersions g.S.ZoneStore.keeps z b k) c.args.zones.now c.args.behind.now ks each) in
     (was.0, ended, was.2, was.3, was.4)

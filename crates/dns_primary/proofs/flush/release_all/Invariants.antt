@@ -3,13 +3,13 @@ use Rattle.dns_zone.specs.Zone.{Zone}
 use Rattle.dns_held.specs.Each.{Each2}
 use Rattle.dns_primary.specs.Machine.{ZoneState, Waits}
 use Rattle.dns_primary.specs.Flush.{all_out, released}
-use Rattle.dns_primary.specs.Keeps.{AreHeld, IsWaiting, header_out}
+use Rattle.dns_primary.specs.Keeps.{HaveVersions, IsWaiting, header_out}
 use Rattle.dns_primary.proofs.flush.release_all.Given as goal
 
 abbrev pub invariant-loop-one : goal.invariant-loop-one
 invariant-loop-one g l = record {
   few : length l.headers.items ≤ l.one-index;
   most : length l.waiting ≤ 32;
-  sent : (shown : List Zone) (zones : List ZoneState) (ws : List Waits) → AreHeld g.S.ZoneStore.keeps shown l.behind zones → Each2 IsWaiting l.waiting ws
+  sent : (shown : List Zone) (zones : List ZoneState) (ws : List Waits) → HaveVersions g.S.ZoneStore.keeps shown l.behind zones → Each2 IsWaiting l.waiting ws
       → map header_out l.headers.items ≡ all_out (map (released zones) (take l.one-index ws));
 }

@@ -2,7 +2,7 @@ use Rattle.std.proofs.Common.{List, sym, ap, subst}
 use Rattle.std.proofs.Common.{refl}
 use Rattle.std.specs.Prelude.{slice_index_or, slice_set}
 use Rattle.dns_update.specs.Verdict.{verdict}
-use Rattle.dns_held.specs.Held.{IsHeld, newest_zone}
+use Rattle.dns_held.specs.Held.{HasVersions, newest_zone}
 use Rattle.dns_primary.specs.declared.event.Waiting.{Waiting}
 use Rattle.dns_primary.specs.Machine.{Machine, kept_of}
 use Rattle.dns_primary.specs.Flush.{Sent}
@@ -25,9 +25,9 @@ returns-in-Waits-clause-done g c settings m z held there opened =
     let new = c.judge_and_stage.new.behind in
     let zone = c.index-zones-place.result in
     let was = was_held keeps zones behind settings waiting m place z zone c.index-behind-place.result held there in
-    let here = subst (λ y. IsHeld keeps y (slice_index_or behind place c.index-behind-place.result) (kept_of z)) (sym c.index-zones-place.is) was in
+    let here = subst (λ y. HasVersions keeps y (slice_index_or behind place c.index-behind-place.result) (kept_of z)) (sym c.index-zones-place.is) was in
     let done = c.in-Waits.ensures.done (kept_of z) here opened in
-    let is = subst (λ y. IsHeld keeps y new (end_of (kept_of z) v).versions) c.index-zones-place.is done.1 in
+    let is = subst (λ y. HasVersions keeps y new (end_of (kept_of z) v).versions) c.index-zones-place.is done.1 in
     let one : Waiting = record { to = c.args.update.now.to; request = c.args.update.now.header.now; rcode = c.in-Waits.rcode; zone = place } in
     let all = holds_more keeps zones behind settings waiting m place z zone new a c.in-Waits.rcode (end_of (kept_of z) v).versions (judged_in m a place z v) one held there (ends_waiting m a place z there v c.in-Waits.rcode done.0) is refl c.requires.header refl refl in
     (all.0, subst (λ l. Holds keeps zones (slice_set behind place new) settings l m.connections (judged_in m a place z v).0) (sym c.push.ensures.items) all.1)
@@ -50,10 +50,10 @@ returns-in-AtOnce-clause-done g c settings m z held there opened =
     let new = c.judge_and_stage.new.behind in
     let zone = c.index-zones-place.result in
     let was = was_held keeps zones behind settings waiting m place z zone c.index-behind-place.result held there in
-    let here = subst (λ y. IsHeld keeps y (slice_index_or behind place c.index-behind-place.result) (kept_of z)) (sym c.index-zones-place.is) was in
+    let here = subst (λ y. HasVersions keeps y (slice_index_or behind place c.index-behind-place.result) (kept_of z)) (sym c.index-zones-place.is) was in
     let done = c.in-AtOnce.ensures.done (kept_of z) here opened in
     let ends = ends_at_once m a place z there v c.in-AtOnce.rcode done.0 in
-    let is = subst (λ y. IsHeld keeps y new (kept_of z)) c.index-zones-place.is (subst (λ k. IsHeld keeps zone new k) ends.1 done.1) in
+    let is = subst (λ y. HasVersions keeps y new (kept_of z)) c.index-zones-place.is (subst (λ k. HasVersions keeps zone new k) ends.1 done.1) in
     (ap (λ (p : Machine × List Sent). p.1) ends.0, subst (λ (p : Machine × List Sent). Holds keeps zones (slice_set behind place new) settings waiting m.connections p.0) (sym ends.0) (still_holds keeps zones behind settings waiting m place z zone new held there is))
 
 pub returns-in-AtOnce-clause-still : goal.returns-in-AtOnce-clause-still
@@ -74,9 +74,9 @@ returns-in-OutOfMemory-clause-done g c settings m z held there opened =
     let new = c.judge_and_stage.new.behind in
     let zone = c.index-zones-place.result in
     let was = was_held keeps zones behind settings waiting m place z zone c.index-behind-place.result held there in
-    let here = subst (λ y. IsHeld keeps y (slice_index_or behind place c.index-behind-place.result) (kept_of z)) (sym c.index-zones-place.is) was in
+    let here = subst (λ y. HasVersions keeps y (slice_index_or behind place c.index-behind-place.result) (kept_of z)) (sym c.index-zones-place.is) was in
     let done = c.in-OutOfMemory.ensures.done (kept_of z) here opened in
-    still_holds keeps zones behind settings waiting m place z zone new held there (subst (λ y. IsHeld keeps y new (kept_of z)) c.index-zones-place.is done)
+    still_holds keeps zones behind settings waiting m place z zone new held there (subst (λ y. HasVersions keeps y new (kept_of z)) c.index-zones-place.is done)
 
 pub returns-in-OutOfMemory-clause-still : goal.returns-in-OutOfMemory-clause-still
 returns-in-OutOfMemory-clause-still g c =

@@ -5,11 +5,11 @@ use Rattle.dns_store.specs.declared.unkept.Unkept.{Unkept}
 use Rattle.dns_store.specs.Versions.{Kept}
 use Rattle.dns_held.specs.declared.behind.Behind.{Behind}
 use Rattle.dns_held.specs.Each.{Each3}
-use Rattle.dns_held.specs.Held.{IsHeld}
+use Rattle.dns_held.specs.Held.{HasVersions}
 use Rattle.dns_primary.specs.declared.primary.ZoneSettings.{ZoneSettings}
 use Rattle.dns_zone.specs.Zone.{Zone}
 use Rattle.dns_primary.specs.Machine.{ZoneState, kept_of, versions_of}
-use Rattle.dns_primary.specs.Keeps.{AreHeld}
+use Rattle.dns_primary.specs.Keeps.{HaveVersions}
 use Rattle.dns_primary.specs.Fresh.{IsLoaded, keeps_unkept}
 use Rattle.dns_primary.proofs.Loaded.{loaded_shown}
 use Rattle.dns_primary.proofs.Places.{at3_both, long3_first, push3, take_one}
@@ -35,7 +35,7 @@ loop-i-preserved g c =
           let stored = c.new-store.ensures (kept_of z) journal shown staged loaded.base loaded.opened in
           let one = c.new.ensures (kept_of z) (loaded_shown zone own z loaded) staged stored (ap (λ h. h.snapshot) loaded.shape) journal in
           let so_far = c.loop-i.invariant.held states each in
-          let R = λ (z : Zone) (b : Behind g.row.I.Denot Unkept) (k : Kept). IsHeld keeps_unkept z b k in
+          let R = λ (z : Zone) (b : Behind g.row.I.Denot Unkept) (k : Kept). HasVersions keeps_unkept z b k in
           let more = push3 R (take i zones) c.loop-i.behind.items (map kept_of (take i states)) zone c.new.result (kept_of z) so_far one in
           let zones_are : take (i + 1) zones ≡ take i zones ++ zone ∷ [] = ap (λ n. take n zones) (add-one i) ∙ take_one zones i zone c.loop-i-test.true ∙ (λ j. take i zones ++ sym c.index-zones-i.is j ∷ []) in
           let states_are : take (i + 1) states ≡ take i states ++ z ∷ [] = ap (λ n. take n states) (add-one i) ∙ at.2 in
@@ -50,5 +50,5 @@ returns-clause-held g c states each =
     let zones = c.args.zones.now in
     let long = long3_first IsLoaded zones c.args.settings.now states each in
     let so_far = c.loop-i.invariant.held states each in
-    subst (λ (l : List Zone). AreHeld keeps_unkept l c.loop-i.behind.items states) (take_all c.loop-i.i zones c.loop-i-test.false)
-    (subst (λ (l : List ZoneState). AreHeld keeps_unkept (take c.loop-i.i zones) c.loop-i.behind.items l) (take_all c.loop-i.i states (omega (arith, long, c.loop-i-test.false))) so_far)
+    subst (λ (l : List Zone). HaveVersions keeps_unkept l c.loop-i.behind.items states) (take_all c.loop-i.i zones c.loop-i-test.false)
+    (subst (λ (l : List ZoneState). HaveVersions keeps_unkept (take c.loop-i.i zones) c.loop-i.behind.items l) (take_all c.loop-i.i states (omega (arith, long, c.loop-i-test.false))) so_far)

@@ -2,13 +2,13 @@ use Rattle.std.proofs.Common.{◌≡◌, true}
 use Rattle.std.specs.Prelude.{◌⊎◌}
 use Rattle.std.specs.Option.{option_copied}
 use Rattle.dns_server.specs.Checks.{is_memory}
-use Rattle.dns_server.specs.Replays.{AreHeld, IsFirstFault}
+use Rattle.dns_server.specs.Replays.{AreLoaded, IsFirstFault}
 use Rattle.dns_server.proofs.Replayed.{file_told, script_ran}
 use Rattle.dns_server.proofs.run.replayed.Goals as goal
 
 pub returns-in-Ok-load_all : goal.returns-in-Ok-load_all
 returns-in-Ok-load_all g c =
-    let held : AreHeld (option_copied c.args.config.now.octets) c.args.files.now c.deref.result.now = record {
+    let held : AreLoaded (option_copied c.args.config.now.octets) c.args.files.now c.deref.result.now = record {
       configuration = c.in-Ok.configuration;
       described = c.in-Ok.ensures;
       loaded = rw c.deref.ensures.value c.in-Ok-load_all.ensures;

@@ -11,12 +11,12 @@ returns-in-Some g c = record {
   step = λ old kept.
       let there : peer_at c.args.number old.connections ≡ Some c.in-Some.peer = sym (kept.connections_are c.args.number) ∙ sym c.get.ensures ∙ sym c.copied.ensures ∙ c.in-Some.is in
       let s = c.serve.ensures.step old kept in
-      record { fails = s.fails; failed = s.failed; any_moment = s.any_moment; next = s.next; stated = s.stated; is = arrived old s.next c.args.number c.in-Some.peer c.args.octets.now s.fails s.stated there s.is; told = s.told; kept = s.kept };
+      record { fails = s.fails; failed = s.failed; any_moment = s.any_moment; next = s.next; stated = s.stated; is = arrived old s.next c.args.number c.in-Some.peer c.args.octets.now s.fails s.stated there s.is; effects_are = s.effects_are; kept = s.kept };
 }
 
 pub returns-in-None : goal.returns-in-None
 returns-in-None g c = record {
   step = λ old kept.
       let none : peer_at c.args.number old.connections ≡ None = sym (kept.connections_are c.args.number) ∙ sym c.get.ensures ∙ sym c.copied.ensures ∙ c.in-None.is in
-      stays c.args.self.now old c.nothing.result nothing (λ fails stated next. Step fails old (Arrives c.args.number c.args.octets.now) stated next) (rests g.S.ZoneStore c.args.self.now.zones.items c.args.self.now.behind.items (map kept_of old.zones) (λ x k h y left. g.met.S.ZoneStore.at_rest x k h y left) kept.zones_are) kept c.nothing.ensures.told (arrived_nowhere old c.args.number c.args.octets.now none);
+      stays c.args.self.now old c.nothing.result nothing (λ fails stated next. Step fails old (Arrives c.args.number c.args.octets.now) stated next) (rests g.S.ZoneStore c.args.self.now.zones.items c.args.self.now.behind.items (map kept_of old.zones) (λ x k h y left. g.met.S.ZoneStore.at_rest x k h y left) kept.zones_are) kept c.nothing.ensures.effects_are (arrived_nowhere old c.args.number c.args.octets.now none);
 }

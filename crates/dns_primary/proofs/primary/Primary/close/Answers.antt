@@ -29,7 +29,7 @@ returns-clause-step g c old kept =
       next = closed number old;
       stated = nothing;
       is = inl (refl, record { state = refl; sent = refl; accepted = refl; noted = refl });
-      told = c.nothing.ensures.told;
+      effects_are = c.nothing.ensures.effects_are;
       kept = record {
         zones_are = kept.zones_are;
         settings_are = kept.settings_are;

@@ -14,7 +14,7 @@ pub returns-then-len-ge-MOST_CONNECTIONS : goal.returns-then-len-ge-MOST_CONNECT
 returns-then-len-ge-MOST_CONNECTIONS g c = record {
   step = λ old kept.
       let most : 64 ≤ length old.connections = omega (arith, kept.as_many, c.len.ensures, c.if-len-ge-MOST_CONNECTIONS.true) in
-      stays c.args.self.now old c.nothing-effects.result nothing (λ fails stated next. Step fails old (Connect c.args.peer) stated next) (rests g.S.ZoneStore c.args.self.now.zones.items c.args.self.now.behind.items (map kept_of old.zones) (λ x k h y left. g.met.S.ZoneStore.at_rest x k h y left) kept.zones_are) kept c.nothing-effects.ensures.told
+      stays c.args.self.now old c.nothing-effects.result nothing (λ fails stated next. Step fails old (Connect c.args.peer) stated next) (rests g.S.ZoneStore c.args.self.now.zones.items c.args.self.now.behind.items (map kept_of old.zones) (λ x k h y left. g.met.S.ZoneStore.at_rest x k h y left) kept.zones_are) kept c.nothing-effects.ensures.effects_are
       (inl (refl, inr (most, gives_none old)));
 }
 
@@ -23,7 +23,7 @@ returns-in-Ok g c = record {
   step = λ old kept.
       let few : length old.connections < 64 = omega (arith, kept.as_many, c.len.ensures, c.if-len-ge-MOST_CONNECTIONS.false) in
       let number = c.in-Ok.number in
-      let told = c.nothing-effects.ensures.told in
+      let effects_are = c.nothing-effects.ensures.effects_are in
       record {
         fails = [];
         failed = tt;
@@ -31,7 +31,7 @@ returns-in-Ok g c = record {
         next = connected number c.args.peer old;
         stated = record { sent = []; accepted = Some number; noted = Nothing };
         is = inl (refl, inl (few, (number, sym (kept.connections_are number) ∙ c.in-Ok.ensures.was_vacant, refl, refl)));
-        told = record { sent = told.sent; accepted = refl; noted = told.noted };
+        effects_are = record { sent = effects_are.sent; accepted = refl; noted = effects_are.noted };
         kept = record {
           zones_are = kept.zones_are;
           settings_are = kept.settings_are;
@@ -45,7 +45,7 @@ returns-in-Ok g c = record {
 pub returns-in-Err : goal.returns-in-Err
 returns-in-Err g c = record {
   step = λ old kept.
-      let told = c.nothing-effects.ensures.told in
+      let effects_are = c.nothing-effects.ensures.effects_are in
       record {
         fails = [];
         failed = tt;
@@ -53,7 +53,7 @@ returns-in-Err g c = record {
         next = old;
         stated = record { sent = []; accepted = None; noted = OutOfMemory };
         is = inr (record { takes = refl; noted = refl; accepted = refl; stays = inl (refl, refl, refl) });
-        told = record { sent = told.sent; accepted = told.accepted; noted = refl };
+        effects_are = record { sent = effects_are.sent; accepted = effects_are.accepted; noted = refl };
         kept = record {
           zones_are = kept.zones_are;
           settings_are = kept.settings_are;

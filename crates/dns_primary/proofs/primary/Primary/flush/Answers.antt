@@ -4,7 +4,7 @@ use Rattle.std.specs.Prelude.{None}
 use Rattle.dns_sectors.specs.Device.{LeavesOnly}
 use Rattle.dns_store.specs.Versions.{OpensAsLeft}
 use Rattle.dns_held.specs.Each.{Each2}
-use Rattle.dns_held.specs.Held.{IsHeld}
+use Rattle.dns_held.specs.Held.{HasVersions}
 use Rattle.dns_held.specs.Flush.{first_true}
 use Rattle.dns_primary.specs.declared.event.Waiting.{Waiting}
 use Rattle.dns_primary.specs.Machine.{kept_of}
@@ -20,7 +20,7 @@ returns-clause-step g c old kept =
     let behind = c.args.self.now.behind in
     let a = c.deref_mut.ensures.value in
     let b = c.deref_mut-2.ensures.value in
-    let given = moved3 (sym a) (sym b) (map kept_of old.zones) (λ z b k. IsHeld g.S.ZoneStore.keeps z b k) kept.zones_are in
+    let given = moved3 (sym a) (sym b) (map kept_of old.zones) (λ z b k. HasVersions g.S.ZoneStore.keeps z b k) kept.zones_are in
     let done = c.flush-headers.ensures.flushed old given kept.waiting_are in
     let fails = done.0 in
     let z = refilled zones.len c.flush-headers.new.zones zones.items (omega (arith, c.flush-headers.auto.zones, ap length a, zones.ok)) in
@@ -32,9 +32,9 @@ returns-clause-step g c old kept =
       next = flushed fails old;
       stated = record { sent = flush_sends fails old; accepted = None; noted = noted_of (first_true fails) };
       is = (done.1, record { state = refl; sent = refl; accepted = refl; noted = refl });
-      told = record { sent = sym done.4 ∙ sym (append-nil (map header_out c.flush-headers.result.0.items)); accepted = refl; noted = sym (c.noted.ensures.value ∙ ap noted_of done.5) };
+      effects_are = record { sent = sym done.4 ∙ sym (append-nil (map header_out c.flush-headers.result.0.items)); accepted = refl; noted = sym (c.noted.ensures.value ∙ ap noted_of done.5) };
       kept = record {
-        zones_are = moved3 (sym z) (sym y) (map kept_of (flushed fails old).zones) (λ z b k. IsHeld g.S.ZoneStore.keeps z b k) done.3;
+        zones_are = moved3 (sym z) (sym y) (map kept_of (flushed fails old).zones) (λ z b k. HasVersions g.S.ZoneStore.keeps z b k) done.3;
         settings_are = flushed_settings c.args.self.now.settings.items fails old.zones kept.settings_are;
         connections_are = kept.connections_are;
         as_many = kept.as_many;

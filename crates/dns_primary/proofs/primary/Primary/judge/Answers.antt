@@ -1,7 +1,7 @@
 use Rattle.std.proofs.Common.{length, map, refl, sym, ap, subst, ◌∙◌, arith}
 use Rattle.std.specs.Vec.{with_items}
 use Rattle.dns_held.specs.Each.{Each2}
-use Rattle.dns_held.specs.Held.{IsHeld}
+use Rattle.dns_held.specs.Held.{HasVersions}
 use Rattle.dns_primary.specs.Machine.{kept_of, peer_at}
 use Rattle.dns_primary.specs.Update.{admission, admitted}
 use Rattle.dns_primary.specs.Keeps.{IsKept, IsSet}
@@ -20,7 +20,7 @@ returns-clause-done g c old kept =
     let settings = c.as_slice-settings.ensures.value in
     let y = refilled self.behind.len new self.behind.items (omega (arith, c.admit_and_judge.auto.behind, ap length behind, self.behind.ok)) in
     let given : Holds g.S.ZoneStore.keeps c.as_slice-zones.result.now c.deref_mut.result.now c.as_slice-settings.result.now self.waiting.items old.connections old = record {
-      zones_are = moved3 (sym zones) (sym behind) (map kept_of old.zones) (λ z b k. IsHeld g.S.ZoneStore.keeps z b k) kept.zones_are;
+      zones_are = moved3 (sym zones) (sym behind) (map kept_of old.zones) (λ z b k. HasVersions g.S.ZoneStore.keeps z b k) kept.zones_are;
       settings_are = subst (λ l. Each2 IsSet l old.zones) (sym settings) kept.settings_are;
       waiting_are = kept.waiting_are;
       connections_are = refl;
@@ -29,7 +29,7 @@ returns-clause-done g c old kept =
     held_as (Holds g.S.ZoneStore.keeps c.as_slice-zones.result.now new c.as_slice-settings.result.now c.admit_and_judge.new.waiting.items old.connections)
     (IsKept {i = g.I.ZoneIndex} {s = g.S.ZoneStore} (record { zones = self.zones; behind = with_items self.behind new; settings = self.settings; waiting = c.admit_and_judge.new.waiting; connections = self.connections; as_many = _; settled = _ }))
     (λ m h. record {
-      zones_are = moved3 zones (sym y) (map kept_of m.zones) (λ z b k. IsHeld g.S.ZoneStore.keeps z b k) h.zones_are;
+      zones_are = moved3 zones (sym y) (map kept_of m.zones) (λ z b k. HasVersions g.S.ZoneStore.keeps z b k) h.zones_are;
       settings_are = subst (λ l. Each2 IsSet l m.zones) settings h.settings_are;
       waiting_are = h.waiting_are;
       connections_are = λ number. kept.connections_are number ∙ ap (peer_at number) (sym h.connections_are);

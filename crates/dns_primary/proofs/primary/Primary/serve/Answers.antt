@@ -10,7 +10,7 @@ use Rattle.dns_primary.specs.Update.{Asked}
 use Rattle.dns_answer.specs.Answer.{answered, bare_reply, fitted, with_question}
 use Rattle.dns_primary.specs.Machine.{kept_of, shown_zones}
 use Rattle.dns_primary.specs.Flush.{Replied, rcode_servfail}
-use Rattle.dns_primary.specs.Keeps.{IsToldBy}
+use Rattle.dns_primary.specs.Keeps.{AreEffects}
 use Rattle.dns_primary.specs.Steps.{IsServedOrLacks, nothing, one_reply}
 use Rattle.dns_primary.proofs.Served.{rests, are_shown, asking, gives_none, gives_one, lack, lacks_update, replied, replies_or_lacks, served_as, stays, update_opcode}
 use Rattle.dns_primary.proofs.primary.Primary.serve.Goals as goal
@@ -19,7 +19,7 @@ pub returns-in-Ignored : goal.returns-in-Ignored
 returns-in-Ignored g c = record {
   step = λ old kept.
       let octets = c.args.octets.now in
-      stays c.args.self.now old c.nothing.result nothing (IsServedOrLacks old c.args.peer c.args.to octets c.args.transport) (rests g.S.ZoneStore c.args.self.now.zones.items c.args.self.now.behind.items (map kept_of old.zones) (λ x k h y left. g.met.S.ZoneStore.at_rest x k h y left) kept.zones_are) kept c.nothing.ensures.told
+      stays c.args.self.now old c.nothing.result nothing (IsServedOrLacks old c.args.peer c.args.to octets c.args.transport) (rests g.S.ZoneStore c.args.self.now.zones.items c.args.self.now.behind.items (map kept_of old.zones) (λ x k h y left. g.met.S.ZoneStore.at_rest x k h y left) kept.zones_are) kept c.nothing.ensures.effects_are
       (served_as old old c.args.peer c.args.to octets c.args.transport request.Ignored [] nothing c.in-Ignored.ensures.request (refl, gives_none old));
 }
 
@@ -30,7 +30,7 @@ returns-in-Refused g c = record {
       let rcode = number_of_rcode c.in-Refused.rcode in
       let reply = λ (h : Header). Replied c.args.to (text (bare_reply h rcode)) in
       stays c.args.self.now old c.refusal.result (one_reply (reply (header_of octets))) (IsServedOrLacks old c.args.peer c.args.to octets c.args.transport) (rests g.S.ZoneStore c.args.self.now.zones.items c.args.self.now.behind.items (map kept_of old.zones) (λ x k h y left. g.met.S.ZoneStore.at_rest x k h y left) kept.zones_are) kept
-      (subst (λ (h : Header). IsToldBy (one_reply (reply h)) c.refusal.result) c.in-Refused.ensures.of c.refusal.ensures)
+      (subst (λ (h : Header). AreEffects (one_reply (reply h)) c.refusal.result) c.in-Refused.ensures.of c.refusal.ensures)
       (served_as old old c.args.peer c.args.to octets c.args.transport (request.Refused rcode) [] (one_reply (reply (header_of octets))) c.in-Refused.ensures.request (refl, gives_one old (reply (header_of octets))));
 }
 
@@ -45,7 +45,7 @@ returns-in-NotServed g c = record {
       let reply = fitted c.args.transport (with_question octets q.message.message q.question rcode) in
       let is = subst (λ (xs : List ℕ). IfOk c.refuse.result (λ v. v.items ≡ fitted c.args.transport (with_question xs q.message.message q.question rcode))) of c.refuse.ensures in
       let header : header_of c.header_octets-header.result.now ≡ header_of octets = c.header_octets-header.ensures.octets ∙ ap header_of of in
-      let none = subst (λ (h : Header). IfErr c.refuse.result (λ _. IsToldBy (lack (Replied c.args.to (text (bare_reply h rcode_servfail)))) c.reply.result)) header c.reply.ensures.failed in
+      let none = subst (λ (h : Header). IfErr c.refuse.result (λ _. AreEffects (lack (Replied c.args.to (text (bare_reply h rcode_servfail)))) c.reply.result)) header c.reply.ensures.failed in
       replies_or_lacks c.args.self.now old c.reply.result c.args.peer c.args.to octets c.args.transport r reply c.in-NotServed.ensures.request (λ e. cc e) refl (rests g.S.ZoneStore c.args.self.now.zones.items c.args.self.now.behind.items (map kept_of old.zones) (λ x k h y left. g.met.S.ZoneStore.at_rest x k h y left) kept.zones_are) kept
       (replied (λ v. v.items) c.refuse.result c.reply.result c.args.to reply (text (bare_reply (header_of octets) rcode_servfail)) is c.reply.ensures.sent none);
 }
@@ -62,7 +62,7 @@ returns-in-Query g c = record {
       let shown = subst (λ (zs : List Zone). IfOk c.reply-in-Query.result (λ v. v.items ≡ fitted c.args.transport (answered zs q.message.octets q.message.message q.question))) zones c.reply-in-Query.ensures in
       let is = subst (λ (xs : List ℕ). IfOk c.reply-in-Query.result (λ v. v.items ≡ fitted c.args.transport (answered (shown_zones old) xs q.message.message q.question))) of shown in
       let header : header_of c.header_octets-header-in-Query.result.now ≡ header_of octets = c.header_octets-header-in-Query.ensures.octets ∙ ap header_of of in
-      let none = subst (λ (h : Header). IfErr c.reply-in-Query.result (λ _. IsToldBy (lack (Replied c.args.to (text (bare_reply h rcode_servfail)))) c.reply-in-Query-2.result)) header c.reply-in-Query-2.ensures.failed in
+      let none = subst (λ (h : Header). IfErr c.reply-in-Query.result (λ _. AreEffects (lack (Replied c.args.to (text (bare_reply h rcode_servfail)))) c.reply-in-Query-2.result)) header c.reply-in-Query-2.ensures.failed in
       replies_or_lacks c.args.self.now old c.reply-in-Query-2.result c.args.peer c.args.to octets c.args.transport r reply c.in-Query.ensures.request (λ e. cc e) refl (rests g.S.ZoneStore c.args.self.now.zones.items c.args.self.now.behind.items (map kept_of old.zones) (λ x k h y left. g.met.S.ZoneStore.at_rest x k h y left) kept.zones_are) kept
       (replied (λ v. v.items) c.reply-in-Query.result c.reply-in-Query-2.result c.args.to reply (text (bare_reply (header_of octets) rcode_servfail)) is c.reply-in-Query-2.ensures.sent none);
 }
@@ -86,7 +86,7 @@ returns-in-Update g c = record {
         stated = s.stated;
         is = ⊎_elim (λ h. served_as old s.next c.args.peer c.args.to octets c.args.transport r s.fails s.stated e h)
             (λ h. inr (lacks_update s.fails old s.next a octets s.stated (asking octets c.args.transport r (sym e) (λ x. cc x)) header (update_opcode octets c.args.transport m u.question (sym e)) h)) s.is;
-        told = s.told;
+        effects_are = s.effects_are;
         kept = s.kept;
       };
 }
@@ -98,6 +98,6 @@ returns-in-Transfer g c = record {
       let r = c.in-Transfer.request in
       let reply = λ (h : Header). Replied c.args.to (text (bare_reply h rcode_notimp)) in
       stays c.args.self.now old c.refusal-in-Transfer.result (one_reply (reply r.message.message.header)) (IsServedOrLacks old c.args.peer c.args.to octets c.args.transport) (rests g.S.ZoneStore c.args.self.now.zones.items c.args.self.now.behind.items (map kept_of old.zones) (λ x k h y left. g.met.S.ZoneStore.at_rest x k h y left) kept.zones_are) kept
-      (subst (λ (h : Header). IsToldBy (one_reply (reply h)) c.refusal-in-Transfer.result) c.header_octets.ensures.message c.refusal-in-Transfer.ensures)
+      (subst (λ (h : Header). AreEffects (one_reply (reply h)) c.refusal-in-Transfer.result) c.header_octets.ensures.message c.refusal-in-Transfer.ensures)
       (served_as old old c.args.peer c.args.to octets c.args.transport (request.Transfer r.message.message r.question) [] (one_reply (reply r.message.message.header)) c.in-Transfer.ensures.request (refl, gives_one old (reply r.message.message.header)));
 }

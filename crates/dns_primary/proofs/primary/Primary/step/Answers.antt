@@ -15,6 +15,6 @@ returns-in-Datagram-clause-step g c old kept =
       next = s.next;
       stated = s.stated;
       is = subst (λ (e : Event). Step s.fails old e s.stated s.next) (sym is) (came old s.next c.in-Datagram.peer c.in-Datagram.octets.now s.fails s.stated s.is);
-      told = s.told;
+      effects_are = s.effects_are;
       kept = s.kept;
     }

@@ -34,7 +34,7 @@ returns g c = record {
         next = ends.next;
         stated = answered_with placed.stated a c.judge-outcome.result;
         is = ends.is;
-        told = c.with_outcome.ensures placed.stated placed.told;
+        effects_are = c.with_outcome.ensures placed.stated placed.effects_are;
         kept = ends.kept;
       };
 }
