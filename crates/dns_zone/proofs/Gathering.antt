@@ -1,10 +1,9 @@
 -- Lists that have the same records in another order.
-use Rattle.std.proofs.Common.{◌≡◌, inl, inr, ℕ, zero, suc, ◌+◌, ◌<◌, ◌≤◌, Bool, true, false, List, [], ◌∷◌, length, get_or, take, refl, sym, ap, subst, ◌∙◌, arith, cond}
+use Rattle.std.proofs.Common.{◌≡◌, inl, inr, ℕ, zero, suc, ◌+◌, ◌<◌, ◌≤◌, Bool, true, false, List, [], ◌∷◌, length, get_or, refl, sym, ap, subst, ◌∙◌, arith, cond}
 use Rattle.std.specs.Prelude.{filter, ◌&&◌, ◌||◌, ◌==◌, not, nat_lt, Some, None, Option, if◌then◌else◌}
 use Rattle.std.specs.List.{list_any, list_all, IsDistinct, AllByRecursion, IsAllAdjacentAnswer}
 use Rattle.std.specs.List.Sorted.{IsPermutation, IsSorted}
 use Rattle.std.specs.Ordering.{is_lt, ordering_reverse}
-use Rattle.std.specs.FinMap.Entries.{by_order}
 use Rattle.std.specs.Cmp.{both_ways, IsStrictWeakOrder}
 use Rattle.std.specs.declared.cmp.Ordering.{Ordering}
 use Rattle.std.specs.declared.cmp.Ordering.TheVariants.{Less, Equal, Greater}
@@ -16,15 +15,14 @@ use Rattle.std.proofs.lemmas.Map.Keys.{IsDistinct-IsPermutation}
 use Rattle.dns_names.specs.Name.{Labels, names_eq, under}
 use Rattle.dns_records.specs.Types.{type_soa, type_ns, type_cname}
 use Rattle.dns_records.specs.Record.{Record, record_cmp}
-use Rattle.dns_zone.specs.Records.{is_ordered, put, alike, owns_type, records_at}
+use Rattle.dns_zone.specs.Records.{is_ordered, alike, owns_type, records_at}
 use Rattle.dns_zone.specs.Zone.{has_twice, has_cname_and_other, is_wildcard, soas, zone_fault}
 use Rattle.dns_zone.specs.Made.{IsSetOf}
 use Rattle.dns_zone.specs.declared.ZoneError.{ZoneError}
 use Rattle.dns_zone.specs.declared.ZoneError.TheVariants.{NoSoa, ManySoa, NoNs, OutOfZone, Duplicate, CnameAndOther, WildcardNs, TooMany}
 use Rattle.dns_zone.specs.Order.{record_total}
-use Rattle.dns_zone.specs.Sets.{Sorted, sorted_from, true_or_false}
+use Rattle.dns_zone.specs.Sets.{true_or_false}
 use Rattle.dns_zone.specs.Twice.{tied_alike, alike_flips, any_by}
-use Rattle.dns_zone.proofs.Searching.{below_at}
 
 -- the order of records ranks them
 pub strict : IsStrictWeakOrder (λ (x y : Record). is_lt (record_cmp x y))
@@ -119,19 +117,6 @@ twice_from (x ∷ y ∷ xs) h e = elim (true_or_false (is_lt (record_cmp x y))) 
     later : (b c : Bool) → c ≡ true → (b || c) ≡ true
     later true c g = refl
     later false c g = g
-
--- the record at the next place goes to the end of those before it
-put_there : (xs : List Record) (n : ℕ) (r : Record) → Sorted xs → n < length xs → r ≡ get_or xs n r → put r (take n xs) ≡ take (n + 1) xs
-put_there [] n r h lt is = absurd (omega arith)
-put_there (x ∷ xs) zero r h lt is = ap (λ y. y ∷ []) is
-put_there (x ∷ xs) (suc n) r h lt is =
-    let less : record_cmp x r ≡ Less = ap (record_cmp x) is ∙ below_at x r xs n h.0 (omega arith) in
-    let above : record_cmp r x ≡ Greater = record_total.antisymm r x ∙ ap ordering_reverse less in
-    let next : suc n + 1 ≡ suc (n + 1) = omega arith in
-    ap (λ o. by_order o (r ∷ x ∷ take n xs) (r ∷ take n xs) (x ∷ put r (take n xs))) above ∙ ap (λ ys. x ∷ ys) (put_there xs n r h.1 (omega arith) is) ∙ ap (λ k. take k (x ∷ xs)) (sym next)
-
-pub put_next : (xs : List Record) (n : ℕ) (r : Record) → is_ordered xs ≡ true → (n < length xs) × (r ≡ get_or xs n r) → put r (take n xs) ≡ take (n + 1) xs
-put_next xs n r h at = put_there xs n r (sorted_from xs h) at.0 at.1
 
 -- ---- neighbours
 and_false : (b : Bool) → (b && false) ≡ false

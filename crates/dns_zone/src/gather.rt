@@ -1,9 +1,9 @@
 //! A list of records in any order, gathered into a set.
 ghost use Rattle.std.specs.Prelude.{◌≡◌, true, ◌==◌, ◌&&◌, length, Some, IfOk, OnOk, IsPermutation};
-ghost use Rattle.std.specs.List.{list_all};
+ghost use Rattle.std.specs.List.{AllByRecursion, list_all};
 ghost use Rattle.std.specs.List.Sorted.{IsSorted};
 ghost use Rattle.dns_names.specs.Name.{names_eq, under};
-ghost use Rattle.dns_records.specs.Record.{record_cmp};
+ghost use Rattle.dns_records.specs.Record.{IsRecord, record_cmp};
 ghost use Rattle.dns_records.specs.Types.{type_soa};
 ghost use Rattle.dns_zone.specs.Records.{is_ordered, owns_type};
 ghost use Rattle.dns_zone.specs.Zone.{has_twice, soas, zone_fault};
@@ -31,16 +31,21 @@ pub fn rises(records: &[Record]) -> bool
     records.is_sorted_by(|a, b| a.compare(b).is_lt())
 }
 
+/// Tells that each is a valid record, as any value of that type is.
+pub fn are_valid(records: &[Record])
+    ensures { AllByRecursion IsRecord records.now }
+{
+    for record in records {
+        let _valid = record.rdata();
+    }
+}
+
 /// The set of records in order.
 pub fn set_of<I: ZoneIndex>(alloc: Heap, records: Vec<Record, Heap>) -> Result<I, AllocError>
     requires { is_ordered records.items ≡ true }
     ensures { IfOk result (λ index. I.records index ≡ records.entry.items) }
 {
-    let mut index = I::empty(alloc)?;
-    for record in records {
-        index.insert(record)?;
-    }
-    Ok(index)
+    I::from_sorted(alloc, records)
 }
 
 /// Whether the record is of that owner and type.

@@ -22,6 +22,11 @@ pub trait ZoneIndex: Drop {
     fn empty(alloc: Heap) -> Result<Self, AllocError>
         ensures { IfOk result (λ set. records set ≡ []) };
 
+    /// The set of these records, which are in order, so that each stands once. It is made in one go, and no record is searched.
+    fn from_sorted(alloc: Heap, sorted: Vec<Record, Heap>) -> Result<Self, AllocError>
+        requires { is_ordered sorted.items ≡ true }
+        ensures { IfOk result (λ set. records set ≡ sorted.entry.items) };
+
     /// The same set again. A change of one does not change the other.
     fn fork(&self) -> Result<Self, AllocError>
         ensures { IfOk result (λ set. records set ≡ records self.now) };

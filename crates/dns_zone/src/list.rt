@@ -4,6 +4,7 @@ ghost use Rattle.std.specs.List.{AllByRecursion};
 ghost use Rattle.dns_records.specs.Record.{IsRecord};
 ghost use Rattle.dns_zone.specs.Records.{is_ordered};
 
+use crate::gather::are_valid;
 use crate::lookup::{exists, find_node, records_near};
 use crate::search::{Key, find_record, first_behind, matching};
 use crate::{Match, ZoneIndex};
@@ -42,6 +43,11 @@ impl ZoneIndex for RecordList {
         Ok(RecordList {
             items: Vec::new(alloc),
         })
+    }
+
+    fn from_sorted(_alloc: Heap, sorted: Vec<Record, Heap>) -> Result<Self, AllocError> {
+        are_valid(&sorted);
+        Ok(RecordList { items: sorted })
     }
 
     fn records_at(&self, name: &NameRef<'_>) -> &[Record] {

@@ -1,6 +1,7 @@
 pub mod Counts
 pub mod Down
 pub mod Exists
+pub mod Growth
 pub mod Halves
 pub mod Keeping
 pub mod Led

@@ -14,7 +14,8 @@ use Rattle.dns_zone.specs.Sets.{Sorted, Below}
 use Rattle.dns_zoneindex.specs.Entries.{Entry}
 use Rattle.dns_zoneindex.specs.Owned.{records_of, stands_at_owner, are_owned}
 use Rattle.dns_zoneindex.specs.Setting.{keep, set_at}
-use Rattle.dns_zoneindex.proofs.Paths.{path_cmp, ahead, beyond, at, NotBefore, Rising, set_split}
+use Rattle.dns_zoneindex.specs.Growth.{path_cmp, NotBefore, Rising}
+use Rattle.dns_zoneindex.proofs.Paths.{ahead, beyond, at, set_split}
 use Rattle.dns_zoneindex.proofs.Parted.{fore, past, put_parted, without_parted}
 
 -- the test as a fact

@@ -96,7 +96,7 @@ kept_of p P f (x ∷ xs) = step (p x) refl (kept_of p P f xs)
     step true e n = (f x e, n)
     step false e n = n
 
-more_is : (o : Ordering) → is_gt o ≡ true → o ≡ Greater
+pub more_is : (o : Ordering) → is_gt o ≡ true → o ≡ Greater
 more_is Less e = absurd cc
 more_is Equal e = absurd cc
 more_is Greater e = refl

@@ -1,9 +1,8 @@
 -- Entries in order of their paths: what stands before a path, at it, and behind it.
-use Rattle.std.proofs.Common.{◌≡◌, ℕ, Bool, true, false, cond, ◌⊎◌, inl, inr, List, [], ◌∷◌, ◌++◌, map, refl, sym, ap, ◌∙◌, subst, append_assoc}
+use Rattle.std.proofs.Common.{◌≡◌, ℕ, Bool, true, false, cond, List, [], ◌∷◌, ◌++◌, map, refl, sym, ap, ◌∙◌, subst, append_assoc}
 use Rattle.std.specs.Str.{bytes_eq}
-use Rattle.std.specs.Ordering.{nat_cmp, is_lt, is_gt, ordering_then}
+use Rattle.std.specs.Ordering.{is_lt, is_gt, ordering_then}
 use Rattle.std.specs.Cmp.{tied_itself}
-use Rattle.std.specs.Cmp.Lexicographic.{slice_cmp}
 use Rattle.std.specs.declared.cmp.Ordering.{Ordering}
 use Rattle.std.specs.declared.cmp.Ordering.TheVariants.{Less, Equal, Greater}
 use Rattle.std.proofs.lemmas.List.{map-append}
@@ -12,12 +11,10 @@ use Rattle.dns_records.specs.Record.{Record}
 use Rattle.dns_zone.specs.Order.{bytes_same, bytes_itself}
 use Rattle.dns_zoneindex.specs.Entries.{Entry, here, pushed, step}
 use Rattle.dns_zoneindex.specs.Children.{label_cmp}
+use Rattle.dns_zoneindex.specs.Growth.{path_cmp, NotBefore, Rising}
 use Rattle.dns_zoneindex.specs.Setting.{keep, before, behind, deeper, set_at}
 use Rattle.dns_zoneindex.proofs.Sides.{label_total}
 use Rattle.dns_zoneindex.proofs.Under.{labels_same, less_apart, greater_apart}
-
-abbrev pub path_cmp : Labels → Labels → Ordering
-path_cmp p q = slice_cmp (slice_cmp nat_cmp) p q
 
 abbrev pub ahead : Labels → Entry → Bool
 ahead path e = is_gt (path_cmp path e.path)
@@ -28,23 +25,10 @@ beyond path e = is_lt (path_cmp path e.path)
 abbrev pub at : Labels → Record → Entry
 at path r = record { path = path; record_there = r }
 
--- Paths never fall.
-abbrev pub NotBefore : Labels → List Entry → Type 0
-NotBefore path [] = Unit {0}
-NotBefore path (f ∷ es) = (is_gt (path_cmp path f.path) ≡ false) × NotBefore path es
-
-abbrev pub Rising : List Entry → Type 0
-Rising [] = Unit {0}
-Rising (e ∷ es) = NotBefore e.path es × Rising es
-
-told : (b : Bool) → (b ≡ true) ⊎ (b ≡ false)
-told true = inl refl
-told false = inr refl
-
 shaped : (e : Entry) (q : Labels) → e.path ≡ q → e ≡ at q e.record_there
 shaped e q h = λ i. at (h i) e.record_there
 
-head_not : (a b : Ordering) → is_gt (ordering_then a b) ≡ false → is_gt a ≡ false
+pub head_not : (a b : Ordering) → is_gt (ordering_then a b) ≡ false → is_gt a ≡ false
 head_not Less b h = refl
 head_not Equal b h = refl
 head_not Greater b h = h

@@ -1,5 +1,5 @@
 -- What stands under the child of a label is what that child has.
-use Rattle.std.proofs.Common.{◌≡◌, ℕ, Bool, true, false, cond, ◌⊎◌, inl, inr, List, [], ◌∷◌, ◌++◌, map, Some, None, refl, sym, ap, ◌∙◌, subst}
+use Rattle.std.proofs.Common.{◌≡◌, ℕ, Bool, true, false, cond, inl, inr, List, [], ◌∷◌, ◌++◌, map, Some, None, refl, sym, ap, ◌∙◌, subst}
 use Rattle.std.proofs.Common.{Bor, suc, ◌<◌, length, drop}
 use Rattle.std.specs.Prelude.{get_or}
 use Rattle.std.proofs.Math.Seq.{drop-cons}
@@ -11,6 +11,7 @@ use Rattle.std.specs.declared.cmp.Ordering.{Ordering}
 use Rattle.std.specs.declared.cmp.Ordering.TheVariants.{Less, Equal, Greater}
 use Rattle.dns_records.specs.Record.{Record}
 use Rattle.dns_zone.specs.Order.{bytes_same, bytes_itself}
+use Rattle.dns_zone.specs.Sets.{true_or_false}
 use Rattle.dns_zoneindex.specs.Entries.{Entry, Child, here, pushed, flat, step, below, here_of, own_at, labels_in}
 use Rattle.dns_zoneindex.specs.Children.{label_cmp, AllChildren, AreChildren}
 use Rattle.dns_zoneindex.specs.Assoc.{child_of}
@@ -19,12 +20,8 @@ use Rattle.dns_zoneindex.proofs.Sides.{label_total, all_map}
 pub labels_same : (l m : List ℕ) → label_cmp l m ≡ Equal → l ≡ m
 labels_same l m e = slice_cmp-IsAntisymmetric nat_cmp-IsAntisymmetric l m e
 
-told : (b : Bool) → (b ≡ true) ⊎ (b ≡ false)
-told true = inl refl
-told false = inr refl
-
 pub apart : (l m : List ℕ) (o : Ordering) → label_cmp l m ≡ o → (o ≡ Equal → ⊥) → bytes_eq l m ≡ false
-apart l m o h never = elim (told (bytes_eq l m)) [
+apart l m o h never = elim (true_or_false (bytes_eq l m)) [
   | inl e ↦ absurd (never (sym h ∙ ap (λ x. label_cmp l x) (sym (bytes_same l m e)) ∙ tied_itself label_total l))
   | inr e ↦ e
 ]

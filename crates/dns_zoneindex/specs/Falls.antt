@@ -13,7 +13,7 @@ pub weight-append : (a b : List Entry) → weight (a ++ b) ≡ weight a + weight
 weight-append [] b = omega arith
 weight-append (e ∷ a) b = omega (arith, weight-append a b)
 
-weight-pushed : (l : List ℕ) (a : List Entry) → weight (map (pushed l) a) ≡ weight a + length a + length a
+pub weight-pushed : (l : List ℕ) (a : List Entry) → weight (map (pushed l) a) ≡ weight a + length a + length a
 weight-pushed l [] = refl
 weight-pushed l (e ∷ a) = omega (arith, weight-pushed l a)
 

@@ -8,3 +8,4 @@ pub mod Tree
 pub mod Owned
 pub mod Lent
 pub mod Reach
+pub mod Growth

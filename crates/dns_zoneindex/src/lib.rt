@@ -6,6 +6,7 @@ mod children;
 mod count;
 mod descent;
 mod edit;
+mod grow;
 mod node;
 mod path;
 mod run;

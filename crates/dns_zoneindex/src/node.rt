@@ -115,7 +115,7 @@ impl Drop for Branch {
 
 impl Node {
     /// What stands at and under a name: its records, and what its children have.
-    fn new(
+    pub(crate) fn new(
         alloc: Heap,
         label: &[u8],
         records: Rc<Vec<Record, Heap>, Heap>,

@@ -10,7 +10,7 @@ use crate::tree::Tree;
 use dns_memory::Heap;
 use dns_names::NameRef;
 use dns_records::Record;
-use dns_zone::{Match, ZoneIndex, of_type};
+use dns_zone::{Match, ZoneIndex, are_valid, of_type};
 use std::alloc::AllocError;
 
 /// A set of records as a tree of names. A fork of it takes no memory, and shares all that neither changes.
@@ -34,6 +34,14 @@ impl ZoneIndex for SharedTree {
         Ok(SharedTree {
             alloc,
             tree: Tree::empty(),
+        })
+    }
+
+    fn from_sorted(alloc: Heap, sorted: Vec<Record, Heap>) -> Result<Self, AllocError> {
+        are_valid(&sorted);
+        Ok(SharedTree {
+            alloc,
+            tree: Tree::from_sorted(alloc, sorted)?,
         })
     }
 

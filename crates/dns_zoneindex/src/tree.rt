@@ -2,6 +2,7 @@
 ghost use Rattle.std.specs.Prelude.{◌≡◌, true, [], length, reverse, IfOk, OnOk, OnErr};
 ghost use Rattle.std.specs.Option.{option_copied};
 ghost use Rattle.dns_zoneindex.specs.Entries.{below, own_at};
+ghost use Rattle.dns_zoneindex.specs.Growth.{from_depth};
 ghost use Rattle.dns_zone.specs.Node.{IsMatch};
 ghost use Rattle.dns_zone.specs.Records.{is_ordered};
 ghost use Rattle.dns_zoneindex.specs.Lent.{IsLent};
@@ -10,6 +11,7 @@ ghost use Rattle.dns_zoneindex.specs.Reach.{zone_of};
 ghost use Rattle.dns_zoneindex.specs.Setting.{set_at};
 
 use crate::descent::find_node;
+use crate::grow::grow;
 use crate::node::Node;
 use crate::path::path_of;
 use dns_memory::Heap;
@@ -54,7 +56,21 @@ impl Tree {
         Tree { root: Root::Empty }
     }
 
-    /// The same children, shared. its nodes shared.
+    /// The tree of records in order.
+    pub(crate) fn from_sorted(alloc: Heap, sorted: Vec<Record, Heap>) -> Result<Tree, AllocError>
+        requires { is_ordered sorted.items ≡ true }
+        ensures { IfOk result (λ tree. tree ≡ from_depth 0 sorted.entry.items) }
+    {
+        if sorted.is_empty() {
+            return Ok(Tree::empty());
+        }
+        let node = grow(alloc, &[], 0, sorted)?;
+        Ok(Tree {
+            root: Root::Full(Node::shared(alloc, node)?),
+        })
+    }
+
+    /// The same records, all nodes shared.
     pub(crate) fn fork(&self) -> Result<Tree, AllocError>
         ensures { IfOk result (λ tree. tree ≡ self.now) }
     {

@@ -1,0 +1,21 @@
+use Rattle.std.proofs.Common.{◌≡◌, ◌++◌, map, reverse, length}
+use Rattle.dns_zoneindex.specs.Entries.{flat}
+use Rattle.dns_zoneindex.specs.Children.{AreChildren}
+use Rattle.dns_zoneindex.specs.Growth.{from_depth, Rising}
+use Rattle.dns_zoneindex.specs.Size.{weight}
+use Rattle.dns_zoneindex.proofs.Growth.{AheadOf}
+use Rattle.dns_zoneindex.proofs.grow.+grow.Given as goal
+
+abbrev pub decreases-grow : goal.decreases-grow
+decreases-grow l = weight (from_depth l.depth l.records.items)
+
+abbrev pub invariant-groups : goal.invariant-groups
+invariant-groups l = record {
+  whole : from_depth l.depth l.own.items ++ flat (map (λ n. n.value) (reverse l.nodes.items)) ≡ from_depth l.depth l.fn.records.items;
+  kept : AreChildren (map (λ n. n.value) (reverse l.nodes.items));
+  ahead : AheadOf (map (λ n. n.value) (reverse l.nodes.items)) (from_depth l.depth l.own.items);
+  order : Rising (from_depth l.depth l.own.items);
+}
+
+abbrev pub decreases-groups : goal.decreases-groups
+decreases-groups l = length l.own.items
