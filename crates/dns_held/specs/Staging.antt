@@ -19,7 +19,8 @@ staging_error lower.OutOfMemory = upper.OutOfMemory
 -- has 64 bits.
 abbrev pub has_room : Kept → List Record → Bool
 has_room k after =
-    nat_le (length after) 65536 && nat_le (snapshot_sectors (octets_of after)) k.shape.snapshot && nat_le (entry_between (newest_of k) after) k.shape.journal
+    nat_le (length after) 65536 && nat_le (snapshot_sectors (octets_of after)) k.shape.snapshot
+    && nat_le (entry_between (newest_of k) after) k.shape.journal
     && nat_lt (length k.shown + length k.staged) (2 ^ 64 - 1)
 
 -- A version is taken where it has room and its entry fits in what is left, and refused for either only where it is so.

@@ -13,7 +13,8 @@ use dns_zone::{Zone, ZoneIndex};
 /// Makes the staged versions of a zone durable and shows the newest, unless its device fails. Answers whether it failed. A
 /// zone whose device failed before stays as it is.
 pub fn flush_zone<I: ZoneIndex, S: ZoneStore>(zone: &mut Zone<I>, behind: &mut Behind<I, S>) -> bool
-    ensures held { (k : Kept) → HasVersions S.keeps zone.old behind.old k → HasVersions S.keeps zone.new behind.new (flushed result k) }
+    ensures held { (k : Kept)
+        → HasVersions S.keeps zone.old behind.old k → HasVersions S.keeps zone.new behind.new (flushed result k) }
     // A crash at any moment of it leaves a device that opens as the versions shown and some of those staged.
     ensures any_moment { (k : Kept)
         → S.keeps behind.old.store k
@@ -50,7 +51,9 @@ pub fn flush_all<I: ZoneIndex, S: ZoneStore>(
 ) -> Option<usize>
     requires { length zones.old ≡ length behind.old }
     ensures held { (ks : List Kept) → Each3 (λ z b k. HasVersions S.keeps z b k) zones.old behind.old ks
-        → (fails : List Bool) × (length fails ≡ length ks) × Each3 (λ z b k. HasVersions S.keeps z b k) zones.new behind.new (flushed_to fails ks) × (result ≡ first_true fails)
+        → (fails : List Bool) × (length fails ≡ length ks)
+        × Each3 (λ z b k. HasVersions S.keeps z b k) zones.new behind.new (flushed_to fails ks)
+        × (result ≡ first_true fails)
         × FailedWhere (λ b. S.failed b.store) fails behind.old behind.new }
     ensures any_moment { (ks : List Kept) → Each3 (λ z b k. HasVersions S.keeps z b k) zones.old behind.old ks
         → Each3 (λ a b k. LeavesOnly S.moment S.left_since a.store b.store (OpensAsLeft S.opens k)) behind.old behind.new ks }

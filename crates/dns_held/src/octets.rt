@@ -43,7 +43,9 @@ pub(crate) fn snapshot_len<I: ZoneIndex>(zone: &Zone<I>) -> usize
 
 /// How many octets the next version's snapshot has, where it is known of the version before.
 pub(crate) fn octets_after(before: usize, change: &Change) -> usize
-    ensures { (kept : ℕ) → before ≡ octets_of (change.now.old_soa ∷ change.now.removed) + kept → octets_of (change.now.new_soa ∷ change.now.added) + kept < 2 ^ 64
+    ensures { (kept : ℕ)
+        → before ≡ octets_of (change.now.old_soa ∷ change.now.removed) + kept
+        → octets_of (change.now.new_soa ∷ change.now.added) + kept < 2 ^ 64
         → result ≡ octets_of (change.now.new_soa ∷ change.now.added) + kept }
 {
     let gone = plain_len(change.old_soa()) + plain_lens(change.removed());

@@ -15,21 +15,26 @@ use dns_layout::{entry_sectors, snapshot_sectors};
 use dns_store::{StageError, ZoneStore};
 use dns_zone::{Zone, ZoneIndex};
 use std::alloc::AllocError;
+use thiserror::Error;
 
 /// How many records a zone may have.
 pub const MOST_RECORDS: usize = 65536;
 
 /// Why a change was not put behind a zone.
-#[derive(Clone, Copy, Debug, PartialEq, Eq)]
+#[derive(Clone, Copy, Debug, Error, PartialEq, Eq)]
 pub enum StagingError {
     /// There is no room for the version: it has too many records, its snapshot or its entry takes more sectors than there
     /// are, or there is no number for it.
+    #[error("there is no room for the version, or no number")]
     NoRoom,
     /// The entry takes more sectors than are left of the journal.
+    #[error("the entry takes more sectors than are left of the journal")]
     Full,
     /// The zone's device has failed before.
+    #[error("the zone's device has failed before")]
     Closed,
     /// Memory was refused.
+    #[error("memory was refused")]
     OutOfMemory,
 }
 
@@ -64,8 +69,11 @@ fn has_room<I: ZoneIndex, S: ZoneStore>(
     records: &I,
     octets: usize,
 ) -> bool
-    ensures room { (k : Kept) (zone : Stated) → HasVersions S.keeps zone behind.now k → IsChange (newest_of k) (I.records records.now) change.now
-        → (length (I.records records.now) ≤ 65536 → octets ≡ octets_of (I.records records.now)) → result ≡ has_room k (I.records records.now) }
+    ensures room { (k : Kept) (zone : Stated)
+        → HasVersions S.keeps zone behind.now k
+        → IsChange (newest_of k) (I.records records.now) change.now
+        → (length (I.records records.now) ≤ 65536 → octets ≡ octets_of (I.records records.now))
+        → result ≡ has_room k (I.records records.now) }
     ensures few { result ≡ true → length (I.records records.now) ≤ 65536 }
 {
     records.len() <= MOST_RECORDS
@@ -97,7 +105,8 @@ pub fn stage<I: ZoneIndex, S: ZoneStore>(
     ensures staged { (k : Kept)
         → HasVersions S.keeps zone.now behind.old k
         → OnOk result (HasVersions S.keeps zone.now behind.new (staged_with (I.records records) k)) }
-    ensures stays { (k : Kept) → HasVersions S.keeps zone.now behind.old k → OnErr result (HasVersions S.keeps zone.now behind.new k) }
+    ensures stays { (k : Kept)
+        → HasVersions S.keeps zone.now behind.old k → OnErr result (HasVersions S.keeps zone.now behind.new k) }
     ensures room { (k : Kept) → HasVersions S.keeps zone.now behind.old k → HasRoomBy k (I.records records) result }
     ensures still { StandsStill S.moment S.left_since behind.old.store behind.new.store }
     ensures quiet { S.failed behind.new.store ≡ S.failed behind.old.store }

@@ -4,10 +4,13 @@ use Rattle.std.specs.List.{flat_map}
 use Rattle.dns_sectors.specs.Device.{Content}
 use Rattle.dns_sectors.specs.Crash.{Write}
 use Rattle.dns_layout.specs.Apex.{apex_octets}
-use Rattle.dns_layout.specs.Sector.{open_count, sequence, number, bank_open, snapshot_length, payload, payload_room, entry_sectors, snapshot_sectors}
+use Rattle.dns_layout.specs.Sector.{open_count, sequence, number, bank_open, snapshot_length, payload, payload_room}
+use Rattle.dns_layout.specs.Sector.{entry_sectors, snapshot_sectors}
 use Rattle.dns_layout.specs.Forms.{SaysRoot, bank_number}
-use Rattle.dns_layout.specs.Journal.{Entry, size_of, octets_of, IsNextEntry, IsBatch, AllBehind, writes_from, place_behind, version_behind}
-use Rattle.dns_layout.specs.Store.{Shape, Stored, OpensBy, OpensAs, IsTidy, AreParts, version_of, snapshot_place, journal_place, bank_end}
+use Rattle.dns_layout.specs.Journal.{Entry, size_of, octets_of, IsNextEntry, IsBatch, AllBehind, writes_from}
+use Rattle.dns_layout.specs.Journal.{place_behind, version_behind}
+use Rattle.dns_layout.specs.Store.{Shape, Stored, OpensBy, OpensAs, IsTidy, AreParts, version_of}
+use Rattle.dns_layout.specs.Store.{snapshot_place, journal_place, bank_end}
 use Rattle.dns_layout.specs.declared.root.Root.{Root}
 use Rattle.dns_layout.specs.declared.part.SnapshotPart.{SnapshotPart}
 use Rattle.dns_changes.specs.Change.{Change}
@@ -34,8 +37,12 @@ piece octets index = take payload_room (drop (payload_room * index) octets)
 
 -- the part with this index, with zeros behind the snapshot's end
 abbrev pub part_of : ℕ → ℕ → List ℕ → ℕ → SnapshotPart
-part_of opened base octets index =
-    record { bank_open = opened; base = base; index = index; octets = piece octets index ++ replicate (payload_room - length (piece octets index)) 0 }
+part_of opened base octets index = record {
+  bank_open = opened;
+  base = base;
+  index = index;
+  octets = piece octets index ++ replicate (payload_room - length (piece octets index)) 0;
+}
 
 -- So many parts of a snapshot are put there from this place on: they hold its octets, and zeros behind them.
 pub record PushesParts (at opened base : ℕ) (octets : List ℕ) (count : ℕ) (old new : List Write) : Type 0 where
@@ -109,7 +116,8 @@ abbrev pub journal_room_of : {D : Type 0} {g : Ghosts D} → Journal D g → ℕ
 journal_room_of journal = journal.root.journal_room
 
 -- These writes put a snapshot and the entries of changes into a bank, all with this open count, and the cursor is behind them.
-pub record LaysBank (s : Shape) (bank opened base : ℕ) (octets : List ℕ) (changes : List Change) (ws : List Write) (next : Cursor) : Type 0 where
+pub record LaysBank (s : Shape) (bank opened base : ℕ) (octets : List ℕ) (changes : List Change) (ws : List Write) (next : Cursor)
+    : Type 0 where
   pub parts : List (List ℕ)
   pub count : length parts ≡ snapshot_sectors (length octets)
   pub expected : (x : List ℕ) → bank_open x ≡ opened → sequence x ≡ base → AreParts x 0 parts

@@ -16,15 +16,19 @@ use dns_layout::{Body, HEAD_ROOM, Head, PAYLOAD_ROOM, Root, entry_sectors, first
 use dns_memory::Heap;
 use dns_sectors::{DeviceError, SectorWrite, Sectors, write_phase};
 use std::alloc::AllocError;
+use thiserror::Error;
 
 /// Why a change was not staged.
-#[derive(Clone, Copy, Debug, PartialEq, Eq)]
+#[derive(Clone, Copy, Debug, Error, PartialEq, Eq)]
 pub enum StageError {
     /// Its entry takes more sectors than are left.
+    #[error("its entry takes more sectors than are left")]
     Full,
     /// The device has failed before: the store is to be opened again.
+    #[error("the device has failed before: the store is to be opened again")]
     Closed,
     /// Memory was refused.
+    #[error("memory was refused")]
     OutOfMemory,
 }
 
@@ -39,11 +43,13 @@ impl From<AllocError> for StageError {
 }
 
 /// Why staged entries were not made durable.
-#[derive(Clone, Copy, Debug, PartialEq, Eq)]
+#[derive(Clone, Copy, Debug, Error, PartialEq, Eq)]
 pub enum FlushError {
     /// The device failed.
+    #[error("the device failed")]
     Device,
     /// The device has failed before: the store is to be opened again.
+    #[error("the device has failed before: the store is to be opened again")]
     Closed,
 }
 

@@ -21,15 +21,19 @@ use dns_layout::{
 use dns_memory::Heap;
 use dns_sectors::{DeviceError, SectorWrite, Sectors, write_phase};
 use std::alloc::AllocError;
+use thiserror::Error;
 
 /// Why a bank was not written, or the root not turned to it.
-#[derive(Clone, Copy, Debug, PartialEq, Eq)]
+#[derive(Clone, Copy, Debug, Error, PartialEq, Eq)]
 pub enum TurnError {
     /// The device failed.
+    #[error("the device failed")]
     Device,
     /// The device has failed before: the store is to be opened again.
+    #[error("the device has failed before: the store is to be opened again")]
     Closed,
     /// Memory was refused.
+    #[error("memory was refused")]
     OutOfMemory,
 }
 

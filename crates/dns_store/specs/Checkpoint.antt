@@ -67,7 +67,8 @@ abbrev pub IsKeptNumber : Kept → ℕ → ℕ → ℕ → Type 0
 IsKeptNumber k keep room n = IsMostKept (λ size. size) (entries_of k) keep (k.shape.journal - room) n
 
 -- Nothing is staged, and these are the base version and the changes from there to the durable one.
-pub record IsLent {D : Type 0} {g : Ghosts D} (journal : Journal D g) (base : Zone) (changes : List Change) (k : Kept) : Type 0 where
+pub record IsLent {D : Type 0} {g : Ghosts D} (journal : Journal D g) (base : Zone) (changes : List Change) (k : Kept)
+    : Type 0 where
   pub keeps : keeps_versions journal k
   pub nothing_staged : k.staged ≡ []
   pub base_is : base ≡ record { apex = k.shape.apex; records = version_at k k.base }

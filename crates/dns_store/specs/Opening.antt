@@ -24,7 +24,9 @@ pub record IsInRange (snapshot journal : ℕ) : Type 0 where
   pub entries : journal ≤ 65536
 
 -- What was read is what is stored.
-pub record IsRead (sizes : Sizes) (c : Content) (o : Opened) (s : Stored) (root : Root) (end : Cursor) (base : List Record) (changes : List Change) (newest : List Record) : Type 0 where
+pub record IsRead (sizes : Sizes) (c : Content) (o : Opened) (s : Stored) (root : Root) (end : Cursor) (base : List Record)
+    (changes : List Change) (newest : List Record)
+    : Type 0 where
   pub says : SaysRoot (sector_at c 0) root
   pub until_is : end.until ≡ bank_end sizes (number (sector_at c 0))
   pub at_is : end.at ≡ place_behind (journal_place sizes (number (sector_at c 0))) s.entries
@@ -53,7 +55,9 @@ abbrev pub store_device : {D : Type 0} {g : Ghosts D} → DeviceStore D g → D
 store_device store = device_of store.journal
 
 -- The store keeps these versions from here on, and these are its base, the changes from there, and the newest version.
-pub record IsTaken {D : Type 0} {g : Ghosts D} (shape : Shape) (o : Opened) (store : DeviceStore D g) (base : List Record) (changes : List Change) (newest : List Record) : Type 0 where
+pub record IsTaken {D : Type 0} {g : Ghosts D} (shape : Shape) (o : Opened) (store : DeviceStore D g) (base : List Record)
+    (changes : List Change) (newest : List Record)
+    : Type 0 where
   pub keeps : keeps_versions store.journal (fresh shape o)
   pub base_is : base ≡ base_of o
   pub led : AreLed (base_of o) (drop o.base o.versions) changes

@@ -1,7 +1,8 @@
 -- What stands in a device's first sector.
 use Rattle.std.specs.Prelude.{◌≡◌, ◌≢◌, ◌⊎◌, ◌≤◌, ◌<◌, ◌-◌, ◌^◌, ℕ, List}
 use Rattle.dns_layout.specs.Apex.{IsPlain, apex_octets}
-use Rattle.dns_layout.specs.Sector.{blank, tag, open_count, number, snapshot_length, snapshot_room, apex_field, snapshot_sectors, root_tag}
+use Rattle.dns_layout.specs.Sector.{blank, tag, open_count, number, snapshot_length, snapshot_room, apex_field}
+use Rattle.dns_layout.specs.Sector.{snapshot_sectors, root_tag}
 use Rattle.dns_layout.specs.Forms.{SaysRoot}
 use Rattle.dns_layout.specs.Store.{Shape, IsRoot, all_sectors}
 use Rattle.dns_layout.specs.declared.root.Root.{Root}

@@ -1,5 +1,6 @@
 -- What a staged version takes of the journal.
-use Rattle.std.proofs.Common.{◌≡◌, ℕ, ◌+◌, ◌-◌, ◌≤◌, suc, List, [], ◌∷◌, ◌++◌, length, drop, refl, sym, ◌∙◌, ap, arith, append_assoc, length-append}
+use Rattle.std.proofs.Common.{◌≡◌, ℕ, ◌+◌, ◌-◌, ◌≤◌, suc, List, [], ◌∷◌, ◌++◌, length, drop, refl, sym, ◌∙◌, ap, arith}
+use Rattle.std.proofs.Common.{append_assoc, length-append}
 use Rattle.std.specs.Prelude.{sum_by}
 use Rattle.std.proofs.lemmas.List.{drop-append-le}
 use Rattle.std.proofs.lemmas.List.Sums.{sum_by_push}
@@ -15,7 +16,12 @@ pub entry_is : (before after : List Record) (c : Change)
     → entry_between before after ≡ entry_sectors (length (entry c))
 entry_is before after c h =
     (λ i. sectors_by before after (h.old_soa i) (h.new_soa i))
-    ∙ sym (λ i. entry_sectors (length (entry (record { old_soa = c.old_soa; removed = h.removed i; new_soa = c.new_soa; added = h.added i }))))
+    ∙ sym (λ i. entry_sectors (length (entry (record {
+      old_soa = c.old_soa;
+      removed = h.removed i;
+      new_soa = c.new_soa;
+      added = h.added i;
+    }))))
 
 pub entries_append : (first : List Record) (vs : Versions) (v : List Record)
     → entries_along first (vs ++ v ∷ []) ≡ entries_along first vs ++ entry_between (newest_after first vs) v ∷ []
@@ -36,11 +42,13 @@ pub staged_left : (k : Kept) (after : List Record)
 staged_left k after le =
     let all = k.shown ++ k.staged in
     let same = entry_between (newest_of k) after in
-    let within : k.base ≤ length (entries_along k.loaded all) = omega (arith, le, entries_length k.loaded all, length-append k.shown k.staged) in
-    let along : drop k.base (entries_along k.loaded (k.shown ++ (k.staged ++ after ∷ []))) ≡ drop k.base (entries_along k.loaded all) ++ same ∷ [] =
+    let sizes = entries_along k.loaded all in
+    let more = entries_along k.loaded (k.shown ++ (k.staged ++ after ∷ [])) in
+    let within : k.base ≤ length sizes = omega (arith, le, entries_length k.loaded all, length-append k.shown k.staged) in
+    let along : drop k.base more ≡ drop k.base sizes ++ same ∷ [] =
     ap (λ (vs : Versions). drop k.base (entries_along k.loaded vs)) (sym (append_assoc k.shown k.staged (after ∷ [])))
     ∙ ap (λ (l : List ℕ). drop k.base l) (entries_append k.loaded all after)
-    ∙ drop-append-le k.base (entries_along k.loaded all) (same ∷ []) within in
-    let total : sum_by (λ n. n) (drop k.base (entries_along k.loaded (k.shown ++ (k.staged ++ after ∷ [])))) ≡ sum_by (λ n. n) (drop k.base (entries_along k.loaded all)) + same =
-    ap (λ (l : List ℕ). sum_by (λ n. n) l) along ∙ sum_by_push (λ n. n) (drop k.base (entries_along k.loaded all)) same in
+    ∙ drop-append-le k.base sizes (same ∷ []) within in
+    let total : sum_by (λ n. n) (drop k.base more) ≡ sum_by (λ n. n) (drop k.base sizes) + same =
+    ap (λ (l : List ℕ). sum_by (λ n. n) l) along ∙ sum_by_push (λ n. n) (drop k.base sizes) same in
     omega (arith, total)

@@ -18,19 +18,25 @@ use dns_memory::Heap;
 use dns_sectors::Sectors;
 use dns_zone::{Zone, ZoneIndex};
 use std::alloc::AllocError;
+use thiserror::Error;
 
 /// Why no checkpoint was made.
-#[derive(Clone, Copy, Debug, PartialEq, Eq)]
+#[derive(Clone, Copy, Debug, Error, PartialEq, Eq)]
 pub enum CheckpointError {
     /// The device failed.
+    #[error("the device failed")]
     Device,
     /// The device has failed before: the store is to be opened again.
+    #[error("the device has failed before: the store is to be opened again")]
     Closed,
     /// The new base's records take more sectors than a snapshot may have.
+    #[error("the new base's records take more sectors than a snapshot may have")]
     ZoneTooLarge,
     /// The changes don't lead from the base to a zone, as those of a store that was opened do.
+    #[error("the changes do not lead from the base to a zone")]
     WrongChanges,
     /// Memory was refused.
+    #[error("memory was refused")]
     OutOfMemory,
 }
 

@@ -17,20 +17,25 @@ use dns_memory::Heap;
 use dns_sectors::{DeviceError, Sector, SectorWrite, Sectors, write_phase};
 use dns_zone::{Records, Zone, ZoneIndex};
 use std::alloc::AllocError;
+use thiserror::Error;
 
 /// How many sectors a bank must have for its journal.
 pub const FEWEST_ENTRIES: u32 = 8;
 
 /// Why no store was made.
-#[derive(Clone, Copy, Debug, PartialEq, Eq)]
+#[derive(Clone, Copy, Debug, Error, PartialEq, Eq)]
 pub enum FormatError {
     /// The device failed.
+    #[error("the device failed")]
     Device,
     /// A size is out of range, or the device has another number of sectors.
+    #[error("a size is out of range, or the device has another number of sectors")]
     Geometry,
     /// The zone's records take more sectors than a snapshot may have.
+    #[error("the zone's records take more sectors than a snapshot may have")]
     ZoneTooLarge,
     /// Memory was refused.
+    #[error("memory was refused")]
     OutOfMemory,
 }
 

@@ -14,19 +14,25 @@ use dns_journal::{ReadError, read_sector};
 use dns_layout::{Apex, Root, snapshot_sectors};
 use dns_sectors::{DeviceError, Sector, SectorWrite, Sectors, write_phase};
 use std::alloc::AllocError;
+use thiserror::Error;
 
 /// Why a store was not opened.
-#[derive(Clone, Copy, Debug, PartialEq, Eq)]
+#[derive(Clone, Copy, Debug, Error, PartialEq, Eq)]
 pub enum OpenError {
     /// The device failed.
+    #[error("the device failed")]
     Device,
     /// No store was ever made on the device.
+    #[error("no store was ever made on the device")]
     Blank,
     /// This sector isn't what it should be.
+    #[error("sector {0} is not what it should be")]
     Damaged(usize),
     /// The device has another number of sectors, or the store is another zone's or has other sizes.
+    #[error("the device has another number of sectors, or its store is of another zone or of other sizes")]
     Geometry,
     /// Memory was refused.
+    #[error("memory was refused")]
     OutOfMemory,
 }
 

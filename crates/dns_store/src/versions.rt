@@ -11,6 +11,7 @@ ghost use Rattle.dns_store.specs.Versions.{Versions};
 ghost use Rattle.dns_store.specs.Opens.{AreChanges};
 ghost use Rattle.dns_store.specs.Recovered.{IsRecovered};
 ghost use Rattle.dns_store.specs.Root.{IsOfBank};
+ghost use Rattle.dns_store.specs.Damage.{NamesWrongEntry};
 
 use crate::OpenError;
 use dns_changes::{Change, ChangeError};
@@ -61,6 +62,9 @@ pub(crate) fn read_versions<D: Sectors, I: ZoneIndex>(
         (λ e. (e ≡ OpenError.Device) ⊎ (e ≡ OpenError.OutOfMemory)) }
     ensures until { cursor.new.until ≡ cursor.old.until }
     ensures refused { IfErr result IsOfBank }
+    // `Damaged` names the sector of the first entry that is wrong.
+    ensures damaged { D.is_honest device.old → IfErr result
+        (NamesWrongEntry base.apex base.records cursor.old (D.seen device.old)) }
     ensures device { result ≡ Err OpenError.Device → HasRisen (D.failed device.old) (D.failed device.new) }
     ensures reads { OnlyReads D.Sectors device.old device.new }
 {

@@ -1,8 +1,9 @@
-use Rattle.std.proofs.Common.{inl, inr, ⊎_elim, refl, ◌≡◌, ◌⊎◌, ◌+◌, ◌*◌, List, sym, ◌∙◌, ap, subst}
+use Rattle.std.proofs.Common.{inl, inr, ⊎_elim, refl, ◌≡◌, ◌⊎◌, ◌+◌, ◌*◌, ℕ, List, sym, ◌∙◌, ap, subst}
 use Rattle.std.specs.Prelude.{drop}
+use Rattle.std.specs.List.{flat_map}
 use Rattle.std.proofs.lemmas.Result.{err_from_is_err_and}
 use Rattle.dns_names.specs.Name.{wire}
-use Rattle.dns_records.specs.Record.{Record}
+use Rattle.dns_records.specs.Record.{Record, plain}
 use Rattle.dns_zone.specs.Zone.{IsZone}
 use Rattle.dns_layout.specs.Sector.{sector_at, number}
 use Rattle.dns_layout.specs.Journal.{place_behind, version_behind}
@@ -17,6 +18,8 @@ use Rattle.dns_store.specs.Snapshot.{IsBadSnapshot, HoldsSnapshot}
 use Rattle.dns_store.specs.Opens.{AreChanges, base_of, sizes_of}
 use Rattle.dns_store.specs.Versions.{Shape, newest_after}
 use Rattle.dns_store.specs.Recovered.{AreLed}
+use Rattle.dns_store.specs.Damage.{NamesWrongEntry}
+use Rattle.dns_store.proofs.Damage.{root_named, snapshot_named, zone_named, journal_named}
 use Rattle.dns_store.proofs.Leaves.{newest_split}
 use Rattle.dns_store.proofs.Plains.{zones_same}
 use Rattle.dns_store.proofs.Parts.{snapshot_is}
@@ -185,3 +188,65 @@ returns-clause-root g c honest =
     let root = found_there c.args.snapshot c.args.journal c.apex_of.result (wire c.args.apex.now) (g.D.Sectors.count c.args.device.now) (g.D.Sectors.count c.settle.new.device) (g.D.Sectors.seen c.settle.new.device) (g.D.Sectors.seen c.args.device.now) c.in_ok-root.root
     c.apex_of.ensures.octets one.count (one.seen honest) (c.in_ok-root.ensures.found (one.honest.1 honest)) in
     root
+
+pub returns-in_err-root-clause-damaged : goal.returns-in_err-root-clause-damaged
+returns-in_err-root-clause-damaged g c honest =
+    let d = g.D.Sectors.seen c.args.device.now in
+    let shape : Shape = record { apex = c.args.apex.now; snapshot = c.args.snapshot; journal = c.args.journal } in
+    let one = c.settle.ensures.reads in
+    let p = err_from_is_err_and c.from_residual-in_err-root.result c.from_residual-in_err-root.ensures.1 in
+    let sizes : Sizes = record { snapshot = c.args.snapshot; journal = c.args.journal; apex = c.apex_of.result } in
+    let count = g.D.Sectors.count c.settle.new.device in
+    rw (p.1, p.2)
+    (root_named shape d sizes count c.in_err-root.field-0.0
+    (subst (λ e. (c.in_err-root.field-0.0 ≡ OpenError.Device) ⊎ RootRefusal sizes count (sector_at e 0) c.in_err-root.field-0.0) (one.seen honest)
+    (c.in_err-root.ensures.refused (one.honest.1 honest))))
+
+pub returns-in_err-octets-clause-damaged : goal.returns-in_err-octets-clause-damaged
+returns-in_err-octets-clause-damaged g c honest =
+    let d = g.D.Sectors.seen c.args.device.now in
+    let shape : Shape = record { apex = c.args.apex.now; snapshot = c.args.snapshot; journal = c.args.journal } in
+    let one = c.settle.ensures.reads in
+    let two = reads_then _ _ _ one c.read_root.ensures.reads in
+    let says : SaysRoot (sector_at d 0) c.in_ok-root.root = subst (λ e. SaysRoot (sector_at e 0) c.in_ok-root.root) (one.seen honest) (c.in_ok-root.ensures.found (one.honest.1 honest)).says in
+    let at = 1 + c.number.result * (c.args.snapshot + c.args.journal) in
+    let at_is = ap (λ n. 1 + n * (c.args.snapshot + c.args.journal)) c.number.ensures in
+    let p = err_from_is_err_and c.from_residual-in_err-octets.result c.from_residual-in_err-octets.ensures.1 in
+    let bad = c.in_err-octets.ensures.damaged (two.honest.1 honest) (sector_at d 0) says in
+    rw p.1 (snapshot_named shape d c.in_ok-root.root says at at_is c.in_err-octets.field-0.0 p.0 p.2 (subst (λ e. IsBadSnapshot (sector_at d 0) at e c.in_err-octets.field-0.0) (two.seen honest) bad))
+
+pub returns-in-Err-clause-damaged : goal.returns-in-Err-clause-damaged
+returns-in-Err-clause-damaged g c honest =
+    let d = g.D.Sectors.seen c.args.device.now in
+    let shape : Shape = record { apex = c.args.apex.now; snapshot = c.args.snapshot; journal = c.args.journal } in
+    let one = c.settle.ensures.reads in
+    let two = reads_then _ _ _ one c.read_root.ensures.reads in
+    let says : SaysRoot (sector_at d 0) c.in_ok-root.root = subst (λ e. SaysRoot (sector_at e 0) c.in_ok-root.root) (one.seen honest) (c.in_ok-root.ensures.found (one.honest.1 honest)).says in
+    let at = 1 + c.number.result * (c.args.snapshot + c.args.journal) in
+    let at_is = ap (λ n. 1 + n * (c.args.snapshot + c.args.journal)) c.number.ensures in
+    let holds = subst (λ e. HoldsSnapshot (sector_at d 0) at e c.in_ok-octets.octets.items) (two.seen honest) (c.in_ok-octets.ensures.found (two.honest.1 honest) (sector_at d 0) says) in
+    zone_named shape d c.in_ok-root.root says at at_is c.in_ok-octets.octets.items holds c.fault_at.result c.fault_at.ensures.other
+    (⊎_elim (λ memory. inl (c.fault_at.ensures.memory memory)) (λ bad. inr (λ records valid is. bad.1 records valid (c.deref.ensures.value ∙ is))) c.in-Err.ensures.refused)
+
+pub returns-in_err-newest-clause-damaged : goal.returns-in_err-newest-clause-damaged
+returns-in_err-newest-clause-damaged g c honest =
+    let d = g.D.Sectors.seen c.args.device.now in
+    let shape : Shape = record { apex = c.args.apex.now; snapshot = c.args.snapshot; journal = c.args.journal } in
+    let one = c.settle.ensures.reads in
+    let two = reads_then _ _ _ one c.read_root.ensures.reads in
+    let says : SaysRoot (sector_at d 0) c.in_ok-root.root = subst (λ e. SaysRoot (sector_at e 0) c.in_ok-root.root) (one.seen honest) (c.in_ok-root.ensures.found (one.honest.1 honest)).says in
+    let at = 1 + c.number.result * (c.args.snapshot + c.args.journal) in
+    let at_is = ap (λ n. 1 + n * (c.args.snapshot + c.args.journal)) c.number.ensures in
+    let three = reads_then _ _ _ two c.read_snapshot.ensures.reads in
+    let holds = subst (λ e. HoldsSnapshot (sector_at d 0) at e c.in_ok-octets.octets.items) (two.seen honest) (c.in_ok-octets.ensures.found (two.honest.1 honest) (sector_at d 0) says) in
+    let mine = c.in-Ok.ensures.found in
+    let base = c.in-Ok.base.records in
+    let valid = subst (λ a. IsZone (record { apex = a; records = base })) mine.1 mine.0 in
+    let plains = subst (λ (xs : List ℕ). HoldsSnapshot (sector_at d 0) at d xs) (sym c.deref.ensures.value ∙ mine.2) holds in
+    let copied = c.in_ok-copy.ensures in
+    let cursor : Cursor = record { at = at + c.args.snapshot; until = at + c.args.snapshot + c.args.journal; version = c.in_ok-root.root.base; opened = c.in_ok-root.root.bank_open } in
+    let p = err_from_is_err_and c.from_residual-in_err-newest.result c.from_residual-in_err-newest.ensures.1 in
+    let wrong = c.in_err-newest.ensures.damaged (three.honest.1 honest) in
+    let here = subst (λ e. NamesWrongEntry c.in_ok-copy.copy.apex c.in_ok-copy.copy.records cursor e c.in_err-newest.field-0.0) (three.seen honest) wrong in
+    let mine' = subst (λ a. NamesWrongEntry a base cursor d c.in_err-newest.field-0.0) (copied.0 ∙ mine.1) (subst (λ (rs : List Record). NamesWrongEntry c.in_ok-copy.copy.apex rs cursor d c.in_err-newest.field-0.0) copied.1 here) in
+    rw (p.1, p.2) (journal_named shape d c.in_ok-root.root says at at_is base plains valid c.in_err-newest.field-0.0 mine')
