@@ -57,7 +57,9 @@ message_out (Some one) = one ∷ []
 
 -- These are the effects: the headers in order, then the one longer message, if there is one.
 pub record AreEffects (stated : machine.Effects) (effects : Effects) : Type 0 where
-  pub sent : all_out stated.sent ≡ map header_out effects.headers.items ++ message_out (elim (effects.message) [ None ↦ None | Some m ↦ Some (m.0, m.1.items) ])
+  pub sent : all_out stated.sent
+      ≡ map header_out effects.headers.items
+      ++ message_out (elim (effects.message) [ None ↦ None | Some m ↦ Some (m.0, m.1.items) ])
   pub accepted : stated.accepted ≡ effects.accepted
   pub noted : stated.noted ≡ effects.noted
 

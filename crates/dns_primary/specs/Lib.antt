@@ -9,3 +9,4 @@ pub mod Outcome
 pub mod Queue
 pub mod Steps
 pub mod Fresh
+pub mod Runs

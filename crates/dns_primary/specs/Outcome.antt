@@ -22,7 +22,8 @@ end_of k (Refuses rcode) = record { outcome = Waits rcode; versions = k }
 end_of k Keeps = record { outcome = Waits NoError; versions = k }
 end_of k (Leaves after) =
     if not (has_room k after) then record { outcome = Waits ServFail; versions = k }
-    else if nat_le (entry_between (newest_of k) after) (sectors_left k) then record { outcome = Waits NoError; versions = staged_with after k }
+    else if nat_le (entry_between (newest_of k) after) (sectors_left k) then
+    record { outcome = Waits NoError; versions = staged_with after k }
     else record { outcome = AtOnce ServFail; versions = k }
 
 -- It ends so, or memory was refused and the versions stay.

@@ -74,7 +74,8 @@ IsArrived fails old number (Some peer) octets effects new =
 abbrev pub IsConnected : Machine → Peer → Effects → Machine → Type 0
 IsConnected old peer effects new =
     ((length old.connections < most_connections)
-    × ((number : ℕ) × (peer_at number old.connections ≡ None) × (new ≡ connected number peer old) × (effects ≡ record { sent = []; accepted = Some number; noted = Nothing })))
+    × ((number : ℕ) × (peer_at number old.connections ≡ None) × (new ≡ connected number peer old)
+    × (effects ≡ record { sent = []; accepted = Some number; noted = Nothing })))
     ⊎ ((most_connections ≤ length old.connections) × Gives effects new old [] [])
 
 -- What an event does where memory is not refused.
@@ -127,7 +128,8 @@ pub record Lacks (fails : List Bool) (old : Machine) (event : Event) (effects : 
   pub noted : effects.noted ≡ OutOfMemory
   pub accepted : effects.accepted ≡ None
   pub stays : ((fails ≡ []) × (new ≡ old) × (effects.sent ≡ failures old event))
-      ⊎ ((flushes_first old event ≡ true) × AreFailures true old fails × (new ≡ flushed fails old) × (effects.sent ≡ flush_sends fails old ++ failures old event))
+      ⊎ ((flushes_first old event ≡ true) × AreFailures true old fails × (new ≡ flushed fails old)
+      × (effects.sent ≡ flush_sends fails old ++ failures old event))
 
 -- The step, where of the devices these fail.
 abbrev pub Step : List Bool → Machine → Event → Effects → Machine → Type 0

@@ -65,7 +65,10 @@ admission zones a =
 -- The reply waits.
 abbrev pub waits : Machine → Asked → ℕ → ℕ → List Made → Machine
 waits m a place rcode updates =
-    record m { waiting = m.waiting ++ record { to = a.to; header = a.message.header; rcode = rcode; zone = place; updates = updates } ∷ [] }
+    record m {
+      waiting = m.waiting
+          ++ record { to = a.to; header = a.message.header; rcode = rcode; zone = place; updates = updates } ∷ [];
+    }
 
 abbrev pub with_staged : Made → ZoneState → ZoneState
 with_staged made z = record z { staged = z.staged ++ made ∷ [] }

@@ -73,7 +73,11 @@ pub(crate) fn admit<I: ZoneIndex, S: ZoneStore>(
     requires as_many { length zones.now ≡ length behind.now }
     requires settled { length zones.now ≡ length settings.now }
     requires name { name.now ≡ question.now.name }
-    ensures admission { (states : List ZoneState) (a : Asked) → HaveVersions S.keeps zones.now behind.now states → Each2 IsSet settings.now states → a.zone ≡ question.now → a.address ≡ address
+    ensures admission { (states : List ZoneState) (a : Asked)
+        → HaveVersions S.keeps zones.now behind.now states
+        → Each2 IsSet settings.now states
+        → a.zone ≡ question.now
+        → a.address ≡ address
         → admission_shown states result ≡ admission states a }
     ensures inside { IfOk result (λ place. place < length zones.now) }
 {

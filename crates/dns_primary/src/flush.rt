@@ -37,7 +37,9 @@ fn released_octets<I: ZoneIndex, S: ZoneStore>(
     behind: &[Behind<I, S>],
     waiting: &Waiting,
 ) -> [u8; 12]
-    ensures { (shown : List Stated) (zones : List ZoneState) (w : Waits) → HaveVersions S.keeps shown behind.now zones → IsWaiting waiting.now w
+    ensures { (shown : List Stated) (zones : List ZoneState) (w : Waits)
+        → HaveVersions S.keeps shown behind.now zones
+        → IsWaiting waiting.now w
         → result ≡ text (bare_reply w.header (if is_closed_in (slice_get zones w.zone) then rcode_servfail else w.rcode)) }
 {
     let rcode = if is_closed_at(behind, waiting.zone) {
@@ -55,7 +57,9 @@ fn release<I: ZoneIndex, S: ZoneStore>(
     headers: &mut ArrayVec<HeaderTo, 33>,
 )
     requires { length headers.old.items < 33 }
-    ensures sent { (shown : List Stated) (zones : List ZoneState) (w : Waits) → HaveVersions S.keeps shown behind.now zones → IsWaiting waiting.now w
+    ensures sent { (shown : List Stated) (zones : List ZoneState) (w : Waits)
+        → HaveVersions S.keeps shown behind.now zones
+        → IsWaiting waiting.now w
         → map header_out headers.new.items ≡ map header_out headers.old.items ++ goes_out (released zones w) }
     ensures few { length headers.new.items ≤ length headers.old.items + 1 }
 {
@@ -73,7 +77,9 @@ fn release_all<I: ZoneIndex, S: ZoneStore>(
     behind: &[Behind<I, S>],
     waiting: &ArrayVec<Waiting, 32>,
 ) -> ArrayVec<HeaderTo, 33>
-    ensures sent { (shown : List Stated) (zones : List ZoneState) (ws : List Waits) → HaveVersions S.keeps shown behind.now zones → Each2 IsWaiting waiting.now.items ws
+    ensures sent { (shown : List Stated) (zones : List ZoneState) (ws : List Waits)
+        → HaveVersions S.keeps shown behind.now zones
+        → Each2 IsWaiting waiting.now.items ws
         → map header_out result.items ≡ all_out (map (released zones) ws) }
     ensures few { length result.items ≤ 32 }
 {
@@ -92,7 +98,9 @@ pub(crate) fn flush<I: ZoneIndex, S: ZoneStore>(
     waiting: &mut ArrayVec<Waiting, 32>,
 ) -> (ArrayVec<HeaderTo, 33>, Option<usize>)
     requires { length zones.old ≡ length behind.old }
-    ensures flushed { (m : Machine) → HaveVersions S.keeps zones.old behind.old m.zones → Each2 IsWaiting waiting.old.items m.waiting
+    ensures flushed { (m : Machine)
+        → HaveVersions S.keeps zones.old behind.old m.zones
+        → Each2 IsWaiting waiting.old.items m.waiting
         → (fails : List Bool) × (length fails ≡ length m.zones) × FailedWhere (λ b. S.failed b.store) fails behind.old behind.new
         × HaveVersions S.keeps zones.new behind.new (flushed fails m).zones
         × (map header_out result.0.items ≡ all_out (flush_sends fails m)) × (result.1 ≡ first_true fails) }

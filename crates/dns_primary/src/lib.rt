@@ -6,6 +6,7 @@ mod connections;
 mod effects;
 mod event;
 mod flush;
+mod laws;
 mod primary;
 mod queue;
 mod serve;
@@ -14,4 +15,5 @@ mod unkept;
 mod update;
 
 pub use event::{Effects, Event, HeaderTo, Noted, Peer, To, Waiting};
+pub use laws::{fresh_law, replies_wait_law, versions_law};
 pub use primary::{Primary, ZoneSettings};

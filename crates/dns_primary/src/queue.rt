@@ -80,8 +80,8 @@ fn judge_at<I: ZoneIndex, S: ZoneStore>(
     }
 }
 
-/// Tests an update, judges and stages it where it is admitted, and lets its reply wait, unless it goes out at once. The name is that
-/// of the zone that it names.
+/// Tests an update, judges and stages it where it is admitted, and lets its reply wait, unless it goes out at once. The
+/// name is that of the zone that it names.
 pub(crate) fn admit_and_judge<I: ZoneIndex, S: ZoneStore>(
     alloc: Heap,
     zones: &[Zone<I>],

@@ -44,7 +44,8 @@ pub(crate) fn judge_and_stage<I: ZoneIndex, S: ZoneStore>(
     message: &Message<'_>,
 ) -> Outcome
     ensures done { (k : Kept) → HasVersions S.keeps zone.now behind.old k → k.closed ≡ false
-        → IsDone (λ k. HasVersions S.keeps zone.now behind.new k) k (verdict (newest_zone k) message.now.message.answers message.now.message.authorities) result }
+        → IsDone (λ k. HasVersions S.keeps zone.now behind.new k) k
+        (verdict (newest_zone k) message.now.message.answers message.now.message.authorities) result }
     ensures still { StandsStill S.moment S.left_since behind.old.store behind.new.store }
     ensures quiet { S.failed behind.new.store ≡ S.failed behind.old.store }
 {

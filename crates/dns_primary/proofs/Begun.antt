@@ -1,0 +1,79 @@
+-- Zones and settings of one length have a machine to which nothing has happened.
+use Rattle.std.proofs.Common.{◌≡◌, ℕ, Bool, true, false, List, [], ◌∷◌, length, take, refl, arith}
+use Rattle.std.specs.Prelude.{IsTrue, ◌↔◌}
+use Rattle.std.specs.Bool.{Decides}
+use Rattle.std.specs.List.{Any, list_any}
+use Rattle.std.specs.Str.{bytes_eq}
+use Rattle.std.specs.Net.Addr.{ipv4_octets, ipv6_octets}
+use Rattle.std.proofs.lemmas.List.Folds.{Any-from_list_any, list_any-from_Any}
+use Rattle.std.proofs.lemmas.Slice.Eq.{bytes_eq-Decides}
+use Rattle.std.specs.declared.net.ip_addr.IpAddr.{IpAddr}
+use Rattle.std.specs.declared.net.ip_addr.IpAddr.TheVariants.{V4, V6}
+use Rattle.dns_zone.specs.Zone.{Zone}
+use Rattle.dns_policy.specs.Prefix.{bits_of, Covers, IsAllowed}
+use Rattle.dns_held.specs.Each.{Each3}
+use Rattle.dns_primary.specs.declared.primary.ZoneSettings.{ZoneSettings}
+use Rattle.dns_primary.specs.Machine.{ZoneState, Machine}
+use Rattle.dns_primary.specs.Fresh.{IsLoaded, IsFresh}
+
+-- whether a prefix covers an address
+abbrev covers : IpAddr × ℕ → IpAddr → Bool
+covers (V4 p, n) (V4 a) = bytes_eq (take n (bits_of (ipv4_octets p))) (take n (bits_of (ipv4_octets a)))
+covers (V6 p, n) (V6 a) = bytes_eq (take n (bits_of (ipv6_octets p))) (take n (bits_of (ipv6_octets a)))
+covers (V4 p, n) (V6 a) = false
+covers (V6 p, n) (V4 a) = false
+
+covers_is : (p : IpAddr × ℕ) (a : IpAddr) → Decides (covers p a) (Covers p a)
+covers_is (V4 p, n) (V4 a) = bytes_eq-Decides _ _
+covers_is (V6 p, n) (V6 a) = bytes_eq-Decides _ _
+covers_is (V4 p, n) (V6 a) = (λ e. absurd (cc e), λ h. absurd h)
+covers_is (V6 p, n) (V4 a) = (λ e. absurd (cc e), λ h. absurd h)
+
+abbrev allows : List (IpAddr × ℕ) → IpAddr → Bool
+allows prefixes a = list_any (λ p. covers p a) prefixes
+
+allows_is : (prefixes : List (IpAddr × ℕ)) (a : IpAddr) → IsTrue (allows prefixes a) ↔ IsAllowed prefixes a
+allows_is prefixes a = (
+  λ e. (let some = Any-from_list_any (λ p. covers p a) prefixes e in
+      (some.0, some.1, some.2, some.3, (covers_is some.1 a).0 some.4)),
+  λ h. list_any-from_Any (λ p. covers p a) prefixes (h.0, h.1, h.2, h.3, (covers_is h.1 a).1 h.4),
+)
+
+abbrev begun : Zone → ZoneSettings → ZoneState
+begun zone settings = record {
+  setting = record {
+    shape = record { apex = zone.apex; snapshot = settings.snapshot; journal = settings.journal };
+    may_update = allows settings.update.items;
+  };
+  loaded = zone.records;
+  shown = [];
+  staged = [];
+  base = 0;
+  closed = false;
+}
+
+all_begun : (zones : List Zone) (settings : List ZoneSettings) → length zones ≡ length settings → (states : List ZoneState) × Each3 IsLoaded zones settings states
+all_begun [] [] e = ([], tt)
+all_begun [] (s ∷ settings) e = absurd (omega (arith, e))
+all_begun (z ∷ zones) [] e = absurd (omega (arith, e))
+all_begun (z ∷ zones) (s ∷ settings) e =
+    let rest = all_begun zones settings (omega (arith, e)) in (
+      begun z s ∷ rest.0,
+      (
+        record {
+          shape = refl;
+          set = record { update = allows_is s.update.items };
+          loaded = refl;
+          shown = refl;
+          staged = refl;
+          base = refl;
+          opened = refl;
+        },
+        rest.1,
+      ),
+    )
+
+pub fresh_machine : (zones : List Zone) (settings : List ZoneSettings) → length zones ≡ length settings → (m : Machine) × IsFresh zones settings m
+fresh_machine zones settings e =
+    let all = all_begun zones settings e in
+    (record { zones = all.0; waiting = []; connections = [] }, record { zones_are = all.1; waiting = refl; connections = refl })

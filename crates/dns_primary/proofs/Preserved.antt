@@ -1,0 +1,209 @@
+-- Each event keeps what every step keeps.
+use Rattle.std.proofs.Common.{◌≡◌, ℕ, Bool, true, false, inl, inr, List, [], ◌∷◌, ◌++◌, length, map, Option, Some, None, refl, sym, ap, subst, ◌∙◌, append-nil}
+use Rattle.std.specs.Prelude.{slice_get, not, filter, ◌==◌, ◌&&◌, nat_le, nat_lt, if◌then◌else◌}
+use Rattle.std.specs.List.{AllByRecursion}
+use Rattle.dns_records.specs.Record.{Record}
+use Rattle.dns_wire.specs.Message.{header_of}
+use Rattle.dns_wire.specs.Text.{text}
+use Rattle.dns_wire.specs.Codes.{number_of_rcode}
+use Rattle.dns_request.specs.Request.{rcode_formerr, rcode_refused, rcode_notimp}
+use Rattle.dns_records.specs.Types.{type_soa, class_in}
+use Rattle.dns_answer.specs.Answer.{Handled, NoReply, Replies, Update, Transfer, bare_reply}
+use Rattle.dns_update.specs.Verdict.{Verdict, Refuses, Keeps, Leaves, verdict}
+use Rattle.dns_zone.specs.Zone.{Zone}
+use Rattle.dns_store.specs.Versions.{newest_of}
+use Rattle.dns_store.specs.Room.{entry_between, sectors_left}
+use Rattle.dns_held.specs.Each.{Each3}
+use Rattle.dns_held.specs.Held.{newest_zone}
+use Rattle.dns_held.specs.Staging.{has_room}
+use Rattle.dns_primary.specs.declared.event.Peer.{Peer}
+use Rattle.dns_primary.specs.declared.event.To.{To}
+use Rattle.dns_primary.specs.declared.event.To.TheVariants as to
+use Rattle.dns_primary.specs.Machine.{Made, ZoneState, Waits, Machine, kept_of, updates_of, peer_at}
+use Rattle.dns_primary.specs.Flush.{Sent, Replied, rcode_servfail, flushed, flush_sends}
+use Rattle.dns_primary.specs.Connections.{connected, closed, without_connection}
+use Rattle.dns_primary.specs.Update.{Asked, Admission, Rejects, Admits, rcode_notauth, place_of, admission_in, admission_at, admission, waits, stages, replies, accepted_in, judged_in, admitted, is_full, made_place, updated}
+use Rattle.dns_primary.specs.Step.{Event, Datagram, Connect, Arrives, Flush, Closed, Effects, AreFailures, Gives, IsUpdated, IsServed, IsArrived, Goes, Lacks, Step, is_asking, failure, failure_on, failures}
+use Rattle.dns_primary.specs.declared.primary.ZoneSettings.{ZoneSettings}
+use Rattle.dns_primary.specs.Fresh.{IsLoaded, IsFresh}
+use Rattle.dns_primary.specs.Runs.{Moment, Run, last_of, AllLast, IsTrueIn, StaysTrue, IsHistory, HasHistory, Promise}
+use Rattle.dns_primary.proofs.Zonewise.{tested, all_last_same, all_last_on}
+use Rattle.dns_primary.proofs.Sound.{IsPlaced, IsSound, Preserves, all_true_over, all_with, stays, and_then, with_reply, flush_preserves, wait_preserves, stage_preserves}
+
+abbrev Carries : Machine → Machine × List Sent → Type 0
+Carries old p = Preserves old p.0 p.1
+
+-- an update
+accepted_preserves : (m : Machine) (a : Asked) (place : ℕ) (z : ZoneState) (records : List Record) → IsSound m → slice_get m.zones place ≡ Some z
+    → verdict (newest_zone (kept_of z)) a.message.answers a.message.authorities ≡ Leaves records
+    → Carries m (accepted_in m a place z records)
+accepted_preserves m a place z records s e j =
+    tested (Carries m) (not (has_room (kept_of z) records)) (waits m a place rcode_servfail (updates_of z), [])
+    (if nat_le (entry_between (newest_of (kept_of z)) records) (sectors_left (kept_of z)) then (stages m a place z records, []) else (m, replies a rcode_servfail ∷ []))
+    (λ _. wait_preserves m a place rcode_servfail z s e)
+    (λ _. tested (Carries m) (nat_le (entry_between (newest_of (kept_of z)) records) (sectors_left (kept_of z))) (stages m a place z records, []) (m, replies a rcode_servfail ∷ [])
+    (λ _. stage_preserves m a place z records s e j)
+    (λ _. with_reply m m [] a.to (text (bare_reply a.message.header rcode_servfail)) (stays m s)))
+
+judged_preserves : (m : Machine) (a : Asked) (place : ℕ) (z : ZoneState) (v : Verdict) → IsSound m → slice_get m.zones place ≡ Some z
+    → verdict (newest_zone (kept_of z)) a.message.answers a.message.authorities ≡ v → Carries m (judged_in m a place z v)
+judged_preserves m a place z (Refuses rcode) s e j = wait_preserves m a place (number_of_rcode rcode) z s e
+judged_preserves m a place z Keeps s e j = wait_preserves m a place 0 z s e
+judged_preserves m a place z (Leaves records) s e j = accepted_preserves m a place z records s e j
+
+-- a zone that is admitted stands there
+abbrev pub StandsIn : List ZoneState → Admission → Type 0
+StandsIn zones (Rejects rcode) = Unit {0}
+StandsIn zones (Admits place z) = slice_get zones place ≡ Some z
+
+in_stands : (zones : List ZoneState) (a : Asked) (place : ℕ) (found : Option ZoneState) → slice_get zones place ≡ found → StandsIn zones (admission_in a.address place found)
+in_stands zones a place None e = tt
+in_stands zones a place (Some z) e =
+    tested (StandsIn zones) (not (z.setting.may_update a.address)) (Rejects rcode_refused) (if z.closed then Rejects rcode_servfail else Admits place z)
+    (λ _. tt)
+    (λ _. tested (StandsIn zones) z.closed (Rejects rcode_servfail) (Admits place z) (λ _. tt) (λ _. e))
+
+at_stands : (zones : List ZoneState) (a : Asked) (place : Option ℕ) → StandsIn zones (admission_at zones a.address place)
+at_stands zones a None = tt
+at_stands zones a (Some place) = in_stands zones a place (slice_get zones place) refl
+
+pub admission_stands : (zones : List ZoneState) (a : Asked) → StandsIn zones (admission zones a)
+admission_stands zones a =
+    tested (StandsIn zones) (not (a.zone.qtype == type_soa)) (Rejects rcode_formerr)
+    (if not (a.zone.qclass == class_in) then Rejects rcode_notauth else admission_at zones a.address (place_of a.zone.name zones))
+    (λ _. tt)
+    (λ _. tested (StandsIn zones) (not (a.zone.qclass == class_in)) (Rejects rcode_notauth) (admission_at zones a.address (place_of a.zone.name zones))
+    (λ _. tt)
+    (λ _. at_stands zones a (place_of a.zone.name zones)))
+
+admitted_preserves : (m : Machine) (a : Asked) (d : Admission) → IsSound m → StandsIn m.zones d → Carries m (admitted m a d)
+admitted_preserves m a (Rejects rcode) s e = with_reply m m [] a.to (text (bare_reply a.message.header rcode)) (stays m s)
+admitted_preserves m a (Admits place z) s e =
+    judged_preserves m a place z (verdict (newest_zone (kept_of z)) a.message.answers a.message.authorities) s e refl
+
+place_preserves : (fails : List Bool) (m : Machine) → AreFailures (is_full m) m fails → IsSound m → Carries m (made_place fails m)
+place_preserves fails m f s =
+    tested (Carries m) (is_full m) (flushed fails m, flush_sends fails m) (m, [])
+    (λ e. flush_preserves fails m (subst (λ (b : Bool). AreFailures b m fails) e f) s)
+    (λ e. stays m s)
+
+update_preserves : (fails : List Bool) (m : Machine) (a : Asked) → AreFailures (is_full m) m fails → IsSound m → Carries m (updated fails m a)
+update_preserves fails m a f s =
+    let begun = made_place fails m in
+    let ended = admitted begun.0 a (admission (begun.0).zones a) in
+    let p = place_preserves fails m f s in
+    and_then m begun.0 ended.0 begun.1 ended.1 p (admitted_preserves begun.0 a (admission (begun.0).zones a) p.sound (admission_stands (begun.0).zones a))
+
+-- a connection that closes: the replies that wait keep their places
+redirected : (number : ℕ) (zones : List ZoneState) (ws : List Waits) → AllByRecursion (IsPlaced zones) ws
+    → AllByRecursion (IsPlaced zones) (map (λ (w : Waits). record w { to = without_connection number w.to }) ws)
+redirected number zones [] h = tt
+redirected number zones (w ∷ ws) h =
+    (record { zone = (h.0).zone; stands = (h.0).stands; more = (h.0).more; updates = (h.0).updates }, redirected number zones ws h.1)
+
+close_preserves : (number : ℕ) (m : Machine) → IsSound m → Preserves m (closed number m) []
+close_preserves number m s = record {
+  lasts = all_last_same m.zones;
+  sound = record { zones = s.zones; waiting = redirected number m.zones m.waiting s.waiting };
+  good = tt;
+}
+
+connect_preserves : (m : Machine) (number : ℕ) (peer : Peer) → IsSound m → Preserves m (connected number peer m) []
+connect_preserves m number peer s = record {
+  lasts = all_last_same m.zones;
+  sound = record { zones = s.zones; waiting = s.waiting };
+  good = tt;
+}
+
+-- what an event gives
+reaches : (old new next : Machine) (sent out : List Sent) → new ≡ next → sent ≡ out → Preserves old next out → Preserves old new sent
+reaches old new next sent out e f p = subst (λ m. Preserves old m sent) (sym e) (subst (λ xs. Preserves old next xs) (sym f) p)
+
+given : (old : Machine) (effects : Effects) (new next : Machine) (out : List Sent) (fails : List Bool) → Gives effects new next out fails → Preserves old next out → Preserves old new effects.sent
+given old effects new next out fails g p = reaches old new next effects.sent out g.state g.sent p
+
+served_goes : (fails : List Bool) (old : Machine) (to : To) (peer : Peer) (h : Handled) (effects : Effects) (new : Machine) → IsSound old → IsServed fails old to peer h effects new → Preserves old new effects.sent
+served_goes fails old to peer NoReply effects new s g = given old effects new old [] [] g.1 (stays old s)
+served_goes fails old to peer (Replies reply) effects new s g = given old effects new old _ [] g.1 (with_reply old old [] to reply (stays old s))
+served_goes fails old to peer (Update message question) effects new s g =
+    let a : Asked = record { to = to; address = peer.address; message = message; zone = question } in
+    given old effects new (updated fails old a).0 (updated fails old a).1 fails g.1 (update_preserves fails old a g.0 s)
+served_goes fails old to peer (Transfer message question) effects new s g =
+    given old effects new old _ [] g.1 (with_reply old old [] to (text (bare_reply message.header rcode_notimp)) (stays old s))
+
+arrived_goes : (fails : List Bool) (old : Machine) (number : ℕ) (peer : Option Peer) (octets : List ℕ) (effects : Effects) (new : Machine) → IsSound old → IsArrived fails old number peer octets effects new → Preserves old new effects.sent
+arrived_goes fails old number None octets effects new s g = given old effects new old [] [] g.1 (stays old s)
+arrived_goes fails old number (Some peer) octets effects new s g = served_goes fails old (to.Connection number) peer _ effects new s g
+
+event_goes : (fails : List Bool) (old : Machine) (event : Event) (effects : Effects) (new : Machine) → IsSound old → Goes fails old event effects new → Preserves old new effects.sent
+event_goes fails old (Datagram peer octets) effects new s g = served_goes fails old (to.Address peer) peer _ effects new s g
+event_goes fails old (Connect peer) effects new s g = elim (g.1) [
+  | inl c ↦ reaches old new (connected (c.1).0 peer old) effects.sent [] (c.1).2 (ap (λ (x : Effects). x.sent) (c.1).3) (connect_preserves old (c.1).0 peer s)
+  | inr c ↦ given old effects new old [] [] c.1 (stays old s)
+]
+event_goes fails old (Arrives number octets) effects new s g = arrived_goes fails old number (peer_at number old.connections) octets effects new s g
+event_goes fails old Flush effects new s g = given old effects new (flushed fails old) (flush_sends fails old) fails g.1 (flush_preserves fails old g.0 s)
+event_goes fails old (Closed number) effects new s g = given old effects new (closed number old) [] [] g.1 (close_preserves number old s)
+
+-- memory that is refused
+failure_true : (zones : List ZoneState) (to : To) (octets : List ℕ) → AllByRecursion (IsTrueIn zones) (failure to octets)
+failure_true zones to octets =
+    tested (AllByRecursion (IsTrueIn zones)) (is_asking octets) (Replied to (text (bare_reply (header_of octets) rcode_servfail)) ∷ []) [] (λ _. (tt, tt)) (λ _. tt)
+
+failure_on_true : (zones : List ZoneState) (number : ℕ) (peer : Option Peer) (octets : List ℕ) → AllByRecursion (IsTrueIn zones) (failure_on number peer octets)
+failure_on_true zones number None octets = tt
+failure_on_true zones number (Some peer) octets = failure_true zones (to.Connection number) octets
+
+failures_true : (zones : List ZoneState) (m : Machine) (event : Event) → AllByRecursion (IsTrueIn zones) (failures m event)
+failures_true zones m (Datagram peer octets) = failure_true zones (to.Address peer) octets
+failures_true zones m (Arrives number octets) = failure_on_true zones number (peer_at number m.connections) octets
+failures_true zones m (Connect peer) = tt
+failures_true zones m Flush = tt
+failures_true zones m (Closed number) = tt
+
+with_failures : (old new : Machine) (sent : List Sent) (event : Event) → Preserves old new sent → Preserves old new (sent ++ failures old event)
+with_failures old new sent event p = record {
+  lasts = p.lasts;
+  sound = p.sound;
+  good = all_with (IsTrueIn new.zones) sent (failures old event) p.good (failures_true new.zones old event);
+}
+
+lacks_goes : (fails : List Bool) (old : Machine) (event : Event) (effects : Effects) (new : Machine) → IsSound old → Lacks fails old event effects new → Preserves old new effects.sent
+lacks_goes fails old event effects new s l = elim (l.stays) [
+  | inl c ↦ reaches old new old effects.sent (failures old event) c.1 c.2 (with_failures old old [] event (stays old s))
+  | inr c ↦ reaches old new (flushed fails old) effects.sent (flush_sends fails old ++ failures old event) c.2 c.3
+      (with_failures old (flushed fails old) (flush_sends fails old) event (flush_preserves fails old c.1 s))
+]
+
+pub step_preserves : (fails : List Bool) (old : Machine) (event : Event) (effects : Effects) (new : Machine) → IsSound old → Step fails old event effects new → Preserves old new effects.sent
+step_preserves fails old event effects new s (inl g) = event_goes fails old event effects new s g
+step_preserves fails old event effects new s (inr l) = lacks_goes fails old event effects new s l
+
+-- whole runs
+pub run_keeps : (start : Machine) (run : List Moment) → IsSound start → Run start run → Promise start run
+run_keeps start [] s r = record { loaded = all_last_same start.zones; history = s.zones; moments = tt }
+run_keeps start (t ∷ rest) s r =
+    let step = step_preserves t.fails start t.event t.effects t.after s r.0 in
+    let later = run_keeps t.after rest step.sound r.1 in
+    record {
+      loaded = all_last_on start.zones (t.after).zones (last_of t.after rest).zones step.lasts later.loaded;
+      history = later.history;
+      moments = (record { shown = later.loaded; answered = all_true_over (t.after).zones (last_of t.after rest).zones later.loaded (t.effects).sent step.good }, later.moments);
+    }
+
+-- a machine to which nothing has happened
+fresh_history : (zones : List Zone) (settings : List ZoneSettings) (states : List ZoneState) → Each3 IsLoaded zones settings states → AllByRecursion HasHistory states
+fresh_history [] [] [] h = tt
+fresh_history (z ∷ zones) (s ∷ settings) (m ∷ states) h =
+    let none : updates_of m ≡ [] = ap (λ (ms : List Made). ms ++ m.staged) (h.0).shown ∙ (h.0).staged in
+    (subst (λ (us : List Made). IsHistory m.setting.shape.apex m.loaded us) (sym none) tt, fresh_history zones settings states h.1)
+fresh_history _ _ _ h = absurd h
+
+fresh_sound : (zones : List Zone) (settings : List ZoneSettings) (m : Machine) → IsFresh zones settings m → IsSound m
+fresh_sound zones settings m f = record {
+  zones = fresh_history zones settings m.zones f.zones_are;
+  waiting = subst (λ (ws : List Waits). AllByRecursion (IsPlaced m.zones) ws) (sym f.waiting) tt;
+}
+
+pub fresh_keeps : (zones : List Zone) (settings : List ZoneSettings) (start : Machine) (run : List Moment) → IsFresh zones settings start → Run start run → Promise start run
+fresh_keeps zones settings start run f r = run_keeps start run (fresh_sound zones settings start f) r

@@ -1,0 +1,148 @@
+-- What goes out for an update waited before the event.
+use Rattle.std.proofs.Common.{◌≡◌, ℕ, zero, suc, Bool, true, inl, inr, List, [], ◌∷◌, ◌++◌, map, Option, Some, None, refl, sym, ap, subst, arith}
+use Rattle.std.specs.Prelude.{slice_get, slice_set, not, ◌==◌, nat_le, if◌then◌else◌}
+use Rattle.std.specs.List.{AllByRecursion, Contains}
+use Rattle.dns_records.specs.Record.{Record}
+use Rattle.dns_wire.specs.Message.{header_of}
+use Rattle.dns_wire.specs.Text.{text}
+use Rattle.dns_wire.specs.Codes.{number_of_rcode}
+use Rattle.dns_answer.specs.Answer.{bare_reply, Handled, NoReply, Replies, Update, Transfer}
+use Rattle.dns_update.specs.Verdict.{Verdict, Refuses, Keeps, Leaves, verdict}
+use Rattle.dns_store.specs.Versions.{newest_of}
+use Rattle.dns_store.specs.Room.{entry_between, sectors_left}
+use Rattle.dns_held.specs.Held.{newest_zone}
+use Rattle.dns_held.specs.Staging.{has_room}
+use Rattle.dns_primary.specs.declared.event.Peer.{Peer}
+use Rattle.dns_primary.specs.declared.event.To.{To}
+use Rattle.dns_primary.specs.declared.event.To.TheVariants as to
+use Rattle.dns_primary.specs.Machine.{Made, ZoneState, Waits, Machine, kept_of, updates_of, peer_at}
+use Rattle.dns_primary.specs.Flush.{Sent, Answered, Replied, rcode_servfail, flushed, flush_sends, flushed_zones, released, is_closed_in}
+use Rattle.dns_primary.specs.Update.{Asked, Admission, Rejects, Admits, admission, waits, stages, with_staged, replies, accepted_in, judged_in, admitted, is_full, made_place, updated}
+use Rattle.dns_primary.specs.Step.{Event, Datagram, Connect, Arrives, Flush, Closed, Effects, Gives, IsServed, IsArrived, Goes, Lacks, Step, is_asking, failure, failure_on, failures}
+use Rattle.dns_primary.specs.Runs.{IsReleasedFrom}
+use Rattle.dns_primary.proofs.Zonewise.{tested}
+use Rattle.dns_primary.proofs.Sound.{all_with}
+use Rattle.dns_primary.proofs.Preserved.{StandsIn, admission_stands}
+
+abbrev Releases : Machine → Machine → List Sent → Type 0
+Releases old new sent = AllByRecursion (IsReleasedFrom old new) sent
+
+-- the zones of the two are closed alike
+abbrev AreClosedAlike : List ZoneState → List ZoneState → Type 0
+AreClosedAlike xs ys = (n : ℕ) → is_closed_in (slice_get xs n) ≡ is_closed_in (slice_get ys n)
+
+behind_first : (x : Waits) (ws : List Waits) (w : Waits) → Contains ws w → Contains (x ∷ ws) w
+behind_first x ws w h = (suc h.0, omega (arith, h.1), h.2)
+
+all_released : (old new : Machine) (zones : List ZoneState) → AreClosedAlike zones new.zones → (ws : List Waits)
+    → ((w : Waits) → Contains ws w → Contains old.waiting w) → Releases old new (map (released zones) ws)
+all_released old new zones alike [] there = tt
+all_released old new zones alike (w ∷ ws) there = (
+  (there w (0, omega arith, refl), (λ i. Answered w (if sym (alike w.zone) i then rcode_servfail else w.rcode))),
+  all_released old new zones alike ws (λ x h. there x (behind_first w ws x h)),
+)
+
+flush_releases : (fails : List Bool) (old new : Machine) → AreClosedAlike (flushed_zones fails old.zones) new.zones → Releases old new (flush_sends fails old)
+flush_releases fails old new alike = all_released old new (flushed_zones fails old.zones) alike old.waiting (λ w h. h)
+
+-- an update that is staged closes no zone
+set_alike : (zones : List ZoneState) (place : ℕ) (made : Made) (z : ZoneState) → slice_get zones place ≡ Some z → AreClosedAlike zones (slice_set zones place (with_staged made z))
+set_alike [] place made z e n = refl
+set_alike (a ∷ zones) zero made z e zero = (let is : a ≡ z = cc in ap (λ (x : ZoneState). x.closed) is)
+set_alike (a ∷ zones) zero made z e (suc n) = refl
+set_alike (a ∷ zones) (suc place) made z e zero = refl
+set_alike (a ∷ zones) (suc place) made z e (suc n) = set_alike zones place made z e n
+
+record IsAnsweredIn (m : Machine) (ended : Machine × List Sent) : Type 0 where
+  alike : AreClosedAlike m.zones (ended.0).zones
+  sent : (old : Machine) → Releases old ended.0 ended.1
+
+waits_so : (m : Machine) (a : Asked) (place rcode : ℕ) (updates : List Made) → IsAnsweredIn m (waits m a place rcode updates, [])
+waits_so m a place rcode updates = record { alike = λ n. refl; sent = λ old. tt }
+
+replied_so : (m : Machine) (a : Asked) (rcode : ℕ) → IsAnsweredIn m (m, replies a rcode ∷ [])
+replied_so m a rcode = record { alike = λ n. refl; sent = λ old. (tt, tt) }
+
+accepted_so : (m : Machine) (a : Asked) (place : ℕ) (z : ZoneState) (records : List Record) → slice_get m.zones place ≡ Some z → IsAnsweredIn m (accepted_in m a place z records)
+accepted_so m a place z records e =
+    tested (IsAnsweredIn m) (not (has_room (kept_of z) records)) (waits m a place rcode_servfail (updates_of z), [])
+    (if nat_le (entry_between (newest_of (kept_of z)) records) (sectors_left (kept_of z)) then (stages m a place z records, []) else (m, replies a rcode_servfail ∷ []))
+    (λ _. waits_so m a place rcode_servfail (updates_of z))
+    (λ _. tested (IsAnsweredIn m) (nat_le (entry_between (newest_of (kept_of z)) records) (sectors_left (kept_of z))) (stages m a place z records, []) (m, replies a rcode_servfail ∷ [])
+    (λ _. record { alike = set_alike m.zones place (record { update = a.message; records = records }) z e; sent = λ old. tt })
+    (λ _. replied_so m a rcode_servfail))
+
+judged_so : (m : Machine) (a : Asked) (place : ℕ) (z : ZoneState) (v : Verdict) → slice_get m.zones place ≡ Some z → IsAnsweredIn m (judged_in m a place z v)
+judged_so m a place z (Refuses rcode) e = waits_so m a place (number_of_rcode rcode) (updates_of z)
+judged_so m a place z Keeps e = waits_so m a place 0 (updates_of z)
+judged_so m a place z (Leaves records) e = accepted_so m a place z records e
+
+admitted_so : (m : Machine) (a : Asked) (d : Admission) → StandsIn m.zones d → IsAnsweredIn m (admitted m a d)
+admitted_so m a (Rejects rcode) e = replied_so m a rcode
+admitted_so m a (Admits place z) e = judged_so m a place z (verdict (newest_zone (kept_of z)) a.message.answers a.message.authorities) e
+
+begun_so : (fails : List Bool) (m : Machine) (new : Machine) → AreClosedAlike (made_place fails m).0.zones new.zones → Releases m new (made_place fails m).1
+begun_so fails m new alike =
+    tested (λ (p : Machine × List Sent). AreClosedAlike p.0.zones new.zones → Releases m new p.1) (is_full m) (flushed fails m, flush_sends fails m) (m, [])
+    (λ _. λ same. flush_releases fails m new same)
+    (λ _. λ same. tt)
+    alike
+
+update_releases : (fails : List Bool) (m : Machine) (a : Asked) → Releases m (updated fails m a).0 (updated fails m a).1
+update_releases fails m a =
+    let begun = made_place fails m in
+    let ended = admitted begun.0 a (admission (begun.0).zones a) in
+    let so = admitted_so begun.0 a (admission (begun.0).zones a) (admission_stands (begun.0).zones a) in
+    all_with (IsReleasedFrom m ended.0) begun.1 ended.1 (begun_so fails m ended.0 so.alike) (so.sent m)
+
+reaches : (old new next : Machine) (sent out : List Sent) → new ≡ next → sent ≡ out → Releases old next out → Releases old new sent
+reaches old new next sent out e f p = subst (λ m. Releases old m sent) (sym e) (subst (λ xs. Releases old next xs) (sym f) p)
+
+served_releases : (fails : List Bool) (old : Machine) (to : To) (peer : Peer) (h : Handled) (effects : Effects) (new : Machine) → IsServed fails old to peer h effects new → Releases old new effects.sent
+served_releases fails old to peer NoReply effects new g = reaches old new old effects.sent [] (g.1).state (g.1).sent tt
+served_releases fails old to peer (Replies reply) effects new g = reaches old new old effects.sent _ (g.1).state (g.1).sent (tt, tt)
+served_releases fails old to peer (Update message question) effects new g =
+    let a : Asked = record { to = to; address = peer.address; message = message; zone = question } in
+    reaches old new (updated fails old a).0 effects.sent (updated fails old a).1 (g.1).state (g.1).sent (update_releases fails old a)
+served_releases fails old to peer (Transfer message question) effects new g = reaches old new old effects.sent _ (g.1).state (g.1).sent (tt, tt)
+
+arrived_releases : (fails : List Bool) (old : Machine) (number : ℕ) (peer : Option Peer) (octets : List ℕ) (effects : Effects) (new : Machine) → IsArrived fails old number peer octets effects new → Releases old new effects.sent
+arrived_releases fails old number None octets effects new g = reaches old new old effects.sent [] (g.1).state (g.1).sent tt
+arrived_releases fails old number (Some peer) octets effects new g = served_releases fails old (to.Connection number) peer _ effects new g
+
+event_releases : (fails : List Bool) (old : Machine) (event : Event) (effects : Effects) (new : Machine) → Goes fails old event effects new → Releases old new effects.sent
+event_releases fails old (Datagram peer octets) effects new g = served_releases fails old (to.Address peer) peer _ effects new g
+event_releases fails old (Connect peer) effects new g = elim (g.1) [
+  | inl c ↦ subst (λ (xs : List Sent). Releases old new xs) (sym (ap (λ (x : Effects). x.sent) (c.1).3)) tt
+  | inr c ↦ subst (λ (xs : List Sent). Releases old new xs) (sym (c.1).sent) tt
+]
+event_releases fails old (Arrives number octets) effects new g = arrived_releases fails old number (peer_at number old.connections) octets effects new g
+event_releases fails old Flush effects new g = reaches old new (flushed fails old) effects.sent (flush_sends fails old) (g.1).state (g.1).sent (flush_releases fails old (flushed fails old) (λ n. refl))
+event_releases fails old (Closed number) effects new g = subst (λ (xs : List Sent). Releases old new xs) (sym (g.1).sent) tt
+
+failure_released : (old new : Machine) (to : To) (octets : List ℕ) → Releases old new (failure to octets)
+failure_released old new to octets =
+    tested (Releases old new) (is_asking octets) (Replied to (text (bare_reply (header_of octets) rcode_servfail)) ∷ []) [] (λ _. (tt, tt)) (λ _. tt)
+
+failure_on_released : (old new : Machine) (number : ℕ) (peer : Option Peer) (octets : List ℕ) → Releases old new (failure_on number peer octets)
+failure_on_released old new number None octets = tt
+failure_on_released old new number (Some peer) octets = failure_released old new (to.Connection number) octets
+
+failures_released : (old new m : Machine) (event : Event) → Releases old new (failures m event)
+failures_released old new m (Datagram peer octets) = failure_released old new (to.Address peer) octets
+failures_released old new m (Arrives number octets) = failure_on_released old new number (peer_at number m.connections) octets
+failures_released old new m (Connect peer) = tt
+failures_released old new m Flush = tt
+failures_released old new m (Closed number) = tt
+
+lacks_releases : (fails : List Bool) (old : Machine) (event : Event) (effects : Effects) (new : Machine) → Lacks fails old event effects new → Releases old new effects.sent
+lacks_releases fails old event effects new l = elim (l.stays) [
+  | inl c ↦ subst (λ (xs : List Sent). Releases old new xs) (sym c.2) (failures_released old new old event)
+  | inr c ↦ reaches old new (flushed fails old) effects.sent (flush_sends fails old ++ failures old event) c.2 c.3
+      (all_with (IsReleasedFrom old (flushed fails old)) (flush_sends fails old) (failures old event)
+      (flush_releases fails old (flushed fails old) (λ n. refl)) (failures_released old (flushed fails old) old event))
+]
+
+pub step_releases : (fails : List Bool) (old : Machine) (event : Event) (effects : Effects) (new : Machine) → Step fails old event effects new → Releases old new effects.sent
+step_releases fails old event effects new (inl g) = event_releases fails old event effects new g
+step_releases fails old event effects new (inr l) = lacks_releases fails old event effects new l

@@ -1,0 +1,5 @@
+use Rattle.dns_primary.proofs.Released.{step_releases}
+use Rattle.dns_primary.proofs.laws.replies_wait_law.Goals as goal
+
+pub returns : goal.returns
+returns c = step_releases

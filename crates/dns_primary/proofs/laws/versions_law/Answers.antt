@@ -1,0 +1,5 @@
+use Rattle.dns_primary.proofs.Preserved.{fresh_keeps}
+use Rattle.dns_primary.proofs.laws.versions_law.Goals as goal
+
+pub returns : goal.returns
+returns c = fresh_keeps
