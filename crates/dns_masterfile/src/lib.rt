@@ -23,6 +23,7 @@ mod zone;
 pub use read::read_zone;
 use std::alloc::{AllocError, AllocFailed};
 use thiserror::Error;
+pub use values::number;
 pub use zone::print_zone;
 
 /// Why a master file is refused.

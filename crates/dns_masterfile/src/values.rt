@@ -39,7 +39,7 @@ pub(crate) fn is_decimal(text: &[u8]) -> bool
 }
 
 /// The number below 2^32 that the text is, in decimal digits.
-pub(crate) fn number(text: &[u8]) -> Option<u32>
+pub fn number(text: &[u8]) -> Option<u32>
     ensures { result ≡ number_of_text (2 ^ 32) text.now }
 {
     if !is_decimal(text) {

@@ -8,7 +8,7 @@ ghost use Rattle.dns_masterfile.specs.Printed.{in_print_order, is_wanted, printe
 
 use crate::print::Line;
 use dns_records::{Record, types};
-use dns_zone::{Zone, ZoneIndex};
+use dns_zone::{Records, Zone, ZoneIndex};
 use std::io::{self, Write};
 
 /// Whether the record is one of those that are wanted: the SOA, or all others.
@@ -34,10 +34,8 @@ fn print_wanted<I: ZoneIndex, W: Write>(index: &I, soa: bool, out: &mut W) -> io
         (Appends (W.contents out.old) (W.contents out.new)
         (flat_map printed_record (filter (is_wanted soa) (I.records index.now)))) }
 {
-    let mut last: Option<&Record> = None;
-    'records: while let Some(record) = index.walk(last) {
+    for record in Records::of(index) {
         print_if(is_wanted(soa, record), record, out)?;
-        last = Some(record);
     }
     Ok(())
 }

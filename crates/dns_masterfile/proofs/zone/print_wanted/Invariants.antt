@@ -1,19 +1,15 @@
-use Rattle.std.proofs.Common.{◌≡◌, ◌++◌, List, ℕ, length, drop}
+use Rattle.std.proofs.Common.{◌≡◌, ◌++◌, List, ℕ}
 use Rattle.std.specs.Prelude.{filter, flat_map}
-use Rattle.std.specs.Option.{option_copied}
 use Rattle.std.specs.Io.KnownBytes.{Appends}
-use Rattle.dns_zone.specs.Survey.{behind}
 use Rattle.dns_masterfile.specs.Printed.{is_wanted, printed_record}
 use Rattle.dns_masterfile.proofs.zone.print_wanted.Given as goal
 
-abbrev pub invariant-records : goal.invariant-records
-invariant-records g l =
-    let records = g.I.ZoneIndex.records l.index in
-    let rest = behind (option_copied l.last) records in
+abbrev pub invariant-loop-record : goal.invariant-loop-record
+invariant-loop-record g l =
+    let all = flat_map printed_record (filter (is_wanted l.soa) (g.I.ZoneIndex.records l.index)) in
+    let rest = flat_map printed_record (filter (is_wanted l.soa) l.record-iterator) in
     record {
-      from : (k : ℕ) × (rest ≡ drop k records);
-      printed : (text : List ℕ) × (flat_map printed_record (filter (is_wanted l.soa) records) ≡ text ++ flat_map printed_record (filter (is_wanted l.soa) rest)) × Appends (g.W.Write.contents l.initial.out) (g.W.Write.contents l.out) text;
+      can : (goal.iterator-loop-record g).can_next l.record-iterator;
+      ends : (goal.iterator-loop-record g).is_finite l.record-iterator;
+      printed : (text : List ℕ) × (all ≡ text ++ rest) × Appends (g.W.Write.contents l.initial.out) (g.W.Write.contents l.out) text;
     }
-
-abbrev pub decreases-records : goal.decreases-records
-decreases-records g l = length (behind (option_copied l.last) (g.I.ZoneIndex.records l.index))
