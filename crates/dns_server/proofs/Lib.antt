@@ -2,8 +2,6 @@ pub mod Ended
 pub mod Hosts
 pub mod Ports
 pub mod Replayed
-pub mod Running
 pub mod Soas
 pub mod Unread
-pub mod Words
 pub mod Zipped

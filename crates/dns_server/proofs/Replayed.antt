@@ -1,6 +1,6 @@
 -- How a run of a script over the zones of a configuration ends.
-use Rattle.std.proofs.Common.{◌≡◌, ℕ, zero, suc, ◌<◌, ◌+◌, Bool, true, false, inl, inr, List, [], ◌∷◌, ◌++◌, length, take, drop, get_or, Option, Result, Ok, Err, IfOk, refl, ap, subst, ◌∙◌, arith}
-use Rattle.std.specs.Prelude.{◌⊎◌, bytes_eq, if◌then◌else◌}
+use Rattle.std.proofs.Common.{◌≡◌, ℕ, zero, suc, ◌<◌, ◌+◌, Bool, true, false, inl, inr, List, [], ◌∷◌, ◌++◌, length, take, drop, get_or, Option, Result, Ok, Err, IfOk, refl, sym, ap, subst, ◌∙◌, arith}
+use Rattle.std.specs.Prelude.{◌⊎◌, ◌↔◌, IsTrue, bytes_eq, if◌then◌else◌}
 use Rattle.std.specs.Bool.{MatchBool}
 use Rattle.std.specs.List.{AllZip}
 use Rattle.std.specs.Option.{option_copied}
@@ -8,13 +8,20 @@ use Rattle.std.specs.String.{string_bytes}
 use Rattle.std.specs.Io.KnownBytes.{Appends}
 use Rattle.std.proofs.KnownBytes.{Keeps-refl}
 use Rattle.std.proofs.lemmas.List.{drop_more}
+use Rattle.std.specs.declared.net.ip_addr.IpAddr.{IpAddr}
+use Rattle.dns_names.specs.Name.{Labels}
+use Rattle.dns_policy.specs.Prefix.{IsAllowed}
 use Rattle.dns_zone.specs.Zone.{Zone}
+use Rattle.dns_held.specs.Each.{Each3}
+use Rattle.dns_primary.specs.declared.primary.ZoneSettings as primary
+use Rattle.dns_primary.specs.Machine.{Machine, ZoneState}
+use Rattle.dns_primary.specs.Fresh as fresh
 use Rattle.dns_server.specs.declared.configuration.Configuration.{Configuration}
 use Rattle.dns_server.specs.declared.configuration.ZoneSettings.{ZoneSettings}
 use Rattle.dns_server.specs.declared.files.File.{File}
 use Rattle.dns_server.specs.declared.files.Fault.{Fault}
 use Rattle.dns_server.specs.Checks.{is_memory, line, fault_text}
-use Rattle.dns_server.specs.Replays.{AreLoaded, Holds, IsFirstFault, IsLoaded, IsScriptFault, ReplayEnds, ScriptEnds, loaded_by, octets_at}
+use Rattle.dns_server.specs.Replays.{Begins, Holds, IsBegun, IsFirstFault, IsLoaded, IsScriptFault, IsSettingOf, Ran, ReplayEnds, RunsOver, ScriptEnds, loaded_by, octets_at, origins_of}
 
 -- The first file with a path, from a place on.
 pub file_here : (files : List File) (path : List ℕ) (i : ℕ) (f : File) → i < length files → bytes_eq (get_or files i f).path.now path ≡ true → octets_at (drop i files) path ≡ option_copied (get_or files i f).octets
@@ -22,6 +29,14 @@ file_here files path i f inside e = ap (λ (fs : List File). octets_at fs path) 
 
 pub file_behind : (files : List File) (path : List ℕ) (i : ℕ) (f : File) → i < length files → bytes_eq (get_or files i f).path.now path ≡ false → octets_at (drop i files) path ≡ octets_at (drop (i + 1) files) path
 file_behind files path i f inside e = ap (λ (fs : List File). octets_at fs path) (drop_more files i f inside) ∙ ap (λ (b : Bool). if b then option_copied (get_or files i f).octets else octets_at (drop (i + 1) files) path) e
+
+-- One more setting.
+pub known_more : (all : List ZoneSettings) (n : ℕ) (z : ZoneSettings) (known : List primary.ZoneSettings) (k : primary.ZoneSettings) → n < length all → AllZip IsSettingOf (take n all) known → IsSettingOf (get_or all n z) k → AllZip IsSettingOf (take (suc n) all) (known ++ k ∷ [])
+known_more [] n z known k inside h is = absurd (omega (arith, inside))
+known_more (x ∷ xs) zero z [] k inside h is = (is, tt)
+known_more (x ∷ xs) zero z (w ∷ ws) k inside h is = absurd h
+known_more (x ∷ xs) (suc n) z [] k inside h is = absurd h
+known_more (x ∷ xs) (suc n) z (w ∷ ws) k inside h is = (h.0, known_more xs n z ws k (omega (arith, inside)) h.1 is)
 
 -- One more zone.
 pub loaded_more : (files : List File) (all : List ZoneSettings) (n : ℕ) (z : ZoneSettings) (zones : List Zone) (zone : Zone) → n < length all → z ≡ get_or all n z → AllZip (IsLoaded files) (take n all) zones → IsLoaded files z zone → AllZip (IsLoaded files) (take (suc n) all) (zones ++ zone ∷ [])
@@ -43,9 +58,9 @@ fault_or_memory files all n z zones fault inside e h (inl memory) = inl memory
 fault_or_memory files all n z zones fault inside e h (inr k) = inr (first_fault files all n z zones fault inside e h k)
 
 -- A script that can't be read, or whose line is no command.
-pub script_refused : {E : Type 0} (zones : List Zone) (script : File) (fault : Fault) (out out_after err err_after : Option (List ℕ)) (r : Result ℕ E) → is_memory fault ≡ false → IsScriptFault zones (option_copied script.octets) fault out out_after → IfOk r (λ status. MatchBool (is_memory fault) (status ≡ 3) ((status ≡ 1) × Appends err err_after (line (fault_text script.path.now fault)))) → IfOk r (ScriptEnds zones script out out_after err err_after)
-script_refused zones script fault out out_after err err_after (Err e) is h k = tt
-script_refused zones script fault out out_after err err_after (Ok status) is h k =
+pub script_refused : {E : Type 0} (origins : List Labels) (m : Machine) (script : File) (fault : Fault) (out out_after err err_after : Option (List ℕ)) (r : Result ℕ E) → is_memory fault ≡ false → IsScriptFault origins m (option_copied script.octets) fault out out_after → IfOk r (λ status. MatchBool (is_memory fault) (status ≡ 3) ((status ≡ 1) × Appends err err_after (line (fault_text script.path.now fault)))) → IfOk r (ScriptEnds origins m script out out_after err err_after)
+script_refused origins m script fault out out_after err err_after (Err e) is h k = tt
+script_refused origins m script fault out out_after err err_after (Ok status) is h k =
     let said : (status ≡ 1) × Appends err err_after (line (fault_text script.path.now fault)) = subst (λ (b : Bool). MatchBool b (status ≡ 3) ((status ≡ 1) × Appends err err_after (line (fault_text script.path.now fault)))) is k in
     record {
       done = λ e. absurd (omega (arith, e, said.0));
@@ -53,9 +68,64 @@ script_refused zones script fault out out_after err err_after (Ok status) is h k
       others = inl (omega (arith, said.0));
     }
 
-pub script_ran : {E : Type 0} (config : File) (files : List File) (script : File) (zones : List Zone) (out out_after err err_after : Option (List ℕ)) (r : Result ℕ E) → AreLoaded (option_copied config.octets) files zones → IfOk r (ScriptEnds zones script out out_after err err_after) → IfOk r (ReplayEnds config files script out out_after err err_after)
-script_ran config files script zones out out_after err err_after (Err e) held h = tt
-script_ran config files script zones out out_after err err_after (Ok status) held h = inr (inl (zones, held, h))
+pub refused_over : {E : Type 0} (origins : List Labels) (zones : List Zone) (known : List primary.ZoneSettings) (script : File) (fault : Fault) (out out_after err err_after : Option (List ℕ)) (r : Result ℕ E) → is_memory fault ≡ false
+    → ((m : Machine) → fresh.IsFresh zones known m → IsScriptFault origins m (option_copied script.octets) fault out out_after) → IfOk r (λ status. MatchBool (is_memory fault) (status ≡ 3) ((status ≡ 1) × Appends err err_after (line (fault_text script.path.now fault))))
+    → IfOk r (λ status. (m : Machine) → fresh.IsFresh zones known m → ScriptEnds origins m script out out_after err err_after status)
+refused_over origins zones known script fault out out_after err err_after (Err e) is h k = tt
+refused_over {E = E} origins zones known script fault out out_after err err_after (Ok status) is h k = λ m f. script_refused {E = E} origins m script fault out out_after err err_after (Ok status) is (h m f) k
+
+-- A script whose lines were all run.
+pub script_done : (origins : List Labels) (m : Machine) (script : File) (out out_after err : Option (List ℕ)) → Ran origins m (option_copied script.octets) out out_after → ScriptEnds origins m script out out_after err err 0
+script_done origins m script out out_after err ran = record {
+  done = λ _. (ran, Keeps-refl err);
+  refused = λ e. absurd (omega (arith, e));
+  others = inl (omega arith);
+}
+
+-- The zones that were loaded are those of a machine to which nothing has happened.
+pub fresh_zones : (files : List File) (settings : List ZoneSettings) (known : List primary.ZoneSettings) (zones : List Zone) (states : List ZoneState) → AllZip (IsLoaded files) settings zones → AllZip IsSettingOf settings known → Each3 IsBegun settings zones states → Each3 fresh.IsLoaded zones known states
+fresh_zones files [] [] [] [] h k e = tt
+fresh_zones files (s ∷ ss) (p ∷ ps) (z ∷ zs) (m ∷ ms) h k e = (
+  record {
+    shape = e.0.shape ∙ (λ i. record { apex = z.apex; snapshot = sym k.0.snapshot i; journal = sym k.0.journal i });
+    set = record { update = λ a. subst (λ (ps : List (IpAddr × ℕ)). IsTrue (m.setting.may_update a) ↔ IsAllowed ps a) (sym k.0.update) (e.0.update a) };
+    loaded = e.0.loaded;
+    shown = e.0.shown;
+    staged = e.0.staged;
+    base = e.0.base;
+    opened = e.0.opened;
+  },
+  fresh_zones files ss ps zs ms h.1 k.1 e.1,
+)
+fresh_zones files [] [] (z ∷ zs) states h k e = absurd h
+fresh_zones files [] (p ∷ ps) zones states h k e = absurd k
+fresh_zones files (s ∷ ss) [] zones states h k e = absurd k
+fresh_zones files (s ∷ ss) (p ∷ ps) [] states h k e = absurd h
+fresh_zones files [] [] [] (m ∷ ms) h k e = absurd e
+fresh_zones files (s ∷ ss) (p ∷ ps) (z ∷ zs) [] h k e = absurd e
+
+pub is_fresh : (files : List File) (settings : List ZoneSettings) (known : List primary.ZoneSettings) (zones : List Zone) (m : Machine) → AllZip (IsLoaded files) settings zones → AllZip IsSettingOf settings known → Begins settings zones m → fresh.IsFresh zones known m
+is_fresh files settings known zones m h k b = record { zones_are = fresh_zones files settings known zones m.zones h k b.zones_are; waiting = b.waiting; connections = b.connections }
+
+pub as_many : {A B C : Type 0} (R : A → B → Type 0) (Q : A → C → Type 0) (xs : List A) (ys : List B) (zs : List C) → AllZip R xs ys → AllZip Q xs zs → length ys ≡ length zs
+as_many R Q [] [] [] h k = refl
+as_many R Q (x ∷ xs) (y ∷ ys) (z ∷ zs) h k = ap suc (as_many R Q xs ys zs h.1 k.1)
+as_many R Q [] (y ∷ ys) zs h k = absurd h
+as_many R Q [] [] (z ∷ zs) h k = absurd k
+as_many R Q (x ∷ xs) [] zs h k = absurd h
+as_many R Q (x ∷ xs) (y ∷ ys) [] h k = absurd k
+
+pub script_ran : {E : Type 0} (config : File) (files : List File) (script : File) (c : Configuration) (zones : List Zone) (known : List primary.ZoneSettings) (names : List Labels) (out out_after err err_after : Option (List ℕ)) (r : Result ℕ E)
+    → Holds (option_copied config.octets) (Ok c) → AllZip (IsLoaded files) c.zones.items zones → AllZip IsSettingOf c.zones.items known → names ≡ origins_of c.zones.items
+    → IfOk r (λ status. (m : Machine) → fresh.IsFresh zones known m → ScriptEnds names m script out out_after err err_after status) → IfOk r (ReplayEnds config files script out out_after err err_after)
+script_ran config files script c zones known names out out_after err err_after (Err e) holds loaded settings same h = tt
+script_ran config files script c zones known names out out_after err err_after (Ok status) holds loaded settings same h = inr (inl (record {
+  configuration = c;
+  zones = zones;
+  described = holds;
+  loaded = loaded;
+  ends = λ m b. subst (λ (ns : List Labels). ScriptEnds ns m script out out_after err err_after status) same (h m (is_fresh files c.zones.items known zones m loaded settings b));
+}))
 
 -- A master file that holds no zone is told.
 pub file_told : {E : Type 0} (config : File) (files : List File) (script : File) (c : Configuration) (path : List ℕ) (fault : Fault) (out err err_after : Option (List ℕ)) (r : Result ℕ E) → Holds (option_copied config.octets) (Ok c) → ((is_memory fault ≡ true) ⊎ IsFirstFault files c.zones.items path fault) → IfOk r (λ status. MatchBool (is_memory fault) (status ≡ 3) ((status ≡ 1) × Appends err err_after (line (fault_text path fault)))) → IfOk r (ReplayEnds config files script out out err err_after)

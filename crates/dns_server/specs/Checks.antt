@@ -1,9 +1,9 @@
 -- What is said of files, and what `check` says of one.
-use Rattle.std.specs.Prelude.{◌≡◌, ◌⊎◌, ℕ, ◌≤◌, Bool, true, false, List, [], ◌∷◌, ◌++◌, length, Option, Some, None, Result, Ok, Err, Contains, codes, decimal}
+use Rattle.std.specs.Prelude.{◌≡◌, ◌⊎◌, ℕ, ◌≤◌, Bool, true, false, ◌||◌, nat_lt, List, [], ◌∷◌, ◌++◌, length, flat_map, Option, Some, None, Result, Ok, Err, Contains, codes, decimal, if◌then◌else◌}
 use Rattle.std.specs.Io.KnownBytes.{Appends, Keeps}
 use Rattle.dns_names.specs.Name.{Labels}
 use Rattle.dns_names.specs.declared.NameError.{NameError}
-use Rattle.dns_names.specs.Text.{name_of_text}
+use Rattle.dns_names.specs.Text.{escaped, name_of_text}
 use Rattle.dns_records.specs.Types.{type_soa}
 use Rattle.dns_records.specs.Record.{Record, serial_of}
 use Rattle.dns_zone.specs.Zone.{zone_fault}
@@ -55,8 +55,15 @@ fault_words (Syntax number) = codes ":" ++ decimal number ++ codes ": Syntax"
 fault_words (Entry number e) = codes ":" ++ decimal number ++ codes ": " ++ entry_word e
 fault_words (NoZone e) = codes ": " ++ zone_word e
 
+-- An octet of a path or of a word: what is neither a blank nor visible ASCII is `\DDD` (RFC 1035 5.1).
+abbrev pub word_octet : ℕ → List ℕ
+word_octet c = if nat_lt c 32 || nat_lt 126 c then escaped c else c ∷ []
+
+abbrev pub printed_word : List ℕ → List ℕ
+printed_word text = flat_map word_octet text
+
 abbrev pub fault_text : List ℕ → Fault → List ℕ
-fault_text what fault = what ++ fault_words fault
+fault_text what fault = printed_word what ++ fault_words fault
 
 abbrev pub line : List ℕ → List ℕ
 line text = text ++ 10 ∷ []

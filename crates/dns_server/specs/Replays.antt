@@ -1,20 +1,27 @@
 -- How a run of a script over the zones of a configuration ends.
-use Rattle.std.specs.Prelude.{◌≡◌, ⊤, ◌⊎◌, ℕ, ◌≤◌, List, [], ◌∷◌, Option, Some, None, Result, Ok, Err, bytes_eq, if◌then◌else◌}
+use Rattle.std.specs.Prelude.{◌≡◌, ⊤, ◌⊎◌, ◌↔◌, IsTrue, ℕ, ◌≤◌, false, List, [], ◌∷◌, map, Option, Some, None, Result, Ok, Err, bytes_eq, if◌then◌else◌}
 use Rattle.std.specs.List.{AllZip}
+use Rattle.std.specs.declared.net.ip_addr.IpAddr.{IpAddr}
 use Rattle.std.specs.Option.{option_copied}
 use Rattle.std.specs.String.{string_bytes}
 use Rattle.std.specs.Io.KnownBytes.{Appends, Keeps}
 use Rattle.dns_records.specs.Record.{Record}
 use Rattle.dns_zone.specs.Made.{IsSetOf}
 use Rattle.dns_zone.specs.Zone.{Zone}
+use Rattle.dns_names.specs.Name.{Labels}
+use Rattle.dns_policy.specs.Prefix.{IsAllowed}
+use Rattle.dns_held.specs.Each.{Each3}
+use Rattle.dns_primary.specs.declared.primary.ZoneSettings as primary
+use Rattle.dns_primary.specs.Machine.{Machine, ZoneState}
 use Rattle.dns_server.specs.declared.configuration.ZoneSettings.{ZoneSettings}
 use Rattle.dns_server.specs.declared.configuration.Configuration.{Configuration}
 use Rattle.dns_server.specs.declared.files.File.{File}
 use Rattle.dns_server.specs.declared.files.Fault.{Fault}
 use Rattle.dns_server.specs.declared.files.Fault.TheVariants.{OutOfMemory, Unreadable, BadConfig, Syntax}
-use Rattle.dns_server.specs.declared.script.Ending.TheVariants as ending
+use Rattle.dns_replay.specs.declared.run.Ending.TheVariants as ending
 use Rattle.dns_server.specs.Checks.{line, loaded, fault_text}
-use Rattle.dns_server.specs.Scripts.{RunsInto, lines}
+use Rattle.dns_script.specs.Lines.{lines}
+use Rattle.dns_replay.specs.Scripts.{RunsInto}
 use Rattle.dns_server.specs.Settings.{IsDescribedBy}
 
 -- The configuration that a file holds, or why it holds none.
@@ -47,31 +54,64 @@ IsFirstFault files (z ∷ rest) path fault =
     ((path ≡ string_bytes z.file) × (loaded_by files z ≡ Err fault))
     ⊎ ((records : List Record) × (loaded_by files z ≡ Ok records) × IsFirstFault files rest path fault)
 
--- The zones of the configuration that a file holds.
-pub record AreLoaded (config : Option (List ℕ)) (files : List File) (zones : List Zone) : Type 0 where
-  pub configuration : Configuration
-  pub described : Holds config (Ok configuration)
-  pub loaded : AllZip (IsLoaded files) configuration.zones.items zones
+-- The names of the zones, in their order.
+abbrev pub origins_of : List ZoneSettings → List Labels
+origins_of settings = map (λ (z : ZoneSettings). z.origin) settings
+
+-- What a primary is to know of a zone.
+pub record IsSettingOf (settings : ZoneSettings) (known : primary.ZoneSettings) : Type 0 where
+  pub snapshot : known.snapshot ≡ settings.snapshot_sectors
+  pub journal : known.journal ≡ settings.journal_sectors
+  pub update : known.update.items ≡ settings.update.items
+
+-- A zone as it was loaded, with what is configured of it: no update was accepted.
+pub record IsBegun (settings : ZoneSettings) (zone : Zone) (z : ZoneState) : Type 0 where
+  pub shape : z.setting.shape
+      ≡ record { apex = zone.apex; snapshot = settings.snapshot_sectors; journal = settings.journal_sectors }
+  pub update : (a : IpAddr) → IsTrue (z.setting.may_update a) ↔ IsAllowed settings.update.items a
+  pub loaded : z.loaded ≡ zone.records
+  pub shown : z.shown ≡ []
+  pub staged : z.staged ≡ []
+  pub base : z.base ≡ 0
+  pub opened : z.closed ≡ false
+
+-- The machine of these zones, to which nothing has happened.
+pub record Begins (settings : List ZoneSettings) (zones : List Zone) (m : Machine) : Type 0 where
+  pub zones_are : Each3 IsBegun settings zones m.zones
+  pub waiting : m.waiting ≡ []
+  pub connections : m.connections ≡ []
 
 -- What a run of a script over zones wrote, by its exit status: with 0 what all its lines print, with 1 what those before the first
 -- print that is no command, and that line is told; or that the script can't be read. With 3 a writer failed or memory was refused.
-abbrev pub IsScriptFault : List Zone → Option (List ℕ) → Fault → Option (List ℕ) → Option (List ℕ) → Type 0
-IsScriptFault zones None Unreadable out out_after = Keeps out out_after
-IsScriptFault zones (Some octets) (Syntax number) out out_after = RunsInto zones (lines octets) (ending.Syntax number) out out_after
-IsScriptFault zones octets fault out out_after = ⊥
+abbrev pub Ran : List Labels → Machine → Option (List ℕ) → Option (List ℕ) → Option (List ℕ) → Type 0
+Ran origins m None out out_after = ⊥
+Ran origins m (Some octets) out out_after = (new : Machine) × RunsInto origins m (lines octets) ending.Done out out_after new
 
-abbrev pub Ran : List Zone → Option (List ℕ) → Option (List ℕ) → Option (List ℕ) → Type 0
-Ran zones None out out_after = ⊥
-Ran zones (Some octets) out out_after = RunsInto zones (lines octets) ending.Done out out_after
+abbrev pub IsScriptFault : List Labels → Machine → Option (List ℕ) → Fault → Option (List ℕ) → Option (List ℕ) → Type 0
+IsScriptFault origins m None Unreadable out out_after = Keeps out out_after
+IsScriptFault origins m (Some octets) (Syntax number) out out_after =
+    (new : Machine) × RunsInto origins m (lines octets) (ending.Syntax number) out out_after new
+IsScriptFault origins m octets fault out out_after = ⊥
 
-pub record ScriptEnds (zones : List Zone) (script : File) (out out_after err err_after : Option (List ℕ)) (status : ℕ) : Type 0
-  where
-    pub done : status ≡ 0 → Ran zones (option_copied script.octets) out out_after × Keeps err err_after
-    pub refused : status ≡ 1
-        → (fault : Fault)
-        × IsScriptFault zones (option_copied script.octets) fault out out_after
-        × Appends err err_after (line (fault_text script.path.now fault))
-    pub others : status ≤ 1 ⊎ (status ≡ 3)
+pub record ScriptEnds (origins : List Labels) (m : Machine) (script : File) (out out_after err err_after : Option (List ℕ))
+    (status : ℕ) : Type 0 where
+  pub done : status ≡ 0 → Ran origins m (option_copied script.octets) out out_after × Keeps err err_after
+  pub refused : status ≡ 1
+      → (fault : Fault)
+      × IsScriptFault origins m (option_copied script.octets) fault out out_after
+      × Appends err err_after (line (fault_text script.path.now fault))
+  pub others : status ≤ 1 ⊎ (status ≡ 3)
+
+-- The zones of the configuration that a file holds, and how a run of a script ends that begins with them.
+pub record RunsOver (config : Option (List ℕ)) (files : List File) (script : File) (out out_after err err_after : Option (List ℕ))
+    (status : ℕ) : Type 0 where
+  pub configuration : Configuration
+  pub zones : List Zone
+  pub described : Holds config (Ok configuration)
+  pub loaded : AllZip (IsLoaded files) configuration.zones.items zones
+  pub ends : (m : Machine)
+      → Begins configuration.zones.items zones m
+      → ScriptEnds (origins_of configuration.zones.items) m script out out_after err err_after status
 
 -- The fault that is told, behind a path, before the script runs: of the configuration, or else of the first master file that
 -- holds no zone, in the order of the zones.
@@ -87,6 +127,5 @@ ReplayEnds config files script out out_after err err_after status =
     ((status ≡ 1) × Keeps out out_after
     × ((path : List ℕ) × (fault : Fault) × IsFault config files path fault
     × Appends err err_after (line (fault_text path fault))))
-    ⊎ ((zones : List Zone) × AreLoaded (option_copied config.octets) files zones
-    × ScriptEnds zones script out out_after err err_after status)
+    ⊎ RunsOver (option_copied config.octets) files script out out_after err err_after status
     ⊎ (status ≡ 3)

@@ -7,14 +7,17 @@ ghost use Rattle.dns_names.specs.Text.{name_of_text};
 ghost use Rattle.dns_names.specs.declared.NameError.{NameError as StatedError};
 ghost use Rattle.dns_records.specs.Record.{Record};
 ghost use Rattle.dns_zone.specs.Made.{IsSetOf};
-ghost use Rattle.dns_server.specs.Checks.{CheckEnds, entry_word, is_memory, line, loaded, ok_text, fault_text, zone_word};
+ghost use Rattle.dns_server.specs.Checks.{CheckEnds, entry_word, is_memory, line, loaded, ok_text, fault_text, zone_word, printed_word, word_octet};
 
 use dns_masterfile::{FileError, read_zone};
 use dns_memory::Heap;
-use dns_names::{Name, NameError};
-use dns_zone::{RecordList, Zone, ZoneError, ZoneIndex};
+use dns_names::{EscapedOctet, Name, NameError};
+use dns_zone::{RecordList, Zone, ZoneError};
 use std::fmt;
 use std::io::{self, Write};
+
+/// How the records of a zone are kept.
+pub(crate) type Index = RecordList;
 
 /// Exit statuses: all was done; a file, a line or a word was refused; the words are wrong; a writer failed, or memory was refused.
 pub const DONE: u8 = 0;
@@ -93,6 +96,37 @@ fn is_memory(fault: Fault) -> bool
     }
 }
 
+/// An octet of a path or of a word, as a fault tells it: what is neither a blank nor visible ASCII is `\DDD`.
+#[derive(Drop)]
+struct PrintedOctet(u8);
+
+impl fmt::Display for PrintedOctet {
+    ghost output = { λ o. Some (word_octet o.0) };
+
+    fn fmt<W: fmt::Write>(&self, f: &mut fmt::Formatter<W>) -> fmt::Result {
+        let octet = self.0;
+        match octet {
+            32..=126 => write!(f, "{}", octet as char),
+            _ => write!(f, "{}", EscapedOctet(octet)),
+        }
+    }
+}
+
+/// A path or a word, so that it stays on its line and says nothing to a terminal.
+#[derive(Drop)]
+struct PrintedWord<'a>(&'a [u8]);
+
+impl fmt::Display for PrintedWord<'_> {
+    ghost output = { λ w. Some (printed_word w.0.now) };
+
+    fn fmt<W: fmt::Write>(&self, f: &mut fmt::Formatter<W>) -> fmt::Result {
+        for octet in self.0 {
+            write!(f, "{}", PrintedOctet(*octet))?;
+        }
+        Ok(())
+    }
+}
+
 /// What is wrong with a file or a word, behind its path or its text.
 #[derive(Drop)]
 struct FaultText<'a>(&'a str, Fault);
@@ -101,7 +135,7 @@ impl fmt::Display for FaultText<'_> {
     ghost output = { λ t. Some (fault_text t.0.now t.1) };
 
     fn fmt<W: fmt::Write>(&self, f: &mut fmt::Formatter<W>) -> fmt::Result {
-        let what = self.0;
+        let what = PrintedWord(self.0.as_bytes());
         match self.1 {
             Fault::OutOfMemory => write!(f, "{what}: OutOfMemory"),
             Fault::Unreadable => write!(f, "{what}: Unreadable"),
@@ -144,7 +178,7 @@ pub(crate) fn load(
     alloc: Heap,
     octets: Option<&[u8]>,
     apex: Name,
-) -> Result<(Zone<RecordList>, usize), Fault>
+) -> Result<(Zone<Index>, usize), Fault>
     ensures found { IfOk result
         (λ z. (records : List Record)
         × (loaded (option_copied octets.entry) apex ≡ Ok records)

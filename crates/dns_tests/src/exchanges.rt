@@ -1,7 +1,6 @@
 //! Requests and replies whose octets were worked out by hand.
-use crate::given::small;
+use crate::given::{primary, reply_of};
 use dns_memory::{Heap, heap};
-use dns_server::answer_datagram;
 use std::test::Fail;
 
 /// The question of most exchanges, for the address of host1.example., behind an ID.
@@ -9,9 +8,9 @@ const HOST1: &str = "05686f737431076578616d706c650000010001";
 
 /// The reply to a request in hexadecimal, in hexadecimal; empty where there is none.
 fn reply_to(heap: Heap, request: &str) -> Result<String<Heap>, Fail> {
-    let zone = small(heap)?;
+    let mut primary = primary(heap)?;
     let request = hex::decode(heap, request)?;
-    match answer_datagram(heap, &[zone], &request)? {
+    match reply_of(heap, &mut primary, &request)? {
         Some(reply) => Ok(hex::encode(heap, reply.as_slice())?),
         None => Ok(String::new(heap)),
     }
@@ -42,11 +41,11 @@ const EXCHANGES: &[(&str, &str)] = &[
         "123480010000000000000000",
     ),
     ("123400000000000000000000", "123480010000000000000000"),
-    // STATUS, and an update
+    // STATUS, and an update from where none may come
     ("123410000000000000000000", "123490040000000000000000"),
     (
         "000b28000001000000000000076578616d706c650000060001",
-        "000ba8040000000000000000",
+        "000ba8050000000000000000",
     ),
     // a name outside every zone, and class CH
     (
@@ -92,8 +91,7 @@ fn replies_are_octet_for_octet(rt: HostRuntime) -> Result<(), Fail> {
 #[test]
 fn long_datagrams_are_malformed(rt: HostRuntime) -> Result<(), Fail> {
     let heap = heap(rt.alloc())?;
-    let zone = small(heap)?;
-    let zones = [zone];
+    let mut primary = primary(heap)?;
     let mut request = hex::decode(heap, "123400000001000000000000")?;
     request.extend_from_slice(hex::decode(heap, HOST1)?.as_slice())?;
     for size in [512usize, 513] {
@@ -103,7 +101,7 @@ fn long_datagrams_are_malformed(rt: HostRuntime) -> Result<(), Fail> {
             }
         }
         assert_eq!(rt; request.len(), size);
-        let reply = answer_datagram(heap, &zones, &request)?.ok_or("a reply")?;
+        let reply = reply_of(heap, &mut primary, &request)?.ok_or("a reply")?;
         assert!(rt; reply.as_slice() == [0x12, 0x34, 0x80, 1, 0, 0, 0, 0, 0, 0, 0, 0].as_slice());
     }
     Ok(())

@@ -1,6 +1,7 @@
 //! Master files that are checked, and scripts over the zones of a configuration.
 use crate::given::Full;
-use crate::runs::{EXAMPLE, EXAMPLE_ZONE, RUNS, TWO_ZONES, ZONE_P, ZONE_Q};
+use crate::runs::{EXAMPLE, EXAMPLE_ZONE, RUNS, Run, TWO_ZONES, ZONE_P, ZONE_Q};
+use crate::updates::UPDATES;
 use dns_memory::{Heap, heap};
 use dns_server::{DONE, FAILED, File, REFUSED, check, replay};
 use std::alloc::Global;
@@ -61,22 +62,32 @@ fn file_or_none<'a>(path: &'a str, text: Option<&'a str>) -> File<'a> {
     }
 }
 
-// Each run over files prints its octets and ends with status 0.
+/// Whether a run prints its octets, tells nothing, and ends with status 0.
+fn runs(alloc: Global, heap: Heap, run: &Run) -> Result<bool, Fail> {
+    let ended = replayed(alloc, heap, run.config, run.files, run.script)?;
+    Ok(
+        ended.printed.as_slice() == run.printed.as_bytes()
+            && ended.told.is_empty()
+            && ended.status == DONE,
+    )
+}
+
+// Questions.
 #[test]
 fn runs_over_files(rt: HostRuntime) -> Result<(), Fail> {
     let heap = heap(rt.alloc())?;
     for run in RUNS {
-        let ended = replayed(rt.alloc(), heap, run.config, run.files, run.script)?;
-        assert!(rt;
-            ended.printed.as_slice() == run.printed.as_bytes(),
-            "{}",
-            run.name
-        );
-        assert!(rt;
-            ended.told.is_empty() && ended.status == DONE,
-            "{}",
-            run.name
-        );
+        assert!(rt; runs(rt.alloc(), heap, run)?, "{}", run.name);
+    }
+    Ok(())
+}
+
+// Updates, flushes and connections.
+#[test]
+fn updates_over_files(rt: HostRuntime) -> Result<(), Fail> {
+    let heap = heap(rt.alloc())?;
+    for run in UPDATES {
+        assert!(rt; runs(rt.alloc(), heap, run)?, "{}", run.name);
     }
     Ok(())
 }

@@ -1,8 +1,11 @@
-//! Zones and a writer for tests.
+//! Zones, a primary and a writer for tests.
 use dns_memory::Heap;
 use dns_names::Name;
+use dns_primary::{Event, Noted, Peer, Primary, ZoneSettings};
 use dns_records::{RData, Record, types};
+use dns_store::Unkept;
 use dns_zone::{RecordList, Zone, ZoneIndex};
+use std::alloc::AllocError;
 use std::io;
 use std::test::Fail;
 
@@ -108,6 +111,41 @@ pub(crate) fn example(heap: Heap) -> Result<RecordList, Fail> {
 /// A zone of four records.
 pub(crate) fn small(heap: Heap) -> Result<Zone<RecordList>, Fail> {
     zone(heap, "example.", records(heap, SMALL)?)
+}
+
+/// A primary of the zone of four records, which nobody may update.
+pub(crate) fn primary(heap: Heap) -> Result<Primary<RecordList, Unkept>, Fail> {
+    let mut zones = Vec::new(heap);
+    zones.push(small(heap)?)?;
+    let mut settings = Vec::new(heap);
+    settings.push(ZoneSettings {
+        snapshot: 8,
+        journal: 8,
+        update: Vec::new(heap),
+    })?;
+    if zones.len() != settings.len() {
+        return Err(Fail::from("a zone without settings"));
+    }
+    Ok(Primary::unkept(heap, zones, settings)?)
+}
+
+/// The reply to a datagram, if there is one.
+pub(crate) fn reply_of(
+    heap: Heap,
+    primary: &mut Primary<RecordList, Unkept>,
+    request: &[u8],
+) -> Result<Option<Vec<u8, Heap>>, AllocError> {
+    let effects = primary.step(heap, Event::Datagram(Peer::default(), request));
+    if effects.noted == Noted::OutOfMemory {
+        return Err(AllocError);
+    }
+    if let Some((_, octets)) = effects.message {
+        return Ok(Some(octets));
+    }
+    match effects.headers.first() {
+        Some(header) => Ok(Some(Vec::from_slice(heap, &header.octets)?)),
+        None => Ok(None),
+    }
 }
 
 /// A writer that takes so many octets and then fails.

@@ -19,3 +19,5 @@ mod replies;
 mod runs;
 #[cfg(test)]
 mod scripts;
+#[cfg(test)]
+mod updates;

@@ -1,7 +1,7 @@
 //! Calls with each allocation refused in turn.
-use crate::given::small;
+use crate::given::{primary, reply_of};
 use dns_memory::{Heap, heap};
-use dns_server::{DONE, FAILED, File, answer_datagram, check};
+use dns_server::{DONE, FAILED, File, check};
 use std::io;
 use std::test::Fail;
 
@@ -13,17 +13,16 @@ const FILE: &str =
 #[test]
 fn a_reply_that_is_refused_memory(rt: HostRuntime) -> Result<(), Fail> {
     let heap = heap(rt.alloc())?;
-    let zone = small(heap)?;
-    let zones = [zone];
+    let mut primary = primary(heap)?;
     let request = hex::decode(
         heap,
         "12340000000100000000000005686f737431076578616d706c650000010001",
     )?;
-    let whole = answer_datagram(heap, &zones, &request)?.ok_or("a reply")?;
+    let whole = reply_of(heap, &mut primary, &request)?.ok_or("a reply")?;
     let mut refusals = 0u64;
     for n in 1..50u64 {
         heap.refuse(n);
-        match answer_datagram(heap, &zones, &request) {
+        match reply_of(heap, &mut primary, &request) {
             Err(_) => refusals = n,
             Ok(reply) => {
                 heap.refuse(0);

@@ -1,15 +1,14 @@
 //! Scripts: their lines, and what is printed of them.
-use crate::given::{Full, small};
+use crate::given::{Full, primary};
 use dns_memory::{Heap, heap};
-use dns_server::{Ending, run_script};
+use dns_replay::{Ending, run_script};
+use std::io::Write;
 use std::test::Fail;
 
 // Each kind of line, and the lines that are none.
 #[test]
 fn lines_of_scripts(rt: HostRuntime) -> Result<(), Fail> {
     let heap = heap(rt.alloc())?;
-    let zone = small(heap)?;
-    let zones = [zone];
     for (script, ending) in [
         ("", Ending::Done),
         ("# a comment\r\n\r\n \t\n", Ending::Done),
@@ -25,13 +24,43 @@ fn lines_of_scripts(rt: HostRuntime) -> Result<(), Fail> {
         ("udp 127.0.0.1 0g\n", Ending::Syntax(1)),
         ("udp 127.0.0.1 00 00\n", Ending::Syntax(1)),
         ("UDP 127.0.0.1 00\n", Ending::Syntax(1)),
-        ("# one\n# two\nflush\n", Ending::Syntax(3)),
+        ("# one\n# two\nFLUSH\n", Ending::Syntax(3)),
+        ("flush\nclose 0\ntcp 4294967295 00\n", Ending::Done),
+        ("flush 1\n", Ending::Syntax(1)),
+        ("close 4294967296\n", Ending::Syntax(1)),
+        ("close -1\n", Ending::Syntax(1)),
+        ("tcp 00\n", Ending::Syntax(1)),
+        ("tcp 4294967296 00\n", Ending::Syntax(1)),
+        ("tcp 0 \n", Ending::Syntax(1)),
+        ("pump 0\n", Ending::Syntax(1)),
+        ("connect\n", Ending::Syntax(1)),
     ] {
         let mut out: Vec<u8> = Vec::new(rt.alloc());
-        let given = run_script(heap, &zones, script.as_bytes(), &mut out);
+        let mut primary = primary(heap)?;
+        let given = run_script(heap, &mut primary, &[], script.as_bytes(), &mut out);
         assert!(rt; given == ending, "{script:?} ends with {given:?}");
         assert!(rt; out.is_empty());
     }
+    Ok(())
+}
+
+// There are at most 64 connections, and a closed one makes room for another with its number.
+#[test]
+fn the_most_connections(rt: HostRuntime) -> Result<(), Fail> {
+    let heap = heap(rt.alloc())?;
+    let mut primary = primary(heap)?;
+    let mut want: Vec<u8> = Vec::new(rt.alloc());
+    let mut out: Vec<u8> = Vec::new(rt.alloc());
+    for number in 0..64u32 {
+        let ending = run_script(heap, &mut primary, &[], b"connect 192.0.2.1\n", &mut out);
+        assert!(rt; ending == Ending::Done);
+        writeln!(want, "conn {number}")?;
+    }
+    let script = b"connect 192.0.2.1\nclose 7\nconnect 192.0.2.1\n";
+    assert!(rt; run_script(heap, &mut primary, &[], script, &mut out) == Ending::Done);
+    writeln!(want, "conn none")?;
+    writeln!(want, "conn 7")?;
+    assert!(rt; out == want);
     Ok(())
 }
 
@@ -39,29 +68,28 @@ fn lines_of_scripts(rt: HostRuntime) -> Result<(), Fail> {
 #[test]
 fn effects_of_scripts(rt: HostRuntime) -> Result<(), Fail> {
     let heap = heap(rt.alloc())?;
-    let zone = small(heap)?;
-    let zones = [zone];
+    let mut primary = primary(heap)?;
     let script =
         b"udp 10.0.0.7 123400000000000000000000\nudp 10.0.0.7 123410000000000000000000\nbad\n";
     let mut out: Vec<u8> = Vec::new(rt.alloc());
-    let ending = run_script(heap, &zones, script, &mut out);
+    let ending = run_script(heap, &mut primary, &[], script, &mut out);
     assert!(rt; ending == Ending::Syntax(3));
     let want = b"udp 10.0.0.7 123480010000000000000000\nudp 10.0.0.7 123490040000000000000000\n";
     assert!(rt; out.as_slice() == want.as_slice());
     let mut full = Full::after(50);
-    assert!(rt; run_script(heap, &zones, script, &mut full) == Ending::Failed);
+    assert!(rt; run_script(heap, &mut primary, &[], script, &mut full) == Ending::Failed);
     Ok(())
 }
 
 /// How a script of one line ends that has so many octets in hexadecimal.
 fn ending_of_zeros(heap: Heap, count: usize, out: &mut Vec<u8>) -> Result<Ending, Fail> {
-    let zone = small(heap)?;
+    let mut primary = primary(heap)?;
     let mut script = Vec::new(heap);
     script.extend_from_slice(b"udp 127.0.0.1 ")?;
     for _ in 0..count {
         script.extend_from_slice(b"00")?;
     }
-    Ok(run_script(heap, &[zone], &script, out))
+    Ok(run_script(heap, &mut primary, &[], &script, out))
 }
 
 // A line has at most 65,535 octets.

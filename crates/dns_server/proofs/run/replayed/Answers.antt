@@ -1,22 +1,20 @@
-use Rattle.std.proofs.Common.{◌≡◌, true}
+use Rattle.std.proofs.Common.{◌≡◌, true, ap, ◌∙◌}
 use Rattle.std.specs.Prelude.{◌⊎◌}
-use Rattle.std.specs.Option.{option_copied}
 use Rattle.dns_server.specs.Checks.{is_memory}
-use Rattle.dns_server.specs.Replays.{AreLoaded, IsFirstFault}
-use Rattle.dns_server.proofs.Replayed.{file_told, script_ran}
+use Rattle.dns_server.specs.Replays.{IsFirstFault, IsLoaded, IsSettingOf, origins_of}
+use Rattle.dns_server.proofs.Replayed.{as_many, file_told, script_ran}
 use Rattle.dns_server.proofs.run.replayed.Goals as goal
+
+pub run-requires : goal.run-requires
+run-requires g c = as_many (IsLoaded c.args.files.now) IsSettingOf c.in-Ok.configuration.zones.items c.in-Ok-load_all.zones.items c.in_ok-known.known.items c.in-Ok-load_all.ensures (rw c.deref-2.ensures.value at c.in_ok-known.ensures)
 
 pub returns-in-Ok-load_all : goal.returns-in-Ok-load_all
 returns-in-Ok-load_all g c =
-    let held : AreLoaded (option_copied c.args.config.now.octets) c.args.files.now c.deref.result.now = record {
-      configuration = c.in-Ok.configuration;
-      described = c.in-Ok.ensures;
-      loaded = rw c.deref.ensures.value c.in-Ok-load_all.ensures;
-    } in
-    script_ran c.args.config.now c.args.files.now c.args.script.now c.deref.result.now _ _ _ _ c.run.result held c.run.ensures
+    let names = c.deref-in-Ok-load_all.ensures.value ∙ c.in_ok-origins.ensures ∙ ap origins_of c.deref.ensures.value in
+    script_ran c.args.config.now c.args.files.now c.args.script.now c.in-Ok.configuration c.in-Ok-load_all.zones.items c.in_ok-known.known.items c.deref-in-Ok-load_all.result.now _ _ _ _ c.run.result c.in-Ok.ensures c.in-Ok-load_all.ensures (rw c.deref-2.ensures.value at c.in_ok-known.ensures) names c.run.ensures
 
-pub returns-in-Err-load_all : goal.returns-in-Err-load_all
-returns-in-Err-load_all g c =
+pub returns : goal.returns
+returns g c =
     let fault = c.in-Err-load_all.fault in
     let path = c.deref-in-Err-load_all.result.now in
     let why : (is_memory fault ≡ true) ⊎ IsFirstFault c.args.files.now c.in-Ok.configuration.zones.items path fault = rw c.deref-in-Err-load_all.ensures c.in-Err-load_all.ensures in

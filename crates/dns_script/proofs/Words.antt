@@ -1,0 +1,47 @@
+-- The words and the lines of a text, one by one.
+use Rattle.std.proofs.Common.{◌≡◌, ℕ, suc, ◌+◌, ◌<◌, ◌≤◌, Some, None, Option, Bool, true, false, List, [], ◌∷◌, length, length-drop, refl, ap, ◌∙◌, arith}
+use Rattle.std.specs.Prelude.{nat_lt, not, cond, filter, map, position, MatchOption}
+use Rattle.std.specs.Str.Lines.{strip_carriage_return}
+use Rattle.std.specs.List.{after_first, before_first, onto_first, position_or_len, slice_split}
+use Rattle.std.proofs.lemmas.Bool.Decides.{nat_tests}
+use Rattle.std.proofs.lemmas.List.Splits.{slice_split_first}
+use Rattle.dns_script.specs.Lines.{is_blank, is_feed, lines, lines_left, room, words}
+
+pub split_none : (p : ℕ → Bool) (xs : List ℕ) → nat_lt (position_or_len p xs) (length xs) ≡ false → slice_split p xs ≡ xs ∷ []
+split_none p [] e = refl
+split_none p (x ∷ xs) e = at (p x) e (λ h. split_none p xs h)
+  where
+    at : (b : Bool) → nat_lt (cond (not b) (1 + position_or_len p xs) 0) (suc (length xs)) ≡ false → (nat_lt (position_or_len p xs) (length xs) ≡ false → slice_split p xs ≡ xs ∷ []) → cond b ([] ∷ slice_split p xs) (onto_first x (slice_split p xs)) ≡ (x ∷ xs) ∷ []
+    at true h more = absurd (let yes : nat_lt 0 (suc (length xs)) ≡ true = grind (arith, nat_tests) in cc)
+    at false h more = ap (onto_first x) (more (grind (arith, nat_tests, h)))
+
+-- The word is kept unless it is empty.
+abbrev pub kept : List ℕ → List (List ℕ) → List (List ℕ)
+kept word more = cond (nat_lt 0 (length word)) (word ∷ more) more
+
+pub cut_words : (text word behind : List ℕ) → MatchOption (position is_blank text) ((word ≡ text) × (behind ≡ [])) (λ _. (word ≡ before_first is_blank text) × (behind ≡ after_first is_blank text)) → words text ≡ kept word (words behind)
+cut_words text word behind h = go (nat_lt (position_or_len is_blank text) (length text)) refl h
+  where
+    go : (b : Bool) → nat_lt (position_or_len is_blank text) (length text) ≡ b → MatchOption (cond b (Some (position_or_len is_blank text)) None) ((word ≡ text) × (behind ≡ [])) (λ _. (word ≡ before_first is_blank text) × (behind ≡ after_first is_blank text)) → words text ≡ kept word (words behind)
+    go true e is = (let inside : position_or_len is_blank text < length text = grind (arith, nat_tests, e) in rw (is.0, is.1) (ap (filter (λ w. nat_lt 0 (length w))) (slice_split_first is_blank text 0 inside)))
+    go false e is = rw (is.0, is.1) (ap (filter (λ w. nat_lt 0 (length w))) (split_none is_blank text e))
+
+pub no_word : (text word behind : List ℕ) → words text ≡ kept word (words behind) → length word ≡ 0 → words text ≡ words behind
+no_word text word behind e none = e ∙ ap (λ n. cond (nat_lt 0 n) (word ∷ words behind) (words behind)) none
+
+pub one_word : (text word behind : List ℕ) → words text ≡ kept word (words behind) → 0 < length word → words text ≡ word ∷ words behind
+one_word text word behind e some = (let yes : nat_lt 0 (length word) ≡ true = grind (arith, nat_tests, some) in e ∙ ap (λ b. cond b (word ∷ words behind) (words behind)) yes)
+
+pub cut_lines : (text line : List ℕ) (behind : Option (List ℕ)) → MatchOption (position is_feed text) ((line ≡ text) × (behind ≡ None)) (λ _. (line ≡ before_first is_feed text) × (behind ≡ Some (after_first is_feed text))) → lines text ≡ strip_carriage_return line ∷ lines_left behind
+cut_lines text line behind h = go (nat_lt (position_or_len is_feed text) (length text)) refl h
+  where
+    go : (b : Bool) → nat_lt (position_or_len is_feed text) (length text) ≡ b → MatchOption (cond b (Some (position_or_len is_feed text)) None) ((line ≡ text) × (behind ≡ None)) (λ _. (line ≡ before_first is_feed text) × (behind ≡ Some (after_first is_feed text))) → lines text ≡ strip_carriage_return line ∷ lines_left behind
+    go true e is = (let inside : position_or_len is_feed text < length text = grind (arith, nat_tests, e) in rw (is.0, is.1) (ap (map strip_carriage_return) (slice_split_first is_feed text 0 inside)))
+    go false e is = rw (is.0, is.1) (ap (map strip_carriage_return) (split_none is_feed text e))
+
+pub less_room : (text line : List ℕ) (behind : Option (List ℕ)) → MatchOption (position is_feed text) ((line ≡ text) × (behind ≡ None)) (λ _. (line ≡ before_first is_feed text) × (behind ≡ Some (after_first is_feed text))) → room behind ≤ length text
+less_room text line behind h = go (nat_lt (position_or_len is_feed text) (length text)) refl h
+  where
+    go : (b : Bool) → nat_lt (position_or_len is_feed text) (length text) ≡ b → MatchOption (cond b (Some (position_or_len is_feed text)) None) ((line ≡ text) × (behind ≡ None)) (λ _. (line ≡ before_first is_feed text) × (behind ≡ Some (after_first is_feed text))) → room behind ≤ length text
+    go true e is = (let inside : position_or_len is_feed text < length text = grind (arith, nat_tests, e) in rw (is.1) (omega (arith, length-drop (position_or_len is_feed text + 1) text, inside)))
+    go false e is = rw (is.1) (omega arith)

@@ -1,0 +1,105 @@
+//! Lines and words of a script.
+ghost use Rattle.std.specs.Prelude.{◌≡◌, ◌≢◌, ◌<◌, ◌≤◌, ℕ, List, [], ◌∷◌, length, position, MatchOption, Some, None};
+ghost use Rattle.std.specs.Option.{option_copied};
+ghost use Rattle.std.specs.Str.Lines.{strip_carriage_return};
+ghost use Rattle.std.specs.List.{after_first, before_first};
+ghost use Rattle.dns_script.specs.Lines.{is_blank, is_feed, lines, lines_left, room, words};
+
+/// A space or a tab.
+fn is_blank(octet: u8) -> bool
+    ensures { result ≡ is_blank octet }
+{
+    octet == b' ' || octet == b'\t'
+}
+
+/// Where the first blank stands.
+fn first_blank(text: &[u8]) -> Option<usize>
+    ensures { result ≡ position is_blank text.now }
+{
+    text.iter().position(|octet| is_blank(*octet))
+}
+
+/// What stands before the first blank, and behind it.
+fn cut_at_blank(text: &[u8]) -> (&[u8], &[u8])
+    ensures parts { MatchOption (position is_blank text.now) ((result.0.now ≡ text.now) × (result.1.now ≡ []))
+        (λ _. (result.0.now ≡ before_first is_blank text.now) × (result.1.now ≡ after_first is_blank text.now)) }
+    ensures shorter { 0 < length text.now → length result.1.now < length text.now }
+{
+    match first_blank(text) {
+        Some(end) => (&text[..end], &text[end + 1..]),
+        None => (text, &[]),
+    }
+}
+
+/// The first word of a text, and what stands behind it.
+pub(crate) fn first_word(text: &[u8]) -> Option<(&[u8], &[u8])>
+    ensures { MatchOption result (words text.now ≡ []) (λ w. words text.now ≡ w.0.now ∷ words w.1.now) }
+{
+    let mut rest = text;
+    'blanks: while !rest.is_empty() {
+        let (word, behind) = cut_at_blank(rest);
+        if !word.is_empty() {
+            return Some((word, behind));
+        }
+        rest = behind;
+    }
+    None
+}
+
+/// The only word of a text.
+pub(crate) fn only_word(text: &[u8]) -> Option<&[u8]>
+    ensures { MatchOption result ((w : List ℕ) → words text.now ≢ w ∷ []) (λ w. words text.now ≡ w.now ∷ []) }
+{
+    let (word, behind) = first_word(text)?;
+    if first_word(behind).is_some() {
+        return None;
+    }
+    Some(word)
+}
+
+/// The two words of a text.
+pub(crate) fn two_words(text: &[u8]) -> Option<(&[u8], &[u8])>
+    ensures { MatchOption result ((v w : List ℕ) → words text.now ≢ v ∷ w ∷ [])
+        (λ r. words text.now ≡ r.0.now ∷ r.1.now ∷ []) }
+{
+    let (first, behind) = first_word(text)?;
+    let second = only_word(behind)?;
+    Some((first, second))
+}
+
+/// Where the first line feed stands.
+fn first_feed(text: &[u8]) -> Option<usize>
+    ensures { result ≡ position is_feed text.now }
+{
+    text.iter().position(|octet| *octet == b'\n')
+}
+
+/// What stands before the first line feed, and behind it if there is one.
+fn cut_at_feed(text: &[u8]) -> (&[u8], Option<&[u8]>)
+    ensures { MatchOption (position is_feed text.now) ((result.0.now ≡ text.now) × (option_copied result.1 ≡ None))
+        (λ _. (result.0.now ≡ before_first is_feed text.now) × (option_copied result.1 ≡ Some (after_first is_feed text.now))) }
+{
+    match first_feed(text) {
+        Some(end) => (&text[..end], Some(&text[end + 1..])),
+        None => (text, None),
+    }
+}
+
+/// A line without the carriage return at its end, if it has one.
+fn without_return(line: &[u8]) -> &[u8]
+    ensures { result.now ≡ strip_carriage_return line.now }
+{
+    match line.split_last() {
+        Some((b'\r', front)) => front,
+        _ => line,
+    }
+}
+
+/// The first line of a script, without what ends it, and what stands behind it if a line feed does. A line ends with LF or CR LF.
+pub fn split_line(script: &[u8]) -> (&[u8], Option<&[u8]>)
+    ensures line { lines script.now ≡ result.0.now ∷ lines_left (option_copied result.1) }
+    ensures less { room (option_copied result.1) ≤ length script.now }
+{
+    let (line, behind) = cut_at_feed(script);
+    (without_return(line), behind)
+}
