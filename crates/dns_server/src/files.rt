@@ -12,12 +12,13 @@ ghost use Rattle.dns_server.specs.Checks.{CheckEnds, entry_word, is_memory, line
 use dns_masterfile::{FileError, read_zone};
 use dns_memory::Heap;
 use dns_names::{EscapedOctet, Name, NameError};
-use dns_zone::{RecordList, Zone, ZoneError};
+use dns_zone::{Zone, ZoneError};
+use dns_zoneindex::SharedTree;
 use std::fmt;
 use std::io::{self, Write};
 
 /// How the records of a zone are kept.
-pub(crate) type Index = RecordList;
+pub(crate) type Index = SharedTree;
 
 /// Exit statuses: all was done; a file, a line or a word was refused; the words are wrong; a writer failed, or memory was refused.
 pub const DONE: u8 = 0;
