@@ -146,7 +146,8 @@ impl<D: Sectors> Journal<D> {
             → OnErr result (Keeps shape self.new k staged) }
         ensures left { OnErr result (left_of self.new ≡ left_of self.old) }
         ensures newest { OnErr result (newest_of self.new ≡ newest_of self.old) }
-        ensures full { result ≡ Err StageError.Full → left_of self.old < sectors_of_entry (length (entry change.now)) }
+        ensures full { result ≡ Err StageError.Full ↔ ((is_closed self.old ≡ false)
+            × (left_of self.old < sectors_of_entry (length (entry change.now)))) }
         ensures fits { OnOk result (left_of self.new + sectors_of_entry (length (entry change.now)) ≡ left_of self.old) }
         ensures closed { result ≡ Err StageError.Closed ↔ is_closed self.old ≡ true }
         ensures stays_open { is_closed self.new ≡ is_closed self.old }
@@ -175,7 +176,8 @@ impl<D: Sectors> Journal<D> {
         ensures closed { is_closed self.old ≡ true → (result ≡ Err FlushError.Closed) × (device_of self.new ≡ device_of self.old) }
 
         // Nothing staged is no device operation.
-        ensures idle { (shape : Shape) (k : Stored) → Keeps shape self.old k [] → result ≡ Err FlushError.Device → ⊥ }
+        ensures idle { (shape : Shape) (k : Stored) → Keeps shape self.old k []
+            → (device_of self.new ≡ device_of self.old) × IsOk result }
         ensures left { left_of self.new ≡ left_of self.old }
         ensures newest { newest_of self.new ≡ newest_of self.old }
         ensures honest { D.is_honest (device_of self.new) ↔ D.is_honest (device_of self.old) }

@@ -1,4 +1,4 @@
-use Rattle.std.proofs.Common.{◌≡◌, ◌≤◌, ◌<◌, true, length, sym, subst, ap, ◌∙◌}
+use Rattle.std.proofs.Common.{◌≡◌, ◌≤◌, ◌<◌, true, length, sym, subst, ap, ◌∙◌, ⊎_elim, arith}
 use Rattle.std.specs.Prelude.{Err}
 use Rattle.dns_zone.specs.Zone.{Zone, IsZone}
 use Rattle.dns_changes.specs.Change.{IsChange}
@@ -35,8 +35,10 @@ returns-in_err-stage-clause-room g c k held =
     let has : has_room k after ≡ true = sym room ∙ c.if-not-has_room.false in
     let entry = entry_is (newest_of k) after c.args.change.now change in
     let error = c.in_err-stage.field-0.0 in
-    let full : error ≡ lower.Full → sectors_left k < entry_between (newest_of k) after = λ e. subst (λ n. sectors_left k < n) (sym entry) (c.in_err-stage.ensures.full k held.kept (room_number k after has) (ap (λ x. Err x) e)) in
-    let closed : error ≡ lower.Closed → k.closed ≡ true = λ e. c.in_err-stage.ensures.closed k held.kept (ap (λ x. Err x) e) in
+    let full : error ≡ lower.Full → sectors_left k < entry_between (newest_of k) after = λ e.
+    ⊎_elim (λ last. let fewer = room_number k after has in absurd (omega (arith, last, fewer))) (λ less. subst (λ n. sectors_left k < n) (sym entry) less)
+    ((c.in_err-stage.ensures.full k held.kept).0 (ap (λ x. Err x) e)).1 in
+    let closed : error ≡ lower.Closed → k.closed ≡ true = λ e. (c.in_err-stage.ensures.closed k held.kept).0 (ap (λ x. Err x) e) in
     refused_by k after c.from_residual-in_err-stage.result error c.from_residual-in_err-stage.ensures.1 has full closed
 
 pub returns-clause-staged : goal.returns-clause-staged
