@@ -1,20 +1,11 @@
 //! How many octets the snapshot of a version has, counted beside it.
 ghost use Rattle.std.specs.Prelude.{◌≡◌, ◌≤◌, ◌<◌, ◌+◌, ◌*◌, ◌-◌, ◌^◌, ℕ, ◌∷◌, length};
 ghost use Rattle.std.specs.List.{flat_map};
-ghost use Rattle.dns_records.specs.Record.{plain};
 ghost use Rattle.dns_held.specs.Plain.{octets_of};
 
-use dns_changes::Change;
+use dns_changes::{Change, plain_len};
 use dns_records::Record;
 use dns_zone::{Zone, ZoneIndex};
-
-/// How many octets the record has in plain form.
-fn plain_len(r: &Record) -> usize
-    ensures value { result ≡ length (plain r.now) }
-    ensures short { result ≤ 4359 }
-{
-    r.owner().as_wire().len() + 8 + r.rdata().len()
-}
 
 /// How many octets the records have in plain form.
 fn plain_lens(records: &[Record]) -> usize
