@@ -11,6 +11,7 @@ mod kind;
 pub mod laws;
 mod opaque;
 mod pieces;
+mod places;
 mod print;
 mod rdata;
 mod read;
@@ -20,6 +21,8 @@ mod values;
 mod words;
 mod zone;
 
+pub use places::{Places, RefusedEntry, find_places};
+pub use print::TypeWord;
 pub use read::read_zone;
 use std::alloc::{AllocError, AllocFailed};
 use thiserror::Error;

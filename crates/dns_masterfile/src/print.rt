@@ -199,7 +199,7 @@ pub(crate) fn type_word(rtype: u16) -> &'static str
 
 /// The word of a type: its own, or `TYPE` and its number (RFC 3597 section 5).
 #[derive(Drop)]
-struct TypeWord(u16);
+pub struct TypeWord(pub u16);
 
 impl fmt::Display for TypeWord {
     ghost output = { λ t. Some (word_of_type t.0) };

@@ -94,6 +94,20 @@ impl<'a> Scanner<'a> {
         (start_at(octets, 1), scanner)
     }
 
+    /// The same once more.
+    pub(crate) fn reborrow(&self) -> Scanner<'a> {
+        Scanner {
+            rest: self.rest,
+            inside: self.inside,
+            line: self.line,
+        }
+    }
+
+    /// How many octets are left.
+    pub(crate) fn left(&self) -> usize {
+        self.rest.len()
+    }
+
     /// What stands next.
     pub(crate) fn next(&self) -> Next<'a>
         ensures { IsNext self.now result }

@@ -150,7 +150,7 @@ fn split_at_last_colon(text: &str) -> Option<(&str, &str)>
 }
 
 /// An address, and behind a colon a port.
-fn listener(text: &str) -> Option<SocketAddr>
+pub(crate) fn listener(text: &str) -> Option<SocketAddr>
     ensures { Finds (IsListener text.now) result }
 {
     let (front, digits) = split_at_last_colon(text)?;
@@ -159,7 +159,7 @@ fn listener(text: &str) -> Option<SocketAddr>
 }
 
 /// The text at a key of a table.
-fn text_at<'a>(table: &'a Value, key: &str) -> Option<&'a str>
+pub(crate) fn text_at<'a>(table: &'a Value, key: &str) -> Option<&'a str>
     ensures { option_copied result ≡ text_at key.now (view table.now) }
 {
     match table.get(key) {
@@ -180,7 +180,7 @@ fn number_at(table: &Value, key: &str) -> Option<u32>
 }
 
 /// The list at a key of a table.
-fn list_at<'a>(table: &'a Value, key: &str) -> Option<&'a Vec<Value>>
+pub(crate) fn list_at<'a>(table: &'a Value, key: &str) -> Option<&'a Vec<Value>>
     ensures { option_map (λ v. array_view v.now) result ≡ list_at key.now (view table.now) }
 {
     match table.get(key) {
@@ -190,7 +190,7 @@ fn list_at<'a>(table: &'a Value, key: &str) -> Option<&'a Vec<Value>>
 }
 
 /// Whether a table has so many keys.
-fn has_keys(table: &Value, count: usize) -> bool
+pub(crate) fn has_keys(table: &Value, count: usize) -> bool
     ensures { result ≡ has_keys count (view table.now) }
 {
     match table.as_table() {
@@ -217,7 +217,11 @@ fn prefixes(alloc: Global, texts: &[Value]) -> Result<Vec<Prefix>, Configuration
 }
 
 /// The prefixes at a key of a table.
-fn prefixes_at(alloc: Global, table: &Value, key: &str) -> Result<Vec<Prefix>, ConfigurationError>
+pub(crate) fn prefixes_at(
+    alloc: Global,
+    table: &Value,
+    key: &str,
+) -> Result<Vec<Prefix>, ConfigurationError>
     ensures { Reads (HasPrefixes key.now (view table.now)) result }
 {
     match list_at(table, key) {
@@ -227,7 +231,7 @@ fn prefixes_at(alloc: Global, table: &Value, key: &str) -> Result<Vec<Prefix>, C
 }
 
 /// The path at a key of a table.
-fn path_at(alloc: Global, table: &Value, key: &str) -> Result<String, ConfigurationError>
+pub(crate) fn path_at(alloc: Global, table: &Value, key: &str) -> Result<String, ConfigurationError>
     ensures { Reads (HasPath key.now (view table.now)) result }
 {
     match text_at(table, key) {
@@ -237,7 +241,12 @@ fn path_at(alloc: Global, table: &Value, key: &str) -> Result<String, Configurat
 }
 
 /// The number at a key of a table, where it is in the range.
-fn count_at(table: &Value, key: &str, low: u32, high: u32) -> Result<u32, ConfigurationError>
+pub(crate) fn count_at(
+    table: &Value,
+    key: &str,
+    low: u32,
+    high: u32,
+) -> Result<u32, ConfigurationError>
     ensures { Reads (HasCount key.now (view table.now) low high) result }
 {
     match number_at(table, key) {
@@ -258,7 +267,7 @@ fn name(heap: Heap, text: &str) -> Result<Name, ConfigurationError>
 }
 
 /// The name at a key of a table, under the root if no dot ends it.
-fn name_at(heap: Heap, table: &Value, key: &str) -> Result<Name, ConfigurationError>
+pub(crate) fn name_at(heap: Heap, table: &Value, key: &str) -> Result<Name, ConfigurationError>
     ensures { Reads (HasName key.now (view table.now)) result }
 {
     match text_at(table, key) {

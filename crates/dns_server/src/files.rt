@@ -115,7 +115,7 @@ impl fmt::Display for PrintedOctet {
 
 /// A path or a word, so that it stays on its line and says nothing to a terminal.
 #[derive(Drop)]
-struct PrintedWord<'a>(&'a [u8]);
+pub(crate) struct PrintedWord<'a>(pub(crate) &'a [u8]);
 
 impl fmt::Display for PrintedWord<'_> {
     ghost output = { λ w. Some (printed_word w.0.now) };

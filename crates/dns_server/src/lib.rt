@@ -2,9 +2,13 @@
 #![tactic(auto)]
 
 mod configuration;
+mod explain;
+mod explain_settings;
 mod files;
 mod run;
 
 pub use configuration::{Configuration, ConfigurationError, ZoneSettings};
+pub use explain::{explain_check, explain_unreadable};
+pub use explain_settings::explain_replay;
 pub use files::{DONE, FAILED, File, REFUSED, USAGE, check};
 pub use run::replay;

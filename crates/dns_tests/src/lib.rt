@@ -6,6 +6,8 @@ mod configurations;
 #[cfg(test)]
 mod exchanges;
 #[cfg(test)]
+mod explanations;
+#[cfg(test)]
 mod files;
 #[cfg(test)]
 mod given;

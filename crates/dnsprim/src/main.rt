@@ -3,7 +3,10 @@
 
 use clap::{Arg, ArgAction, Command, Error};
 use dns_memory::{Heap, heap};
-use dns_server::{Configuration, FAILED, File, USAGE, check, replay};
+use dns_server::{
+    Configuration, FAILED, File, REFUSED, USAGE, check, explain_check, explain_replay,
+    explain_unreadable, replay,
+};
 use std::alloc::Global;
 use std::io::{self, Write};
 use std::process::ExitCode;
@@ -18,6 +21,13 @@ enum Task<'a> {
     Replay(&'a str, &'a str),
 }
 
+/// What the words ask for, and whether a fault is to be explained in a second line.
+#[derive(Clone, Copy)]
+struct Asked<'a> {
+    task: Task<'a>,
+    explain: bool,
+}
+
 /// A subcommand of two words.
 fn of_two_words<'a>(
     alloc: Global,
@@ -29,11 +39,20 @@ fn of_two_words<'a>(
     let second = Arg::new(alloc, second)
         .required(true)
         .action(ArgAction::Set);
-    Ok(Command::new(alloc, name).arg(first)?.arg(second)?)
+    let explain = Arg::new(alloc, "explain")
+        .long("explain")
+        .action(ArgAction::SetTrue)
+        .help("Tells in a second line what is wrong with a file, and what is expected");
+    Ok(
+        Command::new(alloc, name)
+            .arg(first)?
+            .arg(second)?
+            .arg(explain)?,
+    )
 }
 
 /// What the words ask for, if it is a task.
-fn asked<'a>(alloc: Global, words: &'a [&'a str]) -> Result<Option<Task<'a>>, Error> {
+fn read_words<'a>(alloc: Global, words: &'a [&'a str]) -> Result<Option<Asked<'a>>, Error> {
     let command = Command::new(alloc, "dnsprim")
         .subcommand(of_two_words(alloc, "check", "FILE", "ORIGIN")?)?
         .subcommand(of_two_words(alloc, "replay", "CONFIG", "SCRIPT")?)?;
@@ -41,17 +60,19 @@ fn asked<'a>(alloc: Global, words: &'a [&'a str]) -> Result<Option<Task<'a>>, Er
     let Some((name, inner)) = matches.subcommand() else {
         return Ok(None);
     };
-    Ok(if name == "check" {
+    let task = if name == "check" {
         match (inner.get_str("FILE"), inner.get_str("ORIGIN")) {
-            (Some(file), Some(origin)) => Some(Task::Check(file, origin)),
-            _ => None,
+            (Some(file), Some(origin)) => Task::Check(file, origin),
+            _ => return Ok(None),
         }
     } else {
         match (inner.get_str("CONFIG"), inner.get_str("SCRIPT")) {
-            (Some(config), Some(script)) => Some(Task::Replay(config, script)),
-            _ => None,
+            (Some(config), Some(script)) => Task::Replay(config, script),
+            _ => return Ok(None),
         }
-    })
+    };
+    let explain = inner.get_flag("explain");
+    Ok(Some(Asked { task, explain }))
 }
 
 /// The octets of the file at a path, if it can be read. Refused memory is an error, and does not make a file unreadable.
@@ -93,38 +114,83 @@ fn master_files(
     Ok(files)
 }
 
-/// Does the task, and gives the exit status.
-fn run(rt: &HostRuntime, task: Task<'_>) -> io::Result<u8> {
-    let heap = heap(rt.alloc())?;
+/// Tells why the system does not give a file, if it was not given.
+fn explain_missing<E: Write>(rt: &HostRuntime, file: &File<'_>, err: &mut E) -> io::Result<()> {
+    if file.octets.is_some() {
+        return Ok(());
+    }
+    match fs::read(rt, file.path) {
+        Ok(_) => Ok(()),
+        Err(reason) => explain_unreadable(file.path, &reason, err),
+    }
+}
+
+/// Checks a file, and gives the exit status.
+fn run_check(
+    rt: &HostRuntime,
+    heap: Heap,
+    path: &str,
+    origin: &str,
+    explain: bool,
+) -> io::Result<u8> {
+    let text = octets(rt, path)?;
+    let file = file(path, &text);
     let mut out = io::BufWriter::new(rt.alloc(), io::writer(rt))?;
     let mut err = rt.stderr();
-    let status = match task {
-        Task::Check(path, origin) => {
-            let text = octets(rt, path)?;
-            check(heap, &file(path, &text), origin, &mut out, &mut err)
-        }
-        Task::Replay(config, script) => {
-            let (config_text, script_text) = (octets(rt, config)?, octets(rt, script)?);
-            let config = file(config, &config_text);
-            let texts = master_files(rt, heap, &config)?;
-            let mut files = Vec::new(rt.alloc());
-            for (path, text) in &texts {
-                files.push(file(path, text))?;
-            }
-            let script = file(script, &script_text);
-            replay(
-                rt.alloc(),
-                heap,
-                &config,
-                &files,
-                &script,
-                &mut out,
-                &mut err,
-            )
-        }
-    };
+    let status = check(heap, &file, origin, &mut out, &mut err);
     out.flush()?;
+    if explain && status == REFUSED {
+        explain_missing(rt, &file, &mut err)?;
+        explain_check(heap, &file, origin, &mut err)?;
+    }
     Ok(status)
+}
+
+/// Runs a script, and gives the exit status.
+fn run_replay(
+    rt: &HostRuntime,
+    heap: Heap,
+    config: &str,
+    script: &str,
+    explain: bool,
+) -> io::Result<u8> {
+    let (config_text, script_text) = (octets(rt, config)?, octets(rt, script)?);
+    let (config, script) = (file(config, &config_text), file(script, &script_text));
+    let texts = master_files(rt, heap, &config)?;
+    let mut files = Vec::new(rt.alloc());
+    for (path, text) in &texts {
+        files.push(file(path, text))?;
+    }
+    let mut out = io::BufWriter::new(rt.alloc(), io::writer(rt))?;
+    let mut err = rt.stderr();
+    let status = replay(
+        rt.alloc(),
+        heap,
+        &config,
+        &files,
+        &script,
+        &mut out,
+        &mut err,
+    );
+    out.flush()?;
+    if explain && status == REFUSED {
+        for file in &files {
+            explain_missing(rt, file, &mut err)?;
+        }
+        explain_missing(rt, &config, &mut err)?;
+        explain_missing(rt, &script, &mut err)?;
+        explain_replay(rt.alloc(), heap, &config, &files, &script, &mut err)?;
+    }
+    Ok(status)
+}
+
+/// Does the task, and gives the exit status.
+fn run(rt: &HostRuntime, asked: Asked<'_>) -> io::Result<u8> {
+    let heap = heap(rt.alloc())?;
+    match asked.task {
+        Task::Check(path, origin) => run_check(rt, heap, path, origin, asked.explain),
+        Task::Replay(config, script) => run_replay(rt, heap, config, script, asked.explain),
+    }
 }
 
 /// Does what the words say, and gives the exit status. An error is that of a stream, of memory, or of a word that is no UTF-8.
@@ -137,10 +203,12 @@ fn start(rt: &HostRuntime) -> io::Result<u8> {
     for word in &words {
         texts.push(word.as_str())?;
     }
-    match asked(rt.alloc(), &texts) {
-        Ok(Some(task)) => run(rt, task),
+    match read_words(rt.alloc(), &texts) {
+        Ok(Some(asked)) => run(rt, asked),
         Ok(None) => {
-            eprintln!(rt; "usage: dnsprim check FILE ORIGIN | dnsprim replay CONFIG SCRIPT")?;
+            eprintln!(rt;
+                "usage: dnsprim check FILE ORIGIN [--explain] | dnsprim replay CONFIG SCRIPT [--explain]"
+            )?;
             Ok(USAGE)
         }
         Err(error) => {

@@ -1,0 +1,245 @@
+//! What one who mends a refused master file is told beside its fault: the word that was met, or the lines of the records that are
+//! no zone together. It serves `--explain` alone, and no clause says more of it than that it ends.
+use crate::files::{Fault, File, Index, PrintedWord, apex, load};
+use dns_masterfile::{FileError, Places, RefusedEntry, TypeWord, find_places};
+use dns_memory::Heap;
+use dns_names::Name;
+use dns_records::Record;
+use dns_records::types::{CNAME, NS, SOA};
+use dns_zone::{ZoneError, ZoneIndex};
+use std::alloc::AllocError;
+use std::cmp::Ordering;
+use std::io::{self, Write};
+
+/// Whether the word is a class, though not the one that is served (RFC 1035 section 3.2.4).
+fn is_other_class(word: &[u8]) -> bool {
+    word.eq_ignore_ascii_case(b"CH")
+        || word.eq_ignore_ascii_case(b"HS")
+        || word.eq_ignore_ascii_case(b"CS")
+}
+
+/// Whether the word is a time with units, such as `1d` or `1h30m`.
+fn is_time_with_units(word: &[u8]) -> bool {
+    let (Some(first), Some(last)) = (word.first(), word.last()) else {
+        return false;
+    };
+    first.is_ascii_digit()
+        && b"smhdwSMHDW".contains(last)
+        && word.iter().all(|octet| octet.is_ascii_alphanumeric())
+}
+
+/// What the word was meant to be, where that is a form of other servers.
+fn hint(word: &[u8], error: FileError) -> Option<&'static str> {
+    match error {
+        FileError::Syntax if word.first() == Some(&b'$') => {
+            Some("no directive but $ORIGIN and $TTL is read")
+        }
+        FileError::UnknownType if is_other_class(word) => Some("no class but IN is served"),
+        FileError::UnknownType | FileError::BadNumber if is_time_with_units(word) => {
+            Some("a time is a number of seconds, without a unit")
+        }
+        _ => None,
+    }
+}
+
+/// Tells at which word an entry was refused, and what is expected there.
+fn explain_entry<E: Write>(err: &mut E, path: &str, entry: &RefusedEntry<'_>) -> io::Result<()> {
+    let (what, line, error) = (PrintedWord(path.as_bytes()), entry.line, entry.error);
+    let Some(word) = entry.word else {
+        return writeln!(err, "{what}:{line}: {error}");
+    };
+    let met = PrintedWord(word);
+    match hint(word, error) {
+        Some(hint) => writeln!(err, "{what}:{line}: '{met}': {hint}"),
+        None => writeln!(err, "{what}:{line}: '{met}': {error}"),
+    }
+}
+
+/// A record that is refused in a zone, and the record before it that it can't stand beside, by their places in the file.
+#[derive(Clone, Copy)]
+struct Clash {
+    place: usize,
+    earlier: Option<usize>,
+}
+
+/// The record at a place, if there is one.
+fn at(place: Option<usize>) -> Option<Clash> {
+    Some(Clash {
+        place: place?,
+        earlier: None,
+    })
+}
+
+/// The first record whose owner is neither the apex nor under it.
+fn first_outside(records: &[Record], apex: &Name) -> Option<Clash> {
+    at(records.iter().position(|r| !r.owner().is_under(apex)))
+}
+
+/// The first NS at a wildcard.
+fn first_wildcard_ns(records: &[Record]) -> Option<Clash> {
+    at(records.iter().position(|r| r.rtype() == NS && r.owner().lend().begins_with_asterisk()))
+}
+
+/// The second SOA, and the first.
+fn second_soa(records: &[Record]) -> Option<Clash> {
+    let earlier = records.iter().position(|r| r.rtype() == SOA)?;
+    let behind = records[earlier + 1..]
+        .iter()
+        .position(|r| r.rtype() == SOA)?;
+    Some(Clash {
+        place: earlier + 1 + behind,
+        earlier: Some(earlier),
+    })
+}
+
+/// Whether two records of one owner can't stand together.
+fn are_at_odds(error: ZoneError, earlier: &Record, later: &Record) -> bool {
+    match error {
+        ZoneError::Duplicate => earlier.compare(later) == Ordering::Equal,
+        _ => earlier.rtype() == CNAME || later.rtype() == CNAME,
+    }
+}
+
+/// The first record that can't stand beside one of its owner before it, and that one.
+fn first_pair(
+    heap: Heap,
+    error: ZoneError,
+    records: &[Record],
+) -> Result<Option<Clash>, AllocError> {
+    let mut index = Index::empty(heap)?;
+    for place in 0..records.len() {
+        let later = &records[place];
+        let owner = later.owner().lend();
+        let beside = index.records_at(&owner);
+        if beside
+            .iter()
+            .any(|earlier| are_at_odds(error, earlier, later))
+        {
+            let earlier = records[..place].iter().position(|earlier| {
+                earlier.owner().lend().is(&owner) && are_at_odds(error, earlier, later)
+            });
+            return Ok(Some(Clash { place, earlier }));
+        }
+        index.insert(later.clone()?)?;
+    }
+    Ok(None)
+}
+
+/// Which record makes the file no zone, if one does.
+fn find_clash(
+    heap: Heap,
+    apex: &Name,
+    error: ZoneError,
+    records: &[Record],
+) -> Result<Option<Clash>, AllocError> {
+    match error {
+        ZoneError::ManySoa => Ok(second_soa(records)),
+        ZoneError::OutOfZone => Ok(first_outside(records, apex)),
+        ZoneError::WildcardNs => Ok(first_wildcard_ns(records)),
+        ZoneError::Duplicate | ZoneError::CnameAndOther => first_pair(heap, error, records),
+        _ => Ok(None),
+    }
+}
+
+/// Tells which record makes the file no zone, and the line of the one before it.
+fn explain_clash<E: Write>(
+    err: &mut E,
+    path: &str,
+    places: &Places<'_>,
+    clash: Clash,
+    error: ZoneError,
+) -> io::Result<()> {
+    let (Some(record), Some(line)) = (
+        places.records.get(clash.place),
+        places.lines.get(clash.place),
+    ) else {
+        return Ok(());
+    };
+    let what = PrintedWord(path.as_bytes());
+    let (owner, rtype) = (record.owner(), TypeWord(record.rtype()));
+    let Some(first) = clash.earlier.and_then(|earlier| places.lines.get(earlier)) else {
+        return writeln!(err, "{what}:{line}: {owner} {rtype}: {error}");
+    };
+    match error {
+        ZoneError::CnameAndOther => writeln!(
+            err,
+            "{what}:{line}: {owner} {rtype} stands beside the record on line {first}"
+        ),
+        _ => writeln!(
+            err,
+            "{what}:{line}: {owner} {rtype} stands on line {first} already"
+        ),
+    }
+}
+
+/// Tells why the system does not give a file.
+pub fn explain_unreadable<E: Write>(path: &str, reason: &io::Error, err: &mut E) -> io::Result<()> {
+    writeln!(err, "{}: {reason}", PrintedWord(path.as_bytes()))
+}
+
+/// Tells what keeps the records of a file from being a zone. Answers whether something was told.
+fn explain_zone<E: Write>(
+    heap: Heap,
+    file: &File<'_>,
+    apex: &Name,
+    places: &Places<'_>,
+    err: &mut E,
+) -> io::Result<bool> {
+    let Err(Fault::NoZone(error)) = load(heap, file.octets, apex.clone()?) else {
+        return Ok(false);
+    };
+    match find_clash(heap, apex, error, &places.records)? {
+        Some(clash) => explain_clash(err, file.path, places, clash, error)?,
+        None => writeln!(
+            err,
+            "{}: {apex}: {error}",
+            PrintedWord(file.path.as_bytes())
+        )?,
+    }
+    Ok(true)
+}
+
+/// Tells what is wrong with the master file of a zone, in a line for one who mends it. Nothing is told of a file that is a zone, and
+/// of refused memory. Answers whether something was told.
+pub(crate) fn explain_file<E: Write>(
+    heap: Heap,
+    file: &File<'_>,
+    apex: &Name,
+    err: &mut E,
+) -> io::Result<bool> {
+    let Some(octets) = file.octets else {
+        return Ok(false);
+    };
+    let places = find_places(heap, octets, apex)?;
+    let Some(entry) = &places.refused else {
+        return explain_zone(heap, file, apex, &places, err);
+    };
+    if entry.error == FileError::OutOfMemory {
+        return Ok(false);
+    }
+    explain_entry(err, file.path, entry)?;
+    Ok(true)
+}
+
+/// Tells what is wrong where `check` refused a file that can be read.
+pub fn explain_check<E: Write>(
+    heap: Heap,
+    file: &File<'_>,
+    origin: &str,
+    err: &mut E,
+) -> io::Result<()> {
+    match apex(heap, origin) {
+        Ok(apex) => {
+            explain_file(heap, file, &apex, err)?;
+            Ok(())
+        }
+        Err(Fault::BadOrigin) => {
+            let what = PrintedWord(origin.as_bytes());
+            writeln!(
+                err,
+                "{what}: the name of a zone's apex is expected, such as example.com."
+            )
+        }
+        Err(_) => Ok(()),
+    }
+}
