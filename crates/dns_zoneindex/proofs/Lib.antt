@@ -4,6 +4,7 @@ pub mod Exists
 pub mod Growth
 pub mod Halves
 pub mod Keeping
+pub mod Keys
 pub mod Led
 pub mod Lent
 pub mod Opened

@@ -6,6 +6,7 @@ use Rattle.std.specs.declared.cmp.Ordering.{Ordering}
 use Rattle.std.specs.declared.cmp.Ordering.TheVariants.{Less}
 use Rattle.dns_records.specs.Record.{Record}
 use Rattle.dns_zoneindex.specs.Entries.{Entry, Child, here, flat}
+use Rattle.dns_zoneindex.specs.Keys.{IsKey}
 use Rattle.dns_zoneindex.specs.declared.node.Children.{Children}
 use Rattle.dns_zoneindex.specs.declared.node.Children.TheVariants.{Empty, Fork}
 
@@ -33,9 +34,9 @@ abbrev pub IsNode : List Record → Children → Type 0
 IsNode records children =
     (0 < length (own_of records children)) × AreChildren (items children) × (length (own_of records children) < 2 ^ 64)
 
--- What holds of children and the number of their records.
-abbrev pub IsBranch : ℕ → List Child → Type 0
-IsBranch count children = AreChildren children × (count ≡ length (flat children))
+-- What holds of children, the number of their records, and the key of one of them.
+abbrev pub IsBranch : ℕ → ℕ → List ℕ → List Child → Type 0
+IsBranch count key label children = AreChildren children × (count ≡ length (flat children)) × IsKey key label
 
 abbrev pub node_of : List ℕ → List Record → Children → Child
 node_of label records children = record { label = label; own = own_of records children }

@@ -2,6 +2,7 @@ pub mod Entries
 pub mod Children
 pub mod Size
 pub mod Falls
+pub mod Keys
 pub mod Assoc
 pub mod Setting
 pub mod Tree

@@ -3,6 +3,7 @@ ghost use Rattle.std.specs.Prelude.{◌≡◌, ◌++◌, ◌∷◌, IfOk};
 ghost use Rattle.dns_zoneindex.specs.Children.{items, AreChildren};
 
 use crate::count::sum;
+use crate::key::key_of;
 use crate::node::{Branch, Children, Node};
 use dns_memory::Heap;
 use std::alloc::AllocError;
@@ -21,12 +22,14 @@ pub(crate) fn fork(
 {
     let count = sum(sum(left.count(), node.count())?, right.count())?;
     let height = left.height().max(right.height()).saturating_add(1);
+    let key = key_of(node.label());
     let branch = Rc::new(
         alloc,
         Branch {
             left,
             node,
             right,
+            key,
             count,
             height,
         },

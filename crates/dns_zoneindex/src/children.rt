@@ -5,8 +5,10 @@ ghost use Rattle.dns_zoneindex.specs.Children.{items, AreChildren, MatchEmpty};
 ghost use Rattle.dns_zoneindex.specs.Entries.{pushed, flat, own_at};
 ghost use Rattle.dns_zoneindex.specs.Setting.{keep, before, behind};
 ghost use Rattle.dns_zoneindex.specs.Assoc.{child_of, put_child, without_child};
+ghost use Rattle.dns_zoneindex.specs.Keys.{IsKey};
 
 use crate::balance::{balanced, fork, joined};
+use crate::key::{key_of, order};
 use crate::node::{Branch, Children, Node};
 use dns_memory::Heap;
 use std::alloc::AllocError;
@@ -49,6 +51,14 @@ impl Children {
     pub(crate) fn find(&self, label: &[u8]) -> Option<&Node>
         ensures { option_copied result ≡ child_of label.now (items self.now) }
     {
+        self.find_by(key_of(label), label)
+    }
+
+    /// The child of a label, by its key.
+    fn find_by(&self, key: u64, label: &[u8]) -> Option<&Node>
+        requires { IsKey key label.now }
+        ensures { option_copied result ≡ child_of label.now (items self.now) }
+    {
         match self {
             Children::Empty => None,
             Children::Fork(branch) => {
@@ -56,12 +66,13 @@ impl Children {
                     left,
                     node,
                     right,
+                    key: own,
                     ..
                 } = &**branch;
-                match label.cmp(node.label()) {
-                    Ordering::Less => left.find(label),
+                match order(key, label, *own, node) {
+                    Ordering::Less => left.find_by(key, label),
                     Ordering::Equal => Some(&**node),
-                    Ordering::Greater => right.find(label),
+                    Ordering::Greater => right.find_by(key, label),
                 }
             }
         }

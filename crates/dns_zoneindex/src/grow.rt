@@ -14,6 +14,7 @@ use dns_names::NameRef;
 use dns_records::Record;
 use smallvec::SmallVec;
 use std::alloc::AllocError;
+use std::mem;
 use std::rc::Rc;
 
 /// The label with so many before it on the way up to the root.
@@ -84,8 +85,22 @@ fn take_off(
     };
     let label = SmallVec::from_slice(alloc, label)?;
     let start = front_of(others, depth, label.as_slice()).len();
+    if start == 0 {
+        return Ok(Some((label, mem::replace(records, Vec::new(alloc)))));
+    }
     let group = records.split_off(start)?;
     Ok(Some((label, group)))
+}
+
+/// The records in a list with room for no more.
+fn trimmed(records: Vec<Record, Heap>) -> Result<Vec<Record, Heap>, AllocError>
+    ensures { IfOk result (λ exact. exact.items ≡ records.entry.items) }
+{
+    if records.len() == records.capacity() {
+        return Ok(records);
+    }
+    let mut roomy = records;
+    roomy.split_off(0)
 }
 
 /// Names in order as the children of one, made by halves.
@@ -125,8 +140,8 @@ pub(crate) fn grow(
         let node = grow(alloc, label.as_slice(), below, group)?;
         nodes.push(Node::shared(alloc, node)?)?;
     }
-    own.shrink_to_fit();
+    let own = Rc::new(alloc, trimmed(own)?)?;
     nodes.reverse();
     let children = children_of(alloc, &nodes)?;
-    Node::new(alloc, label, Rc::new(alloc, own)?, children)
+    Node::new(alloc, label, own, children)
 }

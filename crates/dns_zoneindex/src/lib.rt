@@ -7,6 +7,7 @@ mod count;
 mod descent;
 mod edit;
 mod grow;
+mod key;
 mod node;
 mod path;
 mod run;

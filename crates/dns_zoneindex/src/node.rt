@@ -31,6 +31,8 @@ pub(crate) struct Branch {
     pub(crate) left: Children,
     pub(crate) node: Rc<Node, Heap>,
     pub(crate) right: Children,
+    /// The first octets of its label, by which it is found.
+    pub(crate) key: u64,
     /// How many records stand at and under all of them.
     pub(crate) count: usize,
     /// How many children stand one above the other, which no result rests upon.
@@ -77,7 +79,7 @@ impl Model for Branch {
 
     ghost view = { λ b. items b.left ++ b.node.value ∷ items b.right };
 
-    ghost invariant = { λ b. IsBranch b.count (items b.left ++ b.node.value ∷ items b.right) };
+    ghost invariant = { λ b. IsBranch b.count b.key b.node.value.label (items b.left ++ b.node.value ∷ items b.right) };
 
     ghost size = { sizes_of };
 
@@ -106,6 +108,7 @@ impl Drop for Branch {
             left: _left,
             node,
             right: _right,
+            key: _,
             count: _,
             height: _,
         } = self;
