@@ -1,14 +1,16 @@
-//! Tests of stores over devices in memory: each made, flushed and opened with a stop at each operation in turn and with each
-//! sublist of the pending writes kept, and with an octet of a sector changed.
+//! Tests of stores over devices in memory: each made, flushed, moved to a later base and opened, with a stop at each operation in
+//! turn and with each sublist of the pending writes kept, and with an octet of a sector changed.
 #![tactic(auto)]
 
 #[cfg(test)]
 mod damage;
 #[cfg(test)]
-mod flushing;
+mod example;
 #[cfg(test)]
-mod formatting;
+mod refused;
 #[cfg(test)]
-mod opening;
+mod run;
+#[cfg(test)]
+mod stops;
 #[cfg(test)]
 mod stores;

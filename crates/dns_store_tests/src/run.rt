@@ -1,0 +1,197 @@
+//! One run of a store, over another: it is made, opened, three updates are flushed, and a checkpoint is made; with the last
+//! operation, and what is kept of the pending writes, chosen.
+use crate::stores::{Device, Store, change, made, make, opened, shared_plan, stage};
+use dns_memory::Heap;
+use dns_sectors::{Keep, Plan};
+use dns_store::{OpenError, ZoneStore};
+use std::rc::Rc;
+
+/// What a device opens as: no store, or a version and its base.
+#[derive(Clone, Copy, Debug, PartialEq, Eq)]
+pub(crate) enum Found {
+    Blank,
+    Version(u64, u64),
+}
+
+/// A device with the store of version 1, all of it durable.
+fn old(heap: Heap, plan: Rc<Plan, Heap>) -> Option<Device> {
+    let mut found = opened(heap, made(heap, plan)?).ok()?;
+    stage(heap, &mut found.store, 1, 20)?;
+    found.store.flush().ok()?;
+    Some(found.store.into_device().crash(Keep::These(&[])))
+}
+
+/// Stages the change to the version with this serial, and keeps it with those that lead to the newest version.
+fn keep(heap: Heap, store: &mut Store, serial: u8, size: usize) -> Option<()> {
+    let change = change(heap, serial, size)?;
+    store.store.stage(&change).ok()?;
+    store.changes.push(change).ok()
+}
+
+/// Three updates with entries of one, three and one sectors are flushed, and a checkpoint keeps the newest two; up to the first
+/// that fails.
+fn update(heap: Heap, store: Store) -> Option<Device> {
+    let mut store = store;
+    keep(heap, &mut store, 1, 20)?;
+    keep(heap, &mut store, 2, 1300)?;
+    keep(heap, &mut store, 3, 30)?;
+    if store.store.flush().is_ok() {
+        let _told = store.checkpoint(2, 0);
+    }
+    Some(store.store.into_device())
+}
+
+/// The run over the old store, up to the first operation that fails.
+fn steps(heap: Heap, device: Device) -> Option<Device> {
+    let mut device = device;
+    if make(heap, &mut device)?.is_err() {
+        return Some(device);
+    }
+    match opened(heap, device) {
+        Ok(store) => update(heap, store),
+        Err((device, _)) => Some(device),
+    }
+}
+
+/// The device of the run whose n-th operation is the last.
+fn stopped(heap: Heap, plan: &Rc<Plan, Heap>, n: u64) -> Option<Device> {
+    let device = old(heap, plan.clone().ok()?)?;
+    plan.stop_at(n);
+    let left = steps(heap, device);
+    plan.reset();
+    left
+}
+
+/// How many ways of keeping pending writes are tried: every sublist of up to eight, above that none, all, each alone, and all
+/// but each.
+fn choices(pending: usize) -> usize {
+    if pending <= 8 {
+        1 << pending
+    } else {
+        pending.saturating_mul(2).saturating_add(2)
+    }
+}
+
+/// Above eight the first choices keep one alone, the next all but one, and the last two none and all.
+fn is_kept(pending: usize, choice: usize, i: usize) -> bool {
+    if pending <= 8 {
+        choice >> (i % 16) & 1 == 1
+    } else if choice < pending {
+        choice == i
+    } else if choice - pending < pending {
+        choice - pending != i
+    } else {
+        choice - pending > pending
+    }
+}
+
+/// The numbers of the pending writes that this choice keeps.
+fn kept(heap: Heap, pending: usize, choice: usize) -> Option<Vec<u64, Heap>> {
+    let mut numbers = Vec::new(heap);
+    for i in 0..pending {
+        if is_kept(pending, choice, i) {
+            numbers.push((i as u64).saturating_add(1)).ok()?;
+        }
+    }
+    Some(numbers)
+}
+
+/// The device as a crash leaves it that keeps this choice.
+fn crashed(heap: Heap, device: Device, choice: usize) -> Option<Device> {
+    let numbers = kept(heap, device.pending(), choice)?;
+    Some(device.crash(Keep::These(&numbers)))
+}
+
+/// How many choices there are where the n-th operation of the run is the last.
+pub(crate) fn choices_at(heap: Heap, n: u64) -> Option<usize> {
+    let plan = shared_plan(heap)?;
+    Some(choices(stopped(heap, &plan, n)?.pending()))
+}
+
+/// The device that the run leaves whose n-th operation is the last, where this choice is kept.
+fn left(heap: Heap, plan: &Rc<Plan, Heap>, n: u64, choice: usize) -> Option<Device> {
+    let device = stopped(heap, plan, n)?;
+    crashed(heap, device, choice)
+}
+
+/// The version that was found and its base, where the two zones that are lent have as many records as those of these numbers.
+fn version_of(store: &Store) -> Option<Found> {
+    let newest = store.store.newest();
+    let base = newest.checked_sub(store.changes.len() as u64)?;
+    let records = store.zone.records().count() as u64;
+    let records_before = store.base.records().count() as u64;
+    if records.checked_sub(2) == Some(newest) && records_before.checked_sub(2) == Some(base) {
+        Some(Found::Version(newest, base))
+    } else {
+        None
+    }
+}
+
+/// What the device opens as.
+fn found_on(heap: Heap, device: Device) -> Option<Found> {
+    match opened(heap, device) {
+        Ok(store) => version_of(&store),
+        Err((_, error)) => if error == OpenError::Blank {
+            Some(Found::Blank)
+        } else {
+            None
+        },
+    }
+}
+
+/// One more update is flushed behind what was found, and then it is what a crash leaves: what was lost doesn't come back.
+fn goes_on(heap: Heap, store: Store) -> Option<Found> {
+    let mut store = store;
+    let told = version_of(&store)?;
+    let Found::Version(newest, base) = told else {
+        return None;
+    };
+    let serial = u8::try_from(newest).ok()?.checked_add(1)?;
+    stage(heap, &mut store.store, serial, 25)?;
+    store.store.flush().ok()?;
+    let device = store.store.into_device().crash(Keep::These(&[]));
+    let again = found_on(heap, device)?;
+    if again == Found::Version(u64::from(serial), base) {
+        Some(told)
+    } else {
+        None
+    }
+}
+
+/// What is found behind the run whose n-th operation is the last, where this choice is kept.
+pub(crate) fn first_found(heap: Heap, n: u64, choice: usize) -> Option<Found> {
+    let plan = shared_plan(heap)?;
+    match opened(heap, left(heap, &plan, n, choice)?) {
+        Ok(store) => goes_on(heap, store),
+        Err((_, error)) => if error == OpenError::Blank {
+            Some(Found::Blank)
+        } else {
+            None
+        },
+    }
+}
+
+/// The device of an opening whose m-th operation is the last.
+fn stopped_opening(heap: Heap, plan: &Rc<Plan, Heap>, device: Device, m: u64) -> Device {
+    plan.stop_at(m);
+    let left = match opened(heap, device) {
+        Ok(store) => store.store.into_device(),
+        Err((device, _)) => device,
+    };
+    plan.reset();
+    left
+}
+
+/// The same where the opening is stopped once more, at its m-th operation, and its writes are kept or lost.
+pub(crate) fn second_found(
+    heap: Heap,
+    n: u64,
+    choice: usize,
+    m: u64,
+    then: usize,
+) -> Option<Found> {
+    let plan = shared_plan(heap)?;
+    let device = stopped_opening(heap, &plan, left(heap, &plan, n, choice)?, m);
+    let device = crashed(heap, device, then)?;
+    found_on(heap, device)
+}
