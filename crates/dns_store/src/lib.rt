@@ -8,6 +8,7 @@ mod records;
 mod recovery;
 mod root;
 mod snapshot;
+mod staying;
 mod unkept;
 mod versions;
 mod zone_store;

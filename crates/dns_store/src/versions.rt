@@ -14,6 +14,7 @@ ghost use Rattle.dns_store.specs.Root.{IsOfBank};
 ghost use Rattle.dns_store.specs.Damage.{NamesWrongEntry};
 
 use crate::OpenError;
+use crate::staying::next_zone;
 use dns_changes::{Change, ChangeError};
 use dns_journal::{Cursor, ReadError, next_entry};
 use dns_memory::Heap;
@@ -38,9 +39,9 @@ fn take_step<I: ZoneIndex>(
     let apex = zone.apex().clone()?;
     let mut set = zone.index().fork()?;
     change.apply(&mut set)?;
-    match Zone::from_index(apex, set) {
+    match next_zone(apex, set, &change) {
         Ok(next) => Ok((change, next)),
-        Err(_) => Err(ChangeError::BadBytes),
+        Err(error) => Err(error),
     }
 }
 

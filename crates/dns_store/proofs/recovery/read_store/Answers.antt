@@ -1,9 +1,8 @@
 use Rattle.std.proofs.Common.{inl, inr, ⊎_elim, refl, ◌≡◌, ◌⊎◌, ◌+◌, ◌*◌, ℕ, List, sym, ◌∙◌, ap, subst}
 use Rattle.std.specs.Prelude.{drop}
-use Rattle.std.specs.List.{flat_map}
 use Rattle.std.proofs.lemmas.Result.{err_from_is_err_and}
 use Rattle.dns_names.specs.Name.{wire}
-use Rattle.dns_records.specs.Record.{Record, plain}
+use Rattle.dns_records.specs.Record.{Record}
 use Rattle.dns_zone.specs.Zone.{IsZone}
 use Rattle.dns_layout.specs.Sector.{sector_at, number}
 use Rattle.dns_layout.specs.Journal.{place_behind, version_behind}

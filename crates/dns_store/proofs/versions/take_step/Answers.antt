@@ -1,6 +1,7 @@
-use Rattle.std.proofs.Common.{◌≡◌, rules, ⊎_elim, Some, None, sym, ◌∙◌}
+use Rattle.std.proofs.Common.{◌≡◌, rules, ⊎_elim, Some, None, sym, ap, subst, ◌∙◌}
 use Rattle.std.proofs.lemmas.Result.{err_from_is_err_and}
-use Rattle.dns_zone.specs.Zone.{zone_fault}
+use Rattle.dns_names.specs.Name.{Labels}
+use Rattle.dns_zone.specs.Zone.{IsZone, zone_fault}
 use Rattle.dns_changes.specs.Change.{applied, change_fault}
 use Rattle.dns_changes.specs.Applied.{change_leads}
 use Rattle.dns_store.proofs.versions.take_step.Goals as goal
@@ -29,8 +30,19 @@ returns-in-Err-clause-only g c after change leads written is valid =
     let led = change_leads c.args.zone.now.records after change c.apex.ensures.valid.ordered valid.ordered leads in
     let name : c.in_ok-apex.apex ≡ c.args.zone.now.apex = search rules in
     let set = c.in_ok-apply.ensures.applied ∙ (λ i. applied (same i) (records i)) ∙ led.result in
-    let none : Some c.in-Err.field-0.1 ≡ None = sym c.in-Err.ensures.refused.0 ∙ (λ i. zone_fault (name i) (set i)) ∙ valid.valid in
-    absurd cc
+    absurd (c.in-Err.ensures.refused.1 ((λ i. zone_fault (name i) (set i)) ∙ valid.valid))
+
+pub next_zone-requires : goal.next_zone-requires
+next_zone-requires g c =
+    let records = c.in_ok-set.ensures ∙ c.index.ensures in
+    let before = c.args.zone.now.records in
+    let name : c.in_ok-apex.apex ≡ c.args.zone.now.apex = search rules in
+    let valid : IsZone (record { apex = c.in_ok-apex.apex; records = before }) = subst (λ (n : Labels). IsZone (record { apex = n; records = before })) (sym name) c.apex.ensures.valid in (
+      before,
+      valid,
+      (λ i. change_fault c.in_ok-change.change (sym records i)) ∙ c.in_ok-apply.ensures.fits,
+      c.in_ok-apply.ensures.applied ∙ ap (applied c.in_ok-change.change) records,
+    )
 
 pub returns-in_err-apex-clause-only : goal.returns-in_err-apex-clause-only
 returns-in_err-apex-clause-only g c after change leads written is valid =

@@ -1,0 +1,240 @@
+-- Where what came by a change may stand, the set is a zone's again.
+use Rattle.std.proofs.Common.{◌≡◌, ℕ, suc, Bool, true, false, not, ◌&&◌, ◌||◌, ◌⊎◌, inl, inr, List, [], ◌∷◌, Some, None, length, refl, sym, ap, subst, ◌∙◌, arith}
+use Rattle.std.specs.Prelude.{◌==◌, nat_lt, if◌then◌else◌}
+use Rattle.std.specs.List.{list_any, list_all}
+use Rattle.std.specs.Cmp.{tied_itself}
+use Rattle.std.specs.FinMap.Entries.{by_order}
+use Rattle.std.specs.declared.cmp.Ordering.TheVariants.{Less, Equal, Greater}
+use Rattle.std.proofs.lemmas.Bool.Decides.{nat_tests}
+use Rattle.dns_names.specs.Name.{Labels, names_eq, under}
+use Rattle.dns_records.specs.Types.{type_ns, type_cname, type_soa}
+use Rattle.dns_records.specs.Record.{Record, record_cmp}
+use Rattle.dns_zone.specs.Records.{put, united, contains, same, is_ordered, records_at, rrset, is_none_of}
+use Rattle.dns_zone.specs.Zone.{IsZone, soas, zone_fault, has_cname_and_other, is_wildcard}
+use Rattle.dns_zone.specs.declared.ZoneError.TheVariants.{NoSoa, ManySoa, NoNs, OutOfZone, Duplicate, CnameAndOther, WildcardNs, TooMany}
+use Rattle.dns_zone.specs.Order.{record_total, both_true, names_same, names_itself, same_is, same_itself}
+use Rattle.dns_zone.specs.Owned.{owns_no_type}
+use Rattle.dns_zone.specs.Sets.{Sorted, true_or_false, either_true, filter_contains, contains_filter, sorted_filter, sorted_from, sorted_united}
+use Rattle.dns_zone.specs.Twice.{once}
+use Rattle.dns_zone.proofs.OneSoa.{Conditions, conditions, past, untrue, zone_soa}
+use Rattle.dns_changes.specs.Applied.{not_true, one_is}
+use Rattle.dns_changes.specs.Change.{Change, applied, change_fault, is_formed, is_soa, removed_from}
+use Rattle.dns_store.specs.Staying.{has_crowded_alias, may_stand, stays_zone}
+
+abbrev is_alias : Record → Bool
+is_alias r = r.rtype == type_cname
+
+abbrev is_wild : Record → Bool
+is_wild r = r.rtype == type_ns && is_wildcard r.owner
+
+-- a CNAME stands alone at its owner
+abbrev AreAlone : List Record → Type 0
+AreAlone xs = (r s : Record) → contains xs r ≡ true → contains xs s ≡ true → is_alias r ≡ true → names_eq s.owner r.owner ≡ true → s ≡ r
+
+-- ---- tests
+later : (a b : Bool) → b ≡ true → (a || b) ≡ true
+later true b e = refl
+later false b e = e
+
+neither : (a b : Bool) → (a || b) ≡ false → (a ≡ false) × (b ≡ false)
+neither true b e = absurd cc
+neither false b e = (refl, e)
+
+refuted : {A : Type 0} (b : Bool) → b ≡ true → b ≡ false → A
+refuted true e f = absurd cc
+refuted false e f = absurd cc
+
+of_all : (p : Record → Bool) (xs : List Record) → list_all p xs ≡ true → (r : Record) → contains xs r ≡ true → p r ≡ true
+of_all p [] e r h = absurd cc
+of_all p (x ∷ xs) e r h =
+    let both = both_true (p x) (list_all p xs) e in
+    elim (either_true (same r x) (contains xs r) h) [
+      | inl s ↦ ap p (same_is r x s) ∙ both.0
+      | inr s ↦ of_all p xs both.1 r s
+    ]
+
+all_of : (p : Record → Bool) (xs : List Record) → ((r : Record) → contains xs r ≡ true → p r ≡ true) → list_all p xs ≡ true
+all_of p [] h = refl
+all_of p (x ∷ xs) h = ap (λ b. b && list_all p xs) (h x (ap (λ b. b || contains xs x) (same_itself x))) ∙ all_of p xs (λ r e. h r (later (same r x) (contains xs r) e))
+
+of_none : (p : Record → Bool) (xs : List Record) → list_any p xs ≡ false → (r : Record) → contains xs r ≡ true → p r ≡ false
+of_none p [] e r h = absurd cc
+of_none p (x ∷ xs) e r h =
+    let both = neither (p x) (list_any p xs) e in
+    elim (either_true (same r x) (contains xs r) h) [
+      | inl s ↦ ap p (same_is r x s) ∙ both.0
+      | inr s ↦ of_none p xs both.1 r s
+    ]
+
+none_of : (p : Record → Bool) (xs : List Record) → ((r : Record) → contains xs r ≡ true → p r ≡ false) → list_any p xs ≡ false
+none_of p [] h = refl
+none_of p (x ∷ xs) h = ap (λ b. b || list_any p xs) (h x (ap (λ b. b || contains xs x) (same_itself x))) ∙ none_of p xs (λ r e. h r (later (same r x) (contains xs r) e))
+
+-- ---- where a record of the set comes from
+put_from : (r : Record) (xs : List Record) (a : Record) → contains (put r xs) a ≡ true → (a ≡ r) ⊎ (contains xs a ≡ true)
+put_from r [] a h = elim (either_true (same a r) false h) [ inl s ↦ inl (same_is a r s) | inr s ↦ absurd cc ]
+put_from r (x ∷ xs) a h =
+    elim (record_cmp r x) as (λ o. contains (by_order o (r ∷ x ∷ xs) (r ∷ xs) (x ∷ put r xs)) a ≡ true → (a ≡ r) ⊎ (contains (x ∷ xs) a ≡ true)) [
+      | Less ↦ λ e. elim (either_true (same a r) (contains (x ∷ xs) a) e) [ inl s ↦ inl (same_is a r s) | inr s ↦ inr s ]
+      | Equal ↦ λ e. elim (either_true (same a r) (contains xs a) e) [ inl s ↦ inl (same_is a r s) | inr s ↦ inr (later (same a x) (contains xs a) s) ]
+      | Greater ↦ λ e. elim (either_true (same a x) (contains (put r xs) a) e) [
+        | inl s ↦ inr (ap (λ b. b || contains xs a) s)
+        | inr s ↦ elim (put_from r xs a s) [ inl t ↦ inl t | inr t ↦ inr (later (same a x) (contains xs a) t) ]
+      ]
+    ] h
+
+first_in : (r a : Record) (rs : List Record) → a ≡ r → contains (r ∷ rs) a ≡ true
+first_in r a rs is = ap (λ b. b || contains rs a) (subst (λ (x : Record). same a x ≡ true) is (same_itself a))
+
+united_from : (xs rs : List Record) (a : Record) → contains (united xs rs) a ≡ true → (contains rs a ≡ true) ⊎ (contains xs a ≡ true)
+united_from xs [] a h = inr h
+united_from xs (r ∷ rs) a h = elim (put_from r (united xs rs) a h) [
+  | inl is ↦ inl (first_in r a rs is)
+  | inr rest ↦ elim (united_from xs rs a rest) [ inl s ↦ inl (later (same a r) (contains rs a) s) | inr s ↦ inr s ]
+]
+
+-- ---- a CNAME and its owner
+many : (n : ℕ) → nat_lt 1 (suc (suc n)) ≡ true
+many n = grind (arith, nat_tests)
+
+some : (n : ℕ) → (suc n == 0) ≡ false
+some n = grind (arith, nat_tests)
+
+one_of : (ys : List Record) → nat_lt 1 (length ys) ≡ false → (r s : Record) → contains ys r ≡ true → contains ys s ≡ true → s ≡ r
+one_of [] few r s there here = absurd cc
+one_of (a ∷ []) few r s there here =
+    elim (either_true (same r a) false there) [
+      | inl e ↦ elim (either_true (same s a) false here) [ inl f ↦ same_is s a f ∙ sym (same_is r a e) | inr f ↦ absurd cc ]
+      | inr e ↦ absurd cc
+    ]
+one_of (a ∷ b ∷ ys) few r s there here = refuted (nat_lt 1 (suc (suc (length ys)))) (many (length ys)) few
+
+few_of : (ys : List Record) (r : Record) → Sorted ys → ((s : Record) → contains ys s ≡ true → s ≡ r) → nat_lt 1 (length ys) ≡ false
+few_of [] r h one = refl
+few_of (a ∷ []) r h one = refl
+few_of (a ∷ b ∷ ys) r h one =
+    let first = one a (ap (λ c. c || contains (b ∷ ys) a) (same_itself a)) in
+    let second = one b (later (same b a) (contains (b ∷ ys) b) (ap (λ c. c || contains ys b) (same_itself b))) in
+    let tied : record_cmp a b ≡ Equal = ap (record_cmp a) (second ∙ sym first) ∙ tied_itself record_total a in
+    let less : record_cmp a b ≡ Less = h.0.0 in absurd cc
+
+alone_from : (xs : List Record) → has_cname_and_other xs ≡ false → AreAlone xs
+alone_from xs none r s there here e o =
+    let few : nat_lt 1 (length (records_at xs r.owner)) ≡ false = ap (λ b. b && nat_lt 1 (length (records_at xs r.owner))) (sym e) ∙ of_none (λ x. is_alias x && nat_lt 1 (length (records_at xs x.owner))) xs none r there in
+    one_of (records_at xs r.owner) few r s (contains_filter r (λ x. names_eq x.owner r.owner) xs there (names_itself r.owner)) (contains_filter s (λ x. names_eq x.owner r.owner) xs here o)
+
+from_alone : (xs : List Record) → Sorted xs → AreAlone xs → has_cname_and_other xs ≡ false
+from_alone xs h alone = none_of (λ x. is_alias x && nat_lt 1 (length (records_at xs x.owner))) xs (λ r there. elim (true_or_false (is_alias r)) [
+  | inr f ↦ ap (λ b. b && nat_lt 1 (length (records_at xs r.owner))) f
+  | inl f ↦ ap (λ b. b && nat_lt 1 (length (records_at xs r.owner))) f ∙ few_of (records_at xs r.owner) r (sorted_filter (λ x. names_eq x.owner r.owner) xs h)
+      (λ s e. (let here = filter_contains s (λ x. names_eq x.owner r.owner) xs e in alone r s there here.1 f here.0))
+])
+
+none_there : (ys : List Record) (r : Record) → contains ys r ≡ true → is_none_of ys ≡ true → ⊥
+none_there [] r h e = absurd cc
+none_there (y ∷ ys) r h e = refuted (suc (length ys) == 0) e (some (length ys))
+
+-- at a name where no CNAME has others beside it
+by_name : (xs : List Record) (n : Labels) → has_crowded_alias xs n ≡ false → (r s : Record) → contains xs r ≡ true → contains xs s ≡ true → names_eq r.owner n ≡ true → names_eq s.owner n ≡ true → is_alias r ≡ true → s ≡ r
+by_name xs n none r s there here a b e = elim (true_or_false (nat_lt 1 (length (records_at xs n)))) [
+  | inr few ↦ one_of (records_at xs n) few r s (contains_filter r (λ x. names_eq x.owner n) xs there a) (contains_filter s (λ x. names_eq x.owner n) xs here b)
+  | inl more ↦
+      (let no : not (is_none_of (rrset xs n type_cname)) ≡ false = ap (λ c. c && not (is_none_of (rrset xs n type_cname))) (sym more) ∙ none in
+      let mine = contains_filter r (λ x. names_eq x.owner n && x.rtype == type_cname) xs there (λ i. a i && e i) in
+      absurd (none_there (rrset xs n type_cname) r mine (untrue (is_none_of (rrset xs n type_cname)) no)))
+]
+
+-- ---- the change
+module _ (apex : Labels) (before : List Record) (c : Change) (h : IsZone (record { apex = apex; records = before })) (formed : is_formed c ≡ true) (fits : change_fault c before ≡ None) where
+  abbrev stays : Record → Bool
+  stays r = not (contains (c.old_soa ∷ c.removed) r)
+
+  sorted_before : Sorted before
+  sorted_before = sorted_from before h.ordered
+
+  sorted_after : Sorted (applied c before)
+  sorted_after = sorted_united (removed_from before (c.old_soa ∷ c.removed)) (c.new_soa ∷ c.added) (sorted_filter stays before sorted_before)
+
+  so_far : Conditions apex before
+  so_far = conditions apex before h.valid
+
+  comes_from : (r : Record) → contains (applied c before) r ≡ true → (contains (c.new_soa ∷ c.added) r ≡ true) ⊎ ((contains before r ≡ true) × (stays r ≡ true))
+  comes_from r e = elim (united_from (removed_from before (c.old_soa ∷ c.removed)) (c.new_soa ∷ c.added) r e) [
+    | inl s ↦ inl s
+    | inr s ↦ (let kept = filter_contains r stays before s in inr (kept.1, kept.0))
+  ]
+
+  -- a SOA that is there is the new one
+  soa_is : (r : Record) → contains (applied c before) r ≡ true → is_soa r ≡ true → r ≡ c.new_soa
+  soa_is r there e =
+      let old = is_soa c.old_soa in
+      let new = is_soa c.new_soa in
+      let gone = not (list_any is_soa c.removed) in
+      let come = not (list_any is_soa c.added) in
+      let one = both_true (old && new && gone && come && is_ordered c.removed) (is_ordered c.added) formed in
+      let two = both_true (old && new && gone && come) (is_ordered c.removed) one.0 in
+      let three = both_true (old && new && gone) come two.0 in
+      let four = both_true (old && new) gone three.0 in
+      let five = both_true old new four.0 in
+      elim (comes_from r there) [
+        | inl s ↦ elim (either_true (same r c.new_soa) (contains c.added r) s) [
+          | inl t ↦ same_is r c.new_soa t
+          | inr t ↦ refuted (is_soa r) e (of_none is_soa c.added (not_true (list_any is_soa c.added) three.1) r t)
+        ]
+        | inr s ↦
+            (let had = zone_soa (record { apex = apex; records = before }) h in
+            let old_there = untrue (contains before c.old_soa) (past (not (contains before c.old_soa)) _ _ fits).0 in
+            let is : r ≡ c.old_soa = one_is before had.soa r had.one s.0 e ∙ sym (one_is before had.soa c.old_soa had.one old_there five.0) in
+            refuted (contains (c.old_soa ∷ c.removed) r) (first_in c.old_soa r c.removed is) (not_true (contains (c.old_soa ∷ c.removed) r) s.1))
+      ]
+
+  module _ (all : list_all (may_stand apex (applied c before)) (c.new_soa ∷ c.added) ≡ true) where
+    came : (r : Record) → contains (c.new_soa ∷ c.added) r ≡ true → ((under r.owner apex && not (is_wild r)) ≡ true) × (not (has_crowded_alias (applied c before) r.owner) ≡ true)
+    came r e = both_true (under r.owner apex && not (is_wild r)) (not (has_crowded_alias (applied c before) r.owner)) (of_all (may_stand apex (applied c before)) (c.new_soa ∷ c.added) all r e)
+
+    inside : (r : Record) → contains (applied c before) r ≡ true → under r.owner apex ≡ true
+    inside r there = elim (comes_from r there) [
+      | inl s ↦ (both_true (under r.owner apex) (not (is_wild r)) (came r s).0).0
+      | inr s ↦ of_all (λ x. under x.owner apex) before so_far.inside r s.0
+    ]
+
+    no_wild : (r : Record) → contains (applied c before) r ≡ true → is_wild r ≡ false
+    no_wild r there = elim (comes_from r there) [
+      | inl s ↦ not_true (is_wild r) (both_true (under r.owner apex) (not (is_wild r)) (came r s).0).1
+      | inr s ↦ of_none is_wild before so_far.servers r s.0
+    ]
+
+    at_came : (x : Record) → contains (c.new_soa ∷ c.added) x ≡ true → has_crowded_alias (applied c before) x.owner ≡ false
+    at_came x e = not_true (has_crowded_alias (applied c before) x.owner) (came x e).1
+
+    alone : AreAlone (applied c before)
+    alone r s there here e o = elim (comes_from r there) [
+      | inl f ↦ by_name (applied c before) r.owner (at_came r f) r s there here (names_itself r.owner) o e
+      | inr f ↦ elim (comes_from s here) [
+        | inl g ↦
+            (let same_owner : names_eq r.owner s.owner ≡ true = subst (λ (n : Labels). names_eq n s.owner ≡ true) (names_same s.owner r.owner o) (names_itself s.owner) in
+            by_name (applied c before) s.owner (at_came s g) r s there here same_owner (names_itself s.owner) e)
+        | inr g ↦ alone_from before so_far.alone r s f.0 g.0 e o
+      ]
+    ]
+
+  pub zone_stays : stays_zone apex (applied c before) c ≡ true → zone_fault apex (applied c before) ≡ None
+  zone_stays e =
+      let xs = applied c before in
+      let has_soa = not (is_none_of (rrset xs apex type_soa)) in
+      let has_ns = not (is_none_of (rrset xs apex type_ns)) in
+      let is_few = not (nat_lt 65536 (length xs)) in
+      let four = both_true (has_soa && has_ns && is_few && may_stand apex xs c.new_soa) (list_all (may_stand apex xs) c.added) e in
+      let three = both_true (has_soa && has_ns && is_few) (may_stand apex xs c.new_soa) four.0 in
+      let two = both_true (has_soa && has_ns) is_few three.0 in
+      let one = both_true has_soa has_ns two.0 in
+      let all : list_all (may_stand apex xs) (c.new_soa ∷ c.added) ≡ true = λ i. three.1 i && four.1 i in
+      let soa = sym (owns_no_type xs apex type_soa) ∙ not_true (is_none_of (rrset xs apex type_soa)) one.0 in
+      let ns = sym (owns_no_type xs apex type_ns) ∙ not_true (is_none_of (rrset xs apex type_ns)) one.1 in
+      let few = not_true (nat_lt 65536 (length xs)) two.1 in
+      let single = few_of (soas xs) c.new_soa (sorted_filter is_soa xs sorted_after) (λ s at. (let here = filter_contains s is_soa xs at in soa_is s here.1 here.0)) in
+      let within = all_of (λ r. under r.owner apex) xs (inside all) in
+      let twice = once xs sorted_after in
+      let alias = from_alone xs sorted_after (alone all) in
+      let wild = none_of is_wild xs (no_wild all) in
+      λ i. if soa i then Some NoSoa else if single i then Some ManySoa else if ns i then Some NoNs else if not (within i) then Some OutOfZone else if twice i then Some Duplicate else if alias i then Some CnameAndOther else if wild i then Some WildcardNs else if few i then Some TooMany else None
