@@ -1,0 +1,9 @@
+mod Lists
+mod Since
+mod Sequences
+mod Shared
+mod Soa
+mod Told
+mod Hex
+mod Examples
+mod Exchanges

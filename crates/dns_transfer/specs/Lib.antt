@@ -1,0 +1,5 @@
+pub mod Form
+pub mod Records
+pub mod Messages
+pub mod Refusal
+pub mod Left

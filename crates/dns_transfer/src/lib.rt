@@ -1,0 +1,12 @@
+//! Transfers of zones: whole (AXFR, RFC 5936), or by their changes (IXFR, RFC 1995).
+#![tactic(auto)]
+
+mod form;
+mod history;
+mod refusal;
+mod rest;
+
+pub use form::{Form, choose_form};
+pub use history::History;
+pub use refusal::{client_serial, refusal_of};
+pub use rest::{Place, Rest};
