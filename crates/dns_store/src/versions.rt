@@ -86,6 +86,7 @@ pub(crate) fn read_versions<D: Sectors, I: ZoneIndex>(
 pub(crate) fn fault_at(head: usize, error: ChangeError) -> OpenError
     ensures memory { error ≡ ChangeError.OutOfMemory → result ≡ OpenError.OutOfMemory }
     ensures other { (result ≡ OpenError.OutOfMemory) ⊎ (result ≡ OpenError.Damaged head) }
+    ensures damaged { (error ≡ ChangeError.OutOfMemory) ⊎ (result ≡ OpenError.Damaged head) }
 {
     match error {
         ChangeError::OutOfMemory => OpenError::OutOfMemory,
