@@ -86,7 +86,11 @@ fn refused<'a>(
 }
 
 /// Reads a file as `read_zone` does, and keeps where its records stand.
-pub fn find_places<'a>(alloc: Heap, octets: &'a [u8], origin: &Name) -> Result<Places<'a>, AllocError> {
+pub fn find_places<'a>(
+    alloc: Heap,
+    octets: &'a [u8],
+    origin: &Name,
+) -> Result<Places<'a>, AllocError> {
     let (mut start, mut scanner) = Scanner::first(octets);
     let mut context = at_start(origin)?;
     let mut places = Places {
