@@ -2,7 +2,7 @@
 use Rattle.std.specs.Prelude.{◌≡◌, [], ◌∷◌, refl, codes}
 use Rattle.dns_request.specs.declared.request.Transport.TheVariants.{Udp}
 use Rattle.dns_answer.specs.Answer.{NoReply, Replies, handled}
-use Rattle.dns_answer.proofs.Hex.{hex}
+use Rattle.dns_wire.proofs.Hex.{hex}
 use Rattle.dns_zone.specs.ExampleZone.{example_zone}
 
 -- an address that stands

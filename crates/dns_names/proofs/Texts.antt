@@ -9,10 +9,11 @@ use Rattle.std.proofs.lemmas.List.{map-append}
 use Rattle.std.proofs.lemmas.List.Folds.{list_any-append}
 use Rattle.dns_names.specs.Name.{Labels, IsLabel, wire}
 use Rattle.dns_names.specs.PlainOctets.{octets-append}
-use Rattle.dns_names.specs.Text.{Letter, Itself, Escaped, letters, name_of_text, onto, is_dot, octet_of, before_label, before_dot, dotted, parts_of, with_origin, limited}
+use Rattle.dns_names.specs.Text.{Letter, Itself, Escaped, letters, name_of_text, onto, is_dot, octet_of, before_label, dotted, parts_of, with_origin, limited}
 use Rattle.dns_names.specs.Built.{framed, IsLower, IsBuilt, joined, after, TakesLetter}
 use Rattle.dns_names.specs.declared.builder.Builder.{Builder}
-use Rattle.dns_names.specs.declared.NameError.TheVariants.{EmptyLabel, LabelTooLong, NameTooLong}
+use Rattle.dns_names.specs.declared.NameError.TheVariants.{LabelTooLong, NameTooLong}
+use Rattle.dns_names.specs.Lower.{labels_with}
 
 abbrev none_of : List ℕ → Bool
 none_of label = length label == 0
@@ -143,10 +144,6 @@ labels_are (x ∷ xs) h e l =
     let some = or_both (length x == 0) (list_any none_of xs) e in
     let short = or_both (nat_lt 63 (length x)) (list_any long_of xs) l in
     (label_is x h.0 some.0 short.0, labels_are xs h.1 some.1 short.1)
-
-labels_with : (a b : Labels) → AllByRecursion IsLabel a → AllByRecursion IsLabel b → AllByRecursion IsLabel (a ++ b)
-labels_with [] b h k = k
-labels_with (l ∷ ls) b h k = (h.0, labels_with ls b h.1 k)
 
 framed_is : (done rest : Labels) → AllByRecursion IsLabel done → framed done ++ wire rest ≡ wire (done ++ rest)
 framed_is [] rest h = refl

@@ -6,7 +6,7 @@ use Rattle.std.specs.List.{AllByRecursion}
 use Rattle.dns_names.specs.PlainOctets.{octets-append}
 use Rattle.dns_names.specs.Name.{Labels, IsName, wire, labels_of}
 use Rattle.dns_names.specs.Plain.{IsPlain}
-use Rattle.dns_records.specs.Types.{Field, Value, Values, U16, U32, Ipv4, Ipv6, octet_count, Name, UncompressedName, form}
+use Rattle.dns_records.specs.Types.{Field, Value, Values, U16, U32, octet_count, Name, UncompressedName, form}
 use Rattle.dns_records.specs.Record.{Data, IsData, AreFields, IsRData}
 use Rattle.dns_records.specs.Typed.{mx_data, srv_data, soa_with, FitsMx, FitsSrv}
 use Rattle.dns_records.specs.declared.typed.Soa.{Soa}
@@ -83,7 +83,7 @@ back_fits : (xs ys : List ℕ) → Octal (xs ++ ys) → Octal ys
 back_fits [] ys h = h
 back_fits (x ∷ xs) ys h = back_fits xs ys h.1
 
-behind_fits : (n : ℕ) (xs : List ℕ) → Octal xs → Octal (drop n xs)
+pub behind_fits : (n : ℕ) (xs : List ℕ) → Octal xs → Octal (drop n xs)
 behind_fits zero xs h = h
 behind_fits (suc n) [] h = tt
 behind_fits (suc n) (x ∷ xs) h = behind_fits n xs h.1

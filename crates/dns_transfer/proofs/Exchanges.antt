@@ -11,7 +11,7 @@ use Rattle.dns_changes.specs.Change.{Change}
 use Rattle.dns_transfer.specs.Records.{transfer_of}
 use Rattle.dns_transfer.specs.Messages.{Heading, octets_with, datagram_of}
 use Rattle.dns_transfer.specs.Refusal.{client_serial, refusal}
-use Rattle.dns_transfer.proofs.Hex.{hex}
+use Rattle.dns_wire.proofs.Hex.{hex}
 
 abbrev asked : List ℕ → Option EchoedQuestion
 asked qtype = Some (record { octets = hex (codes "076578616d706c6500" ++ qtype ++ codes "0001"); name = example })

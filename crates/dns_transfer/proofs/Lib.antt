@@ -4,6 +4,5 @@ mod Sequences
 mod Shared
 mod Soa
 mod Told
-mod Hex
 mod Examples
 mod Exchanges

@@ -1,5 +1,5 @@
 -- What is found of a set, by what a name owns.
-use Rattle.std.proofs.Common.{◌≡◌, ℕ, Bool, true, false, not, ◌&&◌, ◌||◌, List, [], ◌∷◌, Option, refl, sym, ap, subst, ◌∙◌, cond}
+use Rattle.std.proofs.Common.{◌≡◌, ℕ, Bool, true, false, not, ◌&&◌, ◌||◌, List, Option, refl, sym, ap, subst, ◌∙◌}
 use Rattle.std.specs.Prelude.{filter, ◌==◌, Result, IfOk}
 use Rattle.std.specs.List.{list_any, find}
 use Rattle.dns_names.specs.Name.{Labels, names_eq}
@@ -12,6 +12,7 @@ use Rattle.dns_zone.specs.Twice.{any_by}
 use Rattle.dns_update.specs.Effect.{is_of, is_vital, owns_other, succeeds}
 use Rattle.dns_zone.proofs.Kept.{any_kept, find_kept}
 use Rattle.dns_update.proofs.Gone.{IsOfKey}
+use Rattle.dns_zone.proofs.Listed.{filter_same}
 
 abbrev pub is_deleted : Labels → Labels → ℕ → Record → Bool
 is_deleted apex name t r = is_of name t r && not (is_vital apex r)
@@ -19,20 +20,16 @@ is_deleted apex name t r = is_of name t r && not (is_vital apex r)
 pub of_here : (name : Labels) (t : ℕ) (xs : List Record) → find (is_of name t) (filter (is_of name t) xs) ≡ find (is_of name t) xs
 of_here name t xs = find_kept (is_of name t) (is_of name t) xs (λ r e. e)
 
-same_kept : (p q : Record → Bool) → ((r : Record) → p r ≡ q r) → (xs : List Record) → filter p xs ≡ filter q xs
-same_kept p q h [] = refl
-same_kept p q h (x ∷ xs) = λ i. cond (h x i) (x ∷ same_kept p q h xs i) (same_kept p q h xs i)
-
 and_true : (b : Bool) → b ≡ (b && true)
 and_true true = refl
 and_true false = refl
 
 -- the records of a name are those of it and any type, and an RRset those of it and that type
 pub any_type : (name : Labels) (t : ℕ) (xs : List Record) → (t == type_any) ≡ true → records_at xs name ≡ filter (is_of name t) xs
-any_type name t xs e = same_kept (λ r. names_eq r.owner name) (is_of name t) (λ r. and_true (names_eq r.owner name) ∙ sym (ap (λ b. names_eq r.owner name && (b || r.rtype == t)) e)) xs
+any_type name t xs e = filter_same (λ r. names_eq r.owner name) (is_of name t) (λ r. and_true (names_eq r.owner name) ∙ sym (ap (λ b. names_eq r.owner name && (b || r.rtype == t)) e)) xs
 
 pub that_type : (name : Labels) (t : ℕ) (xs : List Record) → (t == type_any) ≡ false → rrset xs name t ≡ filter (is_of name t) xs
-that_type name t xs e = same_kept (λ r. names_eq r.owner name && r.rtype == t) (is_of name t) (λ r. sym (ap (λ b. names_eq r.owner name && (b || r.rtype == t)) e)) xs
+that_type name t xs e = filter_same (λ r. names_eq r.owner name && r.rtype == t) (is_of name t) (λ r. sym (ap (λ b. names_eq r.owner name && (b || r.rtype == t)) e)) xs
 
 pub deleted_here : (apex name : Labels) (t : ℕ) (xs : List Record) → find (is_deleted apex name t) (records_at xs name) ≡ find (is_deleted apex name t) xs
 deleted_here apex name t xs = find_kept (is_deleted apex name t) (λ r. names_eq r.owner name) xs

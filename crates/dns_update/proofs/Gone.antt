@@ -1,5 +1,5 @@
 -- Records that go out of a set one behind another.
-use Rattle.std.proofs.Common.{◌≡◌, suc, ◌<◌, ◌≤◌, Bool, true, false, not, ◌||◌, List, [], ◌∷◌, Some, None, length, refl, sym, ap, ◌∙◌, arith, cond}
+use Rattle.std.proofs.Common.{◌≡◌, suc, ◌<◌, Bool, true, false, not, ◌||◌, List, [], ◌∷◌, Some, None, length, refl, sym, ap, ◌∙◌, arith, cond}
 use Rattle.std.specs.Prelude.{filter}
 use Rattle.std.specs.List.{find}
 use Rattle.std.specs.Ordering.{is_eq}
@@ -10,6 +10,7 @@ use Rattle.dns_zone.specs.Records.{alike, has, without}
 use Rattle.dns_zone.specs.Order.{record_total}
 use Rattle.dns_zone.specs.Sets.{equal_is}
 use Rattle.dns_zone.specs.Twice.{alike_is}
+use Rattle.dns_zone.proofs.Kept.{kept_most}
 
 abbrev pub none_of : (Record → Bool) → Record → Bool
 none_of p r = not (p r)
@@ -58,20 +59,12 @@ one_goes p key g e (x ∷ xs) = at (is_eq (record_cmp g x)) refl (one_goes p key
         rest ∙ sym (ap (λ b. cond (not b) (x ∷ filter (none_of p) xs) (filter (none_of p) xs)) gone)
     at false f rest = ap (λ (ys : List Record). cond (not (p x)) (x ∷ ys) ys) rest
 
-pub no_more : (p : Record → Bool) (xs : List Record) → length (filter p xs) ≤ length xs
-no_more p [] = omega arith
-no_more p (x ∷ xs) = at (p x) (no_more p xs)
-  where
-    at : (b : Bool) → length (filter p xs) ≤ length xs → length (cond b (x ∷ filter p xs) (filter p xs)) ≤ suc (length xs)
-    at true rest = omega arith
-    at false rest = omega arith
-
 pub fewer : (g : Record) (xs : List Record) → has g xs ≡ true → length (without g xs) < length xs
 fewer g [] e = absurd cc
 fewer g (x ∷ xs) e = at (is_eq (record_cmp g x)) e (fewer g xs)
   where
     at : (b : Bool) → (b || has g xs) ≡ true → (has g xs ≡ true → length (without g xs) < length xs) → length (cond (not b) (x ∷ without g xs) (without g xs)) < suc (length xs)
-    at true e rest = (let kept = no_more (λ s. not (is_eq (record_cmp g s))) xs in omega arith)
+    at true e rest = (let kept = kept_most (λ s. not (is_eq (record_cmp g s))) xs in omega arith)
     at false e rest = (let less = rest e in omega arith)
 
 -- ---- the record of an item

@@ -14,18 +14,14 @@ use Rattle.dns_zone.specs.Records.{alike, contains, has, put, rrset, same}
 use Rattle.dns_zone.specs.Order.{record_total, number_itself, same_is, both_true}
 use Rattle.dns_zone.specs.Sets.{ties, found, Sorted, true_or_false, either_true, same_sets, joins, sorted_put, sorted_filter, only, found_put, found_filter, found_tied, found_contains}
 use Rattle.dns_zone.specs.Twice.{alike_is}
-use Rattle.dns_zone.proofs.Kept.{numbers_same}
+use Rattle.dns_zone.proofs.Kept.{numbers_same, kept_most}
 use Rattle.dns_changes.proofs.Steps.{has_is}
 use Rattle.dns_changes.proofs.Touched.{filter_by}
 use Rattle.dns_wire.specs.Message.{ResourceRecord}
 use Rattle.dns_update.specs.ResourceRecord.{as_record}
 use Rattle.dns_update.specs.Prerequisites.{lists, is_rrset, are_rrsets}
 use Rattle.dns_update.specs.Listed.{listed, is_counted, is_met}
-use Rattle.dns_update.proofs.Gone.{no_more}
-
-find_by : (p q : Record → Bool) → ((r : Record) → p r ≡ q r) → (xs : List Record) → find p xs ≡ find q xs
-find_by p q h [] = refl
-find_by p q h (x ∷ xs) = λ i. cond (h x i) (Some x) (find_by p q h xs i)
+use Rattle.dns_zone.proofs.Placing.{find_by}
 
 found_alike : (r : Record) (xs : List Record) → found r xs ≡ find (alike r) xs
 found_alike r xs = find_by (ties r) (alike r) (alike_is r) xs
@@ -138,7 +134,7 @@ all_kept p (x ∷ xs) e = at (p x) refl e (all_kept p xs)
   where
     at : (b : Bool) → p x ≡ b → length (cond b (x ∷ filter p xs) (filter p xs)) ≡ suc (length xs) → (length (filter p xs) ≡ length xs → list_all p xs ≡ true) → list_all p (x ∷ xs) ≡ true
     at true f g rest = (let fewer : length (filter p xs) ≡ length xs = omega arith in λ j. f j && rest fewer j)
-    at false f g rest = (let most = no_more p xs in absurd (omega arith))
+    at false f g rest = (let most = kept_most p xs in absurd (omega arith))
 
 as_many : (p : Record → Bool) (xs : List Record) → (length (filter p xs) == length xs) ≡ list_all p xs
 as_many p xs = both_ways (length (filter p xs) == length xs) (list_all p xs)

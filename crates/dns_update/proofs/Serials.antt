@@ -6,7 +6,7 @@ use Rattle.std.specs.Int.{w32, to_be_bytes}
 use Rattle.std.specs.List.{AllByRecursion}
 use Rattle.dns_records.specs.Types.{Values, U32, Name, type_soa}
 use Rattle.dns_records.specs.Record.{Record, IsData, IsRecord, data_of, number_of, serial_of, with_serial}
-use Rattle.dns_records.proofs.Readings.{parts_of, soa_with-valid}
+use Rattle.dns_records.proofs.Readings.{parts_of, soa_with-valid, behind_fits}
 use Rattle.dns_wire.proofs.NumbersBack.{four_back}
 use Rattle.dns_serial.specs.Serial.{advance, greater, next_serial}
 
@@ -27,11 +27,6 @@ taken zero xs h = tt
 taken (suc n) [] h = tt
 taken (suc n) (x ∷ xs) h = (h.0, taken n xs h.1)
 
-dropped : (n : ℕ) (xs : List ℕ) → Octal xs → Octal (drop n xs)
-dropped zero xs h = h
-dropped (suc n) [] h = tt
-dropped (suc n) (x ∷ xs) h = dropped n xs h.1
-
 four_small : (xs : List ℕ) → Octal xs → length xs ≤ 4 → number_of xs < 2 ^ 32
 four_small [] h few = omega arith
 four_small (a ∷ []) h few = omega arith
@@ -46,7 +41,7 @@ four_at_most xs = omega (arith, length-take 4 xs)
 pub serial_small : (r : Record) → IsRecord r → serial_of r < 2 ^ 32
 serial_small r h =
     let behind = drop (length r.rdata - 20) r.rdata in
-    four_small (take 4 behind) (taken 4 behind (dropped (length r.rdata - 20) r.rdata h.octets)) (four_at_most behind)
+    four_small (take 4 behind) (taken 4 behind (behind_fits (length r.rdata - 20) r.rdata h.octets)) (four_at_most behind)
 
 data_valid : (r : Record) → IsRecord r → IsData (data_of r)
 data_valid r h = record { rtype = h.rtype; octets = h.octets; short = h.short; form = h.rdata }

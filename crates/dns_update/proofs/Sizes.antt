@@ -15,7 +15,7 @@ use Rattle.dns_update.specs.ResourceRecord.{as_record}
 use Rattle.dns_update.specs.Effect.{is_of, replaced, owns_other, succeeds, added, is_vital, deleted_set, is_spared, deleted, effect, effects}
 use Rattle.dns_serial.specs.Serial.{next_serial}
 use Rattle.dns_update.specs.Verdict.{with_next_serial}
-use Rattle.dns_update.proofs.Gone.{no_more}
+use Rattle.dns_zone.proofs.Kept.{kept_most}
 
 put_more : (r : Record) (xs : List Record) → length (put r xs) ≤ length xs + 1
 put_more r [] = omega arith
@@ -28,7 +28,7 @@ put_more r (x ∷ xs) = at (record_cmp r x) (put_more r xs)
 
 module _ (apex : Labels) (xs : List Record) where
   replaced_more : (r : Record) → length (replaced xs r) ≤ length xs + 1
-  replaced_more r = let kept = no_more (λ s. not (is_of r.owner r.rtype s)) xs in let more = put_more r (filter (λ s. not (is_of r.owner r.rtype s)) xs) in omega arith
+  replaced_more r = let kept = kept_most (λ s. not (is_of r.owner r.rtype s)) xs in let more = put_more r (filter (λ s. not (is_of r.owner r.rtype s)) xs) in omega arith
 
   added_more : (r : Record) → length (added xs r) ≤ length xs + 1
   added_more r = at (r.rtype == type_cname) (owns_other xs r.owner type_cname) (owns_type xs r.owner type_cname) (r.rtype == type_soa) (list_any (succeeds r) xs)
@@ -46,14 +46,14 @@ module _ (apex : Labels) (xs : List Record) where
     where
       at : (a : Bool) → length (if a then xs else without r xs) ≤ length xs + 1
       at true = omega arith
-      at false = let kept = no_more (λ s. not (is_eq (record_cmp r s))) xs in omega arith
+      at false = let kept = kept_most (λ s. not (is_eq (record_cmp r s))) xs in omega arith
 
   effect_more : (i : ResourceRecord) → length (effect apex xs i) ≤ length xs + 1
   effect_more i = at (i.class == class_in) (i.class == class_any)
     where
       at : (a b : Bool) → length (if a then added xs (as_record i) else if b then deleted_set apex xs i.owner i.rtype else deleted apex xs (as_record i)) ≤ length xs + 1
       at true b = added_more (as_record i)
-      at false true = (let kept = no_more (λ r. not (is_of i.owner i.rtype r && not (is_vital apex r))) xs in omega arith)
+      at false true = (let kept = kept_most (λ r. not (is_of i.owner i.rtype r && not (is_vital apex r))) xs in omega arith)
       at false false = deleted_more (as_record i)
 
 pub effects_more : (apex : Labels) (xs : List Record) (items : List ResourceRecord) → length (effects apex xs items) ≤ length xs + length items
@@ -64,5 +64,5 @@ pub next_more : (ss xs : List Record) → length (with_next_serial ss xs) ≤ le
 next_more [] xs = omega arith
 next_more (s ∷ ss) xs =
     let next = with_serial s (next_serial (serial_of s)) in
-    let kept = no_more (λ r. not (is_eq (record_cmp s r))) xs in
+    let kept = kept_most (λ r. not (is_eq (record_cmp s r))) xs in
     let more = put_more next (without s xs) in omega arith

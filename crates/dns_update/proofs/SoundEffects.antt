@@ -25,7 +25,8 @@ use Rattle.dns_update.specs.Verdict.{with_next_serial}
 use Rattle.dns_update.proofs.ResourceRecords.{no_fault}
 use Rattle.dns_update.proofs.Forms.{fit}
 use Rattle.dns_update.proofs.OneSoa.{puts, aliases, replaces, deletes_set, deletes, next_soa}
-use Rattle.dns_update.proofs.Sound.{IsSound, IsPlaced, AreApart, is_alias, is_server, later, refuted, of_none, one_any, put_any, kept_any, server_key, put_alone, put_placed, kept_alone}
+use Rattle.dns_zone.proofs.Alone.{is_alias, later, refuted, of_none, one_any}
+use Rattle.dns_update.proofs.Sound.{IsSound, IsPlaced, AreApart, is_server, put_any, kept_any, server_key, put_alone, put_placed, kept_alone}
 
 never : (b : Bool) → (b && false) ≡ false
 never true = refl

@@ -13,10 +13,10 @@ use Rattle.dns_records.specs.Record.{Record, record_cmp}
 use Rattle.dns_zone.specs.Records.{exists, is_ordered}
 use Rattle.dns_zone.specs.Order.{name_total}
 use Rattle.dns_zone.specs.Place.{IsPlaceOf, is_owned_at, is_owned_beside}
-use Rattle.dns_zone.specs.Sets.{Sorted, sorted_from, true_or_false}
+use Rattle.dns_zone.specs.Sets.{Sorted, sorted_from, true_or_false, less_is}
 use Rattle.dns_zone.specs.declared.search.Key.TheVariants as key
-use Rattle.dns_zone.proofs.Searching.{key_cut, not_less, less_true, told_nat}
-use Rattle.dns_zone.proofs.Under.{before_apart, convex, none_under, exists_some, exists_none}
+use Rattle.dns_zone.proofs.Searching.{key_cut, not_less, told_nat}
+use Rattle.dns_zone.proofs.Under.{before_apart, convex, none_under, exists_some, exists_none, or_none}
 
 no_less : (o : Ordering) → (is_lt o ≡ true → ⊥) → is_lt o ≡ false
 no_less o h = elim (true_or_false (is_lt o)) [ inl e ↦ absurd (h e) | inr e ↦ e ]
@@ -38,7 +38,7 @@ before_both a h n l (inr m) = subst (λ (x : Labels). name_cmp a x ≡ Less) (na
 not_before : (a n here : Labels) → is_lt (name_cmp a n) ≡ false → under n here ≡ true → is_lt (name_cmp a here) ≡ false
 not_before a n here e u = no_less (name_cmp a here) (λ l. (
     let order = reversed (name_cmp n here) (name_cmp here n) (name_total.antisymm here n) (under_behind n here u) in
-    let less : is_lt (name_cmp a n) ≡ true = ap is_lt (before_both a here n (less_true (name_cmp a here) l) order) in
+    let less : is_lt (name_cmp a n) ≡ true = ap is_lt (before_both a here n (less_is (name_cmp a here) l) order) in
     cc))
 
 or_false : (b : Bool) → (b || false) ≡ b
@@ -50,10 +50,6 @@ or_turned true true = refl
 or_turned true false = refl
 or_turned false true = refl
 or_turned false false = refl
-
-or_none : (b c : Bool) → (b ≡ false → c ≡ false) → b ≡ (b || c)
-or_none true c h = refl
-or_none false c h = sym (h refl)
 
 or_kept : (b c : Bool) → (b ≡ true → c ≡ true) → c ≡ (b || c)
 or_kept true c h = h refl
@@ -81,7 +77,7 @@ at_front (x ∷ xs) name here s h u =
 next_under : (x y : Record) (ys : List Record) (name here : Labels) → record_cmp x y ≡ Less → is_lt (name_cmp y.owner name) ≡ true → under name here ≡ true → under x.owner here ≡ true → exists (y ∷ ys) here ≡ true
 next_under x y ys name here order before u e =
     let low = not_less (λ (r : Record). name_cmp r.owner here) (key_cut (key.Owner here)) x y order (under_behind x.owner here e) in
-    or_first (under y.owner here) (exists ys here) (convex y.owner name here low (inl (less_true (name_cmp y.owner name) before)) u)
+    or_first (under y.owner here) (exists ys here) (convex y.owner name here low (inl (less_is (name_cmp y.owner name) before)) u)
 
 beside_at : (xs : List Record) (name here : Labels) (place : ℕ) → Sorted xs → IsPlaceOf name xs place → under name here ≡ true → is_owned_beside xs place here ≡ exists xs here
 beside_at [] name here zero s h u = refl

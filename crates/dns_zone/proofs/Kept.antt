@@ -1,5 +1,5 @@
 -- Tests over the elements that another test keeps.
-use Rattle.std.proofs.Common.{◌≡◌, ℕ, Bool, true, false, not, ◌&&◌, ◌||◌, List, [], ◌∷◌, Some, refl, ap, arith, cond}
+use Rattle.std.proofs.Common.{◌≡◌, ℕ, suc, ◌≤◌, length, Bool, true, false, not, ◌&&◌, ◌||◌, List, [], ◌∷◌, Some, refl, ap, arith, cond}
 use Rattle.std.specs.Prelude.{filter, ◌==◌}
 use Rattle.std.proofs.lemmas.Bool.Decides.{nat_tests}
 use Rattle.std.specs.List.{list_any, find}
@@ -27,3 +27,12 @@ numbers_same a b e = grind (arith, nat_tests)
 pub twice : (b : Bool) → not (not b) ≡ b
 twice true = refl
 twice false = refl
+
+-- a test keeps no more than there are
+pub kept_most : {X : Type 0} (p : X → Bool) (xs : List X) → length (filter p xs) ≤ length xs
+kept_most p [] = omega arith
+kept_most p (x ∷ xs) = at (p x) (kept_most p xs)
+  where
+    at : (b : Bool) → length (filter p xs) ≤ length xs → length (cond b (x ∷ filter p xs) (filter p xs)) ≤ suc (length xs)
+    at true rest = omega arith
+    at false rest = omega arith

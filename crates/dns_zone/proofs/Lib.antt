@@ -7,6 +7,7 @@ pub mod Under
 pub mod Surveying
 pub mod Gathering
 pub mod OneSoa
+pub mod Alone
 pub mod Cuts
 pub mod Enclosers
 pub mod Starred

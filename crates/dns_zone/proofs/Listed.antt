@@ -23,7 +23,7 @@ use Rattle.dns_zone.specs.Order.{name_total, record_total, names_same, names_its
 use Rattle.dns_zone.specs.Twice.{once}
 use Rattle.dns_zone.specs.Sets.{Sorted, sorted_from, sorted_put, sorted_filter, equal_is}
 
-filter_same : (p q : Record → Bool) → ((r : Record) → p r ≡ q r) → (xs : List Record) → filter p xs ≡ filter q xs
+pub filter_same : (p q : Record → Bool) → ((r : Record) → p r ≡ q r) → (xs : List Record) → filter p xs ≡ filter q xs
 filter_same p q h [] = refl
 filter_same p q h (x ∷ xs) = λ i. cond (h x i) (x ∷ filter_same p q h xs i) (filter_same p q h xs i)
 

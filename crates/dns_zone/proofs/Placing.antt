@@ -83,7 +83,7 @@ belongs r (s ∷ rest) (suc at) h inside before other =
     }
 
 -- ---- what is found there
-find_by : (p q : Record → Bool) → ((r : Record) → p r ≡ q r) → (xs : List Record) → find p xs ≡ find q xs
+pub find_by : (p q : Record → Bool) → ((r : Record) → p r ≡ q r) → (xs : List Record) → find p xs ≡ find q xs
 find_by p q h [] = refl
 find_by p q h (x ∷ xs) = λ i. cond (h x i) (Some x) (find_by p q h xs i)
 

@@ -12,7 +12,7 @@ use Rattle.dns_names.specs.Name.{Labels, name_cmp}
 use Rattle.dns_records.specs.Record.{Record, record_cmp}
 use Rattle.dns_zone.specs.Records.{is_ordered}
 use Rattle.dns_zone.specs.Order.{record_total, name_total}
-use Rattle.dns_zone.specs.Sets.{Sorted, Below, sorted_from, true_or_false}
+use Rattle.dns_zone.specs.Sets.{Sorted, Below, sorted_from, true_or_false, less_is}
 use Rattle.dns_zone.specs.Side.{side_of}
 use Rattle.dns_zone.specs.declared.search.Key.{Key}
 use Rattle.dns_zone.specs.declared.search.Key.TheVariants as key
@@ -40,13 +40,8 @@ then_less Less b e = inl refl
 then_less Equal b e = inr refl
 then_less Greater b e = absurd cc
 
-pub less_true : (o : Ordering) → is_lt o ≡ true → o ≡ Less
-less_true Less e = refl
-less_true Equal e = absurd cc
-less_true Greater e = absurd cc
-
 lesser : {K : Type 0} (R : K → K → Ordering) → IsTotalOrder R → (x y z : K) → (R x y ≡ Less) ⊎ (R x y ≡ Equal) → is_lt (R y z) ≡ true → is_lt (R x z) ≡ true
-lesser R o x y z (inl l) e = ap is_lt (o.trans x y z l (less_true (R y z) e))
+lesser R o x y z (inl l) e = ap is_lt (o.trans x y z l (less_is (R y z) e))
 lesser R o x y z (inr q) e = ap is_lt (o.congr x y z q) ∙ e
 
 not_past : {K : Type 0} (R : K → K → Ordering) → IsTotalOrder R → (x y z : K) (at : Ordering) → R y z ≡ at → (R x y ≡ Less) ⊎ (R x y ≡ Equal) → is_gt at ≡ false → is_gt (R x z) ≡ false
@@ -164,7 +159,7 @@ between Less e f = absurd cc
 between Equal e f = refl
 between Greater e f = absurd cc
 
-not_past_equal : (o : Ordering) → is_eq o ≡ true → is_gt o ≡ false
+pub not_past_equal : (o : Ordering) → is_eq o ≡ true → is_gt o ≡ false
 not_past_equal Less e = absurd cc
 not_past_equal Equal e = refl
 not_past_equal Greater e = absurd cc

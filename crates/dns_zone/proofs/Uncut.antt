@@ -13,6 +13,7 @@ use Rattle.dns_zone.specs.Ancestry.{under_from, under_with}
 use Rattle.dns_zone.specs.Sets.{true_or_false}
 use Rattle.dns_zone.proofs.Cuts.{or_else, up_once, at_root}
 use Rattle.dns_zone.proofs.Enclosers.{encloser_here, encloser_up, encloser_root}
+use Rattle.dns_zone.proofs.Alone.{neither}
 
 pub or_else_none : (a : Option Labels) → or_else a None ≡ a
 or_else_none None = refl
@@ -32,14 +33,10 @@ same_under a n e = under_with a n ([], names_same a n e)
 not_same : (a n : Labels) → under a n ≡ false → names_eq a n ≡ false
 not_same a n e = elim (true_or_false (names_eq a n)) [ inl s ↦ (let u = same_under a n s in absurd cc) | inr f ↦ f ]
 
-none_either : (a b : Bool) → (a || b) ≡ false → (a ≡ false) × (b ≡ false)
-none_either true b e = absurd cc
-none_either false b e = (refl, e)
-
 pub owns_nothing : (xs : List Record) (n : Labels) (t : ℕ) → exists xs n ≡ false → owns_type xs n t ≡ false
 owns_nothing [] n t e = refl
 owns_nothing (x ∷ xs) n t e =
-    let two = none_either (under x.owner n) (exists xs n) e in
+    let two = neither (under x.owner n) (exists xs n) e in
     (λ i. (not_same x.owner n two.0 i && x.rtype == t) || owns_nothing xs n t two.1 i)
 
 and_false : (a b : Bool) → b ≡ false → (a && b) ≡ false

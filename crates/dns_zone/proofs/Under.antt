@@ -70,7 +70,7 @@ none_under s n (x ∷ rest) h low e =
     ] in
     ap (λ (b : Bool). b || exists rest n) here ∙ none_under s n rest h.1 low e
 
-or_none : (b c : Bool) → (b ≡ false → c ≡ false) → b ≡ (b || c)
+pub or_none : (b c : Bool) → (b ≡ false → c ≡ false) → b ≡ (b || c)
 or_none true c h = refl
 or_none false c h = sym (h refl)
 

@@ -6,7 +6,7 @@ use Rattle.std.specs.declared.cmp.Ordering.{Ordering}
 use Rattle.std.specs.declared.cmp.Ordering.TheVariants.{Less, Equal, Greater}
 use Rattle.std.proofs.lemmas.Option.{slice_get_past, slice_get-get_or}
 use Rattle.dns_records.specs.Record.{Record, record_cmp}
-use Rattle.dns_zone.proofs.Searching.{told_nat, above}
+use Rattle.dns_zone.proofs.Searching.{told_nat, above, not_past_equal}
 use Rattle.dns_zone.proofs.Listed.{next_is}
 use Rattle.dns_zone.proofs.search.first_behind.Goals as goal
 
@@ -15,15 +15,10 @@ less_low Less e = refl
 less_low Equal e = absurd cc
 less_low Greater e = absurd cc
 
-equal_low : (o : Ordering) → is_eq o ≡ true → is_gt o ≡ false
-equal_low Less e = absurd cc
-equal_low Equal e = refl
-equal_low Greater e = absurd cc
-
 through : (side : Record → Ordering) (xs : List Record) (begin end : ℕ) → AllWithin (λ r. is_lt (side r) ≡ true) xs 0 begin → AllWithin (λ r. is_eq (side r) ≡ true) xs begin end → AllWithin (λ r. is_gt (side r) ≡ false) xs 0 end
 through side xs begin end before here = λ k d from to. elim (told_nat k begin) [
   | inl lt ↦ less_low (side (get_or xs k d)) (before k d from lt)
-  | inr ge ↦ equal_low (side (get_or xs k d)) (here k d ge to)
+  | inr ge ↦ not_past_equal (side (get_or xs k d)) (here k d ge to)
 ]
 
 beyond : (side : Record → Ordering) (xs : List Record) (begin end : ℕ) → begin ≤ end → AllWithin (λ r. is_lt (side r) ≡ false) xs begin (length xs) → AllWithin (λ r. is_eq (side r) ≡ false) xs end (length xs) → AllWithin (λ r. is_gt (side r) ≡ true) xs end (length xs)

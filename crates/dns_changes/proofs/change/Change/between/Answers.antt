@@ -1,6 +1,6 @@
 use Rattle.std.proofs.Common.{arith, length, [], ◌∷◌, sym, ap, ◌∙◌}
 use Rattle.dns_changes.specs.Change.{is_lone}
-use Rattle.dns_changes.proofs.Walking.{kept_most}
+use Rattle.dns_zone.proofs.Kept.{kept_most}
 use Rattle.dns_changes.proofs.Formed.{formed}
 use Rattle.dns_changes.proofs.change.Change.between.Goals as goal
 
