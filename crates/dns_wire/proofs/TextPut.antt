@@ -104,7 +104,7 @@ asked_octets r = go r.question
     go None = refl
     go (Some e) = refl
 
-asked_places : (r : Reply) → (asked r.question).places ≡ question_places r
+pub asked_places : (r : Reply) → (asked r.question).places ≡ question_places r
 asked_places r = go r.question
   where
     go : (q : Option EchoedQuestion) → (asked q).places ≡ elim q [ None ↦ [] | Some e ↦ (asked (Some e)).places ]

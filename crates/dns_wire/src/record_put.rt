@@ -106,7 +106,7 @@ impl<'a> Compressor<'a> {
     }
 
     /// Writes a record (RFC 1035 section 4.1.3).
-    fn put_record(&mut self, one: &ReplyRecord<'a>) -> Result<(), WriteError>
+    pub(crate) fn put_record(&mut self, one: &ReplyRecord<'a>) -> Result<(), WriteError>
         requires room { length self.old.octets.items ≤ self.old.limit }
         requires small { self.old.limit < 65536 }
         ensures written { OnOk result

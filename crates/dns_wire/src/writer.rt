@@ -29,7 +29,7 @@ fn count(records: &[ReplyRecord<'_>]) -> Result<[u8; 2], WriteError>
 }
 
 /// The header of a reply (RFC 1035 section 4.1.1).
-fn header(reply: &Reply<'_>) -> Result<[u8; 12], WriteError>
+pub(crate) fn header(reply: &Reply<'_>) -> Result<[u8; 12], WriteError>
     ensures found { IfOk result (λ octets. octets ≡ header_octets (stated reply.now)) }
     ensures refused { IfErr result
         (λ e. (e ≡ WriteError.DoesNotFit)
@@ -63,7 +63,10 @@ fn header(reply: &Reply<'_>) -> Result<[u8; 12], WriteError>
 
 impl<'a> Compressor<'a> {
     /// Writes the question of a reply as it came, behind the header.
-    fn put_question(&mut self, question: &Option<EchoedQuestion<'a>>) -> Result<(), WriteError>
+    pub(crate) fn put_question(
+        &mut self,
+        question: &Option<EchoedQuestion<'a>>,
+    ) -> Result<(), WriteError>
         requires header { length self.old.octets.items ≡ 12 }
         requires first { self.old.places.items ≡ [] }
         requires room { length self.old.octets.items ≤ self.old.limit }

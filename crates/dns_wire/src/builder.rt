@@ -1,0 +1,151 @@
+//! A message whose answer is filled record by record, as far as it goes: a transfer's (RFC 5936 section 2.2).
+ghost use Rattle.std.specs.Prelude.{◌≡◌, ◌≤◌, ◌++◌, length, drop, IfOk, IfErr, OnOk};
+ghost use Rattle.dns_wire.specs.Building.{HasNoRecord, IsBuilt};
+ghost use Rattle.dns_wire.specs.Compress.{compressed_record};
+ghost use Rattle.dns_wire.specs.Pushed.{IsPushed};
+ghost use Rattle.dns_wire.specs.Puts.{RefusesUpTo, Wrote};
+ghost use Rattle.dns_wire.specs.Reply.{stated};
+ghost use Rattle.dns_wire.specs.Text.{text};
+
+use crate::compressor::Compressor;
+use crate::writer::header;
+use crate::{Reply, ReplyRecord, WriteError};
+use dns_memory::Heap;
+use std::alloc::AllocError;
+use std::marker::Model;
+
+/// The octets that a message and one record more have room in, whatever the record.
+const ROOM: usize = 65535;
+
+/// A message that takes records into its answer, one behind the other, while they fit.
+#[derive(Drop)]
+pub struct MessageBuilder<'a> {
+    reply: Reply<'a>,
+    compressor: Compressor<'a>,
+    limit: usize,
+}
+
+impl<'a> Model for MessageBuilder<'a> {
+    ghost use Rattle.std.specs.Prelude.{◌≡◌};
+    ghost use Rattle.dns_wire.specs.Reply.{stated};
+    ghost use Rattle.dns_wire.specs.Building.{Building, StandsBuilt};
+
+    ghost Value = { Building };
+
+    ghost view = { λ b. record { reply = stated b.reply; limit = b.limit } };
+
+    ghost invariant = { λ b.
+        StandsBuilt (record { reply = stated b.reply; limit = b.limit }) b.compressor.octets.items b.compressor.places.items
+        × (b.compressor.limit ≡ 65535) };
+}
+
+/// What became of a message to which a record was given.
+#[derive(Drop)]
+pub enum Pushed<'a> {
+    /// The record fits: the message with it.
+    Open(MessageBuilder<'a>),
+    /// It does not fit: the octets of the message without it.
+    Full(Vec<u8, Heap>),
+}
+
+/// Writes a record behind octets of a message: whatever the record, there is room for it.
+fn put_any<'a>(compressor: &mut Compressor<'a>, one: &ReplyRecord<'a>) -> Result<(), AllocError>
+    requires low { length compressor.old.octets.items ≤ 16384 }
+    requires room { compressor.old.limit ≡ 65535 }
+    ensures { OnOk result
+        (Wrote compressor.old.limit compressor.old.octets.items compressor.new.octets.items compressor.new.limit
+        compressor.new.places.items
+        (compressed_record compressor.old.places.items (length compressor.old.octets.items) one.now)) }
+{
+    let _data = one.rdata();
+    match compressor.put_record(one) {
+        Ok(()) => Ok(()),
+        Err(WriteError::OutOfMemory) => Err(AllocError),
+        Err(WriteError::DoesNotFit) => unreachable!(),
+    }
+}
+
+/// Writes a header in place of the first twelve octets.
+fn put_header(octets: &mut Vec<u8, Heap>, header: &[u8; 12])
+    requires { 12 ≤ length octets.old.items }
+    ensures { octets.new.items ≡ header.now ++ drop 12 octets.old.items }
+{
+    octets.as_mut_slice()[0..12].copy_from_slice(header);
+}
+
+/// The octets of a message with its header, in place of the twelve that stand there.
+fn finished(reply: &Reply<'_>, mut octets: Vec<u8, Heap>) -> Vec<u8, Heap>
+    requires { IsBuilt (stated reply.now) octets.items }
+    ensures { result.items ≡ text (stated reply.now) }
+{
+    match header(reply) {
+        Ok(header) => put_header(&mut octets, &header),
+        Err(_) => unreachable!(),
+    }
+    octets
+}
+
+impl<'a> MessageBuilder<'a> {
+    /// A message with what the reply says but for records, of at most so many octets. It refuses with `DoesNotFit` where it is
+    /// longer already, and with `OutOfMemory` where memory is wanting.
+    pub fn new(
+        alloc: Heap,
+        reply: Reply<'a>,
+        limit: usize,
+    ) -> Result<MessageBuilder<'a>, WriteError>
+        requires empty { HasNoRecord (stated reply) }
+        requires low { limit ≤ 16384 }
+        ensures found { IfOk result (λ b. (b.reply ≡ stated reply.entry) × (b.limit ≡ limit)) }
+        ensures refused { IfErr result (RefusesUpTo limit (length (text (stated reply.entry)))) }
+    {
+        let mut compressor = Compressor {
+            octets: Vec::with_capacity(alloc, limit)?,
+            places: Vec::with_capacity(alloc, 32)?,
+            limit,
+        };
+        compressor.put(&header(&reply)?)?;
+        compressor.put_question(&reply.question)?;
+        compressor.limit = ROOM;
+        Ok(MessageBuilder {
+            reply,
+            compressor,
+            limit,
+        })
+    }
+
+    /// Puts a record behind the others, if the message fits its limit with it.
+    pub fn push(self, one: ReplyRecord<'a>) -> Result<Pushed<'a>, AllocError>
+        ensures { IfOk result (λ pushed. IsPushed self.entry one.entry pushed) }
+    {
+        let MessageBuilder {
+            mut reply,
+            mut compressor,
+            limit,
+        } = self;
+        let end = compressor.octets.len();
+        put_any(&mut compressor, &one)?;
+        if compressor.octets.len() > limit {
+            compressor.octets.truncate(end);
+            return Ok(Pushed::Full(finished(&reply, compressor.octets)));
+        }
+        reply.answer.push(one)?;
+        Ok(Pushed::Open(MessageBuilder {
+            reply,
+            compressor,
+            limit,
+        }))
+    }
+
+    /// The octets of the message.
+    pub fn finish(self) -> Vec<u8, Heap>
+        ensures text { result.items ≡ text self.entry.reply }
+        ensures fits { length result.items ≤ self.entry.limit }
+    {
+        let MessageBuilder {
+            reply,
+            compressor,
+            limit: _,
+        } = self;
+        finished(&reply, compressor.octets)
+    }
+}
