@@ -19,8 +19,9 @@ use Rattle.dns_request.specs.Request as request
 use Rattle.dns_request.specs.Request.{Request, opcode_query, opcode_update, rcode_formerr, rcode_notimp, rcode_refused, has_counts, question_as, message_as, read_as, request_as, too_long}
 use Rattle.dns_answer.specs.Sections.{is_name_error, is_authoritative}
 use Rattle.dns_answer.specs.Fit.{is_referral, by_udp, by_udp_without_additional, by_tcp, truncated, failed}
-use Rattle.dns_answer.specs.Answer.{Handled, NoReply, Replies, Update, Transfer, bare_reply, echo_of, with_question, reply_for, answered, fitted, handled_as, rcode_nxdomain}
+use Rattle.dns_answer.specs.Answer.{Handled, NoReply, Replies, Update, Transfer, bare_reply, with_question, reply_for, answered, fitted, handled_as, rcode_nxdomain}
 use Rattle.dns_answer.proofs.SoundRecords.{HasRecords, found_is, sections_are}
+use Rattle.dns_wire.specs.Echo.{echo_of}
 
 -- A reply that is valid but for how many records it has.
 pub record IsSoundReply (r : Reply) : Type 0 where

@@ -2,7 +2,7 @@
 use Rattle.std.specs.Prelude.{◌≡◌, ℕ, List}
 use Rattle.dns_wire.specs.Message.{Question}
 use Rattle.dns_wire.specs.declared.reply.EchoedQuestion.{EchoedQuestion}
-use Rattle.dns_answer.specs.Answer.{echo_of}
+use Rattle.dns_wire.specs.Echo.{echo_of}
 
 pub record Echoes (message : List ℕ) (q : Question) (echo : EchoedQuestion) : Type 0 where
   pub octets_as : echo.octets.now ≡ (echo_of message q).octets
