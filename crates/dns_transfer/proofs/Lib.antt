@@ -6,3 +6,4 @@ mod Soa
 mod Told
 mod Examples
 mod Exchanges
+mod Filled

@@ -3,7 +3,7 @@ use Rattle.std.proofs.Common.{◌≡◌, ℕ, ◌+◌, ◌⊎◌, inl, inr, true
 use Rattle.std.specs.Prelude.{◌==◌}
 use Rattle.std.proofs.lemmas.Bool.Decides.{nat_tests}
 use Rattle.dns_names.specs.Name.{names_eq}
-use Rattle.dns_records.specs.Types.{form, type_soa, class_in}
+use Rattle.dns_records.specs.Types.{type_soa, class_in}
 use Rattle.dns_records.specs.Record.{IsRData}
 use Rattle.dns_zone.specs.Order.{both_true}
 use Rattle.dns_wire.specs.Message.{Question, ResourceRecord, Message}

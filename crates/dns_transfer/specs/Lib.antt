@@ -3,3 +3,4 @@ pub mod Records
 pub mod Messages
 pub mod Refusal
 pub mod Left
+pub mod Session

@@ -1,12 +1,15 @@
 //! Transfers of zones: whole (AXFR, RFC 5936), or by their changes (IXFR, RFC 1995).
 #![tactic(auto)]
 
+mod filling;
 mod form;
 mod history;
 mod refusal;
 mod rest;
+mod session;
 
 pub use form::{Form, choose_form};
 pub use history::History;
 pub use refusal::{client_serial, refusal_of};
 pub use rest::{Place, Rest};
+pub use session::{Session, Version};

@@ -1,9 +1,9 @@
 //! The records of an answer that are still to be sent, in order.
-ghost use Rattle.std.specs.Prelude.{◌≡◌, ℕ, ◌∷◌, [], List, drop, length, slice_get, MatchOption, IfSome, IfNone};
+ghost use Rattle.std.specs.Prelude.{◌≡◌, ◌↔◌, ℕ, ◌∷◌, [], List, drop, length, slice_get, MatchOption, IfSome, IfNone, IsTrue};
 ghost use Rattle.std.specs.Option.{option_copied};
 ghost use Rattle.dns_records.specs.Record.{Record as Stated};
 ghost use Rattle.dns_changes.specs.Change.{Change as StatedChange};
-ghost use Rattle.dns_transfer.specs.declared.rest.Place.TheVariants.{Opening, Zone};
+ghost use Rattle.dns_transfer.specs.declared.rest.Place.TheVariants.{End, Opening, Zone};
 ghost use Rattle.dns_transfer.specs.Left.{left_at, left_in, left_of};
 ghost use Rattle.dns_transfer.specs.Records.{others, sequence};
 
@@ -25,6 +25,15 @@ pub enum Place {
     Sequence(usize, usize),
     /// Behind the last record.
     End,
+}
+
+impl Place {
+    /// Whether no record is left.
+    pub(crate) fn is_end(self) -> bool
+        ensures { IsTrue result ↔ (self ≡ End) }
+    {
+        matches!(self, Place::End)
+    }
 }
 
 impl Form {
