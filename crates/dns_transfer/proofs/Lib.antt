@@ -7,3 +7,4 @@ mod Told
 mod Examples
 mod Exchanges
 mod Filled
+mod Progress

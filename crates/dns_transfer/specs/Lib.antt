@@ -4,3 +4,4 @@ pub mod Messages
 pub mod Refusal
 pub mod Left
 pub mod Session
+pub mod Progress

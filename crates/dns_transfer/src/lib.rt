@@ -4,6 +4,7 @@
 mod filling;
 mod form;
 mod history;
+pub mod laws;
 mod refusal;
 mod rest;
 mod session;
