@@ -1,6 +1,6 @@
 -- What holds of each element of a list.
-use Rattle.std.proofs.Common.{ℕ, Bool, true, false, List, [], ◌∷◌, ◌++◌, map, cond}
-use Rattle.std.specs.Prelude.{Option, Some, None, filter, IfSome}
+use Rattle.std.proofs.Common.{Bool, true, false, List, [], ◌∷◌, ◌++◌, map, cond}
+use Rattle.std.specs.Prelude.{Some, filter, IfSome}
 use Rattle.std.specs.List.{AllByRecursion, find, flat_map}
 
 module _ {X : Type 0} (P : X → Type 0) where

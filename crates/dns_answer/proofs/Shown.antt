@@ -19,7 +19,7 @@ use Rattle.dns_lookup.specs.declared.chain.Found.{Found as Represented}
 use Rattle.dns_lookup.specs.declared.outcome.Kind.{Kind}
 use Rattle.dns_lookup.specs.declared.outcome.Kind.TheVariants as kinds
 use Rattle.dns_lookup.specs.Lookup.{Outcome, Found}
-use Rattle.dns_answer.specs.Sections.{Shown, from_zone, records_of, as_owner, answers_of, answer_of, authority_of, negative_soa, authority_at, addresses_for, is_name_error, is_authoritative}
+use Rattle.dns_answer.specs.Sections.{Shown, from_zone, records_of, as_owner, answers_of, answer_of, authority_of, negative_soa, authority_at, addresses_for, is_name_error}
 
 -- the parts of what was found, by its outcome
 abbrev pub answers_at : Zone → Labels → ℕ → Outcome → List Shown

@@ -1,9 +1,9 @@
 -- The records of a reply are records: those of zones, with owners that are names.
-use Rattle.std.proofs.Common.{◌≡◌, ℕ, zero, suc, ◌<◌, ◌≤◌, Bool, true, false, List, [], ◌∷◌, ◌++◌, map, refl, sym, ap, subst, ◌∙◌, arith, cond}
+use Rattle.std.proofs.Common.{◌≡◌, ℕ, zero, suc, ◌<◌, Bool, true, false, List, [], ◌∷◌, ◌++◌, refl, ap, arith, cond}
 use Rattle.std.specs.Prelude.{◌^◌, ◌&&◌, ◌==◌, min, Option, Some, None, filter, if◌then◌else◌, IfSome}
-use Rattle.std.specs.List.{AllByRecursion, find, list_any, flat_map}
+use Rattle.std.specs.List.{AllByRecursion, find, list_any}
 use Rattle.std.proofs.lemmas.Bool.Decides.{nat_tests}
-use Rattle.dns_names.specs.Name.{Labels, IsName, names_eq, ancestors, labels_of}
+use Rattle.dns_names.specs.Name.{Labels, IsName, names_eq, ancestors}
 use Rattle.dns_records.specs.Types.{type_a, type_aaaa, type_any, type_cname, type_ns}
 use Rattle.dns_records.specs.Record.{Record, IsRecord, data_of, alias_of, host_of, minimum_of}
 use Rattle.dns_records.specs.Typed.{is_name_type}

@@ -1,23 +1,20 @@
 -- What goes out to a request is the text of a valid reply.
-use Rattle.std.proofs.Common.{◌≡◌, ℕ, ◌+◌, ◌*◌, ◌<◌, ◌≤◌, Bool, true, false, List, [], ◌∷◌, ◌++◌, length, refl, sym, ap, subst, ◌∙◌, arith}
-use Rattle.std.specs.Prelude.{◌^◌, ◌&&◌, ◌||◌, ◌==◌, not, nat_le, nat_lt, Option, Some, None, is_none, IfSome, if◌then◌else◌, slice_range}
+use Rattle.std.proofs.Common.{◌≡◌, ℕ, ◌+◌, ◌*◌, ◌<◌, ◌≤◌, Bool, true, false, List, [], ◌∷◌, ◌++◌, length, refl, sym, subst, arith}
+use Rattle.std.specs.Prelude.{◌^◌, ◌&&◌, ◌||◌, ◌==◌, not, nat_le, nat_lt, Option, Some, None, is_none, IfSome, if◌then◌else◌}
 use Rattle.std.specs.List.{AllByRecursion}
 use Rattle.std.proofs.lemmas.Bool.Decides.{nat_tests}
-use Rattle.dns_names.specs.Name.{IsName, wire}
-use Rattle.dns_names.specs.Lower.{AreOctets}
 use Rattle.dns_records.specs.Types.{type_ixfr, type_axfr, type_mailb, type_maila, class_in}
 use Rattle.dns_records.specs.Record.{Record, IsRecord}
 use Rattle.dns_zone.specs.Zone.{Zone}
 use Rattle.dns_lookup.specs.Lookup.{Found, resolve, zone_of}
 use Rattle.dns_wire.specs.Message.{Question, Message, Header, header_of}
-use Rattle.dns_wire.specs.Reads.{Reads}
-use Rattle.dns_wire.specs.Text.{EchoedQuestion, Reply, text}
+use Rattle.dns_wire.specs.Text.{Reply, text}
 use Rattle.dns_wire.specs.Valid.{IsReply, IsEchoed}
 use Rattle.dns_request.specs.declared.request.Transport.{Transport}
 use Rattle.dns_request.specs.declared.request.Transport.TheVariants.{Udp, Tcp}
 use Rattle.dns_request.specs.Request as request
 use Rattle.dns_request.specs.Request.{Request, opcode_query, opcode_update, rcode_formerr, rcode_notimp, rcode_refused, has_counts, question_as, message_as, read_as, request_as, too_long}
-use Rattle.dns_answer.specs.Sections.{is_name_error, is_authoritative}
+use Rattle.dns_answer.specs.Sections.{is_name_error}
 use Rattle.dns_answer.specs.Fit.{is_referral, by_udp, by_udp_without_additional, by_tcp, truncated, failed}
 use Rattle.dns_answer.specs.Answer.{Handled, NoReply, Replies, Update, Transfer, bare_reply, with_question, reply_for, answered, fitted, handled_as, rcode_nxdomain}
 use Rattle.dns_answer.proofs.SoundRecords.{HasRecords, found_is, sections_are}

@@ -1,13 +1,14 @@
 //! The additional section of a reply.
-ghost use Rattle.std.specs.Prelude.{◌≡◌, ◌<◌, ◌↔◌, [], ◌∷◌, ◌++◌, IsTrue, OnOk};
-ghost use Rattle.dns_names.specs.Name.{names_eq};
+ghost use Rattle.std.specs.Prelude.{◌≡◌, true, ◌<◌, ◌↔◌, [], ◌∷◌, ◌++◌, IsTrue, is_some, IfOk, OnOk};
 ghost use Rattle.std.specs.List.{list_any, flat_map};
+ghost use Rattle.dns_records.specs.Record.{host_of};
 ghost use Rattle.dns_records.specs.Types.{type_a, type_aaaa};
 ghost use Rattle.dns_zone.specs.Records.{rrset, same};
-ghost use Rattle.dns_answer.specs.Sections.{from_zone, addresses_for, as_owner};
-ghost use Rattle.dns_answer.specs.Known.{AreKnown};
+ghost use Rattle.dns_answer.specs.Sections.{from_zone, addresses_for};
+ghost use Rattle.dns_answer.specs.Known.{is_address, none_stands, stood, AreAmong, AreHosts, AreOwners, HasNoAddressOf};
 ghost use Rattle.dns_answer.specs.Added.{AddsUnseen, AddsUpTo, count_of};
 
+use crate::names::Names;
 use dns_memory::Heap;
 use dns_names::NameRef;
 use dns_records::{Record, types};
@@ -33,25 +34,48 @@ fn is_same(shown: &ReplyRecord<'_>, stored: &Record) -> bool
         & (stored.ttl() == shown.ttl())
 }
 
-/// Whether a record goes out already.
-fn is_among(shown: &[ReplyRecord<'_>], stored: &Record) -> bool
+/// Whether a record goes out already. The place, behind the record that was found last, is where it is looked for first.
+fn is_among(shown: &[ReplyRecord<'_>], stored: &Record, place: &mut usize) -> bool
     ensures { result ≡ list_any (same stored.now) shown.now }
 {
-    shown.iter().any(|one| is_same(one, stored))
+    if *place < shown.len() && is_same(&shown[*place], stored) {
+        *place += 1;
+        return true;
+    }
+    for (at, one) in shown.iter().enumerate() {
+        if is_same(one, stored) {
+            *place = at + 1;
+            return true;
+        }
+    }
+    false
 }
 
-/// Whether the two hosts are one.
-fn is_host(one: &NameRef<'_>, host: &NameRef<'_>) -> bool
-    ensures { result ≡ names_eq host.now one.now }
+/// Whether the record is an address.
+fn is_address(shown: &ReplyRecord<'_>) -> bool
+    ensures { result ≡ is_address shown.now }
 {
-    host.is(one)
+    shown.rtype() == types::A || shown.rtype() == types::AAAA
 }
 
-/// Whether the host is one of those.
-fn is_known(known: &[NameRef<'_>], host: &NameRef<'_>) -> bool
-    ensures { result ≡ list_any (names_eq host.now) known.now }
+/// Puts the owners of the addresses in.
+fn put_owners<'a>(owners: &mut Names<'a>, shown: &[ReplyRecord<'a>]) -> Result<(), AllocError>
+    ensures kept { OnOk result (AreAmong owners.old owners.new) }
+    ensures owners { OnOk result (AreOwners owners.new shown.now) }
 {
-    known.iter().any(|one| is_host(one, host))
+    for one in shown {
+        if is_address(one) {
+            owners.insert(one.owner())?;
+        }
+    }
+    Ok(())
+}
+
+/// Whether one of the records has a host.
+fn have_host(records: &[Record]) -> bool
+    ensures { result ≡ list_any (λ r. is_some (host_of r)) records.now }
+{
+    records.iter().any(|r| r.host().is_some())
 }
 
 impl<'a> Sections<'a> {
@@ -63,13 +87,13 @@ impl<'a> Sections<'a> {
         count.saturating_add(self.additional.len()) > most as usize
     }
 
-    /// Puts a record behind the others, unless it stands in the reply already.
-    fn push_record(&mut self, stored: &'a Record) -> Result<(), AllocError>
+    /// Puts a record behind the others, unless it stands in the reply already: at the place, before others are looked at.
+    fn push_record(&mut self, stored: &'a Record, place: &mut usize) -> Result<(), AllocError>
         ensures { OnOk result (AddsUnseen self.old self.new (stored.now ∷ [])) }
     {
-        if is_among(self.answer.as_slice(), stored)
-            | is_among(self.authority.as_slice(), stored)
-            | is_among(self.additional.as_slice(), stored)
+        if is_among(self.answer.as_slice(), stored, place)
+            || is_among(self.authority.as_slice(), stored, place)
+            || is_among(self.additional.as_slice(), stored, place)
         {
             return Ok(());
         }
@@ -82,11 +106,27 @@ impl<'a> Sections<'a> {
     fn push_records(&mut self, records: &'a [Record], most: u16) -> Result<(), AllocError>
         ensures { OnOk result (AddsUpTo most self.old self.new records.now) }
     {
+        let mut place = 0;
         for stored in records {
             if self.has_more(most) {
                 return Ok(());
             }
-            self.push_record(stored)?;
+            self.push_record(stored, &mut place)?;
+        }
+        Ok(())
+    }
+
+    /// Puts records behind the others, none of which stands in the reply, until there are more than so many.
+    fn push_new(&mut self, records: &'a [Record], most: u16) -> Result<(), AllocError>
+        requires { none_stands (stood self.old) records.now ≡ true }
+        ensures { OnOk result (AddsUpTo most self.old self.new records.now) }
+    {
+        for stored in records {
+            if self.has_more(most) {
+                return Ok(());
+            }
+            let shown = ReplyRecord::new(stored.owner().lend(), stored.ttl(), stored);
+            self.additional.push(shown)?;
         }
         Ok(())
     }
@@ -108,19 +148,38 @@ impl<'a> Sections<'a> {
         self.push_records(of_type(owned, types::AAAA), most)
     }
 
+    /// The same where the reply has no address of that owner.
+    fn push_new_addresses_of<I: ZoneIndex>(
+        &mut self,
+        zone: &'a Zone<I>,
+        host: &NameRef<'_>,
+        most: u16,
+    ) -> Result<(), AllocError>
+        requires { HasNoAddressOf host.now self.old }
+        ensures { OnOk result
+            (AddsUpTo most self.old self.new
+            (rrset zone.now.records host.now type_a ++ rrset zone.now.records host.now type_aaaa)) }
+    {
+        let _ordered = zone.apex();
+        let owned = zone.index().records_at(host);
+        self.push_new(of_type(owned, types::A), most)?;
+        self.push_new(of_type(owned, types::AAAA), most)
+    }
+
     /// Puts in the addresses that go with a record of the zone: those of the host of an NS, an MX or an SRV (RFC 1034 section
-    /// 4.3.2, step 6; RFC 2782). A host that stands among the known ones is not looked up again.
+    /// 4.3.2, step 6; RFC 2782). A host that stands among the known ones is not looked up again. Its addresses are looked for in
+    /// the reply where it is one of the owners.
     fn push_for<'b, I: ZoneIndex>(
         &mut self,
         zone: &'a Zone<I>,
         stored: &'b Record,
-        known: &mut Vec<NameRef<'b>, Heap>,
+        owners: &Names<'a>,
+        known: &mut Names<'b>,
         most: u16,
     ) -> Result<(), AllocError>
-        ensures added { OnOk result
-            (AreKnown zone.now known.old.items self.old
-            → AddsUpTo most self.old self.new (addresses_for (record { zone = zone.now; shown = stored.now }))) }
-        ensures known { OnOk result (AreKnown zone.now known.old.items self.old → AreKnown zone.now known.new.items self.new) }
+        requires { AreHosts most zone.now owners.now known.old self.old }
+        ensures added { OnOk result (AddsUpTo most self.old self.new (addresses_for (record { zone = zone.now; shown = stored.now }))) }
+        ensures hosts { OnOk result (AreHosts most zone.now owners.now known.new self.new) }
     {
         let Some(host) = stored.host() else {
             return Ok(());
@@ -128,12 +187,42 @@ impl<'a> Sections<'a> {
         if self.has_more(most) {
             return Ok(());
         }
-        if is_known(known.as_slice(), &host) {
+        if !known.insert(host.reborrow())? {
             return Ok(());
         }
-        self.push_addresses_of(zone, &host, most)?;
-        if !self.has_more(most) {
-            known.push(host)?;
+        if owners.has(&host) {
+            return self.push_addresses_of(zone, &host, most);
+        }
+        self.push_new_addresses_of(zone, &host, most)
+    }
+
+    /// The owners of the addresses in the sections.
+    fn owners(&self, alloc: Heap) -> Result<Names<'a>, AllocError>
+        ensures { IfOk result (λ owners. AreOwners owners (stood self.now)) }
+    {
+        let mut owners = Names::new(alloc);
+        put_owners(&mut owners, self.answer.as_slice())?;
+        put_owners(&mut owners, self.authority.as_slice())?;
+        put_owners(&mut owners, self.additional.as_slice())?;
+        Ok(owners)
+    }
+
+    /// Puts in the addresses that go with records of the zone, until there are more than so many, where those that stand already
+    /// have these owners.
+    fn push_for_each<I: ZoneIndex>(
+        &mut self,
+        alloc: Heap,
+        zone: &'a Zone<I>,
+        records: &[Record],
+        owners: &Names<'a>,
+        most: u16,
+    ) -> Result<(), AllocError>
+        requires { AreOwners owners.now (stood self.old) }
+        ensures { OnOk result (AddsUpTo most self.old self.new (flat_map addresses_for (from_zone zone.now records.now))) }
+    {
+        let mut known = Names::new(alloc);
+        for stored in records {
+            self.push_for(zone, stored, owners, &mut known, most)?;
         }
         Ok(())
     }
@@ -148,10 +237,10 @@ impl<'a> Sections<'a> {
     ) -> Result<(), AllocError>
         ensures { OnOk result (AddsUpTo most self.old self.new (flat_map addresses_for (from_zone zone.now records.now))) }
     {
-        let mut known = Vec::new(alloc);
-        for stored in records {
-            self.push_for(zone, stored, &mut known, most)?;
+        if !have_host(records) {
+            return Ok(());
         }
-        Ok(())
+        let owners = self.owners(alloc)?;
+        self.push_for_each(alloc, zone, records, &owners, most)
     }
 }

@@ -1,13 +1,11 @@
 use Rattle.std.proofs.Common.{◌≡◌, List, ℕ, refl, sym, ap, subst, ◌∙◌}
-use Rattle.std.specs.Prelude.{Option, Some, None}
+use Rattle.std.specs.Prelude.{Some, None}
 use Rattle.dns_wire.specs.Compressed.{IsCompressed}
 use Rattle.dns_wire.specs.Message.{Message}
 use Rattle.dns_wire.specs.Reading.{message_of}
 use Rattle.dns_wire.specs.Reads.{Reads}
-use Rattle.dns_wire.specs.Text.{Reply, text}
 use Rattle.dns_wire.specs.Valid.{message_of_reply}
-use Rattle.dns_request.specs.Request.{request_as}
-use Rattle.dns_answer.specs.Answer.{Handled, handled_as}
+use Rattle.dns_answer.specs.Answer.{handled_as}
 use Rattle.dns_answer.proofs.SoundReplies.{AreValid, IsTextOf, request_is}
 use Rattle.dns_answer.proofs.laws.replies_law.Goals as goal
 

@@ -1,21 +1,10 @@
-use Rattle.std.proofs.Common.{◌<◌, List, length, take, sym, subst, arith}
-use Rattle.std.specs.List.{flat_map}
+use Rattle.std.proofs.Common.{◌≡◌, false, List, sym, subst, ◌∙◌}
 use Rattle.dns_records.specs.Record.{Record}
-use Rattle.dns_answer.specs.Sections.{from_zone, addresses_for}
 use Rattle.dns_answer.specs.Added.{AddsUpTo}
-use Rattle.dns_answer.proofs.Adding.{next_addresses, shown_in}
-use Rattle.dns_answer.proofs.UpTo.{up_to_then}
+use Rattle.dns_answer.proofs.UpTo.{no_hosts, up_to_none}
 use Rattle.dns_answer.proofs.additional.Sections.push_addresses.Goals as goal
 
-pub loop-stored-preserved : goal.loop-stored-preserved
-loop-stored-preserved g c =
-    let z = c.args.zone.now in
-    let records = c.args.records.now in
-    let i = c.loop-stored.stored-index in
-    let r = c.stored-item.result in
-    let inside : i < length records = omega arith in
-    let both = up_to_then c.args.most c.args.self.now c.loop-stored.self c.push_for.new.self (flat_map addresses_for (from_zone z (take i records))) (addresses_for (shown_in z r)) c.loop-stored.invariant.added (c.in_ok-push_for.ensures.added c.loop-stored.invariant.known) in
-    record {
-      added = subst (λ (rs : List Record). AddsUpTo c.args.most c.args.self.now c.push_for.new.self rs) (sym (next_addresses z records i r inside c.stored-item.is)) both;
-      known = c.in_ok-push_for.ensures.known c.loop-stored.invariant.known;
-    }
+pub returns-then-not-have_host : goal.returns-then-not-have_host
+returns-then-not-have_host g c =
+    let none : c.have_host.result ≡ false = cc in
+    subst (λ (rs : List Record). AddsUpTo c.args.most c.args.self.now c.args.self.now rs) (sym (no_hosts c.args.zone.now c.args.records.now (sym c.have_host.ensures ∙ none))) (up_to_none c.args.most c.args.self.now)
