@@ -31,7 +31,11 @@ AreAmong names others = (name : Labels) → list_any (names_eq name) names ≡ t
 
 -- Each address that stands among those has one of the owners.
 abbrev pub AreOwners : List Labels → List Record → Type 0
-AreOwners owners seen = (r : Record) → is_address r ≡ true → list_any (same r) seen ≡ true → list_any (names_eq r.owner) owners ≡ true
+AreOwners owners seen =
+    (r : Record)
+    → is_address r ≡ true
+    → list_any (same r) seen ≡ true
+    → list_any (names_eq r.owner) owners ≡ true
 
 -- No address of that owner stands in the sections.
 abbrev pub HasNoAddressOf : Labels → Sections → Type 0
@@ -44,7 +48,8 @@ AreKnown z known s =
     → list_any (names_eq host) known ≡ true
     → all_stand (stood s) (rrset z.records host type_a ++ rrset z.records host type_aaaa) ≡ true
 
--- They do, unless the sections have more records than so many, and no address stands there but those of the hosts and of the owners.
+-- They do, unless the sections have more records than so many, and no address stands there but those of the hosts and of the
+-- owners.
 pub record AreHosts (most : ℕ) (z : Zone) (owners known : List Labels) (s : Sections) : Type 0 where
   pub all : (most < count_of s → ⊥) → AreKnown z known s
   pub alone : (r : Record)

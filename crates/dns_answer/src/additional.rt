@@ -178,7 +178,8 @@ impl<'a> Sections<'a> {
         most: u16,
     ) -> Result<(), AllocError>
         requires { AreHosts most zone.now owners.now known.old self.old }
-        ensures added { OnOk result (AddsUpTo most self.old self.new (addresses_for (record { zone = zone.now; shown = stored.now }))) }
+        ensures added { OnOk result
+            (AddsUpTo most self.old self.new (addresses_for (record { zone = zone.now; shown = stored.now }))) }
         ensures hosts { OnOk result (AreHosts most zone.now owners.now known.new self.new) }
     {
         let Some(host) = stored.host() else {

@@ -49,7 +49,8 @@ impl<'a> Names<'a> {
     pub(crate) fn insert(&mut self, name: NameRef<'a>) -> Result<bool, AllocError>
         ensures new { IfOk result (λ new. new ≡ not (list_any (names_eq name.entry) self.old)) }
         ensures names { OnOk result
-            ((other : Labels) → list_any (names_eq other) self.new ≡ (names_eq other name.entry || list_any (names_eq other) self.old)) }
+            ((other : Labels)
+            → list_any (names_eq other) self.new ≡ (names_eq other name.entry || list_any (names_eq other) self.old)) }
     {
         Ok(self.octets.insert(name.as_wire())?)
     }

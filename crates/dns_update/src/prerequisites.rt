@@ -14,7 +14,7 @@ use dns_names::NameRef;
 use dns_records::Record;
 use dns_records::types::{ANY, CLASS_ANY, CLASS_IN, CLASS_NONE};
 use dns_wire::Rcode;
-use dns_zone::{Zone, ZoneIndex, owns_type};
+use dns_zone::{RecordList, Zone, ZoneIndex, owns_type};
 use std::alloc::AllocError;
 
 /// Whether the name owns a record.
@@ -95,14 +95,14 @@ fn listed_record<'s, I: ZoneIndex>(index: &'s I, item: &ResourceRecord) -> Optio
 }
 
 /// The set of the records that the items list.
-fn listed_set<I: ZoneIndex>(
+fn listed_set<I: ZoneIndex, L: ZoneIndex>(
     alloc: Heap,
     index: &I,
     items: &[ResourceRecord],
-) -> Result<I, AllocError>
-    ensures { IfOk result (λ set. I.records set ≡ listed (I.records index.now) items.now) }
+) -> Result<L, AllocError>
+    ensures { IfOk result (λ set. L.records set ≡ listed (I.records index.now) items.now) }
 {
-    let mut set = I::empty(alloc)?;
+    let mut set = L::empty(alloc)?;
     for item in items {
         if let Some(record) = listed_record(index, item) {
             set.insert(record.clone()?)?;
@@ -112,8 +112,8 @@ fn listed_set<I: ZoneIndex>(
 }
 
 /// Whether the item's record is there, and of its RRset as many are listed as there are.
-fn is_counted<I: ZoneIndex>(index: &I, listed: &I, item: &ResourceRecord) -> bool
-    ensures { result ≡ is_counted (I.records listed.now) (I.records index.now) item.now }
+fn is_counted<I: ZoneIndex, L: ZoneIndex>(index: &I, listed: &L, item: &ResourceRecord) -> bool
+    ensures { result ≡ is_counted (L.records listed.now) (I.records index.now) item.now }
 {
     let owner = item.owner().lend();
     let count = listed.rrset(&owner, item.rtype()).len();
@@ -121,21 +121,22 @@ fn is_counted<I: ZoneIndex>(index: &I, listed: &I, item: &ResourceRecord) -> boo
 }
 
 /// Whether the item isn't of class IN, or its RRset is listed.
-fn is_met<I: ZoneIndex>(index: &I, listed: &I, item: &ResourceRecord) -> bool
-    ensures { result ≡ is_met (I.records listed.now) (I.records index.now) item.now }
+fn is_met<I: ZoneIndex, L: ZoneIndex>(index: &I, listed: &L, item: &ResourceRecord) -> bool
+    ensures { result ≡ is_met (L.records listed.now) (I.records index.now) item.now }
 {
     item.class() != CLASS_IN || is_counted(index, listed, item)
 }
 
 /// Whether of no RRset a part is listed.
-fn all_met<I: ZoneIndex>(index: &I, listed: &I, items: &[ResourceRecord]) -> bool
-    ensures { result ≡ list_all (is_met (I.records listed.now) (I.records index.now)) items.now }
+fn all_met<I: ZoneIndex, L: ZoneIndex>(index: &I, listed: &L, items: &[ResourceRecord]) -> bool
+    ensures { result ≡ list_all (is_met (L.records listed.now) (I.records index.now)) items.now }
 {
     items.iter().all(|item| is_met(index, listed, item))
 }
 
 /// Whether what is listed is the RRset, no more and no less, for each name and type (RFC 2136 section 3.2.3). What is listed is
-/// gathered as a set, so that two counts tell whether it is the whole of an RRset.
+/// gathered as a set, so that two counts tell whether it is the whole of an RRset: in one list, since a tree keeps what a name owns in
+/// a list of its own, which it copies for each record that comes.
 fn are_rrsets<I: ZoneIndex>(
     alloc: Heap,
     index: &I,
@@ -143,7 +144,7 @@ fn are_rrsets<I: ZoneIndex>(
 ) -> Result<bool, AllocError>
     ensures { IfOk result (λ met. met ≡ are_rrsets (I.records index.now) items.now) }
 {
-    let listed: I = listed_set(alloc, index, items)?;
+    let listed: RecordList = listed_set(alloc, index, items)?;
     Ok(all_met(index, &listed, items))
 }
 

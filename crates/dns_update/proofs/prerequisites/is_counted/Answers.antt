@@ -9,7 +9,7 @@ use Rattle.dns_update.proofs.prerequisites.is_counted.Goals as goal
 pub returns : goal.returns
 returns g c =
     let xs = g.I.ZoneIndex.records c.args.index.now in
-    let ls = g.I.ZoneIndex.records c.args.listed.now in
+    let ls = g.L.ZoneIndex.records c.args.listed.now in
     let item = c.args.item.now in
     let owner = c.lend-owner.ensures ∙ c.owner.ensures in
     let some = c.is_some.ensures ∙ some_copied c.find_named.result ∙ has_found (as_record item) xs (option_copied c.find_named.result) c.find_named.ensures in

@@ -12,17 +12,17 @@ loop-item-init g c = c.in_ok-set.ensures ∙ sym (nothing_listed (g.I.ZoneIndex.
 pub loop-item-preserved : goal.loop-item-preserved
 loop-item-preserved g c =
     let xs = g.I.ZoneIndex.records c.args.index.now in
-    let set = g.I.ZoneIndex.records c.loop-item.set in
-    let next = g.I.ZoneIndex.records c.match-listed_record.set in
+    let set = g.L.ZoneIndex.records c.loop-item.set in
+    let next = g.L.ZoneIndex.records c.match-listed_record.set in
     let items = c.args.items.now in
     let i = c.loop-item.item-index in
     let item = c.item-item.result in
     elim c.match-listed_record.branch [
       | in-Some+in_ok-clone+in_ok-insert w ↦
           let found = sym (ap option_copied w.in-Some.is) ∙ c.listed_record.ensures in
-          let put_in = ap g.I.ZoneIndex.records w.set-is ∙ w.in_ok-insert.ensures.ok ∙ ap (λ r. put r set) w.in_ok-clone.ensures.cases in
+          let put_in = ap g.L.ZoneIndex.records w.set-is ∙ w.in_ok-insert.ensures.ok ∙ ap (λ r. put r set) w.in_ok-clone.ensures.cases in
           step_some xs set next items i item w.in-Some.record.now (sorted_from xs (g.met.I.ZoneIndex.ordered c.args.index.now)) c.loop-item-test.true c.item-item.is found c.loop-item.invariant put_in
       | in_default w ↦
           let none = sym (ap option_copied w.in_default.is) ∙ c.listed_record.ensures in
-          ap g.I.ZoneIndex.records w.set-is ∙ step_none xs set items i item c.loop-item-test.true c.item-item.is none c.loop-item.invariant
+          ap g.L.ZoneIndex.records w.set-is ∙ step_none xs set items i item c.loop-item-test.true c.item-item.is none c.loop-item.invariant
     ]
