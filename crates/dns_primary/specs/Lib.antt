@@ -10,3 +10,4 @@ pub mod Queue
 pub mod Steps
 pub mod Fresh
 pub mod Runs
+pub mod Causes

@@ -1,10 +1,12 @@
 //! What holds of every run of the machine.
-ghost use Rattle.std.specs.Prelude.{◌≡◌, Bool, List, length};
+ghost use Rattle.std.specs.Prelude.{◌≡◌, ◌≢◌, Bool, List, length};
 ghost use Rattle.std.specs.List.{AllByRecursion};
 ghost use Rattle.dns_zone.specs.Zone.{Zone as StatedZone};
 ghost use Rattle.dns_primary.specs.Machine.{Machine};
 ghost use Rattle.dns_primary.specs.Step.{Effects as StatedEffects, Event as StatedEvent, Step};
 ghost use Rattle.dns_primary.specs.Fresh.{IsFresh};
+ghost use Rattle.dns_primary.specs.Causes.{HaveCauses};
+ghost use Rattle.dns_primary.specs.declared.event.Noted.TheVariants.{OutOfMemory};
 ghost use Rattle.dns_primary.specs.Runs.{IsReleasedFrom, Moment, Run, Promise};
 ghost use Rattle.dns_primary.specs.declared.primary.ZoneSettings.{ZoneSettings as StatedSettings};
 
@@ -20,6 +22,13 @@ pub fn versions_law()
 pub fn replies_wait_law()
     ensures { (fails : List Bool) (old : Machine) (event : StatedEvent) (effects : StatedEffects) (new : Machine)
         → Step fails old event effects new → AllByRecursion (IsReleasedFrom old new) effects.sent }
+{}
+
+/// Where memory is not refused, SERVFAIL comes only for a closed zone, for want of room, or for a reply by TCP over 65,535 octets:
+/// each reply with it that goes out, or that begins to wait, has such a cause. A zone whose device fails in a flush is closed by it.
+pub fn servfail_law()
+    ensures { (fails : List Bool) (old : Machine) (event : StatedEvent) (effects : StatedEffects) (new : Machine)
+        → Step fails old event effects new → effects.noted ≢ OutOfMemory → HaveCauses fails old event effects.sent new }
 {}
 
 /// Zones and as many settings have a machine to which nothing has happened: what is said of each such machine is said of one.

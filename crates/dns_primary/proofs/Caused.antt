@@ -1,0 +1,280 @@
+-- What replies with SERVFAIL come of.
+use Rattle.std.proofs.Common.{◌≡◌, ◌⊎◌, inl, inr, ◌<◌, ℕ, Bool, true, false, List, [], ◌∷◌, ◌++◌, length, map, Option, Some, None, refl, sym, ap, subst, ◌∙◌, arith, suc}
+use Rattle.std.specs.Prelude.{slice_get, not, ◌&&◌, ◌||◌, ◌==◌, ◌%◌, nat_le, nat_lt, is_none, if◌then◌else◌}
+use Rattle.std.specs.List.{AllByRecursion, Contains}
+use Rattle.std.proofs.lemmas.Bool.Decides.{nat_tests}
+use Rattle.dns_records.specs.Record.{Record}
+use Rattle.dns_records.specs.Types.{type_soa, type_ixfr, type_axfr, type_mailb, type_maila, class_in}
+use Rattle.std.specs.declared.net.ip_addr.IpAddr.{IpAddr}
+use Rattle.dns_wire.specs.Message.{Header, Message, Question, header_of}
+use Rattle.dns_wire.specs.Reading.{message_of}
+use Rattle.dns_wire.specs.Codes.{number_of_rcode}
+use Rattle.dns_wire.specs.Text.{Reply, text}
+use Rattle.dns_zone.specs.Zone.{Zone}
+use Rattle.dns_lookup.specs.Lookup.{Found, resolve, zone_of}
+use Rattle.dns_request.specs.Request as request
+use Rattle.dns_request.specs.Request.{request_of, read_as, message_as, question_as, has_counts, too_long, opcode_query, opcode_update, rcode_formerr, rcode_notimp, rcode_refused}
+use Rattle.dns_request.specs.declared.request.Transport.{Transport}
+use Rattle.dns_request.specs.declared.request.Transport.TheVariants.{Udp, Tcp}
+use Rattle.dns_answer.specs.Fit.{by_udp, by_udp_without_additional, by_tcp, failed, truncated, is_referral}
+use Rattle.dns_answer.specs.Sections.{is_name_error}
+use Rattle.dns_answer.specs.Answer.{answered, bare_reply, fitted, handled_as, reply_for, rcode_nxdomain, with_question}
+use Rattle.dns_update.specs.Verdict.{Verdict, Refuses, Keeps, Leaves, verdict}
+use Rattle.dns_store.specs.Versions.{newest_of}
+use Rattle.dns_store.specs.Room.{entry_between, sectors_left}
+use Rattle.dns_held.specs.Held.{newest_zone}
+use Rattle.dns_held.specs.Staging.{has_room}
+use Rattle.dns_primary.specs.declared.event.Peer.{Peer}
+use Rattle.dns_primary.specs.declared.event.To.{To}
+use Rattle.dns_primary.specs.declared.event.To.TheVariants as to
+use Rattle.dns_primary.specs.declared.event.Noted.TheVariants.{OutOfMemory}
+use Rattle.dns_primary.specs.Machine.{Made, ZoneState, Waits, Machine, kept_of, updates_of, shown_zones, peer_at}
+use Rattle.dns_primary.specs.Flush.{Sent, Answered, Replied, rcode_servfail, flushed, flush_sends, released, is_closed_in}
+use Rattle.dns_primary.specs.Connections.{without_connection}
+use Rattle.dns_primary.specs.Update.{Asked, Admission, Rejects, Admits, admission, admission_at, admission_in, place_of, rcode_notauth, waits, stages, with_staged, replies, accepted_in, judged_in, admitted, is_full, made_place, updated}
+use Rattle.dns_primary.specs.Step.{Event, Datagram, Connect, Arrives, Flush, Closed, Effects, Gives, IsServed, IsArrived, Goes, Step}
+use Rattle.dns_primary.specs.Runs.{IsReleasedFrom}
+use Rattle.dns_primary.specs.Causes.{code_of, IsForClosed, LacksRoom, IsTooLong, RequestCause, ArrivedCause, EventCause, HasCause, Waited, WaitsWithCause, HaveCauses}
+use Rattle.dns_primary.proofs.Zonewise.{tested}
+use Rattle.dns_primary.proofs.Sound.{all_with, all_more}
+use Rattle.dns_primary.proofs.Released.{step_releases}
+use Rattle.dns_primary.proofs.Verdicts.{either, IsOther, OtherVerdict, other_verdict}
+
+-- a reply at once
+abbrev AtOnce : Type 0 → Sent → Type 0
+AtOnce Cause (Answered w rcode) = Unit {0}
+AtOnce Cause (Replied to octets) = code_of octets ≡ rcode_servfail → Cause
+
+abbrev WaitsBy : Type 0 → Machine → Waits → Type 0
+WaitsBy Cause old w = w.rcode ≡ rcode_servfail → Waited old w ⊎ Cause
+
+-- what goes out at once, and what waits then
+record Ended (Cause : Type 0) (old : Machine) (ended : Machine × List Sent) : Type 0 where
+  sent : AllByRecursion (AtOnce Cause) ended.1
+  waiting : AllByRecursion (WaitsBy Cause old) (ended.0).waiting
+
+-- where an update is refused before it is judged
+abbrev IsRefusal : Machine → Asked → Admission → Type 0
+IsRefusal m a (Rejects rcode) = rcode % 16 ≡ 2 → IsForClosed m a
+IsRefusal m a (Admits place z) = Unit {0}
+
+none_there : (m : Machine) (a : Asked) (rcode : ℕ) → (rcode % 16 ≡ 2 → ⊥) → IsRefusal m a (Rejects rcode)
+none_there m a rcode other e = absurd (other e)
+
+refused_in : (m : Machine) (a : Asked) (place : ℕ) (o : Option ZoneState) → place_of a.zone.name m.zones ≡ Some place → slice_get m.zones place ≡ o → IsRefusal m a (admission_in a.address place o)
+refused_in m a place None named e = none_there m a rcode_notauth (λ f. omega (arith, f))
+refused_in m a place (Some z) named e =
+    either (IsRefusal m a) (not (z.setting.may_update a.address)) _ _ (none_there m a rcode_refused (λ f. omega (arith, f)))
+    (tested (IsRefusal m a) z.closed (Rejects rcode_servfail) (Admits place z) (λ c f. record { place = place; zone = z; named = named; stands = e; closed = c }) (λ c. tt))
+
+refused_at : (m : Machine) (a : Asked) (o : Option ℕ) → place_of a.zone.name m.zones ≡ o → IsRefusal m a (admission_at m.zones a.address o)
+refused_at m a None named = none_there m a rcode_notauth (λ f. omega (arith, f))
+refused_at m a (Some place) named = refused_in m a place (slice_get m.zones place) named refl
+
+refusal : (m : Machine) (a : Asked) → IsRefusal m a (admission m.zones a)
+refusal m a =
+    either (IsRefusal m a) (not (a.zone.qtype == type_soa)) _ _ (none_there m a rcode_formerr (λ f. omega (arith, f)))
+    (either (IsRefusal m a) (not (a.zone.qclass == class_in)) _ _ (none_there m a rcode_notauth (λ f. omega (arith, f)))
+    (refused_at m a (place_of a.zone.name m.zones) refl))
+
+abbrev UpdateCause : Machine → Asked → Type 0
+UpdateCause m a = IsForClosed m a ⊎ LacksRoom m a
+
+-- what waits already
+abbrev AreWaiting : Type 0 → Machine → Machine → Type 0
+AreWaiting Cause old m = AllByRecursion (WaitsBy Cause old) m.waiting
+
+one_more : (Cause : Type 0) (old m : Machine) (a : Asked) (place rcode : ℕ) (updates : List Made) → AreWaiting Cause old m → (rcode ≡ 2 → Cause) → Ended Cause old (waits m a place rcode updates, [])
+one_more Cause old m a place rcode updates before cause = record { sent = tt; waiting = all_more (WaitsBy Cause old) m.waiting _ before (λ e. inr (cause e)) }
+
+at_once : (Cause : Type 0) (old m : Machine) (a : Asked) (rcode : ℕ) → AreWaiting Cause old m → (rcode % 16 ≡ 2 → Cause) → Ended Cause old (m, replies a rcode ∷ [])
+at_once Cause old m a rcode before cause = record { sent = (cause, tt); waiting = before }
+
+room_first : (b c : Bool) → b ≡ false → (b && c) ≡ false
+room_first true c e = absurd (cc e)
+room_first false c e = refl
+
+room_second : (b c : Bool) → c ≡ false → (b && c) ≡ false
+room_second true c e = e
+room_second false c e = refl
+
+not_false : (b : Bool) → not b ≡ true → b ≡ false
+not_false true e = absurd (cc e)
+not_false false e = refl
+
+ends_accepted : (old m : Machine) (a : Asked) (place : ℕ) (z : ZoneState) (records : List Record) → AreWaiting (UpdateCause m a) old m → admission m.zones a ≡ Admits place z
+    → verdict (newest_zone (kept_of z)) a.message.answers a.message.authorities ≡ Leaves records → Ended (UpdateCause m a) old (accepted_in m a place z records)
+ends_accepted old m a place z records before admits leaves =
+    let Cause = UpdateCause m a in
+    let room = has_room (kept_of z) records in
+    let journal = nat_le (entry_between (newest_of (kept_of z)) records) (sectors_left (kept_of z)) in
+    let lacks : (room && journal) ≡ false → LacksRoom m a = λ e. record { place = place; zone = z; records = records; admits = admits; leaves = leaves; room = e } in
+    tested (Ended Cause old) (not room) (waits m a place rcode_servfail (updates_of z), []) (if journal then (stages m a place z records, []) else (m, replies a rcode_servfail ∷ []))
+    (λ e. one_more Cause old m a place rcode_servfail (updates_of z) before (λ _. inr (lacks (room_first room journal (not_false room e)))))
+    (λ _. tested (Ended Cause old) journal (stages m a place z records, []) (m, replies a rcode_servfail ∷ [])
+    (λ _. record { sent = tt; waiting = all_more (WaitsBy Cause old) m.waiting _ before (λ e. absurd (omega (arith, e))) })
+    (λ e. at_once Cause old m a rcode_servfail before (λ _. inr (lacks (room_second room journal e)))))
+
+ends_judged : (old m : Machine) (a : Asked) (place : ℕ) (z : ZoneState) (v : Verdict) → AreWaiting (UpdateCause m a) old m → admission m.zones a ≡ Admits place z
+    → verdict (newest_zone (kept_of z)) a.message.answers a.message.authorities ≡ v → OtherVerdict v → Ended (UpdateCause m a) old (judged_in m a place z v)
+ends_judged old m a place z (Refuses rcode) before admits is other = one_more (UpdateCause m a) old m a place (number_of_rcode rcode) (updates_of z) before (λ e. absurd (other e))
+ends_judged old m a place z Keeps before admits is other = one_more (UpdateCause m a) old m a place 0 (updates_of z) before (λ e. absurd (omega (arith, e)))
+ends_judged old m a place z (Leaves records) before admits is other = ends_accepted old m a place z records before admits is
+
+ends_admitted : (old m : Machine) (a : Asked) (d : Admission) → AreWaiting (UpdateCause m a) old m → admission m.zones a ≡ d → IsRefusal m a d → Ended (UpdateCause m a) old (admitted m a d)
+ends_admitted old m a (Rejects rcode) before is closed = at_once (UpdateCause m a) old m a rcode before (λ e. inl (closed e))
+ends_admitted old m a (Admits place z) before is closed =
+    ends_judged old m a place z (verdict (newest_zone (kept_of z)) a.message.answers a.message.authorities) before is refl (other_verdict (newest_zone (kept_of z)) a.message.answers a.message.authorities)
+
+-- what waits stays
+waited : (old : Machine) (ws : List Waits) → ((w : Waits) → Contains ws w → Contains old.waiting w) → (Cause : Type 0) → AllByRecursion (WaitsBy Cause old) ws
+waited old [] there Cause = tt
+waited old (w ∷ ws) there Cause = (
+  λ e. inl (record { before = w; there = there w (0, omega arith, refl); is = refl }),
+  waited old ws (λ x h. there x (suc h.0, omega (arith, h.1), h.2)) Cause,
+)
+
+waited_all : (old : Machine) (Cause : Type 0) → AreWaiting Cause old old
+waited_all old Cause = waited old old.waiting (λ w h. h) Cause
+
+none_at_once : (Cause : Type 0) (zones : List ZoneState) (ws : List Waits) → AllByRecursion (AtOnce Cause) (map (released zones) ws)
+none_at_once Cause zones [] = tt
+none_at_once Cause zones (w ∷ ws) = (tt, none_at_once Cause zones ws)
+
+begins : (fails : List Bool) (m : Machine) (Cause : Type 0) → Ended Cause m (made_place fails m)
+begins fails m Cause =
+    either (Ended Cause m) (is_full m) (flushed fails m, flush_sends fails m) (m, [])
+    (record { sent = none_at_once Cause _ m.waiting; waiting = tt })
+    (record { sent = tt; waiting = waited_all m Cause })
+
+ends_updated : (fails : List Bool) (m : Machine) (a : Asked) → Ended (UpdateCause (made_place fails m).0 a) m (updated fails m a)
+ends_updated fails m a =
+    let mid = (made_place fails m).0 in
+    let begun = begins fails m (UpdateCause mid a) in
+    let ended = ends_admitted m mid a (admission mid.zones a) begun.waiting refl (refusal mid a) in
+    record { sent = all_with (AtOnce (UpdateCause mid a)) (made_place fails m).1 (admitted mid a (admission mid.zones a)).1 begun.sent ended.sent; waiting = ended.waiting }
+
+-- the codes of requests that are refused
+abbrev IsOtherRequest : request.Request → Type 0
+IsOtherRequest (request.Refused rcode) = rcode % 16 ≡ 2 → ⊥
+IsOtherRequest (request.NotServed m q rcode) = rcode % 16 ≡ 2 → ⊥
+IsOtherRequest request.Ignored = Unit {0}
+IsOtherRequest (request.Query m q) = Unit {0}
+IsOtherRequest (request.Update m q) = Unit {0}
+IsOtherRequest (request.Transfer m q) = Unit {0}
+
+formerr : IsOtherRequest (request.Refused rcode_formerr)
+formerr e = omega (arith, e)
+
+notimp : (m : Message) (q : Question) → IsOtherRequest (request.NotServed m q rcode_notimp)
+notimp m q e = omega (arith, e)
+
+refused : (m : Message) (q : Question) → IsOtherRequest (request.NotServed m q rcode_refused)
+refused m q e = omega (arith, e)
+
+other_question : (m : Message) (q : Question) → IsOtherRequest (question_as m q)
+other_question m q =
+    either IsOtherRequest (m.header.opcode == opcode_update) _ _ tt
+    (either IsOtherRequest (q.qtype == type_ixfr || q.qtype == type_axfr) _ _ tt
+    (either IsOtherRequest (q.qtype == type_mailb || q.qtype == type_maila) _ _ (notimp m q)
+    (either IsOtherRequest (not (q.qclass == class_in)) _ _ (refused m q) tt)))
+
+other_message : (m : Message) (qs : List Question) → IsOtherRequest (message_as m qs)
+other_message m [] = formerr
+other_message m (q ∷ []) = either IsOtherRequest (has_counts m q) _ _ (other_question m q) formerr
+other_message m (q ∷ r ∷ rest) = formerr
+
+other_read : (o : Option Message) → IsOtherRequest (read_as o)
+other_read None = formerr
+other_read (Some m) = other_message m m.questions
+
+other_request : (octets : List ℕ) (transport : Transport) → IsOtherRequest (request_of octets transport)
+other_request octets transport =
+    either IsOtherRequest (nat_lt (length octets) 12 || (header_of octets).qr) _ _ tt
+    (either IsOtherRequest (not ((header_of octets).opcode == opcode_query || (header_of octets).opcode == opcode_update)) _ _ (λ e. omega (arith, e))
+    (either IsOtherRequest (too_long transport octets) _ _ formerr (other_read (message_of octets))))
+
+-- the code of a reply that is fitted
+by_test : (P : List ℕ → Type 0) (b : Bool) (x y : List ℕ) → (b ≡ true → P x) → (b ≡ false → P y) → P (elim b [ true ↦ x | false ↦ y ])
+by_test P true x y f g = f refl
+by_test P false x y f g = g refl
+
+over : (n : ℕ) → nat_le n 65535 ≡ false → 65535 < n
+over n e = grind (arith, nat_tests, e)
+
+fits : (transport : Transport) (r : Reply) → (r.rcode % 16 ≡ 2 → ⊥) → code_of (fitted transport r) ≡ 2 → IsTooLong transport r
+fits Udp r other =
+    let P = λ (octets : List ℕ). code_of octets ≡ 2 → IsTooLong Udp r in
+    by_test P (nat_le (length (text r)) 512) (text r) (by_udp_without_additional r) (λ _ e. absurd (other e))
+    (λ _. by_test P (not (is_referral r) && nat_le (length (text (record r { additional = [] }))) 512) (text (record r { additional = [] })) (truncated r) (λ _ e. absurd (other e)) (λ _ e. absurd (other e)))
+fits Tcp r other =
+    by_test (λ (octets : List ℕ). code_of octets ≡ 2 → IsTooLong Tcp r) (nat_le (length (text r)) 65535) (text r) (failed r) (λ _ e. absurd (other e)) (λ long e. (refl, over (length (text r)) long))
+
+other_answer : (zones : List Zone) (octets : List ℕ) (m : Message) (q : Question) → (answered zones octets m q).rcode % 16 ≡ 2 → ⊥
+other_answer zones octets m q =
+    either (λ (r : Reply). r.rcode % 16 ≡ 2 → ⊥) (is_none (zone_of zones q.name)) (with_question octets m q rcode_refused) (reply_for octets m q (resolve zones q.name q.qtype)) (λ e. omega (arith, e))
+    (either (λ (n : ℕ). n % 16 ≡ 2 → ⊥) (is_name_error (resolve zones q.name q.qtype)) rcode_nxdomain 0 (λ e. omega (arith, e)) (λ e. omega (arith, e)))
+
+-- what an event leaves
+reaches : (Cause : Type 0) (old new next : Machine) (sent out : List Sent) → new ≡ next → sent ≡ out → Ended Cause old (next, out) → Ended Cause old (new, sent)
+reaches Cause old new next sent out e f p = subst (λ (x : Machine × List Sent). Ended Cause old x) (λ i. (sym e i, sym f i)) p
+
+one_reply : (Cause : Type 0) (old : Machine) (to : To) (octets : List ℕ) → (code_of octets ≡ 2 → Cause) → Ended Cause old (old, Replied to octets ∷ [])
+one_reply Cause old to octets cause = record { sent = (cause, tt); waiting = waited_all old Cause }
+
+served : (fails : List Bool) (old : Machine) (to : To) (peer : Peer) (octets : List ℕ) (transport : Transport) (r : request.Request) (effects : Effects) (new : Machine) → IsOtherRequest r
+    → IsServed fails old to peer (handled_as (shown_zones old) octets transport r) effects new → Ended (RequestCause fails old to peer octets transport r) old (new, effects.sent)
+served fails old to peer octets transport request.Ignored effects new other g =
+    reaches _ old new old effects.sent [] (g.1).state (g.1).sent (record { sent = tt; waiting = waited_all old _ })
+served fails old to peer octets transport (request.Refused rcode) effects new other g =
+    reaches _ old new old effects.sent _ (g.1).state (g.1).sent (one_reply _ old to _ other)
+served fails old to peer octets transport (request.NotServed m q rcode) effects new other g =
+    reaches _ old new old effects.sent _ (g.1).state (g.1).sent (one_reply _ old to _ (fits transport (with_question octets m q rcode) other))
+served fails old to peer octets transport (request.Query m q) effects new other g =
+    reaches _ old new old effects.sent _ (g.1).state (g.1).sent (one_reply _ old to _ (fits transport (answered (shown_zones old) octets m q) (other_answer (shown_zones old) octets m q)))
+served fails old to peer octets transport (request.Update m q) effects new other g =
+    let a : Asked = record { to = to; address = peer.address; message = m; zone = q } in
+    reaches _ old new (updated fails old a).0 effects.sent (updated fails old a).1 (g.1).state (g.1).sent (ends_updated fails old a)
+served fails old to peer octets transport (request.Transfer m q) effects new other g =
+    reaches _ old new old effects.sent _ (g.1).state (g.1).sent (one_reply _ old to _ (λ e. omega (arith, e)))
+
+arrived : (fails : List Bool) (old : Machine) (number : ℕ) (peer : Option Peer) (octets : List ℕ) (effects : Effects) (new : Machine) → IsArrived fails old number peer octets effects new
+    → Ended (ArrivedCause fails old number peer octets) old (new, effects.sent)
+arrived fails old number None octets effects new g = reaches _ old new old effects.sent [] (g.1).state (g.1).sent (record { sent = tt; waiting = waited_all old _ })
+arrived fails old number (Some peer) octets effects new g = served fails old (to.Connection number) peer octets Tcp (request_of octets Tcp) effects new (other_request octets Tcp) g
+
+redirected : (Cause : Type 0) (old : Machine) (number : ℕ) (ws : List Waits) → ((w : Waits) → Contains ws w → Contains old.waiting w)
+    → AllByRecursion (WaitsBy Cause old) (map (λ (w : Waits). record w { to = without_connection number w.to }) ws)
+redirected Cause old number [] there = tt
+redirected Cause old number (w ∷ ws) there = (
+  λ e. inl (record { before = w; there = there w (0, omega arith, refl); is = refl }),
+  redirected Cause old number ws (λ x h. there x (suc h.0, omega (arith, h.1), h.2)),
+)
+
+goes : (fails : List Bool) (old : Machine) (event : Event) (effects : Effects) (new : Machine) → Goes fails old event effects new → Ended (EventCause fails old event) old (new, effects.sent)
+goes fails old (Datagram peer octets) effects new g = served fails old (to.Address peer) peer octets Udp (request_of octets Udp) effects new (other_request octets Udp) g
+goes fails old (Connect peer) effects new g = elim (g.1) [
+  | inl c ↦ reaches _ old new _ effects.sent [] (c.1).2 (ap (λ (x : Effects). x.sent) (c.1).3) (record { sent = tt; waiting = waited_all old _ })
+  | inr c ↦ reaches _ old new old effects.sent [] (c.1).state (c.1).sent (record { sent = tt; waiting = waited_all old _ })
+]
+goes fails old (Arrives number octets) effects new g = arrived fails old number (peer_at number old.connections) octets effects new g
+goes fails old Flush effects new g = reaches _ old new (flushed fails old) effects.sent (flush_sends fails old) (g.1).state (g.1).sent (record { sent = none_at_once _ _ old.waiting; waiting = tt })
+goes fails old (Closed number) effects new g = reaches _ old new _ effects.sent [] (g.1).state (g.1).sent (record { sent = tt; waiting = redirected _ old number old.waiting (λ w h. h) })
+
+-- those that waited
+released_by : (closed : Bool) (w : Waits) (rcode : ℕ) → Answered w (if closed then rcode_servfail else w.rcode) ≡ Answered w rcode → rcode ≡ 2 → (w.rcode ≡ 2) ⊎ (closed ≡ true)
+released_by true w rcode is e = inr refl
+released_by false w rcode is e = inl (let same : w.rcode ≡ rcode = cc is in same ∙ e)
+
+joined : (fails : List Bool) (old : Machine) (event : Event) (new : Machine) (sent : List Sent) → AllByRecursion (IsReleasedFrom old new) sent → AllByRecursion (AtOnce (EventCause fails old event)) sent
+    → AllByRecursion (HasCause fails old event new) sent
+joined fails old event new [] p q = tt
+joined fails old event new (Answered w rcode ∷ sent) p q = (released_by (is_closed_in (slice_get new.zones w.zone)) w rcode (p.0).1, joined fails old event new sent p.1 q.1)
+joined fails old event new (Replied to octets ∷ sent) p q = (q.0, joined fails old event new sent p.1 q.1)
+
+pub step_caused : (fails : List Bool) (old : Machine) (event : Event) (effects : Effects) (new : Machine) → Step fails old event effects new → (effects.noted ≡ OutOfMemory → ⊥)
+    → HaveCauses fails old event effects.sent new
+step_caused fails old event effects new (inl g) some =
+    let ended = goes fails old event effects new g in
+    record { sent = joined fails old event new effects.sent (step_releases fails old event effects new (inl g)) ended.sent; waiting = ended.waiting }
+step_caused fails old event effects new (inr l) some = absurd (some l.noted)
