@@ -14,10 +14,12 @@ use Rattle.dns_held.specs.Each.{Each2, Each3}
 use Rattle.dns_held.specs.Held.{HasVersions}
 use Rattle.dns_primary.specs.declared.event.Waiting.{Waiting}
 use Rattle.dns_primary.specs.declared.event.HeaderTo.{HeaderTo}
+use Rattle.dns_primary.specs.declared.event.Reply.{Reply}
 use Rattle.dns_primary.specs.declared.event.Effects.{Effects}
 use Rattle.dns_primary.specs.declared.event.To.{To}
 use Rattle.dns_primary.specs.declared.primary.Primary.{Primary}
 use Rattle.dns_primary.specs.declared.primary.ZoneSettings.{ZoneSettings}
+use Rattle.dns_primary.specs.To.{octets_in}
 use Rattle.dns_primary.specs.Machine.{Waits, Machine, ZoneState, kept_of, peer_at}
 use Rattle.dns_primary.specs.Flush.{all_out}
 use Rattle.dns_wire.specs.declared.codes.Rcode.{Rcode}
@@ -51,15 +53,13 @@ pub record IsKept {I S : Type 0} {i : index.Ghosts I} {s : store.Ghosts S} (p : 
 abbrev pub header_out : HeaderTo → To × List ℕ
 header_out h = (h.to, h.octets)
 
-abbrev pub message_out : Option (To × List ℕ) → List (To × List ℕ)
-message_out None = []
-message_out (Some one) = one ∷ []
+abbrev pub reply_out : Option Reply → List (To × List ℕ)
+reply_out None = []
+reply_out (Some r) = (r.to, octets_in r.octets) ∷ []
 
--- These are the effects: the headers in order, then the one longer message, if there is one.
+-- These are the effects: the replies that waited, in order, then the one to what came, if there is one.
 pub record AreEffects (stated : machine.Effects) (effects : Effects) : Type 0 where
-  pub sent : all_out stated.sent
-      ≡ map header_out effects.headers.items
-      ++ message_out (elim (effects.message) [ None ↦ None | Some m ↦ Some (m.0, m.1.items) ])
+  pub sent : all_out stated.sent ≡ map header_out effects.headers.items ++ reply_out effects.reply
   pub accepted : stated.accepted ≡ effects.accepted
   pub noted : stated.noted ≡ effects.noted
 

@@ -47,15 +47,20 @@ impl<I: ZoneIndex, S: ZoneStore> Primary<I, S> {
         ensures step { (old : Machine) → IsKept self.old old
             → Stepped old self.old self.new result (λ fails stated next. Step fails old (Connect peer) stated next) }
     {
-        let mut effects = Effects::nothing();
+        let mut effects = Effects::nothing(*self.places.allocator());
         if self.connections.len() >= MOST_CONNECTIONS {
             return effects;
         }
         match self.connections.insert(peer) {
-            Ok(number) => effects.accepted = Some(number),
-            Err(_) => effects.noted = Noted::OutOfMemory,
+            Ok(number) => {
+                effects.accepted = Some(number);
+                return effects;
+            }
+            Err(_) => {
+                effects.noted = Noted::OutOfMemory;
+                return effects;
+            }
         }
-        effects
     }
 
     /// A connection is closed. What waits to go to it keeps its place, and goes nowhere.
@@ -66,6 +71,6 @@ impl<I: ZoneIndex, S: ZoneStore> Primary<I, S> {
     {
         let _closed = self.connections.try_remove(number);
         redirect(self.waiting.as_mut_slice(), number);
-        Effects::nothing()
+        Effects::nothing(*self.places.allocator())
     }
 }

@@ -1,5 +1,5 @@
 //! How effects are put together.
-ghost use Rattle.std.specs.Prelude.{◌≡◌, ◌<◌, ◌∷◌, ◌++◌, [], None, false, length, IfOk, IfErr};
+ghost use Rattle.std.specs.Prelude.{◌≡◌, ◌∷◌, ◌++◌, [], None, false, IfOk, IfErr};
 ghost use Rattle.dns_wire.specs.Message.{header_of};
 ghost use Rattle.dns_wire.specs.Codes.{number_of_rcode};
 ghost use Rattle.dns_wire.specs.Text.{text};
@@ -14,8 +14,7 @@ ghost use Rattle.dns_primary.specs.declared.event.Noted.TheVariants.{OutOfMemory
 
 use crate::queue::UpdateRequest;
 use crate::update::Outcome;
-use crate::{Effects, HeaderTo, Noted, To};
-use arrayvec::ArrayVec;
+use crate::{Effects, Noted, Reply, ReplyOctets, To};
 use dns_answer::header_only;
 use dns_memory::Heap;
 use dns_wire::Rcode;
@@ -23,14 +22,13 @@ use std::alloc::AllocError;
 
 impl Effects {
     /// Nothing goes out, and nothing is to be known.
-    pub(crate) fn nothing() -> Effects
+    pub(crate) fn nothing(alloc: Heap) -> Effects
         ensures effects_are { AreEffects nothing result }
-        ensures empty { result.headers.items ≡ [] }
-        ensures bare { result.message ≡ None }
+        ensures bare { result.reply ≡ None }
     {
         Effects {
-            headers: ArrayVec::new(),
-            message: None,
+            headers: Vec::new(alloc),
+            reply: None,
             accepted: None,
             noted: Noted::Nothing,
         }
@@ -38,39 +36,42 @@ impl Effects {
 
     /// One reply more, a header alone.
     pub(crate) fn with_header(mut self, to: To, octets: [u8; 12]) -> Effects
-        requires room { length self.headers.items < 33 }
-        requires bare { self.message ≡ None }
+        requires bare { self.reply ≡ None }
         requires somewhere { is_nowhere to ≡ false }
         ensures effects_are { (stated : Stated)
             → AreEffects stated self
             → AreEffects (record stated { sent = stated.sent ++ Replied to octets ∷ [] }) result }
     {
-        self.headers.push(HeaderTo { to, octets });
+        self.reply = Some(Reply {
+            to,
+            octets: ReplyOctets::Header(octets),
+        });
         self
     }
 
     /// One reply alone, the header of a request with a response code.
-    pub(crate) fn refusal(to: To, header: &[u8; 12], rcode: Rcode) -> Effects
+    pub(crate) fn refusal(alloc: Heap, to: To, header: &[u8; 12], rcode: Rcode) -> Effects
         requires { is_nowhere to ≡ false }
         ensures { AreEffects (one_reply (Replied to (text (bare_reply (header_of header.now) (number_of_rcode rcode))))) result }
     {
-        Effects::nothing().with_header(to, header_only(header, rcode))
+        Effects::nothing(alloc).with_header(to, header_only(header, rcode))
     }
 
     /// SERVFAIL for want of memory, the header of a request alone.
-    pub(crate) fn out_of_memory(to: To, header: &[u8; 12]) -> Effects
+    pub(crate) fn out_of_memory(alloc: Heap, to: To, header: &[u8; 12]) -> Effects
         requires { is_nowhere to ≡ false }
         ensures { AreEffects
             (record (one_reply (Replied to (text (bare_reply (header_of header.now) rcode_servfail)))) { noted = StatedLack })
             result }
     {
-        let mut effects = Effects::refusal(to, header, Rcode::ServFail);
+        let mut effects = Effects::refusal(alloc, to, header, Rcode::ServFail);
         effects.noted = Noted::OutOfMemory;
         effects
     }
 
     /// The reply to a request, or SERVFAIL where memory was refused.
     pub(crate) fn reply(
+        alloc: Heap,
         to: To,
         header: &[u8; 12],
         reply: Result<Vec<u8, Heap>, AllocError>,
@@ -84,18 +85,20 @@ impl Effects {
     {
         match reply {
             Ok(octets) => {
-                let mut effects = Effects::nothing();
-                effects.message = Some((to, octets));
+                let mut effects = Effects::nothing(alloc);
+                effects.reply = Some(Reply {
+                    to,
+                    octets: ReplyOctets::Longer(octets),
+                });
                 effects
             }
-            Err(_) => Effects::out_of_memory(to, header),
+            Err(_) => Effects::out_of_memory(alloc, to, header),
         }
     }
 
     /// What becomes of an update, behind what goes out before.
     pub(crate) fn with_outcome(self, update: &UpdateRequest<'_>, outcome: Outcome) -> Effects
-        requires room { length self.headers.items < 33 }
-        requires bare { self.message ≡ None }
+        requires bare { self.reply ≡ None }
         requires somewhere { is_nowhere update.now.to ≡ false }
         requires header { header_of update.now.header.now ≡ update.now.request.message.message.header }
         ensures { (stated : Stated)
@@ -103,17 +106,14 @@ impl Effects {
             → AreEffects (answered_with stated (asked_of update.now) outcome) result }
     {
         match outcome {
-            Outcome::Waits(_) => self,
-            Outcome::AtOnce(rcode) => self.with_header(
-                update.to,
-                header_only(update.header, rcode),
-            ),
-            Outcome::OutOfMemory => {
-                let octets = header_only(update.header, Rcode::ServFail);
-                let mut effects = self.with_header(update.to, octets);
-                effects.noted = Noted::OutOfMemory;
-                effects
+            Outcome::Waits(_) => return self,
+            Outcome::AtOnce(rcode) => {
+                return self.with_header(update.to, header_only(update.header, rcode));
             }
+            Outcome::OutOfMemory => {}
         }
+        let mut effects = self.with_header(update.to, header_only(update.header, Rcode::ServFail));
+        effects.noted = Noted::OutOfMemory;
+        effects
     }
 }

@@ -1,8 +1,7 @@
 //! Events, and what they do to the world.
-ghost use Rattle.std.specs.Prelude.{◌≡◌};
-ghost use Rattle.dns_primary.specs.To.{is_nowhere};
+ghost use Rattle.std.specs.Prelude.{◌≡◌, ◌≤◌, length};
+ghost use Rattle.dns_primary.specs.To.{is_nowhere, octets_in};
 
-use arrayvec::ArrayVec;
 use dns_memory::Heap;
 use dns_wire::Rcode;
 use std::net::{IpAddr, Ipv4Addr};
@@ -64,6 +63,36 @@ pub struct HeaderTo {
     pub octets: [u8; 12],
 }
 
+/// The octets of a reply.
+#[derive(Drop)]
+pub enum ReplyOctets {
+    /// A header alone, which takes no memory.
+    Header([u8; 12]),
+    /// A longer reply.
+    Longer(Vec<u8, Heap>),
+}
+
+impl ReplyOctets {
+    /// The octets.
+    pub fn as_slice(&self) -> &[u8]
+        ensures { result.now ≡ octets_in self.now }
+    {
+        match self {
+            ReplyOctets::Header(octets) => octets,
+            ReplyOctets::Longer(octets) => octets.as_slice(),
+        }
+    }
+}
+
+/// The reply to a request.
+#[derive(Drop)]
+pub struct Reply {
+    /// Where it goes.
+    pub to: To,
+    /// Its octets.
+    pub octets: ReplyOctets,
+}
+
 /// A reply to an update, which waits for the next flush: where it goes, the header of the request, the code, and the place of the
 /// zone.
 #[derive(Clone, Copy)]
@@ -89,17 +118,19 @@ pub enum Noted {
     Device(usize),
 }
 
-/// What an event does to the world: at most 33 replies that are a header alone, and then at most one longer one.
+/// What an event does to the world: at most 32 replies that waited go out, each a header alone, and then at most one to the request
+/// that came.
 #[derive(Drop)]
 pub struct Effects {
-    /// The replies that are a header alone.
-    pub headers: ArrayVec<HeaderTo, 33>,
-    /// A longer reply.
-    pub message: Option<(To, Vec<u8, Heap>)>,
+    /// The replies that waited.
+    pub headers: Vec<HeaderTo, Heap>,
+    /// The reply to the request that came.
+    pub reply: Option<Reply>,
     /// The number of a new connection.
     pub accepted: Option<usize>,
     /// What is to be known besides.
     pub noted: Noted,
+    ghost few: { length headers.items ≤ 32 },
 }
 
 impl Default for Peer {
@@ -107,15 +138,6 @@ impl Default for Peer {
         Peer {
             address: IpAddr::V4(Ipv4Addr::new(0, 0, 0, 0)),
             port: 0,
-        }
-    }
-}
-
-impl Default for HeaderTo {
-    fn default() -> HeaderTo {
-        HeaderTo {
-            to: To::Nowhere,
-            octets: [0; 12],
         }
     }
 }

@@ -1,5 +1,5 @@
 //! The flush of all zones, and of the replies that waited for it.
-ghost use Rattle.std.specs.Prelude.{◌≡◌, ◌<◌, ◌≤◌, ◌+◌, ◌++◌, List, [], Bool, map, length, slice_get, if◌then◌else◌};
+ghost use Rattle.std.specs.Prelude.{◌≡◌, ◌<◌, ◌≤◌, ◌+◌, ◌++◌, List, [], Bool, map, length, slice_get, vec_capacity, vec_len, if◌then◌else◌};
 ghost use Rattle.dns_zone.specs.Zone.{Zone as Stated};
 ghost use Rattle.dns_sectors.specs.Device.{LeavesOnly};
 ghost use Rattle.dns_store.specs.Versions.{Kept, OpensAsLeft};
@@ -16,6 +16,7 @@ use crate::{HeaderTo, Waiting};
 use arrayvec::ArrayVec;
 use dns_answer::header_only;
 use dns_held::{Behind, flush_all};
+use dns_memory::Heap;
 use dns_store::ZoneStore;
 use dns_wire::Rcode;
 use dns_zone::{Zone, ZoneIndex};
@@ -54,63 +55,68 @@ fn released_octets<I: ZoneIndex, S: ZoneStore>(
 fn release<I: ZoneIndex, S: ZoneStore>(
     behind: &[Behind<I, S>],
     waiting: &Waiting,
-    headers: &mut ArrayVec<HeaderTo, 33>,
+    headers: &mut Vec<HeaderTo, Heap>,
 )
-    requires { length headers.old.items < 33 }
+    requires { length headers.old.items < vec_capacity headers.old }
     ensures sent { (shown : List Stated) (zones : List ZoneState) (w : Waits)
         → HaveVersions S.keeps shown behind.now zones
         → IsWaiting waiting.now w
         → map header_out headers.new.items ≡ map header_out headers.old.items ++ goes_out (released zones w) }
     ensures few { length headers.new.items ≤ length headers.old.items + 1 }
+    ensures capacity { vec_capacity headers.new ≡ vec_capacity headers.old }
 {
     if waiting.to.is_nowhere() {
         return;
     }
-    headers.push(HeaderTo {
+    headers.push_reserved(HeaderTo {
         to: waiting.to,
         octets: released_octets(behind, waiting),
     });
 }
 
-/// The replies that waited, as they go out.
+/// Lets the replies that waited go out, for each of which there is a place.
 fn release_all<I: ZoneIndex, S: ZoneStore>(
     behind: &[Behind<I, S>],
     waiting: &ArrayVec<Waiting, 32>,
-) -> ArrayVec<HeaderTo, 33>
+    headers: &mut Vec<HeaderTo, Heap>,
+)
+    requires empty { headers.old.items ≡ [] }
+    requires places { length waiting.now.items ≤ vec_capacity headers.old }
     ensures sent { (shown : List Stated) (zones : List ZoneState) (ws : List Waits)
         → HaveVersions S.keeps shown behind.now zones
         → Each2 IsWaiting waiting.now.items ws
-        → map header_out result.items ≡ all_out (map (released zones) ws) }
-    ensures few { length result.items ≤ 32 }
+        → map header_out headers.new.items ≡ all_out (map (released zones) ws) }
+    ensures few { length headers.new.items ≤ 32 }
 {
-    let mut headers = ArrayVec::new();
     let waiting = waiting.as_slice();
     for one in waiting {
-        release(behind, one, &mut headers);
+        release(behind, one, headers);
     }
-    headers
 }
 
-/// Flushes all zones, and gives what goes out then: the replies that waited, and the first zone whose device failed.
+/// Flushes all zones, and lets go out what waited, for each of which there is a place. Gives the first zone whose device failed.
 pub(crate) fn flush<I: ZoneIndex, S: ZoneStore>(
     zones: &mut [Zone<I>],
     behind: &mut [Behind<I, S>],
     waiting: &mut ArrayVec<Waiting, 32>,
-) -> (ArrayVec<HeaderTo, 33>, Option<usize>)
-    requires { length zones.old ≡ length behind.old }
+    headers: &mut Vec<HeaderTo, Heap>,
+) -> Option<usize>
+    requires as_many { length zones.old ≡ length behind.old }
+    requires unused { headers.old.items ≡ [] }
+    requires places { length waiting.old.items ≤ vec_capacity headers.old }
     ensures flushed { (m : Machine)
         → HaveVersions S.keeps zones.old behind.old m.zones
         → Each2 IsWaiting waiting.old.items m.waiting
         → (fails : List Bool) × (length fails ≡ length m.zones) × FailedWhere (λ b. S.failed b.store) fails behind.old behind.new
         × HaveVersions S.keeps zones.new behind.new (flushed fails m).zones
-        × (map header_out result.0.items ≡ all_out (flush_sends fails m)) × (result.1 ≡ first_true fails) }
+        × (map header_out headers.new.items ≡ all_out (flush_sends fails m)) × (result ≡ first_true fails) }
     ensures empty { waiting.new.items ≡ [] }
-    ensures few { length result.0.items ≤ 32 }
+    ensures few { length headers.new.items ≤ 32 }
     ensures any_moment { (ks : List Kept) → Each3 (λ z b k. HasVersions S.keeps z b k) zones.old behind.old ks
         → Each3 (λ a b k. LeavesOnly S.moment S.left_since a.store b.store (OpensAsLeft S.opens k)) behind.old behind.new ks }
 {
     let failed = flush_all(zones, behind);
-    let headers = release_all(behind, waiting);
+    release_all(behind, waiting, headers);
     waiting.clear();
-    (headers, failed)
+    failed
 }

@@ -14,6 +14,6 @@ mod step;
 mod unkept;
 mod update;
 
-pub use event::{Effects, Event, HeaderTo, Noted, Peer, To, Waiting};
+pub use event::{Effects, Event, HeaderTo, Noted, Peer, Reply, ReplyOctets, To, Waiting};
 pub use laws::{fresh_law, replies_wait_law, servfail_law, versions_law};
 pub use primary::{Primary, ZoneSettings};

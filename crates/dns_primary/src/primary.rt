@@ -1,7 +1,7 @@
 //! What a primary keeps.
-ghost use Rattle.std.specs.Prelude.{◌≡◌, length};
+ghost use Rattle.std.specs.Prelude.{◌≡◌, ◌≤◌, [], length, vec_capacity};
 
-use crate::{Peer, Waiting};
+use crate::{HeaderTo, Peer, Waiting};
 use arrayvec::ArrayVec;
 use dns_held::Behind;
 use dns_memory::Heap;
@@ -28,7 +28,11 @@ pub struct Primary<I: ZoneIndex, S: ZoneStore> {
     pub(crate) behind: Vec<Behind<I, S>, Heap>,
     pub(crate) settings: Vec<ZoneSettings, Heap>,
     pub(crate) waiting: ArrayVec<Waiting, 32>,
+    // Nothing, with a place for each reply that waits: a flush hands it out.
+    pub(crate) places: Vec<HeaderTo, Heap>,
     pub(crate) connections: Slab<Peer, Heap>,
     ghost as_many: { length zones.items ≡ length behind.items },
     ghost settled: { length zones.items ≡ length settings.items },
+    ghost unused: { places.items ≡ [] },
+    ghost reserved: { length waiting.items ≤ vec_capacity places },
 }

@@ -1,5 +1,5 @@
 //! Updates that are tested, judged and staged, and their replies, which wait for the next flush.
-ghost use Rattle.std.specs.Prelude.{◌≡◌, ◌<◌, List, Some, false, length, slice_get};
+ghost use Rattle.std.specs.Prelude.{◌≡◌, ◌<◌, ◌≤◌, List, Some, false, length, slice_get};
 ghost use Rattle.dns_wire.specs.Message.{header_of};
 ghost use Rattle.dns_held.specs.Each.{Each2};
 ghost use Rattle.dns_primary.specs.declared.primary.ZoneSettings.{ZoneSettings as Settings};
@@ -63,6 +63,7 @@ fn judge_at<I: ZoneIndex, S: ZoneStore>(
         → IsAnswered (Holds S.keeps zones.now behind.new settings waiting.new.items m.connections) m (asked_of update.now)
         (admitted m (asked_of update.now) (Admits place z)) result }
     ensures still { Each2 (λ a b. IsUntouched S.moment S.left_since S.failed a.store b.store) behind.old behind.new }
+    ensures few { length waiting.new.items ≤ 32 }
 {
     let message = &update.request.message;
     match judge_and_stage(alloc, &zones[place], &mut behind[place], message) {
@@ -101,6 +102,7 @@ pub(crate) fn admit_and_judge<I: ZoneIndex, S: ZoneStore>(
         → IsAnswered (Holds S.keeps zones.now behind.new settings.now waiting.new.items m.connections) m (asked_of update.now)
         (admitted m (asked_of update.now) (admission m.zones (asked_of update.now))) result }
     ensures still { Each2 (λ a b. IsUntouched S.moment S.left_since S.failed a.store b.store) behind.old behind.new }
+    ensures few { length waiting.new.items ≤ 32 }
 {
     let question = &update.request.question;
     match admit(zones, &*behind, settings, question, name, update.address) {

@@ -23,18 +23,17 @@ use dns_zone::ZoneIndex;
 
 impl<I: ZoneIndex, S: ZoneStore> Primary<I, S> {
     /// Makes a place for one more reply that waits: where as many wait as may, there is a flush.
-    fn make_place(&mut self) -> Effects
+    fn make_place(&mut self, alloc: Heap) -> Effects
         ensures step { (old : Machine) → IsKept self.old old → Stepped old self.old self.new result
             (λ fails stated next. AreFailures (is_full old) old fails
             × Gives stated next (made_place fails old).0 (made_place fails old).1 fails) }
         ensures room { length self.new.waiting.items < 32 }
-        ensures few { length result.headers.items ≤ 32 }
-        ensures bare { result.message ≡ None }
+        ensures bare { result.reply ≡ None }
     {
         if self.waiting.is_full() {
             return self.flush();
         }
-        Effects::nothing()
+        Effects::nothing(alloc)
     }
 
     /// Tests an update, judges and stages it where it is admitted, and lets its reply wait, unless it goes out at once.
@@ -48,6 +47,9 @@ impl<I: ZoneIndex, S: ZoneStore> Primary<I, S> {
         ensures still { Each2 (λ a b. IsUntouched S.moment S.left_since S.failed a.store b.store)
             self.old.behind.items self.new.behind.items }
     {
+        let Ok(()) = self.places.reserve_exact(self.waiting.capacity()) else {
+            return Outcome::OutOfMemory;
+        };
         let zones = self.zones.as_slice();
         let settings = self.settings.as_slice();
         let waiting = &mut self.waiting;
@@ -70,9 +72,9 @@ impl<I: ZoneIndex, S: ZoneStore> Primary<I, S> {
             → Stepped old self.old self.new result (IsUpdatedOrLacks old (asked_of update.now)) }
     {
         let Ok(name) = update.request.question.name().to_name(alloc) else {
-            return Effects::out_of_memory(update.to, update.header);
+            return Effects::out_of_memory(alloc, update.to, update.header);
         };
-        let effects = self.make_place();
+        let effects = self.make_place(alloc);
         let outcome = self.judge(alloc, update, &name);
         effects.with_outcome(update, outcome)
     }
@@ -91,15 +93,20 @@ impl<I: ZoneIndex, S: ZoneStore> Primary<I, S> {
             → Stepped old self.old self.new result (IsServedOrLacks old peer to octets.now transport) }
     {
         match classify(octets, transport) {
-            Request::Ignored => Effects::nothing(),
-            Request::Refused(header, rcode) => Effects::refusal(to, header, rcode),
+            Request::Ignored => Effects::nothing(alloc),
+            Request::Refused(header, rcode) => Effects::refusal(alloc, to, header, rcode),
             Request::NotServed(query, rcode) => {
                 let header = header_octets(&query);
-                Effects::reply(to, header, refuse(alloc, &query, rcode, transport))
+                Effects::reply(alloc, to, header, refuse(alloc, &query, rcode, transport))
             }
             Request::Query(query) => {
                 let header = header_octets(&query);
-                Effects::reply(to, header, reply(alloc, &self.zones, &query, transport))
+                Effects::reply(
+                    alloc,
+                    to,
+                    header,
+                    reply(alloc, &self.zones, &query, transport),
+                )
             }
             Request::Update(request) => {
                 let header = header_octets(&request);
@@ -115,7 +122,7 @@ impl<I: ZoneIndex, S: ZoneStore> Primary<I, S> {
                 )
             }
             Request::Transfer(request) => {
-                Effects::refusal(to, header_octets(&request), Rcode::NotImp)
+                Effects::refusal(alloc, to, header_octets(&request), Rcode::NotImp)
             }
         }
     }

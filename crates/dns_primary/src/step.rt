@@ -13,6 +13,7 @@ use dns_memory::Heap;
 use dns_request::Transport;
 use dns_store::ZoneStore;
 use dns_zone::{Zone, ZoneIndex};
+use std::mem;
 
 /// The first device that failed, as it is noted.
 fn noted(failed: Option<usize>) -> Noted
@@ -33,15 +34,21 @@ impl<I: ZoneIndex, S: ZoneStore> Primary<I, S> {
         // that it opens as the versions shown and the first of those staged.
         ensures step { (old : Machine) → IsKept self.old old
             → Stepped old self.old self.new result (λ fails stated next. IsFlushed fails old stated next) }
-        ensures few { length result.headers.items ≤ 32 }
-        ensures bare { result.message ≡ None }
+        ensures bare { result.reply ≡ None }
         ensures empty { self.new.waiting.items ≡ [] }
         ensures memory { result.noted ≢ StatedLack }
     {
-        let (headers, failed) = flush(&mut self.zones, &mut self.behind, &mut self.waiting);
+        let none = Vec::new(*self.places.allocator());
+        let mut headers = mem::replace(&mut self.places, none);
+        let failed = flush(
+            &mut self.zones,
+            &mut self.behind,
+            &mut self.waiting,
+            &mut headers,
+        );
         Effects {
             headers,
-            message: None,
+            reply: None,
             accepted: None,
             noted: noted(failed),
         }
@@ -54,7 +61,7 @@ impl<I: ZoneIndex, S: ZoneStore> Primary<I, S> {
     {
         match self.connections.get(number).copied() {
             Some(peer) => self.serve(alloc, peer, To::Connection(number), octets, Transport::Tcp),
-            None => Effects::nothing(),
+            None => Effects::nothing(alloc),
         }
     }
 
@@ -74,6 +81,7 @@ impl<I: ZoneIndex, S: ZoneStore> Primary<I, S> {
         ensures step { (old : Machine) → IsKept self.old old
             → Stepped old self.old self.new result (λ fails stated next. Step fails old (event_shown event.entry) stated next) }
         ensures memory { takes_memory (event_shown event.entry) ≡ false → result.noted ≢ StatedLack }
+        ensures few { length result.headers.items ≤ 32 }
     {
         match event {
             Event::Datagram(peer, octets) => {

@@ -53,6 +53,7 @@ impl<I: ZoneIndex> Primary<I, Unkept> {
             behind,
             settings,
             waiting: ArrayVec::new(),
+            places: Vec::new(alloc),
             connections: Slab::new(alloc),
         })
     }

@@ -1,5 +1,5 @@
 -- What a run over a primary does: for each machine that it kept there is one that it keeps now, to which the run leads.
-use Rattle.std.specs.Prelude.{ℕ, List, ◌++◌, map, Option, Some, None}
+use Rattle.std.specs.Prelude.{ℕ, List, ◌++◌, map, Option}
 use Rattle.std.specs.Io.KnownBytes.{Appends}
 use Rattle.dns_names.specs.Name.{Labels}
 use Rattle.dns_zone.specs.declared.index.ZoneIndex as index
@@ -8,16 +8,14 @@ use Rattle.dns_primary.specs.declared.event.Effects.{Effects}
 use Rattle.dns_primary.specs.declared.event.To.{To}
 use Rattle.dns_primary.specs.declared.primary.Primary.{Primary}
 use Rattle.dns_primary.specs.Machine.{Machine}
-use Rattle.dns_primary.specs.Keeps.{IsKept, header_out, message_out}
+use Rattle.dns_primary.specs.Keeps.{IsKept, header_out, reply_out}
 use Rattle.dns_primary.specs.Step.{Event}
 use Rattle.dns_replay.specs.Scripts.{Happens, Prints, RunsInto}
 use Rattle.dns_replay.specs.declared.run.Ending.{Ending}
 
 -- The replies of an event in order, as they go out.
 abbrev pub replies_out : Effects → List (To × List ℕ)
-replies_out effects =
-    map header_out effects.headers.items
-    ++ message_out (elim (effects.message) [ None ↦ None | Some m ↦ Some (m.0, m.1.items) ])
+replies_out effects = map header_out effects.headers.items ++ reply_out effects.reply
 
 module _ {I S : Type 0} {i : index.Ghosts I} {s : store.Ghosts S} (origins : List Labels) where
   abbrev pub RanCommand : Option Event → Primary I S i s → Primary I S i s → Option (List ℕ) → Option (List ℕ) → Type 0

@@ -72,13 +72,13 @@ fn print_noted<W: Write>(origins: &[Name], noted: Noted, out: &mut W) -> io::Res
     }
 }
 
-/// Prints the replies of an event: those that are a header alone, and then the longer one.
+/// Prints the replies of an event: those that waited, and then the one to what came.
 fn print_replies<W: Write>(alloc: Heap, effects: &Effects, out: &mut W) -> io::Result<()>
     ensures { OnOk result (Appends (W.contents out.old) (W.contents out.new) (flat_map printed_reply (replies_out effects.now))) }
 {
     print_headers(alloc, effects.headers.as_slice(), out)?;
-    match &effects.message {
-        Some((to, octets)) => print_reply(alloc, *to, octets.as_slice(), out),
+    match &effects.reply {
+        Some(reply) => print_reply(alloc, reply.to, reply.octets.as_slice(), out),
         None => Ok(()),
     }
 }

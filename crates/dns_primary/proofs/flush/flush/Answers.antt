@@ -17,6 +17,6 @@ returns-clause-flushed g c m each waits =
       done.1 ∙ length-map m.zones kept_of,
       done.4,
       after,
-      c.release_all-headers.ensures.sent c.flush_all-failed.new.zones (flushed_zones fails m.zones) m.waiting after waits,
+      c.release_all.ensures.sent c.flush_all-failed.new.zones (flushed_zones fails m.zones) m.waiting after waits,
       done.3,
     )

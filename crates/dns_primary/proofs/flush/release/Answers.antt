@@ -13,4 +13,4 @@ returns-clause-sent g c shown zones w each waits =
     let octets = c.released_octets.ensures shown zones w each waits in
     let goes : out_to w.to c.released_octets.result ≡ (c.args.waiting.now.to, c.released_octets.result) ∷ [] = ap (λ (t : To). out_to t c.released_octets.result) (sym waits.to) ∙ out_somewhere c.args.waiting.now.to c.released_octets.result (sym c.is_nowhere.ensures ∙ c.if-is_nowhere.false) in
     let last : header_out one ∷ [] ≡ goes_out (released zones w) = sym goes ∙ ap (out_to w.to) octets in
-    (λ i. map header_out (c.push.ensures.items i)) ∙ map-append header_out c.args.headers.now.items (one ∷ []) ∙ ap (λ l. map header_out c.args.headers.now.items ++ l) last
+    (λ i. map header_out (c.push_reserved.ensures.items i)) ∙ map-append header_out c.args.headers.now.items (one ∷ []) ∙ ap (λ l. map header_out c.args.headers.now.items ++ l) last

@@ -18,6 +18,7 @@ loop-one-preserved g c =
     record {
       few = omega (arith, c.release.ensures.few, c.loop-one.invariant.few);
       most = c.loop-one.invariant.most;
+      places = omega (arith, c.release.ensures.capacity, c.loop-one.invariant.places);
       sent = λ shown zones ws each waits.
           let n = next items ws i (record { to = Address (record { address = V4 (record { octets = [] }); port = 0 }); request = []; rcode = NoError; zone = 0 }) waits c.loop-one-test.true in
           let more : map (released zones) (take (i + 1) ws) ≡ map (released zones) (take i ws) ++ released zones n.one ∷ [] = (λ j. map (released zones) (n.more j)) ∙ map-append (released zones) (take i ws) (n.one ∷ []) in

@@ -1,4 +1,5 @@
 use Rattle.std.proofs.Common.{◌≡◌, ◌≤◌, List, length, map, take}
+use Rattle.std.specs.Prelude.{vec_capacity}
 use Rattle.dns_zone.specs.Zone.{Zone}
 use Rattle.dns_held.specs.Each.{Each2}
 use Rattle.dns_primary.specs.Machine.{ZoneState, Waits}
@@ -10,6 +11,7 @@ abbrev pub invariant-loop-one : goal.invariant-loop-one
 invariant-loop-one g l = record {
   few : length l.headers.items ≤ l.one-index;
   most : length l.waiting ≤ 32;
+  places : length l.waiting ≤ vec_capacity l.headers;
   sent : (shown : List Zone) (zones : List ZoneState) (ws : List Waits) → HaveVersions g.S.ZoneStore.keeps shown l.behind zones → Each2 IsWaiting l.waiting ws
       → map header_out l.headers.items ≡ all_out (map (released zones) (take l.one-index ws));
 }

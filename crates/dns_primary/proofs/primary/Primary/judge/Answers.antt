@@ -7,6 +7,7 @@ use Rattle.dns_primary.specs.Update.{admission, admitted}
 use Rattle.dns_primary.specs.Keeps.{IsKept, IsSet}
 use Rattle.dns_primary.specs.Queue.{Holds, IsUntouched, asked_of}
 use Rattle.dns_primary.proofs.Flushed.{refilled, moved3}
+use Rattle.dns_primary.proofs.Places.{itself2}
 use Rattle.dns_primary.proofs.Served.{held_as}
 use Rattle.dns_primary.proofs.primary.Primary.judge.Goals as goal
 
@@ -27,7 +28,7 @@ returns-clause-done g c old kept =
     } in
     let done = c.admit_and_judge.ensures.done old given in
     held_as (Holds g.S.ZoneStore.keeps c.as_slice-zones.result.now new c.as_slice-settings.result.now c.admit_and_judge.new.waiting.items old.connections)
-    (IsKept {i = g.I.ZoneIndex} {s = g.S.ZoneStore} (record { zones = self.zones; behind = with_items self.behind new; settings = self.settings; waiting = c.admit_and_judge.new.waiting; connections = self.connections; as_many = _; settled = _ }))
+    (IsKept {i = g.I.ZoneIndex} {s = g.S.ZoneStore} (record { zones = self.zones; behind = with_items self.behind new; settings = self.settings; waiting = c.admit_and_judge.new.waiting; places = c.reserve_exact.new.self; connections = self.connections; as_many = _; settled = _; unused = _; reserved = _ }))
     (λ m h. record {
       zones_are = moved3 zones (sym y) (map kept_of m.zones) (λ z b k. HasVersions g.S.ZoneStore.keeps z b k) h.zones_are;
       settings_are = subst (λ l. Each2 IsSet l m.zones) settings h.settings_are;
@@ -35,6 +36,21 @@ returns-clause-done g c old kept =
       connections_are = λ number. kept.connections_are number ∙ ap (peer_at number) (sym h.connections_are);
       as_many = kept.as_many ∙ ap length (sym h.connections_are);
     }) old a (admitted old a (admission old.zones a)) c.admit_and_judge.result done
+
+pub returns-in_default-clause-still : goal.returns-in_default-clause-still
+returns-in_default-clause-still g c =
+    itself2 (λ a b. IsUntouched g.S.ZoneStore.moment g.S.ZoneStore.left_since g.S.ZoneStore.failed a.store b.store) c.args.self.now.behind.items (λ x. record { still = record { no_later = refl; same = λ t l left. left }; quiet = refl })
+
+pub invariant_of-self-2-clause-as_many : goal.invariant_of-self-2-clause-as_many
+invariant_of-self-2-clause-as_many g c =
+    let self = c.args.self.now in
+    let new = c.admit_and_judge.new.behind in
+    let behind = c.deref_mut.ensures.value in
+    let y = refilled self.behind.len new self.behind.items (omega (arith, c.admit_and_judge.auto.behind, ap length behind, self.behind.ok)) in
+    omega (arith, self.as_many, c.admit_and_judge.auto.behind, ap length behind, ap length y)
+
+pub invariant_of-self-2-clause-reserved : goal.invariant_of-self-2-clause-reserved
+invariant_of-self-2-clause-reserved g c = omega (arith, c.admit_and_judge.ensures.few, c.capacity.ensures, c.in-Ok.ensures.ok)
 
 pub returns-clause-still : goal.returns-clause-still
 returns-clause-still g c =

@@ -21,6 +21,6 @@ returns g c m fresh =
       zones_are = subst (λ (l : List Zone). HaveVersions keeps_unkept l c.in_ok-behind.behind.items m.zones) zones held;
       settings_are = loaded_set c.args.zones.items c.args.settings.items m.zones fresh.zones_are;
       waiting_are = subst (λ (l : List Waits). Each2 IsWaiting c.new.result.items l) (sym fresh.waiting) (subst (λ (l : List Waiting). Each2 IsWaiting l []) (sym c.new.ensures) tt);
-      connections_are = λ number. ap (λ (l : List (Option Peer)). slice_index_or l number None) c.new-2.ensures.empty ∙ sym (ap (peer_at number) fresh.connections);
-      as_many = ap (λ (l : List (Option Peer)). count_by is_some l) c.new-2.ensures.empty ∙ sym (ap length fresh.connections);
+      connections_are = λ number. ap (λ (l : List (Option Peer)). slice_index_or l number None) c.new-3.ensures.empty ∙ sym (ap (peer_at number) fresh.connections);
+      as_many = ap (λ (l : List (Option Peer)). count_by is_some l) c.new-3.ensures.empty ∙ sym (ap length fresh.connections);
     }
