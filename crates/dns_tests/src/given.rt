@@ -1,7 +1,7 @@
 //! Zones, a primary and a writer for tests.
 use dns_memory::Heap;
 use dns_names::Name;
-use dns_primary::{Event, Noted, Peer, Primary, ReplyOctets, ZoneSettings};
+use dns_primary::{Event, Noted, Peer, Primary, ZoneSettings};
 use dns_records::{RData, Record, types};
 use dns_store::Unkept;
 use dns_zone::{RecordList, Zone, ZoneIndex};
@@ -139,12 +139,9 @@ pub(crate) fn reply_of(
     if effects.noted == Noted::OutOfMemory {
         return Err(AllocError);
     }
-    let Some(reply) = effects.reply else {
-        return Ok(None);
-    };
-    match reply.octets {
-        ReplyOctets::Longer(octets) => Ok(Some(octets)),
-        ReplyOctets::Header(octets) => Ok(Some(Vec::from_slice(heap, &octets)?)),
+    match &effects.reply {
+        Some(reply) => Ok(Some(Vec::from_slice(heap, reply.octets.as_slice())?)),
+        None => Ok(None),
     }
 }
 
