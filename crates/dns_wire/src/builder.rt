@@ -8,6 +8,7 @@ ghost use Rattle.dns_wire.specs.Reply.{stated};
 ghost use Rattle.dns_wire.specs.Text.{text};
 
 use crate::compressor::Compressor;
+use crate::known::Places;
 use crate::writer::header;
 use crate::{Reply, ReplyRecord, WriteError};
 use dns_memory::Heap;
@@ -35,7 +36,7 @@ impl<'a> Model for MessageBuilder<'a> {
     ghost view = { λ b. record { reply = stated b.reply; limit = b.limit } };
 
     ghost invariant = { λ b.
-        StandsBuilt (record { reply = stated b.reply; limit = b.limit }) b.compressor.octets.items b.compressor.places.items
+        StandsBuilt (record { reply = stated b.reply; limit = b.limit }) b.compressor.octets.items b.compressor.places
         × (b.compressor.limit ≡ 65535) };
 }
 
@@ -54,8 +55,8 @@ fn put_any<'a>(compressor: &mut Compressor<'a>, one: &ReplyRecord<'a>) -> Result
     requires room { compressor.old.limit ≡ 65535 }
     ensures { OnOk result
         (Wrote compressor.old.limit compressor.old.octets.items compressor.new.octets.items compressor.new.limit
-        compressor.new.places.items
-        (compressed_record compressor.old.places.items (length compressor.old.octets.items) one.now)) }
+        compressor.new.places
+        (compressed_record compressor.old.places (length compressor.old.octets.items) one.now)) }
 {
     let _data = one.rdata();
     match compressor.put_record(one) {
@@ -100,7 +101,7 @@ impl<'a> MessageBuilder<'a> {
     {
         let mut compressor = Compressor {
             octets: Vec::with_capacity(alloc, limit)?,
-            places: Vec::with_capacity(alloc, 32)?,
+            places: Places::new(alloc)?,
             limit,
         };
         compressor.put(&header(&reply)?)?;

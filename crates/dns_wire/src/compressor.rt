@@ -1,65 +1,20 @@
 //! The compression of names: where a suffix was written before (RFC 1035 section 4.1.4).
 ghost use Rattle.std.specs.Prelude.{◌≡◌, ◌+◌, ◌<◌, ◌≤◌, [], ◌++◌, length, IfErr, IfSome, OnOk};
-ghost use Rattle.std.specs.Option.{option_map};
-ghost use Rattle.dns_names.specs.Name.{labels_of, names_eq};
+ghost use Rattle.dns_names.specs.Name.{labels_of};
 ghost use Rattle.dns_names.specs.Plain.{IsPlain};
-ghost use Rattle.dns_wire.specs.Compress.{place_of as stated_place_of, new_places, compressed_name, pointer as stated_pointer};
+ghost use Rattle.dns_wire.specs.Compress.{new_places, compressed_name, pointer as stated_pointer};
 ghost use Rattle.dns_wire.specs.Puts.{Wrote, RefusesUpTo, plain_octets, noted};
 
 use crate::WriteError;
+use crate::known::Places;
 use dns_memory::Heap;
 use std::alloc::AllocError;
-use std::marker::Model;
-
-/// Where a suffix of an earlier name stands: the plain form of the suffix is lent.
-#[derive(Drop)]
-pub(crate) struct Target<'a> {
-    offset: usize,
-    suffix: &'a [u8],
-}
-
-impl<'a> Model for Target<'a> {
-    ghost use Rattle.std.specs.Prelude.{◌<◌};
-    ghost use Rattle.dns_names.specs.Name.{labels_of};
-    ghost use Rattle.dns_names.specs.Plain.{IsPlain};
-    ghost use Rattle.dns_wire.specs.Compress.{Place};
-
-    ghost Value = { Place };
-
-    ghost view = { λ m. record { offset = m.offset; suffix = labels_of m.suffix.now } };
-
-    ghost invariant = { λ m. IsPlain m.suffix.now × (m.offset < 16384) };
-}
-
-impl<'a> Target<'a> {
-    /// Whether the suffix stands here.
-    fn is(&self, suffix: &[u8]) -> bool
-        requires { IsPlain suffix.now }
-        ensures { result ≡ names_eq self.now.suffix (labels_of suffix.now) }
-    {
-        self.suffix == suffix
-    }
-}
-
-/// The least offset at which a suffix stands.
-fn place_of(places: &[Target<'_>], suffix: &[u8]) -> Option<usize>
-    requires { IsPlain suffix.now }
-    ensures place { result ≡ option_map (λ p. p.offset) (stated_place_of places.now (labels_of suffix.now)) }
-    ensures low { IfSome result (λ offset. offset < 16384) }
-{
-    for place in places.iter() {
-        if place.is(suffix) {
-            return Some(place.offset);
-        }
-    }
-    None
-}
 
 /// A message while it is written: its octets so far, and the places that pointers can name.
 #[derive(Drop)]
 pub(crate) struct Compressor<'a> {
     pub(crate) octets: Vec<u8, Heap>,
-    pub(crate) places: Vec<Target<'a>, Heap>,
+    pub(crate) places: Places<'a>,
     pub(crate) limit: usize,
 }
 
@@ -68,8 +23,8 @@ impl<'a> Compressor<'a> {
     pub(crate) fn put(&mut self, octets: &[u8]) -> Result<(), WriteError>
         requires { length self.old.octets.items ≤ self.old.limit }
         ensures written { OnOk result
-            (Wrote self.old.limit self.old.octets.items self.new.octets.items self.new.limit self.new.places.items
-            (plain_octets self.old.places.items octets.now)) }
+            (Wrote self.old.limit self.old.octets.items self.new.octets.items self.new.limit self.new.places
+            (plain_octets self.old.places octets.now)) }
         ensures refused { IfErr result (RefusesUpTo self.old.limit (length self.old.octets.items + length octets.now)) }
     {
         if self.limit - self.octets.len() < octets.len() {
@@ -85,10 +40,10 @@ impl<'a> Compressor<'a> {
         ensures { OnOk result (
             (self.new.octets ≡ self.old.octets)
             × (self.new.limit ≡ self.old.limit)
-            × (self.new.places.items ≡ self.old.places.items ++ noted offset (labels_of suffix.now))) }
+            × (self.new.places ≡ self.old.places ++ noted offset (labels_of suffix.now))) }
     {
         if offset < 16384 {
-            self.places.push(Target { offset, suffix })?;
+            self.places.push(offset, suffix)?;
         }
         Ok(())
     }
@@ -100,7 +55,7 @@ impl<'a> Compressor<'a> {
         ensures { OnOk result (
             (self.new.octets ≡ self.old.octets)
             × (self.new.limit ≡ self.old.limit)
-            × (self.new.places.items ≡ self.old.places.items ++ new_places [] offset (labels_of name.now))) }
+            × (self.new.places ≡ self.old.places ++ new_places [] offset (labels_of name.now))) }
     {
         let mut at = offset;
         let mut rest = name;
@@ -119,17 +74,16 @@ impl<'a> Compressor<'a> {
         requires plain { IsPlain name.now }
         requires room { length self.old.octets.items ≤ self.old.limit }
         ensures written { OnOk result
-            (Wrote self.old.limit self.old.octets.items self.new.octets.items self.new.limit self.new.places.items
-            (compressed_name self.old.places.items (length self.old.octets.items) (labels_of name.now))) }
+            (Wrote self.old.limit self.old.octets.items self.new.octets.items self.new.limit self.new.places
+            (compressed_name self.old.places (length self.old.octets.items) (labels_of name.now))) }
         ensures refused { IfErr result
             (RefusesUpTo self.old.limit
-            (length self.old.octets.items + length (compressed_name self.old.places.items (length self.old.octets.items)
+            (length self.old.octets.items + length (compressed_name self.old.places (length self.old.octets.items)
             (labels_of name.now)).octets)) }
     {
-        let known = self.places.len();
         let mut rest = name;
         'labels: while rest.len() > 1 {
-            if let Some(offset) = place_of(&self.places.as_slice()[..known], rest) {
+            if let Some(offset) = self.places.offset_of(rest) {
                 return self.put(&pointer(offset));
             }
             let at = self.octets.len();

@@ -42,11 +42,11 @@ impl<'a> Compressor<'a> {
         requires form { AreFields (stated_fields fields.now) rdata.now }
         requires room { length self.old.octets.items ≤ self.old.limit }
         ensures written { OnOk result
-            (Wrote self.old.limit self.old.octets.items self.new.octets.items self.new.limit self.new.places.items
-            (compressed_fields self.old.places.items (length self.old.octets.items) (stated_fields fields.now) rdata.now)) }
+            (Wrote self.old.limit self.old.octets.items self.new.octets.items self.new.limit self.new.places
+            (compressed_fields self.old.places (length self.old.octets.items) (stated_fields fields.now) rdata.now)) }
         ensures refused { IfErr result
             (RefusesUpTo self.old.limit
-            (length self.old.octets.items + length (compressed_fields self.old.places.items (length self.old.octets.items)
+            (length self.old.octets.items + length (compressed_fields self.old.places (length self.old.octets.items)
             (stated_fields fields.now) rdata.now).octets)) }
     {
         let mut rest = rdata;
@@ -80,7 +80,7 @@ impl<'a> Compressor<'a> {
         ensures octets { self.new.octets.items
             ≡ take (start - 2) self.old.octets.items ++ be_octets w16 (length self.old.octets.items - start)
             ++ drop start self.old.octets.items }
-        ensures places { self.new.places.items ≡ self.old.places.items }
+        ensures places { self.new.places ≡ self.old.places }
         ensures limit { self.new.limit ≡ self.old.limit }
     {
         let size = (self.octets.len() - start) as u16;
@@ -91,11 +91,11 @@ impl<'a> Compressor<'a> {
     fn put_rdata(&mut self, one: &ReplyRecord<'a>) -> Result<(), WriteError>
         requires room { length self.old.octets.items ≤ self.old.limit }
         ensures written { OnOk result
-            (Wrote self.old.limit self.old.octets.items self.new.octets.items self.new.limit self.new.places.items
-            (compressed_rdata self.old.places.items (length self.old.octets.items) one.now)) }
+            (Wrote self.old.limit self.old.octets.items self.new.octets.items self.new.limit self.new.places
+            (compressed_rdata self.old.places (length self.old.octets.items) one.now)) }
         ensures refused { IfErr result
             (RefusesUpTo self.old.limit
-            (length self.old.octets.items + length (compressed_rdata self.old.places.items (length self.old.octets.items)
+            (length self.old.octets.items + length (compressed_rdata self.old.places (length self.old.octets.items)
             one.now).octets)) }
     {
         let rdata = one.rdata();
@@ -110,11 +110,11 @@ impl<'a> Compressor<'a> {
         requires room { length self.old.octets.items ≤ self.old.limit }
         requires small { self.old.limit < 65536 }
         ensures written { OnOk result
-            (Wrote self.old.limit self.old.octets.items self.new.octets.items self.new.limit self.new.places.items
-            (compressed_record self.old.places.items (length self.old.octets.items) one.now)) }
+            (Wrote self.old.limit self.old.octets.items self.new.octets.items self.new.limit self.new.places
+            (compressed_record self.old.places (length self.old.octets.items) one.now)) }
         ensures refused { IfErr result
             (RefusesUpTo self.old.limit
-            (length self.old.octets.items + length (compressed_record self.old.places.items (length self.old.octets.items)
+            (length self.old.octets.items + length (compressed_record self.old.places (length self.old.octets.items)
             one.now).octets)) }
     {
         self.put_name(one.owner().as_wire())?;
@@ -130,11 +130,11 @@ impl<'a> Compressor<'a> {
         requires room { length self.old.octets.items ≤ self.old.limit }
         requires small { self.old.limit < 65536 }
         ensures written { OnOk result
-            (Wrote self.old.limit self.old.octets.items self.new.octets.items self.new.limit self.new.places.items
-            (compressed_all self.old.places.items (length self.old.octets.items) records.now)) }
+            (Wrote self.old.limit self.old.octets.items self.new.octets.items self.new.limit self.new.places
+            (compressed_all self.old.places (length self.old.octets.items) records.now)) }
         ensures refused { IfErr result
             (RefusesUpTo self.old.limit
-            (length self.old.octets.items + length (compressed_all self.old.places.items (length self.old.octets.items)
+            (length self.old.octets.items + length (compressed_all self.old.places (length self.old.octets.items)
             records.now).octets)) }
     {
         for one in records.iter() {

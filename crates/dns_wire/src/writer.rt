@@ -11,6 +11,7 @@ ghost use Rattle.dns_wire.specs.Compress.{Place, compress_name, new_places};
 ghost use Rattle.dns_wire.specs.Compressed.{Used, StandsAt, IsWritten, AreThePlaces, IsCompressed, and_field};
 
 use crate::compressor::Compressor;
+use crate::known::Places;
 use crate::{EchoedQuestion, Reply, ReplyRecord, WriteError};
 use dns_memory::Heap;
 
@@ -68,10 +69,10 @@ impl<'a> Compressor<'a> {
         question: &Option<EchoedQuestion<'a>>,
     ) -> Result<(), WriteError>
         requires header { length self.old.octets.items ≡ 12 }
-        requires first { self.old.places.items ≡ [] }
+        requires first { self.old.places ≡ [] }
         requires room { length self.old.octets.items ≤ self.old.limit }
         ensures written { OnOk result
-            (Wrote self.old.limit self.old.octets.items self.new.octets.items self.new.limit self.new.places.items
+            (Wrote self.old.limit self.old.octets.items self.new.octets.items self.new.limit self.new.places
             (asked (echo question.now))) }
         ensures refused { IfErr result
             (RefusesUpTo self.old.limit (length self.old.octets.items + length (asked (echo question.now)).octets)) }
@@ -96,7 +97,7 @@ impl Writer {
     {
         let mut compressor = Compressor {
             octets: Vec::with_capacity(alloc, 512)?,
-            places: Vec::with_capacity(alloc, 32)?,
+            places: Places::new(alloc)?,
             limit,
         };
         compressor.put(&header(reply)?)?;

@@ -14,7 +14,7 @@ returns-then-len-limit c =
     let r = stated c.self.inside.reply in
     let stands = c.self.invariant.0 in
     let after = c.put_any.new.compressor.octets.items in
-    let size = longer_text r k.octets.items after k.places.items c.args.one stands.built stands.table c.in_ok-put_any.ensures.octets in
+    let size = longer_text r k.octets.items after k.places c.args.one stands.built stands.table c.in_ok-put_any.ensures.octets in
     let low : length k.octets.items ≤ c.self.inside.limit = stands.fits in
     let fits : length c.finished.result.items ≤ c.self.inside.limit = omega (arith, ap length c.finished.ensures, built_size r k.octets.items stands.built, low) in
     let over : c.self.inside.limit < length (text (with_record r c.args.one)) = omega (arith, size, c.len.ensures, c.if-len-limit.true) in
@@ -27,7 +27,7 @@ invariant_of-result c =
     let w = c.in_ok-put_any.ensures in
     let now = c.put_any.new.compressor in
     let fits : length now.octets.items ≤ c.self.inside.limit = omega (arith, c.len.ensures, c.if-len-limit.false) in
-    let next = built_next b k.octets.items now.octets.items k.places.items now.places.items c.args.one c.self.invariant.0 w.octets w.places fits in (
-      subst (λ (xs : List Record). StandsBuilt (record b { reply = record b.reply { answer = xs } }) now.octets.items now.places.items) (sym c.in_ok-push.ensures.items) next,
+    let next = built_next b k.octets.items now.octets.items k.places now.places c.args.one c.self.invariant.0 w.octets w.places fits in (
+      subst (λ (xs : List Record). StandsBuilt (record b { reply = record b.reply { answer = xs } }) now.octets.items now.places) (sym c.in_ok-push.ensures.items) next,
       w.same ∙ c.self.invariant.1,
     )

@@ -16,13 +16,13 @@ labels-preserved c =
     let width : 1 + get_or rest 0 0 ≡ 1 + length f.label = ap (λ (k : ℕ). 1 + k) f.count in
     let back : c.split_at.result.1.now ≡ drop (1 + length f.label) rest = c.split_at.ensures.back ∙ ap (λ (k : ℕ). drop k rest) width in
     let after = at + (1 + get_or rest 0 0) in
-    let next : now.places.items ++ new_places [] at (f.label ∷ f.rest) ≡ (now.places.items ++ noted at (f.label ∷ f.rest)) ++ new_places [] after f.rest = places_next [] now.places.items at f.label f.rest after refl (omega (arith, width)) in
-    let kept : c.note.new.self.places.items ≡ now.places.items ++ noted at (f.label ∷ f.rest) = c.in_ok-note.ensures.2 ∙ ap (λ (n : Labels). now.places.items ++ noted at n) f.is in
+    let next : now.places ++ new_places [] at (f.label ∷ f.rest) ≡ (now.places ++ noted at (f.label ∷ f.rest)) ++ new_places [] after f.rest = places_next [] now.places at f.label f.rest after refl (omega (arith, width)) in
+    let kept : c.note.new.self.places ≡ now.places ++ noted at (f.label ∷ f.rest) = c.in_ok-note.ensures.2 ∙ ap (λ (n : Labels). now.places ++ noted at n) f.is in
     record {
       octets = c.in_ok-note.ensures.0 ∙ c.labels.invariant.octets;
       limit = c.in_ok-note.ensures.1 ∙ c.labels.invariant.limit;
       plain = subst IsPlain (sym back) f.plain;
       size = (let whole : at + length rest ≡ c.args.offset + length c.args.name.now = c.labels.invariant.size in omega (arith, whole, c.split_at.ensures.back_len));
-      left = c.labels.invariant.left ∙ ap (λ (n : Labels). now.places.items ++ new_places [] at n) f.is ∙ next
-          ∙ ap (λ (ps : List Place). ps ++ new_places [] after f.rest) (sym kept) ∙ ap (λ (n : Labels). c.note.new.self.places.items ++ new_places [] after n) (sym (ap labels_of back ∙ f.back));
+      left = c.labels.invariant.left ∙ ap (λ (n : Labels). now.places ++ new_places [] at n) f.is ∙ next
+          ∙ ap (λ (ps : List Place). ps ++ new_places [] after f.rest) (sym kept) ∙ ap (λ (n : Labels). c.note.new.self.places ++ new_places [] after n) (sym (ap labels_of back ∙ f.back));
     }

@@ -10,7 +10,7 @@ invariant-labels l = record {
   limit : l.self.limit ≡ l.fn.self.limit;
   plain : IsPlain l.rest;
   size : l.at + length l.rest ≡ l.offset + length l.name;
-  left : l.fn.self.places.items ++ new_places [] l.offset (labels_of l.name) ≡ l.self.places.items ++ new_places [] l.at (labels_of l.rest);
+  left : l.fn.self.places ++ new_places [] l.offset (labels_of l.name) ≡ l.self.places ++ new_places [] l.at (labels_of l.rest);
 }
 
 abbrev pub decreases-labels : goal.decreases-labels

@@ -28,12 +28,12 @@ returns-in_err-put-in-Values-clause-refused c =
     let values = stated_values c.in-Values.values.now in
     let rdata = c.loop-field.rest.now in
     let fields = stated_fields (drop (i + 1) parts) in
-    let all = compressed_fields s.places.items (length s.octets.items) (stated_fields parts) c.args.rdata.now in
+    let all = compressed_fields s.places (length s.octets.items) (stated_fields parts) c.args.rdata.now in
     let front = begins parts i (part.Values c.in-Values.values) (omega arith) c.in-Values.is in
-    let left : FieldsLeft s.octets.items all now.octets.items now.places.items (Values values ∷ fields) rdata = subst (λ (fs : List Field). FieldsLeft s.octets.items all now.octets.items now.places.items fs rdata) front c.loop-field.invariant.left in
+    let left : FieldsLeft s.octets.items all now.octets.items now.places (Values values ∷ fields) rdata = subst (λ (fs : List Field). FieldsLeft s.octets.items all now.octets.items now.places fs rdata) front c.loop-field.invariant.left in
     err_exit c.from_residual.result _ (RefusesUpTo s.limit (length s.octets.items + length all.octets)) c.from_residual.ensures.1
     (λ y same. subst (RefusesUpTo s.limit (length s.octets.items + length all.octets)) (sym same)
-    (octets_refused s.limit s.octets.items all now.octets.items now.places.items now.limit values fields rdata c.split_at.result.0.now c.in_err-put-in-Values.field-0.0 (c.split_at.ensures.front ∙ ap (λ (k : ℕ). take k rdata) c.in-Some.ensures.0) c.loop-field.invariant.same left c.in_err-put-in-Values.ensures.refused))
+    (octets_refused s.limit s.octets.items all now.octets.items now.places now.limit values fields rdata c.split_at.result.0.now c.in_err-put-in-Values.field-0.0 (c.split_at.ensures.front ∙ ap (λ (k : ℕ). take k rdata) c.in-Some.ensures.0) c.loop-field.invariant.same left c.in_err-put-in-Values.ensures.refused))
 
 pub returns-in_err-put_name-in-Name-clause-refused : goal.returns-in_err-put_name-in-Name-clause-refused
 returns-in_err-put_name-in-Name-clause-refused c =
@@ -43,14 +43,14 @@ returns-in_err-put_name-in-Name-clause-refused c =
     let i = c.loop-field.field-index in
     let rdata = c.loop-field.rest.now in
     let fields = stated_fields (drop (i + 1) parts) in
-    let all = compressed_fields s.places.items (length s.octets.items) (stated_fields parts) c.args.rdata.now in
+    let all = compressed_fields s.places (length s.octets.items) (stated_fields parts) c.args.rdata.now in
     let front = begins parts i part.Name (omega arith) c.in-Name.is in
-    let left : FieldsLeft s.octets.items all now.octets.items now.places.items (Name ∷ fields) rdata = subst (λ (fs : List Field). FieldsLeft s.octets.items all now.octets.items now.places.items fs rdata) front c.loop-field.invariant.left in
+    let left : FieldsLeft s.octets.items all now.octets.items now.places (Name ∷ fields) rdata = subst (λ (fs : List Field). FieldsLeft s.octets.items all now.octets.items now.places fs rdata) front c.loop-field.invariant.left in
     let e = c.in_err-put_name-in-Name.field-0.0 in
-    let refused : RefusesUpTo now.limit (length now.octets.items + length (compressed_name now.places.items (length now.octets.items) (labels_of rdata)).octets) e = subst (λ (x : Labels). RefusesUpTo now.limit (length now.octets.items + length (compressed_name now.places.items (length now.octets.items) x).octets) e) c.split_name.ensures.labels c.in_err-put_name-in-Name.ensures.refused in
+    let refused : RefusesUpTo now.limit (length now.octets.items + length (compressed_name now.places (length now.octets.items) (labels_of rdata)).octets) e = subst (λ (x : Labels). RefusesUpTo now.limit (length now.octets.items + length (compressed_name now.places (length now.octets.items) x).octets) e) c.split_name.ensures.labels c.in_err-put_name-in-Name.ensures.refused in
     err_exit c.from_residual-in_err-put_name-in-Name.result _ (RefusesUpTo s.limit (length s.octets.items + length all.octets)) c.from_residual-in_err-put_name-in-Name.ensures.1
     (λ y same. subst (RefusesUpTo s.limit (length s.octets.items + length all.octets)) (sym same)
-    (names_refused s.limit s.octets.items all now.octets.items now.places.items now.limit fields rdata e c.loop-field.invariant.same left refused))
+    (names_refused s.limit s.octets.items all now.octets.items now.places now.limit fields rdata e c.loop-field.invariant.same left refused))
 
 pub returns-in-UncompressedName-clause-refused : goal.returns-in-UncompressedName-clause-refused
 returns-in-UncompressedName-clause-refused c =
@@ -60,11 +60,11 @@ returns-in-UncompressedName-clause-refused c =
     let i = c.loop-field.field-index in
     let rdata = c.loop-field.rest.now in
     let fields = stated_fields (drop (i + 1) parts) in
-    let all = compressed_fields s.places.items (length s.octets.items) (stated_fields parts) c.args.rdata.now in
-    let left : FieldsLeft s.octets.items all now.octets.items now.places.items (UncompressedName ∷ fields) rdata =
-    subst (λ (fs : List Field). FieldsLeft s.octets.items all now.octets.items now.places.items fs rdata) (begins parts i part.UncompressedName (omega arith) c.in-UncompressedName.is) c.loop-field.invariant.left in
+    let all = compressed_fields s.places (length s.octets.items) (stated_fields parts) c.args.rdata.now in
+    let left : FieldsLeft s.octets.items all now.octets.items now.places (UncompressedName ∷ fields) rdata =
+    subst (λ (fs : List Field). FieldsLeft s.octets.items all now.octets.items now.places fs rdata) (begins parts i part.UncompressedName (omega arith) c.in-UncompressedName.is) c.loop-field.invariant.left in
     IfErr-weaker c.put-in-UncompressedName.result (RefusesUpTo now.limit (length now.octets.items + length rdata)) (RefusesUpTo s.limit (length s.octets.items + length all.octets))
-    (λ e h. refuses_last s.limit s.octets.items all now.octets.items rdata now.places.items now.limit e c.loop-field.invariant.same left h) c.put-in-UncompressedName.ensures.refused
+    (λ e h. refuses_last s.limit s.octets.items all now.octets.items rdata now.places now.limit e c.loop-field.invariant.same left h) c.put-in-UncompressedName.ensures.refused
 
 pub returns-in-Strings-clause-refused : goal.returns-in-Strings-clause-refused
 returns-in-Strings-clause-refused c =
@@ -74,11 +74,11 @@ returns-in-Strings-clause-refused c =
     let i = c.loop-field.field-index in
     let rdata = c.loop-field.rest.now in
     let fields = stated_fields (drop (i + 1) parts) in
-    let all = compressed_fields s.places.items (length s.octets.items) (stated_fields parts) c.args.rdata.now in
-    let left : FieldsLeft s.octets.items all now.octets.items now.places.items (Strings ∷ fields) rdata =
-    subst (λ (fs : List Field). FieldsLeft s.octets.items all now.octets.items now.places.items fs rdata) (begins parts i part.Strings (omega arith) c.in-Strings.is) c.loop-field.invariant.left in
+    let all = compressed_fields s.places (length s.octets.items) (stated_fields parts) c.args.rdata.now in
+    let left : FieldsLeft s.octets.items all now.octets.items now.places (Strings ∷ fields) rdata =
+    subst (λ (fs : List Field). FieldsLeft s.octets.items all now.octets.items now.places fs rdata) (begins parts i part.Strings (omega arith) c.in-Strings.is) c.loop-field.invariant.left in
     IfErr-weaker c.put-in-Strings.result (RefusesUpTo now.limit (length now.octets.items + length rdata)) (RefusesUpTo s.limit (length s.octets.items + length all.octets))
-    (λ e h. refuses_last s.limit s.octets.items all now.octets.items rdata now.places.items now.limit e c.loop-field.invariant.same left h) c.put-in-Strings.ensures.refused
+    (λ e h. refuses_last s.limit s.octets.items all now.octets.items rdata now.places now.limit e c.loop-field.invariant.same left h) c.put-in-Strings.ensures.refused
 
 pub loop-field-preserved : goal.loop-field-preserved
 loop-field-preserved c =
@@ -90,16 +90,16 @@ loop-field-preserved c =
     let rdata = c.loop-field.rest.now in
     let behind = c.match-field.rest.now in
     let fields = stated_fields (drop (i + 1) parts) in
-    let all = compressed_fields s.places.items (length s.octets.items) (stated_fields parts) c.args.rdata.now in
+    let all = compressed_fields s.places (length s.octets.items) (stated_fields parts) c.args.rdata.now in
     elim c.match-field.branch [
       | in-Values+in-Some+in_ok-put-in-Values w ↦
           (let values = stated_values w.in-Values.values.now in
           let front = begins parts i (part.Values w.in-Values.values) (omega arith) w.in-Values.is in
-          let left : FieldsLeft s.octets.items all now.octets.items now.places.items (Values values ∷ fields) rdata = subst (λ (fs : List Field). FieldsLeft s.octets.items all now.octets.items now.places.items fs rdata) front c.loop-field.invariant.left in
+          let left : FieldsLeft s.octets.items all now.octets.items now.places (Values values ∷ fields) rdata = subst (λ (fs : List Field). FieldsLeft s.octets.items all now.octets.items now.places fs rdata) front c.loop-field.invariant.left in
           let form : AreFields (Values values ∷ fields) rdata = subst (λ (fs : List Field). AreFields fs rdata) front c.loop-field.invariant.form in
           let wrote = w.in_ok-put-in-Values.ensures.written in
           let grown : new.octets.items ≡ now.octets.items ++ w.split_at.result.0.now = ap (λ x. x.octets.items) w.self-is ∙ wrote.octets in
-          let kept : new.places.items ≡ now.places.items = ap (λ x. x.places.items) w.self-is ∙ wrote.places in
+          let kept : new.places ≡ now.places = ap (λ x. x.places) w.self-is ∙ wrote.places in
           let limit : new.limit ≡ now.limit = ap (λ x. x.limit) w.self-is ∙ wrote.same in
           let fits : length new.octets.items ≤ now.limit = subst (λ (xs : List ℕ). length xs ≤ now.limit) (sym (ap (λ x. x.octets.items) w.self-is)) wrote.fits in
           let back : behind ≡ drop (octet_count values) rdata = ap (λ x. x.now) w.rest-is ∙ w.split_at.ensures.back ∙ ap (λ (k : ℕ). drop k rdata) w.in-Some.ensures.0 in
@@ -107,16 +107,16 @@ loop-field-preserved c =
             room = omega (arith, fits, limit);
             same = limit ∙ c.loop-field.invariant.same;
             form = subst (AreFields fields) (sym back) (octets_behind values fields rdata form);
-            left = subst (FieldsLeft s.octets.items all new.octets.items new.places.items fields) (sym back) (octets_next s.octets.items all now.octets.items now.places.items values fields rdata w.split_at.result.0.now new.octets.items new.places.items (octets_room values fields rdata form) (w.split_at.ensures.front ∙ ap (λ (k : ℕ). take k rdata) w.in-Some.ensures.0) grown kept left);
+            left = subst (FieldsLeft s.octets.items all new.octets.items new.places fields) (sym back) (octets_next s.octets.items all now.octets.items now.places values fields rdata w.split_at.result.0.now new.octets.items new.places (octets_room values fields rdata form) (w.split_at.ensures.front ∙ ap (λ (k : ℕ). take k rdata) w.in-Some.ensures.0) grown kept left);
           })
       | in-Name+in_ok-put_name-in-Name w ↦
           (let front = begins parts i part.Name (omega arith) w.in-Name.is in
-          let left : FieldsLeft s.octets.items all now.octets.items now.places.items (Name ∷ fields) rdata = subst (λ (fs : List Field). FieldsLeft s.octets.items all now.octets.items now.places.items fs rdata) front c.loop-field.invariant.left in
+          let left : FieldsLeft s.octets.items all now.octets.items now.places (Name ∷ fields) rdata = subst (λ (fs : List Field). FieldsLeft s.octets.items all now.octets.items now.places fs rdata) front c.loop-field.invariant.left in
           let form : AreFields (Name ∷ fields) rdata = subst (λ (fs : List Field). AreFields fs rdata) front c.loop-field.invariant.form in
           let wrote = w.in_ok-put_name-in-Name.ensures.written in
-          let compression : compressed_name now.places.items (length now.octets.items) (labels_of w.split_name.result.0.now) ≡ compressed_name now.places.items (length now.octets.items) (labels_of rdata) = ap (compressed_name now.places.items (length now.octets.items)) w.split_name.ensures.labels in
-          let grown : new.octets.items ≡ now.octets.items ++ (compressed_name now.places.items (length now.octets.items) (labels_of rdata)).octets = ap (λ x. x.octets.items) w.self-is ∙ wrote.octets ∙ ap (λ (p : Compressing). now.octets.items ++ p.octets) compression in
-          let kept : new.places.items ≡ (compressed_name now.places.items (length now.octets.items) (labels_of rdata)).places = ap (λ x. x.places.items) w.self-is ∙ wrote.places ∙ ap (λ (p : Compressing). p.places) compression in
+          let compression : compressed_name now.places (length now.octets.items) (labels_of w.split_name.result.0.now) ≡ compressed_name now.places (length now.octets.items) (labels_of rdata) = ap (compressed_name now.places (length now.octets.items)) w.split_name.ensures.labels in
+          let grown : new.octets.items ≡ now.octets.items ++ (compressed_name now.places (length now.octets.items) (labels_of rdata)).octets = ap (λ x. x.octets.items) w.self-is ∙ wrote.octets ∙ ap (λ (p : Compressing). now.octets.items ++ p.octets) compression in
+          let kept : new.places ≡ (compressed_name now.places (length now.octets.items) (labels_of rdata)).places = ap (λ x. x.places) w.self-is ∙ wrote.places ∙ ap (λ (p : Compressing). p.places) compression in
           let limit : new.limit ≡ now.limit = ap (λ x. x.limit) w.self-is ∙ wrote.same in
           let fits : length new.octets.items ≤ now.limit = subst (λ (xs : List ℕ). length xs ≤ now.limit) (sym (ap (λ x. x.octets.items) w.self-is)) wrote.fits in
           let back : behind ≡ drop (length (wire (labels_of rdata))) rdata = ap (λ x. x.now) w.rest-is ∙ w.split_name.ensures.behind in
@@ -124,6 +124,6 @@ loop-field-preserved c =
             room = omega (arith, fits, limit);
             same = limit ∙ c.loop-field.invariant.same;
             form = subst (AreFields fields) (sym back) (name_behind fields rdata form);
-            left = subst (FieldsLeft s.octets.items all new.octets.items new.places.items fields) (sym back) (names_next s.octets.items all now.octets.items now.places.items fields rdata new.octets.items new.places.items grown kept left);
+            left = subst (FieldsLeft s.octets.items all new.octets.items new.places fields) (sym back) (names_next s.octets.items all now.octets.items now.places fields rdata new.octets.items new.places grown kept left);
           })
     ]

@@ -10,5 +10,5 @@ invariant-loop-field l = record {
   room : length l.self.octets.items ≤ l.self.limit;
   same : l.self.limit ≡ l.fn.self.limit;
   form : AreFields (stated_fields (drop l.field-index l.fields)) l.rest;
-  left : FieldsLeft l.fn.self.octets.items (compressed_fields l.fn.self.places.items (length l.fn.self.octets.items) (stated_fields l.fields) l.rdata) l.self.octets.items l.self.places.items (stated_fields (drop l.field-index l.fields)) l.rest;
+  left : FieldsLeft l.fn.self.octets.items (compressed_fields l.fn.self.places (length l.fn.self.octets.items) (stated_fields l.fields) l.rdata) l.self.octets.items l.self.places (stated_fields (drop l.field-index l.fields)) l.rest;
 }

@@ -1,7 +1,8 @@
-use Rattle.std.proofs.Common.{◌≡◌, ◌≤◌, length, take}
+use Rattle.std.proofs.Common.{◌≡◌, ◌≤◌, length}
 use Rattle.dns_names.specs.Name.{labels_of}
 use Rattle.dns_names.specs.Plain.{IsPlain}
 use Rattle.dns_wire.specs.Compress.{compressed_name}
+use Rattle.dns_wire.proofs.Indexed.{StillKnown}
 use Rattle.dns_wire.proofs.NamePut.{NameLeft}
 use Rattle.dns_wire.proofs.compressor.Compressor.put_name.Given as goal
 
@@ -10,9 +11,8 @@ invariant-labels l = record {
   room : length l.self.octets.items ≤ l.self.limit;
   same : l.self.limit ≡ l.fn.self.limit;
   plain : IsPlain l.rest;
-  inside : l.known ≤ length l.self.places.items;
-  known : take l.known l.self.places.items ≡ l.fn.self.places.items;
-  left : NameLeft l.fn.self.octets.items (compressed_name l.fn.self.places.items (length l.fn.self.octets.items) (labels_of l.name)) l.fn.self.places.items l.self.octets.items l.self.places.items (labels_of l.rest);
+  still : StillKnown l.fn.self.places l.self.places (labels_of l.rest);
+  left : NameLeft l.fn.self.octets.items (compressed_name l.fn.self.places (length l.fn.self.octets.items) (labels_of l.name)) l.fn.self.places l.self.octets.items l.self.places (labels_of l.rest);
 }
 
 abbrev pub decreases-labels : goal.decreases-labels

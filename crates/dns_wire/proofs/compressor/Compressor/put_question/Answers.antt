@@ -18,6 +18,6 @@ returns-in_ok-note_name-clause-written c =
     let w = c.in_ok-put.ensures.written in
     let kept = c.in_ok-note_name.ensures in
     let octets : new.octets.items ≡ put.octets.items = ap (λ v. v.items) kept.0 in
-    let places : new.places.items ≡ new_places [] 12 c.in-Some.echo.name = kept.2 ∙ ap (λ (n : Labels). put.places.items ++ new_places [] 12 n) name ∙ ap (λ (ps : List Place). ps ++ new_places [] 12 c.in-Some.echo.name) (w.places ∙ c.requires.first) in
-    subst (λ q. Wrote s.limit s.octets.items new.octets.items new.limit new.places.items (asked (echo q))) (sym c.in-Some.is)
+    let places : new.places ≡ new_places [] 12 c.in-Some.echo.name = kept.2 ∙ ap (λ (n : Labels). put.places ++ new_places [] 12 n) name ∙ ap (λ (ps : List Place). ps ++ new_places [] 12 c.in-Some.echo.name) (w.places ∙ c.requires.first) in
+    subst (λ q. Wrote s.limit s.octets.items new.octets.items new.limit new.places (asked (echo q))) (sym c.in-Some.is)
     (record { octets = octets ∙ w.octets; places = places; fits = subst (λ (xs : List ℕ). length xs ≤ s.limit) (sym octets) w.fits; same = kept.1 ∙ w.same })

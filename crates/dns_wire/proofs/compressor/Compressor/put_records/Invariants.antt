@@ -8,5 +8,5 @@ invariant-loop-one l = record {
   room : length l.self.octets.items ≤ l.self.limit;
   small : l.self.limit < 65536;
   same : l.self.limit ≡ l.fn.self.limit;
-  left : RecordsLeft l.fn.self.octets.items (compressed_all l.fn.self.places.items (length l.fn.self.octets.items) l.records) l.self.octets.items l.self.places.items (drop l.one-index l.records);
+  left : RecordsLeft l.fn.self.octets.items (compressed_all l.fn.self.places (length l.fn.self.octets.items) l.records) l.self.octets.items l.self.places (drop l.one-index l.records);
 }

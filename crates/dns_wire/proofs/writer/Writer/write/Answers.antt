@@ -17,26 +17,26 @@ returns-in_err-header-clause-refused c =
     err_exit c.from_residual-in_err-header.result _ (RefusesUpTo c.args.limit (length (text r))) c.from_residual-in_err-header.ensures.1
     (λ y same. subst (RefusesUpTo c.args.limit (length (text r))) (sym (same ∙ h.0)) over)
 
-one : (c : In_ok-put_question) → Begun (stated c.args.reply.now) c.put_question.new.self.octets.items c.put_question.new.self.places.items
+one : (c : In_ok-put_question) → Begun (stated c.args.reply.now) c.put_question.new.self.octets.items c.put_question.new.self.places
 one c =
     let w1 = c.in_ok-put.ensures.written in
     let w2 = c.in_ok-put_question.ensures.written in
     let start = c.in_ok-with_capacity.field-0.items in
-    begun (stated c.args.reply.now) start c.put.new.self.octets.items c.put_question.new.self.octets.items c.put_question.new.self.places.items c.in_ok-with_capacity.ensures.items (w1.octets ∙ ap (λ (xs : List ℕ). start ++ xs) c.in_ok-header.ensures.found) w2.octets w2.places
+    begun (stated c.args.reply.now) start c.put.new.self.octets.items c.put_question.new.self.octets.items c.put_question.new.self.places c.in_ok-with_capacity.ensures.items (w1.octets ∙ ap (λ (xs : List ℕ). start ++ xs) c.in_ok-header.ensures.found) w2.octets w2.places
 
-two : (c : In_ok-put_records) → Begun (stated c.args.reply.now) c.put_question.new.self.octets.items c.put_question.new.self.places.items → Answered (stated c.args.reply.now) c.put_records.new.self.octets.items c.put_records.new.self.places.items
+two : (c : In_ok-put_records) → Begun (stated c.args.reply.now) c.put_question.new.self.octets.items c.put_question.new.self.places → Answered (stated c.args.reply.now) c.put_records.new.self.octets.items c.put_records.new.self.places
 two c h =
     let q = c.put_question.new.self in
     let w = c.in_ok-put_records.ensures.written in
-    let same = ap (compressed_all q.places.items (length q.octets.items)) c.as_slice.ensures.value in
-    answered (stated c.args.reply.now) q.octets.items c.put_records.new.self.octets.items q.places.items c.put_records.new.self.places.items h (w.octets ∙ ap (λ (p : Compressing). q.octets.items ++ p.octets) same) (w.places ∙ ap (λ (p : Compressing). p.places) same)
+    let same = ap (compressed_all q.places (length q.octets.items)) c.as_slice.ensures.value in
+    answered (stated c.args.reply.now) q.octets.items c.put_records.new.self.octets.items q.places c.put_records.new.self.places h (w.octets ∙ ap (λ (p : Compressing). q.octets.items ++ p.octets) same) (w.places ∙ ap (λ (p : Compressing). p.places) same)
 
-three : (c : In_ok-put_records-2) → Answered (stated c.args.reply.now) c.put_records.new.self.octets.items c.put_records.new.self.places.items → Authorised (stated c.args.reply.now) c.put_records-2.new.self.octets.items c.put_records-2.new.self.places.items
+three : (c : In_ok-put_records-2) → Answered (stated c.args.reply.now) c.put_records.new.self.octets.items c.put_records.new.self.places → Authorised (stated c.args.reply.now) c.put_records-2.new.self.octets.items c.put_records-2.new.self.places
 three c h =
     let q = c.put_records.new.self in
     let w = c.in_ok-put_records-2.ensures.written in
-    let same = ap (compressed_all q.places.items (length q.octets.items)) c.as_slice-2.ensures.value in
-    authorised (stated c.args.reply.now) q.octets.items c.put_records-2.new.self.octets.items q.places.items c.put_records-2.new.self.places.items h (w.octets ∙ ap (λ (p : Compressing). q.octets.items ++ p.octets) same) (w.places ∙ ap (λ (p : Compressing). p.places) same)
+    let same = ap (compressed_all q.places (length q.octets.items)) c.as_slice-2.ensures.value in
+    authorised (stated c.args.reply.now) q.octets.items c.put_records-2.new.self.octets.items q.places c.put_records-2.new.self.places h (w.octets ∙ ap (λ (p : Compressing). q.octets.items ++ p.octets) same) (w.places ∙ ap (λ (p : Compressing). p.places) same)
 
 pub returns-in_err-put_records-clause-refused : goal.returns-in_err-put_records-clause-refused
 returns-in_err-put_records-clause-refused c =
@@ -46,7 +46,7 @@ returns-in_err-put_records-clause-refused c =
     let h = one at.In_ok-put_question in
     let limit = c.in_ok-put_question.ensures.written.same ∙ c.in_ok-put.ensures.written.same in
     err_exit c.from_residual-in_err-put_records.result _ (RefusesUpTo c.args.limit (length (text r))) c.from_residual-in_err-put_records.ensures.1
-    (λ y same. subst (RefusesUpTo c.args.limit (length (text r))) (sym same) (first_refused r q.octets.items q.places.items q.limit c.args.limit c.as_slice.result.now c.in_err-put_records.field-0.0 h c.as_slice.ensures.value limit c.in_err-put_records.ensures.refused))
+    (λ y same. subst (RefusesUpTo c.args.limit (length (text r))) (sym same) (first_refused r q.octets.items q.places q.limit c.args.limit c.as_slice.result.now c.in_err-put_records.field-0.0 h c.as_slice.ensures.value limit c.in_err-put_records.ensures.refused))
 
 pub returns-in_err-put_records-2-clause-refused : goal.returns-in_err-put_records-2-clause-refused
 returns-in_err-put_records-2-clause-refused c =
@@ -56,7 +56,7 @@ returns-in_err-put_records-2-clause-refused c =
     let h = two at.In_ok-put_records (one at.In_ok-put_question) in
     let limit = c.in_ok-put_records.ensures.written.same ∙ c.in_ok-put_question.ensures.written.same ∙ c.in_ok-put.ensures.written.same in
     err_exit c.from_residual-in_err-put_records-2.result _ (RefusesUpTo c.args.limit (length (text r))) c.from_residual-in_err-put_records-2.ensures.1
-    (λ y same. subst (RefusesUpTo c.args.limit (length (text r))) (sym same) (second_refused r q.octets.items q.places.items q.limit c.args.limit c.as_slice-2.result.now c.in_err-put_records-2.field-0.0 h c.as_slice-2.ensures.value limit c.in_err-put_records-2.ensures.refused))
+    (λ y same. subst (RefusesUpTo c.args.limit (length (text r))) (sym same) (second_refused r q.octets.items q.places q.limit c.args.limit c.as_slice-2.result.now c.in_err-put_records-2.field-0.0 h c.as_slice-2.ensures.value limit c.in_err-put_records-2.ensures.refused))
 
 pub returns-in_err-put_records-3-clause-refused : goal.returns-in_err-put_records-3-clause-refused
 returns-in_err-put_records-3-clause-refused c =
@@ -66,7 +66,7 @@ returns-in_err-put_records-3-clause-refused c =
     let h = three at.In_ok-put_records-2 (two at.In_ok-put_records (one at.In_ok-put_question)) in
     let limit = c.in_ok-put_records-2.ensures.written.same ∙ c.in_ok-put_records.ensures.written.same ∙ c.in_ok-put_question.ensures.written.same ∙ c.in_ok-put.ensures.written.same in
     err_exit c.from_residual-in_err-put_records-3.result _ (RefusesUpTo c.args.limit (length (text r))) c.from_residual-in_err-put_records-3.ensures.1
-    (λ y same. subst (RefusesUpTo c.args.limit (length (text r))) (sym same) (third_refused r q.octets.items q.places.items q.limit c.args.limit c.as_slice-3.result.now c.in_err-put_records-3.field-0.0 h c.as_slice-3.ensures.value limit c.in_err-put_records-3.ensures.refused))
+    (λ y same. subst (RefusesUpTo c.args.limit (length (text r))) (sym same) (third_refused r q.octets.items q.places q.limit c.args.limit c.as_slice-3.result.now c.in_err-put_records-3.field-0.0 h c.as_slice-3.ensures.value limit c.in_err-put_records-3.ensures.refused))
 
 pub returns-clause-found : goal.returns-clause-found
 returns-clause-found c =
@@ -76,7 +76,7 @@ returns-clause-found c =
     let h = three at.In_ok-put_records-2 (two at.In_ok-put_records (one at.In_ok-put_question)) in
     let w = c.in_ok-put_records-3.ensures.written in
     let limit : q.limit ≡ c.args.limit = c.in_ok-put_records-2.ensures.written.same ∙ c.in_ok-put_records.ensures.written.same ∙ c.in_ok-put_question.ensures.written.same ∙ c.in_ok-put.ensures.written.same in
-    let same = ap (compressed_all q.places.items (length q.octets.items)) c.as_slice-3.ensures.value in (
-      whole_text r q.octets.items c.put_records-3.new.self.octets.items q.places.items h (w.octets ∙ ap (λ (p : Compressing). q.octets.items ++ p.octets) same),
+    let same = ap (compressed_all q.places (length q.octets.items)) c.as_slice-3.ensures.value in (
+      whole_text r q.octets.items c.put_records-3.new.self.octets.items q.places h (w.octets ∙ ap (λ (p : Compressing). q.octets.items ++ p.octets) same),
       subst (λ (k : ℕ). length c.put_records-3.new.self.octets.items ≤ k) limit w.fits,
     )

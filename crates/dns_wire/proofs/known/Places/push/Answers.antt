@@ -1,0 +1,26 @@
+use Rattle.std.proofs.Common.{◌≡◌, ◌<◌, ◌≤◌, List, [], ◌∷◌, ◌++◌, IfOk, IfSome, ℕ, ◌+◌, length, Some, None, take, drop, refl, sym, ap, subst, ◌∙◌, arith, Bor}
+use Rattle.dns_names.specs.Name.{Labels, labels_of, names_eq}
+use Rattle.dns_names.specs.Plain.{IsPlain}
+use Rattle.dns_wire.specs.Compress.{Place}
+use Rattle.dns_wire.specs.Indexed.{IsIndexed, offset_at, index_at}
+use Rattle.std.proofs.lemmas.List.{drop-append-le, drop_all, length-append}
+use Rattle.dns_wire.proofs.known.Places.push.Goals as goal
+
+pub invariant_of-self-then-len-lt-LOOKED_THROUGH : goal.invariant_of-self-then-len-lt-LOOKED_THROUGH
+invariant_of-self-then-len-lt-LOOKED_THROUGH c =
+    let all = c.self.inside.all.items in
+    let new = c.push_reserved.new.self.items in
+    let few : length all < 32 = (let e = ap length c.in_ok-reserve.ensures.items in let l = c.len.ensures in let t = c.if-len-lt-LOOKED_THROUGH.true in omega (arith, e, l, t)) in
+    let none : drop 32 all ≡ [] = drop_all 32 all (let f = few in omega (arith, f)) in
+    let size : length new ≤ 32 = (let e = ap length c.in_ok-reserve.ensures.items in let g = c.push_reserved.ensures.len in let l = c.len.ensures in let t = c.if-len-lt-LOOKED_THROUGH.true in omega (arith, e, g, l, t)) in
+    let still : drop 32 new ≡ [] = drop_all 32 new size in
+    subst (λ (ps : List Place). IsIndexed ps c.self.inside.later) (none ∙ sym still) c.self.invariant
+
+pub invariant_of-self-2 : goal.invariant_of-self-2
+invariant_of-self-2 c =
+    let all = c.self.inside.all.items in
+    let one : List Place = record { offset = c.args.offset; suffix = labels_of c.args.suffix.now } ∷ [] in
+    let many : 32 ≤ length all = (let e = ap length c.in_ok-reserve.ensures.items in let l = c.len.ensures in let t = c.if-len-lt-LOOKED_THROUGH.false in omega (arith, e, l, t)) in
+    let grown : c.push_reserved-2.new.self.items ≡ all ++ one = c.push_reserved-2.ensures.items ∙ ap (λ (ps : List Place). ps ++ one) c.in_ok-reserve.ensures.items in
+    subst (λ (ps : List Place). IsIndexed ps c.keep_least.new.index) (sym (ap (drop 32) grown ∙ drop-append-le 32 all one many))
+    (c.in_ok-keep_least.ensures.kept (drop 32 all) c.self.invariant)
