@@ -126,3 +126,67 @@ fn a_text_that_is_refused_memory(rt: HostRuntime) -> Result<(), Fail> {
     assert_eq!(rt; is_text(alloc, &whole), Ok(true));
     Ok(())
 }
+
+/// An NS at the root for a host of this number.
+fn host(alloc: Heap, number: u8) -> Result<Record, AllocError> {
+    let root = Name::root(alloc);
+    let letters = [b'a' + number / 26 % 26, b'a' + number % 26, b'.'];
+    match Name::from_text(alloc, &letters, &root) {
+        Ok(name) => Ok(Record::new(root, 60, RData::ns(alloc, &name)?)),
+        // Two letters are a name, so that nothing but memory can be wanting.
+        Err(_) => Err(AllocError),
+    }
+}
+
+/// NS records at the root for so many hosts.
+fn hosts(alloc: Heap, count: u8) -> Result<Vec<Record, Heap>, AllocError> {
+    let mut records = Vec::new(alloc);
+    for number in 0..count {
+        records.push(host(alloc, number)?)?;
+    }
+    Ok(records)
+}
+
+/// Each of the records twice.
+fn twice<'a>(
+    alloc: Heap,
+    owner: &'a Name,
+    records: &'a [Record],
+) -> Result<Vec<ReplyRecord<'a>, Heap>, AllocError> {
+    let mut answer = Vec::new(alloc);
+    for _ in 0..2 {
+        for record in records {
+            answer.push(ReplyRecord::new(owner.lend(), 60, record))?;
+        }
+    }
+    Ok(answer)
+}
+
+/// The text of the response that has each of the records twice.
+fn text_twice(alloc: Heap, records: &[Record]) -> Result<Vec<u8, Heap>, WriteError> {
+    let root = Name::root(alloc);
+    let answer = twice(alloc, &root, records)?;
+    let reply = response(alloc, answer);
+    Writer::write(alloc, &reply, 65535)
+}
+
+// A name of four octets for each of 100 hosts, and then a pointer to it; each allocation is refused in turn.
+#[test]
+fn many_hosts_that_are_refused_memory(rt: HostRuntime) -> Result<(), Fail> {
+    let alloc = heap(rt.alloc())?;
+    let records = hosts(alloc, 100)?;
+    alloc.refuse(0);
+    let whole = text_twice(alloc, &records)?;
+    let calls = alloc.calls();
+    assert_eq!(rt; whole.len(), 12 + 100 * (11 + 4) + 100 * (11 + 2));
+    assert!(rt; calls > 4);
+    for n in 1..=calls {
+        alloc.refuse(n);
+        let refused = text_twice(alloc, &records).err();
+        assert_eq!(rt; refused, Some(WriteError::OutOfMemory));
+    }
+    alloc.refuse(0);
+    let again = text_twice(alloc, &records)?;
+    assert!(rt; again == whole);
+    Ok(())
+}
