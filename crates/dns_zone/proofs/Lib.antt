@@ -13,3 +13,6 @@ pub mod Enclosers
 pub mod Starred
 pub mod Beside
 pub mod Uncut
+pub mod Parted
+pub mod Moved
+pub mod Replaced

@@ -2,11 +2,11 @@
 use Rattle.std.specs.Prelude.{List, [], ◌∷◌, drop, Some, None, if◌then◌else◌}
 use Rattle.dns_names.specs.Name.{Labels}
 use Rattle.dns_records.specs.Record.{Record}
-use Rattle.dns_zone.specs.Records.{put, without, records_at, rrset, exists, next_after, has}
+use Rattle.dns_zone.specs.Records.{put, without, others, records_at, rrset, exists, next_after, has, united}
 use Rattle.dns_zone.specs.Zone.{Zone}
 use Rattle.dns_zone.specs.Node.{cut, encloser, source}
 use Rattle.dns_zone.specs.declared.laws.Command.{Command}
-use Rattle.dns_zone.specs.declared.laws.Command.TheVariants.{RecordsAt, Rrset, Exists, Insert, Remove, Walk, From, Match, Fork}
+use Rattle.dns_zone.specs.declared.laws.Command.TheVariants.{RecordsAt, Rrset, Exists, Insert, Remove, Clear, Alone, Walk, From, Match, Fork}
 use Rattle.dns_zone.specs.declared.laws.Reply.{Reply}
 use Rattle.dns_zone.specs.declared.laws.Reply.TheVariants.{Held, Found, Next, Cut, Owner, Wildcard, Nothing, Done}
 
@@ -17,6 +17,8 @@ set_after set (Rrset name rtype) = set
 set_after set (Exists name) = set
 set_after set (Insert r) = put r set
 set_after set (Remove r) = without r set
+set_after set (Clear name) = others set name
+set_after set (Alone name rtype) = united (others set name) (rrset set name rtype)
 set_after set (Walk after) = set
 set_after set (From place) = set
 set_after set (Match apex name) = set
@@ -40,6 +42,8 @@ reply_of set (Rrset name rtype) = Held (rrset set name rtype)
 reply_of set (Exists name) = Found (exists set name)
 reply_of set (Insert r) = Done
 reply_of set (Remove r) = Found (has r set)
+reply_of set (Clear name) = Done
+reply_of set (Alone name rtype) = Done
 reply_of set (Walk after) = Next (next_after after set)
 reply_of set (From place) = Held (drop place set)
 reply_of set (Match apex name) = matched (record { apex = apex; records = set }) name

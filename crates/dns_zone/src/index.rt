@@ -3,7 +3,7 @@ ghost use Rattle.std.specs.Prelude.{◌≡◌, List, [], true, length, drop, IfO
 ghost use Rattle.std.specs.Option.{option_copied};
 ghost use Rattle.std.specs.List.{AllByRecursion};
 ghost use Rattle.dns_records.specs.Record.{Record as Stated, IsRecord};
-ghost use Rattle.dns_zone.specs.Records.{is_ordered, put, without, records_at, rrset, exists, next_after, has};
+ghost use Rattle.dns_zone.specs.Records.{are_of, is_ordered, put, without, others, records_at, rrset, exists, next_after, has, united};
 ghost use Rattle.dns_zone.specs.Places.{IsRun};
 ghost use Rattle.dns_zone.specs.Node.{IsMatch};
 
@@ -57,6 +57,14 @@ pub trait ZoneIndex: Drop {
     fn remove(&mut self, removed: &Record) -> Result<bool, AllocError>
         ensures found { IfOk result (λ found. found ≡ has removed.now (records self.old)) }
         ensures ok { OnOk result (records self.new ≡ without removed.now (records self.old)) }
+        ensures err { OnErr result (records self.new ≡ records self.old) };
+
+    /// Puts these records, which are in order and which the name owns, in place of all that it owns. It is done at once: what it
+    /// costs grows with the name's records as one `insert` does, however many come and go.
+    fn replace_at(&mut self, name: &NameRef<'_>, come: Vec<Record, Heap>) -> Result<(), AllocError>
+        requires order { is_ordered come.items ≡ true }
+        requires owned { are_of name.now come.items ≡ true }
+        ensures ok { OnOk result (records self.new ≡ united (others (records self.old) name.now) come.entry.items) }
         ensures err { OnErr result (records self.new ≡ records self.old) };
 
     /// How many records there are.

@@ -4,12 +4,12 @@ ghost use Rattle.std.specs.Option.{option_copied};
 ghost use Rattle.dns_names.specs.Name.{Labels};
 ghost use Rattle.dns_zone.specs.Zone.{Zone as Stated};
 ghost use Rattle.dns_zone.specs.Node.{IsMatch};
-ghost use Rattle.dns_zone.specs.Records.{next_after, put, records_at};
+ghost use Rattle.dns_zone.specs.Records.{next_after, others, put, records_at, rrset, united};
 ghost use Rattle.dns_zone.specs.Run.{matched, reply_of, set_after, replies_of, set_left};
 
 use crate::{Match, Records, ZoneIndex};
 use dns_memory::Heap;
-use dns_names::Name;
+use dns_names::{Name, NameRef};
 use dns_records::Record;
 use std::alloc::AllocError;
 use std::marker::Model;
@@ -27,6 +27,10 @@ pub enum Command {
     Insert(Record),
     /// Takes the record of equal owner, type and data out.
     Remove(Record),
+    /// Takes all records of the name out.
+    Clear(Name),
+    /// Takes all records of the name out but those of the type.
+    Alone(Name, u16),
     /// Asks for the first record, or the first behind one.
     Walk(Option<Record>),
     /// Asks for the records from a place on.
@@ -137,6 +141,26 @@ fn insert_copy<I: ZoneIndex>(index: &mut I, added: &Record) -> Result<(), AllocE
     index.insert(added.clone()?)
 }
 
+/// Takes all records of the name out.
+fn clear<I: ZoneIndex>(alloc: Heap, index: &mut I, name: &NameRef<'_>) -> Result<(), AllocError>
+    ensures { OnOk result (I.records index.new ≡ others (I.records index.old) name.now) }
+{
+    index.replace_at(name, Vec::new(alloc))
+}
+
+/// Takes all records of the name out but those of the type.
+fn leave_alone<I: ZoneIndex>(
+    alloc: Heap,
+    index: &mut I,
+    name: &NameRef<'_>,
+    rtype: u16,
+) -> Result<(), AllocError>
+    ensures { OnOk result (I.records index.new ≡ united (others (I.records index.old) name.now) (rrset (I.records index.old) name.now rtype)) }
+{
+    let kept = index.rrset(name, rtype).to_vec(alloc)?;
+    index.replace_at(name, kept)
+}
+
 /// Takes a fork, puts a copy of the record into the index, copies what its owner owns there, and puts the fork in its place.
 fn go_on_with_fork<I: ZoneIndex>(
     alloc: Heap,
@@ -173,6 +197,14 @@ fn call<I: ZoneIndex>(alloc: Heap, index: &mut I, command: &Command) -> Result<R
             Ok(Reply::Done)
         }
         Command::Remove(record) => Ok(Reply::Found(index.remove(record)?)),
+        Command::Clear(name) => {
+            clear(alloc, index, &name.lend())?;
+            Ok(Reply::Done)
+        }
+        Command::Alone(name, rtype) => {
+            leave_alone(alloc, index, &name.lend(), *rtype)?;
+            Ok(Reply::Done)
+        }
         Command::Walk(after) => next(index, after.as_ref()),
         Command::From(place) => Ok(Reply::Held(copies_from(alloc, index, *place)?)),
         Command::Match(apex, name) => reply_of_match(

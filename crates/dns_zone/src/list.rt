@@ -1,12 +1,12 @@
 //! The sorted list that is a set of records.
-ghost use Rattle.std.specs.Prelude.{◌≡◌, true};
-ghost use Rattle.std.specs.List.{AllByRecursion};
+ghost use Rattle.std.specs.Prelude.{◌≡◌, ◌≤◌, ◌+◌, ◌++◌, true, length, take, drop, slice_range, OnOk, OnErr};
+ghost use Rattle.std.specs.List.{AllByRecursion, splice};
 ghost use Rattle.dns_records.specs.Record.{IsRecord};
-ghost use Rattle.dns_zone.specs.Records.{is_ordered};
+ghost use Rattle.dns_zone.specs.Records.{are_of, is_ordered, others, united};
 
 use crate::gather::are_valid;
 use crate::lookup::{exists, find_node, records_near};
-use crate::search::{Key, find_record, first_behind, matching};
+use crate::search::{Key, count_before, end_of_match, find_record, first_behind, matching};
 use crate::{Match, ZoneIndex};
 use dns_memory::Heap;
 use dns_names::NameRef;
@@ -30,6 +30,54 @@ impl RecordList {
         }
         None
     }
+}
+
+/// Moves the first ones behind a place, so many, to the end.
+fn move_to_end(items: &mut Vec<Record, Heap>, from: usize, count: usize)
+    requires inside { from + count ≤ length items.old.items }
+    ensures { items.new.items ≡ take from items.old.items ++ drop (from + count) items.old.items
+        ++ slice_range items.old.items from (from + count) }
+{
+    items.slice_mut(from..).rotate_left(count);
+}
+
+/// Puts records in place of those from a place on up to another. Memory is asked for once, before anything moves.
+fn replace_between(
+    items: &mut Vec<Record, Heap>,
+    begin: usize,
+    end: usize,
+    mut come: Vec<Record, Heap>,
+) -> Result<(), AllocError>
+    requires order { begin ≤ end }
+    requires inside { end ≤ length items.old.items }
+    ensures ok { OnOk result (items.new.items ≡ splice items.old.items begin end come.entry.items) }
+    ensures err { OnErr result (items.new.items ≡ items.old.items) }
+{
+    let behind = items.len() - end;
+    items.append(&mut come)?;
+    move_to_end(items, begin, end - begin);
+    items.truncate(items.len() - (end - begin));
+    move_to_end(items, begin, behind);
+    Ok(())
+}
+
+/// Puts records of a name in place of all that it owns. A place near those is where the search for them begins.
+fn replace_owned(
+    items: &mut Vec<Record, Heap>,
+    name: &NameRef<'_>,
+    near: Option<usize>,
+    come: Vec<Record, Heap>,
+) -> Result<(), AllocError>
+    requires held { is_ordered items.old.items ≡ true }
+    requires order { is_ordered come.items ≡ true }
+    requires owned { are_of name.now come.items ≡ true }
+    ensures ok { OnOk result (items.new.items ≡ united (others items.old.items name.now) come.entry.items) }
+    ensures err { OnErr result (items.new.items ≡ items.old.items) }
+{
+    let key = Key::Owner(name.reborrow());
+    let begin = count_before(items, &key, near);
+    let end = end_of_match(items, &key, begin);
+    replace_between(items, begin, end, come)
 }
 
 impl ZoneIndex for RecordList {
@@ -84,6 +132,16 @@ impl ZoneIndex for RecordList {
             }
             Err(_) => Ok(false),
         }
+    }
+
+    fn replace_at(
+        &mut self,
+        name: &NameRef<'_>,
+        come: Vec<Record, Heap>,
+    ) -> Result<(), AllocError> {
+        are_valid(&come);
+        let near = self.near(name);
+        replace_owned(&mut self.items, name, near, come)
     }
 
     fn len(&self) -> usize {

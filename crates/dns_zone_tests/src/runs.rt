@@ -59,7 +59,7 @@ fn some_record(heap: Heap, numbers: &mut Numbers) -> Result<Record, Fail> {
 }
 
 fn some_command(heap: Heap, numbers: &mut Numbers) -> Result<Command, Fail> {
-    Ok(match numbers.next(18) {
+    Ok(match numbers.next(24) {
         0 => Command::RecordsAt(name(heap, owner(numbers))?),
         1 => Command::Rrset(name(heap, owner(numbers))?, u16::from(numbers.next(6))),
         2 => Command::Exists(name(heap, owner(numbers))?),
@@ -69,6 +69,8 @@ fn some_command(heap: Heap, numbers: &mut Numbers) -> Result<Command, Fail> {
         6 | 7 => Command::Remove(some_record(heap, numbers)?),
         8 => Command::From(usize::from(numbers.next(12))),
         9 => Command::Match(name(heap, b"a.")?, name(heap, asked(numbers))?),
+        10 => Command::Clear(name(heap, owner(numbers))?),
+        11 => Command::Alone(name(heap, owner(numbers))?, u16::from(numbers.next(6))),
         _ => Command::Insert(some_record(heap, numbers)?),
     })
 }
@@ -82,6 +84,11 @@ fn take_out(plain: &mut Vec<Record, Heap>, gone: &Record) -> bool {
     let before = plain.len();
     plain.retain(|r| !tie(r, gone));
     plain.len() < before
+}
+
+/// Takes the records of a name out of the list but, if one is given, those of a type.
+fn clear(plain: &mut Vec<Record, Heap>, name: &Name, kept: Option<u16>) {
+    plain.retain(|r| r.owner() != name || kept.is_some_and(|t| r.rtype() == t));
 }
 
 /// How many of the records are of a name and, if one is given, of a type.
@@ -236,6 +243,14 @@ fn agrees(
             true
         }
         (Command::Remove(gone), Reply::Found(found)) => *found == take_out(plain, gone),
+        (Command::Clear(name), Reply::Done) => {
+            clear(plain, name, None);
+            true
+        }
+        (Command::Alone(name, rtype), Reply::Done) => {
+            clear(plain, name, Some(*rtype));
+            true
+        }
         (Command::Walk(after), Reply::Next(next)) => is_next(next, plain, after),
         (Command::From(place), Reply::Held(copies)) => is_rest(heap, plain, *place, copies)?,
         (Command::Match(apex, name), reply) => is_match(heap, plain, apex, name, reply)?,

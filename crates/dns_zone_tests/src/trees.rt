@@ -146,6 +146,35 @@ fn a_removal_that_is_refused_memory(rt: HostRuntime) -> Result<(), Fail> {
     Ok(())
 }
 
+// Each allocation of a replacement of all that a name owns is refused in turn.
+#[test]
+fn a_replacement_that_is_refused_memory(rt: HostRuntime) -> Result<(), Fail> {
+    let heap = heap(rt.alloc())?;
+    let mut tree = example(heap)?;
+    let fork = tree.fork()?;
+    let before = walked(heap, &tree)?;
+    let emptied = name(heap, b"host1.example.")?;
+    let mut refusals = 0u64;
+    let mut replaced = false;
+    for n in 1..200u64 {
+        heap.refuse(n);
+        let outcome = tree.replace_at(&emptied.lend(), Vec::new(heap));
+        heap.refuse(0);
+        match outcome {
+            Ok(()) => {
+                replaced = true;
+                break;
+            }
+            Err(_) => refusals = n,
+        }
+        assert!(rt; walked(heap, &tree)? == before && walked(heap, &fork)? == before);
+    }
+    assert!(rt; replaced && refusals > 2, "{refusals} refusals");
+    assert!(rt; tree.records_at(&emptied.lend()).is_empty() && tree.exists(&emptied.lend()));
+    assert!(rt; tree.len() == 10 && walked(heap, &fork)? == before);
+    Ok(())
+}
+
 /// The name of a number under the apex.
 fn host(heap: Heap, number: u32) -> Result<Name, Fail> {
     let text = format!(in heap; "h{number}.example.")?;

@@ -27,7 +27,7 @@ use Rattle.dns_zoneindex.proofs.Sides.{label_total, all_map, children_front, chi
 use Rattle.dns_zoneindex.proofs.Under.{labels_same}
 use Rattle.dns_zoneindex.proofs.Owned.{AreOwned, owned_test, rising}
 use Rattle.dns_zoneindex.proofs.Paths.{head_not}
-use Rattle.dns_zoneindex.proofs.Parted.{more_is}
+use Rattle.dns_zone.proofs.Parted.{more_is}
 
 abbrev path : ℕ → Record → Labels
 path n r = drop n (reverse r.owner)

@@ -3,24 +3,22 @@ use Rattle.std.proofs.Common.{◌≡◌, true, List, refl, sym, ap, subst, ◌�
 use Rattle.std.specs.Prelude.{Result, Ok, Err, OnOk, OnErr}
 use Rattle.std.specs.List.{AllByRecursion}
 use Rattle.std.proofs.Math.Logic.{∥∥₁_map}
-use Rattle.dns_names.specs.Name.{Labels, names_eq}
+use Rattle.dns_names.specs.Name.{Labels}
 use Rattle.dns_records.specs.Record.{Record, IsRecord}
-use Rattle.dns_zone.specs.Records.{is_ordered, put, without, records_at}
-use Rattle.dns_zone.specs.Sets.{sorted_from, sorted_filter}
-use Rattle.dns_zone.proofs.Listed.{ordered_from, put_ordered, put_valid, without_ordered, without_valid}
+use Rattle.dns_zone.specs.Records.{is_ordered, are_of, put, without, others, records_at, united}
+use Rattle.dns_zone.specs.Sets.{sorted_from}
+use Rattle.dns_zone.proofs.Replaced.{all_from, united_parted, replaced_ordered, replaced_valid}
+use Rattle.dns_zone.proofs.Listed.{put_ordered, put_valid, without_ordered, without_valid}
 use Rattle.dns_zoneindex.specs.Entries.{Entry}
 use Rattle.dns_zoneindex.specs.Owned.{records_of, are_owned}
 use Rattle.dns_zoneindex.specs.Setting.{set_at}
-use Rattle.dns_zoneindex.proofs.Owned.{owned_from, owned_test, set_owned, set_put, set_without, all_at, all_put, all_without}
+use Rattle.dns_zoneindex.proofs.Owned.{owned_from, owned_test, set_owned, set_records, set_put, set_without, all_at, all_put, all_without}
 
 pub record Follows (es : List Entry) (xs : List Record) : Type 0 where
   pub at_owner : are_owned es ≡ true
   pub in_order : is_ordered (records_of es) ≡ true
   pub valid : ∥ AllByRecursion IsRecord (records_of es) ∥₁
   pub is : records_of es ≡ xs
-
-pub ordered_at : (name : Labels) (xs : List Record) → is_ordered xs ≡ true → is_ordered (records_at xs name) ≡ true
-ordered_at name xs h = ordered_from (records_at xs name) (sorted_filter (λ r. names_eq r.owner name) xs (sorted_from xs h))
 
 put_in : (r : Record) (es : List Entry) → are_owned es ≡ true → is_ordered (records_of es) ≡ true → ∥ AllByRecursion IsRecord (records_of es) ∥₁ → IsRecord r
     → Follows (set_at (reverse r.owner) (put r (records_at (records_of es) r.owner)) es) (put r (records_of es))
@@ -64,6 +62,22 @@ pub without_follows : (r : Record) (asked : Labels) (es : List Entry) (held rs :
 without_follows r asked es held rs at_owner order valid a h p =
     let is : rs ≡ without r (records_at (records_of es) r.owner) = p ∙ ap (without r) (h ∙ ap (records_at (records_of es)) a) in
     subst (λ (x : List Entry). Follows x (without r (records_of es))) (λ i. set_at (reverse (sym a i)) (sym is i) es) (taken_out r es at_owner order valid)
+
+-- other records of a name in place of those that it had
+pub replaced : (name : Labels) (rs : List Record) (es : List Entry) → are_owned es ≡ true → is_ordered (records_of es) ≡ true → ∥ AllByRecursion IsRecord (records_of es) ∥₁
+    → is_ordered rs ≡ true → are_of name rs ≡ true → AllByRecursion IsRecord rs → Follows (set_at (reverse name) rs es) (united (others (records_of es) name) rs)
+replaced name rs es at_owner order valid o a each =
+    let h = owned_from es at_owner in
+    let s = sorted_from (records_of es) order in
+    let all = all_from name rs a in
+    let new = set_at (reverse name) rs es in
+    let is : records_of new ≡ united (others (records_of es) name) rs = set_records name rs es h s ∙ sym (united_parted name (records_of es) rs s (sorted_from rs o) all) in
+    record {
+      at_owner = owned_test new (set_owned name rs es h s all);
+      in_order = subst (λ (x : List Record). is_ordered x ≡ true) (sym is) (replaced_ordered name (records_of es) rs order);
+      valid = ∥∥₁_map valid (λ v. subst (AllByRecursion IsRecord) (sym is) (replaced_valid name (records_of es) rs v each));
+      is = is;
+    }
 
 -- what holds of the new tree and of the old one holds behind the call
 pub either : {T E : Type 0} (P : List Entry → Type 0) (r : Result T E) (new there es : List Entry) → OnOk r (new ≡ there) → OnErr r (new ≡ es) → P there → P es → P new

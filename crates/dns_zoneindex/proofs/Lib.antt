@@ -9,7 +9,6 @@ pub mod Led
 pub mod Lent
 pub mod Opened
 pub mod Owned
-pub mod Parted
 pub mod Paths
 pub mod Reaching
 pub mod Set

@@ -16,7 +16,8 @@ use Rattle.dns_zoneindex.specs.Owned.{records_of, stands_at_owner, are_owned}
 use Rattle.dns_zoneindex.specs.Setting.{keep, set_at}
 use Rattle.dns_zoneindex.specs.Growth.{path_cmp, NotBefore, Rising}
 use Rattle.dns_zoneindex.proofs.Paths.{ahead, beyond, at, set_split}
-use Rattle.dns_zoneindex.proofs.Parted.{fore, past, put_parted, without_parted}
+use Rattle.dns_zone.proofs.Replaced.{AllAt}
+use Rattle.dns_zone.proofs.Parted.{fore, past, put_parted, without_parted}
 
 -- the test as a fact
 abbrev pub AreOwned : List Entry → Type 0
@@ -40,10 +41,6 @@ owned_append (e ∷ a) b h k = (h.0, owned_append a b h.1 k)
 owned_keep : (p : Entry → Bool) (es : List Entry) → AreOwned es → AreOwned (keep p es)
 owned_keep p [] h = tt
 owned_keep p (e ∷ es) h = elim (p e) as (λ b. AreOwned (cond b (e ∷ keep p es) (keep p es))) [ true ↦ (h.0, owned_keep p es h.1) | false ↦ owned_keep p es h.1 ]
-
-abbrev pub AllAt : Labels → List Record → Type 0
-AllAt name [] = Unit {0}
-AllAt name (r ∷ rs) = (r.owner ≡ name) × AllAt name rs
 
 owned_there : (name : Labels) (rs : List Record) → AllAt name rs → AreOwned (map (at (reverse name)) rs)
 owned_there name [] h = tt

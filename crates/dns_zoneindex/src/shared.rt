@@ -92,6 +92,15 @@ impl ZoneIndex for SharedTree {
         }
     }
 
+    fn replace_at(
+        &mut self,
+        name: &NameRef<'_>,
+        come: Vec<Record, Heap>,
+    ) -> Result<(), AllocError> {
+        are_valid(&come);
+        self.tree.set(self.alloc, name, come)
+    }
+
     fn len(&self) -> usize {
         self.tree.count()
     }

@@ -5,11 +5,12 @@ use Rattle.dns_zone.specs.Records.{is_ordered, put}
 use Rattle.dns_zoneindex.specs.Entries.{Entry}
 use Rattle.dns_zoneindex.specs.Owned.{records_of, are_owned}
 use Rattle.dns_zoneindex.specs.Setting.{set_at}
-use Rattle.dns_zoneindex.proofs.Keeping.{ordered_at, put_follows, either, on_ok}
+use Rattle.dns_zone.proofs.Replaced.{at_ordered}
+use Rattle.dns_zoneindex.proofs.Keeping.{put_follows, either, on_ok}
 use Rattle.dns_zoneindex.proofs.shared.SharedTreeZoneIndex.insert.Goals as goal
 
 pub with_record-requires : goal.with_record-requires
-with_record-requires c = subst (λ (x : List Record). is_ordered x ≡ true) (sym c.records_at.ensures) (ordered_at c.lend.result (records_of c.args.self.now.tree) c.args.self.now.in_order)
+with_record-requires c = subst (λ (x : List Record). is_ordered x ≡ true) (sym c.records_at.ensures) (at_ordered (records_of c.args.self.now.tree) c.lend.result c.args.self.now.in_order)
 
 pub invariant_of-self : goal.invariant_of-self
 invariant_of-self c =

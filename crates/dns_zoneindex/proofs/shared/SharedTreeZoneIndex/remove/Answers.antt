@@ -6,12 +6,13 @@ use Rattle.dns_zone.specs.Records.{is_ordered, without, has, records_at}
 use Rattle.dns_zoneindex.specs.Entries.{Entry}
 use Rattle.dns_zoneindex.specs.Owned.{records_of, are_owned}
 use Rattle.dns_zoneindex.specs.Setting.{set_at}
-use Rattle.dns_zoneindex.proofs.Keeping.{ordered_at, without_follows, either}
-use Rattle.dns_zoneindex.proofs.Parted.{has_parted, without_none}
+use Rattle.dns_zone.proofs.Replaced.{at_ordered}
+use Rattle.dns_zoneindex.proofs.Keeping.{without_follows, either}
+use Rattle.dns_zone.proofs.Parted.{has_parted, without_none}
 use Rattle.dns_zoneindex.proofs.shared.SharedTreeZoneIndex.remove.Goals as goal
 
 pub without_record-requires : goal.without_record-requires
-without_record-requires c = subst (λ (x : List Record). is_ordered x ≡ true) (sym c.records_at.ensures) (ordered_at c.lend-owner.result (records_of c.args.self.now.tree) c.args.self.now.in_order)
+without_record-requires c = subst (λ (x : List Record). is_ordered x ≡ true) (sym c.records_at.ensures) (at_ordered (records_of c.args.self.now.tree) c.lend-owner.result c.args.self.now.in_order)
 
 pub invariant_of-self : goal.invariant_of-self
 invariant_of-self c =

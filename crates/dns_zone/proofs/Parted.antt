@@ -13,7 +13,7 @@ use Rattle.dns_names.specs.Compare.{name_cmp-same}
 use Rattle.dns_records.specs.Record.{Record, record_cmp}
 use Rattle.dns_zone.specs.Order.{name_total, names_same, names_itself}
 use Rattle.dns_zone.specs.Records.{put, without, records_at, has}
-use Rattle.dns_zone.specs.Sets.{Sorted, Below, true_or_false}
+use Rattle.dns_zone.specs.Sets.{Sorted, Below, true_or_false, less_is}
 
 abbrev pub fore : Labels → Record → Bool
 fore name r = is_gt (name_cmp name r.owner)
@@ -21,7 +21,7 @@ fore name r = is_gt (name_cmp name r.owner)
 abbrev pub past : Labels → Record → Bool
 past name r = is_lt (name_cmp name r.owner)
 
-abbrev AllOf : (Record → Type 0) → List Record → Type 0
+abbrev pub AllOf : (Record → Type 0) → List Record → Type 0
 AllOf P [] = Unit {0}
 AllOf P (x ∷ xs) = P x × AllOf P xs
 
@@ -30,13 +30,13 @@ not_more Less b e = refl
 not_more Equal b e = refl
 not_more Greater b e = absurd cc
 
-none_eq : (name owner : Labels) (o : Ordering) → name_cmp name owner ≡ o → (o ≡ Equal → ⊥) → names_eq owner name ≡ false
+pub none_eq : (name owner : Labels) (o : Ordering) → name_cmp name owner ≡ o → (o ≡ Equal → ⊥) → names_eq owner name ≡ false
 none_eq name owner o e never = elim (true_or_false (names_eq owner name)) [
   | inl same ↦ absurd (never (sym e ∙ ap (λ n. name_cmp name n) (names_same owner name same) ∙ tied_itself name_total name))
   | inr other ↦ other
 ]
 
-tied_eq : (name owner : Labels) → name_cmp name owner ≡ Equal → names_eq owner name ≡ true
+pub tied_eq : (name owner : Labels) → name_cmp name owner ≡ Equal → names_eq owner name ≡ true
 tied_eq name owner e = subst (λ n. names_eq n name ≡ true) (name_cmp-same name owner e) (names_itself name)
 
 -- behind a record whose owner is no lower
@@ -52,7 +52,7 @@ more_than name a b Less e f h = name_total.trans name a b e f
 more_than name a b Equal e f h = subst (λ n. name_cmp name n ≡ Less) (name_cmp-same a b f) e
 more_than name a b Greater e f h = absurd cc
 
-none_fore : (name : Labels) (x : Record) (xs : List Record) → is_gt (name_cmp name x.owner) ≡ false → Below x xs → filter (fore name) xs ≡ []
+pub none_fore : (name : Labels) (x : Record) (xs : List Record) → is_gt (name_cmp name x.owner) ≡ false → Below x xs → filter (fore name) xs ≡ []
 none_fore name x [] e h = refl
 none_fore name x (y ∷ ys) e h =
     let here : is_gt (name_cmp name y.owner) ≡ false = at_least name x.owner y.owner (name_cmp name x.owner) (name_cmp x.owner y.owner) refl refl e (not_more (name_cmp x.owner y.owner) _ h.0) in
@@ -101,26 +101,21 @@ more_is Less e = absurd cc
 more_is Equal e = absurd cc
 more_is Greater e = refl
 
-less_is : (o : Ordering) → is_lt o ≡ true → o ≡ Less
-less_is Less e = refl
-less_is Equal e = absurd cc
-less_is Greater e = absurd cc
-
-behind_all : (r : Record) (xs : List Record) → AllOf (λ x. record_cmp r x ≡ Greater) (filter (fore r.owner) xs)
+pub behind_all : (r : Record) (xs : List Record) → AllOf (λ x. record_cmp r x ≡ Greater) (filter (fore r.owner) xs)
 behind_all r xs = kept_of (fore r.owner) (λ x. record_cmp r x ≡ Greater) (λ (x : Record) e. ap (λ (o : Ordering). ordering_then o (ordering_then (nat_cmp r.rtype x.rtype) (slice_cmp nat_cmp r.rdata x.rdata))) (more_is (name_cmp r.owner x.owner) e)) xs
 
-before_all : (r : Record) (xs : List Record) → AllOf (λ x. record_cmp r x ≡ Less) (filter (past r.owner) xs)
+pub before_all : (r : Record) (xs : List Record) → AllOf (λ x. record_cmp r x ≡ Less) (filter (past r.owner) xs)
 before_all r xs = kept_of (past r.owner) (λ x. record_cmp r x ≡ Less) (λ (x : Record) e. ap (λ (o : Ordering). ordering_then o (ordering_then (nat_cmp r.rtype x.rtype) (slice_cmp nat_cmp r.rdata x.rdata))) (less_is (name_cmp r.owner x.owner) e)) xs
 
-put_behind : (r : Record) (xs ys : List Record) → AllOf (λ x. record_cmp r x ≡ Greater) xs → put r (xs ++ ys) ≡ xs ++ put r ys
+pub put_behind : (r : Record) (xs ys : List Record) → AllOf (λ x. record_cmp r x ≡ Greater) xs → put r (xs ++ ys) ≡ xs ++ put r ys
 put_behind r [] ys h = refl
 put_behind r (x ∷ xs) ys h = ap (λ o. by_order o (r ∷ x ∷ (xs ++ ys)) (r ∷ (xs ++ ys)) (x ∷ put r (xs ++ ys))) h.0 ∙ ap (λ z. x ∷ z) (put_behind r xs ys h.1)
 
-put_first : (r : Record) (ys : List Record) → AllOf (λ x. record_cmp r x ≡ Less) ys → put r ys ≡ r ∷ ys
+pub put_first : (r : Record) (ys : List Record) → AllOf (λ x. record_cmp r x ≡ Less) ys → put r ys ≡ r ∷ ys
 put_first r [] h = refl
 put_first r (y ∷ ys) h = ap (λ o. by_order o (r ∷ y ∷ ys) (r ∷ ys) (y ∷ put r ys)) h.0
 
-put_before : (r : Record) (xs ys : List Record) → AllOf (λ x. record_cmp r x ≡ Less) ys → put r (xs ++ ys) ≡ put r xs ++ ys
+pub put_before : (r : Record) (xs ys : List Record) → AllOf (λ x. record_cmp r x ≡ Less) ys → put r (xs ++ ys) ≡ put r xs ++ ys
 put_before r [] ys h = put_first r ys h
 put_before r (x ∷ xs) ys h = step (record_cmp r x) (put_before r xs ys h)
   where
