@@ -3,3 +3,4 @@ pub mod Entries
 pub mod Walking
 pub mod Formed
 pub mod Touched
+pub mod Groups

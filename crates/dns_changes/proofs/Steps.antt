@@ -160,7 +160,7 @@ first_or_last : (t : Bool) (r : Record) (a b : Option Record) → (t ≡ true �
 first_or_last true r a b h = ap (λ o. or_else o (Some r)) (sym (h refl))
 first_or_last false r a b h = refl
 
-united_with : (xs : List Record) (r : Record) (rest : List Record) → Sorted xs → list_any (alike r) rest ≡ false → united xs (r ∷ rest) ≡ united (put r xs) rest
+pub united_with : (xs : List Record) (r : Record) (rest : List Record) → Sorted xs → list_any (alike r) rest ≡ false → united xs (r ∷ rest) ≡ united (put r xs) rest
 united_with xs r rest h e =
     same_sets (united xs (r ∷ rest)) (united (put r xs) rest) (sorted_united xs (r ∷ rest) h) (sorted_united (put r xs) rest (sorted_put r xs h))
     (λ q. found_put q r (united xs rest) ∙ ap (cond (ties q r) (Some r)) (found_united q xs rest)
@@ -212,12 +212,6 @@ pub ok_has : (r : Record) (xs : List Record) (at : Result ℕ ℕ) → IfOk at (
 ok_has r xs (Ok at) h k = sym h.there
 ok_has r xs (Err at) h k = sym k.absent
 
-pub rrset_ordered : (xs : List Record) (name : Labels) (t : ℕ) → is_ordered xs ≡ true → is_ordered (rrset xs name t) ≡ true
-rrset_ordered xs name t h = ordered_from (rrset xs name t) (sorted_filter (λ r. names_eq r.owner name && r.rtype == t) xs (sorted_from xs h))
-
-pub at_ordered : (xs : List Record) (name : Labels) → is_ordered xs ≡ true → is_ordered (records_at xs name) ≡ true
-at_ordered xs name h = ordered_from (records_at xs name) (sorted_filter (λ r. names_eq r.owner name) xs (sorted_from xs h))
-
 pub tied_here : (r : Record) (xs : List Record) → has r (rrset xs r.owner r.rtype) ≡ has r xs
 tied_here r xs = any_kept (ties r) (λ y. names_eq y.owner r.owner && y.rtype == r.rtype) xs ∙ any_by (λ y. (names_eq y.owner r.owner && y.rtype == r.rtype) && ties r y) (ties r) each xs
   where
@@ -235,23 +229,6 @@ next_at (x ∷ xs) zero r lt is = ap (λ y. y ∷ xs) (sym is)
 next_at (x ∷ xs) (suc i) r lt is =
     let next : suc i + 1 ≡ suc (i + 1) = omega arith in
     next_at xs i r (omega arith) is ∙ ap (λ n. r ∷ drop n (x ∷ xs)) (sym next)
-
-pub present_step : (cur next gone : List Record) (i : ℕ) (r : Record) → i < length gone → r ≡ get_or gone i r → contains cur r ≡ true → next ≡ without r cur → are_present next (drop (i + 1) gone) ≡ are_present cur (drop i gone)
-present_step cur next gone i r lt is there e = ap (λ ys. are_present ys (drop (i + 1) gone)) e ∙ sym (present_next cur r (drop (i + 1) gone) there) ∙ ap (are_present cur) (sym (next_at gone i r lt is))
-
-pub removed_step : (cur next gone : List Record) (i : ℕ) (r : Record) → is_ordered cur ≡ true → i < length gone → r ≡ get_or gone i r → contains cur r ≡ true → next ≡ without r cur → removed_from next (drop (i + 1) gone) ≡ removed_from cur (drop i gone)
-removed_step cur next gone i r h lt is there e = ap (λ ys. removed_from ys (drop (i + 1) gone)) e ∙ sym (removed_next cur r (drop (i + 1) gone) (sorted_from cur h) there) ∙ ap (removed_from cur) (sym (next_at gone i r lt is))
-
-pub removed_end : (cur gone : List Record) (i : ℕ) → length gone ≤ i → removed_from cur (drop i gone) ≡ cur
-removed_end cur gone i past = ap (removed_from cur) (drop_all i gone past) ∙ removed_none cur
-
-pub new_step : (cur next come : List Record) (i : ℕ) (r : Record) → i < length come → r ≡ get_or come i r → has r cur ≡ false → next ≡ put r cur → are_new next (drop (i + 1) come) ≡ are_new cur (drop i come)
-new_step cur next come i r lt is absent e = ap (λ ys. are_new ys (drop (i + 1) come)) e ∙ sym (new_next cur r (drop (i + 1) come) absent) ∙ ap (are_new cur) (sym (next_at come i r lt is))
-
-pub united_step : (cur next come : List Record) (i : ℕ) (r : Record) → is_ordered cur ≡ true → i < length come → r ≡ get_or come i r → next ≡ put r cur → are_new cur (drop i come) ≡ true → united next (drop (i + 1) come) ≡ united cur (drop i come)
-united_step cur next come i r h lt is e new =
-    let at = next_at come i r lt is in
-    ap (λ ys. united ys (drop (i + 1) come)) e ∙ sym (united_next cur r (drop (i + 1) come) (sorted_from cur h) (ap (are_new cur) (sym at) ∙ new)) ∙ ap (united cur) (sym at)
 
 -- ---- the whole
 pub removes_absent : (c : Change) (xs one : List Record) → contains xs c.old_soa ≡ true → one ≡ without c.old_soa xs → are_present one c.removed ≡ false → change_fault c xs ≡ Some RemovesAbsent

@@ -4,3 +4,4 @@ pub mod Entry
 pub mod Laws
 pub mod Version
 pub mod Applied
+pub mod Group

@@ -4,6 +4,7 @@ ghost use Rattle.dns_zone.specs.Records.{contains, has, is_ordered, put, united,
 ghost use Rattle.dns_changes.specs.Change.{AreFew, is_formed, applied, are_present, are_new, change_fault, removed_from};
 
 use crate::ChangeError;
+use crate::group::{put_each, take_each};
 use dns_memory::Heap;
 use dns_records::Record;
 use dns_zone::{ZoneIndex, find_record};
@@ -84,11 +85,13 @@ impl Change {
     pub fn added(&self) -> &[Record]
         ensures records { result.now ≡ self.now.added }
         ensures few { AreFew self.now.removed self.now.added }
+        ensures formed { is_formed self.now ≡ true }
     {
         &self.added
     }
 
-    /// Takes the records that go out of a set, and puts those that come into it. Where the change doesn't fit the set, or
+    /// Takes the records that go out of a set, and puts those that come into it, name by name: what a name owns is copied once for
+    /// all that go there and once for all that come, and for the SOAs. Where the change doesn't fit the set, or
     /// memory is refused, the set stays.
     pub fn apply<I: ZoneIndex>(&self, index: &mut I) -> Result<(), ChangeError>
         ensures applied { OnOk result (I.records index.new ≡ applied self.now (I.records index.old)) }
@@ -115,7 +118,7 @@ impl Change {
         if !take_out(set, self.old_soa())? {
             return Err(ChangeError::WrongSoa);
         }
-        if !take_each(set, self.removed())? {
+        if !take_each(*self.removed.allocator(), set, self.removed())? {
             return Err(ChangeError::RemovesAbsent);
         }
         Ok(())
@@ -132,7 +135,7 @@ impl Change {
         if !put_in(set, self.new_soa())? {
             return Err(ChangeError::AddsPresent);
         }
-        if !put_each(set, self.added())? {
+        if !put_each(*self.added.allocator(), set, self.added())? {
             return Err(ChangeError::AddsPresent);
         }
         Ok(())
@@ -158,7 +161,7 @@ pub(crate) fn is_among(records: &[Record], wanted: &Record, near: &mut usize) ->
 }
 
 /// Whether the set has the record, with its TTL.
-fn holds<I: ZoneIndex>(set: &I, wanted: &Record) -> bool
+pub fn holds<I: ZoneIndex>(set: &I, wanted: &Record) -> bool
     ensures { result ≡ contains (I.records set.now) wanted.now }
 {
     let rrset = set.rrset(&wanted.owner().lend(), wanted.rtype());
@@ -166,7 +169,7 @@ fn holds<I: ZoneIndex>(set: &I, wanted: &Record) -> bool
 }
 
 /// Whether the set has a record of that owner, type and data.
-fn holds_key<I: ZoneIndex>(set: &I, wanted: &Record) -> bool
+pub fn holds_key<I: ZoneIndex>(set: &I, wanted: &Record) -> bool
     ensures { result ≡ has wanted.now (I.records set.now) }
 {
     let rrset = set.rrset(&wanted.owner().lend(), wanted.rtype());
@@ -174,7 +177,7 @@ fn holds_key<I: ZoneIndex>(set: &I, wanted: &Record) -> bool
 }
 
 /// Takes a record out, and answers whether it was there.
-fn take_out<I: ZoneIndex>(set: &mut I, gone: &Record) -> Result<bool, AllocError>
+pub fn take_out<I: ZoneIndex>(set: &mut I, gone: &Record) -> Result<bool, AllocError>
     ensures present { IfOk result (λ present. present ≡ contains (I.records set.old) gone.now) }
     ensures left { IfOk result (λ present. present ≡ true → I.records set.new ≡ without gone.now (I.records set.old)) }
 {
@@ -182,19 +185,6 @@ fn take_out<I: ZoneIndex>(set: &mut I, gone: &Record) -> Result<bool, AllocError
         return Ok(false);
     }
     set.remove(gone)?;
-    Ok(true)
-}
-
-/// Takes records out one behind another, up to the first that isn't there, and answers whether all were there.
-fn take_each<I: ZoneIndex>(set: &mut I, gone: &[Record]) -> Result<bool, AllocError>
-    ensures present { IfOk result (λ present. present ≡ are_present (I.records set.old) gone.now) }
-    ensures left { IfOk result (λ present. present ≡ true → I.records set.new ≡ removed_from (I.records set.old) gone.now) }
-{
-    for record in gone {
-        if !take_out(set, record)? {
-            return Ok(false);
-        }
-    }
     Ok(true)
 }
 
@@ -207,18 +197,5 @@ fn put_in<I: ZoneIndex>(set: &mut I, come: &Record) -> Result<bool, AllocError>
         return Ok(false);
     }
     set.insert(come.clone()?)?;
-    Ok(true)
-}
-
-/// Puts copies of records in one behind another, up to the first that is there already, and answers whether none was.
-fn put_each<I: ZoneIndex>(set: &mut I, come: &[Record]) -> Result<bool, AllocError>
-    ensures new { IfOk result (λ new. new ≡ are_new (I.records set.old) come.now) }
-    ensures left { IfOk result (λ new. new ≡ true → I.records set.new ≡ united (I.records set.old) come.now) }
-{
-    for record in come {
-        if !put_in(set, record)? {
-            return Ok(false);
-        }
-    }
     Ok(true)
 }

@@ -7,9 +7,10 @@ mod between;
 mod change;
 mod entry;
 mod form;
+mod group;
 pub mod laws;
 
-pub use change::Change;
+pub use change::{Change, holds, holds_key, take_out};
 pub use entry::{plain_len, split_record};
 use std::alloc::AllocError;
 use thiserror::Error;

@@ -1,18 +1,21 @@
 -- What is found of a set, by what a name owns.
-use Rattle.std.proofs.Common.{◌≡◌, ℕ, Bool, true, false, not, ◌&&◌, ◌||◌, List, Option, refl, sym, ap, subst, ◌∙◌}
-use Rattle.std.specs.Prelude.{filter, ◌==◌, Result, IfOk}
+use Rattle.std.proofs.Common.{◌≡◌, ℕ, Bool, true, false, not, ◌&&◌, ◌||◌, List, Option, Some, None, Ok, Err, Bor, refl, sym, ap, subst, ◌∙◌}
+use Rattle.std.specs.Prelude.{filter, ◌==◌, is_some, Result, IfOk, OnOk}
+use Rattle.std.specs.Option.{option_copied}
 use Rattle.std.specs.List.{list_any, find}
 use Rattle.dns_names.specs.Name.{Labels, names_eq}
 use Rattle.dns_records.specs.Types.{type_soa, type_any}
 use Rattle.dns_records.specs.Record.{Record, serial_of}
 use Rattle.dns_serial.specs.Serial.{greater}
-use Rattle.dns_zone.specs.Records.{records_at, rrset}
+use Rattle.dns_zone.specs.Records.{is_ordered, are_of, records_at, others, rrset, united}
+use Rattle.dns_zone.specs.Sets.{sorted_from, sorted_filter}
 use Rattle.dns_zone.specs.Order.{both_true, tied_key}
 use Rattle.dns_zone.specs.Twice.{any_by}
-use Rattle.dns_update.specs.Effect.{is_of, is_vital, owns_other, succeeds}
+use Rattle.dns_update.specs.Effect.{deleted_set, is_of, is_vital, owns_other, succeeds}
 use Rattle.dns_zone.proofs.Kept.{any_kept, find_kept}
 use Rattle.dns_update.proofs.Gone.{IsOfKey}
-use Rattle.dns_zone.proofs.Listed.{filter_same}
+use Rattle.dns_zone.proofs.Listed.{filter_same, ordered_from}
+use Rattle.dns_zone.proofs.Replaced.{at_ordered, at_pass, replaced_kept, still_pass}
 
 abbrev pub is_deleted : Labels → Labels → ℕ → Record → Bool
 is_deleted apex name t r = is_of name t r && not (is_vital apex r)
@@ -52,11 +55,26 @@ older_here r xs =
 pub of_key : (name : Labels) (t : ℕ) → IsOfKey (is_of name t)
 of_key name t a b e = let key = tied_key a b e in λ i. names_eq (key.owner i) name && (t == type_any || key.rtype i == t)
 
-vital_key : (apex : Labels) → IsOfKey (is_vital apex)
-vital_key apex a b e = let key = tied_key a b e in λ i. names_eq (key.owner i) apex && (key.rtype i == type_soa || key.rtype i == 2)
+-- what stays of the set is what stays of the name's records, and all of other names
+pub deleted_at : (apex name : Labels) (t : ℕ) (xs : List Record) → is_ordered xs ≡ true → united (others xs name) (deleted_set apex (records_at xs name) name t) ≡ deleted_set apex xs name t
+deleted_at apex name t xs h = replaced_kept name (λ r. not (is_deleted apex name t r)) (λ r e. ap (λ b. not ((b && (t == type_any || r.rtype == t)) && not (is_vital apex r))) e) xs (sorted_from xs h)
 
-pub deleted_key : (apex name : Labels) (t : ℕ) → IsOfKey (is_deleted apex name t)
-deleted_key apex name t a b e = λ i. of_key name t a b e i && not (vital_key apex a b e i)
+pub kept_ordered : (apex name : Labels) (t : ℕ) (xs : List Record) → is_ordered xs ≡ true → is_ordered (deleted_set apex (records_at xs name) name t) ≡ true
+kept_ordered apex name t xs h =
+    let own = records_at xs name in
+    ordered_from (deleted_set apex own name t) (sorted_filter (λ r. not (is_deleted apex name t r)) own (sorted_from own (at_ordered xs name h)))
+
+pub kept_owned : (apex name : Labels) (t : ℕ) (xs : List Record) → are_of name (deleted_set apex (records_at xs name) name t) ≡ true
+kept_owned apex name t xs = still_pass (λ r. names_eq r.owner name) (λ r. not (is_deleted apex name t r)) (records_at xs name) (at_pass name xs)
 
 pub ok_at : {E : Type 0} (r : Result (Option Record) E) (a b : Option Record) → IfOk r (λ x. x ≡ a) → a ≡ b → IfOk r (λ x. x ≡ b)
 ok_at r a b h e = subst (λ (y : Option Record). IfOk r (λ x. x ≡ y)) e h
+
+-- nothing is found where there is no place of it
+pub none_copied : (r : Option (Bor Record)) (o : Option Record) → is_some r ≡ false → option_copied r ≡ o → o ≡ None
+none_copied None o e f = sym f
+none_copied (Some x) o e f = absurd cc
+
+pub done_at : {E : Type 0} (r : Result (Unit {0}) E) (a b c : List Record) → OnOk r (a ≡ b) → b ≡ c → OnOk r (a ≡ c)
+done_at (Ok t) a b c h e = h ∙ e
+done_at (Err x) a b c h e = h

@@ -187,20 +187,28 @@ fn first_deleted<'r>(
     records.iter().find(|r| is_deleted(r, apex, name, rtype))
 }
 
-/// A copy of the first record that goes where an RRset is deleted, or all records of a name.
-fn next_deleted<I: ZoneIndex>(
-    set: &I,
+/// Copies of the records that stay where an RRset is deleted, or all records of a name.
+fn kept_of(
+    alloc: Heap,
+    records: &[Record],
     apex: &NameRef<'_>,
     name: &NameRef<'_>,
     rtype: u16,
-) -> Result<Option<Record>, AllocError>
-    ensures { IfOk result (λ found. found ≡ find (λ r. is_of name.now rtype r && not (is_vital apex.now r)) (I.records set.now)) }
+) -> Result<Vec<Record, Heap>, AllocError>
+    ensures { IfOk result (λ kept. kept.items ≡ deleted_set apex.now records.now name.now rtype) }
 {
-    copy_of(first_deleted(set.records_at(name), apex, name, rtype))
+    let mut kept = Vec::new(alloc);
+    for record in records {
+        if !is_deleted(record, apex, name, rtype) {
+            kept.push(record.clone()?)?;
+        }
+    }
+    Ok(kept)
 }
 
-/// Deletes an RRset, or all records of a name (RFC 2136 section 3.4.2.3).
+/// Deletes an RRset, or all records of a name (RFC 2136 section 3.4.2.3). What the name owns is copied once.
 fn delete_set<I: ZoneIndex>(
+    alloc: Heap,
     set: &mut I,
     apex: &NameRef<'_>,
     name: &NameRef<'_>,
@@ -208,10 +216,12 @@ fn delete_set<I: ZoneIndex>(
 ) -> Result<(), AllocError>
     ensures { OnOk result (I.records set.new ≡ deleted_set apex.now (I.records set.old) name.now rtype) }
 {
-    'records: while let Some(gone) = next_deleted(set, apex, name, rtype)? {
-        take_out(set, gone)?;
+    let held = set.records_at(name);
+    if first_deleted(held, apex, name, rtype).is_none() {
+        return Ok(());
     }
-    Ok(())
+    let kept = kept_of(alloc, held, apex, name, rtype)?;
+    set.replace_at(name, kept)
 }
 
 /// Whether the item names a SOA, or the last NS of the apex.
@@ -259,7 +269,7 @@ fn take_effect<I: ZoneIndex>(
 {
     match item.class() {
         CLASS_IN => add(set, item.to_record(alloc)?),
-        CLASS_ANY => delete_set(set, apex, &item.owner().lend(), item.rtype()),
+        CLASS_ANY => delete_set(alloc, set, apex, &item.owner().lend(), item.rtype()),
         _ => delete(set, apex, item),
     }
 }

@@ -4,7 +4,7 @@ use Rattle.dns_records.specs.Record.{Record}
 use Rattle.dns_zone.specs.Records.{is_ordered, records_at}
 use Rattle.dns_zone.specs.Sets.{sorted_from}
 use Rattle.dns_changes.specs.Change.{only_in}
-use Rattle.dns_changes.proofs.Steps.{at_ordered}
+use Rattle.dns_zone.proofs.Replaced.{at_ordered}
 use Rattle.dns_changes.proofs.Touched.{lone_of, only_by_name, pieces_next, pieces_end}
 use Rattle.dns_changes.proofs.between.only_in.Goals as goal
 

@@ -1,7 +1,8 @@
 use Rattle.std.proofs.Common.{◌≡◌, true, List, sym, ap, subst, ◌∙◌}
 use Rattle.dns_records.specs.Record.{Record}
 use Rattle.dns_zone.specs.Records.{contains, is_ordered, rrset}
-use Rattle.dns_changes.proofs.Steps.{present_here, rrset_ordered}
+use Rattle.dns_zone.proofs.Replaced.{rrset_ordered}
+use Rattle.dns_changes.proofs.Steps.{present_here}
 use Rattle.dns_changes.proofs.change.holds.Goals as goal
 
 pub is_among-requires : goal.is_among-requires

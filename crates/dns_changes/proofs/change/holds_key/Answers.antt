@@ -1,7 +1,8 @@
 use Rattle.std.proofs.Common.{◌≡◌, true, List, sym, ap, subst, ◌∙◌}
 use Rattle.dns_records.specs.Record.{Record}
 use Rattle.dns_zone.specs.Records.{has, is_ordered, rrset}
-use Rattle.dns_changes.proofs.Steps.{tied_here, rrset_ordered, ok_has}
+use Rattle.dns_zone.proofs.Replaced.{rrset_ordered}
+use Rattle.dns_changes.proofs.Steps.{tied_here, ok_has}
 use Rattle.dns_changes.proofs.change.holds_key.Goals as goal
 
 pub find_record-requires : goal.find_record-requires

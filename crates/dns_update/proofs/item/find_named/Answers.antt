@@ -2,7 +2,7 @@ use Rattle.std.proofs.Common.{◌≡◌, true, List, sym, subst, ◌∙◌}
 use Rattle.std.specs.List.{find}
 use Rattle.dns_records.specs.Record.{Record}
 use Rattle.dns_zone.specs.Records.{alike, is_ordered, rrset}
-use Rattle.dns_changes.proofs.Steps.{rrset_ordered}
+use Rattle.dns_zone.proofs.Replaced.{rrset_ordered}
 use Rattle.dns_update.specs.ResourceRecord.{as_record}
 use Rattle.dns_update.proofs.ResourceRecords.{found_here}
 use Rattle.dns_update.proofs.item.find_named.Goals as goal
