@@ -66,3 +66,34 @@ led_all before (v ∷ vs) (c ∷ cs) led = ap (λ (ws : Versions). v ∷ ws) (le
 pub zones_newest : (apex : Labels) (before : List Record) (vs : Versions) → IsZone (record { apex = apex; records = before }) → AllZones apex vs → IsZone (record { apex = apex; records = newest_after before vs })
 zones_newest apex before [] valid zones = valid
 zones_newest apex before (v ∷ vs) valid zones = zones_newest apex v vs zones.0 zones.1
+
+pub drop_end : {X : Type 0} (xs : List X) → drop (length xs) xs ≡ []
+drop_end [] = refl
+drop_end (x ∷ xs) = drop_end xs
+
+-- There is a greatest number.
+pub most_there : {X : Type 0} (sectors : X → ℕ) (entries : List X) (keep room : ℕ) → (n : ℕ) × IsMostKept sectors entries keep room n
+most_there {X} sectors entries zero room =
+    let whole : length entries - 0 ≡ length entries = omega arith in
+    let none : newest_sectors sectors entries 0 ≡ 0 = ap (λ i. sum_by sectors (drop i entries)) whole ∙ ap (λ (xs : List X). sum_by sectors xs) (drop_end entries) in
+    (0, record { few = omega arith; there = omega arith; fits = omega (arith, none); most = λ m few there fits. few })
+most_there {X} sectors entries (suc keep) room =
+    let less = most_there sectors entries keep room in
+    let stays : (suc keep ≤ length entries → newest_sectors sectors entries (suc keep) ≤ room → ⊥) → (n : ℕ) × IsMostKept sectors entries (suc keep) room n =
+    λ not. (
+      less.0,
+      record {
+        few = omega (arith, less.1.few);
+        there = less.1.there;
+        fits = less.1.fits;
+        most = λ m few there fits.
+            ⊎_elim (λ (small : m < suc keep). less.1.most m (omega (arith, small)) there fits)
+            (λ (large : suc keep ≤ m).
+            (let same : m ≡ suc keep = omega (arith, large, few) in
+            absurd (not (omega (arith, there, same)) (subst (λ j. newest_sectors sectors entries j ≤ room) same fits)))) (cases_lt m (suc keep));
+      },
+    ) in
+    ⊎_elim (λ (short : length entries < suc keep). stays (λ there fits. omega (arith, short, there)))
+    (λ (there : suc keep ≤ length entries).
+    ⊎_elim (λ (large : room < newest_sectors sectors entries (suc keep)). stays (λ _ fits. omega (arith, large, fits)))
+    (λ (fits : newest_sectors sectors entries (suc keep) ≤ room). (suc keep, record { few = omega arith; there = there; fits = fits; most = λ m few _ _. few })) (cases_lt room (newest_sectors sectors entries (suc keep)))) (cases_lt (length entries) (suc keep))

@@ -16,13 +16,13 @@ use Rattle.dns_layout.specs.Store.{Stored}
 use Rattle.dns_journal.specs.State.{is_closed, device_of, newest_of}
 use Rattle.dns_journal.specs.Bank.{sectors_for, journal_room_of, snapshot_room_of}
 use Rattle.dns_journal.specs.declared.journal.Journal.{Journal}
-use Rattle.dns_store.specs.Versions.{Versions, Kept, newest_after}
+use Rattle.dns_store.specs.Versions.{Versions, Kept, newest_after, OpensAsEither, version_at, moved_to}
 use Rattle.dns_store.specs.Room.{entry_between, entries_along}
 use Rattle.dns_store.specs.Staged.{entry_is, entries_length}
-use Rattle.dns_store.specs.Opens.{AreChanges, IsKeptBy, KeepsBy}
+use Rattle.dns_store.specs.Opens.{AreChanges, IsKeptBy, KeepsBy, opens}
 use Rattle.dns_store.specs.Laws.{at_rest_of}
 use Rattle.dns_store.specs.Recovered.{AreLed}
-use Rattle.dns_store.specs.Checkpoint.{newest_sectors, IsMostKept, IsKeptNumber, IsLent, AllZones, IsBaseOf, IsNextBase, OpensAsEither, entries_of, moved_to, version_at}
+use Rattle.dns_store.specs.Checkpoint.{newest_sectors, IsMostKept, IsKeptNumber, IsLent, AllZones, IsBaseOf, IsNextBase, entries_of}
 use Rattle.dns_store.proofs.Places.{along_drop, number_kept}
 use Rattle.dns_store.proofs.Moving.{led_count, newest_on}
 
@@ -62,7 +62,7 @@ led_drop (suc n) before [] (c ∷ cs) led = absurd led
 led_drop (suc n) before (v ∷ vs) [] led = absurd led
 led_drop (suc n) before (v ∷ vs) (c ∷ cs) led = led_drop n v vs cs led.1
 
-most_one : {X Y : Type 0} (f : X → ℕ) (xs : List X) (h : Y → ℕ) (ys : List Y) (keep keep' room m n : ℕ) → length xs ≡ length ys → ((i : ℕ) → newest_sectors f xs i ≡ newest_sectors h ys i) → (keep' ≤ keep) → ((i : ℕ) → i ≤ keep → i ≤ length ys → i ≤ keep')
+pub most_one : {X Y : Type 0} (f : X → ℕ) (xs : List X) (h : Y → ℕ) (ys : List Y) (keep keep' room m n : ℕ) → length xs ≡ length ys → ((i : ℕ) → newest_sectors f xs i ≡ newest_sectors h ys i) → (keep' ≤ keep) → ((i : ℕ) → i ≤ keep → i ≤ length ys → i ≤ keep')
     → IsMostKept f xs keep' room m → IsMostKept h ys keep room n → m ≡ n
 most_one f xs h ys keep keep' room m n same sums less more one other =
     let up : m ≤ n = other.most m (omega (arith, one.few, less)) (omega (arith, one.there, same)) (omega (arith, one.fits, sums m)) in
@@ -76,10 +76,10 @@ kept_open journal k true is_open kept = let both = kept.closed in absurd cc
 
 -- No device call was made.
 pub rest_either : {D : Type 0} {g : Ghosts D} (only_now : (d : D) (c : Content) → g.is_honest d → g.left_since d (g.moment d) c → g.may_leave d c) (old new : Journal D g) (k : Kept) (base : ℕ) → device_of new ≡ device_of old → KeepsBy old k k.closed
-    → LeavesOnly g.moment g.left_since (device_of old) (device_of new) (OpensAsEither k base)
+    → LeavesOnly g.moment g.left_since (device_of old) (device_of new) (OpensAsEither opens k base)
 rest_either {D} {g} only_now old new k base same kept =
-    subst (λ (d : D). LeavesOnly g.moment g.left_since (device_of old) d (OpensAsEither k base)) (sym same)
-    (started g.moment g.left_since (device_of old) (OpensAsEither k base) (λ c left. inl (at_rest_of only_now old k k.closed kept c left)))
+    subst (λ (d : D). LeavesOnly g.moment g.left_since (device_of old) d (OpensAsEither opens k base)) (sym same)
+    (started g.moment g.left_since (device_of old) (OpensAsEither opens k base) (λ c left. inl (at_rest_of only_now old k k.closed kept c left)))
 
 module _ {D : Type 0} {g : Ghosts D} (journal : Journal D g) (base : Zone) (changes : List Change) (k : Kept) (lent : IsLent journal base changes k) (is_open : is_closed journal ≡ false) where
   abbrev kept_as : (s : Stored) × (staged : List Entry) × IsKeptBy journal k s staged

@@ -11,11 +11,13 @@ use Rattle.dns_layout.specs.declared.root.Root.{Root}
 use Rattle.dns_journal.specs.declared.read.Cursor.{Cursor}
 use Rattle.dns_store.specs.declared.root.OpenError.{OpenError}
 use Rattle.dns_store.specs.declared.root.OpenError.TheVariants.{Device, Damaged, OutOfMemory}
-use Rattle.dns_store.specs.Versions.{Shape, Opened, newest_after}
+use Rattle.dns_store.specs.Versions.{Shape, Kept, Opened, newest_after}
 use Rattle.dns_sectors.specs.declared.device.Sectors.{Ghosts}
 use Rattle.dns_journal.specs.State.{device_of}
-use Rattle.dns_store.specs.declared.device_store.DeviceStore.{DeviceStore}
-use Rattle.dns_store.specs.Opens.{base_of, fresh, opens, keeps as keeps_versions}
+use Rattle.dns_zone.specs.Zone.{Zone}
+use Rattle.dns_store.specs.declared.kept_store.KeptStore.{KeptStore}
+use Rattle.dns_store.specs.Opens.{base_of, fresh, opens}
+use Rattle.dns_store.specs.Holding.{Holds}
 use Rattle.dns_store.specs.Recovered.{AreLed}
 
 -- sizes that a store may have
@@ -51,14 +53,16 @@ MayOpen g shape device = (c : Content) → g.may_leave device c → (o : Opened)
 abbrev pub OpensAsPossible : {D : Type 0} → Ghosts D → Shape → D → Content → Type 0
 OpensAsPossible g shape device c = (o : Opened) × WasPossible g shape device o × opens shape o c
 
-abbrev pub store_device : {D : Type 0} {g : Ghosts D} → DeviceStore D g → D
+abbrev pub store_device : {D I : Type 0} {g : Ghosts D} → KeptStore D I g → D
 store_device store = device_of store.journal
 
--- The store keeps these versions from here on, and these are its base, the changes from there, and the newest version.
-pub record IsTaken {D : Type 0} {g : Ghosts D} (shape : Shape) (o : Opened) (store : DeviceStore D g) (base : List Record)
-    (changes : List Change) (newest : List Record)
+-- The store keeps these versions.
+abbrev pub keeps : {D I : Type 0} {g : Ghosts D} → KeptStore D I g → Kept → Type 0
+keeps store k = Holds store.journal store.base store.changes.items k
+
+-- The store keeps these versions from here on, and this is the newest.
+pub record IsTaken {D I : Type 0} {g : Ghosts D} (shape : Shape) (o : Opened) (store : KeptStore D I g)
+    (newest : Zone)
     : Type 0 where
-  pub keeps : keeps_versions store.journal (fresh shape o)
-  pub base_is : base ≡ base_of o
-  pub led : AreLed (base_of o) (drop o.base o.versions) changes
-  pub newest_is : newest ≡ newest_after o.loaded o.versions
+  pub keeps_them : keeps store (fresh shape o)
+  pub newest_is : newest ≡ record { apex = shape.apex; records = newest_after o.loaded o.versions }

@@ -36,19 +36,27 @@ pub newest_append : (first : List Record) (vs : Versions) (v : List Record) → 
 newest_append first [] v = refl
 newest_append first (w ∷ vs) v = newest_append w vs v
 
+-- the sizes of the entries behind the base, with that of the next version
+pub along_staged : (k : Kept) (after : List Record)
+    → k.base ≤ length k.shown
+    → drop k.base (entries_along k.loaded (k.shown ++ (k.staged ++ after ∷ [])))
+    ≡ drop k.base (entries_along k.loaded (k.shown ++ k.staged)) ++ entry_between (newest_of k) after ∷ []
+along_staged k after le =
+    let all = k.shown ++ k.staged in
+    let sizes = entries_along k.loaded all in
+    let within : k.base ≤ length sizes = omega (arith, le, entries_length k.loaded all, length-append k.shown k.staged) in
+    ap (λ (vs : Versions). drop k.base (entries_along k.loaded vs)) (sym (append_assoc k.shown k.staged (after ∷ [])))
+    ∙ ap (λ (l : List ℕ). drop k.base l) (entries_append k.loaded all after)
+    ∙ drop-append-le k.base sizes (entry_between (newest_of k) after ∷ []) within
+
 pub staged_left : (k : Kept) (after : List Record)
     → k.base ≤ length k.shown
     → sectors_left (staged_with after k) ≡ sectors_left k - entry_between (newest_of k) after
 staged_left k after le =
-    let all = k.shown ++ k.staged in
     let same = entry_between (newest_of k) after in
-    let sizes = entries_along k.loaded all in
+    let sizes = entries_along k.loaded (k.shown ++ k.staged) in
     let more = entries_along k.loaded (k.shown ++ (k.staged ++ after ∷ [])) in
-    let within : k.base ≤ length sizes = omega (arith, le, entries_length k.loaded all, length-append k.shown k.staged) in
-    let along : drop k.base more ≡ drop k.base sizes ++ same ∷ [] =
-    ap (λ (vs : Versions). drop k.base (entries_along k.loaded vs)) (sym (append_assoc k.shown k.staged (after ∷ [])))
-    ∙ ap (λ (l : List ℕ). drop k.base l) (entries_append k.loaded all after)
-    ∙ drop-append-le k.base sizes (same ∷ []) within in
+    let along : drop k.base more ≡ drop k.base sizes ++ same ∷ [] = along_staged k after le in
     let total : sum_by (λ n. n) (drop k.base more) ≡ sum_by (λ n. n) (drop k.base sizes) + same =
     ap (λ (l : List ℕ). sum_by (λ n. n) l) along ∙ sum_by_push (λ n. n) (drop k.base sizes) same in
     omega (arith, total)

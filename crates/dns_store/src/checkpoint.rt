@@ -1,18 +1,22 @@
 //! A checkpoint: the base moves to a later version, and of the changes the newest alone are kept.
-ghost use Rattle.std.specs.Prelude.{◌≡◌, ◌⊎◌, ◌≤◌, ◌<◌, ◌-◌, ◌↔◌, ℕ, true, false, length, drop, min, IfOk, IfErr, OnOk, OnErr};
-ghost use Rattle.std.specs.Prelude.{MatchResult};
+ghost use Rattle.std.specs.Prelude.{◌≡◌, ◌⊎◌, ◌≤◌, ◌<◌, ◌-◌, ◌↔◌, [], ℕ, true, false, length, drop, min, sum_by, IfOk, IfErr};
+ghost use Rattle.std.specs.Prelude.{OnOk, OnErr, MatchResult};
 ghost use Rattle.dns_names.specs.Name.{Labels};
 ghost use Rattle.dns_zone.specs.Records.{is_ordered};
 ghost use Rattle.dns_layout.specs.Sector.{snapshot_sectors as sectors_of_octets};
-ghost use Rattle.dns_journal.specs.Bank.{sectors_for};
-ghost use Rattle.dns_store.specs.Versions.{Versions, newest_after};
+ghost use Rattle.dns_sectors.specs.Device.{LeavesOnly};
+ghost use Rattle.dns_journal.specs.State.{device_of, is_closed, newest_of};
+ghost use Rattle.dns_journal.specs.Reads.{HasRisen};
+ghost use Rattle.dns_journal.specs.Bank.{sectors_for, snapshot_room_of, journal_room_of};
+ghost use Rattle.dns_store.specs.Versions.{Versions, Kept, newest_after, version_at, OpensAsEither, moved_to, closed_between};
 ghost use Rattle.dns_store.specs.Recovered.{AreLed};
-ghost use Rattle.dns_store.specs.Checkpoint.{AllZones, IsMostKept, IsNextBase, sectors_of_snapshot};
+ghost use Rattle.dns_store.specs.Opens.{IsClosedBy, opens, keeps as keeps_versions};
+ghost use Rattle.dns_store.specs.Checkpoint.{AllZones, IsBaseOf, IsMostKept, IsNextBase, sectors_of_snapshot};
 
-use crate::OpenStore;
+use crate::KeptStore;
 use crate::formatting::{snapshot_len, snapshot_of};
 use dns_changes::{Change, ChangeError};
-use dns_journal::TurnError;
+use dns_journal::{Journal, TurnError};
 use dns_layout::{entry_sectors, snapshot_sectors};
 use dns_memory::Heap;
 use dns_sectors::Sectors;
@@ -80,60 +84,47 @@ impl From<ChangeError> for CheckpointError {
     }
 }
 
-impl<D: Sectors + Drop, I: ZoneIndex> OpenStore<D, I> {
-    ghost use Rattle.dns_sectors.specs.Device.{LeavesOnly};
-    ghost use Rattle.dns_journal.specs.State.{is_closed, newest_of};
-    ghost use Rattle.dns_journal.specs.Reads.{HasRisen};
-    ghost use Rattle.dns_journal.specs.Bank.{journal_room_of};
-    ghost use Rattle.dns_store.specs.Versions.{Kept};
+impl<D: Sectors, I: ZoneIndex> KeptStore<D, I> {
     ghost use Rattle.dns_store.specs.Opening.{store_device};
-    ghost use Rattle.dns_store.specs.Checkpoint.{IsClosedEither, IsKeptNumber, IsLent, OpensAsEither, moved_to, version_at};
+    ghost use Rattle.dns_store.specs.Checkpoint.{IsKeptNumber, IsLent};
 
-    /// With nothing staged, moves the base to the shown version less the greatest number, at most `keep`, of newest changes
-    /// whose entries leave `room` sectors of the journal: writes the base's snapshot and those entries into the bank that isn't
-    /// in use, and makes them durable; then turns the root to that bank. It makes all growths before the first write.
-    ///
-    /// `Device` where the device fails, and `Closed` where it did before; `ZoneTooLarge` where the new base's records take more
-    /// sectors than a snapshot has. All but `Device` change nothing.
-    pub fn checkpoint(&mut self, keep: usize, room: usize) -> Result<(), CheckpointError>
+    // Writes the new base's snapshot and the entries of the changes that are kept into the bank that isn't in use, and makes them
+    // durable; then turns the root to that bank. It makes all growths before the first write.
+    pub(crate) fn move_base(&mut self, keep: usize, room: usize) -> Result<(), CheckpointError>
         // A crash at any moment of it leaves the shown version, with the old base or the new one.
-        ensures any_moment { (k : Kept) (n : ℕ) → IsLent self.old.store.journal self.old.base self.old.changes.items k
-            → IsKeptNumber k keep room n → LeavesOnly D.moment D.left_since (store_device self.old.store)
-            (store_device self.new.store) (OpensAsEither k (length k.shown - n)) }
-        ensures moved { (k : Kept) (n : ℕ) → IsLent self.old.store.journal self.old.base self.old.changes.items k
-            → IsKeptNumber k keep room n → OnOk result (IsLent self.new.store.journal self.new.base self.new.changes.items
+        ensures any_moment { (k : Kept) (n : ℕ) → IsLent self.old.journal self.old.base self.old.changes.items k
+            → IsKeptNumber k keep room n → LeavesOnly D.moment D.left_since (store_device self.old)
+            (store_device self.new) (OpensAsEither opens k (length k.shown - n)) }
+        ensures moved { (k : Kept) (n : ℕ) → IsLent self.old.journal self.old.base self.old.changes.items k
+            → IsKeptNumber k keep room n → OnOk result (IsLent self.new.journal self.new.base self.new.changes.items
             (moved_to (length k.shown - n) k)) }
-        // How many changes are kept.
-        ensures kept { (k : Kept) → IsLent self.old.store.journal self.old.base self.old.changes.items k
-            → OnOk result (IsKeptNumber k keep room (length self.new.changes.items)) }
-        ensures failed { (k : Kept) (n : ℕ) → IsLent self.old.store.journal self.old.base self.old.changes.items k
+        ensures failed { (k : Kept) (n : ℕ) → IsLent self.old.journal self.old.base self.old.changes.items k
             → IsKeptNumber k keep room n → result ≡ Err CheckpointError.Device
-            → (k.closed ≡ false) × IsClosedEither self.new.store.journal k (length k.shown - n) }
-        ensures too_large { (k : Kept) (n : ℕ) → IsLent self.old.store.journal self.old.base self.old.changes.items k
+            → (k.closed ≡ false) × IsClosedBy self.new.journal (closed_between (length k.shown - n) k) }
+        ensures too_large { (k : Kept) (n : ℕ) → IsLent self.old.journal self.old.base self.old.changes.items k
             → IsKeptNumber k keep room n → result ≡ Err CheckpointError.ZoneTooLarge
             → k.shape.snapshot < sectors_of_snapshot (version_at k (length k.shown - n)) }
-        ensures fits { (k : Kept) (n : ℕ) → IsLent self.old.store.journal self.old.base self.old.changes.items k
+        ensures fits { (k : Kept) (n : ℕ) → IsLent self.old.journal self.old.base self.old.changes.items k
             → IsKeptNumber k keep room n
             → OnOk result (sectors_of_snapshot (version_at k (length k.shown - n)) ≤ k.shape.snapshot) }
-        ensures right { (k : Kept) → IsLent self.old.store.journal self.old.base self.old.changes.items k
+        ensures right { (k : Kept) → IsLent self.old.journal self.old.base self.old.changes.items k
             → result ≡ Err CheckpointError.WrongChanges → ⊥ }
-        ensures closed { is_closed self.old.store.journal ≡ true ↔ result ≡ Err CheckpointError.Closed }
+        ensures closed { is_closed self.old.journal ≡ true ↔ result ≡ Err CheckpointError.Closed }
         ensures device { result ≡ Err CheckpointError.Device
-            → HasRisen (D.failed (store_device self.old.store)) (D.failed (store_device self.new.store)) }
-        ensures stays { OnErr result ((result ≡ Err CheckpointError.Device) ⊎ (self.new.store ≡ self.old.store)) }
+            → HasRisen (D.failed (store_device self.old)) (D.failed (store_device self.new)) }
+        ensures stays { OnErr result ((result ≡ Err CheckpointError.Device) ⊎ (self.new.journal ≡ self.old.journal)) }
         ensures lent { OnErr result ((self.new.base ≡ self.old.base) × (self.new.changes ≡ self.old.changes)) }
-        ensures zone { self.new.zone ≡ self.old.zone }
-        ensures honest { D.is_honest (store_device self.new.store) ↔ D.is_honest (store_device self.old.store) }
+        ensures honest { D.is_honest (store_device self.new) ↔ D.is_honest (store_device self.old) }
     {
-        if self.store.journal.is_closed() {
+        if self.journal.is_closed() {
             return Err(CheckpointError::Closed);
         }
         let kept = self.kept_number(keep, room);
         let gone = self.changes.len() - kept;
-        let alloc = self.store.alloc;
-        let rooms = self.store.snapshot_room();
+        let alloc = self.alloc;
+        let rooms = self.journal.snapshot_room();
         let (base, octets) = next_base(alloc, &self.base, &self.changes[..gone], rooms)?;
-        self.store.turn(&octets, &self.changes[gone..])?;
+        turn_bank(alloc, &mut self.journal, &octets, &self.changes[gone..])?;
         self.base = base;
         keep_newest(&mut self.changes, gone);
         Ok(())
@@ -141,33 +132,89 @@ impl<D: Sectors + Drop, I: ZoneIndex> OpenStore<D, I> {
 
     // How many of the newest changes a checkpoint keeps, which leaves so many sectors of the journal.
     fn kept_number(&self, keep: usize, room: usize) -> usize
-        ensures { IsMostKept sectors_for self.now.changes.items (min keep (newest_of self.now.store.journal))
-            (journal_room_of self.now.store.journal - room) result }
+        ensures { IsMostKept sectors_for self.now.changes.items (min keep (newest_of self.now.journal))
+            (journal_room_of self.now.journal - room) result }
     {
-        let most = keep.min(self.store.journal.newest() as usize);
-        let sectors = self.store.journal_room() as usize;
+        let most = keep.min(self.journal.newest() as usize);
+        let sectors = self.journal.journal_room() as usize;
         most_kept(&self.changes, most, sectors.saturating_sub(room))
     }
 }
 
-// Forgets so many of the oldest changes.
-fn keep_newest(changes: &mut Vec<Change, Heap>, gone: usize)
-    requires { gone ≤ length changes.old.items }
-    ensures { changes.new.items ≡ drop gone changes.old.items }
+// With nothing staged, moves the base to the durable version with this snapshot, from which these changes lead to the newest.
+fn turn_bank<D: Sectors>(
+    alloc: Heap,
+    journal: &mut Journal<D>,
+    octets: &[u8],
+    changes: &[Change],
+) -> Result<(), TurnError>
+    requires fits { sectors_of_octets (length octets.now) ≤ snapshot_room_of journal.old }
+    requires room { sum_by sectors_for changes.now ≤ journal_room_of journal.old }
+    requires few { length changes.now ≤ newest_of journal.old }
+    // A crash at any moment of it leaves the durable version, with the old base or the new one.
+    ensures any_moment { (k : Kept) (base : ℕ) → keeps_versions journal.old k → k.staged ≡ []
+        → IsBaseOf k base octets.now changes.now
+        → LeavesOnly D.moment D.left_since (device_of journal.old) (device_of journal.new) (OpensAsEither opens k base) }
+    ensures moved { (k : Kept) (base : ℕ) → keeps_versions journal.old k → k.staged ≡ []
+        → IsBaseOf k base octets.now changes.now → OnOk result (keeps_versions journal.new (moved_to base k)) }
+    ensures failed { (k : Kept) (base : ℕ) → keeps_versions journal.old k → k.staged ≡ []
+        → IsBaseOf k base octets.now changes.now → result ≡ Err TurnError.Device
+        → (k.closed ≡ false) × IsClosedBy journal.new (closed_between base k) }
+    ensures device { result ≡ Err TurnError.Device
+        → HasRisen (D.failed (device_of journal.old)) (D.failed (device_of journal.new)) }
+    ensures closed { is_closed journal.old ≡ true ↔ result ≡ Err TurnError.Closed }
+    ensures stays { OnErr result ((result ≡ Err TurnError.Device) ⊎ (journal.new ≡ journal.old)) }
+    ensures honest { D.is_honest (device_of journal.new) ↔ D.is_honest (device_of journal.old) }
 {
-    let kept = changes.len() - gone;
-    changes.rotate_left(gone);
-    changes.truncate(kept);
+    match journal.turn(alloc, octets, changes) {
+        Ok(()) => Ok(()),
+        Err(error) => Err(error),
+    }
 }
 
-// How many of the newest changes are kept: the greatest number, at most `keep`, whose entries take at most so many sectors.
-fn most_kept(changes: &[Change], keep: usize, room: usize) -> usize
-    ensures { IsMostKept sectors_for changes.now keep room result }
+// Forgets so many of the oldest entries.
+pub(crate) fn keep_newest<T: Drop>(entries: &mut Vec<T, Heap>, gone: usize)
+    requires { gone ≤ length entries.old.items }
+    ensures { entries.new.items ≡ drop gone entries.old.items }
 {
-    let most = keep.min(changes.len());
+    let kept = entries.len() - gone;
+    entries.rotate_left(gone);
+    entries.truncate(kept);
+}
+
+// What takes sectors of a journal.
+pub(crate) trait Entry {
+    ghost takes: { Self → ℕ };
+
+    fn sectors(&self) -> usize
+        ensures { result ≡ takes self.now };
+}
+
+impl Entry for Change {
+    ghost takes = { sectors_for };
+
+    fn sectors(&self) -> usize {
+        entry_sectors(self.encoded_len())
+    }
+}
+
+// Its sectors alone.
+impl Entry for usize {
+    ghost takes = { λ sectors. sectors };
+
+    fn sectors(&self) -> usize {
+        *self
+    }
+}
+
+// How many of the newest entries are kept: the greatest number, at most `keep`, that take at most so many sectors.
+pub(crate) fn most_kept<E: Entry>(entries: &[E], keep: usize, room: usize) -> usize
+    ensures { IsMostKept E.takes entries.now keep room result }
+{
+    let most = keep.min(entries.len());
     let mut left = room;
     for kept in 0..most {
-        let sectors = entry_sectors(changes[changes.len() - 1 - kept].encoded_len());
+        let sectors = entries[entries.len() - 1 - kept].sectors();
         if sectors > left {
             return kept;
         }

@@ -2,8 +2,8 @@
 #![tactic(auto)]
 
 mod checkpoint;
-mod device_store;
 mod formatting;
+mod kept_store;
 mod records;
 mod recovery;
 mod root;
@@ -14,10 +14,10 @@ mod versions;
 mod zone_store;
 
 pub use checkpoint::CheckpointError;
-pub use device_store::DeviceStore;
 pub use dns_journal::{FlushError, StageError};
 pub use formatting::{FEWEST_ENTRIES, FormatError, format};
-pub use recovery::{MOST_SECTORS, OpenStore, open};
+pub use kept_store::KeptStore;
+pub use recovery::{MOST_SECTORS, open};
 pub use root::OpenError;
 pub use unkept::Unkept;
 pub use zone_store::ZoneStore;

@@ -1,32 +1,52 @@
 //! A store that keeps nothing on a device.
-ghost use Rattle.std.specs.Prelude.{◌≡◌, ◌≤◌, ℕ, List, [], false, length};
+ghost use Rattle.std.specs.Prelude.{◌≡◌, ◌-◌, ◌≤◌, ℕ, List, [], false, length, sum_by};
 ghost use Rattle.dns_store.specs.Versions.{Kept};
-ghost use Rattle.dns_store.specs.Room.{sectors_left};
 ghost use Rattle.dns_store.specs.Unkept.{IsUnkept};
 
-use crate::ZoneStore;
+use crate::checkpoint::{keep_newest, most_kept};
+use crate::{CheckpointError, ZoneStore};
 use dns_changes::Change;
 use dns_journal::{FlushError, StageError};
 use dns_layout::entry_sectors;
+use dns_memory::Heap;
+use std::alloc::AllocError;
 
-/// The versions of a zone that is in memory alone: there is no device, a flush always succeeds, and a stop leaves nothing.
+/// The versions of a zone that is in memory alone: there is no device, a flush always succeeds, and a stop leaves nothing. Its
+/// journal is as full as that of a store on a device would be.
 #[derive(Drop)]
 pub struct Unkept {
+    // how many sectors the journal has
+    journal: usize,
+    // how many each entry behind the base takes
+    entries: Vec<usize, Heap>,
     left: usize,
     newest: u64,
 }
 
 impl Unkept {
     /// The store of a zone that was loaded, with room for so many sectors of entries.
-    pub fn new(journal: u32) -> Unkept
+    pub fn new(alloc: Heap, journal: u32) -> Unkept
         ensures { (k : Kept) → k.shape.journal ≡ journal → k.shown ≡ [] → k.staged ≡ [] → k.base ≡ 0 → k.closed ≡ false
-            → IsUnkept result.left result.newest k }
+            → IsUnkept result k }
     {
         Unkept {
+            journal: journal as usize,
+            entries: Vec::new(alloc),
             left: journal as usize,
             newest: 0,
         }
     }
+}
+
+// How many sectors of a journal these entries leave.
+fn left_behind(journal: usize, entries: &[usize]) -> usize
+    ensures { result ≡ journal - sum_by (λ n. n) entries.now }
+{
+    let mut left = journal;
+    for sectors in entries {
+        left = left.saturating_sub(*sectors);
+    }
+    left
 }
 
 impl ZoneStore for Unkept {
@@ -36,7 +56,7 @@ impl ZoneStore for Unkept {
 
     ghost failed = { λ _. 0 };
 
-    ghost keeps = { λ s k. IsUnkept s.left s.newest k };
+    ghost keeps = { λ s k. IsUnkept s k };
 
     ghost opens = { λ _ _ _. ⊥ };
 
@@ -52,17 +72,26 @@ impl ZoneStore for Unkept {
         self.left
     }
 
-    fn stage(&mut self, change: &Change) -> Result<(), StageError> {
+    fn stage(&mut self, change: Change) -> Result<(), StageError> {
         let sectors = entry_sectors(change.encoded_len());
         if self.newest == u64::MAX || sectors > self.left {
             return Err(StageError::Full);
         }
+        self.entries.push(sectors).map_err(AllocError::from)?;
         self.left -= sectors;
         self.newest += 1;
         Ok(())
     }
 
     fn flush(&mut self) -> Result<(), FlushError> {
+        Ok(())
+    }
+
+    fn checkpoint(&mut self, keep: usize, room: usize) -> Result<(), CheckpointError> {
+        let kept = most_kept(&self.entries, keep, self.journal.saturating_sub(room));
+        let gone = self.entries.len() - kept;
+        keep_newest(&mut self.entries, gone);
+        self.left = left_behind(self.journal, &self.entries);
         Ok(())
     }
 

@@ -49,9 +49,10 @@ returns-clause-opened g c honest range may =
     let tidy = subst (λ (e : Content). IsTidy e) (sym same) is.1.2 in
     let raised = c.in-Ok-raise_root.ensures.raised sz s (sector_at d 0) there.0 mid only by tidy read.says in
     let bank = raised.2.names.bank in
-    let keeps = c.over.ensures.keeps shape o s raised.0 there.0 (c.raise_root.ensures.honest.1 mid) (c.in-Ok-raise_root.ensures.durable mid) raised.3 raised.1 raised.4 (raised.5 (version_of s)) is.1.3
-    (read.until_is ∙ ap (λ n. bank_end sz n) (sym bank)) (read.at_is ∙ ap (λ n. place_behind (journal_place sz n) s.entries) (sym bank)) read.version_is (sym raised.1.opened_is) in
-    (o, (d, left, is.1), record { keeps = keeps; base_is = read.base_is; led = read.led; newest_is = read.newest_is })
+    let keeps = c.over-store.ensures.keeps shape o s raised.0 there.0 (c.raise_root.ensures.honest.1 mid) (c.in-Ok-raise_root.ensures.durable mid) raised.3 raised.1 raised.4 (raised.5 (version_of s)) is.1.3
+    (read.until_is ∙ ap (λ n. bank_end sz n) (sym bank)) (read.at_is ∙ ap (λ n. place_behind (journal_place sz n) s.entries) (sym bank)) read.version_is (sym raised.1.opened_is)
+    (λ i. record { apex = c.in-Ok.ensures.apex.0 i; records = read.base_is i }) read.led in
+    (o, (d, left, is.1), record { keeps_them = keeps; newest_is = λ i. record { apex = c.in-Ok.ensures.apex.1 i; records = read.newest_is i } })
 
 pub returns-clause-any_moment : goal.returns-clause-any_moment
 returns-clause-any_moment g c honest range may =
@@ -71,5 +72,5 @@ returns-clause-any_moment g c honest range may =
     let by = subst (λ e. OpensBy sz e (sector_at d 0) there.0 s) (sym same) there.1 in
     let tidy = subst (λ (e : Content). IsTidy e) (sym same) is.1.2 in
     let run = c.raise_root.ensures.any_moment sz s (sector_at d 0) there.0 mid only by tidy read.says in
-    subst (λ e. LeavesOnly g.D.Sectors.moment g.D.Sectors.left_since c.args.device e (OpensAsPossible g.D.Sectors shape c.args.device)) (sym c.over.ensures.device)
+    subst (λ e. LeavesOnly g.D.Sectors.moment g.D.Sectors.left_since c.args.device e (OpensAsPossible g.D.Sectors shape c.args.device)) (sym c.over-store.ensures.device)
     (raise_leaves shape c.args.device c.read_store.new.device may honest reads c.raise_root.new.device o s (d, left, is.1) is.1.3 run)

@@ -1,0 +1,59 @@
+use Rattle.std.proofs.Common.{◌≡◌, inl, inr, ⊎_elim, ap, sym, ◌∙◌, subst}
+use Rattle.dns_journal.specs.State.{device_of}
+use Rattle.dns_store.proofs.Kept.{closed_is}
+use Rattle.dns_store.proofs.Holding.{lent_of, held_between, held_again, holds_of}
+use Rattle.dns_store.proofs.kept_store.KeptStoreZoneStore.checkpoint.Goals as goal
+
+pub returns-in-Ok-clause-any_moment : goal.returns-in-Ok-clause-any_moment
+returns-in-Ok-clause-any_moment g c k n kept none is =
+    let run = c.move_base.ensures.any_moment k n (lent_of c.args.self.now.journal c.args.self.now.journal c.args.self.now.base c.args.self.now.changes.items k kept none) is in
+    record { later = run.later; each = run.each; before = run.before }
+
+pub returns-in-Err-clause-any_moment : goal.returns-in-Err-clause-any_moment
+returns-in-Err-clause-any_moment g c k n kept none is =
+    let run = c.move_base.ensures.any_moment k n (lent_of c.args.self.now.journal c.args.self.now.journal c.args.self.now.base c.args.self.now.changes.items k kept none) is in
+    record { later = run.later; each = run.each; before = run.before }
+
+pub returns-in-Ok-clause-moved : goal.returns-in-Ok-clause-moved
+returns-in-Ok-clause-moved g c k n kept none is =
+    let lent = lent_of c.args.self.now.journal c.args.self.now.journal c.args.self.now.base c.args.self.now.changes.items k kept none in
+    let moved = c.in-Ok.ensures.moved k n lent is in
+    holds_of c.move_base.new.self.journal c.move_base.new.self.base c.move_base.new.self.changes.items _ moved
+
+pub returns-in-Err-clause-device : goal.returns-in-Err-clause-device
+returns-in-Err-clause-device g c k n kept none is failed =
+    let lent = lent_of c.args.self.now.journal c.args.self.now.journal c.args.self.now.base c.args.self.now.changes.items k kept none in
+    let closes = c.in-Err.ensures.failed k n lent is failed in
+    let same = c.in-Err.ensures.lent in
+    (closes.0, held_between c.args.self.now.journal c.move_base.new.self.journal c.args.self.now.base c.args.self.now.changes.items k kept _ c.move_base.new.self.base c.move_base.new.self.changes.items same.0 (λ i. (same.1 i).items) closes.1)
+
+pub returns-in-Err-clause-too_large : goal.returns-in-Err-clause-too_large
+returns-in-Err-clause-too_large g c k n kept none is large =
+    c.in-Err.ensures.too_large k n (lent_of c.args.self.now.journal c.args.self.now.journal c.args.self.now.base c.args.self.now.changes.items k kept none) is large
+
+pub returns-in-Err-clause-right : goal.returns-in-Err-clause-right
+returns-in-Err-clause-right g c k kept none wrong =
+    c.in-Err.ensures.right k (lent_of c.args.self.now.journal c.args.self.now.journal c.args.self.now.base c.args.self.now.changes.items k kept none) wrong
+
+pub returns-in-Ok-clause-closed : goal.returns-in-Ok-clause-closed
+returns-in-Ok-clause-closed g c k kept =
+    let shut = closed_is c.args.self.now.journal k k.closed kept.keeps in
+    (λ is. absurd cc, λ is. c.in-Ok.ensures.closed.0 (shut ∙ is))
+
+pub returns-in-Err-clause-closed : goal.returns-in-Err-clause-closed
+returns-in-Err-clause-closed g c k kept =
+    let shut = closed_is c.args.self.now.journal k k.closed kept.keeps in
+    (λ is. sym shut ∙ c.in-Err.ensures.closed.1 is, λ is. c.in-Err.ensures.closed.0 (shut ∙ is))
+
+pub returns-in-Err-clause-stays : goal.returns-in-Err-clause-stays
+returns-in-Err-clause-stays g c k kept =
+    let same = c.in-Err.ensures.lent in
+    ⊎_elim (λ failed. inl failed)
+    (λ journals. inr (held_again c.args.self.now.journal c.move_base.new.self.journal c.args.self.now.base c.args.self.now.changes.items k kept c.move_base.new.self.base c.move_base.new.self.changes.items journals same.0 (λ i. (same.1 i).items))) c.in-Err.ensures.stays
+
+pub returns-in-Err-clause-still : goal.returns-in-Err-clause-still
+returns-in-Err-clause-still g c =
+    ⊎_elim (λ failed. inl failed)
+    (λ journals.
+    (let same : device_of c.move_base.new.self.journal ≡ device_of c.args.self.now.journal = λ i. device_of (journals i) in
+    inr (record { no_later = ap g.D.Sectors.moment same; same = λ t x left. subst (λ d. g.D.Sectors.left_since d t x) same left }, ap g.D.Sectors.failed same))) c.in-Err.ensures.stays

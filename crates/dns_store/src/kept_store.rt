@@ -1,0 +1,166 @@
+//! The store of a zone on a device, as the layer above sees it: a journal in versions, the zone at its base, and the changes from
+//! there.
+ghost use Rattle.std.specs.Prelude.{◌≡◌, ◌⊎◌, ◌≤◌, ◌+◌, ◌++◌, ◌*◌, ◌^◌, ◌↔◌, [], true, false, ℕ, List, length, drop, OnOk, OnErr};
+
+use crate::{CheckpointError, ZoneStore};
+use dns_changes::Change;
+use dns_journal::{Cursor, FlushError, Journal, StageError};
+use dns_layout::{Root, entry_sectors};
+use dns_memory::Heap;
+use dns_sectors::Sectors;
+use dns_zone::{Zone, ZoneIndex};
+use std::alloc::AllocError;
+
+/// The versions of a zone on a device. Its base and the changes since are its own, so that they are always those of what the
+/// device holds.
+#[derive(Drop)]
+pub struct KeptStore<D: Sectors, I: ZoneIndex> {
+    pub(crate) alloc: Heap,
+    pub(crate) journal: Journal<D>,
+    // the version that the journal begins at
+    pub(crate) base: Zone<I>,
+    // those from there to the newest version, staged ones among them
+    pub(crate) changes: Vec<Change, Heap>,
+}
+
+impl<D: Sectors, I: ZoneIndex> KeptStore<D, I> {
+    ghost use Rattle.dns_sectors.specs.Device.{Only};
+    ghost use Rattle.dns_zone.specs.Zone.{Zone as Stated};
+    ghost use Rattle.dns_layout.specs.Sector.{open_count, bank_open, number};
+    ghost use Rattle.dns_layout.specs.Forms.{SaysRoot};
+    ghost use Rattle.dns_layout.specs.Journal.{AllBehind, place_behind};
+    ghost use Rattle.dns_layout.specs.Store.{Stored, OpensBy, bank_end, journal_place, version_of};
+    ghost use Rattle.dns_store.specs.Versions.{Shape, Kept, Opened, version_at};
+    ghost use Rattle.dns_store.specs.Recovered.{AreLed};
+    ghost use Rattle.dns_store.specs.Opens.{IsPartOf, base_of, sizes_of, fresh};
+    ghost use Rattle.dns_store.specs.Opening.{store_device, keeps};
+
+    // The store of a device whose root was raised: it keeps what the device opens as.
+    pub(crate) fn over(
+        alloc: Heap,
+        device: D,
+        next: Cursor,
+        root: Root,
+        base: Zone<I>,
+        changes: Vec<Change, Heap>,
+    ) -> KeptStore<D, I>
+        requires within { next.until ≤ D.count device }
+        requires until { next.at ≤ next.until }
+        requires small { next.until ≤ 2 ^ 20 }
+        requires banks_within { 1 + 2 * (root.snapshot_room + root.journal_room) ≤ D.count device }
+        requires banks_small { 1 + 2 * (root.snapshot_room + root.journal_room) ≤ 2 ^ 20 }
+        ensures device { store_device result ≡ device }
+        ensures keeps { (shape : Shape) (o : Opened) (s : Stored) (x : List ℕ) (parts : List (List ℕ)) → D.is_honest device
+            → Only (D.seen device) (D.may_leave device)
+            → OpensBy (sizes_of shape) (D.seen device) x parts s → SaysRoot x root → bank_open x ≤ open_count x
+            → AllBehind (open_count x) (version_of s) (D.seen device) → IsPartOf shape.apex o s
+            → next.until ≡ bank_end (sizes_of shape) (number x)
+            → next.at ≡ place_behind (journal_place (sizes_of shape) (number x)) s.entries → next.version ≡ version_of s
+            → next.opened ≡ open_count x
+            → base ≡ record { apex = shape.apex; records = base_of o }
+            → AreLed (base_of o) (drop o.base o.versions) changes.entry.items
+            → keeps result (fresh shape o) }
+    {
+        KeptStore {
+            alloc,
+            journal: Journal::over(alloc, device, next, root),
+            base,
+            changes,
+        }
+    }
+
+    /// The version that the journal begins at.
+    pub fn base(&self) -> &Zone<I>
+        ensures { (k : Kept) → keeps self.now k → result.now ≡ record { apex = k.shape.apex; records = version_at k k.base } }
+    {
+        &self.base
+    }
+
+    /// The changes from there to the newest version, staged ones among them.
+    pub fn changes(&self) -> &[Change]
+        ensures { (k : Kept) → keeps self.now k
+            → AreLed (version_at k k.base) (drop k.base (k.shown ++ k.staged)) result.now }
+    {
+        &self.changes
+    }
+
+    /// The device, in whatever state it is. What was staged is forgotten.
+    pub fn into_device(self) -> D
+        ensures { result ≡ store_device self }
+    {
+        let KeptStore {
+            alloc: _,
+            journal,
+            base: _,
+            changes: _,
+        } = self;
+        journal.into_device()
+    }
+}
+
+impl<D: Sectors + Drop, I: ZoneIndex> ZoneStore for KeptStore<D, I> {
+    ghost use Rattle.dns_journal.specs.State.{device_of};
+    ghost use Rattle.dns_store.specs.Opens.{opens as opens_as};
+    ghost use Rattle.dns_store.specs.Opening.{keeps as keeps_all};
+    ghost use Rattle.dns_store.specs.Laws.{at_rest_of};
+
+    ghost moment = { λ s. D.moment (device_of s.journal) };
+
+    ghost left_since = { λ s. D.left_since (device_of s.journal) };
+
+    ghost failed = { λ s. D.failed (device_of s.journal) };
+
+    ghost keeps = { λ s k. keeps_all s k };
+
+    ghost opens = { opens_as };
+
+    fn is_closed(&self) -> bool {
+        self.journal.is_closed()
+    }
+
+    fn newest(&self) -> u64 {
+        self.journal.newest()
+    }
+
+    fn left(&self) -> usize {
+        self.journal.left()
+    }
+
+    fn stage(&mut self, change: Change) -> Result<(), StageError> {
+        if self.journal.is_closed() {
+            return Err(StageError::Closed);
+        }
+        if self.journal.newest() == u64::MAX {
+            return Err(StageError::Full);
+        }
+        let sectors = entry_sectors(change.encoded_len());
+        if sectors > self.journal.left() {
+            return Err(StageError::Full);
+        }
+        self.changes.reserve(1).map_err(AllocError::from)?;
+        match self.journal.stage(self.alloc, &change) {
+            Ok(()) => {
+                self.changes.push_reserved(change);
+                Ok(())
+            }
+            Err(error) => Err(error),
+        }
+    }
+
+    fn flush(&mut self) -> Result<(), FlushError> {
+        match self.journal.flush() {
+            Ok(()) => Ok(()),
+            Err(error) => Err(error),
+        }
+    }
+
+    fn checkpoint(&mut self, keep: usize, room: usize) -> Result<(), CheckpointError> {
+        match self.move_base(keep, room) {
+            Ok(()) => Ok(()),
+            Err(error) => Err(error),
+        }
+    }
+
+    ghost at_rest = { λ s k kept c left.
+        at_rest_of (λ d x honest now. D.only_now d x honest now) s.journal k k.closed kept.keeps c left };
+}
