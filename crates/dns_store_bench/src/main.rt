@@ -6,7 +6,7 @@ use dns_memory::{Heap, heap};
 use dns_names::Name;
 use dns_records::{RData, Record, Soa};
 use dns_sectors::{MemorySectors, Plan};
-use dns_store::{OpenStore, ZoneStore, format, open};
+use dns_store::{KeptStore, ZoneStore, format, open};
 use dns_zone::{Zone, ZoneIndex};
 use dns_zoneindex::SharedTree;
 use std::process::ExitCode;
@@ -22,7 +22,7 @@ const SECTORS: usize = 16385;
 /// For how many writes and syncs the device has room.
 const CALLS: usize = 32768;
 
-type Store = OpenStore<MemorySectors, SharedTree>;
+type Store = KeptStore<MemorySectors, SharedTree>;
 
 fn apex(alloc: Heap) -> Option<Name> {
     Name::from_text(alloc, b"example.", &Name::root(alloc)).ok()
@@ -104,7 +104,8 @@ fn formatted(alloc: Heap, hosts: u32) -> Option<MemorySectors> {
     Some(device)
 }
 
-fn opened(alloc: Heap, device: MemorySectors) -> Option<Store> {
+/// The store of a device, and the newest version.
+fn opened(alloc: Heap, device: MemorySectors) -> Option<(Store, Zone<SharedTree>)> {
     let apex = apex(alloc)?;
     open(alloc, device, &apex, ROOM, ROOM).ok()
 }
@@ -132,16 +133,16 @@ fn change(alloc: Heap, serial: u32) -> Option<Change> {
 }
 
 /// Stages the updates from the first serial on, and makes them durable.
-fn update<S: ZoneStore>(alloc: Heap, store: &mut S, updates: u32) -> Option<()> {
+fn update(alloc: Heap, store: &mut Store, updates: u32) -> Option<()> {
     for serial in 0..updates {
-        store.stage(&change(alloc, serial)?).ok()?;
+        store.stage(change(alloc, serial)?).ok()?;
     }
     store.flush().ok()
 }
 
 /// A device with a store of so many records, and of so many updates of one record each.
 fn made(alloc: Heap, hosts: u32, updates: u32) -> Option<MemorySectors> {
-    let mut store = opened(alloc, formatted(alloc, hosts)?)?.store;
+    let (mut store, _newest) = opened(alloc, formatted(alloc, hosts)?)?;
     update(alloc, &mut store, updates)?;
     Some(store.into_device())
 }
@@ -151,8 +152,8 @@ fn act(alloc: Heap, device: MemorySectors, word: &str) -> Option<(usize, usize)>
     if word != "open" {
         return Some((0, 0));
     }
-    let found = opened(alloc, device)?;
-    Some((found.zone.index().len(), found.changes.len()))
+    let (store, newest) = opened(alloc, device)?;
+    Some((newest.index().len(), store.changes().len()))
 }
 
 fn number(word: Option<&str>) -> Option<u32> {

@@ -19,9 +19,9 @@ fn change(device: &mut Device, at: usize, octet: usize) -> Option<()> {
 /// A device with that store.
 fn entered(heap: Heap) -> Option<Device> {
     let mut first = fresh(heap)?;
-    stage(heap, &mut first.store, 1, 500)?;
-    first.store.flush().ok()?;
-    Some(first.store.into_device())
+    stage(heap, &mut first, 1, 500)?;
+    first.flush().ok()?;
+    Some(first.into_device())
 }
 
 /// The first of these octets of a sector for which something else is said.

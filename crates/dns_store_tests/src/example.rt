@@ -3,7 +3,7 @@ use crate::stores::{Device, name, push_record, sized, text, zone_of};
 use dns_changes::Change;
 use dns_memory::{Heap, heap};
 use dns_sectors::Sectors;
-use dns_store::{OpenStore, ZoneStore, format, open};
+use dns_store::{KeptStore, ZoneStore, format, open};
 use dns_zone::RecordList;
 use std::test::Fail;
 
@@ -27,7 +27,7 @@ const REST: &[u8] = b"\x07example\0\0\x02\0\0\x0e\x10\0\x10\x02ns\x07example\x03
 const ROOT: &[u8] =
     b"DPR1\0\0\0\0\0\0\0\0\0\0\0\0\0\0\0\0\0\0\0\0\0\0\0\0\0\0\0\0\0\0\x01\xda\0\0\0\x08\0\0\0\x10\x07example\0";
 
-type Store = OpenStore<Device, RecordList>;
+type Store = KeptStore<Device, RecordList>;
 
 /// A device with that store.
 fn made(heap: Heap) -> Option<Device> {
@@ -43,7 +43,8 @@ fn made(heap: Heap) -> Option<Device> {
 fn opened(heap: Heap) -> Option<Store> {
     let device = made(heap)?;
     let apex = name(heap, APEX)?;
-    open(heap, device, &apex, 8, 16).ok()
+    let (store, _newest) = open(heap, device, &apex, 8, 16).ok()?;
+    Some(store)
 }
 
 /// The octets of a sector.
@@ -109,12 +110,12 @@ fn entry(heap: Heap, size: usize) -> Option<Vec<u8, Heap>> {
 /// How many octets the entry has, how many sectors are left behind it, and the device that it was flushed to.
 fn entered(heap: Heap, size: usize) -> Option<(usize, usize, Device)> {
     let octets = entry(heap, size)?;
-    let mut found = opened(heap)?;
+    let mut store = opened(heap)?;
     let change = Change::decode(heap, &octets).ok()?;
-    found.store.stage(&change).ok()?;
-    found.store.flush().ok()?;
-    let left = found.store.left();
-    Some((octets.len(), left, found.store.into_device()))
+    store.stage(change).ok()?;
+    store.flush().ok()?;
+    let left = store.left();
+    Some((octets.len(), left, store.into_device()))
 }
 
 /// Whether an entry of 484 octets is one head.

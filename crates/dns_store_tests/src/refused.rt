@@ -6,7 +6,7 @@ use crate::stores::{
 use dns_layout::{Apex, Bank, Root};
 use dns_memory::{Heap, heap};
 use dns_sectors::{Keep, Sectors};
-use dns_store::{FormatError, OpenError, OpenStore, ZoneStore, format, open};
+use dns_store::{FormatError, KeptStore, OpenError, ZoneStore, format, open};
 use dns_zone::RecordList;
 use std::test::Fail;
 
@@ -79,11 +79,11 @@ fn memory(rt: HostRuntime) -> Result<(), Fail> {
 
 /// How many sectors are left behind the store with version 0, and behind an update with so many octets of text.
 fn left(heap: Heap, size: usize) -> Option<(usize, usize)> {
-    let mut found = fresh(heap)?;
-    let before = found.store.left();
-    let staged = stage(heap, &mut found.store, 1, size)?;
+    let mut store = fresh(heap)?;
+    let before = store.left();
+    let staged = stage(heap, &mut store, 1, size)?;
     if staged {
-        Some((before, found.store.left()))
+        Some((before, store.left()))
     } else {
         Some((before, before))
     }
@@ -145,7 +145,7 @@ fn no_store(rt: HostRuntime) -> Result<(), Fail> {
 fn asked(heap: Heap, octets: &[u8], parts: u32, entries: u32) -> Option<OpenError> {
     let device = made(heap, shared_plan(heap)?)?;
     let apex = name(heap, octets)?;
-    let told: Result<OpenStore<_, RecordList>, _> = open(heap, device, &apex, parts, entries);
+    let told: Result<(KeptStore<_, RecordList>, _), _> = open(heap, device, &apex, parts, entries);
     Some(told.err()?.1)
 }
 
@@ -165,9 +165,9 @@ fn another_store(rt: HostRuntime) -> Result<(), Fail> {
 /// A store that is made over another: its entries don't come back.
 fn made_again(heap: Heap) -> Option<Result<u64, OpenError>> {
     let mut first = fresh(heap)?;
-    stage(heap, &mut first.store, 1, 20)?;
-    first.store.flush().ok()?;
-    let mut device = first.store.into_device();
+    stage(heap, &mut first, 1, 20)?;
+    first.flush().ok()?;
+    let mut device = first.into_device();
     make(heap, &mut device)?.ok()?;
     match crate::stores::opened(heap, device) {
         Ok(found) => Some(Ok(found.store.newest())),

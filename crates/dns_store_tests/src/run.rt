@@ -1,6 +1,6 @@
 //! One run of a store, over another: it is made, opened, three updates are flushed, and a checkpoint is made; with the last
 //! operation, and what is kept of the pending writes, chosen.
-use crate::stores::{Device, Store, change, made, make, opened, shared_plan, stage};
+use crate::stores::{Device, OpenStore, Store, made, make, opened, shared_plan, stage};
 use dns_memory::Heap;
 use dns_sectors::{Keep, Plan};
 use dns_store::{OpenError, ZoneStore};
@@ -21,24 +21,17 @@ fn old(heap: Heap, plan: Rc<Plan, Heap>) -> Option<Device> {
     Some(found.store.into_device().crash(Keep::These(&[])))
 }
 
-/// Stages the change to the version with this serial, and keeps it with those that lead to the newest version.
-fn keep(heap: Heap, store: &mut Store, serial: u8, size: usize) -> Option<()> {
-    let change = change(heap, serial, size)?;
-    store.store.stage(&change).ok()?;
-    store.changes.push(change).ok()
-}
-
 /// Three updates with entries of one, three and one sectors are flushed, and a checkpoint keeps the newest two; up to the first
 /// that fails.
 fn update(heap: Heap, store: Store) -> Option<Device> {
     let mut store = store;
-    keep(heap, &mut store, 1, 20)?;
-    keep(heap, &mut store, 2, 1300)?;
-    keep(heap, &mut store, 3, 30)?;
-    if store.store.flush().is_ok() {
+    stage(heap, &mut store, 1, 20)?;
+    stage(heap, &mut store, 2, 1300)?;
+    stage(heap, &mut store, 3, 30)?;
+    if store.flush().is_ok() {
         let _told = store.checkpoint(2, 0);
     }
-    Some(store.store.into_device())
+    Some(store.into_device())
 }
 
 /// The run over the old store, up to the first operation that fails.
@@ -48,7 +41,7 @@ fn steps(heap: Heap, device: Device) -> Option<Device> {
         return Some(device);
     }
     match opened(heap, device) {
-        Ok(store) => update(heap, store),
+        Ok(found) => update(heap, found.store),
         Err((device, _)) => Some(device),
     }
 }
@@ -115,11 +108,11 @@ fn left(heap: Heap, plan: &Rc<Plan, Heap>, n: u64, choice: usize) -> Option<Devi
 }
 
 /// The version that was found and its base, where the two zones that are lent have as many records as those of these numbers.
-fn version_of(store: &Store) -> Option<Found> {
-    let newest = store.store.newest();
-    let base = newest.checked_sub(store.changes.len() as u64)?;
-    let records = store.zone.records().count() as u64;
-    let records_before = store.base.records().count() as u64;
+fn version_of(found: &OpenStore) -> Option<Found> {
+    let newest = found.store.newest();
+    let base = newest.checked_sub(found.store.changes().len() as u64)?;
+    let records = found.newest.records().count() as u64;
+    let records_before = found.store.base().records().count() as u64;
     if records.checked_sub(2) == Some(newest) && records_before.checked_sub(2) == Some(base) {
         Some(Found::Version(newest, base))
     } else {
@@ -130,7 +123,7 @@ fn version_of(store: &Store) -> Option<Found> {
 /// What the device opens as.
 fn found_on(heap: Heap, device: Device) -> Option<Found> {
     match opened(heap, device) {
-        Ok(store) => version_of(&store),
+        Ok(found) => version_of(&found),
         Err((_, error)) => if error == OpenError::Blank {
             Some(Found::Blank)
         } else {
@@ -140,16 +133,16 @@ fn found_on(heap: Heap, device: Device) -> Option<Found> {
 }
 
 /// One more update is flushed behind what was found, and then it is what a crash leaves: what was lost doesn't come back.
-fn goes_on(heap: Heap, store: Store) -> Option<Found> {
-    let mut store = store;
-    let told = version_of(&store)?;
+fn goes_on(heap: Heap, found: OpenStore) -> Option<Found> {
+    let mut found = found;
+    let told = version_of(&found)?;
     let Found::Version(newest, base) = told else {
         return None;
     };
     let serial = u8::try_from(newest).ok()?.checked_add(1)?;
-    stage(heap, &mut store.store, serial, 25)?;
-    store.store.flush().ok()?;
-    let device = store.store.into_device().crash(Keep::These(&[]));
+    stage(heap, &mut found.store, serial, 25)?;
+    found.store.flush().ok()?;
+    let device = found.store.into_device().crash(Keep::These(&[]));
     let again = found_on(heap, device)?;
     if again == Found::Version(u64::from(serial), base) {
         Some(told)
@@ -162,7 +155,7 @@ fn goes_on(heap: Heap, store: Store) -> Option<Found> {
 pub(crate) fn first_found(heap: Heap, n: u64, choice: usize) -> Option<Found> {
     let plan = shared_plan(heap)?;
     match opened(heap, left(heap, &plan, n, choice)?) {
-        Ok(store) => goes_on(heap, store),
+        Ok(found) => goes_on(heap, found),
         Err((_, error)) => if error == OpenError::Blank {
             Some(Found::Blank)
         } else {
@@ -175,7 +168,7 @@ pub(crate) fn first_found(heap: Heap, n: u64, choice: usize) -> Option<Found> {
 fn stopped_opening(heap: Heap, plan: &Rc<Plan, Heap>, device: Device, m: u64) -> Device {
     plan.stop_at(m);
     let left = match opened(heap, device) {
-        Ok(store) => store.store.into_device(),
+        Ok(found) => found.store.into_device(),
         Err((device, _)) => device,
     };
     plan.reset();

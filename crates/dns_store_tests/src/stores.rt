@@ -4,7 +4,7 @@ use dns_memory::Heap;
 use dns_names::Name;
 use dns_records::Record;
 use dns_sectors::{Keep, MemorySectors, Plan};
-use dns_store::{DeviceStore, FormatError, OpenError, OpenStore, ZoneStore, format, open};
+use dns_store::{FormatError, KeptStore, OpenError, ZoneStore, format, open};
 use dns_zone::{RecordList, Zone};
 use std::rc::Rc;
 
@@ -19,7 +19,14 @@ pub(crate) const SECTORS: usize = 21;
 
 pub(crate) type Device = MemorySectors;
 
-pub(crate) type Store = OpenStore<MemorySectors, RecordList>;
+pub(crate) type Store = KeptStore<MemorySectors, RecordList>;
+
+/// The store of a device, and the newest version.
+#[derive(Drop)]
+pub(crate) struct OpenStore {
+    pub(crate) store: Store,
+    pub(crate) newest: Zone<RecordList>,
+}
 
 pub(crate) fn shared_plan(heap: Heap) -> Option<Rc<Plan, Heap>> {
     Rc::new(heap, Plan::new()).ok()
@@ -98,14 +105,9 @@ pub(crate) fn change(heap: Heap, serial: u8, size: usize) -> Option<Change> {
 }
 
 /// Stages it, and says whether it was staged.
-pub(crate) fn stage(
-    heap: Heap,
-    store: &mut DeviceStore<Device>,
-    serial: u8,
-    size: usize,
-) -> Option<bool> {
+pub(crate) fn stage(heap: Heap, store: &mut Store, serial: u8, size: usize) -> Option<bool> {
     let change = change(heap, serial, size)?;
-    Some(store.stage(&change).is_ok())
+    Some(store.stage(change).is_ok())
 }
 
 /// Version 0, with a TXT record with so many octets of data, if any.
@@ -151,17 +153,22 @@ pub(crate) fn made(heap: Heap, plan: Rc<Plan, Heap>) -> Option<Device> {
     Some(device.crash(Keep::These(&[])))
 }
 
-pub(crate) fn opened(heap: Heap, device: Device) -> Result<Store, (Device, OpenError)> {
+/// What the device with that apex and these sizes opens as.
+pub(crate) fn opened(heap: Heap, device: Device) -> Result<OpenStore, (Device, OpenError)> {
     match name(heap, APEX) {
-        Some(apex) => open(heap, device, &apex, SNAPSHOT, JOURNAL),
+        Some(apex) => {
+            let (store, newest) = open(heap, device, &apex, SNAPSHOT, JOURNAL)?;
+            Ok(OpenStore { store, newest })
+        }
         None => Err((device, OpenError::OutOfMemory)),
     }
 }
 
-/// What is open on a device with the store of version 0.
+/// The store of version 0.
 pub(crate) fn fresh(heap: Heap) -> Option<Store> {
     let device = made(heap, shared_plan(heap)?)?;
-    opened(heap, device).ok()
+    let found = opened(heap, device).ok()?;
+    Some(found.store)
 }
 
 /// What is said where the device isn't opened; nothing is pending on it then.
