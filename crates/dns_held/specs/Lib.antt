@@ -3,3 +3,4 @@ pub mod Plain
 pub mod Held
 pub mod Flush
 pub mod Staging
+pub mod Checkpoint

@@ -1,9 +1,9 @@
 //! The flush of zones: their stores are flushed, and what was staged is shown.
-ghost use Rattle.std.specs.Prelude.{◌≡◌, ◌⊎◌, ◌<◌, List, ◌∷◌, [], ◌++◌, Bool, true, length};
+ghost use Rattle.std.specs.Prelude.{◌≡◌, ◌⊎◌, ◌<◌, List, ◌∷◌, [], ◌++◌, Bool, true, false, length};
 ghost use Rattle.dns_sectors.specs.Device.{LeavesOnly};
 ghost use Rattle.dns_store.specs.Versions.{Kept, OpensAsLeft};
 ghost use Rattle.dns_held.specs.Each.{Each3};
-ghost use Rattle.dns_held.specs.Held.{HasVersions};
+ghost use Rattle.dns_held.specs.Held.{HasVersions, newer};
 ghost use Rattle.dns_held.specs.Flush.{HasFailed, FailedWhere, flushed, flushed_to, first_true};
 
 use crate::Behind;
@@ -20,6 +20,8 @@ pub fn flush_zone<I: ZoneIndex, S: ZoneStore>(zone: &mut Zone<I>, behind: &mut B
         → S.keeps behind.old.store k
         → LeavesOnly S.moment S.left_since behind.old.store behind.new.store (OpensAsLeft S.opens k) }
     ensures failed { result ≡ true → HasFailed (S.failed behind.old.store) (S.failed behind.new.store) }
+    ensures open { (k : Kept) → HasVersions S.keeps zone.old behind.old k → result ≡ true → k.closed ≡ false }
+    ensures newest { newer zone.new behind.new.tip ≡ newer zone.old behind.old.tip }
 {
     match behind.store.flush() {
         Ok(()) => {

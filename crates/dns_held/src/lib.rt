@@ -2,10 +2,12 @@
 #![tactic(auto)]
 
 mod behind;
+mod checkpoint;
 mod flush;
 mod octets;
 mod staging;
 
 pub use behind::{Behind, newest};
+pub use checkpoint::{checkpoint_zone, make_room};
 pub use flush::{flush_all, flush_zone};
 pub use staging::{MOST_RECORDS, StagingError, next_version, stage};

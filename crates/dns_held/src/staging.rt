@@ -63,7 +63,7 @@ impl From<StageError> for StagingError {
 }
 
 /// Whether there is room for the version that a change leads to, whose snapshot has so many octets.
-fn has_room<I: ZoneIndex, S: ZoneStore>(
+pub(crate) fn has_room<I: ZoneIndex, S: ZoneStore>(
     behind: &Behind<I, S>,
     change: &Change,
     records: &I,
@@ -97,11 +97,11 @@ pub fn next_version<I: ZoneIndex>(newest: &Zone<I>, records: I) -> Result<Zone<I
 pub fn stage<I: ZoneIndex, S: ZoneStore>(
     zone: &Zone<I>,
     behind: &mut Behind<I, S>,
-    change: &Change,
+    change: Change,
     records: I,
 ) -> Result<(), StagingError>
-    requires next { IsNext (newer zone.now behind.old.tip) change.now (I.records records) }
-    requires change { IsChange (newer zone.now behind.old.tip).records (I.records records) change.now }
+    requires next { IsNext (newer zone.now behind.old.tip) change (I.records records) }
+    requires change { IsChange (newer zone.now behind.old.tip).records (I.records records) change }
     ensures staged { (k : Kept)
         → HasVersions S.keeps zone.now behind.old k
         → OnOk result (HasVersions S.keeps zone.now behind.new (staged_with (I.records records) k)) }
@@ -112,8 +112,8 @@ pub fn stage<I: ZoneIndex, S: ZoneStore>(
     ensures quiet { S.failed behind.new.store ≡ S.failed behind.old.store }
 {
     let _valid = newest(&*zone, &*behind).apex();
-    let octets = octets_after(behind.octets, change);
-    if !has_room(behind, change, &records, octets) {
+    let octets = octets_after(behind.octets, &change);
+    if !has_room(behind, &change, &records, octets) {
         return Err(StagingError::NoRoom);
     }
     let version = next_version(newest(&*zone, &*behind), records)?;

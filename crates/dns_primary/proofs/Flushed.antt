@@ -19,7 +19,7 @@ case : (f : Bool) (s : Setting) (l : List Record) (shown staged : List Made) (ba
 case f s l shown staged base true = refl
 case f s l shown [] base false = refl
 case true s l shown (m ∷ staged) base false = refl
-case false s l shown (m ∷ staged) base false = λ i. record { shape = s.shape; loaded = l; shown = map-append (λ (x : Made). x.records) shown (m ∷ staged) i; staged = []; base = base; closed = false }
+case false s l shown (m ∷ staged) base false = λ i. record { shape = s.shape; loaded = l; shown = map-append (λ (x : Made). x.records) shown (m ∷ staged) i; staged = []; base = base; second = None; closed = false }
 
 pub kept_flushed : (f : Bool) (z : ZoneState) → kept_of (flushed_zone f z) ≡ held.flushed f (kept_of z)
 kept_flushed f z = case f z.setting z.loaded z.shown z.staged z.base z.closed

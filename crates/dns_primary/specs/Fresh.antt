@@ -22,7 +22,7 @@ pub record IsLoaded (zone : Zone) (settings : ZoneSettings) (z : ZoneState) : Ty
 
 -- What a store keeps that is in memory alone.
 abbrev pub keeps_unkept : Unkept → Kept → Type 0
-keeps_unkept s k = IsUnkept s.left s.newest k
+keeps_unkept s k = IsUnkept s k
 
 -- A machine of these zones to which nothing has happened.
 pub record IsFresh (zones : List Zone) (settings : List ZoneSettings) (m : Machine) : Type 0 where

@@ -43,6 +43,7 @@ kept_of z = record {
   shown = versions_of z.shown;
   staged = versions_of z.staged;
   base = z.base;
+  second = None;
   closed = z.closed;
 }
 

@@ -30,7 +30,7 @@ fn behind_all<I: ZoneIndex>(
     let mut behind = Vec::new(alloc);
     for i in 0..zones.len() {
         let own = &settings[i];
-        let store = Unkept::new(own.journal);
+        let store = Unkept::new(alloc, own.journal);
         behind.push(Behind::new(&zones[i], store, own.snapshot, own.journal))?;
     }
     Ok(behind)

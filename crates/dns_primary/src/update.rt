@@ -52,7 +52,7 @@ pub(crate) fn judge_and_stage<I: ZoneIndex, S: ZoneStore>(
     match judge(alloc, newest(&*zone, &*behind), message) {
         Ok(Judged::Refused(rcode)) => Outcome::Waits(rcode),
         Ok(Judged::NoChange) => Outcome::Waits(Rcode::NoError),
-        Ok(Judged::Accepted(change, records)) => match stage(zone, behind, &change, records) {
+        Ok(Judged::Accepted(change, records)) => match stage(zone, behind, change, records) {
             Ok(()) => Outcome::Waits(Rcode::NoError),
             Err(error) => refused(error),
         },

@@ -18,8 +18,8 @@ returns-then-not-has_room-clause-room g c k held =
     let is : before ≡ newest_zone k = newer_is g.S.ZoneStore.keeps c.args.zone.now c.args.behind.now k held in
     let valid : IsZone before = subst (λ (z : Zone). IsZone z) c.newest.ensures.either c.apex-valid.ensures.valid in
     let after = g.I.ZoneIndex.records c.args.records in
-    let change : IsChange (newest_of k) after c.args.change.now = subst (λ (z : Zone). IsChange z.records after c.args.change.now) is c.requires.change in
-    let octets = counted before c.args.behind.now.octets c.octets_after-octets.result after c.args.change.now valid c.requires.next c.requires.change (held.octets_are ∙ ap (λ (z : Zone). octets_of z.records) (sym is)) c.octets_after-octets.ensures in
+    let change : IsChange (newest_of k) after c.args.change = subst (λ (z : Zone). IsChange z.records after c.args.change) is c.requires.change in
+    let octets = counted before c.args.behind.now.octets c.octets_after-octets.result after c.args.change valid c.requires.next c.requires.change (held.octets_are ∙ ap (λ (z : Zone). octets_of z.records) (sym is)) c.octets_after-octets.ensures in
     let room : c.has_room.result ≡ has_room k after = c.has_room.ensures.room k c.args.zone.now held change octets in
     sym room ∙ c.if-not-has_room.true
 
@@ -29,11 +29,11 @@ returns-in_err-stage-clause-room g c k held =
     let is : before ≡ newest_zone k = newer_is g.S.ZoneStore.keeps c.args.zone.now c.args.behind.now k held in
     let valid : IsZone before = subst (λ (z : Zone). IsZone z) c.newest.ensures.either c.apex-valid.ensures.valid in
     let after = g.I.ZoneIndex.records c.args.records in
-    let change : IsChange (newest_of k) after c.args.change.now = subst (λ (z : Zone). IsChange z.records after c.args.change.now) is c.requires.change in
-    let octets = counted before c.args.behind.now.octets c.octets_after-octets.result after c.args.change.now valid c.requires.next c.requires.change (held.octets_are ∙ ap (λ (z : Zone). octets_of z.records) (sym is)) c.octets_after-octets.ensures in
+    let change : IsChange (newest_of k) after c.args.change = subst (λ (z : Zone). IsChange z.records after c.args.change) is c.requires.change in
+    let octets = counted before c.args.behind.now.octets c.octets_after-octets.result after c.args.change valid c.requires.next c.requires.change (held.octets_are ∙ ap (λ (z : Zone). octets_of z.records) (sym is)) c.octets_after-octets.ensures in
     let room : c.has_room.result ≡ has_room k after = c.has_room.ensures.room k c.args.zone.now held change octets in
     let has : has_room k after ≡ true = sym room ∙ c.if-not-has_room.false in
-    let entry = entry_is (newest_of k) after c.args.change.now change in
+    let entry = entry_is (newest_of k) after c.args.change change in
     let error = c.in_err-stage.field-0.0 in
     let full : error ≡ lower.Full → sectors_left k < entry_between (newest_of k) after = λ e.
     ⊎_elim (λ last. let fewer = room_number k after has in absurd (omega (arith, last, fewer))) (λ less. subst (λ n. sectors_left k < n) (sym entry) less)
@@ -47,8 +47,8 @@ returns-clause-staged g c k held =
     let is : before ≡ newest_zone k = newer_is g.S.ZoneStore.keeps c.args.zone.now c.args.behind.now k held in
     let valid : IsZone before = subst (λ (z : Zone). IsZone z) c.newest.ensures.either c.apex-valid.ensures.valid in
     let after = g.I.ZoneIndex.records c.args.records in
-    let change : IsChange (newest_of k) after c.args.change.now = subst (λ (z : Zone). IsChange z.records after c.args.change.now) is c.requires.change in
-    let octets = counted before c.args.behind.now.octets c.octets_after-octets.result after c.args.change.now valid c.requires.next c.requires.change (held.octets_are ∙ ap (λ (z : Zone). octets_of z.records) (sym is)) c.octets_after-octets.ensures in
+    let change : IsChange (newest_of k) after c.args.change = subst (λ (z : Zone). IsChange z.records after c.args.change) is c.requires.change in
+    let octets = counted before c.args.behind.now.octets c.octets_after-octets.result after c.args.change valid c.requires.next c.requires.change (held.octets_are ∙ ap (λ (z : Zone). octets_of z.records) (sym is)) c.octets_after-octets.ensures in
     let room : c.has_room.result ≡ has_room k after = c.has_room.ensures.room k c.args.zone.now held change octets in
     let few : length after ≤ 65536 = c.has_room.ensures.few c.if-not-has_room.false in
     let named : record { apex = before.apex; records = after } ≡ record { apex = k.shape.apex; records = after } = λ i. record { apex = (is i).apex; records = after } in
@@ -60,7 +60,7 @@ returns-clause-staged g c k held =
       octets_are = octets few ∙ ap octets_of (sym (staged_newest k after));
       snapshot_is = held.snapshot_is;
       journal_is = held.journal_is;
-      kept = c.in_ok-stage.ensures.staged k after held.kept (record { change = change; valid = subst (λ (z : Zone). IsZone z) named (next_valid before after c.args.change.now c.requires.next few) });
+      kept = c.in_ok-stage.ensures.staged k after held.kept (record { change = change; valid = subst (λ (z : Zone). IsZone z) named (next_valid before after c.args.change c.requires.next few) });
     }
 
 pub returns-clause-room : goal.returns-clause-room
@@ -69,8 +69,8 @@ returns-clause-room g c k held =
     let is : before ≡ newest_zone k = newer_is g.S.ZoneStore.keeps c.args.zone.now c.args.behind.now k held in
     let valid : IsZone before = subst (λ (z : Zone). IsZone z) c.newest.ensures.either c.apex-valid.ensures.valid in
     let after = g.I.ZoneIndex.records c.args.records in
-    let change : IsChange (newest_of k) after c.args.change.now = subst (λ (z : Zone). IsChange z.records after c.args.change.now) is c.requires.change in
-    let octets = counted before c.args.behind.now.octets c.octets_after-octets.result after c.args.change.now valid c.requires.next c.requires.change (held.octets_are ∙ ap (λ (z : Zone). octets_of z.records) (sym is)) c.octets_after-octets.ensures in
+    let change : IsChange (newest_of k) after c.args.change = subst (λ (z : Zone). IsChange z.records after c.args.change) is c.requires.change in
+    let octets = counted before c.args.behind.now.octets c.octets_after-octets.result after c.args.change valid c.requires.next c.requires.change (held.octets_are ∙ ap (λ (z : Zone). octets_of z.records) (sym is)) c.octets_after-octets.ensures in
     let room : c.has_room.result ≡ has_room k after = c.has_room.ensures.room k c.args.zone.now held change octets in
     let fits = c.in_ok-stage.ensures.fits k held.kept in
-    (sym room ∙ c.if-not-has_room.false, subst (λ n. n ≤ sectors_left k) (sym (entry_is (newest_of k) after c.args.change.now change)) fits)
+    (sym room ∙ c.if-not-has_room.false, subst (λ n. n ≤ sectors_left k) (sym (entry_is (newest_of k) after c.args.change change)) fits)

@@ -60,8 +60,8 @@ returns-in-Ok-clause-done g c k held opened =
     let room = c.in-Ok.ensures.room k held in
     done_staged (λ k. HasVersions g.S.ZoneStore.keeps c.args.zone.now c.stage.new.behind k) k (verdict (newest_zone k) answers items) after is room.0 room.1 (c.in-Ok.ensures.staged k held)
 
-pub returns-in-Ok-Accepted-clause-done : goal.returns-in-Ok-Accepted-clause-done
-returns-in-Ok-Accepted-clause-done g c k held opened =
+pub returns-in-Err-stage-clause-done : goal.returns-in-Err-stage-clause-done
+returns-in-Err-stage-clause-done g c k held opened =
     let answers = c.args.message.now.message.answers in
     let items = c.args.message.now.message.authorities in
     let before = c.newest.result.now in
