@@ -1,0 +1,7 @@
+use Rattle.std.proofs.Common.{◌∙◌}
+use Rattle.dns_names.specs.Name.{names_eq}
+use Rattle.dns_zone.specs.Ancestry.{tied_same}
+use Rattle.dns_secondary.proofs.steps.is_at.Goals as goal
+
+pub returns : goal.returns
+returns c = tied_same c.is.result c.lend.result c.lend-2.result c.is.ensures.0 c.is.ensures.1 ∙ (λ i. names_eq ((c.lend.ensures ∙ c.owner.ensures) i) (c.lend-2.ensures i))

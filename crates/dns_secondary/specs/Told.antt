@@ -1,0 +1,107 @@
+-- What a message tells one who asked for a transfer.
+use Rattle.std.specs.Prelude.{◌≡◌, ◌≢◌, ◌↔◌, ◌⊎◌, ℕ, true, false, List, ◌++◌, Option, Some, None, if◌then◌else◌}
+use Rattle.dns_records.specs.Record.{Record}
+use Rattle.dns_zone.specs.Zone.{IsZone, zone_fault}
+use Rattle.dns_wire.specs.Message.{Message, ResourceRecord}
+use Rattle.dns_wire.specs.Reads.{Reads}
+use Rattle.dns_request.specs.declared.request.Transport.TheVariants.{Udp, Tcp}
+use Rattle.dns_secondary.specs.State.{State, Begun, Led, Whole, Removing, Adding, Ended}
+use Rattle.dns_secondary.specs.Rest.{is_current, Rest, Reaches, FailsBy}
+use Rattle.dns_secondary.specs.Receiving.{Receiving, header_fault}
+use Rattle.dns_secondary.specs.declared.fault.Fault.{Fault}
+use Rattle.dns_secondary.specs.declared.fault.Fault.TheVariants.{BadMessage, InvalidZone, AfterEnd}
+use Rattle.dns_secondary.specs.declared.fault.Progress.{Progress}
+use Rattle.dns_secondary.specs.declared.fault.Progress.TheVariants.{More, Done, UpToDate, RetryTcp}
+
+-- The answer is over.
+abbrev pub over : Receiving → Receiving
+over s = record s { state = None }
+
+-- These records are held in place of the others.
+abbrev pub holding : Receiving → List Record → Receiving
+holding s set = record s { held = Some (record { apex = s.apex; records = set }); state = None }
+
+-- The records so far are that SOA alone.
+abbrev pub IsAlone : Receiving → State → List ResourceRecord → Record → Type 0
+IsAlone s at records soa = Reaches s.apex s.held at records (Led soa)
+
+-- What the records of a message tell, behind the state in which it was read, and what it makes of the receiver.
+-- More: there is no meaning yet, and whatever follows means from the new state on what it means behind these records. A SOA alone
+-- that is newer is no more than the beginning, by TCP.
+abbrev pub Tells : Receiving → State → List ResourceRecord → Progress → Receiving → Type 0
+Tells s at records More new =
+    (next : State)
+    × (new ≡ record s { state = Some next })
+    × ((more : List ResourceRecord) (set : List Record)
+    → (Rest s.apex s.held at (records ++ more) set ↔ Rest s.apex s.held next more set))
+    × ((set : List Record) → Rest s.apex s.held at records set → ⊥)
+    × ((soa : Record) → IsAlone s at records soa → s.transport ≡ Tcp)
+-- Done: the set that they mean is held.
+Tells s at records Done new =
+    (set : List Record)
+    × Rest s.apex s.held at records set
+    × ((soa : Record) → IsAlone s at records soa → ⊥)
+    × (new ≡ holding s set)
+-- A SOA alone that is not newer: what is held is current (RFC 1995 2).
+Tells s at records UpToDate new =
+    (soa : Record) × IsAlone s at records soa × (is_current s.held soa ≡ true) × (new ≡ over s)
+-- A SOA alone that is newer, by UDP: the answer is too long for it (RFC 1995 2).
+Tells s at records RetryTcp new =
+    (soa : Record) × IsAlone s at records soa × (is_current s.held soa ≡ false) × (s.transport ≡ Udp) × (new ≡ over s)
+
+-- The records of a message are refused: the first that is a fault, or the set at the end, which is no zone. No list that begins
+-- with them has a meaning.
+pub record Fails (s : Receiving) (at : State) (records : List ResourceRecord) (fault : Fault) : Type 0 where
+  pub cause : FailsBy s.apex s.held at records fault
+      ⊎ ((set : List Record)
+      × Reaches s.apex s.held at records (Ended set)
+      × (zone_fault s.apex set ≢ None)
+      × (fault ≡ InvalidZone))
+  pub lost : (more : List ResourceRecord) (set : List Record) → Rest s.apex s.held at (records ++ more) set → ⊥
+
+-- Octets that come in a state are read as a message that is accepted by its header, and its records tell this.
+pub record Hears (s : Receiving) (at : State) (octets : List ℕ) (progress : Progress) (new : Receiving) : Type 0 where
+  pub message : Message
+  pub stands : Reads octets message
+  pub accepted : header_fault s message ≡ None
+  pub tells : Tells s at message.answers progress new
+
+-- The answer is not over, and octets are heard.
+abbrev pub Feeds : Receiving → List ℕ → Progress → Receiving → Type 0
+Feeds s octets progress new = (at : State) × (s.state ≡ Some at) × Hears s at octets progress new
+
+-- Octets are no message; or it is refused by its header.
+abbrev pub RefusesMessage : Receiving → List ℕ → Fault → Type 0
+RefusesMessage s octets fault =
+    (((m : Message) → Reads octets m → ⊥) × (fault ≡ BadMessage))
+    ⊎ ((m : Message) × Reads octets m × (header_fault s m ≡ Some fault))
+
+-- Why octets are refused: the answer is over; or the message is refused; or its records are.
+abbrev pub RefusesFrom : Receiving → Option State → List ℕ → Fault → Type 0
+RefusesFrom s None octets fault = fault ≡ AfterEnd
+RefusesFrom s (Some at) octets fault =
+    RefusesMessage s octets fault
+    ⊎ ((m : Message) × Reads octets m × (header_fault s m ≡ None) × Fails s at m.answers fault)
+
+abbrev pub RefusesFeed : Receiving → List ℕ → Fault → Type 0
+RefusesFeed s octets fault = RefusesFrom s s.state octets fault
+
+-- What is told behind the last record of a message.
+abbrev pub verdict : Receiving → State → Progress
+verdict s (Led soa) = if is_current s.held soa then UpToDate else elim s.transport [ Udp ↦ RetryTcp | Tcp ↦ More ]
+verdict s (Ended set) = Done
+verdict s Begun = More
+verdict s (Whole soa set) = More
+verdict s (Removing soa set) = More
+verdict s (Adding soa set reached) = More
+
+-- What that makes of the receiver.
+abbrev pub Concludes : Receiving → State → Progress → Receiving → Type 0
+Concludes s at More new = new ≡ record s { state = Some at }
+Concludes s at Done new = (set : List Record) × (at ≡ Ended set) × IsZone (record { apex = s.apex; records = set }) × (new ≡ holding s set)
+Concludes s at UpToDate new = new ≡ over s
+Concludes s at RetryTcp new = new ≡ over s
+
+-- The set at the end is no zone.
+abbrev pub Ends : Receiving → State → Fault → Type 0
+Ends s at fault = (set : List Record) × (at ≡ Ended set) × (zone_fault s.apex set ≢ None) × (fault ≡ InvalidZone)

@@ -1,0 +1,82 @@
+//! The records of a message, one behind another.
+ghost use Rattle.std.specs.Prelude.{◌≡◌, ◌⊎◌, IfOk, IfErr};
+ghost use Rattle.dns_wire.specs.Message.{record_of_item};
+ghost use Rattle.dns_secondary.specs.Step.{IsFit, Takes, Refuses};
+ghost use Rattle.dns_secondary.specs.Rest.{Reaches, FailsBy};
+ghost use Rattle.dns_secondary.specs.Stated.{fault_of};
+
+use crate::Fault;
+use crate::reading::Reading;
+use dns_memory::Heap;
+use dns_names::Name;
+use dns_records::types::CLASS_IN;
+use dns_records::{Record, RecordError};
+use dns_wire::{RecordView, Section};
+use dns_zone::{Zone, ZoneIndex};
+
+/// The fault that a record is whose data is refused.
+fn fault_of(error: RecordError) -> Fault
+    ensures { result ≡ fault_of error }
+{
+    match error {
+        RecordError::OutOfMemory => Fault::OutOfMemory,
+        RecordError::BadData => Fault::BadSequence,
+        RecordError::TooLong => Fault::BadSequence,
+        RecordError::UnknownType => Fault::BadSequence,
+    }
+}
+
+/// A record of a message as a record of a zone.
+fn fit_record(alloc: Heap, item: &RecordView<'_>) -> Result<Record, Fault>
+    ensures fit { IfOk result (λ r. IsFit item.now × (r ≡ record_of_item item.now)) }
+    ensures refused { IfErr result (λ e. (e ≡ Fault.OutOfMemory) ⊎ ((IsFit item.now → ⊥) × (e ≡ Fault.BadSequence))) }
+{
+    if item.class() != CLASS_IN {
+        return Err(Fault::BadSequence);
+    }
+    match item.to_record(alloc) {
+        Ok(r) => {
+            let _valid = r.rdata();
+            Ok(r)
+        }
+        Err(error) => Err(fault_of(error)),
+    }
+}
+
+impl<I: ZoneIndex> Reading<I> {
+    /// The next record of a message.
+    fn take_item(
+        self,
+        alloc: Heap,
+        apex: &Name,
+        held: &Option<Zone<I>>,
+        item: &RecordView<'_>,
+    ) -> Result<Reading<I>, Fault>
+        ensures taken { IfOk result (λ next. Takes apex.now held.now self item.now next) }
+        ensures refused { IfErr result
+            (λ e. (e ≡ Fault.OutOfMemory) ⊎ Refuses apex.now held.now self item.now e) }
+    {
+        let r = fit_record(alloc, item)?;
+        self.take(alloc, apex, held, r)
+    }
+
+    /// All records of a section. It stops at the first that is a fault.
+    pub(crate) fn take_all(
+        self,
+        alloc: Heap,
+        apex: &Name,
+        held: &Option<Zone<I>>,
+        section: Section<'_>,
+    ) -> Result<Reading<I>, Fault>
+        ensures reached { IfOk result (λ next. Reaches apex.now held.now self section.entry next) }
+        ensures refused { IfErr result
+            (λ e. (e ≡ Fault.OutOfMemory) ⊎ FailsBy apex.now held.now self section.entry e) }
+    {
+        let mut reading = self;
+        let mut section = section;
+        'records: while let Some(item) = section.next() {
+            reading = reading.take_item(alloc, apex, held, &item)?;
+        }
+        Ok(reading)
+    }
+}

@@ -1,0 +1,28 @@
+//! What holds of every answer to a transfer.
+ghost use Rattle.std.specs.Prelude.{◌≡◌, ◌↔◌, true, List, Option};
+ghost use Rattle.dns_names.specs.Name.{Labels};
+ghost use Rattle.dns_records.specs.Record.{Record};
+ghost use Rattle.dns_zone.specs.Records.{is_ordered};
+ghost use Rattle.dns_zone.specs.Zone.{Zone};
+ghost use Rattle.dns_changes.specs.Change.{Change, is_formed};
+ghost use Rattle.dns_changes.specs.Laws.{LeadsTo};
+ghost use Rattle.dns_wire.specs.Message.{ResourceRecord};
+ghost use Rattle.dns_secondary.specs.State.{Begun};
+ghost use Rattle.dns_secondary.specs.Rest.{Rest};
+ghost use Rattle.dns_secondary.specs.Taken.{Applies, Taken};
+
+/// What a whole answer means when it is read record by record is what it means by its form alone: the SOA of the version that is
+/// held, a whole zone, or changes of that version (RFC 1995 sections 2 and 4, RFC 5936 section 2.2).
+pub fn taken_law()
+    ensures { (apex : Labels) (held : Option Zone) (answer : List ResourceRecord) (set : List Record)
+        → (Taken apex held answer set ↔ Rest apex held Begun answer set) }
+{}
+
+/// A change that applies to a set is a sequence that leads from it to the same.
+pub fn applies_law()
+    ensures { (c : Change) (set result : List Record)
+        → is_ordered set ≡ true
+        → is_formed c ≡ true
+        → LeadsTo c set result
+        → Applies c set result }
+{}

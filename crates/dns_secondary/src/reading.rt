@@ -1,0 +1,53 @@
+//! How far an answer was read.
+ghost use Rattle.std.specs.Prelude.{◌≡◌, List};
+ghost use Rattle.dns_records.specs.Record.{Record as Stated};
+ghost use Rattle.dns_secondary.specs.State.{Ended};
+
+use dns_records::Record;
+use dns_zone::ZoneIndex;
+use std::marker::Model;
+
+/// The place in an answer.
+#[derive(Drop)]
+pub(crate) enum Phase {
+    /// Before the first record.
+    Begun,
+    /// Behind the SOA that leads.
+    Led(Record),
+    /// Within a whole zone that this SOA leads.
+    Whole(Record),
+    /// Within the records that go of a sequence. The SOA leads the answer.
+    Removing(Record),
+    /// Within the records that come of a sequence. The first SOA leads the answer, the second the records that come.
+    Adding(Record, Record),
+    /// Behind the last record.
+    Ended,
+}
+
+/// The place in an answer, and the set that was reached there.
+#[derive(Drop)]
+pub(crate) struct Reading<I: ZoneIndex> {
+    pub(crate) phase: Phase,
+    pub(crate) set: I,
+}
+
+impl<I: ZoneIndex> Model for Reading<I> {
+    ghost use Rattle.dns_secondary.specs.State.{State};
+    ghost use Rattle.dns_secondary.specs.Stated.{state_of, AreSoas};
+
+    ghost Value = { State };
+
+    ghost view = { λ r. state_of r.phase (I.records r.set) };
+
+    ghost invariant = { λ r. AreSoas r.phase };
+}
+
+impl<I: ZoneIndex> Reading<I> {
+    /// The set alone.
+    pub(crate) fn into_set(self) -> I
+        ensures { (set : List Stated) → self ≡ Ended set → I.records result ≡ set }
+    {
+        let Reading { phase: _phase, set } = self;
+        set
+    }
+}
