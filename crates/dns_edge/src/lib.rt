@@ -1,0 +1,6 @@
+//! What stands between sockets and messages.
+#![tactic(auto)]
+
+mod framing;
+
+pub use framing::{Framing, Octets, framing_law, length_octets};

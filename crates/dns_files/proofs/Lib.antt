@@ -1,0 +1,2 @@
+mod Arithmetic
+mod Changes
