@@ -1,5 +1,6 @@
 pub mod Gone
 pub mod Found
+pub mod InPlace
 pub mod Forms
 pub mod ResourceRecords
 pub mod OneSoa

@@ -1,5 +1,5 @@
 //! What an update does to the records of a zone.
-ghost use Rattle.std.specs.Prelude.{◌≡◌, ◌≢◌, ◌||◌, ◌&&◌, ◌==◌, not, filter, Some, None, OnOk, IfOk};
+ghost use Rattle.std.specs.Prelude.{◌≡◌, ◌≢◌, ◌||◌, ◌&&◌, ◌==◌, true, not, filter, Some, None, OnOk, IfOk};
 ghost use Rattle.std.specs.List.{AllByRecursion, list_any, find};
 ghost use Rattle.std.specs.Option.{option_copied};
 ghost use Rattle.std.specs.Ordering.{is_eq};
@@ -7,7 +7,7 @@ ghost use Rattle.dns_names.specs.Name.{names_eq};
 ghost use Rattle.dns_records.specs.Record.{record_cmp, serial_of};
 ghost use Rattle.dns_records.specs.Types.{type_soa};
 ghost use Rattle.dns_serial.specs.Serial.{greater};
-ghost use Rattle.dns_zone.specs.Records.{alike, without};
+ghost use Rattle.dns_zone.specs.Records.{alike, is_ordered, put, without};
 ghost use Rattle.dns_update.specs.ResourceRecord.{as_record, HasForm, first_fault};
 ghost use Rattle.dns_update.specs.Prescan.{prescan_fault};
 ghost use Rattle.dns_update.specs.Effect.{added, deleted, deleted_set, effect, effects, is_of, is_spared, is_vital, owns_other, replaced, succeeds};
@@ -18,7 +18,7 @@ use dns_names::{Name, NameRef};
 use dns_records::Record;
 use dns_records::types::{ANY, CLASS_ANY, CLASS_IN, CNAME, NS, SOA};
 use dns_serial::Serial;
-use dns_zone::{ZoneIndex, owns_type};
+use dns_zone::{ZoneIndex, find_record, owns_type};
 use std::alloc::AllocError;
 
 /// Whether the name owns the record.
@@ -80,12 +80,57 @@ fn next_replaced<I: ZoneIndex>(
     copy_of(first_of(records_of(set, name, rtype), name, rtype))
 }
 
-/// Takes a record out.
+/// A name that owns so many records gets one more, or loses one, where they stand: fewer are copied instead.
+const MANY: usize = 8;
+
+/// Puts a record among others in order, in place of one of equal owner, type and data.
+fn put_among(records: &mut Vec<Record, Heap>, come: Record) -> Result<(), AllocError>
+    requires { is_ordered records.old.items ≡ true }
+    ensures { OnOk result (records.new.items ≡ put come records.old.items) }
+{
+    match find_record(records, &come, None) {
+        Ok(at) => records[at] = come,
+        Err(at) => records.insert(at, come)?,
+    }
+    Ok(())
+}
+
+/// Puts a record in. Of a name that owns many, none is copied but what another set shares.
+fn put_in<I: ZoneIndex>(set: &mut I, come: Record) -> Result<(), AllocError>
+    ensures { OnOk result (I.records set.new ≡ put come (I.records set.old)) }
+{
+    let owner = come.owner().clone()?;
+    let name = owner.lend();
+    if set.records_at(&name).len() < MANY {
+        return set.insert(come);
+    }
+    let mut held = set.take_at(&name)?;
+    put_among(&mut held, come)?;
+    set.replace_at(&name, held)
+}
+
+/// Takes a record out of others in order.
+fn take_among(records: &mut Vec<Record, Heap>, gone: &Record)
+    requires { is_ordered records.old.items ≡ true }
+    ensures { records.new.items ≡ without gone.now records.old.items }
+{
+    if let Ok(at) = find_record(records, gone, None) {
+        records.remove(at);
+    }
+}
+
+/// Takes a record out. Of a name that owns many, none is copied but what another set shares.
 fn take_out<I: ZoneIndex>(set: &mut I, gone: Record) -> Result<(), AllocError>
     ensures { OnOk result (I.records set.new ≡ without gone (I.records set.old)) }
 {
-    set.remove(&gone)?;
-    Ok(())
+    let name = gone.owner().lend();
+    if set.records_at(&name).len() < MANY {
+        set.remove(&gone)?;
+        return Ok(());
+    }
+    let mut held = set.take_at(&name)?;
+    take_among(&mut held, &gone);
+    set.replace_at(&name, held)
 }
 
 /// Takes the records of a name and a type out.
@@ -165,7 +210,7 @@ fn add<I: ZoneIndex>(set: &mut I, come: Record) -> Result<(), AllocError>
         }
         return Ok(());
     }
-    set.insert(come)
+    put_in(set, come)
 }
 
 /// Whether the record goes where an RRset is deleted, or all records of a name.

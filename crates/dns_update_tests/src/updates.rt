@@ -123,7 +123,7 @@ fn updates_of_a_zone(rt: HostRuntime) -> Result<(), Fail> {
     Ok(())
 }
 
-/// Updates with prerequisites that list RRsets, the first a part of one, and what becomes of them.
+/// Longer updates: with prerequisites that list RRsets, the first a part of one, and with many records of one name.
 const LONG: &[(&str, &str, Told)] = &[
     (
         "00020002",
@@ -135,11 +135,17 @@ const LONG: &[(&str, &str, Told)] = &[
         "05686f737431c00c00010001000000000004c0000201c01900ff00ff000000000000c0190010000100000e100002017805686f737432c00c000100010000003c0004c0000203",
         Told::Accepted(1, 2, 8),
     ),
+    // nine addresses to the one of a name, and two of them taken out again
+    (
+        "0000000b",
+        "05686f737431c00c000100010000003c0004c0000202c019000100010000003c0004c0000203c019000100010000003c0004c0000204c019000100010000003c0004c0000205c019000100010000003c0004c0000206c019000100010000003c0004c0000207c019000100010000003c0004c0000208c019000100010000003c0004c0000209c019000100010000003c0004c000020ac019000100fe000000000004c0000203c019000100fe000000000004c000020a",
+        Told::Accepted(0, 7, 8),
+    ),
 ];
 
 // Each of them.
 #[test]
-fn updates_with_prerequisites(rt: HostRuntime) -> Result<(), Fail> {
+fn longer_updates(rt: HostRuntime) -> Result<(), Fail> {
     let alloc = heap(rt.alloc())?;
     for (counts, items, expected) in LONG {
         assert!(rt; verdict(alloc, counts, items) == Some(*expected), "{items}");

@@ -7,6 +7,13 @@ use dns_records::Record;
 use dns_zone::find_record;
 use std::alloc::AllocError;
 
+/// Copies of the records.
+pub(crate) fn copies_of(alloc: Heap, held: &[Record]) -> Result<Vec<Record, Heap>, AllocError>
+    ensures { IfOk result (λ records. records.items ≡ held.now) }
+{
+    held.to_vec(alloc)
+}
+
 /// The records with one more, or with one in place of that of equal owner, type and data.
 pub(crate) fn with_record(
     alloc: Heap,

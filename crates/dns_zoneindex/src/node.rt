@@ -145,6 +145,13 @@ impl Node {
         self.records.as_slice()
     }
 
+    /// The records that the name owns, to be shared.
+    pub(crate) fn share_records(&self) -> Result<Rc<Vec<Record, Heap>, Heap>, AllocError>
+        ensures { IfOk result (λ shared. shared.value.items ≡ here_of self.now.own) }
+    {
+        Ok(self.records.clone()?)
+    }
+
     /// How many records stand at and under the name: at least one, or the name would not be kept.
     pub(crate) fn count(&self) -> usize
         ensures own { result ≡ length self.now.own }

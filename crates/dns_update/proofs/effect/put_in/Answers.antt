@@ -1,0 +1,36 @@
+use Rattle.std.proofs.Common.{◌≡◌, true, List, sym, ap, subst, ◌∙◌}
+use Rattle.dns_records.specs.Record.{Record}
+use Rattle.dns_zone.specs.Records.{are_of, is_ordered, others, put, united}
+use Rattle.dns_zone.proofs.Replaced.{at_ordered}
+use Rattle.dns_update.proofs.Found.{done_at}
+use Rattle.dns_update.proofs.InPlace.{put_back, put_order, put_owned}
+use Rattle.dns_update.proofs.effect.put_in.Goals as goal
+
+pub put_among-requires : goal.put_among-requires
+put_among-requires g c =
+    let set = c.args.set.now in
+    subst (λ (xs : List Record). is_ordered xs ≡ true) (sym c.in_ok-held.ensures.taken) (at_ordered (g.I.ZoneIndex.records set) c.lend-name.result (g.met.I.ZoneIndex.ordered set))
+
+pub replace_at-requires-clause-order : goal.replace_at-requires-clause-order
+replace_at-requires-clause-order g c =
+    let set = c.args.set.now in
+    let there = c.in_ok-put_among.ensures ∙ ap (put c.args.come) c.in_ok-held.ensures.taken in
+    subst (λ (xs : List Record). is_ordered xs ≡ true) (sym there) (put_order c.lend-name.result c.args.come (g.I.ZoneIndex.records set) (g.met.I.ZoneIndex.ordered set))
+
+pub replace_at-requires-clause-owned : goal.replace_at-requires-clause-owned
+replace_at-requires-clause-owned g c =
+    let name = c.lend-name.result in
+    let is = c.lend-name.ensures ∙ c.in_ok-owner.ensures.cases ∙ c.owner.ensures in
+    let there = c.in_ok-put_among.ensures ∙ ap (put c.args.come) c.in_ok-held.ensures.taken in
+    subst (λ (xs : List Record). are_of name xs ≡ true) (sym there) (put_owned name c.args.come (g.I.ZoneIndex.records c.args.set.now) is)
+
+pub returns : goal.returns
+returns g c =
+    let set = c.args.set.now in
+    let xs = g.I.ZoneIndex.records set in
+    let name = c.lend-name.result in
+    let come = c.args.come in
+    let there = c.in_ok-put_among.ensures ∙ ap (put come) c.in_ok-held.ensures.taken in
+    let left = c.in_ok-held.ensures.left in
+    done_at c.replace_at.result (g.I.ZoneIndex.records c.replace_at.new.self) (united (others (g.I.ZoneIndex.records c.take_at.new.self) name) c.put_among.new.records.items) (put come xs) c.replace_at.ensures.ok
+    ((λ i. united (others (left i) name) (there i)) ∙ put_back name come xs (g.met.I.ZoneIndex.ordered set))
