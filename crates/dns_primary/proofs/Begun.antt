@@ -1,6 +1,6 @@
 -- Zones and settings of one length have a machine to which nothing has happened.
 use Rattle.std.proofs.Common.{◌≡◌, ℕ, Bool, true, false, List, [], ◌∷◌, length, take, refl, arith}
-use Rattle.std.specs.Prelude.{IsTrue, ◌↔◌}
+use Rattle.std.specs.Prelude.{IsTrue, None, ◌↔◌}
 use Rattle.std.specs.Bool.{Decides}
 use Rattle.std.specs.List.{Any, list_any}
 use Rattle.std.specs.Str.{bytes_eq}
@@ -43,12 +43,14 @@ abbrev begun : Zone → ZoneSettings → ZoneState
 begun zone settings = record {
   setting = record {
     shape = record { apex = zone.apex; snapshot = settings.snapshot; journal = settings.journal };
+    keep = settings.keep;
     may_update = allows settings.update.items;
   };
   loaded = zone.records;
   shown = [];
   staged = [];
   base = 0;
+  second = None;
   closed = false;
 }
 
@@ -62,11 +64,12 @@ all_begun (z ∷ zones) (s ∷ settings) e =
       (
         record {
           shape = refl;
-          set = record { update = allows_is s.update.items };
+          set = record { keep = refl; update = allows_is s.update.items };
           loaded = refl;
           shown = refl;
           staged = refl;
           base = refl;
+          second = refl;
           opened = refl;
         },
         rest.1,

@@ -1,6 +1,6 @@
 -- A flush of the machine's zones, and of what their stores keep.
 use Rattle.std.proofs.Common.{◌≡◌, ◌≤◌, arith, ℕ, zero, suc, Bool, true, false, List, [], ◌∷◌, ◌++◌, length, map, take, drop, refl, sym, ◌∙◌, ap, subst}
-use Rattle.std.specs.Prelude.{Some, None, slice_get, IsTrue, ◌↔◌, ◌||◌, if◌then◌else◌}
+use Rattle.std.specs.Prelude.{Some, None, Option, slice_get, IsTrue, ◌↔◌, ◌||◌, if◌then◌else◌}
 use Rattle.std.proofs.lemmas.List.{map-append}
 use Rattle.dns_records.specs.Record.{Record}
 use Rattle.dns_store.specs.Versions.{Kept}
@@ -14,15 +14,15 @@ use Rattle.dns_primary.specs.declared.primary.ZoneSettings.{ZoneSettings}
 use Rattle.dns_policy.specs.Prefix.{IsAllowed}
 use Rattle.dns_held.specs.Each.{Each2}
 
-case : (f : Bool) (s : Setting) (l : List Record) (shown staged : List Made) (base : ℕ) (closed : Bool)
-    → kept_of (flushed_zone f (record { setting = s; loaded = l; shown = shown; staged = staged; base = base; closed = closed })) ≡ held.flushed f (kept_of (record { setting = s; loaded = l; shown = shown; staged = staged; base = base; closed = closed }))
-case f s l shown staged base true = refl
-case f s l shown [] base false = refl
-case true s l shown (m ∷ staged) base false = refl
-case false s l shown (m ∷ staged) base false = λ i. record { shape = s.shape; loaded = l; shown = map-append (λ (x : Made). x.records) shown (m ∷ staged) i; staged = []; base = base; second = None; closed = false }
+case : (f : Bool) (s : Setting) (l : List Record) (shown staged : List Made) (base : ℕ) (second : Option ℕ) (closed : Bool)
+    → kept_of (flushed_zone f (record { setting = s; loaded = l; shown = shown; staged = staged; base = base; second = second; closed = closed })) ≡ held.flushed f (kept_of (record { setting = s; loaded = l; shown = shown; staged = staged; base = base; second = second; closed = closed }))
+case f s l shown staged base second true = refl
+case f s l shown [] base second false = refl
+case true s l shown (m ∷ staged) base second false = refl
+case false s l shown (m ∷ staged) base second false = λ i. record { shape = s.shape; loaded = l; shown = map-append (λ (x : Made). x.records) shown (m ∷ staged) i; staged = []; base = base; second = second; closed = false }
 
 pub kept_flushed : (f : Bool) (z : ZoneState) → kept_of (flushed_zone f z) ≡ held.flushed f (kept_of z)
-kept_flushed f z = case f z.setting z.loaded z.shown z.staged z.base z.closed
+kept_flushed f z = case f z.setting z.loaded z.shown z.staged z.base z.second z.closed
 
 pub kept_flushed_all : (fails : List Bool) (zs : List ZoneState) → map kept_of (flushed_zones fails zs) ≡ held.flushed_to fails (map kept_of zs)
 kept_flushed_all [] zs = refl
@@ -65,4 +65,4 @@ flushed_settings ss [] zs each = each
 flushed_settings [] (f ∷ fails) [] each = each
 flushed_settings (s ∷ ss) (f ∷ fails) [] each = absurd each
 flushed_settings [] (f ∷ fails) (z ∷ zs) each = absurd each
-flushed_settings (s ∷ ss) (f ∷ fails) (z ∷ zs) each = (record { update = λ a. subst (λ (t : Setting). IsTrue (t.may_update a) ↔ IsAllowed s.update.items a) (sym (setting_stays f z)) (each.0.update a) }, flushed_settings ss fails zs each.1)
+flushed_settings (s ∷ ss) (f ∷ fails) (z ∷ zs) each = (record { keep = each.0.keep ∙ ap (λ (t : Setting). t.keep) (sym (setting_stays f z)); update = λ a. subst (λ (t : Setting). IsTrue (t.may_update a) ↔ IsAllowed s.update.items a) (sym (setting_stays f z)) (each.0.update a) }, flushed_settings ss fails zs each.1)

@@ -1,5 +1,6 @@
 -- Worked examples: one zone with an update that waits for a flush.
 use Rattle.std.proofs.Common.{◌≡◌, true, false, [], ◌∷◌, refl}
+use Rattle.std.specs.Prelude.{None}
 use Rattle.dns_wire.specs.Message.{Header, Message}
 use Rattle.dns_primary.specs.declared.event.To.{To}
 use Rattle.dns_primary.specs.declared.event.To.TheVariants.{Connection}
@@ -12,7 +13,7 @@ module _ (update : Message) (header : Header) (setting : Setting) where
   made = record { update = update; records = [] }
 
   abbrev zone : ZoneState
-  zone = record { setting = setting; loaded = []; shown = []; staged = made ∷ []; base = 0; closed = false }
+  zone = record { setting = setting; loaded = []; shown = []; staged = made ∷ []; base = 0; second = None; closed = false }
 
   abbrev reply : To → Waits
   reply to = record { to = to; header = header; rcode = 0; zone = 0; updates = made ∷ [] }

@@ -18,6 +18,7 @@ pub record IsLoaded (zone : Zone) (settings : ZoneSettings) (z : ZoneState) : Ty
   pub shown : z.shown ≡ []
   pub staged : z.staged ≡ []
   pub base : z.base ≡ 0
+  pub second : z.second ≡ None
   pub opened : z.closed ≡ false
 
 -- What a store keeps that is in memory alone.

@@ -37,8 +37,9 @@ pub record IsWaiting (w : Waiting) (stated : Waits) : Type 0 where
   pub rcode : number_of_rcode w.rcode ≡ stated.rcode
   pub zone : w.zone ≡ stated.zone
 
--- The addresses from which a zone may be updated are those that its list allows.
+-- A checkpoint keeps so many changes, and the addresses from which a zone may be updated are those that its list allows.
 pub record IsSet (s : ZoneSettings) (z : ZoneState) : Type 0 where
+  pub keep : s.keep ≡ z.setting.keep
   pub update : (a : IpAddr) → IsTrue (z.setting.may_update a) ↔ IsAllowed s.update.items a
 
 -- What is shown, what stands behind it, what waits and the connections are those of the machine, whatever older versions there

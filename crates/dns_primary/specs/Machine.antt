@@ -9,9 +9,11 @@ use Rattle.dns_held.specs.Held.{shown_zone}
 use Rattle.dns_primary.specs.declared.event.Peer.{Peer}
 use Rattle.dns_primary.specs.declared.event.To.{To}
 
--- What is configured of a zone: its apex, the sizes of its store, and from which addresses it may be updated.
+-- What is configured of a zone: its apex, the sizes of its store, how many changes a checkpoint keeps at most, and from which
+-- addresses it may be updated.
 pub record Setting : Type 0 where
   pub shape : Shape
+  pub keep : ℕ
   pub may_update : IpAddr → Bool
 
 -- An accepted update, and the records that it left.
@@ -20,13 +22,15 @@ pub record Made : Type 0 where
   pub records : List Record
 
 -- A zone: its records as loaded, the updates of the version that is shown, and those staged behind it. `base` is the number of
--- the version that its journal begins at. Where its device failed it is closed.
+-- the version that its journal begins at; `second` is that of another, which a checkpoint left that failed. Where its device failed
+-- it is closed.
 pub record ZoneState : Type 0 where
   pub setting : Setting
   pub loaded : List Record
   pub shown : List Made
   pub staged : List Made
   pub base : ℕ
+  pub second : Option ℕ
   pub closed : Bool
 
 abbrev pub updates_of : ZoneState → List Made
@@ -43,7 +47,7 @@ kept_of z = record {
   shown = versions_of z.shown;
   staged = versions_of z.staged;
   base = z.base;
-  second = None;
+  second = z.second;
   closed = z.closed;
 }
 

@@ -17,6 +17,8 @@ pub struct ZoneSettings {
     pub snapshot: u32,
     /// How many sectors there are for a journal.
     pub journal: u32,
+    /// How many changes a checkpoint keeps at most.
+    pub keep: u32,
     /// From which addresses the zone may be updated.
     pub update: Vec<Prefix, Heap>,
 }

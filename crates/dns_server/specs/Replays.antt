@@ -62,17 +62,20 @@ origins_of settings = map (λ (z : ZoneSettings). z.origin) settings
 pub record IsSettingOf (settings : ZoneSettings) (known : primary.ZoneSettings) : Type 0 where
   pub snapshot : known.snapshot ≡ settings.snapshot_sectors
   pub journal : known.journal ≡ settings.journal_sectors
+  pub keep : known.keep ≡ settings.keep
   pub update : known.update.items ≡ settings.update.items
 
 -- A zone as it was loaded, with what is configured of it: no update was accepted.
 pub record IsBegun (settings : ZoneSettings) (zone : Zone) (z : ZoneState) : Type 0 where
   pub shape : z.setting.shape
       ≡ record { apex = zone.apex; snapshot = settings.snapshot_sectors; journal = settings.journal_sectors }
+  pub keep : z.setting.keep ≡ settings.keep
   pub update : (a : IpAddr) → IsTrue (z.setting.may_update a) ↔ IsAllowed settings.update.items a
   pub loaded : z.loaded ≡ zone.records
   pub shown : z.shown ≡ []
   pub staged : z.staged ≡ []
   pub base : z.base ≡ 0
+  pub second : z.second ≡ None
   pub opened : z.closed ≡ false
 
 -- The machine of these zones, to which nothing has happened.

@@ -84,6 +84,7 @@ fn setting_of(heap: Heap, zone: &ZoneSettings) -> Result<dns_primary::ZoneSettin
     Ok(dns_primary::ZoneSettings {
         snapshot: zone.snapshot_sectors,
         journal: zone.journal_sectors,
+        keep: zone.keep,
         update: Vec::from_slice(heap, &zone.update)?,
     })
 }

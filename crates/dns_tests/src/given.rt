@@ -121,6 +121,7 @@ pub(crate) fn primary(heap: Heap) -> Result<Primary<RecordList, Unkept>, Fail> {
     settings.push(ZoneSettings {
         snapshot: 8,
         journal: 8,
+        keep: 4,
         update: Vec::new(heap),
     })?;
     if zones.len() != settings.len() {
