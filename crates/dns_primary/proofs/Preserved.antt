@@ -1,6 +1,6 @@
 -- Each event keeps what every step keeps.
-use Rattle.std.proofs.Common.{◌≡◌, ℕ, Bool, true, false, inl, inr, List, [], ◌∷◌, ◌++◌, length, map, Option, Some, None, refl, sym, ap, subst, ◌∙◌, append-nil}
-use Rattle.std.specs.Prelude.{slice_get, not, filter, ◌==◌, ◌&&◌, nat_le, nat_lt, if◌then◌else◌}
+use Rattle.std.proofs.Common.{◌≡◌, ℕ, Bool, inl, inr, List, [], ◌∷◌, ◌++◌, map, Option, Some, None, refl, sym, ap, subst}
+use Rattle.std.specs.Prelude.{slice_get, not, ◌==◌, nat_le, if◌then◌else◌}
 use Rattle.std.specs.List.{AllByRecursion}
 use Rattle.dns_records.specs.Record.{Record}
 use Rattle.dns_wire.specs.Message.{header_of}
@@ -10,25 +10,21 @@ use Rattle.dns_request.specs.Request.{rcode_formerr, rcode_refused, rcode_notimp
 use Rattle.dns_records.specs.Types.{type_soa, class_in}
 use Rattle.dns_answer.specs.Answer.{Handled, NoReply, Replies, Update, Transfer, bare_reply}
 use Rattle.dns_update.specs.Verdict.{Verdict, Refuses, Keeps, Leaves, verdict}
-use Rattle.dns_zone.specs.Zone.{Zone}
 use Rattle.dns_store.specs.Versions.{newest_of}
 use Rattle.dns_store.specs.Room.{entry_between, sectors_left}
-use Rattle.dns_held.specs.Each.{Each3}
 use Rattle.dns_held.specs.Held.{newest_zone}
 use Rattle.dns_held.specs.Staging.{has_room}
 use Rattle.dns_primary.specs.declared.event.Peer.{Peer}
 use Rattle.dns_primary.specs.declared.event.To.{To}
 use Rattle.dns_primary.specs.declared.event.To.TheVariants as to
-use Rattle.dns_primary.specs.Machine.{Made, ZoneState, Waits, Machine, kept_of, updates_of, peer_at}
+use Rattle.dns_primary.specs.Machine.{ZoneState, Waits, Machine, kept_of, updates_of, peer_at}
 use Rattle.dns_primary.specs.Flush.{Sent, Replied, rcode_servfail, flushed, flush_sends}
 use Rattle.dns_primary.specs.Connections.{connected, closed, without_connection}
 use Rattle.dns_primary.specs.Update.{Asked, Admission, Rejects, Admits, rcode_notauth, place_of, admission_in, admission_at, admission, waits, stages, replies, accepted_in, judged_in, admitted, is_full, made_place, updated}
-use Rattle.dns_primary.specs.Step.{Event, Datagram, Connect, Arrives, Flush, Closed, Effects, AreFailures, Gives, IsUpdated, IsServed, IsArrived, Goes, Lacks, Step, is_asking, failure, failure_on, failures}
-use Rattle.dns_primary.specs.declared.primary.ZoneSettings.{ZoneSettings}
-use Rattle.dns_primary.specs.Fresh.{IsLoaded, IsFresh}
-use Rattle.dns_primary.specs.Runs.{Moment, Run, last_of, AllLast, IsTrueIn, StaysTrue, IsHistory, HasHistory, Promise}
-use Rattle.dns_primary.proofs.Zonewise.{tested, all_last_same, all_last_on}
-use Rattle.dns_primary.proofs.Sound.{IsPlaced, IsSound, Preserves, all_true_over, all_with, stays, and_then, with_reply, flush_preserves, wait_preserves, stage_preserves}
+use Rattle.dns_primary.specs.Step.{Event, Datagram, Connect, Arrives, Flush, Closed, Effects, AreFailures, Gives, IsServed, IsArrived, Goes, Lacks, Step, is_asking, failure, failure_on, failures}
+use Rattle.dns_primary.specs.Runs.{IsTrueIn}
+use Rattle.dns_primary.proofs.Zonewise.{tested, all_last_same}
+use Rattle.dns_primary.proofs.Sound.{IsPlaced, IsSound, Preserves, all_with, stays, and_then, with_reply, flush_preserves, wait_preserves, stage_preserves}
 
 abbrev Carries : Machine → Machine × List Sent → Type 0
 Carries old p = Preserves old p.0 p.1
@@ -178,32 +174,3 @@ lacks_goes fails old event effects new s l = elim (l.stays) [
 pub step_preserves : (fails : List Bool) (old : Machine) (event : Event) (effects : Effects) (new : Machine) → IsSound old → Step fails old event effects new → Preserves old new effects.sent
 step_preserves fails old event effects new s (inl g) = event_goes fails old event effects new s g
 step_preserves fails old event effects new s (inr l) = lacks_goes fails old event effects new s l
-
--- whole runs
-pub run_keeps : (start : Machine) (run : List Moment) → IsSound start → Run start run → Promise start run
-run_keeps start [] s r = record { loaded = all_last_same start.zones; history = s.zones; moments = tt }
-run_keeps start (t ∷ rest) s r =
-    let step = step_preserves t.fails start t.event t.effects t.after s r.0 in
-    let later = run_keeps t.after rest step.sound r.1 in
-    record {
-      loaded = all_last_on start.zones (t.after).zones (last_of t.after rest).zones step.lasts later.loaded;
-      history = later.history;
-      moments = (record { shown = later.loaded; answered = all_true_over (t.after).zones (last_of t.after rest).zones later.loaded (t.effects).sent step.good }, later.moments);
-    }
-
--- a machine to which nothing has happened
-fresh_history : (zones : List Zone) (settings : List ZoneSettings) (states : List ZoneState) → Each3 IsLoaded zones settings states → AllByRecursion HasHistory states
-fresh_history [] [] [] h = tt
-fresh_history (z ∷ zones) (s ∷ settings) (m ∷ states) h =
-    let none : updates_of m ≡ [] = ap (λ (ms : List Made). ms ++ m.staged) (h.0).shown ∙ (h.0).staged in
-    (subst (λ (us : List Made). IsHistory m.setting.shape.apex m.loaded us) (sym none) tt, fresh_history zones settings states h.1)
-fresh_history _ _ _ h = absurd h
-
-fresh_sound : (zones : List Zone) (settings : List ZoneSettings) (m : Machine) → IsFresh zones settings m → IsSound m
-fresh_sound zones settings m f = record {
-  zones = fresh_history zones settings m.zones f.zones_are;
-  waiting = subst (λ (ws : List Waits). AllByRecursion (IsPlaced m.zones) ws) (sym f.waiting) tt;
-}
-
-pub fresh_keeps : (zones : List Zone) (settings : List ZoneSettings) (start : Machine) (run : List Moment) → IsFresh zones settings start → Run start run → Promise start run
-fresh_keeps zones settings start run f r = run_keeps start run (fresh_sound zones settings start f) r

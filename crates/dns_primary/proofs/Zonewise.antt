@@ -1,5 +1,5 @@
 -- Zones before and after an event: what each pair of them keeps.
-use Rattle.std.proofs.Common.{◌≡◌, ℕ, zero, suc, Bool, true, false, ◌||◌, ◌⊎◌, inl, inr, List, [], ◌∷◌, ◌++◌, length, Some, refl, sym, ap, subst, ◌∙◌, append_assoc, append-nil}
+use Rattle.std.proofs.Common.{◌≡◌, ℕ, zero, suc, Bool, true, false, ◌||◌, ◌⊎◌, inl, inr, List, [], ◌∷◌, ◌++◌, Some, refl, sym, ap, subst, ◌∙◌, append_assoc, append-nil}
 use Rattle.std.specs.Prelude.{slice_get, slice_set, if◌then◌else◌}
 use Rattle.std.specs.List.{AllByRecursion}
 use Rattle.dns_names.specs.Name.{Labels}
@@ -8,7 +8,7 @@ use Rattle.dns_update.specs.Verdict.{Leaves, verdict}
 use Rattle.dns_store.specs.Versions.{newest_after, newest_of}
 use Rattle.dns_held.specs.Each.{Each2}
 use Rattle.dns_primary.specs.Machine.{ZoneState, Made, kept_of, updates_of, versions_of}
-use Rattle.dns_primary.specs.Flush.{is_none_made, flushed_zone, flushed_zones}
+use Rattle.dns_primary.specs.Flush.{is_none_made, flushed_zone}
 use Rattle.dns_primary.specs.Runs.{IsHistory, HasHistory, Lasts, AllLast}
 
 -- a test of a case

@@ -4,6 +4,7 @@ pub mod Flush
 pub mod Update
 pub mod Connections
 pub mod Step
+pub mod Stop
 pub mod Keeps
 pub mod Outcome
 pub mod Queue

@@ -1,5 +1,5 @@
 -- Runs of the machine, and what holds of every one.
-use Rattle.std.specs.Prelude.{◌≡◌, ℕ, Bool, List, [], ◌∷◌, ◌++◌, slice_get, Some}
+use Rattle.std.specs.Prelude.{◌≡◌, Bool, List, [], ◌∷◌, ◌++◌, slice_get, Some}
 use Rattle.std.specs.List.{AllByRecursion, Contains}
 use Rattle.dns_records.specs.Record.{Record}
 use Rattle.dns_names.specs.Name.{Labels}
@@ -8,22 +8,37 @@ use Rattle.dns_held.specs.Each.{Each2}
 use Rattle.dns_primary.specs.Machine.{Made, ZoneState, Waits, Machine, updates_of}
 use Rattle.dns_primary.specs.Flush.{Sent, Answered, Replied, released}
 use Rattle.dns_primary.specs.Step.{Event, Effects, Step}
+use Rattle.dns_primary.specs.Stop.{IsStopped}
 
--- One event of a run: the devices that failed, what went out, and the machine after it.
-pub record Moment : Type 0 where
-  pub event : Event
-  pub fails : List Bool
-  pub effects : Effects
-  pub after : Machine
+-- What happens in a run: a step, of which are told the event, the devices that failed, what went out, and the machine after it. Or a
+-- stop within an event, of which are told the machines that recoveries would have led to which were themselves stopped or refused,
+-- as often as that was so, and the one that a recovery led to which succeeded.
+pub data Moment : Type 0 where
+  Took : Event → List Bool → Effects → Machine → Moment
+  Stopped : Event → List Machine → Machine → Moment
 
--- Each event is a step of the machine that the events before it left.
+abbrev pub after : Moment → Machine
+after (Took event fails effects new) = new
+after (Stopped event tries new) = new
+
+-- What went out. A stop tells nothing.
+abbrev pub sent_in : Moment → List Sent
+sent_in (Took event fails effects new) = effects.sent
+sent_in (Stopped event tries new) = []
+
+-- An event is a step of the machine. A recovery that is stopped or refused leaves the choices that the stop left.
+abbrev pub Happens : Machine → Moment → Type 0
+Happens m (Took event fails effects new) = Step fails m event effects new
+Happens m (Stopped event tries new) = AllByRecursion (IsStopped m event) tries × IsStopped m event new
+
+-- Each of these happens to the machine that those before it left.
 abbrev pub Run : Machine → List Moment → Type 0
 Run m [] = Unit {0}
-Run m (t ∷ rest) = Step t.fails m t.event t.effects t.after × Run t.after rest
+Run m (t ∷ rest) = Happens m t × Run (after t) rest
 
 abbrev pub last_of : Machine → List Moment → Machine
 last_of m [] = m
-last_of m (t ∷ rest) = last_of t.after rest
+last_of m (t ∷ rest) = last_of (after t) rest
 
 -- Each update was accepted where it came: the verdict on it, judged on the records that the one before it left, leaves its records
 -- (RFC 2136 3).
@@ -58,10 +73,10 @@ abbrev pub IsTrueIn : List ZoneState → Sent → Type 0
 IsTrueIn zones (Answered w rcode) = rcode ≡ 0 → IsDurable zones w
 IsTrueIn zones (Replied to octets) = Unit {0}
 
--- What was shown after an event, and what the event answered, is true of these zones.
+-- What was shown after a moment, and what was answered in it, is true of these zones.
 pub record StaysTrue (zones : List ZoneState) (t : Moment) : Type 0 where
-  pub shown : AllLast t.after.zones zones
-  pub answered : AllByRecursion (IsTrueIn zones) t.effects.sent
+  pub shown : AllLast (after t).zones zones
+  pub answered : AllByRecursion (IsTrueIn zones) (sent_in t)
 
 -- What waited before an event goes out with the code that it waited with, or with SERVFAIL where its zone is closed after the
 -- event.
@@ -69,9 +84,9 @@ abbrev pub IsReleasedFrom : Machine → Machine → Sent → Type 0
 IsReleasedFrom old new (Answered w rcode) = Contains old.waiting w × (released new.zones w ≡ Answered w rcode)
 IsReleasedFrom old new (Replied to octets) = Unit {0}
 
--- At the end of a run each zone is its loaded records after accepted updates, each judged on what the ones before it left, and the
--- version that is shown is after the first of them; among these are all that was shown and all that was answered NOERROR at any
--- moment of the run.
+-- At the end of a run, however often the machine stopped in it, each zone is its loaded records after accepted updates, each judged
+-- on what the ones before it left, and the version that is shown is after the first of them; among these are all that was shown and
+-- all that was answered NOERROR at any moment of the run.
 pub record Promise (start : Machine) (run : List Moment) : Type 0 where
   pub loaded : AllLast start.zones (last_of start run).zones
   pub history : AllByRecursion HasHistory (last_of start run).zones

@@ -1,20 +1,38 @@
 //! What holds of every run of the machine.
-ghost use Rattle.std.specs.Prelude.{◌≡◌, ◌≢◌, Bool, List, length};
+ghost use Rattle.std.specs.Prelude.{◌≡◌, ◌≢◌, ℕ, Bool, List, length};
 ghost use Rattle.std.specs.List.{AllByRecursion};
 ghost use Rattle.dns_zone.specs.Zone.{Zone as StatedZone};
-ghost use Rattle.dns_primary.specs.Machine.{Machine};
+ghost use Rattle.dns_store.specs.Versions.{OpensAsLeft};
+ghost use Rattle.dns_store.specs.Opens.{opens};
+ghost use Rattle.dns_held.specs.Checkpoint.{IsNextBase, OpensAsCheckpointed};
+ghost use Rattle.dns_primary.specs.Machine.{Machine, ZoneState, kept_of};
 ghost use Rattle.dns_primary.specs.Step.{Effects as StatedEffects, Event as StatedEvent, Step};
+ghost use Rattle.dns_primary.specs.Stop.{OpensAsRecovered};
 ghost use Rattle.dns_primary.specs.Fresh.{IsFresh};
 ghost use Rattle.dns_primary.specs.Causes.{HaveCauses};
 ghost use Rattle.dns_primary.specs.declared.event.Noted.TheVariants.{OutOfMemory};
 ghost use Rattle.dns_primary.specs.Runs.{IsReleasedFrom, Moment, Run, Promise};
 ghost use Rattle.dns_primary.specs.declared.primary.ZoneSettings.{ZoneSettings as StatedSettings};
 
-/// Whatever events come, whatever devices fail and whenever memory is refused: what was shown stays shown, what was answered
-/// NOERROR stays, and each version comes of updates that were accepted in order (RFC 2136 section 3).
+/// Whatever events come, whatever devices fail, whenever memory is refused, and however often the machine stops, within an event
+/// and within the recovery behind it: after recovery each zone is its loaded records after accepted updates, in order, each judged on
+/// what the one before it left (RFC 2136 section 3). They hold every update that was ever answered NOERROR, and every version that
+/// was ever shown.
+///
+/// It says what follows for whole runs from the machine's single moments. That the code makes those moments is what the clauses of
+/// `step`, `open` and `into_devices` say; `stop_law` ties their words to the machine's stop.
 pub fn versions_law()
     ensures { (zones : List StatedZone) (settings : List StatedSettings) (start : Machine) (run : List Moment)
         → IsFresh zones settings start → Run start run → Promise start run }
+{}
+
+/// What a crash leaves of a zone's device is what the machine's stop leaves of the zone: the version that was shown and some of the
+/// updates staged behind it, in order, and a base that it had or that was being made.
+pub fn stop_law()
+    ensures left { (making : ℕ → Type 0) (z : ZoneState) (c : List (List ℕ)) → OpensAsLeft opens (kept_of z) c
+        → OpensAsRecovered opens making z c }
+    ensures moved { (keep room : ℕ) (z : ZoneState) (c : List (List ℕ)) → OpensAsCheckpointed opens keep room (kept_of z) c
+        → OpensAsRecovered opens (IsNextBase keep room (kept_of z)) z c }
 {}
 
 /// The reply to an update that was judged goes out at a later event than it was judged at, with the code of its judgement, or with

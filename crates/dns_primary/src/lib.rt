@@ -15,5 +15,5 @@ mod unkept;
 mod update;
 
 pub use event::{Effects, Event, HeaderTo, Noted, Peer, Reply, ReplyOctets, To, Waiting};
-pub use laws::{fresh_law, replies_wait_law, servfail_law, versions_law};
+pub use laws::{fresh_law, replies_wait_law, servfail_law, stop_law, versions_law};
 pub use primary::{Primary, ZoneSettings};

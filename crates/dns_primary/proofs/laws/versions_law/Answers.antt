@@ -1,4 +1,4 @@
-use Rattle.dns_primary.proofs.Preserved.{fresh_keeps}
+use Rattle.dns_primary.proofs.Stopping.{fresh_keeps}
 use Rattle.dns_primary.proofs.laws.versions_law.Goals as goal
 
 pub returns : goal.returns
