@@ -7,8 +7,9 @@ use Rattle.dns_store.specs.Versions.{Versions, Shape, Kept, Opened, IsLeftOf, Op
 use Rattle.dns_store.specs.Opens.{opens}
 use Rattle.dns_held.specs.Flush.{flushed, is_none_staged}
 use Rattle.dns_held.specs.Checkpoint.{IsNextBase, OpensAsCheckpointed}
-use Rattle.dns_primary.specs.Machine.{Made, ZoneState, kept_of, versions_of}
-use Rattle.dns_primary.specs.Stop.{IsRecovered, OpensAsRecovered, opened_of}
+use Rattle.dns_primary.specs.Machine.{Made, ZoneState, Machine, kept_of, versions_of}
+use Rattle.dns_primary.specs.Step.{Event}
+use Rattle.dns_primary.specs.Stop.{Checkpoints, IsMaking, IsRecovered, OpensAsRecovered, opened_of}
 use Rattle.dns_primary.proofs.Zonewise.{tested, versions_joined}
 
 -- the updates whose versions are the first of some
@@ -74,6 +75,6 @@ moved_recovered z making base c made =
     let versions : o.versions ≡ versions_of z.shown ++ versions_of z.staged = left.versions ∙ ap (λ (vs : Versions). (versions_of z.shown ++ versions_of z.staged) ++ vs) none ∙ append-nil (versions_of z.shown ++ versions_of z.staged) in
     recovered_as making z o (versions_of z.staged) [] c left.loaded (sym (append-nil (versions_of z.staged))) versions (choice o.base left.base) there.2))
 
-pub checkpoint_recovered : (keep room : ℕ) (z : ZoneState) (c : Content) → OpensAsCheckpointed opens keep room (kept_of z) c → OpensAsRecovered opens (IsNextBase keep room (kept_of z)) z c
-checkpoint_recovered keep room z c (inl left) = left_recovered (IsNextBase keep room (kept_of z)) z c left
-checkpoint_recovered keep room z c (inr (base, next, left)) = moved_recovered z (IsNextBase keep room (kept_of z)) base c next left
+pub checkpoint_recovered : (m : Machine) (event : Event) (place room : ℕ) (z : ZoneState) (c : Content) → Checkpoints m event place room → OpensAsCheckpointed opens z.setting.keep room (kept_of z) c → OpensAsRecovered opens (IsMaking m event place z) z c
+checkpoint_recovered m event place room z c makes (inl left) = left_recovered (IsMaking m event place z) z c left
+checkpoint_recovered m event place room z c makes (inr (base, next, left)) = moved_recovered z (IsMaking m event place z) base c (room, makes, next) left

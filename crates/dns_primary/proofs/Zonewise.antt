@@ -130,7 +130,7 @@ pub history_more : (apex : Labels) (records : List Record) (updates : List Made)
 history_more apex records [] made h e = (e, tt)
 history_more apex records (m ∷ updates) made h e = (h.0, history_more apex m.records updates made h.1 e)
 
-versions_joined : (xs ys : List Made) → versions_of (xs ++ ys) ≡ versions_of xs ++ versions_of ys
+pub versions_joined : (xs ys : List Made) → versions_of (xs ++ ys) ≡ versions_of xs ++ versions_of ys
 versions_joined [] ys = refl
 versions_joined (x ∷ xs) ys = ap (λ (vs : List (List Record)). x.records ∷ vs) (versions_joined xs ys)
 

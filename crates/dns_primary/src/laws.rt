@@ -4,10 +4,10 @@ ghost use Rattle.std.specs.List.{AllByRecursion};
 ghost use Rattle.dns_zone.specs.Zone.{Zone as StatedZone};
 ghost use Rattle.dns_store.specs.Versions.{OpensAsLeft};
 ghost use Rattle.dns_store.specs.Opens.{opens};
-ghost use Rattle.dns_held.specs.Checkpoint.{IsNextBase, OpensAsCheckpointed};
+ghost use Rattle.dns_held.specs.Checkpoint.{OpensAsCheckpointed};
 ghost use Rattle.dns_primary.specs.Machine.{Machine, ZoneState, kept_of};
 ghost use Rattle.dns_primary.specs.Step.{Effects as StatedEffects, Event as StatedEvent, Step};
-ghost use Rattle.dns_primary.specs.Stop.{OpensAsRecovered};
+ghost use Rattle.dns_primary.specs.Stop.{Checkpoints, IsMaking, OpensAsRecovered};
 ghost use Rattle.dns_primary.specs.Fresh.{IsFresh};
 ghost use Rattle.dns_primary.specs.Causes.{HaveCauses};
 ghost use Rattle.dns_primary.specs.declared.event.Noted.TheVariants.{OutOfMemory};
@@ -27,12 +27,13 @@ pub fn versions_law()
 {}
 
 /// What a crash leaves of a zone's device is what the machine's stop leaves of the zone: the version that was shown and some of the
-/// updates staged behind it, in order, and a base that it had or that was being made.
+/// updates staged behind it, in order, and a base that it had or that the event was making.
 pub fn stop_law()
-    ensures left { (making : ℕ → Type 0) (z : ZoneState) (c : List (List ℕ)) → OpensAsLeft opens (kept_of z) c
-        → OpensAsRecovered opens making z c }
-    ensures moved { (keep room : ℕ) (z : ZoneState) (c : List (List ℕ)) → OpensAsCheckpointed opens keep room (kept_of z) c
-        → OpensAsRecovered opens (IsNextBase keep room (kept_of z)) z c }
+    ensures left { (m : Machine) (event : StatedEvent) (place : ℕ) (z : ZoneState) (c : List (List ℕ))
+        → OpensAsLeft opens (kept_of z) c → OpensAsRecovered opens (IsMaking m event place z) z c }
+    ensures moved { (m : Machine) (event : StatedEvent) (place room : ℕ) (z : ZoneState) (c : List (List ℕ))
+        → Checkpoints m event place room → OpensAsCheckpointed opens z.setting.keep room (kept_of z) c
+        → OpensAsRecovered opens (IsMaking m event place z) z c }
 {}
 
 /// The reply to an update that was judged goes out at a later event than it was judged at, with the code of its judgement, or with

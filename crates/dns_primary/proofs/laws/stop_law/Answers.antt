@@ -1,5 +1,9 @@
+use Rattle.dns_primary.specs.Stop.{IsMaking}
 use Rattle.dns_primary.proofs.Recovering.{left_recovered, checkpoint_recovered}
 use Rattle.dns_primary.proofs.laws.stop_law.Goals as goal
 
 pub returns : goal.returns
-returns c = record { left = left_recovered; moved = checkpoint_recovered }
+returns c = record {
+  left = λ m event place z content left. left_recovered (IsMaking m event place z) z content left;
+  moved = checkpoint_recovered;
+}
