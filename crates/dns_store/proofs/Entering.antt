@@ -1,17 +1,46 @@
 -- What opening leaves of the device.
-use Rattle.dns_sectors.specs.Device.{LeavesOnly}
+use Rattle.std.proofs.Common.{◌≡◌, ℕ, List, sym, subst}
+use Rattle.dns_sectors.specs.Device.{Content, LeavesOnly}
 use Rattle.dns_sectors.specs.declared.device.Sectors.{Ghosts}
 use Rattle.dns_sectors.proofs.Moments.{joined, weaker}
-use Rattle.dns_layout.specs.Store.{Stored, OpensAs, IsTidy}
+use Rattle.dns_layout.specs.Sector.{sector_at}
+use Rattle.dns_layout.specs.Forms.{SaysRoot}
+use Rattle.dns_layout.specs.Store.{Stored, OpensBy, OpensAs, IsTidy}
+use Rattle.dns_layout.specs.declared.root.Root.{Root}
 use Rattle.dns_journal.specs.Reads.{OnlyReads}
 use Rattle.dns_store.specs.Versions.{Shape, Opened}
-use Rattle.dns_store.specs.Opens.{IsPartOf, sizes_of}
-use Rattle.dns_store.specs.Opening.{MayOpen, WasPossible, OpensAsPossible}
+use Rattle.dns_store.specs.Opens.{IsPartOf, opens, sizes_of}
+use Rattle.dns_store.specs.Opening.{OpensAsPossible}
+use Rattle.dns_store.specs.Turn.{StaysStored}
+use Rattle.dns_store.proofs.Opening.{stands_first}
 
-module _ {D : Type 0} {g : Ghosts D} (shape : Shape) (old mid : D) (may : MayOpen g shape old) (honest : g.is_honest old) (reads : OnlyReads g old mid) where
+-- what was read stands by its root, in what is there now as in what was there before
+pub record Stands (shape : Shape) (old now : Content) (root : Root) (s : Stored) : Type 0 where
+  pub parts : List (List ℕ)
+  pub by : OpensBy (sizes_of shape) now (sector_at old 0) parts s
+  pub tidy : IsTidy now
+
+pub stands : (shape : Shape) (old now : Content) (root : Root) (s : Stored) → now ≡ old → OpensAs (sizes_of shape) old s → IsTidy old → Stands shape old now root s
+stands shape old now root s same is tidy =
+    let there = stands_first (sizes_of shape) old s is in
+    record { parts = there.0; by = subst (λ (e : Content). OpensBy (sizes_of shape) e (sector_at old 0) there.0 s) (sym same) there.1; tidy = subst (λ (e : Content). IsTidy e) (sym same) tidy }
+
+module _ {D : Type 0} {g : Ghosts D} (shape : Shape) (old mid : D) (honest : g.is_honest old) (reads : OnlyReads g old mid) where
   pub read_leaves : LeavesOnly g.moment g.left_since old mid (OpensAsPossible g shape old)
-  read_leaves = weaker g.moment g.left_since old mid (g.may_leave old) (OpensAsPossible g shape old) (reads.any_moment honest) (λ c left. let is = may c left in (is.0, (c, left, is.1), is.1))
+  read_leaves = weaker g.moment g.left_since old mid (g.may_leave old) (OpensAsPossible g shape old) (reads.any_moment honest) (λ c left. (c, left, λ o is. is))
 
-  pub raise_leaves : (new : D) (o : Opened) (s : Stored) → WasPossible g shape old o → IsPartOf shape.apex o s → LeavesOnly g.moment g.left_since mid new (λ c. OpensAs (sizes_of shape) c s × IsTidy c) → LeavesOnly g.moment g.left_since old new (OpensAsPossible g shape old)
-  raise_leaves new o s was part run =
-      joined g.moment g.left_since old mid new (OpensAsPossible g shape old) (λ c. OpensAs (sizes_of shape) c s × IsTidy c) read_leaves run (λ c is. (o, was, (s, is.0, is.1, part)))
+  -- the root that was read is raised
+  pub raise_leaves : (new : D) (root : Root) → g.may_leave old (g.seen old)
+      → ((o : Opened) (s : Stored) → OpensAs (sizes_of shape) (g.seen old) s → IsPartOf shape.apex o s → SaysRoot (sector_at (g.seen old) 0) root)
+      → LeavesOnly g.moment g.left_since mid new (StaysStored (g.seen mid) root)
+      → LeavesOnly g.moment g.left_since old new (OpensAsPossible g shape old)
+  raise_leaves new root left says run =
+      joined g.moment g.left_since old mid new (OpensAsPossible g shape old) (StaysStored (g.seen mid) root) read_leaves run
+      (λ c stays. (
+        g.seen old,
+        left,
+        λ o is.
+            (let there = stands shape (g.seen old) (g.seen mid) root is.0 (reads.seen honest) is.1 is.2 in
+            let now = stays (sizes_of shape) is.0 (sector_at (g.seen old) 0) there.parts there.by there.tidy (says o is.0 is.1 is.3) in
+            (is.0, now.0, now.1, is.3)),
+      ))

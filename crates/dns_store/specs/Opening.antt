@@ -41,17 +41,14 @@ pub record IsRead (sizes : Sizes) (c : Content) (o : Opened) (s : Stored) (root 
 abbrev pub IsStopped : Content → OpenError → Type 0
 IsStopped c e = (e ≡ Device) ⊎ (e ≡ OutOfMemory) ⊎ ((e ≡ Damaged 0) × (2 ^ 64 - 1 ≤ open_count (sector_at c 0)))
 
--- A crash might have left a store that opens as this.
-abbrev pub WasPossible : {D : Type 0} → Ghosts D → Shape → D → Opened → Type 0
-WasPossible g shape device o = (c : Content) × g.may_leave device c × opens shape o c
-
 -- Each crash leaves a store that opens.
 abbrev pub MayOpen : {D : Type 0} → Ghosts D → Shape → D → Type 0
 MayOpen g shape device = (c : Content) → g.may_leave device c → (o : Opened) × opens shape o c
 
--- It opens as a store that a crash might have left of the device before: a version and a base that were possible together.
+-- It opens as a content does that a crash might have left of the device before: its version and base were possible together. Which
+-- versions there were before that base stands on no device, so this holds whichever they were.
 abbrev pub OpensAsPossible : {D : Type 0} → Ghosts D → Shape → D → Content → Type 0
-OpensAsPossible g shape device c = (o : Opened) × WasPossible g shape device o × opens shape o c
+OpensAsPossible g shape device c = (d : Content) × g.may_leave device d × ((o : Opened) → opens shape o d → opens shape o c)
 
 abbrev pub store_device : {D I : Type 0} {g : Ghosts D} → KeptStore D I g → D
 store_device store = device_of store.journal
@@ -66,3 +63,8 @@ pub record IsTaken {D I : Type 0} {g : Ghosts D} (shape : Shape) (o : Opened) (s
     : Type 0 where
   pub keeps_them : keeps store (fresh shape o)
   pub newest_is : newest ≡ record { apex = shape.apex; records = newest_after o.loaded o.versions }
+
+-- The store keeps from here on what a crash might have left of the device before, whichever versions there were.
+abbrev pub TakesPossible : {D I : Type 0} {g : Ghosts D} → Shape → D → KeptStore D I g → Zone → Type 0
+TakesPossible {g} shape device store newest =
+    (d : Content) × g.may_leave device d × ((o : Opened) → opens shape o d → IsTaken shape o store newest)

@@ -5,10 +5,10 @@ ghost use Rattle.dns_layout.specs.Apex.{apex_octets};
 ghost use Rattle.dns_layout.specs.Sector.{sector_at, open_count, bank_open, snapshot_sectors as sectors_of_snapshot};
 ghost use Rattle.dns_layout.specs.Forms.{SaysRoot};
 ghost use Rattle.dns_layout.specs.Journal.{AllBehind};
-ghost use Rattle.dns_layout.specs.Store.{Shape, Stored, IsRoot, OpensBy, OpensAs, IsTidy, all_sectors};
+ghost use Rattle.dns_layout.specs.Store.{Shape, Stored, IsRoot, OpensBy, IsTidy, all_sectors};
 ghost use Rattle.dns_journal.specs.Reads.{OnlyReads, HasRisen};
 ghost use Rattle.dns_store.specs.Root.{IsFoundRoot, RootRefusal};
-ghost use Rattle.dns_store.specs.Turn.{IsRaised};
+ghost use Rattle.dns_store.specs.Turn.{IsRaised, StaysStored};
 
 use dns_journal::{ReadError, read_sector};
 use dns_layout::{Apex, Root, snapshot_sectors};
@@ -150,10 +150,8 @@ fn is_of_shape(root: &Root, apex: &Apex, snapshot: u32, journal: u32) -> bool
 pub(crate) fn raise_root<D: Sectors>(device: &mut D, root: &mut Root) -> Result<(), DeviceError>
     requires count { 0 < D.count device.old }
     requires more { root.old.open_count < 2 ^ 64 - 1 }
-    ensures any_moment { (s : Shape) (k : Stored) (x : List ℕ) (parts : List (List ℕ)) → D.is_honest device.old
-        → Only (D.seen device.old) (D.may_leave device.old)
-        → OpensBy s (D.seen device.old) x parts k → IsTidy (D.seen device.old) → SaysRoot x root.old
-        → LeavesOnly D.moment D.left_since device.old device.new (λ c. OpensAs s c k × IsTidy c) }
+    ensures any_moment { D.is_honest device.old → Only (D.seen device.old) (D.may_leave device.old)
+        → LeavesOnly D.moment D.left_since device.old device.new (StaysStored (D.seen device.old) root.old) }
     ensures raised { (s : Shape) (k : Stored) (x : List ℕ) (parts : List (List ℕ)) → D.is_honest device.old
         → Only (D.seen device.old) (D.may_leave device.old)
         → OpensBy s (D.seen device.old) x parts k → IsTidy (D.seen device.old) → SaysRoot x root.old
