@@ -1,24 +1,23 @@
 -- What replies with SERVFAIL come of.
-use Rattle.std.proofs.Common.{◌≡◌, ◌⊎◌, inl, inr, ◌<◌, ℕ, Bool, true, false, List, [], ◌∷◌, ◌++◌, length, map, Option, Some, None, refl, sym, ap, subst, ◌∙◌, arith, suc}
+use Rattle.std.proofs.Common.{◌≡◌, ◌⊎◌, inl, inr, ◌<◌, ℕ, Bool, true, false, List, [], ◌∷◌, length, map, Option, Some, None, refl, sym, ap, subst, ◌∙◌, arith, suc}
 use Rattle.std.specs.Prelude.{slice_get, not, ◌&&◌, ◌||◌, ◌==◌, ◌%◌, nat_le, nat_lt, is_none, if◌then◌else◌}
 use Rattle.std.specs.List.{AllByRecursion, Contains}
 use Rattle.std.proofs.lemmas.Bool.Decides.{nat_tests}
 use Rattle.dns_records.specs.Record.{Record}
 use Rattle.dns_records.specs.Types.{type_soa, type_ixfr, type_axfr, type_mailb, type_maila, class_in}
-use Rattle.std.specs.declared.net.ip_addr.IpAddr.{IpAddr}
-use Rattle.dns_wire.specs.Message.{Header, Message, Question, header_of}
+use Rattle.dns_wire.specs.Message.{Message, Question, header_of}
 use Rattle.dns_wire.specs.Reading.{message_of}
 use Rattle.dns_wire.specs.Codes.{number_of_rcode}
 use Rattle.dns_wire.specs.Text.{Reply, text}
 use Rattle.dns_zone.specs.Zone.{Zone}
-use Rattle.dns_lookup.specs.Lookup.{Found, resolve, zone_of}
+use Rattle.dns_lookup.specs.Lookup.{resolve, zone_of}
 use Rattle.dns_request.specs.Request as request
 use Rattle.dns_request.specs.Request.{request_of, read_as, message_as, question_as, has_counts, too_long, opcode_query, opcode_update, rcode_formerr, rcode_notimp, rcode_refused}
 use Rattle.dns_request.specs.declared.request.Transport.{Transport}
 use Rattle.dns_request.specs.declared.request.Transport.TheVariants.{Udp, Tcp}
-use Rattle.dns_answer.specs.Fit.{by_udp, by_udp_without_additional, by_tcp, failed, truncated, is_referral}
+use Rattle.dns_answer.specs.Fit.{by_udp_without_additional, failed, truncated, is_referral}
 use Rattle.dns_answer.specs.Sections.{is_name_error}
-use Rattle.dns_answer.specs.Answer.{answered, bare_reply, fitted, handled_as, reply_for, rcode_nxdomain, with_question}
+use Rattle.dns_answer.specs.Answer.{answered, fitted, handled_as, reply_for, rcode_nxdomain, with_question}
 use Rattle.dns_update.specs.Verdict.{Verdict, Refuses, Keeps, Leaves, verdict}
 use Rattle.dns_store.specs.Versions.{newest_of}
 use Rattle.dns_store.specs.Room.{entry_between, sectors_left}
@@ -31,14 +30,14 @@ use Rattle.dns_primary.specs.declared.event.Noted.TheVariants.{OutOfMemory}
 use Rattle.dns_primary.specs.Machine.{Made, ZoneState, Waits, Machine, kept_of, updates_of, shown_zones, peer_at}
 use Rattle.dns_primary.specs.Flush.{Sent, Answered, Replied, rcode_servfail, flushed, flush_sends, released, is_closed_in}
 use Rattle.dns_primary.specs.Connections.{without_connection}
-use Rattle.dns_primary.specs.Update.{Asked, Admission, Rejects, Admits, admission, admission_at, admission_in, place_of, rcode_notauth, waits, stages, with_staged, replies, accepted_in, judged_in, admitted, is_full, made_place, updated}
-use Rattle.dns_primary.specs.Step.{Event, Datagram, Connect, Arrives, Flush, Closed, Effects, Gives, IsServed, IsArrived, Goes, Step}
+use Rattle.dns_primary.specs.Update.{Asked, Admission, Rejects, Admits, admission, admission_at, admission_in, place_of, rcode_notauth, waits, stages, replies, accepted_in, judged_in, admitted, is_full, made_place, updated}
+use Rattle.dns_primary.specs.Step.{Event, Datagram, Connect, Arrives, Flush, Checkpoint, Closed, IsCheckpointed, Effects, IsServed, IsArrived, Goes, Step}
 use Rattle.dns_primary.specs.Runs.{IsReleasedFrom}
-use Rattle.dns_primary.specs.Causes.{code_of, IsForClosed, LacksRoom, IsTooLong, RequestCause, ArrivedCause, EventCause, HasCause, Waited, WaitsWithCause, HaveCauses}
+use Rattle.dns_primary.specs.Causes.{code_of, IsForClosed, LacksRoom, IsTooLong, RequestCause, ArrivedCause, EventCause, HasCause, Waited, HaveCauses}
 use Rattle.dns_primary.proofs.Zonewise.{tested}
 use Rattle.dns_primary.proofs.Sound.{all_with, all_more}
 use Rattle.dns_primary.proofs.Released.{step_releases}
-use Rattle.dns_primary.proofs.Verdicts.{either, IsOther, OtherVerdict, other_verdict}
+use Rattle.dns_primary.proofs.Verdicts.{either, OtherVerdict, other_verdict}
 
 -- a reply at once
 abbrev AtOnce : Type 0 → Sent → Type 0
@@ -251,6 +250,11 @@ redirected Cause old number (w ∷ ws) there = (
   redirected Cause old number ws (λ x h. there x (suc h.0, omega (arith, h.1), h.2)),
 )
 
+checkpointed : (fails : List Bool) (old : Machine) (place : ℕ) (o : Option ZoneState) (effects : Effects) (new : Machine) → IsCheckpointed fails old place o effects new → Ended ⊥ old (new, effects.sent)
+checkpointed fails old place None effects new g = reaches _ old new old effects.sent [] (g.1).state (g.1).sent (record { sent = tt; waiting = waited_all old _ })
+checkpointed fails old place (Some z) effects new g =
+    reaches _ old new _ effects.sent (flush_sends g.0 old) (g.3).is (g.4).sent (record { sent = none_at_once _ _ old.waiting; waiting = tt })
+
 goes : (fails : List Bool) (old : Machine) (event : Event) (effects : Effects) (new : Machine) → Goes fails old event effects new → Ended (EventCause fails old event) old (new, effects.sent)
 goes fails old (Datagram peer octets) effects new g = served fails old (to.Address peer) peer octets Udp (request_of octets Udp) effects new (other_request octets Udp) g
 goes fails old (Connect peer) effects new g = elim (g.1) [
@@ -259,12 +263,13 @@ goes fails old (Connect peer) effects new g = elim (g.1) [
 ]
 goes fails old (Arrives number octets) effects new g = arrived fails old number (peer_at number old.connections) octets effects new g
 goes fails old Flush effects new g = reaches _ old new (flushed fails old) effects.sent (flush_sends fails old) (g.1).state (g.1).sent (record { sent = none_at_once _ _ old.waiting; waiting = tt })
+goes fails old (Checkpoint place) effects new g = checkpointed fails old place (slice_get old.zones place) effects new g
 goes fails old (Closed number) effects new g = reaches _ old new _ effects.sent [] (g.1).state (g.1).sent (record { sent = tt; waiting = redirected _ old number old.waiting (λ w h. h) })
 
 -- those that waited
-released_by : (closed : Bool) (w : Waits) (rcode : ℕ) → Answered w (if closed then rcode_servfail else w.rcode) ≡ Answered w rcode → rcode ≡ 2 → (w.rcode ≡ 2) ⊎ (closed ≡ true)
-released_by true w rcode is e = inr refl
-released_by false w rcode is e = inl (let same : w.rcode ≡ rcode = cc is in same ∙ e)
+released_by : (closed : Bool) (w : Waits) (rcode : ℕ) → (rcode ≡ w.rcode) ⊎ ((rcode ≡ rcode_servfail) × (closed ≡ true)) → rcode ≡ 2 → (w.rcode ≡ 2) ⊎ (closed ≡ true)
+released_by closed w rcode (inl is) e = inl (sym is ∙ e)
+released_by closed w rcode (inr is) e = inr is.1
 
 joined : (fails : List Bool) (old : Machine) (event : Event) (new : Machine) (sent : List Sent) → AllByRecursion (IsReleasedFrom old new) sent → AllByRecursion (AtOnce (EventCause fails old event)) sent
     → AllByRecursion (HasCause fails old event new) sent

@@ -1,6 +1,6 @@
 -- Each event keeps what every step keeps.
-use Rattle.std.proofs.Common.{◌≡◌, ℕ, Bool, inl, inr, List, [], ◌∷◌, ◌++◌, map, Option, Some, None, refl, sym, ap, subst}
-use Rattle.std.specs.Prelude.{slice_get, not, ◌==◌, nat_le, if◌then◌else◌}
+use Rattle.std.proofs.Common.{◌≡◌, ℕ, Bool, true, false, inl, inr, ⊎_elim, List, [], ◌∷◌, ◌++◌, map, Option, Some, None, refl, sym, ap, subst, ◌∙◌, append-nil}
+use Rattle.std.specs.Prelude.{slice_get, slice_set, not, ◌==◌, nat_le, if◌then◌else◌}
 use Rattle.std.specs.List.{AllByRecursion}
 use Rattle.dns_records.specs.Record.{Record}
 use Rattle.dns_wire.specs.Message.{header_of}
@@ -21,10 +21,13 @@ use Rattle.dns_primary.specs.Machine.{ZoneState, Waits, Machine, kept_of, update
 use Rattle.dns_primary.specs.Flush.{Sent, Replied, rcode_servfail, flushed, flush_sends}
 use Rattle.dns_primary.specs.Connections.{connected, closed, without_connection}
 use Rattle.dns_primary.specs.Update.{Asked, Admission, Rejects, Admits, rcode_notauth, place_of, admission_in, admission_at, admission, waits, stages, replies, accepted_in, judged_in, admitted, is_full, made_place, updated}
-use Rattle.dns_primary.specs.Step.{Event, Datagram, Connect, Arrives, Flush, Closed, Effects, AreFailures, Gives, IsServed, IsArrived, Goes, Lacks, Step, is_asking, failure, failure_on, failures}
-use Rattle.dns_primary.specs.Runs.{IsTrueIn}
-use Rattle.dns_primary.proofs.Zonewise.{tested, all_last_same}
-use Rattle.dns_primary.proofs.Sound.{IsPlaced, IsSound, Preserves, all_with, stays, and_then, with_reply, flush_preserves, wait_preserves, stage_preserves}
+use Rattle.dns_primary.specs.Step.{Event, Datagram, Connect, Arrives, Flush, Checkpoint, Closed, IsCheckpointed, Effects, AreFailures, Gives, IsServed, IsArrived, Goes, Lacks, Step, is_asking, failure, failure_on, failures}
+use Rattle.dns_primary.specs.declared.primary.ZoneSettings.{ZoneSettings}
+use Rattle.dns_primary.specs.Fresh.{IsLoaded, IsFresh}
+use Rattle.dns_primary.specs.Checkpoint.{rebased, IsMovedUnlessClosed}
+use Rattle.dns_primary.specs.Runs.{Lasts, Moment, Run, last_of, IsTrueIn, IsHistory, HasHistory, Promise}
+use Rattle.dns_primary.proofs.Zonewise.{tested, all_last_same, all_last_on, lasts_same, pair_set, all_set, all_found, Same, same_history}
+use Rattle.dns_primary.proofs.Sound.{IsPlaced, IsSound, Preserves, all_true_over, all_with, stays, and_then, with_reply, flush_preserves, wait_preserves, stage_preserves}
 
 abbrev Carries : Machine → Machine × List Sent → Type 0
 Carries old p = Preserves old p.0 p.1
@@ -131,6 +134,53 @@ arrived_goes : (fails : List Bool) (old : Machine) (number : ℕ) (peer : Option
 arrived_goes fails old number None octets effects new s g = given old effects new old [] [] g.1 (stays old s)
 arrived_goes fails old number (Some peer) octets effects new s g = served_goes fails old (to.Connection number) peer _ effects new s g
 
+-- a zone whose base is moved
+record IsSameBut (z w : ZoneState) : Type 0 where
+  setting : w.setting ≡ z.setting
+  loaded : w.loaded ≡ z.loaded
+  shown : w.shown ≡ z.shown
+  staged : w.staged ≡ z.staged
+
+same_rebased : (fails : Bool) (base : ℕ) (z : ZoneState) → IsSameBut z (rebased fails base z)
+same_rebased true base z = record { setting = refl; loaded = refl; shown = refl; staged = refl }
+same_rebased false base z = record { setting = refl; loaded = refl; shown = refl; staged = refl }
+
+same_zone : (z w : ZoneState) → w ≡ z → IsSameBut z w
+same_zone z w e = subst (λ (x : ZoneState). IsSameBut z x) (sym e) (record { setting = refl; loaded = refl; shown = refl; staged = refl })
+
+same_moved : (fails : Bool) (room : ℕ) (z w : ZoneState) → IsMovedUnlessClosed fails room z w → IsSameBut z w
+same_moved fails room z w (inl h) = same_zone z w h.2
+same_moved fails room z w (inr h) = ⊎_elim (λ e. subst (λ (x : ZoneState). IsSameBut z x) (sym e) (same_rebased fails (h.1).0 z)) (λ e. same_zone z w e.1) (h.1).2
+
+same_lasts : (z w : ZoneState) → IsSameBut z w → Lasts z w
+same_lasts z w s = record { setting = s.setting; loaded = s.loaded; more = []; shown = s.shown ∙ sym (append-nil z.shown) }
+
+same_updates : (z w : ZoneState) → IsSameBut z w → Same z w
+same_updates z w s = record { setting = s.setting; loaded = s.loaded; updates = λ i. s.shown i ++ s.staged i }
+
+moved_preserves : (fails : List Bool) (old : Machine) (place : ℕ) (z w : ZoneState) → IsSound (flushed fails old) → slice_get (flushed fails old).zones place ≡ Some z → IsSameBut z w
+    → Preserves (flushed fails old) (record (flushed fails old) { zones = slice_set (flushed fails old).zones place w }) []
+moved_preserves fails old place z w s e same = record {
+  lasts = pair_set Lasts lasts_same (flushed fails old).zones place z w e (same_lasts z w same);
+  sound = record {
+    zones = all_set HasHistory (flushed fails old).zones place w s.zones (same_history z w (same_updates z w same) (all_found HasHistory (flushed fails old).zones place z s.zones e));
+    waiting = tt;
+  };
+  good = tt;
+}
+
+checkpointed_goes : (fails : List Bool) (old : Machine) (place : ℕ) (o : Option ZoneState) (effects : Effects) (new : Machine) → IsSound old → IsCheckpointed fails old place o effects new → Preserves old new effects.sent
+checkpointed_goes fails old place None effects new s g = given old effects new old [] [] g.1 (stays old s)
+checkpointed_goes fails old place (Some z) effects new s g =
+    let flushing = g.0 in
+    let made = g.3 in
+    let mid = flushed flushing old in
+    let after : Machine = record mid { zones = slice_set mid.zones place made.next } in
+    let first = flush_preserves flushing old made.all s in
+    let second = moved_preserves flushing old place made.zone made.next first.sound made.stands (same_moved g.1 0 made.zone made.next made.moved) in
+    reaches old new after effects.sent (flush_sends flushing old ++ []) made.is ((g.4).sent ∙ sym (append-nil (flush_sends flushing old)))
+    (and_then old mid after (flush_sends flushing old) [] first second)
+
 event_goes : (fails : List Bool) (old : Machine) (event : Event) (effects : Effects) (new : Machine) → IsSound old → Goes fails old event effects new → Preserves old new effects.sent
 event_goes fails old (Datagram peer octets) effects new s g = served_goes fails old (to.Address peer) peer _ effects new s g
 event_goes fails old (Connect peer) effects new s g = elim (g.1) [
@@ -139,6 +189,7 @@ event_goes fails old (Connect peer) effects new s g = elim (g.1) [
 ]
 event_goes fails old (Arrives number octets) effects new s g = arrived_goes fails old number (peer_at number old.connections) octets effects new s g
 event_goes fails old Flush effects new s g = given old effects new (flushed fails old) (flush_sends fails old) fails g.1 (flush_preserves fails old g.0 s)
+event_goes fails old (Checkpoint place) effects new s g = checkpointed_goes fails old place (slice_get old.zones place) effects new s g
 event_goes fails old (Closed number) effects new s g = given old effects new (closed number old) [] [] g.1 (close_preserves number old s)
 
 -- memory that is refused
@@ -155,6 +206,7 @@ failures_true zones m (Datagram peer octets) = failure_true zones (to.Address pe
 failures_true zones m (Arrives number octets) = failure_on_true zones number (peer_at number m.connections) octets
 failures_true zones m (Connect peer) = tt
 failures_true zones m Flush = tt
+failures_true zones m (Checkpoint place) = tt
 failures_true zones m (Closed number) = tt
 
 with_failures : (old new : Machine) (sent : List Sent) (event : Event) → Preserves old new sent → Preserves old new (sent ++ failures old event)

@@ -1,6 +1,6 @@
 -- What goes out for an update waited before the event.
-use Rattle.std.proofs.Common.{◌≡◌, ℕ, zero, suc, Bool, true, inl, inr, List, [], ◌∷◌, ◌++◌, map, Option, Some, None, refl, sym, ap, subst, arith}
-use Rattle.std.specs.Prelude.{slice_get, slice_set, not, ◌==◌, nat_le, if◌then◌else◌}
+use Rattle.std.proofs.Common.{◌≡◌, ◌⊎◌, ◌∙◌, ℕ, zero, suc, Bool, true, false, inl, inr, List, [], ◌∷◌, ◌++◌, map, Option, Some, None, refl, sym, ap, subst, arith}
+use Rattle.std.specs.Prelude.{slice_get, slice_set, not, ◌||◌, nat_le, if◌then◌else◌}
 use Rattle.std.specs.List.{AllByRecursion, Contains}
 use Rattle.dns_records.specs.Record.{Record}
 use Rattle.dns_wire.specs.Message.{header_of}
@@ -16,9 +16,10 @@ use Rattle.dns_primary.specs.declared.event.Peer.{Peer}
 use Rattle.dns_primary.specs.declared.event.To.{To}
 use Rattle.dns_primary.specs.declared.event.To.TheVariants as to
 use Rattle.dns_primary.specs.Machine.{Made, ZoneState, Waits, Machine, kept_of, updates_of, peer_at}
-use Rattle.dns_primary.specs.Flush.{Sent, Answered, Replied, rcode_servfail, flushed, flush_sends, flushed_zones, released, is_closed_in}
+use Rattle.dns_primary.specs.Flush.{Sent, Replied, rcode_servfail, flushed, flush_sends, flushed_zones, released, is_closed_in, is_none_made}
+use Rattle.dns_primary.specs.Checkpoint.{IsMovedUnlessClosed}
 use Rattle.dns_primary.specs.Update.{Asked, Admission, Rejects, Admits, admission, waits, stages, with_staged, replies, accepted_in, judged_in, admitted, is_full, made_place, updated}
-use Rattle.dns_primary.specs.Step.{Event, Datagram, Connect, Arrives, Flush, Closed, Effects, Gives, IsServed, IsArrived, Goes, Lacks, Step, is_asking, failure, failure_on, failures}
+use Rattle.dns_primary.specs.Step.{Event, Datagram, Connect, Arrives, Flush, Checkpoint, Closed, IsCheckpointed, Effects, IsServed, IsArrived, Goes, Lacks, Step, is_asking, failure, failure_on, failures}
 use Rattle.dns_primary.specs.Runs.{IsReleasedFrom}
 use Rattle.dns_primary.proofs.Zonewise.{tested}
 use Rattle.dns_primary.proofs.Sound.{all_with}
@@ -34,16 +35,62 @@ AreClosedAlike xs ys = (n : ℕ) → is_closed_in (slice_get xs n) ≡ is_closed
 behind_first : (x : Waits) (ws : List Waits) (w : Waits) → Contains ws w → Contains (x ∷ ws) w
 behind_first x ws w h = (suc h.0, omega (arith, h.1), h.2)
 
-all_released : (old new : Machine) (zones : List ZoneState) → AreClosedAlike zones new.zones → (ws : List Waits)
+-- what is closed of the first is closed of the second
+abbrev Closes : List ZoneState → List ZoneState → Type 0
+Closes xs ys = (n : ℕ) → is_closed_in (slice_get xs n) ≡ true → is_closed_in (slice_get ys n) ≡ true
+
+alike_closes : (xs ys : List ZoneState) → AreClosedAlike xs ys → Closes xs ys
+alike_closes xs ys alike n e = sym (alike n) ∙ e
+
+one_flushed : (fails closed none : Bool) (z : ZoneState) → closed ≡ true → (if closed || none then z else if fails then record z { closed = true } else record z { shown = z.shown ++ z.staged; staged = [] }).closed ≡ z.closed
+one_flushed fails true none z e = refl
+one_flushed fails false none z e = absurd (cc e)
+
+flush_closes : (fails : List Bool) (zones : List ZoneState) → Closes zones (flushed_zones fails zones)
+flush_closes [] zones n e = e
+flush_closes (f ∷ fails) [] n e = e
+flush_closes (f ∷ fails) (z ∷ zones) zero e = one_flushed f z.closed (is_none_made z.staged) z e ∙ e
+flush_closes (f ∷ fails) (z ∷ zones) (suc n) e = flush_closes fails zones n e
+
+abbrev IsCodeOf : Bool → Bool → Waits → ℕ → Type 0
+IsCodeOf after before w rcode = ((rcode ≡ w.rcode) ⊎ ((rcode ≡ rcode_servfail) × (after ≡ true))) × (before ≡ true → rcode ≡ rcode_servfail)
+
+one_released : (closed after before : Bool) (w : Waits) → (closed ≡ true → after ≡ true) → (before ≡ true → closed ≡ true) → IsCodeOf after before w (if closed then rcode_servfail else w.rcode)
+one_released true after before w goes came = (inr (refl, goes refl), λ e. refl)
+one_released false after before w goes came = (inl refl, λ e. let clash : false ≡ true = came e in absurd (cc clash))
+
+all_released : (old new : Machine) (zones : List ZoneState) → Closes zones new.zones → Closes old.zones zones → (ws : List Waits)
     → ((w : Waits) → Contains ws w → Contains old.waiting w) → Releases old new (map (released zones) ws)
-all_released old new zones alike [] there = tt
-all_released old new zones alike (w ∷ ws) there = (
-  (there w (0, omega arith, refl), (λ i. Answered w (if sym (alike w.zone) i then rcode_servfail else w.rcode))),
-  all_released old new zones alike ws (λ x h. there x (behind_first w ws x h)),
+all_released old new zones goes came [] there = tt
+all_released old new zones goes came (w ∷ ws) there = (
+  (let code = one_released (is_closed_in (slice_get zones w.zone)) (is_closed_in (slice_get new.zones w.zone)) (is_closed_in (slice_get old.zones w.zone)) w (goes w.zone) (came w.zone) in
+      (there w (0, omega arith, refl), code.0, code.1)),
+  all_released old new zones goes came ws (λ x h. there x (behind_first w ws x h)),
 )
 
-flush_releases : (fails : List Bool) (old new : Machine) → AreClosedAlike (flushed_zones fails old.zones) new.zones → Releases old new (flush_sends fails old)
-flush_releases fails old new alike = all_released old new (flushed_zones fails old.zones) alike old.waiting (λ w h. h)
+flush_releases : (fails : List Bool) (old new : Machine) → Closes (flushed_zones fails old.zones) new.zones → Releases old new (flush_sends fails old)
+flush_releases fails old new goes = all_released old new (flushed_zones fails old.zones) goes (flush_closes fails old.zones) old.waiting (λ w h. h)
+
+set_closes : (zones : List ZoneState) (place : ℕ) (z w : ZoneState) → slice_get zones place ≡ Some z → (z.closed ≡ true → w.closed ≡ true) → Closes zones (slice_set zones place w)
+set_closes [] place z w e goes n c = c
+set_closes (a ∷ zones) zero z w e goes zero c = (let is : a ≡ z = cc in goes (sym (ap (λ (x : ZoneState). x.closed) is) ∙ c))
+set_closes (a ∷ zones) zero z w e goes (suc n) c = c
+set_closes (a ∷ zones) (suc place) z w e goes zero c = c
+set_closes (a ∷ zones) (suc place) z w e goes (suc n) c = set_closes zones place z w e goes n c
+
+moved_closes : (fails : Bool) (room : ℕ) (z new : ZoneState) → IsMovedUnlessClosed fails room z new → z.closed ≡ true → new.closed ≡ true
+moved_closes fails room z new (inl h) e = ap (λ (x : ZoneState). x.closed) h.2 ∙ e
+moved_closes fails room z new (inr h) e = let clash : true ≡ false = sym e ∙ h.0 in absurd (cc clash)
+
+checkpointed_releases : (fails : List Bool) (old : Machine) (place : ℕ) (o : Option ZoneState) (effects : Effects) (new : Machine) → IsCheckpointed fails old place o effects new → Releases old new effects.sent
+checkpointed_releases fails old place None effects new g = subst (λ (xs : List Sent). Releases old new xs) (sym (g.1).sent) tt
+checkpointed_releases fails old place (Some z) effects new g =
+    let flushing = g.0 in
+    let made = g.3 in
+    let zones = (flushed flushing old).zones in
+    let closes : Closes zones new.zones = subst (λ (m : Machine). Closes zones m.zones) (sym made.is)
+    (set_closes zones place made.zone made.next made.stands (moved_closes g.1 0 made.zone made.next made.moved)) in
+    subst (λ (xs : List Sent). Releases old new xs) (sym (g.4).sent) (flush_releases flushing old new closes)
 
 -- an update that is staged closes no zone
 set_alike : (zones : List ZoneState) (place : ℕ) (made : Made) (z : ZoneState) → slice_get zones place ≡ Some z → AreClosedAlike zones (slice_set zones place (with_staged made z))
@@ -84,7 +131,7 @@ admitted_so m a (Admits place z) e = judged_so m a place z (verdict (newest_zone
 begun_so : (fails : List Bool) (m : Machine) (new : Machine) → AreClosedAlike (made_place fails m).0.zones new.zones → Releases m new (made_place fails m).1
 begun_so fails m new alike =
     tested (λ (p : Machine × List Sent). AreClosedAlike p.0.zones new.zones → Releases m new p.1) (is_full m) (flushed fails m, flush_sends fails m) (m, [])
-    (λ _. λ same. flush_releases fails m new same)
+    (λ _. λ same. flush_releases fails m new (alike_closes (flushed fails m).zones new.zones same))
     (λ _. λ same. tt)
     alike
 
@@ -117,7 +164,8 @@ event_releases fails old (Connect peer) effects new g = elim (g.1) [
   | inr c ↦ subst (λ (xs : List Sent). Releases old new xs) (sym (c.1).sent) tt
 ]
 event_releases fails old (Arrives number octets) effects new g = arrived_releases fails old number (peer_at number old.connections) octets effects new g
-event_releases fails old Flush effects new g = reaches old new (flushed fails old) effects.sent (flush_sends fails old) (g.1).state (g.1).sent (flush_releases fails old (flushed fails old) (λ n. refl))
+event_releases fails old Flush effects new g = reaches old new (flushed fails old) effects.sent (flush_sends fails old) (g.1).state (g.1).sent (flush_releases fails old (flushed fails old) (λ n e. e))
+event_releases fails old (Checkpoint place) effects new g = checkpointed_releases fails old place (slice_get old.zones place) effects new g
 event_releases fails old (Closed number) effects new g = subst (λ (xs : List Sent). Releases old new xs) (sym (g.1).sent) tt
 
 failure_released : (old new : Machine) (to : To) (octets : List ℕ) → Releases old new (failure to octets)
@@ -133,6 +181,7 @@ failures_released old new m (Datagram peer octets) = failure_released old new (t
 failures_released old new m (Arrives number octets) = failure_on_released old new number (peer_at number m.connections) octets
 failures_released old new m (Connect peer) = tt
 failures_released old new m Flush = tt
+failures_released old new m (Checkpoint place) = tt
 failures_released old new m (Closed number) = tt
 
 lacks_releases : (fails : List Bool) (old : Machine) (event : Event) (effects : Effects) (new : Machine) → Lacks fails old event effects new → Releases old new effects.sent
@@ -140,7 +189,7 @@ lacks_releases fails old event effects new l = elim (l.stays) [
   | inl c ↦ subst (λ (xs : List Sent). Releases old new xs) (sym c.2) (failures_released old new old event)
   | inr c ↦ reaches old new (flushed fails old) effects.sent (flush_sends fails old ++ failures old event) c.2 c.3
       (all_with (IsReleasedFrom old (flushed fails old)) (flush_sends fails old) (failures old event)
-      (flush_releases fails old (flushed fails old) (λ n. refl)) (failures_released old (flushed fails old) old event))
+      (flush_releases fails old (flushed fails old) (λ n e. e)) (failures_released old (flushed fails old) old event))
 ]
 
 pub step_releases : (fails : List Bool) (old : Machine) (event : Event) (effects : Effects) (new : Machine) → Step fails old event effects new → Releases old new effects.sent

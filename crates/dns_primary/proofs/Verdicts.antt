@@ -1,9 +1,9 @@
 -- No verdict refuses an update with SERVFAIL.
-use Rattle.std.proofs.Common.{◌≡◌, ℕ, Bool, true, false, List, [], ◌∷◌, Option, Some, None, subst, arith}
+use Rattle.std.proofs.Common.{◌≡◌, Bool, true, false, List, [], ◌∷◌, Option, Some, None, arith}
 use Rattle.std.specs.Prelude.{not, ◌&&◌, ◌||◌, ◌==◌, nat_lt, length, if◌then◌else◌}
 use Rattle.dns_names.specs.Name.{Labels, under}
 use Rattle.dns_records.specs.Types.{type_any, type_ns, class_in, class_none, class_any, is_known, is_data_type}
-use Rattle.dns_records.specs.Record.{Record, serial_of}
+use Rattle.dns_records.specs.Record.{Record}
 use Rattle.dns_zone.specs.Records.{owns, owns_type}
 use Rattle.dns_zone.specs.Zone.{Zone, soas, is_wildcard}
 use Rattle.dns_serial.specs.Serial.{greater}
@@ -14,9 +14,9 @@ use Rattle.dns_wire.specs.declared.codes.Rcode.{Rcode}
 use Rattle.dns_wire.specs.declared.codes.Rcode.TheVariants.{FormErr, NxDomain, YxDomain, YxRrset, NxRrset, NotZone, Refused}
 use Rattle.dns_update.specs.ResourceRecord.{is_empty, is_meta, first_fault, otherwise}
 use Rattle.dns_update.specs.Prerequisites.{in_use_fault, unused_fault, prerequisite_fault, are_rrsets, prerequisites_fault}
-use Rattle.dns_update.specs.Prescan.{addition_fault, set_deletion_fault, deletion_fault, prescan_fault}
+use Rattle.dns_update.specs.Prescan.{addition_fault, prescan_fault}
 use Rattle.dns_update.specs.Effect.{effects}
-use Rattle.dns_update.specs.Verdict.{Verdict, Refuses, Keeps, Leaves, same_set, with_next_serial, versioned, unless, verdict}
+use Rattle.dns_update.specs.Verdict.{Verdict, Refuses, Keeps, Leaves, same_set, versioned, unless, verdict}
 
 -- a case of two
 pub either : {A : Type 0} (P : A → Type 0) (b : Bool) (x y : A) → P x → P y → P (if b then x else y)

@@ -20,7 +20,7 @@ use Rattle.dns_primary.specs.declared.event.To.TheVariants as to
 use Rattle.dns_primary.specs.Machine.{ZoneState, Waits, Machine, kept_of, shown_zones, peer_at}
 use Rattle.dns_primary.specs.Flush.{Sent, Answered, Replied, is_closed_in, rcode_servfail}
 use Rattle.dns_primary.specs.Update.{Asked, Admits, admission, made_place, place_of}
-use Rattle.dns_primary.specs.Step.{Event, Datagram, Connect, Arrives, Flush, Closed}
+use Rattle.dns_primary.specs.Step.{Event, Datagram, Connect, Arrives, Flush, Checkpoint, Closed}
 
 -- The response code of a reply (RFC 1035 4.1.1).
 abbrev pub code_of : List ℕ → ℕ
@@ -71,6 +71,7 @@ EventCause fails m (Datagram peer octets) = RequestCause fails m (to.Address pee
 EventCause fails m (Arrives number octets) = ArrivedCause fails m number (peer_at number m.connections) octets
 EventCause fails m (Connect peer) = ⊥
 EventCause fails m Flush = ⊥
+EventCause fails m (Checkpoint place) = ⊥
 EventCause fails m (Closed number) = ⊥
 
 -- A reply that waited goes out with SERVFAIL where it waited with it, or where its zone is closed then; one to a request, by the

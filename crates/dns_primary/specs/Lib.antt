@@ -2,6 +2,7 @@ pub mod To
 pub mod Machine
 pub mod Flush
 pub mod Update
+pub mod Checkpoint
 pub mod Connections
 pub mod Step
 pub mod Stop

@@ -1,12 +1,12 @@
 -- Runs of the machine, and what holds of every one.
-use Rattle.std.specs.Prelude.{◌≡◌, Bool, List, [], ◌∷◌, ◌++◌, slice_get, Some}
+use Rattle.std.specs.Prelude.{◌≡◌, ◌⊎◌, Bool, true, List, [], ◌∷◌, ◌++◌, slice_get, Some}
 use Rattle.std.specs.List.{AllByRecursion, Contains}
 use Rattle.dns_records.specs.Record.{Record}
 use Rattle.dns_names.specs.Name.{Labels}
 use Rattle.dns_update.specs.Verdict.{Leaves, verdict}
 use Rattle.dns_held.specs.Each.{Each2}
 use Rattle.dns_primary.specs.Machine.{Made, ZoneState, Waits, Machine, updates_of}
-use Rattle.dns_primary.specs.Flush.{Sent, Answered, Replied, released}
+use Rattle.dns_primary.specs.Flush.{Sent, Answered, Replied, is_closed_in, rcode_servfail}
 use Rattle.dns_primary.specs.Step.{Event, Effects, Step}
 use Rattle.dns_primary.specs.Stop.{IsStopped}
 
@@ -79,9 +79,12 @@ pub record StaysTrue (zones : List ZoneState) (t : Moment) : Type 0 where
   pub answered : AllByRecursion (IsTrueIn zones) (sent_in t)
 
 -- What waited before an event goes out with the code that it waited with, or with SERVFAIL where its zone is closed after the
--- event.
+-- event; and with that where it was closed before.
 abbrev pub IsReleasedFrom : Machine → Machine → Sent → Type 0
-IsReleasedFrom old new (Answered w rcode) = Contains old.waiting w × (released new.zones w ≡ Answered w rcode)
+IsReleasedFrom old new (Answered w rcode) =
+    Contains old.waiting w
+    × ((rcode ≡ w.rcode) ⊎ ((rcode ≡ rcode_servfail) × (is_closed_in (slice_get new.zones w.zone) ≡ true)))
+    × (is_closed_in (slice_get old.zones w.zone) ≡ true → rcode ≡ rcode_servfail)
 IsReleasedFrom old new (Replied to octets) = Unit {0}
 
 -- At the end of a run, however often the machine stopped in it, each zone is its loaded records after accepted updates, each judged

@@ -1,5 +1,5 @@
 -- One event is one step of the machine.
-use Rattle.std.specs.Prelude.{◌≡◌, ◌⊎◌, ◌<◌, ◌≤◌, ℕ, Bool, true, false, not, ◌&&◌, ◌==◌, nat_lt, List, [], ◌∷◌, ◌++◌, length, Option, Some, None, if◌then◌else◌}
+use Rattle.std.specs.Prelude.{◌≡◌, ◌⊎◌, ◌<◌, ◌≤◌, ℕ, Bool, true, false, not, ◌&&◌, ◌==◌, nat_lt, List, [], ◌∷◌, ◌++◌, length, slice_get, is_some, Option, Some, None, if◌then◌else◌}
 use Rattle.dns_wire.specs.Message.{header_of}
 use Rattle.dns_wire.specs.Text.{text}
 use Rattle.dns_request.specs.Request.{opcode_update, rcode_notimp}
@@ -11,18 +11,20 @@ use Rattle.dns_primary.specs.declared.event.To.{To}
 use Rattle.dns_primary.specs.declared.event.To.TheVariants as to
 use Rattle.dns_primary.specs.declared.event.Noted.{Noted}
 use Rattle.dns_primary.specs.declared.event.Noted.TheVariants.{Nothing, OutOfMemory, Device}
-use Rattle.dns_primary.specs.Machine.{Machine, shown_zones, peer_at}
+use Rattle.dns_primary.specs.Machine.{ZoneState, Machine, shown_zones, peer_at}
 use Rattle.dns_primary.specs.Flush.{Sent, Replied, rcode_servfail, flushed, flush_sends}
 use Rattle.dns_primary.specs.Update.{Asked, is_full, updated}
+use Rattle.dns_primary.specs.Checkpoint.{IsCheckpoint, either_fails, first_of}
 use Rattle.dns_primary.specs.Connections.{connected, closed, most_connections}
 
--- A datagram comes from a peer, a peer connects, a message comes on a connection, what waits is to be flushed, a connection is
--- closed.
+-- A datagram comes from a peer, a peer connects, a message comes on a connection, what waits is to be flushed, the zone at a place
+-- is to get a later base, a connection is closed.
 pub data Event : Type 0 where
   Datagram : Peer → List ℕ → Event
   Connect : Peer → Event
   Arrives : ℕ → List ℕ → Event
   Flush : Event
+  Checkpoint : ℕ → Event
   Closed : ℕ → Event
 
 -- What goes out, the number of a connection that was made, and what is to be known of it besides.
@@ -50,6 +52,20 @@ AreFailures false m fails = fails ≡ []
 
 abbrev pub IsFlushed : List Bool → Machine → Effects → Machine → Type 0
 IsFlushed fails old effects new = AreFailures true old fails × Gives effects new (flushed fails old) (flush_sends fails old) fails
+
+-- What goes out of a flush, and the first device that failed.
+pub record Tells (effects : Effects) (out : List Sent) (first : Option ℕ) : Type 0 where
+  pub sent : effects.sent ≡ out
+  pub accepted : effects.accepted ≡ None
+  pub noted : effects.noted ≡ noted_of first
+
+-- A checkpoint of a zone that isn't there does nothing.
+abbrev pub IsCheckpointed : List Bool → Machine → ℕ → Option ZoneState → Effects → Machine → Type 0
+IsCheckpointed fails old place None effects new = (fails ≡ []) × Gives effects new old [] []
+IsCheckpointed fails old place (Some z) effects new =
+    (flushing : List Bool) × (moving : Bool) × (fails ≡ either_fails moving place flushing)
+    × IsCheckpoint place 0 old flushing moving new
+    × Tells effects (flush_sends flushing old) (first_of (first_true flushing) moving place)
 
 abbrev pub IsUpdated : List Bool → Machine → Asked → Effects → Machine → Type 0
 IsUpdated fails old a effects new =
@@ -85,6 +101,7 @@ Goes fails old (Datagram peer octets) effects new =
 Goes fails old (Connect peer) effects new = (fails ≡ []) × IsConnected old peer effects new
 Goes fails old (Arrives number octets) effects new = IsArrived fails old number (peer_at number old.connections) octets effects new
 Goes fails old Flush effects new = IsFlushed fails old effects new
+Goes fails old (Checkpoint place) effects new = IsCheckpointed fails old place (slice_get old.zones place) effects new
 Goes fails old (Closed number) effects new = (fails ≡ []) × Gives effects new (closed number old) [] []
 
 -- Octets that get a reply: a header, and no response (RFC 1035 4.1.1).
@@ -104,6 +121,7 @@ failures m (Datagram peer octets) = failure (to.Address peer) octets
 failures m (Arrives number octets) = failure_on number (peer_at number m.connections) octets
 failures m (Connect peer) = []
 failures m Flush = []
+failures m (Checkpoint place) = []
 failures m (Closed number) = []
 
 -- A flush takes no memory, nor does the end of a connection.
@@ -112,14 +130,16 @@ takes_memory (Datagram peer octets) = true
 takes_memory (Connect peer) = true
 takes_memory (Arrives number octets) = true
 takes_memory Flush = false
+takes_memory (Checkpoint place) = true
 takes_memory (Closed number) = false
 
--- An update that comes while as many wait as may flushes first.
+-- An update that comes while as many wait as may flushes first, and so does the checkpoint of a zone that is there.
 abbrev pub flushes_first : Machine → Event → Bool
 flushes_first m (Datagram peer octets) = (header_of octets).opcode == opcode_update && is_full m
 flushes_first m (Arrives number octets) = (header_of octets).opcode == opcode_update && is_full m
 flushes_first m (Connect peer) = false
 flushes_first m Flush = false
+flushes_first m (Checkpoint place) = is_some (slice_get m.zones place)
 flushes_first m (Closed number) = false
 
 -- Memory was refused: the machine is as before, or as after the event's flush.

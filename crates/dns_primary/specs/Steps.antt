@@ -1,5 +1,5 @@
 -- Steps of a primary, and what is told of them.
-use Rattle.std.specs.Prelude.{◌≡◌, ◌⊎◌, ℕ, Bool, true, ◌&&◌, ◌==◌, List, [], ◌∷◌, ◌++◌, None, map}
+use Rattle.std.specs.Prelude.{◌≡◌, ◌⊎◌, ℕ, zero, suc, Bool, true, ◌&&◌, ◌==◌, List, [], ◌∷◌, ◌++◌, Option, Some, None, Result, Ok, Err, map, slice_get}
 use Rattle.dns_wire.specs.Message.{header_of}
 use Rattle.dns_wire.specs.Codes.{number_of_rcode}
 use Rattle.dns_request.specs.Request.{opcode_update}
@@ -7,21 +7,26 @@ use Rattle.dns_request.specs.declared.request.Transport.{Transport}
 use Rattle.dns_answer.specs.Answer.{handled}
 use Rattle.dns_zone.specs.declared.index.ZoneIndex as index
 use Rattle.dns_store.specs.declared.zone_store.ZoneStore as store
-use Rattle.dns_sectors.specs.Device.{LeavesOnly}
-use Rattle.dns_store.specs.Versions.{OpensAsLeft}
+use Rattle.dns_sectors.specs.Device.{Content, LeavesOnly}
+use Rattle.dns_store.specs.Versions.{Shape, Opened, OpensAsLeft}
+use Rattle.dns_store.specs.declared.checkpoint.CheckpointError.{CheckpointError}
+use Rattle.dns_store.specs.declared.checkpoint.CheckpointError.TheVariants as refused
 use Rattle.dns_held.specs.declared.behind.Behind.{Behind}
 use Rattle.dns_held.specs.Each.{Each3}
-use Rattle.dns_held.specs.Flush.{FailedWhere}
+use Rattle.dns_held.specs.Flush.{FailedWhere, HasFailed}
+use Rattle.dns_held.specs.Checkpoint.{OpensAsCheckpointed}
 use Rattle.dns_primary.specs.declared.event.Peer.{Peer}
 use Rattle.dns_primary.specs.declared.event.To.{To}
 use Rattle.dns_primary.specs.declared.event.Event as code
 use Rattle.dns_primary.specs.declared.event.Event.TheVariants as event
 use Rattle.dns_primary.specs.declared.event.Effects.{Effects}
-use Rattle.dns_primary.specs.declared.event.Noted.TheVariants.{Nothing, OutOfMemory}
+use Rattle.dns_primary.specs.declared.event.Noted.{Noted}
+use Rattle.dns_primary.specs.declared.event.Noted.TheVariants.{Nothing, OutOfMemory, Device}
 use Rattle.dns_primary.specs.declared.primary.Primary.{Primary}
 use Rattle.dns_primary.specs.declared.update.Outcome.{Outcome}
 use Rattle.dns_primary.specs.declared.update.Outcome.TheVariants as outcome
-use Rattle.dns_primary.specs.Machine.{Machine, kept_of, shown_zones}
+use Rattle.dns_primary.specs.Machine.{ZoneState, Machine, kept_of, shown_zones}
+use Rattle.dns_primary.specs.Checkpoint.{either_fails}
 use Rattle.dns_primary.specs.Flush.{Sent, flushed, flush_sends, rcode_servfail}
 use Rattle.dns_primary.specs.Update.{Asked, replies, is_full}
 use Rattle.dns_primary.specs.Step as machine
@@ -34,6 +39,7 @@ event_shown (event.Datagram peer octets) = machine.Datagram peer octets.now
 event_shown (event.Connect peer) = machine.Connect peer
 event_shown (event.Message number octets) = machine.Arrives number octets.now
 event_shown event.Flush = machine.Flush
+event_shown (event.Checkpoint place) = machine.Checkpoint place
 event_shown (event.Closed number) = machine.Closed number
 
 -- A crash at any moment between the two leaves each device so that it opens as the versions shown and the first of those staged.
@@ -54,6 +60,80 @@ pub record Stepped {I S : Type 0} {i : index.Ghosts I} {s : store.Ghosts S} (m :
   pub is : step fails stated next
   pub effects_are : AreEffects stated effects
   pub kept : IsKept new next
+
+-- Of which zone an event may move the base, and the room that it asks.
+abbrev pub base_moved : machine.Event → Option (ℕ × ℕ)
+base_moved (machine.Checkpoint place) = Some (place, 0)
+base_moved (machine.Datagram peer octets) = None
+base_moved (machine.Connect peer) = None
+base_moved (machine.Arrives number octets) = None
+base_moved machine.Flush = None
+base_moved (machine.Closed number) = None
+
+-- The room that is asked of each zone where its base may be moved.
+abbrev pub without_room : ZoneState → Option ℕ × ZoneState
+without_room z = (None, z)
+
+abbrev pub with_room : ℕ → ℕ → List ZoneState → List (Option ℕ × ZoneState)
+with_room place room [] = []
+with_room zero room (z ∷ rest) = (Some room, z) ∷ map without_room rest
+with_room (suc place) room (z ∷ rest) = (None, z) ∷ with_room place room rest
+
+abbrev pub with_rooms : Option (ℕ × ℕ) → List ZoneState → List (Option ℕ × ZoneState)
+with_rooms None zones = map without_room zones
+with_rooms (Some moved) zones = with_room moved.0 moved.1 zones
+
+-- A crash leaves the versions shown and the first of those staged; where the base is moved, with that or all of them with the next.
+abbrev pub OpensAsEvent : (Shape → Opened → Content → Type 0) → Option ℕ → ZoneState → Content → Type 0
+OpensAsEvent opens None z c = OpensAsLeft opens (kept_of z) c
+OpensAsEvent opens (Some room) z c = OpensAsCheckpointed opens z.setting.keep room (kept_of z) c
+
+-- A crash at any moment between the two leaves each device so that it opens as that.
+abbrev pub AtAnyMomentOf : {I S : Type 0} → store.Ghosts S → Option (ℕ × ℕ) → Machine → List (Behind I S) → List (Behind I S) → Type 0
+AtAnyMomentOf s moved m olds news =
+    Each3 (λ a b k. LeavesOnly s.moment s.left_since a.store b.store (OpensAsEvent s.opens k.0 k.1)) olds news (with_rooms moved m.zones)
+
+-- Devices failed in a flush, or behind it, where the primary kept what the flush had left, that of one zone in the move of its base.
+pub record HaveFailedInTurn {I S : Type 0} {i : index.Ghosts I} {s : store.Ghosts S} (m : Machine) (fails : List Bool)
+    (old new : Primary I S i s) : Type 0 where
+  pub place : ℕ
+  pub flushing : List Bool
+  pub moving : Bool
+  pub both : fails ≡ either_fails moving place flushing
+  pub between : Primary I S i s
+  pub kept : IsKept between (flushed flushing m)
+  pub failed : FailedWhere (λ b. s.failed b.store) flushing old.behind.items between.behind.items
+  pub moved : (a b : Behind I S) → moving ≡ true
+      → slice_get between.behind.items place ≡ Some a
+      → slice_get new.behind.items place ≡ Some b
+      → HasFailed (s.failed a.store) (s.failed b.store)
+
+-- A primary took the step of an event: of the devices these failed, each of which it is said; at each moment a crash left each
+-- device as the event allows; the machine that it kept went on to the next one, which it keeps now, and the effects are told.
+pub record SteppedBy {I S : Type 0} {i : index.Ghosts I} {s : store.Ghosts S} (m : Machine) (event : machine.Event)
+    (old new : Primary I S i s) (effects : Effects) : Type 0 where
+  pub fails : List Bool
+  pub failed : FailedWhere (λ b. s.failed b.store) fails old.behind.items new.behind.items ⊎ HaveFailedInTurn m fails old new
+  pub any_moment : AtAnyMomentOf s (base_moved event) m old.behind.items new.behind.items
+  pub next : Machine
+  pub stated : machine.Effects
+  pub is : machine.Step fails m event stated next
+  pub effects_are : AreEffects stated effects
+  pub kept : IsKept new next
+
+-- What is noted where a device failed that came after others.
+abbrev pub noted_then : Noted → ℕ → Noted
+noted_then Nothing place = Device place
+noted_then OutOfMemory place = OutOfMemory
+noted_then (Device earlier) place = Device earlier
+
+abbrev pub noted_moved : {T : Type 0} → Noted → ℕ → Result T CheckpointError → Noted
+noted_moved noted place (Ok v) = noted
+noted_moved noted place (Err refused.Device) = noted_then noted place
+noted_moved noted place (Err refused.Closed) = noted
+noted_moved noted place (Err refused.ZoneTooLarge) = noted
+noted_moved noted place (Err refused.WrongChanges) = noted
+noted_moved noted place (Err refused.OutOfMemory) = OutOfMemory
 
 -- Nothing goes out; or one reply alone.
 abbrev pub nothing : machine.Effects

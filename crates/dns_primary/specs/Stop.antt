@@ -14,7 +14,7 @@ use Rattle.dns_primary.specs.declared.event.To.{To}
 use Rattle.dns_primary.specs.declared.event.To.TheVariants as to
 use Rattle.dns_primary.specs.Machine.{Made, ZoneState, Machine, kept_of, shown_zones, versions_of, peer_at}
 use Rattle.dns_primary.specs.Update.{Asked, Admits, admission}
-use Rattle.dns_primary.specs.Step.{Event, Datagram, Connect, Arrives, Flush, Closed}
+use Rattle.dns_primary.specs.Step.{Event, Datagram, Connect, Arrives, Flush, Checkpoint, Closed}
 
 -- The update is accepted, and its entry is over what is left of the journal: a checkpoint of the zone at this place makes that
 -- room for it. The flush before the checkpoint changes neither the newest version nor what is left.
@@ -45,6 +45,7 @@ Checkpoints m (Datagram peer octets) place room =
 Checkpoints m (Arrives number octets) place room = ArrivedCheckpoints m number (peer_at number m.connections) octets place room
 Checkpoints m (Connect peer) place room = ⊥
 Checkpoints m Flush place room = ⊥
+Checkpoints m (Checkpoint zone) place room = (place ≡ zone) × (room ≡ 0)
 Checkpoints m (Closed number) place room = ⊥
 
 -- The base that the event is making of the zone at this place.

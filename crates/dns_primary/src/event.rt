@@ -50,6 +50,8 @@ pub enum Event<'a> {
     Message(usize, &'a [u8]),
     /// What was staged is to be made durable, and what waits for it goes out.
     Flush,
+    /// The zone at a place is to be flushed with all others, and then to get a later base, so that its journal has room again.
+    Checkpoint(usize),
     /// A connection is closed.
     Closed(usize),
 }

@@ -2,6 +2,7 @@
 #![tactic(auto)]
 
 mod admission;
+mod checkpoint;
 mod connections;
 mod effects;
 mod event;

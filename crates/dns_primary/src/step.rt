@@ -5,7 +5,7 @@ ghost use Rattle.dns_primary.specs.Machine.{Machine};
 ghost use Rattle.dns_primary.specs.Step.{Arrives, IsFlushed, Step, noted_of, takes_memory};
 ghost use Rattle.dns_primary.specs.Fresh.{IsShown};
 ghost use Rattle.dns_primary.specs.Keeps.{IsKept};
-ghost use Rattle.dns_primary.specs.Steps.{Stepped, event_shown};
+ghost use Rattle.dns_primary.specs.Steps.{Stepped, SteppedBy, event_shown};
 
 use crate::flush::flush;
 use crate::{Effects, Event, Noted, Primary, To};
@@ -35,6 +35,7 @@ impl<I: ZoneIndex, S: ZoneStore> Primary<I, S> {
         ensures step { (old : Machine) → IsKept self.old old
             → Stepped old self.old self.new result (λ fails stated next. IsFlushed fails old stated next) }
         ensures bare { result.reply ≡ None }
+        ensures as_many { length self.new.behind.items ≡ length self.old.behind.items }
         ensures empty { self.new.waiting.items ≡ [] }
         ensures memory { result.noted ≢ StatedLack }
     {
@@ -73,13 +74,14 @@ impl<I: ZoneIndex, S: ZoneStore> Primary<I, S> {
     /// - `Connect`: the connection gets a number that no other has, or none where there are 64.
     /// - `Flush`: what was staged is made durable and shown, and what waits goes out. `Closed`: what waits to go there goes nowhere.
     ///   Neither takes memory.
+    /// - `Checkpoint`: all zones are flushed; then the one at the place, unless it is closed, gets a later base, and keeps the newest
+    ///   changes alone. One whose base would take more sectors than a snapshot has keeps its base.
     ///
     /// Where memory is refused, a request is answered with SERVFAIL, and nothing has changed but by the flush that came first.
     pub fn step(&mut self, alloc: Heap, event: Event<'_>) -> Effects
         // Whatever older versions there were, it is the step of the machine, and a crash at any moment of it leaves each device so
-        // that it opens as the versions shown and the first of those staged.
-        ensures step { (old : Machine) → IsKept self.old old
-            → Stepped old self.old self.new result (λ fails stated next. Step fails old (event_shown event.entry) stated next) }
+        // that it opens as the versions shown and the first of those staged, and the zone of a checkpoint so or with its next base.
+        ensures step { (old : Machine) → IsKept self.old old → SteppedBy old (event_shown event.entry) self.old self.new result }
         ensures memory { takes_memory (event_shown event.entry) ≡ false → result.noted ≢ StatedLack }
         ensures few { length result.headers.items ≤ 32 }
     {
@@ -90,6 +92,7 @@ impl<I: ZoneIndex, S: ZoneStore> Primary<I, S> {
             Event::Connect(peer) => self.connect(peer),
             Event::Message(number, octets) => self.arrive(alloc, number, octets),
             Event::Flush => self.flush(),
+            Event::Checkpoint(place) => self.checkpoint(place),
             Event::Closed(number) => self.close(number),
         }
     }

@@ -1,0 +1,316 @@
+-- A step that moves the base of a zone, behind a flush.
+use Rattle.std.proofs.Common.{◌≡◌, ◌⊎◌, inl, inr, ⊎_elim, ◌<◌, ◌-◌, ℕ, zero, suc, Bool, true, false, List, [], ◌∷◌, length, map, Option, Some, None, Result, Ok, Err, refl, sym, ap, subst, ◌∙◌, arith, append-nil}
+use Rattle.std.specs.Prelude.{slice_get, slice_set, slice_index_or, is_some}
+use Rattle.dns_zone.specs.Zone.{Zone}
+use Rattle.dns_zone.specs.declared.index.ZoneIndex as index
+use Rattle.dns_records.specs.Record.{Record}
+use Rattle.dns_sectors.specs.Device.{Content, LeavesOnly}
+use Rattle.dns_sectors.proofs.Moments.{weaker}
+use Rattle.dns_store.specs.declared.zone_store.ZoneStore as store
+use Rattle.dns_store.specs.declared.checkpoint.CheckpointError.{CheckpointError}
+use Rattle.dns_store.specs.declared.checkpoint.CheckpointError.TheVariants as refused
+use Rattle.dns_store.specs.Versions.{Shape, Opened, Kept, OpensAsLeft, moved_to}
+use Rattle.dns_held.specs.declared.behind.Behind.{Behind}
+use Rattle.dns_held.specs.Each.{Each3}
+use Rattle.dns_held.specs.Held.{HasVersions}
+use Rattle.dns_held.specs.Flush as held
+use Rattle.dns_held.specs.Flush.{FailedWhere, HasFailed, first_true}
+use Rattle.dns_held.specs.Checkpoint.{IsNextBase}
+use Rattle.dns_primary.specs.declared.event.Noted.{Noted}
+use Rattle.dns_primary.specs.declared.event.Noted.TheVariants.{OutOfMemory}
+use Rattle.dns_primary.specs.declared.event.Effects.{Effects}
+use Rattle.dns_primary.specs.declared.primary.Primary.{Primary}
+use Rattle.dns_primary.specs.Machine.{ZoneState, Made, Machine, kept_of}
+use Rattle.dns_primary.specs.Flush.{flushed, flush_sends, flushed_zone, flushed_zones}
+use Rattle.dns_primary.specs.Checkpoint.{rebased, IsMoved, IsMovedUnlessClosed, IsMovedBy, IsSettled, either_fails, first_of}
+use Rattle.dns_primary.specs.Step as machine
+use Rattle.dns_primary.specs.Step.{Step, noted_of, Goes, IsCheckpointed, Checkpoint, Lacks}
+use Rattle.dns_primary.specs.Keeps.{IsKept, AreEffects}
+use Rattle.dns_primary.specs.Steps.{Stepped, SteppedBy, AtAnyMoment, AtAnyMomentOf, OpensAsEvent, base_moved, with_room, without_room, noted_then, noted_moved, nothing}
+use Rattle.dns_primary.proofs.Flushed.{kept_flushed}
+use Rattle.dns_primary.proofs.Served.{gives_none}
+use Rattle.dns_store.specs.Versions.{closed_between, version_at, OpensAsEither, StandsStill}
+use Rattle.dns_store.specs.Checkpoint.{IsKeptNumber, sectors_of_snapshot}
+use Rattle.dns_held.proofs.Moved.{number_there, move_leaves}
+use Rattle.dns_held.specs.Held.{IsTip}
+use Rattle.dns_primary.specs.Machine.{Setting, versions_of}
+use Rattle.dns_primary.proofs.Places.{set_same}
+
+-- where no base is moved
+without : {S B : Type 0} (store : B → S) (moment : S → ℕ) (left_since : S → ℕ → Content → Type 0) (opens : Shape → Opened → Content → Type 0) (olds news : List B) (zones : List ZoneState)
+    → Each3 (λ a b k. LeavesOnly moment left_since (store a) (store b) (OpensAsLeft opens k)) olds news (map kept_of zones)
+    → Each3 (λ a b k. LeavesOnly moment left_since (store a) (store b) (OpensAsEvent opens k.0 k.1)) olds news (map without_room zones)
+without store moment left_since opens [] [] [] each = tt
+without store moment left_since opens (a ∷ olds) (b ∷ news) (z ∷ zones) each = (each.0, without store moment left_since opens olds news zones each.1)
+without store moment left_since opens _ _ _ each = absurd each
+
+module _ {I S : Type 0} {i : index.Ghosts I} {s : store.Ghosts S} (m : Machine) (event : machine.Event) (old new : Primary I S i s) (effects : Effects) where
+  pub simple : base_moved event ≡ None → Stepped m old new effects (λ fails stated next. Step fails m event stated next) → SteppedBy m event old new effects
+  simple none step = record {
+    fails = step.fails;
+    failed = inl step.failed;
+    any_moment = subst (λ (o : Option (ℕ × ℕ)). AtAnyMomentOf s o m old.behind.items new.behind.items) (sym none)
+        (without (λ (b : Behind I S). b.store) s.moment s.left_since s.opens old.behind.items new.behind.items m.zones step.any_moment);
+    next = step.next;
+    stated = step.stated;
+    is = step.is;
+    effects_are = step.effects_are;
+    kept = step.kept;
+  }
+
+-- a zone of which nothing is staged, or that is closed, is as it would be behind a flush
+settled_by : (s : Setting) (l : List Record) (shown staged : List Made) (base : ℕ) (second : Option ℕ) (closed : Bool) → (closed ≡ true) ⊎ (staged ≡ [])
+    → held.flushed false (kept_of (record { setting = s; loaded = l; shown = shown; staged = staged; base = base; second = second; closed = closed })) ≡ kept_of (record { setting = s; loaded = l; shown = shown; staged = staged; base = base; second = second; closed = closed })
+settled_by s l shown staged base second true settled = refl
+settled_by s l shown [] base second false settled = refl
+settled_by s l shown (m ∷ staged) base second false settled = ⊎_elim (λ e. absurd cc) (λ e. absurd cc) settled
+
+pub settled_flushed : (z : ZoneState) → IsSettled z → held.flushed false (kept_of z) ≡ kept_of z
+settled_flushed z settled = settled_by z.setting z.loaded z.shown z.staged z.base z.second z.closed settled
+
+open_of : (b : Bool) → (b ≡ true → ⊥) → b ≡ false
+open_of true none = absurd (none refl)
+open_of false none = refl
+
+open_staged : (z : ZoneState) → IsSettled z → z.closed ≡ false → (kept_of z).staged ≡ []
+open_staged z settled is = ⊎_elim (λ c. (let clash : true ≡ false = sym c ∙ is in absurd (cc clash))) (λ n. ap versions_of n) settled
+
+tip_moved : (tip : Option Zone) (fails : Bool) (base : ℕ) (z : ZoneState) → IsTip tip (kept_of z) → IsTip tip (kept_of (rebased fails base z))
+tip_moved None true base z is = is
+tip_moved None false base z is = is
+tip_moved (Some t) true base z is = is
+tip_moved (Some t) false base z is = is
+
+module _ {I S : Type 0} (keeps : S → Kept → Type 0) (zone : Zone) (b : Behind I S) (store : S) (z : ZoneState) (keep room : ℕ) (keep_is : keep ≡ z.setting.keep) (settled : IsSettled z) (h : HasVersions keeps zone b (kept_of z)) where
+  next_base : (d : ℕ) → IsKeptNumber (kept_of z) keep room d → IsNextBase z.setting.keep room (kept_of z) (length (kept_of z).shown - d)
+  next_base d number =
+      subst (λ (j : Kept). (n : ℕ) × IsKeptNumber j z.setting.keep room n × (length (kept_of z).shown - d ≡ length j.shown - n)) (sym (settled_flushed z settled))
+      (d, subst (λ (n : ℕ). IsKeptNumber (kept_of z) n room d) keep_is number, refl)
+
+  number : (d : ℕ) × IsKeptNumber (kept_of z) keep room d
+  number = number_there (kept_of z) keep room
+
+  moved_is : (base : ℕ) → keeps store (moved_to base (kept_of z)) → HasVersions keeps zone (record b { store = store }) (kept_of (rebased false base z))
+  moved_is base kept = record { zone_is = h.zone_is; tip_is = tip_moved b.tip false base z h.tip_is; number_is = h.number_is; octets_are = h.octets_are; snapshot_is = h.snapshot_is; journal_is = h.journal_is; kept = kept }
+
+  between_is : (base : ℕ) → keeps store (closed_between base (kept_of z)) → HasVersions keeps zone (record b { store = store }) (kept_of (rebased true base z))
+  between_is base kept = record { zone_is = h.zone_is; tip_is = tip_moved b.tip true base z h.tip_is; number_is = h.number_is; octets_are = h.octets_are; snapshot_is = h.snapshot_is; journal_is = h.journal_is; kept = kept }
+
+  still_is : keeps store (kept_of z) → HasVersions keeps zone (record b { store = store }) (kept_of z)
+  still_is kept = record { zone_is = h.zone_is; tip_is = h.tip_is; number_is = h.number_is; octets_are = h.octets_are; snapshot_is = h.snapshot_is; journal_is = h.journal_is; kept = kept }
+
+  pub moved_ok : {T : Type 0} (v : T) → (z.closed ≡ true → ⊥)
+      → ((n : ℕ) → (kept_of z).staged ≡ [] → IsKeptNumber (kept_of z) keep room n → keeps store (moved_to (length (kept_of z).shown - n) (kept_of z)))
+      → (new : ZoneState) × IsMovedBy {T = T} room z (Ok v) new × HasVersions keeps zone (record b { store = store }) (kept_of new)
+  moved_ok v shut clause =
+      let is_open = open_of z.closed shut in
+      let base = length (kept_of z).shown - number.0 in (
+        rebased false base z,
+        (is_open, (base, next_base number.0 number.1, inl refl)),
+        moved_is base (clause number.0 (open_staged z settled is_open) number.1),
+      )
+
+  pub moved_refused : {T : Type 0} (e : CheckpointError)
+      → (z.closed ≡ true → ◌≡◌ {A = Result T CheckpointError} (Err e) (Err refused.Closed))
+      → (◌≡◌ {A = Result T CheckpointError} (Err e) (Err refused.Closed) → z.closed ≡ true)
+      → ((n : ℕ) → (kept_of z).staged ≡ [] → IsKeptNumber (kept_of z) keep room n → ◌≡◌ {A = Result T CheckpointError} (Err e) (Err refused.Device) → keeps store (closed_between (length (kept_of z).shown - n) (kept_of z)))
+      → ((n : ℕ) → (kept_of z).staged ≡ [] → IsKeptNumber (kept_of z) keep room n → ◌≡◌ {A = Result T CheckpointError} (Err e) (Err refused.ZoneTooLarge) → (kept_of z).shape.snapshot < sectors_of_snapshot (version_at (kept_of z) (length (kept_of z).shown - n)))
+      → ((kept_of z).staged ≡ [] → ◌≡◌ {A = Result T CheckpointError} (Err e) (Err refused.WrongChanges) → ⊥)
+      → ◌≡◌ {A = Result T CheckpointError} (Err e) (Err refused.Device) ⊎ keeps store (kept_of z)
+      → (new : ZoneState) × IsMovedBy {T = T} room z (Err e) new × HasVersions keeps zone (record b { store = store }) (kept_of new)
+  moved_refused refused.Device shuts shut closes large right stays =
+      let is_open = open_of z.closed (λ is. (let other = shuts is in absurd cc)) in
+      let base = length (kept_of z).shown - number.0 in (
+        rebased true base z,
+        (is_open, (base, next_base number.0 number.1, inl refl)),
+        between_is base (closes number.0 (open_staged z settled is_open) number.1 refl),
+      )
+  moved_refused refused.Closed shuts shut closes large right stays = ⊎_elim (λ failed. absurd cc) (λ kept. (z, (shut refl, refl), still_is kept)) stays
+  moved_refused refused.ZoneTooLarge shuts shut closes large right stays =
+      let is_open = open_of z.closed (λ is. (let other = shuts is in absurd cc)) in
+      let base = length (kept_of z).shown - number.0 in
+      ⊎_elim (λ failed. absurd cc)
+      (λ kept. (z, (is_open, (base, next_base number.0 number.1, inr (refl, refl, large number.0 (open_staged z settled is_open) number.1 refl))), still_is kept)) stays
+  moved_refused refused.WrongChanges shuts shut closes large right stays =
+      let is_open = open_of z.closed (λ is. (let other = shuts is in absurd cc)) in
+      absurd (right (open_staged z settled is_open) refl)
+  moved_refused refused.OutOfMemory shuts shut closes large right stays = ⊎_elim (λ failed. absurd cc) (λ kept. (z, refl, still_is kept)) stays
+
+-- a zone behind a flush
+zone_by : (f : Bool) (s : Setting) (l : List Record) (shown staged : List Made) (base : ℕ) (second : Option ℕ) (closed : Bool)
+    → IsSettled (flushed_zone f (record { setting = s; loaded = l; shown = shown; staged = staged; base = base; second = second; closed = closed }))
+zone_by f s l shown staged base second true = inl refl
+zone_by f s l shown [] base second false = inr refl
+zone_by true s l shown (m ∷ staged) base second false = inl refl
+zone_by false s l shown (m ∷ staged) base second false = inr refl
+
+pub zone_settled : (f : Bool) (z : ZoneState) → IsSettled (flushed_zone f z)
+zone_settled f z = zone_by f z.setting z.loaded z.shown z.staged z.base z.second z.closed
+
+open_by : (f : Bool) (s : Setting) (l : List Record) (shown staged : List Made) (base : ℕ) (second : Option ℕ) (closed : Bool)
+    → (flushed_zone f (record { setting = s; loaded = l; shown = shown; staged = staged; base = base; second = second; closed = closed })).closed ≡ false
+    → flushed_zone f (record { setting = s; loaded = l; shown = shown; staged = staged; base = base; second = second; closed = closed })
+    ≡ flushed_zone false (record { setting = s; loaded = l; shown = shown; staged = staged; base = base; second = second; closed = closed })
+open_by f s l shown staged base second true is = refl
+open_by f s l shown [] base second false is = refl
+open_by true s l shown (m ∷ staged) base second false is = absurd (cc is)
+open_by false s l shown (m ∷ staged) base second false is = refl
+
+-- where it isn't closed then, it did not fail
+zone_open : (f : Bool) (z : ZoneState) → (flushed_zone f z).closed ≡ false → kept_of (flushed_zone f z) ≡ held.flushed false (kept_of z)
+zone_open f z is = ap kept_of (open_by f z.setting z.loaded z.shown z.staged z.base z.second z.closed is) ∙ kept_flushed false z
+
+pub zone_at : (fails : List Bool) (zones : List ZoneState) (place : ℕ) (z : ZoneState) → length fails ≡ length zones → slice_get zones place ≡ Some z → (f : Bool) × (slice_get (flushed_zones fails zones) place ≡ Some (flushed_zone f z))
+zone_at [] [] place z long e = absurd (cc e)
+zone_at [] (a ∷ zones) place z long e = absurd (omega (arith, long))
+zone_at (f ∷ fails) [] place z long e = absurd (cc e)
+zone_at (f ∷ fails) (a ∷ zones) zero z long e = (let is : a ≡ z = cc e in (f, ap (λ (x : ZoneState). Some (flushed_zone f x)) is))
+zone_at (f ∷ fails) (a ∷ zones) (suc place) z long e = zone_at fails zones place z (omega (arith, long)) e
+
+-- the zone of the event among all
+with_more : {S B : Type 0} (store : B → S) (moment : S → ℕ) (left_since : S → ℕ → Content → Type 0) (opens : Shape → Opened → Content → Type 0) (olds news : List B) (zones : List ZoneState) (place room : ℕ)
+    → Each3 (λ a b k. LeavesOnly moment left_since (store a) (store b) (OpensAsLeft opens k)) olds news (map kept_of zones)
+    → Each3 (λ a b k. LeavesOnly moment left_since (store a) (store b) (OpensAsEvent opens k.0 k.1)) olds news (with_room place room zones)
+with_more store moment left_since opens [] [] [] place room each = tt
+with_more store moment left_since opens (a ∷ olds) (b ∷ news) (z ∷ zones) zero room each =
+    (weaker moment left_since (store a) (store b) (OpensAsLeft opens (kept_of z)) (OpensAsEvent opens (Some room) z) each.0 (λ c left. inl left), without store moment left_since opens olds news zones each.1)
+with_more store moment left_since opens (a ∷ olds) (b ∷ news) (z ∷ zones) (suc place) room each = (each.0, with_more store moment left_since opens olds news zones place room each.1)
+with_more store moment left_since opens _ _ _ place room each = absurd each
+
+pub moved_moments : {S B : Type 0} (store : B → S) (moment : S → ℕ) (left_since : S → ℕ → Content → Type 0) (opens : Shape → Opened → Content → Type 0) (olds mids : List B) (zones : List ZoneState) (place room : ℕ) (z : ZoneState) (e new : B)
+    → Each3 (λ a b k. LeavesOnly moment left_since (store a) (store b) (OpensAsLeft opens k)) olds mids (map kept_of zones)
+    → slice_get zones place ≡ Some z
+    → ((a : B) → LeavesOnly moment left_since (store a) (store (slice_index_or mids place e)) (OpensAsLeft opens (kept_of z)) → LeavesOnly moment left_since (store a) (store new) (OpensAsEvent opens (Some room) z))
+    → Each3 (λ a b k. LeavesOnly moment left_since (store a) (store b) (OpensAsEvent opens k.0 k.1)) olds (slice_set mids place new) (with_room place room zones)
+moved_moments store moment left_since opens [] [] [] place room z e new each there go = tt
+moved_moments store moment left_since opens (a ∷ olds) (b ∷ mids) (y ∷ zones) zero room z e new each there go =
+    let is : y ≡ z = cc there in (
+      subst (λ (x : ZoneState). LeavesOnly moment left_since (store a) (store new) (OpensAsEvent opens (Some room) x)) (sym is)
+          (go a (subst (λ (x : ZoneState). LeavesOnly moment left_since (store a) (store b) (OpensAsLeft opens (kept_of x))) is each.0)),
+      without store moment left_since opens olds mids zones each.1,
+    )
+moved_moments store moment left_since opens (a ∷ olds) (b ∷ mids) (y ∷ zones) (suc place) room z e new each there go = (each.0, moved_moments store moment left_since opens olds mids zones place room z e new each.1 there go)
+moved_moments store moment left_since opens _ _ _ place room z e new each there go = absurd each
+
+-- one of a list
+pub got : {A : Type 0} (xs : List A) (n : ℕ) (a d : A) → slice_get xs n ≡ Some a → slice_index_or xs n d ≡ a
+got [] n a d e = absurd (cc e)
+got (x ∷ xs) zero a d e = cc e
+got (x ∷ xs) (suc n) a d e = got xs n a d e
+
+pub put : {A : Type 0} (xs : List A) (n : ℕ) (a b : A) → n < length xs → slice_get (slice_set xs n a) n ≡ Some b → a ≡ b
+put [] n a b lt e = absurd (omega arith)
+put (x ∷ xs) zero a b lt e = cc e
+put (x ∷ xs) (suc n) a b lt e = put xs n a b (omega arith) e
+
+-- there is no such zone
+pub not_there : {I S : Type 0} {i : index.Ghosts I} {s : store.Ghosts S} (m : Machine) (place : ℕ) (p : Primary I S i s) (effects : Effects) → slice_get m.zones place ≡ None → AtAnyMoment s m p.behind.items p.behind.items → IsKept p m → AreEffects nothing effects
+    → SteppedBy m (Checkpoint place) p p effects
+not_there {s = s} m place p effects none rest kept effects_are = record {
+  fails = [];
+  failed = inl tt;
+  any_moment = with_more (λ (b : Behind _ _). b.store) s.moment s.left_since s.opens p.behind.items p.behind.items m.zones place 0 rest;
+  next = m;
+  stated = nothing;
+  is = inl (subst (λ (o : Option ZoneState). IsCheckpointed [] m place o nothing m) (sym none) (refl, gives_none m));
+  effects_are = effects_are;
+  kept = kept;
+}
+
+-- the move behind the flush, at any moment
+module _ {S : Type 0} (moment : S → ℕ) (left_since : S → ℕ → Content → Type 0) (opens : Shape → Opened → Content → Type 0) (room : ℕ) (z : ZoneState) (f : Bool) (old mid new : S) where
+  pub move_at : LeavesOnly moment left_since old mid (OpensAsLeft opens (kept_of z))
+      → ((k : Kept) (n : ℕ) → k ≡ kept_of (flushed_zone f z) → k.staged ≡ [] → IsKeptNumber k z.setting.keep room n → LeavesOnly moment left_since mid new (OpensAsEither opens k (length k.shown - n)))
+      → ((flushed_zone f z).closed ≡ true → StandsStill moment left_since mid new)
+      → ((k : Kept) → k ≡ kept_of (flushed_zone f z) → (c : Content) → left_since mid (moment mid) c → OpensAsLeft opens k c)
+      → LeavesOnly moment left_since old new (OpensAsEvent opens (Some room) z)
+  move_at first moves still rest = by (flushed_zone f z).closed refl
+    where
+      by : (closed : Bool) → (flushed_zone f z).closed ≡ closed → LeavesOnly moment left_since old new (OpensAsEvent opens (Some room) z)
+      by true is =
+          let same = still is in
+          record {
+            later = omega (arith, first.later, same.no_later);
+            each = λ c left. inl (first.each c (same.same (moment old) c left));
+            before = λ t c le left. ⊎_elim (λ was. inl was) (λ now. inr (inl now)) (first.before t c le (same.same t c left));
+          }
+      by false is =
+          let open_is = zone_open f z is in
+          move_leaves moment left_since opens z.setting.keep room (kept_of z) old mid new first
+          (λ n none number. moves (held.flushed false (kept_of z)) n (sym open_is) none number)
+          (λ shut. still (ap (λ (k : Kept). k.closed) open_is ∙ shut))
+          (rest (held.flushed false (kept_of z)) (sym open_is))
+
+-- what is told of the move
+abbrev pub moved_by : {T : Type 0} → Result T CheckpointError → Bool
+moved_by (Ok v) = false
+moved_by (Err refused.Device) = true
+moved_by (Err refused.Closed) = false
+moved_by (Err refused.ZoneTooLarge) = false
+moved_by (Err refused.WrongChanges) = false
+moved_by (Err refused.OutOfMemory) = false
+
+pub device_of : {T : Type 0} (r : Result T CheckpointError) → moved_by r ≡ true → r ≡ Err refused.Device
+device_of (Ok v) e = absurd (cc e)
+device_of (Err refused.Device) e = refl
+device_of (Err refused.Closed) e = absurd (cc e)
+device_of (Err refused.ZoneTooLarge) e = absurd (cc e)
+device_of (Err refused.WrongChanges) e = absurd (cc e)
+device_of (Err refused.OutOfMemory) e = absurd (cc e)
+
+noted_first : (o : Option ℕ) (place : ℕ) → noted_of (first_of o true place) ≡ noted_then (noted_of o) place
+noted_first None place = refl
+noted_first (Some n) place = refl
+
+noted_same : (o : Option ℕ) (place : ℕ) → noted_of (first_of o false place) ≡ noted_of o
+noted_same None place = refl
+noted_same (Some n) place = refl
+
+rebased_setting : (fails : Bool) (base : ℕ) (z : ZoneState) → (rebased fails base z).setting ≡ z.setting
+rebased_setting true base z = refl
+rebased_setting false base z = refl
+
+moved_setting : (fails : Bool) (room : ℕ) (z new : ZoneState) → IsMoved fails room z new → new.setting ≡ z.setting
+moved_setting fails room z new h = ⊎_elim (λ e. ap (λ (x : ZoneState). x.setting) e ∙ rebased_setting fails h.0 z) (λ e. ap (λ (x : ZoneState). x.setting) e.1) h.2
+
+pub setting_of : {T : Type 0} (room : ℕ) (z new : ZoneState) (r : Result T CheckpointError) → IsMovedBy room z r new → new.setting ≡ z.setting
+setting_of room z new (Ok v) h = moved_setting false room z new h.1
+setting_of room z new (Err refused.Device) h = moved_setting true room z new h.1
+setting_of room z new (Err refused.Closed) h = ap (λ (x : ZoneState). x.setting) h.1
+setting_of room z new (Err refused.ZoneTooLarge) h = moved_setting false room z new h.1
+setting_of room z new (Err refused.WrongChanges) h = absurd h
+setting_of room z new (Err refused.OutOfMemory) h = ap (λ (x : ZoneState). x.setting) h
+
+-- the step, by what the move gave
+module _ (m : Machine) (place : ℕ) (fails : List Bool) (z zf new : ZoneState) (long : length fails ≡ length m.zones) (there : slice_get m.zones place ≡ Some z) (stands : slice_get (flushed fails m).zones place ≡ Some zf) where
+  abbrev pub next : Machine
+  next = record (flushed fails m) { zones = slice_set (flushed fails m).zones place new }
+
+  abbrev pub stated : Noted → machine.Effects
+  stated noted = record { sent = flush_sends fails m; accepted = None; noted = noted }
+
+  checkpointed : (moving : Bool) (noted : Noted) → IsMovedUnlessClosed moving 0 zf new → noted ≡ noted_of (first_of (first_true fails) moving place) → Step (either_fails moving place fails) m (Checkpoint place) (stated noted) next
+  checkpointed moving noted moved noted_is =
+      inl (subst (λ (o : Option ZoneState). IsCheckpointed (either_fails moving place fails) m place o (stated noted) next) (sym there)
+      (fails, moving, refl, record { all = long; zone = zf; stands = stands; next = new; moved = moved; is = refl }, record { sent = refl; accepted = refl; noted = noted_is }))
+
+  without_memory : new ≡ zf → Step fails m (Checkpoint place) (stated OutOfMemory) next
+  without_memory same = inr (record {
+    takes = refl;
+    noted = refl;
+    accepted = refl;
+    stays = inr (
+      ap (λ (o : Option ZoneState). is_some o) there,
+      long,
+      (λ i. record (flushed fails m) { zones = (ap (λ (x : ZoneState). slice_set (flushed fails m).zones place x) same ∙ set_same (flushed fails m).zones place zf stands) i }),
+      sym (append-nil (flush_sends fails m)),
+    );
+  })
+
+  pub stepped : {T : Type 0} (r : Result T CheckpointError) → IsMovedBy 0 zf r new → Step (either_fails (moved_by r) place fails) m (Checkpoint place) (stated (noted_moved (noted_of (first_true fails)) place r)) next
+  stepped (Ok v) h = checkpointed false (noted_of (first_true fails)) (inr h) (sym (noted_same (first_true fails) place))
+  stepped (Err refused.Device) h = checkpointed true (noted_then (noted_of (first_true fails)) place) (inr h) (sym (noted_first (first_true fails) place))
+  stepped (Err refused.Closed) h = checkpointed false (noted_of (first_true fails)) (inl (h.0, refl, h.1)) (sym (noted_same (first_true fails) place))
+  stepped (Err refused.ZoneTooLarge) h = checkpointed false (noted_of (first_true fails)) (inr h) (sym (noted_same (first_true fails) place))
+  stepped (Err refused.WrongChanges) h = absurd h
+  stepped (Err refused.OutOfMemory) h = without_memory h

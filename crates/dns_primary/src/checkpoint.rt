@@ -1,0 +1,78 @@
+//! Checkpoints: all zones are flushed, and then the base of one is moved, so that its journal has room again.
+ghost use Rattle.std.specs.Prelude.{◌≡◌, ◌-◌, ℕ, [], None, true, length};
+ghost use Rattle.dns_zone.specs.Zone.{Zone as Stated};
+ghost use Rattle.dns_sectors.specs.Device.{LeavesOnly};
+ghost use Rattle.dns_store.specs.Versions.{Kept, OpensAsEither, StandsStill};
+ghost use Rattle.dns_store.specs.Checkpoint.{IsKeptNumber};
+ghost use Rattle.dns_held.specs.Held.{HasVersions};
+ghost use Rattle.dns_held.specs.Flush.{HasFailed};
+ghost use Rattle.dns_primary.specs.Machine.{Machine, ZoneState, kept_of};
+ghost use Rattle.dns_primary.specs.Checkpoint.{IsMovedBy, IsSettled};
+ghost use Rattle.dns_primary.specs.Step.{Checkpoint};
+ghost use Rattle.dns_primary.specs.Keeps.{IsKept};
+ghost use Rattle.dns_primary.specs.Steps.{SteppedBy, noted_moved};
+
+use crate::{Effects, Noted, Primary};
+use dns_held::Behind;
+use dns_store::{CheckpointError, ZoneStore};
+use dns_zone::ZoneIndex;
+
+/// Moves the base of a zone of which nothing is staged, or that is closed.
+fn move_base<I: ZoneIndex, S: ZoneStore>(
+    behind: &mut Behind<I, S>,
+    keep: usize,
+    room: usize,
+) -> Result<(), CheckpointError>
+    ensures moved { (zone : Stated) (z : ZoneState)
+        → HasVersions S.keeps zone behind.old (kept_of z)
+        → keep ≡ z.setting.keep
+        → IsSettled z
+        → (new : ZoneState) × IsMovedBy room z result new × HasVersions S.keeps zone behind.new (kept_of new) }
+    ensures any_moment { (k : Kept) (n : ℕ) → S.keeps behind.old.store k → k.staged ≡ [] → IsKeptNumber k keep room n
+        → LeavesOnly S.moment S.left_since behind.old.store behind.new.store (OpensAsEither S.opens k (length k.shown - n)) }
+    ensures still { (k : Kept) → S.keeps behind.old.store k → k.closed ≡ true
+        → StandsStill S.moment S.left_since behind.old.store behind.new.store }
+    ensures failed { result ≡ Err CheckpointError.Device
+        → HasFailed (S.failed behind.old.store) (S.failed behind.new.store) }
+{
+    match behind.store.checkpoint(keep, room) {
+        Ok(()) => Ok(()),
+        Err(error) => Err(error),
+    }
+}
+
+/// What is noted behind the move of the base of the zone at a place.
+fn noted_behind(noted: Noted, place: usize, moved: Result<(), CheckpointError>) -> Noted
+    ensures { result ≡ noted_moved noted place moved }
+{
+    match moved {
+        Ok(()) => noted,
+        Err(CheckpointError::Device) => match noted {
+            Noted::Nothing => Noted::Device(place),
+            Noted::OutOfMemory => Noted::OutOfMemory,
+            Noted::Device(earlier) => Noted::Device(earlier),
+        },
+        Err(CheckpointError::Closed) => noted,
+        Err(CheckpointError::ZoneTooLarge) => noted,
+        Err(CheckpointError::WrongChanges) => noted,
+        Err(CheckpointError::OutOfMemory) => Noted::OutOfMemory,
+    }
+}
+
+impl<I: ZoneIndex, S: ZoneStore> Primary<I, S> {
+    /// Flushes all zones, and then moves the base of the one at a place to the version shown less as many changes as it is to keep,
+    /// where their entries fit in its journal. Where there is no such zone nothing happens.
+    pub(crate) fn checkpoint(&mut self, place: usize) -> Effects
+        ensures step { (old : Machine) → IsKept self.old old → SteppedBy old (Checkpoint place) self.old self.new result }
+        ensures bare { result.reply ≡ None }
+    {
+        if place >= self.zones.len() {
+            return Effects::nothing(*self.places.allocator());
+        }
+        let mut effects = self.flush();
+        let keep = self.settings[place].keep as usize;
+        let moved = move_base(&mut self.behind[place], keep, 0);
+        effects.noted = noted_behind(effects.noted, place, moved);
+        effects
+    }
+}
