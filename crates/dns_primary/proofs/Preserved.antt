@@ -22,12 +22,10 @@ use Rattle.dns_primary.specs.Flush.{Sent, Replied, rcode_servfail, flushed, flus
 use Rattle.dns_primary.specs.Connections.{connected, closed, without_connection}
 use Rattle.dns_primary.specs.Update.{Asked, Admission, Rejects, Admits, rcode_notauth, place_of, admission_in, admission_at, admission, waits, stages, replies, accepted_in, judged_in, admitted, is_full, made_place, updated}
 use Rattle.dns_primary.specs.Step.{Event, Datagram, Connect, Arrives, Flush, Checkpoint, Closed, IsCheckpointed, Effects, AreFailures, Gives, IsServed, IsArrived, Goes, Lacks, Step, is_asking, failure, failure_on, failures}
-use Rattle.dns_primary.specs.declared.primary.ZoneSettings.{ZoneSettings}
-use Rattle.dns_primary.specs.Fresh.{IsLoaded, IsFresh}
 use Rattle.dns_primary.specs.Checkpoint.{rebased, IsMovedUnlessClosed}
-use Rattle.dns_primary.specs.Runs.{Lasts, Moment, Run, last_of, IsTrueIn, IsHistory, HasHistory, Promise}
-use Rattle.dns_primary.proofs.Zonewise.{tested, all_last_same, all_last_on, lasts_same, pair_set, all_set, all_found, Same, same_history}
-use Rattle.dns_primary.proofs.Sound.{IsPlaced, IsSound, Preserves, all_true_over, all_with, stays, and_then, with_reply, flush_preserves, wait_preserves, stage_preserves}
+use Rattle.dns_primary.specs.Runs.{Lasts, IsTrueIn, HasHistory}
+use Rattle.dns_primary.proofs.Zonewise.{tested, all_last_same, lasts_same, pair_set, all_set, all_found, Same, same_history}
+use Rattle.dns_primary.proofs.Sound.{IsPlaced, IsSound, Preserves, all_with, stays, and_then, with_reply, flush_preserves, wait_preserves, stage_preserves}
 
 abbrev Carries : Machine → Machine × List Sent → Type 0
 Carries old p = Preserves old p.0 p.1

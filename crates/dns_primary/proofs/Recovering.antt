@@ -1,15 +1,14 @@
 -- What a crash leaves of a device, as a zone of the machine that is opened again.
-use Rattle.std.proofs.Common.{◌≡◌, ◌⊎◌, ◌≤◌, ℕ, Bool, true, false, ◌||◌, inl, inr, ⊎_elim, List, [], ◌∷◌, ◌++◌, length, map, Option, Some, None, refl, sym, ap, subst, ◌∙◌, arith, append-nil}
+use Rattle.std.proofs.Common.{◌≡◌, ◌⊎◌, ℕ, false, ◌||◌, inl, inr, ⊎_elim, List, [], ◌∷◌, ◌++◌, length, Some, None, refl, sym, ap, subst, ◌∙◌, arith, append-nil}
 use Rattle.std.proofs.lemmas.List.{length-map}
-use Rattle.dns_records.specs.Record.{Record}
 use Rattle.dns_sectors.specs.Device.{Content}
-use Rattle.dns_store.specs.Versions.{Versions, Shape, Kept, Opened, IsLeftOf, OpensAsLeft, made_durable, moved_to}
+use Rattle.dns_store.specs.Versions.{Versions, Kept, Opened, OpensAsLeft, made_durable, moved_to}
 use Rattle.dns_store.specs.Opens.{opens}
 use Rattle.dns_held.specs.Flush.{flushed, is_none_staged}
-use Rattle.dns_held.specs.Checkpoint.{IsNextBase, OpensAsCheckpointed}
+use Rattle.dns_held.specs.Checkpoint.{OpensAsCheckpointed}
 use Rattle.dns_primary.specs.Machine.{Made, ZoneState, Machine, kept_of, versions_of}
 use Rattle.dns_primary.specs.Step.{Event}
-use Rattle.dns_primary.specs.Stop.{Checkpoints, IsMaking, IsRecovered, OpensAsRecovered, opened_of}
+use Rattle.dns_primary.specs.Stop.{Checkpoints, IsMaking, OpensAsRecovered, opened_of}
 use Rattle.dns_primary.proofs.Zonewise.{tested, versions_joined}
 
 -- the updates whose versions are the first of some
