@@ -11,5 +11,6 @@ pub mod Outcome
 pub mod Queue
 pub mod Steps
 pub mod Fresh
+pub mod Open
 pub mod Runs
 pub mod Causes

@@ -8,6 +8,7 @@ mod effects;
 mod event;
 mod flush;
 mod laws;
+mod open;
 mod primary;
 mod queue;
 mod serve;
@@ -17,4 +18,5 @@ mod update;
 
 pub use event::{Effects, Event, HeaderTo, Noted, Peer, Reply, ReplyOctets, To, Waiting};
 pub use laws::{fresh_law, replies_wait_law, servfail_law, stop_law, versions_law};
+pub use open::NotOpened;
 pub use primary::{Primary, ZoneSettings};

@@ -1,0 +1,183 @@
+//! Primaries over devices: the store of each zone is opened, and at the end all devices are handed out again.
+ghost use Rattle.std.specs.Prelude.{◌≡◌, ◌≤◌, ◌+◌, ◌++◌, List, length, map, vec_capacity, MatchResult};
+ghost use Rattle.dns_primary.specs.Machine.{Machine};
+ghost use Rattle.dns_primary.specs.Step.{Event as StatedEvent};
+ghost use Rattle.dns_primary.specs.Stop.{IsStopped};
+ghost use Rattle.dns_primary.specs.Keeps.{IsKept};
+ghost use Rattle.dns_primary.specs.Open.{AreHandedBack, AreOpened, AreRecoverable, AreRefused, IsNotOpened, IsOpened};
+ghost use Rattle.dns_primary.specs.Open.{IsRecoveryStopped, LeaveRecovered, device_behind};
+
+use crate::{Primary, ZoneSettings};
+use arrayvec::ArrayVec;
+use dns_held::Behind;
+use dns_memory::Heap;
+use dns_names::Name;
+use dns_sectors::Sectors;
+use dns_store::{KeptStore, OpenError, open};
+use dns_zone::{Zone, ZoneIndex};
+use slab::Slab;
+
+/// Why a primary was not opened, and all devices, in the order in which they came.
+#[derive(Drop)]
+pub struct NotOpened<D> {
+    /// The place of the zone whose store was refused, or 0 where memory was refused before any was opened.
+    pub place: usize,
+    /// What its store was refused for.
+    pub error: OpenError,
+    /// All devices, those that were opened before too.
+    pub devices: Vec<D, Heap>,
+}
+
+// A zone whose device was opened.
+#[derive(Drop)]
+struct OneOpened<D: Sectors + Drop, I: ZoneIndex> {
+    zone: Zone<I>,
+    behind: Behind<I, KeptStore<D, I>>,
+}
+
+// All zones, with their devices.
+#[derive(Drop)]
+struct AllOpened<D: Sectors + Drop, I: ZoneIndex> {
+    zones: Vec<Zone<I>, Heap>,
+    behind: Vec<Behind<I, KeptStore<D, I>>, Heap>,
+}
+
+// The place of the zone that was refused, and why.
+struct Refusal {
+    place: usize,
+    error: OpenError,
+}
+
+// Opens the device of one zone.
+fn open_one<D: Sectors + Drop, I: ZoneIndex>(
+    alloc: Heap,
+    device: D,
+    apex: &Name,
+    own: &ZoneSettings,
+) -> Result<OneOpened<D, I>, (D, OpenError)>
+    ensures { MatchResult result (λ r. IsOpened apex.now own.now device r.zone r.behind)
+        (λ e. IsNotOpened D.Sectors apex.now own.now e.1 device e.0) }
+{
+    let (store, zone) = open(alloc, device, apex, own.snapshot, own.journal)?;
+    let behind = Behind::new(&zone, store, own.snapshot, own.journal);
+    Ok(OneOpened { zone, behind })
+}
+
+// Puts the devices of opened zones before the others again.
+fn take_back<D: Sectors + Drop, I: ZoneIndex>(
+    devices: &mut Vec<D, Heap>,
+    behind: Vec<Behind<I, KeptStore<D, I>>, Heap>,
+)
+    requires { length behind.items + length devices.old.items ≤ vec_capacity devices.old }
+    ensures { devices.new.items ≡ map (λ b. device_behind b) behind.entry.items ++ devices.old.items }
+{
+    let mut behind = behind;
+    while let Some(last) = behind.pop() {
+        let Behind {
+            tip: _,
+            store,
+            number: _,
+            octets: _,
+            snapshot: _,
+            journal: _,
+        } = last;
+        match devices.insert(0, store.into_device()) {
+            Ok(()) => (),
+            Err(_) => unreachable!(),
+        }
+    }
+}
+
+// Opens the devices of all zones, in order. Where one is refused, all are there again.
+fn open_all<D: Sectors + Drop, I: ZoneIndex>(
+    alloc: Heap,
+    devices: &mut Vec<D, Heap>,
+    apexes: &[Name],
+    settings: &[ZoneSettings],
+) -> Result<AllOpened<D, I>, Refusal>
+    requires as_many { length devices.old.items ≡ length settings.now }
+    requires named { length apexes.now ≡ length settings.now }
+    ensures { MatchResult result
+        (λ r. AreOpened (length settings.now) apexes.now settings.now devices.old.items r.zones.items r.behind.items)
+        (λ e. AreRefused D.Sectors e.error e.place apexes.now settings.now devices.old.items devices.new.items) }
+{
+    let refused = Refusal {
+        place: 0,
+        error: OpenError::OutOfMemory,
+    };
+    let Ok(mut zones) = Vec::with_capacity(alloc, settings.len()) else {
+        return Err(refused);
+    };
+    let Ok(mut behind) = Vec::with_capacity(alloc, settings.len()) else {
+        return Err(refused);
+    };
+    for place in 0..settings.len() {
+        let device = devices.remove(0);
+        match open_one(alloc, device, &apexes[place], &settings[place]) {
+            Ok(one) => {
+                zones.push_reserved(one.zone);
+                behind.push_reserved(one.behind);
+            }
+            Err((device, error)) => {
+                match devices.insert(0, device) {
+                    Ok(()) => (),
+                    Err(_) => unreachable!(),
+                }
+                take_back(devices, behind);
+                return Err(Refusal { place, error });
+            }
+        }
+    }
+    Ok(AllOpened { zones, behind })
+}
+
+impl<D: Sectors + Drop, I: ZoneIndex> Primary<I, KeptStore<D, I>> {
+    /// Opens the devices of zones with these names and settings, all in one order, one after the other.
+    ///
+    /// Where the store of one is refused, all devices are handed back, in the order in which they came: those before it were opened
+    /// and those behind it are as they were. On the devices of a machine that stopped, however often recovery was itself stopped or
+    /// refused before, it is refused only where that zone's device failed, where memory was refused, or where that store was opened
+    /// 2^64 - 1 times.
+    pub fn open(
+        alloc: Heap,
+        devices: Vec<D, Heap>,
+        apexes: &[Name],
+        settings: Vec<ZoneSettings, Heap>,
+    ) -> Result<Primary<I, KeptStore<D, I>>, NotOpened<D>>
+        requires as_many { length devices.items ≡ length settings.items }
+        requires named { length apexes.now ≡ length settings.items }
+        // On the devices of a machine that stopped it is a machine that recovered from that stop; refused, the devices are such
+        // devices still.
+        ensures recovered { (m : Machine) (event : StatedEvent)
+            → AreRecoverable D.Sectors m event 0 m.zones apexes.now settings.entry.items devices.entry.items
+            → MatchResult result (λ p. (new : Machine) × IsStopped m event new × IsKept p new)
+            (λ e. AreRecoverable D.Sectors m event 0 m.zones apexes.now settings.entry.items e.devices.items
+            × IsRecoveryStopped D.Sectors e.error e.place devices.entry.items) }
+        // A crash at any moment of it leaves each device as one that a crash might have left before.
+        ensures any_moment { (m : Machine) (event : StatedEvent)
+            → AreRecoverable D.Sectors m event 0 m.zones apexes.now settings.entry.items devices.entry.items
+            → MatchResult result (λ p. LeaveRecovered D.Sectors m event 0 m.zones devices.entry.items
+            (map (λ b. device_behind b) p.behind.items))
+            (λ e. LeaveRecovered D.Sectors m event 0 m.zones devices.entry.items e.devices.items) }
+        // Why it is refused, on any devices.
+        ensures refused { IfErr result (λ e. AreRefused D.Sectors e.error e.place apexes.now settings.entry.items
+            devices.entry.items e.devices.items) }
+    {
+        let mut devices = devices;
+        match open_all(alloc, &mut devices, apexes, &settings) {
+            Ok(all) => Ok(Primary {
+                zones: all.zones,
+                behind: all.behind,
+                settings,
+                waiting: ArrayVec::new(),
+                places: Vec::new(alloc),
+                connections: Slab::new(alloc),
+            }),
+            Err(refusal) => Err(NotOpened {
+                place: refusal.place,
+                error: refusal.error,
+                devices,
+            }),
+        }
+    }
+}
