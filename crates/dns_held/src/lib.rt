@@ -10,4 +10,5 @@ mod staging;
 pub use behind::{Behind, newest};
 pub use checkpoint::{checkpoint_zone, make_room};
 pub use flush::{flush_all, flush_zone};
+pub use octets::snapshot_len;
 pub use staging::{MOST_RECORDS, StagingError, next_version, stage};

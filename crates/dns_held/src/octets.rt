@@ -21,7 +21,7 @@ fn plain_lens(records: &[Record]) -> usize
 }
 
 /// How many octets a snapshot of the zone has.
-pub(crate) fn snapshot_len<I: ZoneIndex>(zone: &Zone<I>) -> usize
+pub fn snapshot_len<I: ZoneIndex>(zone: &Zone<I>) -> usize
     ensures { result ≡ octets_of zone.now.records }
 {
     let _valid = zone.apex();

@@ -111,8 +111,8 @@ LeaveRecovered g m event place (z ∷ zones) (d ∷ olds) (e ∷ news) =
     × LeaveRecovered g m event (suc place) zones olds news
 LeaveRecovered g m event place _ _ _ = ⊥
 
--- Why no device of a stopped machine is refused for anything else.
+-- The device there of a stopped machine failed, memory was refused, or its store was opened too often.
 abbrev pub IsRecoveryStopped : {D : Type 0} → Ghosts D → OpenError → ℕ → List D → Type 0
 IsRecoveryStopped g error place [] = error ≡ OutOfMemory
 IsRecoveryStopped g error zero (d ∷ devices) = store.IsStopped (g.seen d) error
-IsRecoveryStopped g error (suc n) (d ∷ devices) = (error ≡ OutOfMemory) ⊎ IsRecoveryStopped g error n devices
+IsRecoveryStopped g error (suc n) (d ∷ devices) = IsRecoveryStopped g error n devices

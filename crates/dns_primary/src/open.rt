@@ -1,5 +1,5 @@
 //! Primaries over devices: the store of each zone is opened, and at the end all devices are handed out again.
-ghost use Rattle.std.specs.Prelude.{◌≡◌, ◌≤◌, ◌+◌, ◌++◌, List, length, map, vec_capacity, MatchResult};
+ghost use Rattle.std.specs.Prelude.{◌≡◌, ◌≤◌, ◌+◌, ◌++◌, List, length, map, vec_capacity, IfErr, MatchResult};
 ghost use Rattle.dns_primary.specs.Machine.{Machine};
 ghost use Rattle.dns_primary.specs.Step.{Event as StatedEvent};
 ghost use Rattle.dns_primary.specs.Stop.{IsStopped};
@@ -9,11 +9,11 @@ ghost use Rattle.dns_primary.specs.Open.{IsRecoveryStopped, LeaveRecovered, devi
 
 use crate::{Primary, ZoneSettings};
 use arrayvec::ArrayVec;
-use dns_held::Behind;
+use dns_held::{Behind, snapshot_len};
 use dns_memory::Heap;
 use dns_names::Name;
 use dns_sectors::Sectors;
-use dns_store::{KeptStore, OpenError, open};
+use dns_store::{KeptStore, OpenError, ZoneStore, open};
 use dns_zone::{Zone, ZoneIndex};
 use slab::Slab;
 
@@ -43,6 +43,7 @@ struct AllOpened<D: Sectors + Drop, I: ZoneIndex> {
 }
 
 // The place of the zone that was refused, and why.
+#[derive(Clone, Copy)]
 struct Refusal {
     place: usize,
     error: OpenError,
@@ -58,9 +59,20 @@ fn open_one<D: Sectors + Drop, I: ZoneIndex>(
     ensures { MatchResult result (λ r. IsOpened apex.now own.now device r.zone r.behind)
         (λ e. IsNotOpened D.Sectors apex.now own.now e.1 device e.0) }
 {
-    let (store, zone) = open(alloc, device, apex, own.snapshot, own.journal)?;
-    let behind = Behind::new(&zone, store, own.snapshot, own.journal);
-    Ok(OneOpened { zone, behind })
+    match open(alloc, device, apex, own.snapshot, own.journal) {
+        Ok((store, zone)) => {
+            let behind = Behind {
+                tip: None,
+                number: store.newest(),
+                store,
+                octets: snapshot_len(&zone),
+                snapshot: own.snapshot,
+                journal: own.journal,
+            };
+            Ok(OneOpened { zone, behind })
+        }
+        Err(refused) => Err(refused),
+    }
 }
 
 // Puts the devices of opened zones before the others again.

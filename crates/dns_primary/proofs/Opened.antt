@@ -1,0 +1,236 @@
+-- Devices that are opened one after the other, and what that is for a machine that stopped.
+use Rattle.std.proofs.Common.{◌≡◌, ◌<◌, ◌≤◌, ◌⊎◌, ℕ, zero, suc, inl, inr, List, [], ◌∷◌, ◌++◌, length, map, drop, refl, sym, ap, subst, ◌∙◌, arith}
+use Rattle.std.specs.Prelude.{None, slice_index_or}
+use Rattle.dns_names.specs.Name.{Labels}
+use Rattle.dns_zone.specs.Zone.{Zone}
+use Rattle.dns_sectors.specs.Device.{Content, LeavesOnly}
+use Rattle.dns_sectors.specs.declared.device.Sectors.{Ghosts}
+use Rattle.dns_sectors.proofs.Moments.{weaker, started}
+use Rattle.dns_store.specs.Versions.{Shape, Kept, Opened}
+use Rattle.dns_store.specs.Opens.{opens, fresh}
+use Rattle.dns_store.specs.Opening.{MayOpen, OpensAsPossible, keeps}
+use Rattle.dns_store.specs.Opening as store
+use Rattle.dns_store.specs.declared.kept_store.KeptStore.{KeptStore}
+use Rattle.dns_store.specs.declared.root.OpenError.{OpenError}
+use Rattle.dns_store.specs.declared.root.OpenError.TheVariants.{OutOfMemory}
+use Rattle.dns_held.specs.declared.behind.Behind.{Behind}
+use Rattle.dns_held.specs.Each.{Each2}
+use Rattle.dns_held.specs.Held.{HasVersions}
+use Rattle.dns_primary.specs.declared.primary.ZoneSettings.{ZoneSettings}
+use Rattle.dns_primary.specs.Machine.{Made, Setting, ZoneState, Machine, kept_of, versions_of}
+use Rattle.dns_primary.specs.Step.{Event}
+use Rattle.dns_primary.specs.Stop.{IsMaking, IsRecovered, AreRecovered, OpensAsRecovered, opened_of}
+use Rattle.dns_primary.specs.Keeps.{HaveVersions, IsSet}
+use Rattle.dns_primary.specs.Open.{shape_of, device_behind, StaysPossible, IsOpened, IsNotOpened, AreOpened, AreHandedBack, AreRefused, IsRecoverable, AreRecoverable, LeaveRecovered, IsRecoveryStopped}
+
+pub first_dropped : {A : Type 0} (xs : List A) (i : ℕ) (d : A) → slice_index_or (drop i xs) 0 d ≡ slice_index_or xs i d
+first_dropped xs zero d = refl
+first_dropped [] (suc i) d = refl
+first_dropped (x ∷ xs) (suc i) d = first_dropped xs i d
+
+pub drop_more : {A : Type 0} (xs : List A) (i : ℕ) → drop 1 (drop i xs) ≡ drop (suc i) xs
+drop_more [] zero = refl
+drop_more (x ∷ xs) zero = refl
+drop_more [] (suc i) = refl
+drop_more (x ∷ xs) (suc i) = drop_more xs i
+
+module _ {D I : Type 0} {g : Ghosts D} where
+  pub opened_none : (apexes : List Labels) (settings : List ZoneSettings) (devices : List D) (zones : List Zone) (behind : List (Behind I (KeptStore D I g))) → zones ≡ [] → behind ≡ [] → AreOpened zero apexes settings devices zones behind
+  opened_none apexes settings devices zones behind e f =
+      subst (λ (l : List Zone). AreOpened {D = D} {I = I} {g = g} zero apexes settings devices l behind) (sym e) (subst (λ (l : List (Behind I (KeptStore D I g))). AreOpened {D = D} {I = I} {g = g} zero apexes settings devices [] l) (sym f) tt)
+
+  pub opened_within : (i : ℕ) (apexes : List Labels) (settings : List ZoneSettings) (devices : List D) (zones : List Zone) (behind : List (Behind I (KeptStore D I g))) → AreOpened i apexes settings devices zones behind → i ≤ length settings
+  opened_within zero apexes settings devices zones behind each = omega arith
+  opened_within (suc i) (x ∷ apexes) (y ∷ settings) (v ∷ devices) (w ∷ zones) (c ∷ behind) each = (let rest = opened_within i apexes settings devices zones behind each.1 in omega (arith, rest))
+  opened_within _ _ _ _ _ _ each = absurd each
+
+  pub opened_many : (i : ℕ) (apexes : List Labels) (settings : List ZoneSettings) (devices : List D) (zones : List Zone) (behind : List (Behind I (KeptStore D I g))) → AreOpened i apexes settings devices zones behind → (length zones ≡ i) × (length behind ≡ i)
+  opened_many zero apexes settings devices [] [] each = (refl, refl)
+  opened_many zero apexes settings devices [] (c ∷ behind) each = absurd each
+  opened_many zero apexes settings devices (w ∷ zones) behind each = absurd each
+  opened_many (suc i) (x ∷ apexes) (y ∷ settings) (v ∷ devices) (w ∷ zones) (c ∷ behind) each =
+      (let rest = opened_many i apexes settings devices zones behind each.1 in (ap suc rest.0, ap suc rest.1))
+  opened_many _ _ _ _ _ _ each = absurd each
+
+  -- one more was opened
+  pub opened_more : (i : ℕ) (apexes : List Labels) (settings : List ZoneSettings) (devices : List D) (zones : List Zone) (behind : List (Behind I (KeptStore D I g))) (a : Labels) (s : ZoneSettings) (d : D) (z : Zone) (b : Behind I (KeptStore D I g))
+      → AreOpened i apexes settings devices zones behind
+      → i < length apexes → i < length settings → i < length devices
+      → IsOpened (slice_index_or apexes i a) (slice_index_or settings i s) (slice_index_or devices i d) z b
+      → AreOpened (suc i) apexes settings devices (zones ++ z ∷ []) (behind ++ b ∷ [])
+  opened_more zero [] settings devices zones behind a s d z b each l m n is = absurd (omega (arith, l))
+  opened_more zero (x ∷ apexes) [] devices zones behind a s d z b each l m n is = absurd (omega (arith, m))
+  opened_more zero (x ∷ apexes) (y ∷ settings) [] zones behind a s d z b each l m n is = absurd (omega (arith, n))
+  opened_more zero (x ∷ apexes) (y ∷ settings) (v ∷ devices) [] [] a s d z b each l m n is = (is, tt)
+  opened_more zero (x ∷ apexes) (y ∷ settings) (v ∷ devices) [] (c ∷ behind) a s d z b each l m n is = absurd each
+  opened_more zero (x ∷ apexes) (y ∷ settings) (v ∷ devices) (w ∷ zones) behind a s d z b each l m n is = absurd each
+  opened_more (suc i) (x ∷ apexes) (y ∷ settings) (v ∷ devices) (w ∷ zones) (c ∷ behind) a s d z b each l m n is =
+      (each.0, opened_more i apexes settings devices zones behind a s d z b each.1 (omega (arith, l)) (omega (arith, m)) (omega (arith, n)) is)
+  opened_more _ _ _ _ _ _ a s d z b each l m n is = absurd each
+
+  -- one was not
+  pub handed_back : (error : OpenError) (i : ℕ) (apexes : List Labels) (settings : List ZoneSettings) (devices : List D) (zones : List Zone) (behind : List (Behind I (KeptStore D I g))) (a : Labels) (s : ZoneSettings) (d e : D)
+      → AreOpened i apexes settings devices zones behind
+      → i < length apexes → i < length settings → i < length devices
+      → IsNotOpened g (slice_index_or apexes i a) (slice_index_or settings i s) error (slice_index_or devices i d) e
+      → AreHandedBack g error i apexes settings devices (map (λ b. device_behind b) behind ++ e ∷ drop (suc i) devices)
+  handed_back error zero [] settings devices zones behind a s d e each l m n is = absurd (omega (arith, l))
+  handed_back error zero (x ∷ apexes) [] devices zones behind a s d e each l m n is = absurd (omega (arith, m))
+  handed_back error zero (x ∷ apexes) (y ∷ settings) [] zones behind a s d e each l m n is = absurd (omega (arith, n))
+  handed_back error zero (x ∷ apexes) (y ∷ settings) (v ∷ devices) [] [] a s d e each l m n is = (is, refl)
+  handed_back error zero (x ∷ apexes) (y ∷ settings) (v ∷ devices) [] (c ∷ behind) a s d e each l m n is = absurd each
+  handed_back error zero (x ∷ apexes) (y ∷ settings) (v ∷ devices) (w ∷ zones) behind a s d e each l m n is = absurd each
+  handed_back error (suc i) (x ∷ apexes) (y ∷ settings) (v ∷ devices) (w ∷ zones) (c ∷ behind) a s d e each l m n is =
+      (each.0.leaves, handed_back error i apexes settings devices zones behind a s d e each.1 (omega (arith, l)) (omega (arith, m)) (omega (arith, n)) is)
+  handed_back error _ _ _ _ _ _ a s d e each l m n is = absurd each
+
+-- what a zone is that may be recovered, and its device
+module _ {D : Type 0} {g : Ghosts D} (making : ℕ → Type 0) (z : ZoneState) (a : Labels) (s : ZoneSettings) (d : D) (is : IsRecoverable g making z a s d) where
+  shape_is : (w : ZoneState) → IsRecovered making z w → w.setting.shape ≡ shape_of a s
+  shape_is w r = ap (λ (x : Setting). x.shape) r.setting ∙ is.shape
+
+  pub may_open : MayOpen g (shape_of a s) d
+  may_open c left =
+      let there = is.leaves c left in
+      (opened_of there.0, subst (λ (x : Shape). opens x (opened_of there.0) c) (shape_is there.0 there.1) there.2)
+
+  possible_recovered : (c : Content) → OpensAsPossible g (shape_of a s) d c → OpensAsRecovered opens making z c
+  possible_recovered c possible =
+      let there = is.leaves possible.0 possible.1 in
+      let same = shape_is there.0 there.1 in
+      let now = possible.2 (opened_of there.0) (subst (λ (x : Shape). opens x (opened_of there.0) possible.0) same there.2) in
+      (there.0, there.1, subst (λ (x : Shape). opens x (opened_of there.0) c) (sym same) now)
+
+  pub leaves_recovered : (e : D) → StaysPossible g a s d e → LeavesOnly g.moment g.left_since d e (OpensAsRecovered opens making z)
+  leaves_recovered e stays = weaker g.moment g.left_since d e (OpensAsPossible g (shape_of a s) d) (OpensAsRecovered opens making z) (stays.any_moment is.honest is.range) possible_recovered
+
+  module _ (counts_now : (device : D) (t : ℕ) (c : Content) → g.is_honest device → t ≤ g.moment device → g.may_leave device c → g.left_since device t c) where
+    pub stays_recoverable : (e : D) → StaysPossible g a s d e → IsRecoverable g making z a s e
+    stays_recoverable e stays =
+        let run = leaves_recovered e stays in
+        record {
+          shape = is.shape;
+          set = is.set;
+          range = is.range;
+          honest = stays.honest is.honest;
+          leaves = λ c left. run.each c (counts_now e (g.moment d) c (stays.honest is.honest) run.later left);
+        }
+
+  kept_fresh : (w : ZoneState) → IsRecovered making z w → kept_of w ≡ fresh (shape_of a s) (opened_of w)
+  kept_fresh w r = λ i. record {
+    shape = shape_is w r i;
+    loaded = w.loaded;
+    shown = versions_of w.shown;
+    staged = versions_of (r.staged i);
+    base = w.base;
+    second = r.second i;
+    closed = r.opened i;
+  }
+
+  pub set_recovered : (w : ZoneState) → IsRecovered making z w → IsSet s w
+  set_recovered w r = record {
+    keep = is.set.keep ∙ sym (ap (λ (x : Setting). x.keep) r.setting);
+    update = (subst (λ (x : Setting). IsSet s (record z { setting = x })) (sym r.setting) is.set).update;
+  }
+
+  pub record IsReopened {I : Type 0} (zone : Zone) (b : Behind I (KeptStore D I g)) : Type 0 where
+    pub state : ZoneState
+    pub recovered : IsRecovered making z state
+    pub held : HasVersions (λ x k. keeps x k) zone b (kept_of state)
+
+  pub reopened : {I : Type 0} (zone : Zone) (b : Behind I (KeptStore D I g)) → IsOpened a s d zone b → IsReopened zone b
+  reopened {I} zone b opened =
+      let takes = opened.takes is.honest is.range may_open in
+      let there = is.leaves takes.0 takes.1 in
+      let held = takes.2 (opened_of there.0) (subst (λ (x : Shape). opens x (opened_of there.0) takes.0) (shape_is there.0 there.1) there.2) in
+      record {
+        state = there.0;
+        recovered = there.1;
+        held = subst (λ (k : Kept). HasVersions (λ (x : KeptStore D I g) (k : Kept). keeps x k) zone b k) (sym (kept_fresh there.0 there.1)) held;
+      }
+
+-- all zones of a machine that stopped within an event
+module _ {D I : Type 0} {g : Ghosts D} (m : Machine) (event : Event) where
+  pub record AreReopened (place : ℕ) (olds : List ZoneState) (settings : List ZoneSettings) (devices : List D) (zones : List Zone) (behind : List (Behind I (KeptStore D I g))) : Type 0 where
+    pub states : List ZoneState
+    pub recovered : AreRecovered m event place olds states
+    pub held : HaveVersions (λ (x : KeptStore D I g) k. keeps x k) zones behind states
+    pub set : Each2 IsSet settings states
+    pub left : LeaveRecovered g m event place olds devices (map (λ (b : Behind I (KeptStore D I g)). device_behind b) behind)
+
+  pub all_reopened : (place : ℕ) (olds : List ZoneState) (apexes : List Labels) (settings : List ZoneSettings) (devices : List D) (zones : List Zone) (behind : List (Behind I (KeptStore D I g)))
+      → AreRecoverable g m event place olds apexes settings devices → AreOpened (length settings) apexes settings devices zones behind → AreReopened place olds settings devices zones behind
+  all_reopened place [] [] [] [] [] [] is each = record { states = []; recovered = tt; held = tt; set = tt; left = tt }
+  all_reopened place [] [] [] [] [] (b ∷ behind) is each = absurd each
+  all_reopened place [] [] [] [] (y ∷ zones) behind is each = absurd each
+  all_reopened place (z ∷ olds) (a ∷ apexes) (s ∷ settings) (d ∷ devices) [] behind is each = absurd each
+  all_reopened place (z ∷ olds) (a ∷ apexes) (s ∷ settings) (d ∷ devices) (y ∷ zones) [] is each = absurd each
+  all_reopened place (z ∷ olds) (a ∷ apexes) (s ∷ settings) (d ∷ devices) (y ∷ zones) (b ∷ behind) is each =
+      let making = IsMaking m event place z in
+      let one = reopened making z a s d is.0 y b each.0 in
+      let rest = all_reopened (suc place) olds apexes settings devices zones behind is.1 each.1 in
+      record {
+        states = one.state ∷ rest.states;
+        recovered = (one.recovered, rest.recovered);
+        held = (one.held, rest.held);
+        set = (set_recovered making z a s d is.0 one.state one.recovered, rest.set);
+        left = (leaves_recovered making z a s d is.0 (device_behind b) each.0.leaves, rest.left);
+      }
+  all_reopened place _ _ _ _ zones behind is each = absurd is
+
+-- the devices that are handed back
+module _ {D : Type 0} (g : Ghosts D) (m : Machine) (event : Event)
+    (counts_now : (device : D) (t : ℕ) (c : Content) → g.is_honest device → t ≤ g.moment device → g.may_leave device c → g.left_since device t c)
+    (only_now : (device : D) (c : Content) → g.is_honest device → g.left_since device (g.moment device) c → g.may_leave device c)
+    where
+  stays_itself : (a : Labels) (s : ZoneSettings) (d : D) → StaysPossible g a s d d
+  stays_itself a s d = record {
+    honest = λ h. h;
+    any_moment = λ honest range. started g.moment g.left_since d (OpensAsPossible g (shape_of a s) d) (λ c left. (c, only_now d c honest left, λ o is. is));
+  }
+
+  same_left : (place : ℕ) (olds : List ZoneState) (apexes : List Labels) (settings : List ZoneSettings) (devices : List D) → AreRecoverable g m event place olds apexes settings devices → LeaveRecovered g m event place olds devices devices
+  same_left place [] [] [] [] is = tt
+  same_left place (z ∷ olds) (a ∷ apexes) (s ∷ settings) (d ∷ devices) is =
+      (leaves_recovered (IsMaking m event place z) z a s d is.0 d (stays_itself a s d), same_left (suc place) olds apexes settings devices is.1)
+  same_left place _ _ _ _ is = absurd is
+
+  pub record AreHeld (error : OpenError) (n place : ℕ) (olds : List ZoneState) (apexes : List Labels) (settings : List ZoneSettings) (devices back : List D) : Type 0 where
+    pub recoverable : AreRecoverable g m event place olds apexes settings back
+    pub stopped : IsRecoveryStopped g error n devices
+    pub left : LeaveRecovered g m event place olds devices back
+
+  all_back : (error : OpenError) (n place : ℕ) (olds : List ZoneState) (apexes : List Labels) (settings : List ZoneSettings) (devices back : List D)
+      → AreRecoverable g m event place olds apexes settings devices → AreHandedBack g error n apexes settings devices back → AreHeld error n place olds apexes settings devices back
+  all_back error zero place (z ∷ olds) (a ∷ apexes) (s ∷ settings) (d ∷ devices) (e ∷ back) is h =
+      let making = IsMaking m event place z in
+      record {
+        recoverable = (stays_recoverable making z a s d is.0 counts_now e h.0.leaves, subst (λ (l : List D). AreRecoverable g m event (suc place) olds apexes settings l) (sym h.1) is.1);
+        stopped = h.0.stopped is.0.honest is.0.range (may_open making z a s d is.0);
+        left = (leaves_recovered making z a s d is.0 e h.0.leaves, subst (λ (l : List D). LeaveRecovered g m event (suc place) olds devices l) (sym h.1) (same_left (suc place) olds apexes settings devices is.1));
+      }
+  all_back error (suc n) place (z ∷ olds) (a ∷ apexes) (s ∷ settings) (d ∷ devices) (e ∷ back) is h =
+      let making = IsMaking m event place z in
+      let rest = all_back error n (suc place) olds apexes settings devices back is.1 h.1 in
+      record {
+        recoverable = (stays_recoverable making z a s d is.0 counts_now e h.0, rest.recoverable);
+        stopped = rest.stopped;
+        left = (leaves_recovered making z a s d is.0 e h.0, rest.left);
+      }
+  all_back error n place _ (a ∷ apexes) (s ∷ settings) (d ∷ devices) [] is h = absurd h
+  all_back error n place [] [] [] [] back is h = absurd h
+  all_back error n place _ _ _ _ back is h = absurd is
+
+  for_memory : (error : OpenError) (n : ℕ) (devices : List D) → error ≡ OutOfMemory → IsRecoveryStopped g error n devices
+  for_memory error n [] e = e
+  for_memory error zero (d ∷ devices) e = inr (inl e)
+  for_memory error (suc n) (d ∷ devices) e = for_memory error n devices e
+
+  pub refused_held : (error : OpenError) (n : ℕ) (olds : List ZoneState) (apexes : List Labels) (settings : List ZoneSettings) (devices back : List D)
+      → AreRecoverable g m event 0 olds apexes settings devices → AreRefused g error n apexes settings devices back → AreHeld error n 0 olds apexes settings devices back
+  refused_held error n olds apexes settings devices back is (inl h) = all_back error n 0 olds apexes settings devices back is h
+  refused_held error n olds apexes settings devices back is (inr (memory, same)) = record {
+    recoverable = subst (λ (l : List D). AreRecoverable g m event 0 olds apexes settings l) (sym same) is;
+    stopped = for_memory error n devices memory;
+    left = subst (λ (l : List D). LeaveRecovered g m event 0 olds devices l) (sym same) (same_left 0 olds apexes settings devices is);
+  }

@@ -1,0 +1,32 @@
+use Rattle.std.proofs.Common.{arith, refl, sym, ap, ◌∙◌, append-nil}
+use Rattle.dns_zone.specs.Zone.{Zone}
+use Rattle.dns_store.specs.Versions.{Versions, newest_after}
+use Rattle.dns_store.specs.Opens.{fresh}
+use Rattle.dns_held.specs.Plain.{octets_of}
+use Rattle.dns_primary.specs.Open.{shape_of}
+use Rattle.dns_primary.proofs.open.open_one.Goals as goal
+
+pub returns-in-Ok : goal.returns-in-Ok
+returns-in-Ok g c =
+    let e = c.in-Ok.ensures in
+    let shape = shape_of c.args.apex.now c.args.own.now in
+    record {
+      leaves = record { honest = λ h. e.honest.1 h; any_moment = λ honest range. e.any_moment honest range };
+      takes = λ honest range may.
+          (let t = e.opened honest range may in
+          (
+            t.0,
+            t.1,
+            λ o is.
+                (let taken = t.2 o is in
+                record {
+                  zone_is = taken.newest_is;
+                  tip_is = refl;
+                  number_is = omega (arith, c.newest.ensures (fresh shape o) taken.keeps_them);
+                  octets_are = c.snapshot_len.ensures ∙ ap (λ (z : Zone). octets_of z.records) taken.newest_is ∙ ap (λ (vs : Versions). octets_of (newest_after o.loaded vs)) (sym (append-nil o.versions));
+                  snapshot_is = refl;
+                  journal_is = refl;
+                  kept = taken.keeps_them;
+                }),
+          ));
+    }
