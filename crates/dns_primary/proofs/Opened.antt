@@ -1,15 +1,14 @@
 -- Devices that are opened one after the other, and what that is for a machine that stopped.
-use Rattle.std.proofs.Common.{◌≡◌, ◌<◌, ◌≤◌, ◌⊎◌, ℕ, zero, suc, inl, inr, List, [], ◌∷◌, ◌++◌, length, map, drop, refl, sym, ap, subst, ◌∙◌, arith}
-use Rattle.std.specs.Prelude.{None, slice_index_or}
+use Rattle.std.proofs.Common.{◌≡◌, ◌<◌, ◌≤◌, ℕ, zero, suc, inl, inr, List, [], ◌∷◌, ◌++◌, length, map, drop, refl, sym, ap, subst, ◌∙◌, arith}
+use Rattle.std.specs.Prelude.{slice_index_or}
 use Rattle.dns_names.specs.Name.{Labels}
 use Rattle.dns_zone.specs.Zone.{Zone}
 use Rattle.dns_sectors.specs.Device.{Content, LeavesOnly}
 use Rattle.dns_sectors.specs.declared.device.Sectors.{Ghosts}
 use Rattle.dns_sectors.proofs.Moments.{weaker, started}
-use Rattle.dns_store.specs.Versions.{Shape, Kept, Opened}
+use Rattle.dns_store.specs.Versions.{Shape, Kept}
 use Rattle.dns_store.specs.Opens.{opens, fresh}
 use Rattle.dns_store.specs.Opening.{MayOpen, OpensAsPossible, keeps}
-use Rattle.dns_store.specs.Opening as store
 use Rattle.dns_store.specs.declared.kept_store.KeptStore.{KeptStore}
 use Rattle.dns_store.specs.declared.root.OpenError.{OpenError}
 use Rattle.dns_store.specs.declared.root.OpenError.TheVariants.{OutOfMemory}
@@ -17,7 +16,7 @@ use Rattle.dns_held.specs.declared.behind.Behind.{Behind}
 use Rattle.dns_held.specs.Each.{Each2}
 use Rattle.dns_held.specs.Held.{HasVersions}
 use Rattle.dns_primary.specs.declared.primary.ZoneSettings.{ZoneSettings}
-use Rattle.dns_primary.specs.Machine.{Made, Setting, ZoneState, Machine, kept_of, versions_of}
+use Rattle.dns_primary.specs.Machine.{Setting, ZoneState, Machine, kept_of, versions_of}
 use Rattle.dns_primary.specs.Step.{Event}
 use Rattle.dns_primary.specs.Stop.{IsMaking, IsRecovered, AreRecovered, OpensAsRecovered, opened_of}
 use Rattle.dns_primary.specs.Keeps.{HaveVersions, IsSet}
@@ -182,55 +181,55 @@ module _ {D I : Type 0} {g : Ghosts D} (m : Machine) (event : Event) where
 module _ {D : Type 0} (g : Ghosts D) (m : Machine) (event : Event)
     (counts_now : (device : D) (t : ℕ) (c : Content) → g.is_honest device → t ≤ g.moment device → g.may_leave device c → g.left_since device t c)
     (only_now : (device : D) (c : Content) → g.is_honest device → g.left_since device (g.moment device) c → g.may_leave device c)
-    where
-  stays_itself : (a : Labels) (s : ZoneSettings) (d : D) → StaysPossible g a s d d
-  stays_itself a s d = record {
-    honest = λ h. h;
-    any_moment = λ honest range. started g.moment g.left_since d (OpensAsPossible g (shape_of a s) d) (λ c left. (c, only_now d c honest left, λ o is. is));
-  }
+  where
+    stays_itself : (a : Labels) (s : ZoneSettings) (d : D) → StaysPossible g a s d d
+    stays_itself a s d = record {
+      honest = λ h. h;
+      any_moment = λ honest range. started g.moment g.left_since d (OpensAsPossible g (shape_of a s) d) (λ c left. (c, only_now d c honest left, λ o is. is));
+    }
 
-  same_left : (place : ℕ) (olds : List ZoneState) (apexes : List Labels) (settings : List ZoneSettings) (devices : List D) → AreRecoverable g m event place olds apexes settings devices → LeaveRecovered g m event place olds devices devices
-  same_left place [] [] [] [] is = tt
-  same_left place (z ∷ olds) (a ∷ apexes) (s ∷ settings) (d ∷ devices) is =
-      (leaves_recovered (IsMaking m event place z) z a s d is.0 d (stays_itself a s d), same_left (suc place) olds apexes settings devices is.1)
-  same_left place _ _ _ _ is = absurd is
+    same_left : (place : ℕ) (olds : List ZoneState) (apexes : List Labels) (settings : List ZoneSettings) (devices : List D) → AreRecoverable g m event place olds apexes settings devices → LeaveRecovered g m event place olds devices devices
+    same_left place [] [] [] [] is = tt
+    same_left place (z ∷ olds) (a ∷ apexes) (s ∷ settings) (d ∷ devices) is =
+        (leaves_recovered (IsMaking m event place z) z a s d is.0 d (stays_itself a s d), same_left (suc place) olds apexes settings devices is.1)
+    same_left place _ _ _ _ is = absurd is
 
-  pub record AreHeld (error : OpenError) (n place : ℕ) (olds : List ZoneState) (apexes : List Labels) (settings : List ZoneSettings) (devices back : List D) : Type 0 where
-    pub recoverable : AreRecoverable g m event place olds apexes settings back
-    pub stopped : IsRecoveryStopped g error n devices
-    pub left : LeaveRecovered g m event place olds devices back
+    pub record AreHeld (error : OpenError) (n place : ℕ) (olds : List ZoneState) (apexes : List Labels) (settings : List ZoneSettings) (devices back : List D) : Type 0 where
+      pub recoverable : AreRecoverable g m event place olds apexes settings back
+      pub stopped : IsRecoveryStopped g error n devices
+      pub left : LeaveRecovered g m event place olds devices back
 
-  all_back : (error : OpenError) (n place : ℕ) (olds : List ZoneState) (apexes : List Labels) (settings : List ZoneSettings) (devices back : List D)
-      → AreRecoverable g m event place olds apexes settings devices → AreHandedBack g error n apexes settings devices back → AreHeld error n place olds apexes settings devices back
-  all_back error zero place (z ∷ olds) (a ∷ apexes) (s ∷ settings) (d ∷ devices) (e ∷ back) is h =
-      let making = IsMaking m event place z in
-      record {
-        recoverable = (stays_recoverable making z a s d is.0 counts_now e h.0.leaves, subst (λ (l : List D). AreRecoverable g m event (suc place) olds apexes settings l) (sym h.1) is.1);
-        stopped = h.0.stopped is.0.honest is.0.range (may_open making z a s d is.0);
-        left = (leaves_recovered making z a s d is.0 e h.0.leaves, subst (λ (l : List D). LeaveRecovered g m event (suc place) olds devices l) (sym h.1) (same_left (suc place) olds apexes settings devices is.1));
-      }
-  all_back error (suc n) place (z ∷ olds) (a ∷ apexes) (s ∷ settings) (d ∷ devices) (e ∷ back) is h =
-      let making = IsMaking m event place z in
-      let rest = all_back error n (suc place) olds apexes settings devices back is.1 h.1 in
-      record {
-        recoverable = (stays_recoverable making z a s d is.0 counts_now e h.0, rest.recoverable);
-        stopped = rest.stopped;
-        left = (leaves_recovered making z a s d is.0 e h.0, rest.left);
-      }
-  all_back error n place _ (a ∷ apexes) (s ∷ settings) (d ∷ devices) [] is h = absurd h
-  all_back error n place [] [] [] [] back is h = absurd h
-  all_back error n place _ _ _ _ back is h = absurd is
+    all_back : (error : OpenError) (n place : ℕ) (olds : List ZoneState) (apexes : List Labels) (settings : List ZoneSettings) (devices back : List D)
+        → AreRecoverable g m event place olds apexes settings devices → AreHandedBack g error n apexes settings devices back → AreHeld error n place olds apexes settings devices back
+    all_back error zero place (z ∷ olds) (a ∷ apexes) (s ∷ settings) (d ∷ devices) (e ∷ back) is h =
+        let making = IsMaking m event place z in
+        record {
+          recoverable = (stays_recoverable making z a s d is.0 counts_now e h.0.leaves, subst (λ (l : List D). AreRecoverable g m event (suc place) olds apexes settings l) (sym h.1) is.1);
+          stopped = h.0.stopped is.0.honest is.0.range (may_open making z a s d is.0);
+          left = (leaves_recovered making z a s d is.0 e h.0.leaves, subst (λ (l : List D). LeaveRecovered g m event (suc place) olds devices l) (sym h.1) (same_left (suc place) olds apexes settings devices is.1));
+        }
+    all_back error (suc n) place (z ∷ olds) (a ∷ apexes) (s ∷ settings) (d ∷ devices) (e ∷ back) is h =
+        let making = IsMaking m event place z in
+        let rest = all_back error n (suc place) olds apexes settings devices back is.1 h.1 in
+        record {
+          recoverable = (stays_recoverable making z a s d is.0 counts_now e h.0, rest.recoverable);
+          stopped = rest.stopped;
+          left = (leaves_recovered making z a s d is.0 e h.0, rest.left);
+        }
+    all_back error n place _ (a ∷ apexes) (s ∷ settings) (d ∷ devices) [] is h = absurd h
+    all_back error n place [] [] [] [] back is h = absurd h
+    all_back error n place _ _ _ _ back is h = absurd is
 
-  for_memory : (error : OpenError) (n : ℕ) (devices : List D) → error ≡ OutOfMemory → IsRecoveryStopped g error n devices
-  for_memory error n [] e = e
-  for_memory error zero (d ∷ devices) e = inr (inl e)
-  for_memory error (suc n) (d ∷ devices) e = for_memory error n devices e
+    for_memory : (error : OpenError) (n : ℕ) (devices : List D) → error ≡ OutOfMemory → IsRecoveryStopped g error n devices
+    for_memory error n [] e = e
+    for_memory error zero (d ∷ devices) e = inr (inl e)
+    for_memory error (suc n) (d ∷ devices) e = for_memory error n devices e
 
-  pub refused_held : (error : OpenError) (n : ℕ) (olds : List ZoneState) (apexes : List Labels) (settings : List ZoneSettings) (devices back : List D)
-      → AreRecoverable g m event 0 olds apexes settings devices → AreRefused g error n apexes settings devices back → AreHeld error n 0 olds apexes settings devices back
-  refused_held error n olds apexes settings devices back is (inl h) = all_back error n 0 olds apexes settings devices back is h
-  refused_held error n olds apexes settings devices back is (inr (memory, same)) = record {
-    recoverable = subst (λ (l : List D). AreRecoverable g m event 0 olds apexes settings l) (sym same) is;
-    stopped = for_memory error n devices memory;
-    left = subst (λ (l : List D). LeaveRecovered g m event 0 olds devices l) (sym same) (same_left 0 olds apexes settings devices is);
-  }
+    pub refused_held : (error : OpenError) (n : ℕ) (olds : List ZoneState) (apexes : List Labels) (settings : List ZoneSettings) (devices back : List D)
+        → AreRecoverable g m event 0 olds apexes settings devices → AreRefused g error n apexes settings devices back → AreHeld error n 0 olds apexes settings devices back
+    refused_held error n olds apexes settings devices back is (inl h) = all_back error n 0 olds apexes settings devices back is h
+    refused_held error n olds apexes settings devices back is (inr (memory, same)) = record {
+      recoverable = subst (λ (l : List D). AreRecoverable g m event 0 olds apexes settings l) (sym same) is;
+      stopped = for_memory error n devices memory;
+      left = subst (λ (l : List D). LeaveRecovered g m event 0 olds devices l) (sym same) (same_left 0 olds apexes settings devices is);
+    }

@@ -29,9 +29,20 @@ push_reserved-requires-in-Ok-open_one g c = omega (arith, c.loop-place.invariant
 
 pub take_back-requires : goal.take_back-requires
 take_back-requires g c =
-    omega
-    (arith, c.loop-place.invariant.behind_many, c.loop-place.invariant.room, c.loop-place-test.true, ap (λ l. length l) c.in-Ok-insert.ensures.items, ap (λ l. length l) c.remove-device.ensures.by_index.2,
-    ap (λ l. length l) c.loop-place.invariant.rest, length-drop c.loop-place.place c.args.devices.now.items, length-drop 1 c.loop-place.devices.items, c.requires.as_many, c.remove-device.ensures.capacity, c.in-Ok-insert.ensures.capacity)
+    omega (
+      arith,
+      c.loop-place.invariant.behind_many,
+      c.loop-place.invariant.room,
+      c.loop-place-test.true,
+      ap (λ l. length l) c.in-Ok-insert.ensures.items,
+      ap (λ l. length l) c.remove-device.ensures.by_index.2,
+      ap (λ l. length l) c.loop-place.invariant.rest,
+      length-drop c.loop-place.place c.args.devices.now.items,
+      length-drop 1 c.loop-place.devices.items,
+      c.requires.as_many,
+      c.remove-device.ensures.capacity,
+      c.in-Ok-insert.ensures.capacity,
+    )
 
 pub returns-in-Err : goal.returns-in-Err
 returns-in-Err g c =

@@ -13,8 +13,7 @@ returns-in-Ok g c =
     record {
       leaves = record { honest = λ h. e.honest.1 h; any_moment = λ honest range. e.any_moment honest range };
       takes = λ honest range may.
-          (let t = e.opened honest range may in
-          (
+          (let t = e.opened honest range may in (
             t.0,
             t.1,
             λ o is.

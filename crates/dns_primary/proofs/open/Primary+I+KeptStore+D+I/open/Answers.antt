@@ -1,4 +1,4 @@
-use Rattle.std.proofs.Common.{List, [], length, refl, sym, ap, subst, arith, ◌≡◌}
+use Rattle.std.proofs.Common.{List, [], length, refl, sym, ap, subst, arith}
 use Rattle.std.specs.Prelude.{Option, None, slice_index_or, count_by, is_some}
 use Rattle.dns_held.specs.Each.{Each2}
 use Rattle.dns_primary.specs.declared.event.Peer.{Peer}
@@ -24,8 +24,7 @@ pub returns-in-Ok-clause-recovered : goal.returns-in-Ok-clause-recovered
 returns-in-Ok-clause-recovered g c m event is =
     let opened = subst (λ (l : List ZoneSettings). AreOpened (length l) c.args.apexes.now l c.args.devices.items c.in-Ok.all.zones.items c.in-Ok.all.behind.items) c.deref.ensures.value c.in-Ok.ensures in
     let all = all_reopened m event 0 m.zones c.args.apexes.now c.args.settings.items c.args.devices.items c.in-Ok.all.zones.items c.in-Ok.all.behind.items is opened in
-    let new : Machine = record { zones = all.states; waiting = []; connections = [] } in
-    (
+    let new : Machine = record { zones = all.states; waiting = []; connections = [] } in (
       new,
       record { zones = all.recovered; waiting = refl; connections = refl },
       record {
