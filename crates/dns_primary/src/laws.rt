@@ -15,9 +15,9 @@ ghost use Rattle.dns_primary.specs.Runs.{IsReleasedFrom, Moment, Run, Promise};
 ghost use Rattle.dns_primary.specs.declared.primary.ZoneSettings.{ZoneSettings as StatedSettings};
 
 /// Whatever events come, whatever devices fail, whenever memory is refused, and however often the machine stops, within an event
-/// and within the recovery behind it: after recovery each zone is its loaded records after accepted updates, in order, each judged on
-/// what the one before it left (RFC 2136 section 3). They hold every update that was ever answered NOERROR, and every version that
-/// was ever shown.
+/// and within the recovery behind it: after recovery each zone is its loaded records after accepted updates, in order, each
+/// judged on what the one before it left (RFC 2136 section 3). They hold every update that was ever answered NOERROR, and every
+/// version that was ever shown.
 ///
 /// It says what follows for whole runs from the machine's single moments. That the code makes those moments is what the clauses of
 /// `step`, `open` and `into_devices` say; `stop_law` ties their words to the machine's stop.
