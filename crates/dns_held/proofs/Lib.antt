@@ -2,3 +2,4 @@ pub mod Lists
 pub mod Counts
 pub mod Room
 pub mod Moved
+pub mod Left

@@ -2,6 +2,9 @@
 use Rattle.std.proofs.Common.{◌≡◌, ◌<◌, ◌+◌, ℕ, zero, suc, Bool, true, false, List, [], ◌∷◌, ◌++◌, length, drop, refl, sym, ◌∙◌, ap, arith, add-one}
 use Rattle.std.specs.Prelude.{Option, Some, None, slice_get, slice_set, slice_index_or, option_map}
 use Rattle.dns_store.specs.Versions.{Kept}
+use Rattle.dns_zone.specs.Zone.{Zone}
+use Rattle.dns_held.specs.declared.behind.Behind.{Behind}
+use Rattle.dns_held.specs.Held.{newer, newest_each}
 use Rattle.dns_held.specs.Each.{Each3}
 use Rattle.dns_held.specs.Flush.{flushed, flushed_to, first_true, FailedWhere, HasFailed}
 
@@ -107,3 +110,25 @@ at_drop (x ∷ xs) (suc i) d = at_drop xs i d
 
 pub same_at : {A : Type 0} (xs ys : List A) (i : ℕ) (d : A) → drop i xs ≡ drop i ys → slice_index_or xs i d ≡ slice_index_or ys i d
 same_at xs ys i d e = at_drop xs i d ∙ ap (λ l. slice_index_or l 0 d) e ∙ sym (at_drop ys i d)
+
+-- a zone in its place, with the same newest version
+pub newest_set : {I S : Type 0} (zones : List Zone) (behind : List (Behind I S)) (i : ℕ) (d : Zone) (e : Behind I S) (z : Zone) (b : Behind I S) → newer z b.tip ≡ newer (slice_index_or zones i d) (slice_index_or behind i e).tip
+    → newest_each (slice_set zones i z) (slice_set behind i b) ≡ newest_each zones behind
+newest_set [] behind i d e z b same = refl
+newest_set (y ∷ zones) [] zero d e z b same = refl
+newest_set (y ∷ zones) [] (suc i) d e z b same = refl
+newest_set (y ∷ zones) (c ∷ behind) zero d e z b same = ap (λ (v : Zone). v ∷ newest_each zones behind) same
+newest_set (y ∷ zones) (c ∷ behind) (suc i) d e z b same = ap (λ (l : List Zone). newer y c.tip ∷ l) (newest_set zones behind i d e z b same)
+
+pub newest_kept : {I S : Type 0} (zones : List Zone) (behind : List (Behind I S)) (i : ℕ) (e b : Behind I S) → b.tip ≡ (slice_index_or behind i e).tip → newest_each zones (slice_set behind i b) ≡ newest_each zones behind
+newest_kept [] behind i e b same = refl
+newest_kept (y ∷ zones) [] i e b same = refl
+newest_kept (y ∷ zones) (c ∷ behind) zero e b same = ap (λ (t : Option Zone). newer y t ∷ newest_each zones behind) same
+newest_kept (y ∷ zones) (c ∷ behind) (suc i) e b same = ap (λ (l : List Zone). newer y c.tip ∷ l) (newest_kept zones behind i e b same)
+
+pub newest_at : {I S : Type 0} (zones : List Zone) (behind : List (Behind I S)) (i : ℕ) (d : Zone) (e : Behind I S) → i < length zones → i < length behind
+    → slice_get (newest_each zones behind) i ≡ Some (newer (slice_index_or zones i d) (slice_index_or behind i e).tip)
+newest_at [] behind i d e a b = absurd (omega arith)
+newest_at (y ∷ zones) [] i d e a b = absurd (omega arith)
+newest_at (y ∷ zones) (c ∷ behind) zero d e a b = refl
+newest_at (y ∷ zones) (c ∷ behind) (suc i) d e a b = newest_at zones behind i d e (omega arith) (omega arith)

@@ -1,5 +1,5 @@
 -- What a checkpoint makes of a zone.
-use Rattle.std.specs.Prelude.{◌≡◌, ◌⊎◌, ◌<◌, ◌-◌, ℕ, Bool, true, false, ◌&&◌, nat_lt, List, length, Result, Ok, Err, IsOk}
+use Rattle.std.specs.Prelude.{◌≡◌, ◌⊎◌, ◌<◌, ◌-◌, ℕ, Bool, true, false, ◌&&◌, nat_lt, List, length, Option, Some, None, Result, Ok, Err, if◌then◌else◌}
 use Rattle.dns_records.specs.Record.{Record}
 use Rattle.dns_sectors.specs.Device.{Content}
 use Rattle.dns_store.specs.Versions.{Shape, Kept, Opened, OpensAsLeft, newest_of, version_at, moved_to, closed_between}
@@ -49,8 +49,6 @@ FailsFlushedOrMoved {S} keeps failed k old new =
 abbrev pub lacks_room : Kept → List Record → Bool
 lacks_room k after = has_room k after && nat_lt (sectors_left k) (entry_between (newest_of k) after)
 
--- Room is made where it is lacked; else all stays.
-abbrev pub IsMadeRoom : {T : Type 0} → ℕ → List Record → Kept → Result T CheckpointError → Kept → Type 0
-IsMadeRoom keep after k result new =
-    (lacks_room k after ≡ true → IsCheckpointed keep (entry_between (newest_of k) after) k result new)
-    × (lacks_room k after ≡ false → (new ≡ k) × IsOk result)
+-- Then it lacks as many sectors as its entry takes.
+abbrev pub sectors_lacked : Kept → List Record → Option ℕ
+sectors_lacked k after = if lacks_room k after then Some (entry_between (newest_of k) after) else None

@@ -1,5 +1,5 @@
 -- A zone as it is shown, and what stands behind it.
-use Rattle.std.specs.Prelude.{◌≡◌, [], length, Option, Some, None}
+use Rattle.std.specs.Prelude.{◌≡◌, List, [], ◌∷◌, length, Option, Some, None}
 use Rattle.dns_zone.specs.Zone.{Zone}
 use Rattle.dns_store.specs.Versions.{Kept, shown_of, newest_of}
 use Rattle.dns_held.specs.Plain.{octets_of}
@@ -15,6 +15,12 @@ newest_zone k = record { apex = k.shape.apex; records = newest_of k }
 abbrev pub newer : Zone → Option Zone → Zone
 newer zone None = zone
 newer zone (Some tip) = tip
+
+-- That of each zone.
+abbrev pub newest_each : {I S : Type 0} → List Zone → List (Behind I S) → List Zone
+newest_each [] behind = []
+newest_each (z ∷ zones) [] = []
+newest_each (z ∷ zones) (b ∷ behind) = newer z b.tip ∷ newest_each zones behind
 
 -- The newest version is one of its own, or it is the one that is shown.
 abbrev pub IsTip : Option Zone → Kept → Type 0

@@ -1,13 +1,11 @@
-//! Checkpoints of zones: a zone is flushed, and then the base of its store is moved.
-ghost use Rattle.std.specs.Prelude.{◌≡◌, length};
+//! Checkpoints of zones: a zone is flushed, and then the base of its store is moved. And what room a change lacks.
+ghost use Rattle.std.specs.Prelude.{◌≡◌};
 ghost use Rattle.dns_changes.specs.Change.{IsChange};
 ghost use Rattle.dns_changes.specs.Version.{IsNext};
 ghost use Rattle.dns_sectors.specs.Device.{LeavesOnly};
-ghost use Rattle.dns_layout.specs.Sector.{entry_sectors as sectors_of_entry};
-ghost use Rattle.dns_changes.specs.Entry.{entry};
 ghost use Rattle.dns_store.specs.Versions.{Kept};
 ghost use Rattle.dns_held.specs.Held.{HasVersions, newer};
-ghost use Rattle.dns_held.specs.Checkpoint.{IsCheckpointed, IsMadeRoom, FailsFlushedOrMoved, OpensAsCheckpointed, lacks_room};
+ghost use Rattle.dns_held.specs.Checkpoint.{IsCheckpointed, FailsFlushedOrMoved, OpensAsCheckpointed, lacks_room, sectors_lacked};
 
 use crate::octets::octets_after;
 use crate::staging::has_room;
@@ -63,32 +61,20 @@ fn lacks_room<I: ZoneIndex, S: ZoneStore>(
     has_room(behind, change, records, octets) && behind.store.left() < sectors
 }
 
-/// Where the entry of a change takes more sectors than are left of the journal, and there is room for the version besides, makes
-/// a checkpoint that leaves its sectors. Else nothing is done.
-pub fn make_room<I: ZoneIndex, S: ZoneStore>(
-    zone: &mut Zone<I>,
-    behind: &mut Behind<I, S>,
+/// How many sectors the entry of a change takes, where there is room for the version that it leads to, but not in what is left of
+/// the journal.
+pub fn sectors_lacked<I: ZoneIndex, S: ZoneStore>(
+    zone: &Zone<I>,
+    behind: &Behind<I, S>,
     change: &Change,
     records: &I,
-    keep: usize,
-) -> Result<(), CheckpointError>
-    requires next { IsNext (newer zone.old behind.old.tip) change.now (I.records records.now) }
-    requires change { IsChange (newer zone.old behind.old.tip).records (I.records records.now) change.now }
-    ensures held { (k : Kept) → HasVersions S.keeps zone.old behind.old k
-        → (new : Kept) × IsMadeRoom keep (I.records records.now) k result new × HasVersions S.keeps zone.new behind.new new }
-    ensures any_moment { (k : Kept) → HasVersions S.keeps zone.old behind.old k
-        → LeavesOnly S.moment S.left_since behind.old.store behind.new.store
-        (OpensAsCheckpointed S.opens keep (sectors_of_entry (length (entry change.now))) k) }
-    ensures failed { (k : Kept) → HasVersions S.keeps zone.old behind.old k → result ≡ Err CheckpointError.Device
-        → FailsFlushedOrMoved S.keeps S.failed k behind.old.store behind.new.store }
-    ensures newest { newer zone.new behind.new.tip ≡ newer zone.old behind.old.tip }
+) -> Option<usize>
+    requires next { IsNext (newer zone.now behind.now.tip) change.now (I.records records.now) }
+    requires change { IsChange (newer zone.now behind.now.tip).records (I.records records.now) change.now }
+    ensures { (k : Kept) → HasVersions S.keeps zone.now behind.now k → result ≡ sectors_lacked k (I.records records.now) }
 {
-    if !lacks_room(&*zone, &*behind, change, records) {
-        return Ok(());
+    if !lacks_room(zone, behind, change, records) {
+        return None;
     }
-    let sectors = entry_sectors(change.encoded_len());
-    match checkpoint_zone(zone, behind, keep, sectors) {
-        Ok(()) => Ok(()),
-        Err(error) => Err(error),
-    }
+    Some(entry_sectors(change.encoded_len()))
 }

@@ -3,7 +3,7 @@ ghost use Rattle.std.specs.Prelude.{◌≡◌, ◌⊎◌, ◌<◌, List, ◌∷�
 ghost use Rattle.dns_sectors.specs.Device.{LeavesOnly};
 ghost use Rattle.dns_store.specs.Versions.{Kept, OpensAsLeft};
 ghost use Rattle.dns_held.specs.Each.{Each3};
-ghost use Rattle.dns_held.specs.Held.{HasVersions, newer};
+ghost use Rattle.dns_held.specs.Held.{HasVersions, newer, newest_each};
 ghost use Rattle.dns_held.specs.Flush.{HasFailed, FailedWhere, flushed, flushed_to, first_true};
 
 use crate::Behind;
@@ -59,6 +59,7 @@ pub fn flush_all<I: ZoneIndex, S: ZoneStore>(
         × FailedWhere (λ b. S.failed b.store) fails behind.old behind.new }
     ensures any_moment { (ks : List Kept) → Each3 (λ z b k. HasVersions S.keeps z b k) zones.old behind.old ks
         → Each3 (λ a b k. LeavesOnly S.moment S.left_since a.store b.store (OpensAsLeft S.opens k)) behind.old behind.new ks }
+    ensures newest { newest_each zones.new behind.new ≡ newest_each zones.old behind.old }
 {
     let mut first = None;
     for i in 0..behind.len() {

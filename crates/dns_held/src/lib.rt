@@ -8,7 +8,7 @@ mod octets;
 mod staging;
 
 pub use behind::{Behind, newest};
-pub use checkpoint::{checkpoint_zone, make_room};
+pub use checkpoint::{checkpoint_zone, sectors_lacked};
 pub use flush::{flush_all, flush_zone};
 pub use octets::snapshot_len;
 pub use staging::{MOST_RECORDS, StagingError, next_version, stage};

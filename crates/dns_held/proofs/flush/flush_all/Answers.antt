@@ -6,7 +6,7 @@ use Rattle.dns_store.specs.Versions.{Kept, OpensAsLeft}
 use Rattle.dns_held.specs.Each.{Each3}
 use Rattle.dns_held.specs.Held.{HasVersions}
 use Rattle.dns_held.specs.Flush.{flushed, flushed_to, HasFailed}
-use Rattle.dns_held.proofs.Lists.{get3, set3, mid3, diag, long3, stands, more, fails_more, untouched, same_at}
+use Rattle.dns_held.proofs.Lists.{get3, set3, mid3, diag, long3, stands, more, fails_more, untouched, same_at, newest_set}
 use Rattle.dns_held.proofs.flush.flush_all.Goals as goal
 
 pub loop-i-init : goal.loop-i-init
@@ -14,6 +14,7 @@ loop-i-init g c = record {
   as_many = c.requires;
   count = refl;
   rest = refl;
+  newest = refl;
   held = λ ks each. ([], refl, each, refl, tt);
   moments = λ ks each. diag (λ z b k. HasVersions g.S.ZoneStore.keeps z b k) (λ a b k. LeavesOnly g.S.ZoneStore.moment g.S.ZoneStore.left_since a.store b.store (OpensAsLeft g.S.ZoneStore.opens k)) c.args.zones.now c.args.behind.now ks each
       (λ z b k h. started g.S.ZoneStore.moment g.S.ZoneStore.left_since b.store (OpensAsLeft g.S.ZoneStore.opens k) (λ x left. g.met.S.ZoneStore.at_rest b.store k h.kept x left));
@@ -29,6 +30,7 @@ loop-i-preserved g c =
       as_many = search rules;
       count = search rules;
       rest = untouched behind c.args.behind.now i c.flush_zone-failed.new.behind c.loop-i.invariant.rest;
+      newest = newest_set zones behind i c.index-zones-i.result c.index-behind-i.result c.flush_zone-failed.new.zone c.flush_zone-failed.new.behind c.flush_zone-failed.ensures.newest ∙ c.loop-i.invariant.newest;
       held = λ ks each.
           let was = c.loop-i.invariant.held ks each in
           let fails = was.0 in
