@@ -24,6 +24,6 @@ left_behind k keep room n none small number =
     let whole : entries_along k.loaded (k.shown ++ k.staged) ≡ sizes = ap (λ (vs : Versions). entries_along k.loaded (k.shown ++ vs)) none ∙ ap (λ (vs : Versions). entries_along k.loaded vs) (append-nil k.shown) in
     let long : length sizes ≡ length k.shown = entries_length k.loaded k.shown in
     let taken : drop (length k.shown - n) (entries_along k.loaded (k.shown ++ k.staged)) ≡ drop (length (entries_of k) - n) (entries_of k) =
-        ap (λ l. drop (length k.shown - n) l) whole ∙ ap (λ i. drop (i - n) sizes) (sym long) ∙ sym (newest_dropped sizes k.base n number.there) in
+    ap (λ l. drop (length k.shown - n) l) whole ∙ ap (λ i. drop (i - n) sizes) (sym long) ∙ sym (newest_dropped sizes k.base n number.there) in
     let sum : sum_by (λ size. size) (drop (length k.shown - n) (entries_along k.loaded (k.shown ++ k.staged))) ≡ sum_by (λ size. size) (drop (length (entries_of k) - n) (entries_of k)) = ap (λ l. sum_by (λ size. size) l) taken in
     omega (arith, sum, number.fits, small)

@@ -1,5 +1,5 @@
 -- What replies with SERVFAIL come of.
-use Rattle.std.proofs.Common.{◌≡◌, ◌⊎◌, inl, inr, ◌<◌, ℕ, Bool, true, false, List, [], ◌∷◌, length, map, Option, Some, None, refl, sym, ap, subst, ◌∙◌, arith, suc}
+use Rattle.std.proofs.Common.{◌≡◌, ◌⊎◌, inl, inr, ⊎_elim, ◌<◌, ℕ, Bool, true, false, List, [], ◌∷◌, ◌++◌, length, map, Option, Some, None, refl, sym, ap, subst, ◌∙◌, arith, suc}
 use Rattle.std.specs.Prelude.{slice_get, not, ◌&&◌, ◌||◌, ◌==◌, ◌%◌, nat_le, nat_lt, is_none, if◌then◌else◌}
 use Rattle.std.specs.List.{AllByRecursion, Contains}
 use Rattle.std.proofs.lemmas.Bool.Decides.{nat_tests}
@@ -30,10 +30,10 @@ use Rattle.dns_primary.specs.declared.event.Noted.TheVariants.{OutOfMemory}
 use Rattle.dns_primary.specs.Machine.{Made, ZoneState, Waits, Machine, kept_of, updates_of, shown_zones, peer_at}
 use Rattle.dns_primary.specs.Flush.{Sent, Answered, Replied, rcode_servfail, flushed, flush_sends, released, is_closed_in}
 use Rattle.dns_primary.specs.Connections.{without_connection}
-use Rattle.dns_primary.specs.Update.{Asked, Admission, Rejects, Admits, admission, admission_at, admission_in, place_of, rcode_notauth, waits, stages, replies, accepted_in, judged_in, admitted, is_full, made_place, updated}
-use Rattle.dns_primary.specs.Step.{Event, Datagram, Connect, Arrives, Flush, Checkpoint, Closed, IsCheckpointed, Effects, IsServed, IsArrived, Goes, Step}
+use Rattle.dns_primary.specs.Update.{Asked, Admission, Rejects, Admits, admission, admission_at, admission_in, place_of, rcode_notauth, waits, stages, replies, accepted_in, judged_in, admitted, is_full, made_place, answer, room_lacked}
+use Rattle.dns_primary.specs.Step.{Event, Datagram, Connect, Arrives, Flush, Checkpoint, Closed, IsCheckpointed, IsBegun, IsUpdated, Effects, IsServed, IsArrived, Goes, Step}
 use Rattle.dns_primary.specs.Runs.{IsReleasedFrom}
-use Rattle.dns_primary.specs.Causes.{code_of, IsForClosed, LacksRoom, IsTooLong, RequestCause, ArrivedCause, EventCause, HasCause, Waited, HaveCauses}
+use Rattle.dns_primary.specs.Causes.{code_of, IsForClosed, LacksRoom, UpdateCause, IsTooLong, RequestCause, ArrivedCause, EventCause, HasCause, Waited, HaveCauses}
 use Rattle.dns_primary.proofs.Zonewise.{tested}
 use Rattle.dns_primary.proofs.Sound.{all_with, all_more}
 use Rattle.dns_primary.proofs.Released.{step_releases}
@@ -76,8 +76,8 @@ refusal m a =
     (either (IsRefusal m a) (not (a.zone.qclass == class_in)) _ _ (none_there m a rcode_notauth (λ f. omega (arith, f)))
     (refused_at m a (place_of a.zone.name m.zones) refl))
 
-abbrev UpdateCause : Machine → Asked → Type 0
-UpdateCause m a = IsForClosed m a ⊎ LacksRoom m a
+abbrev AnswerCause : Machine → Asked → Type 0
+AnswerCause m a = IsForClosed m a ⊎ LacksRoom m a
 
 -- what waits already
 abbrev AreWaiting : Type 0 → Machine → Machine → Type 0
@@ -101,10 +101,10 @@ not_false : (b : Bool) → not b ≡ true → b ≡ false
 not_false true e = absurd (cc e)
 not_false false e = refl
 
-ends_accepted : (old m : Machine) (a : Asked) (place : ℕ) (z : ZoneState) (records : List Record) → AreWaiting (UpdateCause m a) old m → admission m.zones a ≡ Admits place z
-    → verdict (newest_zone (kept_of z)) a.message.answers a.message.authorities ≡ Leaves records → Ended (UpdateCause m a) old (accepted_in m a place z records)
+ends_accepted : (old m : Machine) (a : Asked) (place : ℕ) (z : ZoneState) (records : List Record) → AreWaiting (AnswerCause m a) old m → admission m.zones a ≡ Admits place z
+    → verdict (newest_zone (kept_of z)) a.message.answers a.message.authorities ≡ Leaves records → Ended (AnswerCause m a) old (accepted_in m a place z records)
 ends_accepted old m a place z records before admits leaves =
-    let Cause = UpdateCause m a in
+    let Cause = AnswerCause m a in
     let room = has_room (kept_of z) records in
     let journal = nat_le (entry_between (newest_of (kept_of z)) records) (sectors_left (kept_of z)) in
     let lacks : (room && journal) ≡ false → LacksRoom m a = λ e. record { place = place; zone = z; records = records; admits = admits; leaves = leaves; room = e } in
@@ -114,14 +114,14 @@ ends_accepted old m a place z records before admits leaves =
     (λ _. record { sent = tt; waiting = all_more (WaitsBy Cause old) m.waiting _ before (λ e. absurd (omega (arith, e))) })
     (λ e. at_once Cause old m a rcode_servfail before (λ _. inr (lacks (room_second room journal e)))))
 
-ends_judged : (old m : Machine) (a : Asked) (place : ℕ) (z : ZoneState) (v : Verdict) → AreWaiting (UpdateCause m a) old m → admission m.zones a ≡ Admits place z
-    → verdict (newest_zone (kept_of z)) a.message.answers a.message.authorities ≡ v → OtherVerdict v → Ended (UpdateCause m a) old (judged_in m a place z v)
-ends_judged old m a place z (Refuses rcode) before admits is other = one_more (UpdateCause m a) old m a place (number_of_rcode rcode) (updates_of z) before (λ e. absurd (other e))
-ends_judged old m a place z Keeps before admits is other = one_more (UpdateCause m a) old m a place 0 (updates_of z) before (λ e. absurd (omega (arith, e)))
+ends_judged : (old m : Machine) (a : Asked) (place : ℕ) (z : ZoneState) (v : Verdict) → AreWaiting (AnswerCause m a) old m → admission m.zones a ≡ Admits place z
+    → verdict (newest_zone (kept_of z)) a.message.answers a.message.authorities ≡ v → OtherVerdict v → Ended (AnswerCause m a) old (judged_in m a place z v)
+ends_judged old m a place z (Refuses rcode) before admits is other = one_more (AnswerCause m a) old m a place (number_of_rcode rcode) (updates_of z) before (λ e. absurd (other e))
+ends_judged old m a place z Keeps before admits is other = one_more (AnswerCause m a) old m a place 0 (updates_of z) before (λ e. absurd (omega (arith, e)))
 ends_judged old m a place z (Leaves records) before admits is other = ends_accepted old m a place z records before admits is
 
-ends_admitted : (old m : Machine) (a : Asked) (d : Admission) → AreWaiting (UpdateCause m a) old m → admission m.zones a ≡ d → IsRefusal m a d → Ended (UpdateCause m a) old (admitted m a d)
-ends_admitted old m a (Rejects rcode) before is closed = at_once (UpdateCause m a) old m a rcode before (λ e. inl (closed e))
+ends_admitted : (old m : Machine) (a : Asked) (d : Admission) → AreWaiting (AnswerCause m a) old m → admission m.zones a ≡ d → IsRefusal m a d → Ended (AnswerCause m a) old (admitted m a d)
+ends_admitted old m a (Rejects rcode) before is closed = at_once (AnswerCause m a) old m a rcode before (λ e. inl (closed e))
 ends_admitted old m a (Admits place z) before is closed =
     ends_judged old m a place z (verdict (newest_zone (kept_of z)) a.message.answers a.message.authorities) before is refl (other_verdict (newest_zone (kept_of z)) a.message.answers a.message.authorities)
 
@@ -146,12 +146,38 @@ begins fails m Cause =
     (record { sent = none_at_once Cause _ m.waiting; waiting = tt })
     (record { sent = tt; waiting = waited_all m Cause })
 
-ends_updated : (fails : List Bool) (m : Machine) (a : Asked) → Ended (UpdateCause (made_place fails m).0 a) m (updated fails m a)
-ends_updated fails m a =
-    let mid = (made_place fails m).0 in
-    let begun = begins fails m (UpdateCause mid a) in
-    let ended = ends_admitted m mid a (admission mid.zones a) begun.waiting refl (refusal mid a) in
-    record { sent = all_with (AtOnce (UpdateCause mid a)) (made_place fails m).1 (admitted mid a (admission mid.zones a)).1 begun.sent ended.sent; waiting = ended.waiting }
+reaches : (Cause : Type 0) (old new next : Machine) (sent out : List Sent) → new ≡ next → sent ≡ out → Ended Cause old (next, out) → Ended Cause old (new, sent)
+reaches Cause old new next sent out e f p = subst (λ (x : Machine × List Sent). Ended Cause old x) (λ i. (sym e i, sym f i)) p
+
+begun_ends : (fails : List Bool) (m : Machine) (lacked : Option (ℕ × ℕ)) (first : Effects) (mid : Machine) (Cause : Type 0) → IsBegun fails m lacked first mid → Ended Cause m (mid, first.sent)
+begun_ends fails m None first mid Cause g = reaches Cause m mid (made_place fails m).0 first.sent (made_place fails m).1 (g.1).state (g.1).sent (begins fails m Cause)
+begun_ends fails m (Some lacked) first mid Cause g = reaches Cause m mid _ first.sent (flush_sends g.0 m) (g.3).is (g.4).sent (record { sent = none_at_once _ _ m.waiting; waiting = tt })
+
+-- with a cause that follows from it
+all_over : {X : Type 0} (P Q : X → Type 0) → ((x : X) → P x → Q x) → (xs : List X) → AllByRecursion P xs → AllByRecursion Q xs
+all_over P Q over [] h = tt
+all_over P Q over (x ∷ xs) h = (over x h.0, all_over P Q over xs h.1)
+
+module _ (First Second : Type 0) (over : First → Second) (old : Machine) where
+  at_over : (one : Sent) → AtOnce First one → AtOnce Second one
+  at_over (Answered w rcode) h = tt
+  at_over (Replied to octets) h = λ e. over (h e)
+
+  ended_over : (ended : Machine × List Sent) → Ended First old ended → Ended Second old ended
+  ended_over ended h = record {
+    sent = all_over (AtOnce First) (AtOnce Second) at_over ended.1 h.sent;
+    waiting = all_over (WaitsBy First old) (WaitsBy Second old) (λ w wait e. ⊎_elim (λ before. inl before) (λ cause. inr (over cause)) (wait e)) (ended.0).waiting h.waiting;
+  }
+
+ends_updated : (fails : List Bool) (m : Machine) (a : Asked) (effects : Effects) (new : Machine) → IsUpdated fails m a effects new → Ended (UpdateCause fails m a) m (new, effects.sent)
+ends_updated fails m a effects new u =
+    let Cause = AnswerCause u.mid a in
+    let ended = answer u.mid a in
+    let begun = begun_ends fails m (room_lacked m a) u.first u.mid Cause u.begun in
+    let here = ends_admitted m u.mid a (admission (u.mid).zones a) begun.waiting refl (refusal u.mid a) in
+    reaches (UpdateCause fails m a) m new ended.0 effects.sent ((u.first).sent ++ ended.1) u.state u.sent
+    (ended_over Cause (UpdateCause fails m a) (λ c. record { first = u.first; mid = u.mid; begun = u.begun; cause = c }) m (ended.0, (u.first).sent ++ ended.1)
+    (record { sent = all_with (AtOnce Cause) (u.first).sent ended.1 begun.sent here.sent; waiting = here.waiting }))
 
 -- the codes of requests that are refused
 abbrev IsOtherRequest : request.Request → Type 0
@@ -215,9 +241,6 @@ other_answer zones octets m q =
     (either (λ (n : ℕ). n % 16 ≡ 2 → ⊥) (is_name_error (resolve zones q.name q.qtype)) rcode_nxdomain 0 (λ e. omega (arith, e)) (λ e. omega (arith, e)))
 
 -- what an event leaves
-reaches : (Cause : Type 0) (old new next : Machine) (sent out : List Sent) → new ≡ next → sent ≡ out → Ended Cause old (next, out) → Ended Cause old (new, sent)
-reaches Cause old new next sent out e f p = subst (λ (x : Machine × List Sent). Ended Cause old x) (λ i. (sym e i, sym f i)) p
-
 one_reply : (Cause : Type 0) (old : Machine) (to : To) (octets : List ℕ) → (code_of octets ≡ 2 → Cause) → Ended Cause old (old, Replied to octets ∷ [])
 one_reply Cause old to octets cause = record { sent = (cause, tt); waiting = waited_all old Cause }
 
@@ -232,8 +255,7 @@ served fails old to peer octets transport (request.NotServed m q rcode) effects 
 served fails old to peer octets transport (request.Query m q) effects new other g =
     reaches _ old new old effects.sent _ (g.1).state (g.1).sent (one_reply _ old to _ (fits transport (answered (shown_zones old) octets m q) (other_answer (shown_zones old) octets m q)))
 served fails old to peer octets transport (request.Update m q) effects new other g =
-    let a : Asked = record { to = to; address = peer.address; message = m; zone = q } in
-    reaches _ old new (updated fails old a).0 effects.sent (updated fails old a).1 (g.1).state (g.1).sent (ends_updated fails old a)
+    ends_updated fails old (record { to = to; address = peer.address; message = m; zone = q }) effects new g
 served fails old to peer octets transport (request.Transfer m q) effects new other g =
     reaches _ old new old effects.sent _ (g.1).state (g.1).sent (one_reply _ old to _ (λ e. omega (arith, e)))
 

@@ -24,9 +24,9 @@ use Rattle.dns_primary.specs.Machine.{ZoneState, Made, Machine, kept_of}
 use Rattle.dns_primary.specs.Flush.{flushed, flush_sends, flushed_zone, flushed_zones}
 use Rattle.dns_primary.specs.Checkpoint.{rebased, IsMoved, IsMovedUnlessClosed, IsMovedBy, IsSettled, either_fails, first_of}
 use Rattle.dns_primary.specs.Step as machine
-use Rattle.dns_primary.specs.Step.{Step, noted_of, Goes, IsCheckpointed, Checkpoint, Lacks}
+use Rattle.dns_primary.specs.Step.{Step, noted_of, IsCheckpointed, Checkpoint, base_moved}
 use Rattle.dns_primary.specs.Keeps.{IsKept, AreEffects}
-use Rattle.dns_primary.specs.Steps.{Stepped, SteppedBy, AtAnyMoment, AtAnyMomentOf, OpensAsEvent, base_moved, with_room, without_room, noted_then, noted_moved, nothing}
+use Rattle.dns_primary.specs.Steps.{Stepped, SteppedOn, SteppedBy, IsBegunOrLacks, AtAnyMoment, AtAnyMomentOf, OpensAsEvent, with_room, without_room, noted_then, noted_moved, nothing}
 use Rattle.dns_primary.proofs.Flushed.{kept_flushed}
 use Rattle.dns_primary.proofs.Served.{gives_none}
 use Rattle.dns_store.specs.Versions.{closed_between, version_at, OpensAsEither, StandsStill}
@@ -43,20 +43,6 @@ without : {S B : Type 0} (store : B → S) (moment : S → ℕ) (left_since : S 
 without store moment left_since opens [] [] [] each = tt
 without store moment left_since opens (a ∷ olds) (b ∷ news) (z ∷ zones) each = (each.0, without store moment left_since opens olds news zones each.1)
 without store moment left_since opens _ _ _ each = absurd each
-
-module _ {I S : Type 0} {i : index.Ghosts I} {s : store.Ghosts S} (m : Machine) (event : machine.Event) (old new : Primary I S i s) (effects : Effects) where
-  pub simple : base_moved event ≡ None → Stepped m old new effects (λ fails stated next. Step fails m event stated next) → SteppedBy m event old new effects
-  simple none step = record {
-    fails = step.fails;
-    failed = inl step.failed;
-    any_moment = subst (λ (o : Option (ℕ × ℕ)). AtAnyMomentOf s o m old.behind.items new.behind.items) (sym none)
-        (without (λ (b : Behind I S). b.store) s.moment s.left_since s.opens old.behind.items new.behind.items m.zones step.any_moment);
-    next = step.next;
-    stated = step.stated;
-    is = step.is;
-    effects_are = step.effects_are;
-    kept = step.kept;
-  }
 
 -- a zone of which nothing is staged, or that is closed, is as it would be behind a flush
 settled_by : (s : Setting) (l : List Record) (shown staged : List Made) (base : ℕ) (second : Option ℕ) (closed : Bool) → (closed ≡ true) ⊎ (staged ≡ [])
@@ -177,6 +163,28 @@ with_more store moment left_since opens (a ∷ olds) (b ∷ news) (z ∷ zones) 
 with_more store moment left_since opens (a ∷ olds) (b ∷ news) (z ∷ zones) (suc place) room each = (each.0, with_more store moment left_since opens olds news zones place room each.1)
 with_more store moment left_since opens _ _ _ place room each = absurd each
 
+-- a step that moves no base
+moments_of : {I S : Type 0} (s : store.Ghosts S) (moved : Option (ℕ × ℕ)) (m : Machine) (olds news : List (Behind I S)) → AtAnyMoment s m olds news → AtAnyMomentOf s moved m olds news
+moments_of {I} {S} s None m olds news each = without (λ (b : Behind I S). b.store) s.moment s.left_since s.opens olds news m.zones each
+moments_of {I} {S} s (Some moved) m olds news each = with_more (λ (b : Behind I S). b.store) s.moment s.left_since s.opens olds news m.zones moved.0 moved.1 each
+
+pub on_any : {I S : Type 0} {i : index.Ghosts I} {s : store.Ghosts S} (m : Machine) (old new : Primary I S i s) (effects : Effects) (moved : Option (ℕ × ℕ)) (step : List Bool → machine.Effects → Machine → Type 0)
+    → Stepped m old new effects step → SteppedOn m moved old new effects step
+on_any {s = s} m old new effects moved step stepped = record {
+  fails = stepped.fails;
+  failed = inl stepped.failed;
+  any_moment = moments_of s moved m old.behind.items new.behind.items stepped.any_moment;
+  next = stepped.next;
+  stated = stepped.stated;
+  is = stepped.is;
+  effects_are = stepped.effects_are;
+  kept = stepped.kept;
+}
+
+pub simple : {I S : Type 0} {i : index.Ghosts I} {s : store.Ghosts S} (m : Machine) (event : machine.Event) (old new : Primary I S i s) (effects : Effects)
+    → base_moved m event ≡ None → Stepped m old new effects (λ fails stated next. Step fails m event stated next) → SteppedBy m event old new effects
+simple m event old new effects none step = on_any m old new effects (base_moved m event) (λ fails stated next. Step fails m event stated next) step
+
 pub moved_moments : {S B : Type 0} (store : B → S) (moment : S → ℕ) (left_since : S → ℕ → Content → Type 0) (opens : Shape → Opened → Content → Type 0) (olds mids : List B) (zones : List ZoneState) (place room : ℕ) (z : ZoneState) (e new : B)
     → Each3 (λ a b k. LeavesOnly moment left_since (store a) (store b) (OpensAsLeft opens k)) olds mids (map kept_of zones)
     → slice_get zones place ≡ Some z
@@ -289,28 +297,38 @@ module _ (m : Machine) (place : ℕ) (fails : List Bool) (z zf new : ZoneState) 
   abbrev pub stated : Noted → machine.Effects
   stated noted = record { sent = flush_sends fails m; accepted = None; noted = noted }
 
-  checkpointed : (moving : Bool) (noted : Noted) → IsMovedUnlessClosed moving 0 zf new → noted ≡ noted_of (first_of (first_true fails) moving place) → Step (either_fails moving place fails) m (Checkpoint place) (stated noted) next
-  checkpointed moving noted moved noted_is =
-      inl (subst (λ (o : Option ZoneState). IsCheckpointed (either_fails moving place fails) m place o (stated noted) next) (sym there)
-      (fails, moving, refl, record { all = long; zone = zf; stands = stands; next = new; moved = moved; is = refl }, record { sent = refl; accepted = refl; noted = noted_is }))
+  checkpointed : (room : ℕ) (moving : Bool) (noted : Noted) → IsMovedUnlessClosed moving room zf new → noted ≡ noted_of (first_of (first_true fails) moving place)
+      → IsBegunOrLacks m (Some (place, room)) (either_fails moving place fails) (stated noted) next
+  checkpointed room moving noted moved noted_is =
+      inl (fails, moving, refl, record { all = long; zone = zf; stands = stands; next = new; moved = moved; is = refl }, record { sent = refl; accepted = refl; noted = noted_is })
 
-  without_memory : new ≡ zf → Step fails m (Checkpoint place) (stated OutOfMemory) next
-  without_memory same = inr (record {
-    takes = refl;
-    noted = refl;
-    accepted = refl;
-    stays = inr (
-      ap (λ (o : Option ZoneState). is_some o) there,
-      long,
-      (λ i. record (flushed fails m) { zones = (ap (λ (x : ZoneState). slice_set (flushed fails m).zones place x) same ∙ set_same (flushed fails m).zones place zf stands) i }),
-      sym (append-nil (flush_sends fails m)),
-    );
-  })
+  without_memory : (room : ℕ) → new ≡ zf → IsBegunOrLacks m (Some (place, room)) fails (stated OutOfMemory) next
+  without_memory room same = inr (
+    refl,
+    record {
+      failures = long;
+      state = λ i. record (flushed fails m) { zones = (ap (λ (x : ZoneState). slice_set (flushed fails m).zones place x) same ∙ set_same (flushed fails m).zones place zf stands) i };
+      sent = refl;
+      accepted = refl;
+      noted = refl;
+    },
+  )
 
-  pub stepped : {T : Type 0} (r : Result T CheckpointError) → IsMovedBy 0 zf r new → Step (either_fails (moved_by r) place fails) m (Checkpoint place) (stated (noted_moved (noted_of (first_true fails)) place r)) next
-  stepped (Ok v) h = checkpointed false (noted_of (first_true fails)) (inr h) (sym (noted_same (first_true fails) place))
-  stepped (Err refused.Device) h = checkpointed true (noted_then (noted_of (first_true fails)) place) (inr h) (sym (noted_first (first_true fails) place))
-  stepped (Err refused.Closed) h = checkpointed false (noted_of (first_true fails)) (inl (h.0, refl, h.1)) (sym (noted_same (first_true fails) place))
-  stepped (Err refused.ZoneTooLarge) h = checkpointed false (noted_of (first_true fails)) (inr h) (sym (noted_same (first_true fails) place))
-  stepped (Err refused.WrongChanges) h = absurd h
-  stepped (Err refused.OutOfMemory) h = without_memory h
+  pub stepped : {T : Type 0} (room : ℕ) (r : Result T CheckpointError) → IsMovedBy room zf r new
+      → IsBegunOrLacks m (Some (place, room)) (either_fails (moved_by r) place fails) (stated (noted_moved (noted_of (first_true fails)) place r)) next
+  stepped room (Ok v) h = checkpointed room false (noted_of (first_true fails)) (inr h) (sym (noted_same (first_true fails) place))
+  stepped room (Err refused.Device) h = checkpointed room true (noted_then (noted_of (first_true fails)) place) (inr h) (sym (noted_first (first_true fails) place))
+  stepped room (Err refused.Closed) h = checkpointed room false (noted_of (first_true fails)) (inl (h.0, refl, h.1)) (sym (noted_same (first_true fails) place))
+  stepped room (Err refused.ZoneTooLarge) h = checkpointed room false (noted_of (first_true fails)) (inr h) (sym (noted_same (first_true fails) place))
+  stepped room (Err refused.WrongChanges) h = absurd h
+  stepped room (Err refused.OutOfMemory) h = without_memory room h
+
+-- a checkpoint that is asked for
+pub step_of : (fails : List Bool) (m : Machine) (place : ℕ) (z : ZoneState) (effects : machine.Effects) (new : Machine) → slice_get m.zones place ≡ Some z → IsBegunOrLacks m (Some (place, 0)) fails effects new → Step fails m (Checkpoint place) effects new
+step_of fails m place z effects new there (inl begun) = inl (subst (λ (o : Option ZoneState). IsCheckpointed fails m place o effects new) (sym there) begun)
+step_of fails m place z effects new there (inr (some, l)) = inr (record {
+  takes = refl;
+  noted = l.noted;
+  accepted = l.accepted;
+  stays = inr (inl (ap (λ (o : Option ZoneState). is_some o) there, l.failures, l.state, l.sent ∙ sym (append-nil (flush_sends fails m))));
+})

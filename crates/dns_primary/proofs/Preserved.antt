@@ -20,8 +20,8 @@ use Rattle.dns_primary.specs.declared.event.To.TheVariants as to
 use Rattle.dns_primary.specs.Machine.{ZoneState, Waits, Machine, kept_of, updates_of, peer_at}
 use Rattle.dns_primary.specs.Flush.{Sent, Replied, rcode_servfail, flushed, flush_sends}
 use Rattle.dns_primary.specs.Connections.{connected, closed, without_connection}
-use Rattle.dns_primary.specs.Update.{Asked, Admission, Rejects, Admits, rcode_notauth, place_of, admission_in, admission_at, admission, waits, stages, replies, accepted_in, judged_in, admitted, is_full, made_place, updated}
-use Rattle.dns_primary.specs.Step.{Event, Datagram, Connect, Arrives, Flush, Checkpoint, Closed, IsCheckpointed, Effects, AreFailures, Gives, IsServed, IsArrived, Goes, Lacks, Step, is_asking, failure, failure_on, failures}
+use Rattle.dns_primary.specs.Update.{Asked, Admission, Rejects, Admits, rcode_notauth, place_of, admission_in, admission_at, admission, waits, stages, replies, accepted_in, judged_in, admitted, is_full, made_place, answer, room_lacked}
+use Rattle.dns_primary.specs.Step.{Event, Datagram, Connect, Arrives, Flush, Checkpoint, Closed, IsCheckpointed, IsBegun, IsUpdated, Effects, AreFailures, Gives, IsServed, IsArrived, Goes, Lacks, Step, is_asking, failure, failure_on, failures}
 use Rattle.dns_primary.specs.Checkpoint.{rebased, IsMovedUnlessClosed}
 use Rattle.dns_primary.specs.Runs.{Lasts, IsTrueIn, HasHistory}
 use Rattle.dns_primary.proofs.Zonewise.{tested, all_last_same, lasts_same, pair_set, all_set, all_found, Same, same_history}
@@ -84,53 +84,12 @@ place_preserves fails m f s =
     (λ e. flush_preserves fails m (subst (λ (b : Bool). AreFailures b m fails) e f) s)
     (λ e. stays m s)
 
-update_preserves : (fails : List Bool) (m : Machine) (a : Asked) → AreFailures (is_full m) m fails → IsSound m → Carries m (updated fails m a)
-update_preserves fails m a f s =
-    let begun = made_place fails m in
-    let ended = admitted begun.0 a (admission (begun.0).zones a) in
-    let p = place_preserves fails m f s in
-    and_then m begun.0 ended.0 begun.1 ended.1 p (admitted_preserves begun.0 a (admission (begun.0).zones a) p.sound (admission_stands (begun.0).zones a))
-
--- a connection that closes: the replies that wait keep their places
-redirected : (number : ℕ) (zones : List ZoneState) (ws : List Waits) → AllByRecursion (IsPlaced zones) ws
-    → AllByRecursion (IsPlaced zones) (map (λ (w : Waits). record w { to = without_connection number w.to }) ws)
-redirected number zones [] h = tt
-redirected number zones (w ∷ ws) h =
-    (record { zone = (h.0).zone; stands = (h.0).stands; more = (h.0).more; updates = (h.0).updates }, redirected number zones ws h.1)
-
-close_preserves : (number : ℕ) (m : Machine) → IsSound m → Preserves m (closed number m) []
-close_preserves number m s = record {
-  lasts = all_last_same m.zones;
-  sound = record { zones = s.zones; waiting = redirected number m.zones m.waiting s.waiting };
-  good = tt;
-}
-
-connect_preserves : (m : Machine) (number : ℕ) (peer : Peer) → IsSound m → Preserves m (connected number peer m) []
-connect_preserves m number peer s = record {
-  lasts = all_last_same m.zones;
-  sound = record { zones = s.zones; waiting = s.waiting };
-  good = tt;
-}
-
 -- what an event gives
 reaches : (old new next : Machine) (sent out : List Sent) → new ≡ next → sent ≡ out → Preserves old next out → Preserves old new sent
 reaches old new next sent out e f p = subst (λ m. Preserves old m sent) (sym e) (subst (λ xs. Preserves old next xs) (sym f) p)
 
 given : (old : Machine) (effects : Effects) (new next : Machine) (out : List Sent) (fails : List Bool) → Gives effects new next out fails → Preserves old next out → Preserves old new effects.sent
 given old effects new next out fails g p = reaches old new next effects.sent out g.state g.sent p
-
-served_goes : (fails : List Bool) (old : Machine) (to : To) (peer : Peer) (h : Handled) (effects : Effects) (new : Machine) → IsSound old → IsServed fails old to peer h effects new → Preserves old new effects.sent
-served_goes fails old to peer NoReply effects new s g = given old effects new old [] [] g.1 (stays old s)
-served_goes fails old to peer (Replies reply) effects new s g = given old effects new old _ [] g.1 (with_reply old old [] to reply (stays old s))
-served_goes fails old to peer (Update message question) effects new s g =
-    let a : Asked = record { to = to; address = peer.address; message = message; zone = question } in
-    given old effects new (updated fails old a).0 (updated fails old a).1 fails g.1 (update_preserves fails old a g.0 s)
-served_goes fails old to peer (Transfer message question) effects new s g =
-    given old effects new old _ [] g.1 (with_reply old old [] to (text (bare_reply message.header rcode_notimp)) (stays old s))
-
-arrived_goes : (fails : List Bool) (old : Machine) (number : ℕ) (peer : Option Peer) (octets : List ℕ) (effects : Effects) (new : Machine) → IsSound old → IsArrived fails old number peer octets effects new → Preserves old new effects.sent
-arrived_goes fails old number None octets effects new s g = given old effects new old [] [] g.1 (stays old s)
-arrived_goes fails old number (Some peer) octets effects new s g = served_goes fails old (to.Connection number) peer _ effects new s g
 
 -- a zone whose base is moved
 record IsSameBut (z w : ZoneState) : Type 0 where
@@ -167,17 +126,62 @@ moved_preserves fails old place z w s e same = record {
   good = tt;
 }
 
-checkpointed_goes : (fails : List Bool) (old : Machine) (place : ℕ) (o : Option ZoneState) (effects : Effects) (new : Machine) → IsSound old → IsCheckpointed fails old place o effects new → Preserves old new effects.sent
-checkpointed_goes fails old place None effects new s g = given old effects new old [] [] g.1 (stays old s)
-checkpointed_goes fails old place (Some z) effects new s g =
+-- what comes before an update is answered
+begun_preserves : (fails : List Bool) (old : Machine) (lacked : Option (ℕ × ℕ)) (first : Effects) (mid : Machine) → IsSound old → IsBegun fails old lacked first mid → Preserves old mid first.sent
+begun_preserves fails old None first mid s g = given old first mid (made_place fails old).0 (made_place fails old).1 fails g.1 (place_preserves fails old g.0 s)
+begun_preserves fails old (Some lacked) first mid s g =
     let flushing = g.0 in
     let made = g.3 in
-    let mid = flushed flushing old in
-    let after : Machine = record mid { zones = slice_set mid.zones place made.next } in
-    let first = flush_preserves flushing old made.all s in
-    let second = moved_preserves flushing old place made.zone made.next first.sound made.stands (same_moved g.1 0 made.zone made.next made.moved) in
-    reaches old new after effects.sent (flush_sends flushing old ++ []) made.is ((g.4).sent ∙ sym (append-nil (flush_sends flushing old)))
-    (and_then old mid after (flush_sends flushing old) [] first second)
+    let here = flushed flushing old in
+    let after : Machine = record here { zones = slice_set here.zones lacked.0 made.next } in
+    let one = flush_preserves flushing old made.all s in
+    let two = moved_preserves flushing old lacked.0 made.zone made.next one.sound made.stands (same_moved g.1 lacked.1 made.zone made.next made.moved) in
+    reaches old mid after first.sent (flush_sends flushing old ++ []) made.is ((g.4).sent ∙ sym (append-nil (flush_sends flushing old)))
+    (and_then old here after (flush_sends flushing old) [] one two)
+
+update_goes : (fails : List Bool) (old : Machine) (a : Asked) (effects : Effects) (new : Machine) → IsSound old → IsUpdated fails old a effects new → Preserves old new effects.sent
+update_goes fails old a effects new s u =
+    let ended = answer u.mid a in
+    let p = begun_preserves fails old (room_lacked old a) u.first u.mid s u.begun in
+    reaches old new ended.0 effects.sent ((u.first).sent ++ ended.1) u.state u.sent
+    (and_then old u.mid ended.0 (u.first).sent ended.1 p (admitted_preserves u.mid a (admission (u.mid).zones a) p.sound (admission_stands (u.mid).zones a)))
+
+-- a connection that closes: the replies that wait keep their places
+redirected : (number : ℕ) (zones : List ZoneState) (ws : List Waits) → AllByRecursion (IsPlaced zones) ws
+    → AllByRecursion (IsPlaced zones) (map (λ (w : Waits). record w { to = without_connection number w.to }) ws)
+redirected number zones [] h = tt
+redirected number zones (w ∷ ws) h =
+    (record { zone = (h.0).zone; stands = (h.0).stands; more = (h.0).more; updates = (h.0).updates }, redirected number zones ws h.1)
+
+close_preserves : (number : ℕ) (m : Machine) → IsSound m → Preserves m (closed number m) []
+close_preserves number m s = record {
+  lasts = all_last_same m.zones;
+  sound = record { zones = s.zones; waiting = redirected number m.zones m.waiting s.waiting };
+  good = tt;
+}
+
+connect_preserves : (m : Machine) (number : ℕ) (peer : Peer) → IsSound m → Preserves m (connected number peer m) []
+connect_preserves m number peer s = record {
+  lasts = all_last_same m.zones;
+  sound = record { zones = s.zones; waiting = s.waiting };
+  good = tt;
+}
+
+served_goes : (fails : List Bool) (old : Machine) (to : To) (peer : Peer) (h : Handled) (effects : Effects) (new : Machine) → IsSound old → IsServed fails old to peer h effects new → Preserves old new effects.sent
+served_goes fails old to peer NoReply effects new s g = given old effects new old [] [] g.1 (stays old s)
+served_goes fails old to peer (Replies reply) effects new s g = given old effects new old _ [] g.1 (with_reply old old [] to reply (stays old s))
+served_goes fails old to peer (Update message question) effects new s g =
+    update_goes fails old (record { to = to; address = peer.address; message = message; zone = question }) effects new s g
+served_goes fails old to peer (Transfer message question) effects new s g =
+    given old effects new old _ [] g.1 (with_reply old old [] to (text (bare_reply message.header rcode_notimp)) (stays old s))
+
+arrived_goes : (fails : List Bool) (old : Machine) (number : ℕ) (peer : Option Peer) (octets : List ℕ) (effects : Effects) (new : Machine) → IsSound old → IsArrived fails old number peer octets effects new → Preserves old new effects.sent
+arrived_goes fails old number None octets effects new s g = given old effects new old [] [] g.1 (stays old s)
+arrived_goes fails old number (Some peer) octets effects new s g = served_goes fails old (to.Connection number) peer _ effects new s g
+
+checkpointed_goes : (fails : List Bool) (old : Machine) (place : ℕ) (o : Option ZoneState) (effects : Effects) (new : Machine) → IsSound old → IsCheckpointed fails old place o effects new → Preserves old new effects.sent
+checkpointed_goes fails old place None effects new s g = given old effects new old [] [] g.1 (stays old s)
+checkpointed_goes fails old place (Some z) effects new s g = begun_preserves fails old (Some (place, 0)) effects new s g
 
 event_goes : (fails : List Bool) (old : Machine) (event : Event) (effects : Effects) (new : Machine) → IsSound old → Goes fails old event effects new → Preserves old new effects.sent
 event_goes fails old (Datagram peer octets) effects new s g = served_goes fails old (to.Address peer) peer _ effects new s g
@@ -217,8 +221,12 @@ with_failures old new sent event p = record {
 lacks_goes : (fails : List Bool) (old : Machine) (event : Event) (effects : Effects) (new : Machine) → IsSound old → Lacks fails old event effects new → Preserves old new effects.sent
 lacks_goes fails old event effects new s l = elim (l.stays) [
   | inl c ↦ reaches old new old effects.sent (failures old event) c.1 c.2 (with_failures old old [] event (stays old s))
-  | inr c ↦ reaches old new (flushed fails old) effects.sent (flush_sends fails old ++ failures old event) c.2 c.3
-      (with_failures old (flushed fails old) (flush_sends fails old) event (flush_preserves fails old c.1 s))
+  | inr r ↦ elim r [
+    | inl c ↦ reaches old new (flushed fails old) effects.sent (flush_sends fails old ++ failures old event) c.2 c.3
+        (with_failures old (flushed fails old) (flush_sends fails old) event (flush_preserves fails old c.1 s))
+    | inr c ↦ reaches old new new effects.sent ((c.1).sent ++ failures old event) refl c.4
+        (with_failures old new (c.1).sent event (begun_preserves fails old (Some c.0) c.1 new s c.3))
+  ]
 ]
 
 pub step_preserves : (fails : List Bool) (old : Machine) (event : Event) (effects : Effects) (new : Machine) → IsSound old → Step fails old event effects new → Preserves old new effects.sent

@@ -132,24 +132,10 @@ module _ {I S : Type 0} (keeps : S → Kept → Type 0) (zones : List Zone) (beh
       } in
       (ap (λ (p : Machine × List Sent). p.1) w.ended_is, subst (λ (p : Machine × List Sent). Holds keeps zones (slice_set behind place new) settings (waiting ++ one ∷ []) m.connections p.0) (sym w.ended_is) holds)
 
--- an update is admitted for an open zone alone
-open_in : (b c : Bool) (place other : ℕ) (z s : ZoneState) → s.closed ≡ c → (if not b then Rejects rcode_refused else if c then Rejects rcode_servfail else Admits place s) ≡ Admits other z → (place ≡ other) × (s ≡ z) × (z.closed ≡ false)
-open_in true true place other z s is e = absurd (cc e)
-open_in true false place other z s is e = let p : place ≡ other = cc e in let q : s ≡ z = cc e in (p, q, sym (ap (λ (t : ZoneState). t.closed) q) ∙ is)
-open_in false c place other z s is e = absurd (cc e)
-
-open_at : (address : IpAddr) (place other : ℕ) (z : ZoneState) (o : Option ZoneState) → admission_in address place o ≡ Admits other z → z.closed ≡ false
-open_at address place other z None e = absurd (cc e)
-open_at address place other z (Some s) e = (open_in (s.setting.may_update address) s.closed place other z s refl e).2
-
-open_among : (zones : List ZoneState) (address : IpAddr) (other : ℕ) (z : ZoneState) (o : Option ℕ) → admission_at zones address o ≡ Admits other z → z.closed ≡ false
-open_among zones address other z None e = absurd (cc e)
-open_among zones address other z (Some place) e = open_at address place other z (slice_get zones place) e
-
-past : (b c : Bool) (x : Admission) (other : ℕ) (z : ZoneState) → (if not b then Rejects rcode_formerr else if not c then Rejects rcode_notauth else x) ≡ Admits other z → x ≡ Admits other z
-past true true x other z e = e
-past true false x other z e = absurd (cc e)
-past false c x other z e = absurd (cc e)
-
-pub admitted_open : (zones : List ZoneState) (a : Asked) (place : ℕ) (z : ZoneState) → admission zones a ≡ Admits place z → z.closed ≡ false
-admitted_open zones a place z e = open_among zones a.address place z (place_of a.zone.name zones) (past (a.zone.qtype == type_soa) (a.zone.qclass == class_in) (admission_at zones a.address (place_of a.zone.name zones)) place z e)
+-- a zone is closed or not
+pub by_state : {R : Type 0} (z : ZoneState) → (z.closed ≡ true → R) → (z.closed ≡ false → R) → R
+by_state {R} z shut opened = by z.closed refl
+  where
+    by : (b : Bool) → z.closed ≡ b → R
+    by true e = shut e
+    by false e = opened e

@@ -18,8 +18,8 @@ use Rattle.dns_primary.specs.declared.event.To.TheVariants as to
 use Rattle.dns_primary.specs.Machine.{Made, ZoneState, Waits, Machine, kept_of, updates_of, peer_at}
 use Rattle.dns_primary.specs.Flush.{Sent, Replied, rcode_servfail, flushed, flush_sends, flushed_zones, released, is_closed_in, is_none_made}
 use Rattle.dns_primary.specs.Checkpoint.{IsMovedUnlessClosed}
-use Rattle.dns_primary.specs.Update.{Asked, Admission, Rejects, Admits, admission, waits, stages, with_staged, replies, accepted_in, judged_in, admitted, is_full, made_place, updated}
-use Rattle.dns_primary.specs.Step.{Event, Datagram, Connect, Arrives, Flush, Checkpoint, Closed, IsCheckpointed, Effects, IsServed, IsArrived, Goes, Lacks, Step, is_asking, failure, failure_on, failures}
+use Rattle.dns_primary.specs.Update.{Asked, Admission, Rejects, Admits, admission, waits, stages, with_staged, replies, accepted_in, judged_in, admitted, is_full, made_place, answer, room_lacked}
+use Rattle.dns_primary.specs.Step.{Event, Datagram, Connect, Arrives, Flush, Checkpoint, Closed, IsCheckpointed, IsBegun, IsUpdated, Effects, IsServed, IsArrived, Goes, Lacks, Step, is_asking, failure, failure_on, failures}
 use Rattle.dns_primary.specs.Runs.{IsReleasedFrom}
 use Rattle.dns_primary.proofs.Zonewise.{tested}
 use Rattle.dns_primary.proofs.Sound.{all_with}
@@ -128,29 +128,39 @@ admitted_so : (m : Machine) (a : Asked) (d : Admission) → StandsIn m.zones d �
 admitted_so m a (Rejects rcode) e = replied_so m a rcode
 admitted_so m a (Admits place z) e = judged_so m a place z (verdict (newest_zone (kept_of z)) a.message.answers a.message.authorities) e
 
-begun_so : (fails : List Bool) (m : Machine) (new : Machine) → AreClosedAlike (made_place fails m).0.zones new.zones → Releases m new (made_place fails m).1
-begun_so fails m new alike =
+reaches : (old new next : Machine) (sent out : List Sent) → new ≡ next → sent ≡ out → Releases old next out → Releases old new sent
+reaches old new next sent out e f p = subst (λ m. Releases old m sent) (sym e) (subst (λ xs. Releases old next xs) (sym f) p)
+
+placed_so : (fails : List Bool) (m : Machine) (new : Machine) → AreClosedAlike (made_place fails m).0.zones new.zones → Releases m new (made_place fails m).1
+placed_so fails m new alike =
     tested (λ (p : Machine × List Sent). AreClosedAlike p.0.zones new.zones → Releases m new p.1) (is_full m) (flushed fails m, flush_sends fails m) (m, [])
     (λ _. λ same. flush_releases fails m new (alike_closes (flushed fails m).zones new.zones same))
     (λ _. λ same. tt)
     alike
 
-update_releases : (fails : List Bool) (m : Machine) (a : Asked) → Releases m (updated fails m a).0 (updated fails m a).1
-update_releases fails m a =
-    let begun = made_place fails m in
-    let ended = admitted begun.0 a (admission (begun.0).zones a) in
-    let so = admitted_so begun.0 a (admission (begun.0).zones a) (admission_stands (begun.0).zones a) in
-    all_with (IsReleasedFrom m ended.0) begun.1 ended.1 (begun_so fails m ended.0 so.alike) (so.sent m)
+begun_so : (fails : List Bool) (m : Machine) (lacked : Option (ℕ × ℕ)) (first : Effects) (mid new : Machine) → IsBegun fails m lacked first mid → AreClosedAlike mid.zones new.zones → Releases m new first.sent
+begun_so fails m None first mid new g alike =
+    subst (λ (xs : List Sent). Releases m new xs) (sym (g.1).sent) (placed_so fails m new (subst (λ (x : Machine). AreClosedAlike x.zones new.zones) (g.1).state alike))
+begun_so fails m (Some lacked) first mid new g alike =
+    let flushing = g.0 in
+    let made = g.3 in
+    let zones = (flushed flushing m).zones in
+    let closes : Closes zones mid.zones = subst (λ (x : Machine). Closes zones x.zones) (sym made.is)
+    (set_closes zones lacked.0 made.zone made.next made.stands (moved_closes g.1 lacked.1 made.zone made.next made.moved)) in
+    subst (λ (xs : List Sent). Releases m new xs) (sym (g.4).sent) (flush_releases flushing m new (λ n e. alike_closes mid.zones new.zones alike n (closes n e)))
 
-reaches : (old new next : Machine) (sent out : List Sent) → new ≡ next → sent ≡ out → Releases old next out → Releases old new sent
-reaches old new next sent out e f p = subst (λ m. Releases old m sent) (sym e) (subst (λ xs. Releases old next xs) (sym f) p)
+update_releases : (fails : List Bool) (m : Machine) (a : Asked) (effects : Effects) (new : Machine) → IsUpdated fails m a effects new → Releases m new effects.sent
+update_releases fails m a effects new u =
+    let ended = answer u.mid a in
+    let so = admitted_so u.mid a (admission (u.mid).zones a) (admission_stands (u.mid).zones a) in
+    reaches m new ended.0 effects.sent ((u.first).sent ++ ended.1) u.state u.sent
+    (all_with (IsReleasedFrom m ended.0) (u.first).sent ended.1 (begun_so fails m (room_lacked m a) u.first u.mid ended.0 u.begun so.alike) (so.sent m))
 
 served_releases : (fails : List Bool) (old : Machine) (to : To) (peer : Peer) (h : Handled) (effects : Effects) (new : Machine) → IsServed fails old to peer h effects new → Releases old new effects.sent
 served_releases fails old to peer NoReply effects new g = reaches old new old effects.sent [] (g.1).state (g.1).sent tt
 served_releases fails old to peer (Replies reply) effects new g = reaches old new old effects.sent _ (g.1).state (g.1).sent (tt, tt)
 served_releases fails old to peer (Update message question) effects new g =
-    let a : Asked = record { to = to; address = peer.address; message = message; zone = question } in
-    reaches old new (updated fails old a).0 effects.sent (updated fails old a).1 (g.1).state (g.1).sent (update_releases fails old a)
+    update_releases fails old (record { to = to; address = peer.address; message = message; zone = question }) effects new g
 served_releases fails old to peer (Transfer message question) effects new g = reaches old new old effects.sent _ (g.1).state (g.1).sent (tt, tt)
 
 arrived_releases : (fails : List Bool) (old : Machine) (number : ℕ) (peer : Option Peer) (octets : List ℕ) (effects : Effects) (new : Machine) → IsArrived fails old number peer octets effects new → Releases old new effects.sent
@@ -187,9 +197,14 @@ failures_released old new m (Closed number) = tt
 lacks_releases : (fails : List Bool) (old : Machine) (event : Event) (effects : Effects) (new : Machine) → Lacks fails old event effects new → Releases old new effects.sent
 lacks_releases fails old event effects new l = elim (l.stays) [
   | inl c ↦ subst (λ (xs : List Sent). Releases old new xs) (sym c.2) (failures_released old new old event)
-  | inr c ↦ reaches old new (flushed fails old) effects.sent (flush_sends fails old ++ failures old event) c.2 c.3
-      (all_with (IsReleasedFrom old (flushed fails old)) (flush_sends fails old) (failures old event)
-      (flush_releases fails old (flushed fails old) (λ n e. e)) (failures_released old (flushed fails old) old event))
+  | inr r ↦ elim r [
+    | inl c ↦ reaches old new (flushed fails old) effects.sent (flush_sends fails old ++ failures old event) c.2 c.3
+        (all_with (IsReleasedFrom old (flushed fails old)) (flush_sends fails old) (failures old event)
+        (flush_releases fails old (flushed fails old) (λ n e. e)) (failures_released old (flushed fails old) old event))
+    | inr c ↦ reaches old new new effects.sent ((c.1).sent ++ failures old event) refl c.4
+        (all_with (IsReleasedFrom old new) (c.1).sent (failures old event)
+        (begun_so fails old (Some c.0) c.1 new new c.3 (λ n. refl)) (failures_released old new old event))
+  ]
 ]
 
 pub step_releases : (fails : List Bool) (old : Machine) (event : Event) (effects : Effects) (new : Machine) → Step fails old event effects new → Releases old new effects.sent

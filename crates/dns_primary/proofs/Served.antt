@@ -1,6 +1,6 @@
 -- What is done with requests, as steps.
 use Rattle.std.proofs.Common.{◌≡◌, ◌⊎◌, inl, inr, ⊎_elim, ℕ, Bool, true, false, not, List, [], ◌∷◌, ◌++◌, length, map, Option, Some, None, Result, Ok, Err, refl, sym, ap, subst, ◌∙◌, append-nil, arith}
-use Rattle.std.specs.Prelude.{◌==◌, ◌&&◌, ◌||◌, nat_lt, IfOk, IfErr, if◌then◌else◌}
+use Rattle.std.specs.Prelude.{◌==◌, ◌&&◌, ◌||◌, nat_lt, is_some, IfOk, IfErr, if◌then◌else◌}
 use Rattle.dns_records.specs.Types.{type_ixfr, type_axfr, type_mailb, type_maila, class_in}
 use Rattle.dns_wire.specs.Message.{Header, Question, Message, header_of}
 use Rattle.dns_wire.specs.Codes.{number_of_rcode}
@@ -11,7 +11,7 @@ use Rattle.dns_zone.specs.declared.index.ZoneIndex as index
 use Rattle.dns_request.specs.Request as request
 use Rattle.dns_request.specs.Request.{opcode_query, opcode_update, rcode_notimp, rcode_formerr, rcode_refused, request_of, read_as, message_as, question_as, has_counts, too_long}
 use Rattle.dns_request.specs.declared.request.Transport.{Transport}
-use Rattle.dns_answer.specs.Answer.{Handled, Replies, bare_reply, handled_as}
+use Rattle.dns_answer.specs.Answer.{Handled, Replies, bare_reply, handled, handled_as}
 use Rattle.dns_store.specs.declared.zone_store.ZoneStore as store
 use Rattle.dns_store.specs.Versions.{Kept, OpensAsLeft}
 use Rattle.dns_held.specs.declared.behind.Behind.{Behind}
@@ -30,12 +30,12 @@ use Rattle.dns_primary.specs.declared.update.Outcome.{Outcome}
 use Rattle.dns_primary.specs.declared.update.Outcome.TheVariants as outcome
 use Rattle.dns_primary.specs.Machine.{ZoneState, Machine, kept_of, shown_zones}
 use Rattle.dns_primary.specs.Flush.{Sent, Replied, flushed, flush_sends, rcode_servfail}
-use Rattle.dns_primary.specs.Update.{Asked, admission, admitted, is_full, made_place, replies}
+use Rattle.dns_primary.specs.Update.{Asked, answer, is_full, made_place, replies, room_lacked}
 use Rattle.dns_primary.specs.Step as machine
-use Rattle.dns_primary.specs.Step.{AreFailures, Gives, IsServed, failure, is_asking}
+use Rattle.dns_primary.specs.Step.{AreFailures, Gives, IsBegun, IsServed, failure, is_asking, request_lacks}
 use Rattle.dns_primary.specs.Keeps.{HaveVersions, IsKept, AreEffects}
 use Rattle.dns_primary.specs.Queue.{IsAnswered, IsUntouched}
-use Rattle.dns_primary.specs.Steps.{AtAnyMoment, Stepped, nothing, one_reply, answered_with, LacksUpdate, IsUpdatedOrLacks, LacksRequest, IsServedOrLacks}
+use Rattle.dns_primary.specs.Steps.{AtAnyMoment, Stepped, nothing, one_reply, answered_with, IsBegunOrLacks, LacksUpdate, IsUpdatedOrLacks, LacksRequest, IsServedOrLacks}
 use Rattle.dns_primary.proofs.Judged.{tested, untested}
 
 -- the zones are those that the machine shows
@@ -62,7 +62,7 @@ rests {I} {S} s zones behind ks at_rest held =
     diag (λ (z : Zone) (b : Behind I S) (k : Kept). HasVersions s.keeps z b k) (λ (a b : Behind I S) (k : Kept). LeavesOnly s.moment s.left_since a.store b.store (OpensAsLeft s.opens k)) zones behind ks held
     (λ z b k h. started s.moment s.left_since b.store (OpensAsLeft s.opens k) (λ c left. at_rest b.store k h.kept c left))
 
-pub still_leaves : {S B : Type 0} (store : B → S) (failed : S → ℕ) (moment : S → ℕ) (left_since : S → ℕ → Content → Type 0) (P : Kept → Content → Type 0) (olds mids news : List B) (ks : List Kept)
+pub still_leaves : {S B K : Type 0} (store : B → S) (failed : S → ℕ) (moment : S → ℕ) (left_since : S → ℕ → Content → Type 0) (P : K → Content → Type 0) (olds mids news : List B) (ks : List K)
     → Each3 (λ a b k. LeavesOnly moment left_since (store a) (store b) (P k)) olds mids ks → Each2 (λ a b. IsUntouched moment left_since failed (store a) (store b)) mids news
     → Each3 (λ a b k. LeavesOnly moment left_since (store a) (store b) (P k)) olds news ks
 still_leaves store failed moment left_since P [] [] [] [] each same = tt
@@ -140,34 +140,31 @@ full_place old fails e = tested (is_full old) (flushed fails old, flush_sends fa
 free_place : (old : Machine) (fails : List Bool) → is_full old ≡ false → made_place fails old ≡ (old, [])
 free_place old fails e = untested (is_full old) (flushed fails old, flush_sends fails old) (old, []) e
 
-abbrev IsPlaced : Machine → List Bool → machine.Effects → Machine → Type 0
-IsPlaced old fails stated mid = AreFailures (is_full old) old fails × Gives stated mid (made_place fails old).0 (made_place fails old).1 fails
-
-pub placed_full : (old : Machine) (fails : List Bool) (stated : machine.Effects) (mid : Machine) → is_full old ≡ true → AreFailures true old fails × Gives stated mid (flushed fails old) (flush_sends fails old) fails → IsPlaced old fails stated mid
+pub placed_full : (old : Machine) (fails : List Bool) (stated : machine.Effects) (mid : Machine) → is_full old ≡ true → AreFailures true old fails × Gives stated mid (flushed fails old) (flush_sends fails old) fails → IsBegun fails old None stated mid
 placed_full old fails stated mid full h = (
   subst (λ (b : Bool). AreFailures b old fails) (sym full) h.0,
   subst (λ (p : Machine × List Sent). Gives stated mid p.0 p.1 fails) (sym (full_place old fails full)) h.1,
 )
 
-pub placed_free : (old : Machine) → is_full old ≡ false → IsPlaced old [] nothing old
+pub placed_free : (old : Machine) → is_full old ≡ false → IsBegun [] old None nothing old
 placed_free old free = (
   subst (λ (b : Bool). AreFailures b old []) (sym free) refl,
   subst (λ (p : Machine × List Sent). Gives nothing old p.0 p.1 []) (sym (free_place old [] free)) (record { state = refl; sent = refl; accepted = refl; noted = refl }),
 )
 
-lacks_by : (b : Bool) (old mid : Machine) (a : Asked) (fails : List Bool) (stated : machine.Effects) → is_full old ≡ b → IsPlaced old fails stated mid
+lacks_by : (b : Bool) (old mid : Machine) (a : Asked) (fails : List Bool) (stated : machine.Effects) → is_full old ≡ b → IsBegun fails old None stated mid
     → LacksUpdate fails old a (record stated { sent = stated.sent ++ replies a rcode_servfail ∷ []; noted = OutOfMemory }) mid
 lacks_by true old mid a fails stated is h = record {
   noted = refl;
   accepted = h.1.accepted;
   stays =
       let place = full_place old fails is in
-      inr (
-        is,
+      inr (inl (
+        ap (λ (b : Bool). b || is_some (room_lacked old a)) is,
         subst (λ (b : Bool). AreFailures b old fails) is h.0,
         h.1.state ∙ ap (λ (p : Machine × List Sent). p.0) place,
         ap (λ (l : List Sent). l ++ replies a rcode_servfail ∷ []) (h.1.sent ∙ ap (λ (p : Machine × List Sent). p.1) place),
-      );
+      ));
 }
 lacks_by false old mid a fails stated is h = record {
   noted = refl;
@@ -181,52 +178,66 @@ lacks_by false old mid a fails stated is h = record {
       );
 }
 
--- behind it the update is answered
-abbrev ends_from : Asked → Machine → Machine × List Sent
-ends_from a m = admitted m a (admission m.zones a)
+-- memory was refused behind what came first
+pub lacks_behind : (o : Option (ℕ × ℕ)) (old mid : Machine) (a : Asked) (fails : List Bool) (stated : machine.Effects) → room_lacked old a ≡ o → IsBegun fails old o stated mid
+    → LacksUpdate fails old a (record stated { sent = stated.sent ++ replies a rcode_servfail ∷ []; noted = OutOfMemory }) mid
+lacks_behind None old mid a fails stated is h = lacks_by (is_full old) old mid a fails stated refl h
+lacks_behind (Some lacked) old mid a fails stated is h = record {
+  noted = refl;
+  accepted = (h.4).accepted;
+  stays = inr (inr (lacked, stated, is, h, refl));
+}
 
+or_second : (b c : Bool) → c ≡ true → (b || c) ≡ true
+or_second true c e = refl
+or_second false c e = e
+
+pub lacks_begun : (old mid : Machine) (a : Asked) (fails : List Bool) (stated : machine.Effects) → IsBegunOrLacks old (room_lacked old a) fails stated mid
+    → LacksUpdate fails old a (record stated { sent = stated.sent ++ replies a rcode_servfail ∷ []; noted = OutOfMemory }) mid
+lacks_begun old mid a fails stated (inl h) = lacks_behind (room_lacked old a) old mid a fails stated refl h
+lacks_begun old mid a fails stated (inr (some, l)) = record {
+  noted = refl;
+  accepted = l.accepted;
+  stays = inr (inl (or_second (is_full old) (is_some (room_lacked old a)) some, l.failures, l.state, ap (λ (x : List Sent). x ++ replies a rcode_servfail ∷ []) l.sent));
+}
+
+-- behind it the update is answered
 pub record Answers (held : Machine → Type 0) (old : Machine) (a : Asked) (fails : List Bool) (effects : machine.Effects) : Type 0 where
   pub next : Machine
   pub is : IsUpdatedOrLacks old a fails effects next
   pub kept : held next
 
-pub answered : (held : Machine → Type 0) (old mid : Machine) (a : Asked) (fails : List Bool) (stated : machine.Effects) (o : Outcome) → IsPlaced old fails stated mid → IsAnswered held mid a (ends_from a mid) o
+pub answered : (held : Machine → Type 0) (old mid : Machine) (a : Asked) (fails : List Bool) (stated : machine.Effects) (o : Outcome) → IsBegun fails old (room_lacked old a) stated mid → IsAnswered held mid a (answer mid a) o
     → Answers held old a fails (answered_with stated a o)
 answered held old mid a fails stated (outcome.Waits rcode) h is = record {
-  next = (ends_from a mid).0;
-  is =
-      let more : List Sent = (ends_from a (made_place fails old).0).1 in
-      let none : more ≡ [] = ap (λ (m : Machine). (ends_from a m).1) (sym h.1.state) ∙ is.0 in
-      inl (
-        h.0,
-        record {
-          state = ap (λ (m : Machine). (ends_from a m).0) h.1.state;
-          sent = h.1.sent ∙ sym (append-nil (made_place fails old).1) ∙ ap (λ (l : List Sent). (made_place fails old).1 ++ l) (sym none);
-          accepted = h.1.accepted;
-          noted = h.1.noted;
-        },
-      );
+  next = (answer mid a).0;
+  is = inl (record {
+    first = stated;
+    mid = mid;
+    begun = h;
+    state = refl;
+    sent = sym (append-nil stated.sent) ∙ ap (λ (l : List Sent). stated.sent ++ l) (sym is.0);
+    accepted = refl;
+    noted = refl;
+  });
   kept = is.1;
 }
 answered held old mid a fails stated (outcome.AtOnce rcode) h is = record {
-  next = (ends_from a mid).0;
-  is =
-      let more : List Sent = (ends_from a (made_place fails old).0).1 in
-      let one : more ≡ replies a (number_of_rcode rcode) ∷ [] = ap (λ (m : Machine). (ends_from a m).1) (sym h.1.state) ∙ is.0 in
-      inl (
-        h.0,
-        record {
-          state = ap (λ (m : Machine). (ends_from a m).0) h.1.state;
-          sent = λ i. h.1.sent i ++ sym one i;
-          accepted = h.1.accepted;
-          noted = h.1.noted;
-        },
-      );
+  next = (answer mid a).0;
+  is = inl (record {
+    first = stated;
+    mid = mid;
+    begun = h;
+    state = refl;
+    sent = ap (λ (l : List Sent). stated.sent ++ l) (sym is.0);
+    accepted = refl;
+    noted = refl;
+  });
   kept = is.1;
 }
 answered held old mid a fails stated outcome.OutOfMemory h is = record {
   next = mid;
-  is = inr (lacks_by (is_full old) old mid a fails stated refl h);
+  is = inr (lacks_behind (room_lacked old a) old mid a fails stated refl h);
   kept = is;
 }
 
@@ -256,9 +267,9 @@ gives_one m reply = record { state = refl; sent = refl; accepted = refl; noted =
 pub gives_none : (m : Machine) → Gives nothing m m [] []
 gives_none m = record { state = refl; sent = refl; accepted = refl; noted = refl }
 
-pub lacks_one : (m : Machine) (to : To) (octets : List ℕ) (transport : Transport) (r : request.Request) → r ≡ request_of octets transport → (r ≡ request.Ignored → ⊥)
-    → LacksRequest [] m to octets (lack (Replied to (text (bare_reply (header_of octets) rcode_servfail)))) m
-lacks_one m to octets transport r e some = record { noted = refl; accepted = refl; stays = inl (refl, refl, sym (failure_is to octets (header_of octets) (asking octets transport r (sym e) some) refl)) }
+pub lacks_one : (m : Machine) (to : To) (lacked : Option (ℕ × ℕ)) (octets : List ℕ) (transport : Transport) (r : request.Request) → r ≡ request_of octets transport → (r ≡ request.Ignored → ⊥)
+    → LacksRequest [] m to lacked octets (lack (Replied to (text (bare_reply (header_of octets) rcode_servfail)))) m
+lacks_one m to lacked octets transport r e some = record { noted = refl; accepted = refl; stays = inl (refl, refl, sym (failure_is to octets (header_of octets) (asking octets transport r (sym e) some) refl)) }
 
 -- a reply that was made, or memory was refused
 pub replied : {V E : Type 0} (items : V → List ℕ) (r : Result V E) (effects : Effects) (to : To) (octets failed : List ℕ) → IfOk r (λ v. items v ≡ octets) → IfOk r (λ v. AreEffects (one_reply (Replied to (items v))) effects)
@@ -268,14 +279,21 @@ replied items (Err e) effects to octets failed is effects_are none = inr none
 
 -- an update that lacked memory, as a request
 pub lacks_update : (fails : List Bool) (old new : Machine) (a : Asked) (octets : List ℕ) (effects : machine.Effects) → is_asking octets ≡ true → a.message.header ≡ header_of octets → (a.message.header.opcode == opcode_update) ≡ true
-    → LacksUpdate fails old a effects new → LacksRequest fails old a.to octets effects new
+    → LacksUpdate fails old a effects new → LacksRequest fails old a.to (room_lacked old a) octets effects new
 lacks_update fails old new a octets effects asks is kind l =
     let goes = failure_is a.to octets a.message.header asks is in
     let opcode : ((header_of octets).opcode == opcode_update) ≡ true = ap (λ (h : Header). h.opcode == opcode_update) (sym is) ∙ kind in
+    let lacks = is_some (room_lacked old a) in
     record {
       noted = l.noted;
       accepted = l.accepted;
-      stays = ⊎_elim (λ h. inl (h.0, h.1, h.2 ∙ sym goes)) (λ h. inr (λ j. opcode j && h.0 j, h.1, h.2, h.3 ∙ ap (λ (x : List Sent). flush_sends fails old ++ x) (sym goes))) l.stays;
+      stays = elim (l.stays) [
+        | inl h ↦ inl (h.0, h.1, h.2 ∙ sym goes)
+        | inr r ↦ elim r [
+          | inl h ↦ inr (inl (ap (λ (b : Bool). b && is_full old || lacks) opcode ∙ h.0, h.1, h.2, h.3 ∙ ap (λ (x : List Sent). flush_sends fails old ++ x) (sym goes)))
+          | inr h ↦ inr (inr (h.0, h.1, h.2, h.3, h.4 ∙ ap (λ (x : List Sent). (h.1).sent ++ x) (sym goes)))
+        ]
+      ];
     }
 
 module _ {I S : Type 0} {i : index.Ghosts I} {s : store.Ghosts S} where
@@ -289,5 +307,5 @@ module _ {I S : Type 0} {i : index.Ghosts I} {s : store.Ghosts S} where
       (λ t. stays p m effects (one_reply (Replied to reply)) (IsServedOrLacks m peer to octets transport) rest kept t
       (served_as m m peer to octets transport r [] (one_reply (Replied to reply)) e
       (subst (λ (h : Handled). IsServed [] m to peer h (one_reply (Replied to reply)) m) (sym is) (refl, gives_one m (Replied to reply)))))
-      (λ t. stays p m effects (lack (Replied to (text (bare_reply (header_of octets) rcode_servfail)))) (IsServedOrLacks m peer to octets transport) rest kept t (inr (lacks_one m to octets transport r e some)))
+      (λ t. stays p m effects (lack (Replied to (text (bare_reply (header_of octets) rcode_servfail)))) (IsServedOrLacks m peer to octets transport) rest kept t (inr (lacks_one m to (request_lacks m to peer (handled (shown_zones m) octets transport)) octets transport r e some)))
       effects_are

@@ -19,8 +19,8 @@ use Rattle.dns_primary.specs.declared.event.To.{To}
 use Rattle.dns_primary.specs.declared.event.To.TheVariants as to
 use Rattle.dns_primary.specs.Machine.{ZoneState, Waits, Machine, kept_of, shown_zones, peer_at}
 use Rattle.dns_primary.specs.Flush.{Sent, Answered, Replied, is_closed_in, rcode_servfail}
-use Rattle.dns_primary.specs.Update.{Asked, Admits, admission, made_place, place_of}
-use Rattle.dns_primary.specs.Step.{Event, Datagram, Connect, Arrives, Flush, Checkpoint, Closed}
+use Rattle.dns_primary.specs.Update.{Asked, Admits, admission, room_lacked, place_of}
+use Rattle.dns_primary.specs.Step.{Effects, IsBegun, Event, Datagram, Connect, Arrives, Flush, Checkpoint, Closed}
 
 -- The response code of a reply (RFC 1035 4.1.1).
 abbrev pub code_of : List ℕ → ℕ
@@ -34,7 +34,8 @@ pub record IsForClosed (m : Machine) (a : Asked) : Type 0 where
   pub stands : slice_get m.zones place ≡ Some zone
   pub closed : zone.closed ≡ true
 
--- The update is accepted, and there is no room for the version that it leaves, or none in the journal for its entry.
+-- The update is accepted, and there is no room for the version that it leaves, or none in the journal for its entry behind what
+-- came first.
 pub record LacksRoom (m : Machine) (a : Asked) : Type 0 where
   pub place : ℕ
   pub zone : ZoneState
@@ -48,7 +49,13 @@ pub record LacksRoom (m : Machine) (a : Asked) : Type 0 where
 abbrev pub IsTooLong : Transport → Reply → Type 0
 IsTooLong transport r = (transport ≡ Tcp) × (65535 < length (text r))
 
--- An update is judged after the flush that comes first, if there is one.
+-- An update is answered behind what comes first: then its zone is closed, or it lacks room still.
+pub record UpdateCause (fails : List Bool) (m : Machine) (a : Asked) : Type 0 where
+  pub first : Effects
+  pub mid : Machine
+  pub begun : IsBegun fails m (room_lacked m a) first mid
+  pub cause : IsForClosed mid a ⊎ LacksRoom mid a
+
 abbrev pub RequestCause : List Bool → Machine → To → Peer → List ℕ → Transport → request.Request → Type 0
 RequestCause fails m to peer octets transport request.Ignored = ⊥
 RequestCause fails m to peer octets transport (request.Refused rcode) = ⊥
@@ -57,8 +64,7 @@ RequestCause fails m to peer octets transport (request.NotServed message questio
 RequestCause fails m to peer octets transport (request.Query message question) =
     IsTooLong transport (answered (shown_zones m) octets message question)
 RequestCause fails m to peer octets transport (request.Update message question) =
-    let a : Asked = record { to = to; address = peer.address; message = message; zone = question } in
-    IsForClosed (made_place fails m).0 a ⊎ LacksRoom (made_place fails m).0 a
+    UpdateCause fails m (record { to = to; address = peer.address; message = message; zone = question })
 RequestCause fails m to peer octets transport (request.Transfer message question) = ⊥
 
 abbrev pub ArrivedCause : List Bool → Machine → ℕ → Option Peer → List ℕ → Type 0

@@ -1,5 +1,9 @@
 -- What becomes of an update of a zone that isn't closed, by its verdict.
-use Rattle.std.specs.Prelude.{◌≡◌, not, nat_le, if◌then◌else◌}
+use Rattle.std.specs.Prelude.{◌≡◌, ◌⊎◌, ℕ, not, nat_le, List, Option, None, if◌then◌else◌}
+use Rattle.dns_records.specs.Record.{Record}
+use Rattle.dns_zone.specs.Zone.{Zone}
+use Rattle.dns_changes.specs.Change.{IsChange}
+use Rattle.dns_changes.specs.Version.{IsNext}
 use Rattle.dns_wire.specs.declared.codes.Rcode.TheVariants.{NoError, ServFail}
 use Rattle.dns_update.specs.Verdict.{Verdict, Refuses, Keeps, Leaves}
 use Rattle.dns_store.specs.Versions.{Kept, newest_of, staged_with}
@@ -7,6 +11,8 @@ use Rattle.dns_store.specs.Room.{entry_between, sectors_left}
 use Rattle.dns_held.specs.Staging.{has_room}
 use Rattle.dns_held.specs.declared.staging.StagingError.{StagingError}
 use Rattle.dns_held.specs.declared.staging.StagingError.TheVariants as staging
+use Rattle.dns_primary.specs.declared.update.Judgement.{Judgement}
+use Rattle.dns_primary.specs.declared.update.Judgement.TheVariants.{Unchanged, Accepted}
 use Rattle.dns_primary.specs.declared.update.Outcome.{Outcome}
 use Rattle.dns_primary.specs.declared.update.Outcome.TheVariants.{Waits, AtOnce, OutOfMemory}
 
@@ -16,7 +22,7 @@ pub record Ends : Type 0 where
   pub versions : Kept
 
 -- What is refused, and what changes nothing, waits. What leaves a version without room is SERVFAIL, and waits; one whose entry is
--- over what is left of the journal is SERVFAIL at once; else it is staged.
+-- over what is left of the journal, behind what made room, is SERVFAIL at once; else it is staged.
 abbrev pub end_of : Kept → Verdict → Ends
 end_of k (Refuses rcode) = record { outcome = Waits rcode; versions = k }
 end_of k Keeps = record { outcome = Waits NoError; versions = k }
@@ -37,3 +43,19 @@ refused_as staging.NoRoom = Waits ServFail
 refused_as staging.Full = AtOnce ServFail
 refused_as staging.Closed = AtOnce ServFail
 refused_as staging.OutOfMemory = OutOfMemory
+
+-- What an update of a zone is judged to be, by its verdict on the newest version.
+abbrev pub IsVerdictOf : {X : Type 0} → (X → List Record) → Verdict → Judgement X → Type 0
+IsVerdictOf records v (Unchanged rcode) = (v ≡ Refuses rcode) ⊎ ((v ≡ Keeps) × (rcode ≡ NoError))
+IsVerdictOf records v (Accepted change next lacked) = v ≡ Leaves (records next)
+
+-- How many sectors it lacks.
+abbrev pub lacked_of : {X : Type 0} → Judgement X → Option ℕ
+lacked_of (Unchanged rcode) = None
+lacked_of (Accepted change next lacked) = lacked
+
+-- The change leads from this version to its next one.
+abbrev pub IsStageable : {X : Type 0} → (X → List Record) → Zone → Judgement X → Type 0
+IsStageable records before (Unchanged rcode) = Unit {0}
+IsStageable records before (Accepted change next lacked) =
+    IsNext before change (records next) × IsChange before.records (records next) change

@@ -1,19 +1,26 @@
 -- An update that is for a primary whose replies have room for one more, and what is told of it.
-use Rattle.std.specs.Prelude.{◌≡◌, ℕ, List, [], ◌∷◌}
+use Rattle.std.specs.Prelude.{◌≡◌, ◌<◌, ℕ, true, false, List, [], ◌∷◌, length, slice_get, Some}
+use Rattle.dns_records.specs.Record.{Record}
 use Rattle.dns_wire.specs.Codes.{number_of_rcode}
 use Rattle.dns_zone.specs.Zone.{Zone}
 use Rattle.dns_sectors.specs.Device.{Content}
 use Rattle.dns_store.specs.Versions.{Kept, StandsStill}
 use Rattle.dns_held.specs.declared.behind.Behind.{Behind}
 use Rattle.dns_held.specs.Each.{Each2}
+use Rattle.dns_held.specs.Held.{newest_each, newest_zone}
+use Rattle.dns_update.specs.Verdict.{verdict}
 use Rattle.dns_primary.specs.declared.event.Waiting.{Waiting}
 use Rattle.dns_primary.specs.declared.primary.ZoneSettings.{ZoneSettings}
 use Rattle.dns_primary.specs.declared.queue.UpdateRequest.{UpdateRequest}
+use Rattle.dns_primary.specs.declared.queue.Tested.{Tested}
+use Rattle.dns_primary.specs.declared.queue.Tested.TheVariants.{AtOnce, Judged}
+use Rattle.dns_primary.specs.declared.update.Judgement.{Judgement}
 use Rattle.dns_primary.specs.declared.update.Outcome.{Outcome}
 use Rattle.dns_primary.specs.declared.update.Outcome.TheVariants as outcome
-use Rattle.dns_primary.specs.Machine.{Machine, Connection}
-use Rattle.dns_primary.specs.Flush.{Sent}
-use Rattle.dns_primary.specs.Update.{Asked, replies}
+use Rattle.dns_primary.specs.Machine.{ZoneState, Machine, Connection, kept_of}
+use Rattle.dns_primary.specs.Flush.{Sent, rcode_servfail}
+use Rattle.dns_primary.specs.Update.{Asked, Rejects, Admits, admission, replies, lacked_by}
+use Rattle.dns_primary.specs.Outcome.{IsVerdictOf, IsStageable, lacked_of}
 use Rattle.dns_primary.specs.Keeps.{HaveVersions, IsSet, IsWaiting}
 
 -- The update that the request is.
@@ -40,3 +47,35 @@ abbrev pub IsAnswered : (Machine → Type 0) → Machine → Asked → Machine �
 IsAnswered held m a ended (outcome.Waits rcode) = (ended.1 ≡ []) × held ended.0
 IsAnswered held m a ended (outcome.AtOnce rcode) = (ended.1 ≡ replies a (number_of_rcode rcode) ∷ []) × held ended.0
 IsAnswered held m a ended outcome.OutOfMemory = held m
+
+-- What was judged before what came first still holds of the zone at the place: it is refused where the zone is closed then, and else
+-- admitted, and the verdict on its newest version is the same.
+pub record HoldsStill {X : Type 0} (records : X → List Record) (m : Machine) (a : Asked) (place : ℕ) (j : Judgement X)
+    : Type 0 where
+  pub zone : ZoneState
+  pub stands : slice_get m.zones place ≡ Some zone
+  pub shut : zone.closed ≡ true → admission m.zones a ≡ Rejects rcode_servfail
+  pub admits : zone.closed ≡ false → admission m.zones a ≡ Admits place zone
+  pub is : IsVerdictOf records (verdict (newest_zone (kept_of zone)) a.message.answers a.message.authorities) j
+
+-- The update is judged, for the zone at the place.
+pub record IsJudged {X : Type 0} (records : X → List Record) (m : Machine) (a : Asked) (place : ℕ) (j : Judgement X)
+    : Type 0 where
+  pub zone : ZoneState
+  pub admits : admission m.zones a ≡ Admits place zone
+  pub is : IsVerdictOf records (verdict (newest_zone (kept_of zone)) a.message.answers a.message.authorities) j
+  pub lacks : lacked_of j ≡ lacked_by (kept_of zone) (verdict (newest_zone (kept_of zone)) a.message.answers a.message.authorities)
+
+-- It is refused before, or judged so.
+abbrev pub IsTested : {X : Type 0} → (X → List Record) → Machine → Asked → Tested X → Type 0
+IsTested records m a (AtOnce rcode) = admission m.zones a ≡ Rejects (number_of_rcode rcode)
+IsTested records m a (Judged place j) = IsJudged records m a place j
+
+-- What was judged may be staged behind the newest version of the zone at the place.
+abbrev pub IsStageableAt : {X : Type 0} → (X → List Record) → List Zone → ℕ → Judgement X → Type 0
+IsStageableAt records newest place j = (v : Zone) → slice_get newest place ≡ Some v → IsStageable records v j
+
+abbrev pub IsReady : {X I S : Type 0} → (X → List Record) → List Zone → List (Behind I S) → Tested X → Type 0
+IsReady records zones behind (AtOnce rcode) = Unit {0}
+IsReady records zones behind (Judged place j) =
+    (place < length zones) × IsStageableAt records (newest_each zones behind) place j

@@ -1,5 +1,5 @@
 -- One event is one step of the machine.
-use Rattle.std.specs.Prelude.{◌≡◌, ◌⊎◌, ◌<◌, ◌≤◌, ℕ, Bool, true, false, not, ◌&&◌, ◌==◌, nat_lt, List, [], ◌∷◌, ◌++◌, length, slice_get, is_some, Option, Some, None, if◌then◌else◌}
+use Rattle.std.specs.Prelude.{◌≡◌, ◌⊎◌, ◌<◌, ◌≤◌, ℕ, Bool, true, false, not, ◌&&◌, ◌||◌, ◌==◌, nat_lt, List, [], ◌∷◌, ◌++◌, length, slice_get, is_some, Option, Some, None, if◌then◌else◌}
 use Rattle.dns_wire.specs.Message.{header_of}
 use Rattle.dns_wire.specs.Text.{text}
 use Rattle.dns_request.specs.Request.{opcode_update, rcode_notimp}
@@ -13,7 +13,7 @@ use Rattle.dns_primary.specs.declared.event.Noted.{Noted}
 use Rattle.dns_primary.specs.declared.event.Noted.TheVariants.{Nothing, OutOfMemory, Device}
 use Rattle.dns_primary.specs.Machine.{ZoneState, Machine, shown_zones, peer_at}
 use Rattle.dns_primary.specs.Flush.{Sent, Replied, rcode_servfail, flushed, flush_sends}
-use Rattle.dns_primary.specs.Update.{Asked, is_full, updated}
+use Rattle.dns_primary.specs.Update.{Asked, is_full, made_place, room_lacked, answer}
 use Rattle.dns_primary.specs.Checkpoint.{IsCheckpoint, either_fails, first_of}
 use Rattle.dns_primary.specs.Connections.{connected, closed, most_connections}
 
@@ -67,9 +67,25 @@ IsCheckpointed fails old place (Some z) effects new =
     × IsCheckpoint place 0 old flushing moving new
     × Tells effects (flush_sends flushing old) (first_of (first_true flushing) moving place)
 
-abbrev pub IsUpdated : List Bool → Machine → Asked → Effects → Machine → Type 0
-IsUpdated fails old a effects new =
-    AreFailures (is_full old) old fails × Gives effects new (updated fails old a).0 (updated fails old a).1 fails
+-- What comes before an update is answered: where it lacks room, all zones are flushed, and the base of its own is moved so that the
+-- room is left; else there is a flush where as many replies wait as may.
+abbrev pub IsBegun : List Bool → Machine → Option (ℕ × ℕ) → Effects → Machine → Type 0
+IsBegun fails old None effects mid =
+    AreFailures (is_full old) old fails × Gives effects mid (made_place fails old).0 (made_place fails old).1 fails
+IsBegun fails old (Some lacked) effects mid =
+    (flushing : List Bool) × (moving : Bool) × (fails ≡ either_fails moving lacked.0 flushing)
+    × IsCheckpoint lacked.0 lacked.1 old flushing moving mid
+    × Tells effects (flush_sends flushing old) (first_of (first_true flushing) moving lacked.0)
+
+-- It is answered behind that.
+pub record IsUpdated (fails : List Bool) (old : Machine) (a : Asked) (effects : Effects) (new : Machine) : Type 0 where
+  pub first : Effects
+  pub mid : Machine
+  pub begun : IsBegun fails old (room_lacked old a) first mid
+  pub state : new ≡ (answer mid a).0
+  pub sent : effects.sent ≡ first.sent ++ (answer mid a).1
+  pub accepted : effects.accepted ≡ first.accepted
+  pub noted : effects.noted ≡ first.noted
 
 -- What is done with a request, by what becomes of its octets: a query is answered of what is shown, transfers are not served.
 abbrev pub IsServed : List Bool → Machine → To → Peer → Handled → Effects → Machine → Type 0
@@ -133,23 +149,58 @@ takes_memory Flush = false
 takes_memory (Checkpoint place) = true
 takes_memory (Closed number) = false
 
--- An update that comes while as many wait as may flushes first, and so does the checkpoint of a zone that is there.
+-- The checkpoint that comes first where an update lacks room: of which zone, and the room that it leaves.
+abbrev pub request_lacks : Machine → To → Peer → Handled → Option (ℕ × ℕ)
+request_lacks m to peer NoReply = None
+request_lacks m to peer (Replies reply) = None
+request_lacks m to peer (Update message question) =
+    room_lacked m (record { to = to; address = peer.address; message = message; zone = question })
+request_lacks m to peer (Transfer message question) = None
+
+abbrev pub arrived_lacks : Machine → ℕ → Option Peer → List ℕ → Option (ℕ × ℕ)
+arrived_lacks m number None octets = None
+arrived_lacks m number (Some peer) octets = request_lacks m (to.Connection number) peer (handled (shown_zones m) octets Tcp)
+
+abbrev pub checkpoint_first : Machine → Event → Option (ℕ × ℕ)
+checkpoint_first m (Datagram peer octets) = request_lacks m (to.Address peer) peer (handled (shown_zones m) octets Udp)
+checkpoint_first m (Arrives number octets) = arrived_lacks m number (peer_at number m.connections) octets
+checkpoint_first m (Connect peer) = None
+checkpoint_first m Flush = None
+checkpoint_first m (Checkpoint place) = None
+checkpoint_first m (Closed number) = None
+
+-- An update that comes while as many wait as may flushes first, and so does one that lacks room, and the checkpoint of a zone that
+-- is there.
 abbrev pub flushes_first : Machine → Event → Bool
-flushes_first m (Datagram peer octets) = (header_of octets).opcode == opcode_update && is_full m
-flushes_first m (Arrives number octets) = (header_of octets).opcode == opcode_update && is_full m
+flushes_first m (Datagram peer octets) =
+    (header_of octets).opcode == opcode_update && is_full m || is_some (checkpoint_first m (Datagram peer octets))
+flushes_first m (Arrives number octets) =
+    (header_of octets).opcode == opcode_update && is_full m || is_some (checkpoint_first m (Arrives number octets))
 flushes_first m (Connect peer) = false
 flushes_first m Flush = false
 flushes_first m (Checkpoint place) = is_some (slice_get m.zones place)
 flushes_first m (Closed number) = false
 
--- Memory was refused: the machine is as before, or as after the event's flush.
+-- Of which zone the event moves the base, and the room that is to be left.
+abbrev pub base_moved : Machine → Event → Option (ℕ × ℕ)
+base_moved m (Datagram peer octets) = checkpoint_first m (Datagram peer octets)
+base_moved m (Arrives number octets) = checkpoint_first m (Arrives number octets)
+base_moved m (Connect peer) = None
+base_moved m Flush = None
+base_moved m (Checkpoint place) = Some (place, 0)
+base_moved m (Closed number) = None
+
+-- Memory was refused: the machine is as before, or as after the event's flush, or as after the flush and the checkpoint that come
+-- first where an update lacks room.
 pub record Lacks (fails : List Bool) (old : Machine) (event : Event) (effects : Effects) (new : Machine) : Type 0 where
   pub takes : takes_memory event ≡ true
   pub noted : effects.noted ≡ OutOfMemory
   pub accepted : effects.accepted ≡ None
   pub stays : ((fails ≡ []) × (new ≡ old) × (effects.sent ≡ failures old event))
-      ⊎ ((flushes_first old event ≡ true) × AreFailures true old fails × (new ≡ flushed fails old)
+      ⊎ (((flushes_first old event ≡ true) × AreFailures true old fails × (new ≡ flushed fails old)
       × (effects.sent ≡ flush_sends fails old ++ failures old event))
+      ⊎ ((lacked : ℕ × ℕ) × (first : Effects) × (checkpoint_first old event ≡ Some lacked)
+      × IsBegun fails old (Some lacked) first new × (effects.sent ≡ first.sent ++ failures old event)))
 
 -- The step, where of the devices these fail.
 abbrev pub Step : List Bool → Machine → Event → Effects → Machine → Type 0

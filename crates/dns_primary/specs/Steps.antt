@@ -1,5 +1,5 @@
 -- Steps of a primary, and what is told of them.
-use Rattle.std.specs.Prelude.{◌≡◌, ◌⊎◌, ℕ, zero, suc, Bool, true, ◌&&◌, ◌==◌, List, [], ◌∷◌, ◌++◌, Option, Some, None, Result, Ok, Err, map, slice_get}
+use Rattle.std.specs.Prelude.{◌≡◌, ◌⊎◌, ℕ, zero, suc, Bool, true, ◌&&◌, ◌||◌, ◌==◌, is_some, List, [], ◌∷◌, ◌++◌, Option, Some, None, Result, Ok, Err, map, slice_get}
 use Rattle.dns_wire.specs.Message.{header_of}
 use Rattle.dns_wire.specs.Codes.{number_of_rcode}
 use Rattle.dns_request.specs.Request.{opcode_update}
@@ -28,9 +28,9 @@ use Rattle.dns_primary.specs.declared.update.Outcome.TheVariants as outcome
 use Rattle.dns_primary.specs.Machine.{ZoneState, Machine, kept_of, shown_zones}
 use Rattle.dns_primary.specs.Checkpoint.{either_fails}
 use Rattle.dns_primary.specs.Flush.{Sent, flushed, flush_sends, rcode_servfail}
-use Rattle.dns_primary.specs.Update.{Asked, replies, is_full}
+use Rattle.dns_primary.specs.Update.{Asked, replies, is_full, room_lacked}
 use Rattle.dns_primary.specs.Step as machine
-use Rattle.dns_primary.specs.Step.{AreFailures, IsServed, IsUpdated, failure}
+use Rattle.dns_primary.specs.Step.{AreFailures, IsBegun, IsServed, IsUpdated, failure, request_lacks}
 use Rattle.dns_primary.specs.Keeps.{IsKept, AreEffects}
 
 -- The event of the machine.
@@ -60,15 +60,6 @@ pub record Stepped {I S : Type 0} {i : index.Ghosts I} {s : store.Ghosts S} (m :
   pub is : step fails stated next
   pub effects_are : AreEffects stated effects
   pub kept : IsKept new next
-
--- Of which zone an event may move the base, and the room that it asks.
-abbrev pub base_moved : machine.Event → Option (ℕ × ℕ)
-base_moved (machine.Checkpoint place) = Some (place, 0)
-base_moved (machine.Datagram peer octets) = None
-base_moved (machine.Connect peer) = None
-base_moved (machine.Arrives number octets) = None
-base_moved machine.Flush = None
-base_moved (machine.Closed number) = None
 
 -- The room that is asked of each zone where its base may be moved.
 abbrev pub without_room : ZoneState → Option ℕ × ZoneState
@@ -108,18 +99,26 @@ pub record HaveFailedInTurn {I S : Type 0} {i : index.Ghosts I} {s : store.Ghost
       → slice_get new.behind.items place ≡ Some b
       → HasFailed (s.failed a.store) (s.failed b.store)
 
--- A primary took the step of an event: of the devices these failed, each of which it is said; at each moment a crash left each
--- device as the event allows; the machine that it kept went on to the next one, which it keeps now, and the effects are told.
-pub record SteppedBy {I S : Type 0} {i : index.Ghosts I} {s : store.Ghosts S} (m : Machine) (event : machine.Event)
-    (old new : Primary I S i s) (effects : Effects) : Type 0 where
+-- A primary took a step that may move the base of this zone, leaving that room: of the devices these failed, each of which it is
+-- said; at each moment a crash left each device as that allows; the machine that it kept went on to the next one, which it keeps
+-- now, and the effects are told.
+pub record SteppedOn {I S : Type 0} {i : index.Ghosts I} {s : store.Ghosts S} (m : Machine) (moved : Option (ℕ × ℕ))
+    (old new : Primary I S i s) (effects : Effects)
+    (step : List Bool → machine.Effects → Machine → Type 0) : Type 0 where
   pub fails : List Bool
   pub failed : FailedWhere (λ b. s.failed b.store) fails old.behind.items new.behind.items ⊎ HaveFailedInTurn m fails old new
-  pub any_moment : AtAnyMomentOf s (base_moved event) m old.behind.items new.behind.items
+  pub any_moment : AtAnyMomentOf s moved m old.behind.items new.behind.items
   pub next : Machine
   pub stated : machine.Effects
-  pub is : machine.Step fails m event stated next
+  pub is : step fails stated next
   pub effects_are : AreEffects stated effects
   pub kept : IsKept new next
+
+-- A primary took the step of an event.
+abbrev pub SteppedBy : {I S : Type 0} {i : index.Ghosts I} {s : store.Ghosts S} → Machine → machine.Event → Primary I S i s
+    → Primary I S i s → Effects → Type 0
+SteppedBy m event old new effects =
+    SteppedOn m (machine.base_moved m event) old new effects (λ fails stated next. machine.Step fails m event stated next)
 
 -- What is noted where a device failed that came after others.
 abbrev pub noted_then : Noted → ℕ → Noted
@@ -149,28 +148,45 @@ answered_with effects a (outcome.AtOnce rcode) = record effects { sent = effects
 answered_with effects a outcome.OutOfMemory =
     record effects { sent = effects.sent ++ replies a rcode_servfail ∷ []; noted = OutOfMemory }
 
--- Memory was refused to an update, before its flush, if there is one, or behind it.
+-- Memory was refused to the move of a base, behind the flush.
+pub record LacksMove (fails : List Bool) (old : Machine) (effects : machine.Effects) (mid : Machine) : Type 0 where
+  pub failures : AreFailures true old fails
+  pub state : mid ≡ flushed fails old
+  pub sent : effects.sent ≡ flush_sends fails old
+  pub accepted : effects.accepted ≡ None
+  pub noted : effects.noted ≡ OutOfMemory
+
+-- What comes before an update is answered, or as much of it as memory was there for.
+abbrev pub IsBegunOrLacks : Machine → Option (ℕ × ℕ) → List Bool → machine.Effects → Machine → Type 0
+IsBegunOrLacks old lacked fails effects mid =
+    IsBegun fails old lacked effects mid ⊎ ((is_some lacked ≡ true) × LacksMove fails old effects mid)
+
+-- Memory was refused to an update, before what comes first, or within it, or behind it.
 pub record LacksUpdate (fails : List Bool) (old : Machine) (a : Asked) (effects : machine.Effects) (new : Machine) : Type 0 where
   pub noted : effects.noted ≡ OutOfMemory
   pub accepted : effects.accepted ≡ None
   pub stays : ((fails ≡ []) × (new ≡ old) × (effects.sent ≡ replies a rcode_servfail ∷ []))
-      ⊎ ((is_full old ≡ true) × AreFailures true old fails × (new ≡ flushed fails old)
+      ⊎ ((((is_full old || is_some (room_lacked old a)) ≡ true) × AreFailures true old fails × (new ≡ flushed fails old)
       × (effects.sent ≡ flush_sends fails old ++ replies a rcode_servfail ∷ []))
+      ⊎ ((lacked : ℕ × ℕ) × (first : machine.Effects) × (room_lacked old a ≡ Some lacked)
+      × IsBegun fails old (Some lacked) first new × (effects.sent ≡ first.sent ++ replies a rcode_servfail ∷ [])))
 
 abbrev pub IsUpdatedOrLacks : Machine → Asked → List Bool → machine.Effects → Machine → Type 0
 IsUpdatedOrLacks old a fails effects new = IsUpdated fails old a effects new ⊎ LacksUpdate fails old a effects new
 
 -- Memory was refused to a request.
-pub record LacksRequest (fails : List Bool) (old : Machine) (to : To) (octets : List ℕ) (effects : machine.Effects)
-    (new : Machine) : Type 0 where
+pub record LacksRequest (fails : List Bool) (old : Machine) (to : To) (lacked : Option (ℕ × ℕ)) (octets : List ℕ)
+    (effects : machine.Effects) (new : Machine) : Type 0 where
   pub noted : effects.noted ≡ OutOfMemory
   pub accepted : effects.accepted ≡ None
   pub stays : ((fails ≡ []) × (new ≡ old) × (effects.sent ≡ failure to octets))
-      ⊎ ((((header_of octets).opcode == opcode_update && is_full old) ≡ true) × AreFailures true old fails
+      ⊎ (((((header_of octets).opcode == opcode_update && is_full old || is_some lacked) ≡ true) × AreFailures true old fails
       × (new ≡ flushed fails old) × (effects.sent ≡ flush_sends fails old ++ failure to octets))
+      ⊎ ((room : ℕ × ℕ) × (first : machine.Effects) × (lacked ≡ Some room)
+      × IsBegun fails old (Some room) first new × (effects.sent ≡ first.sent ++ failure to octets)))
 
 -- What becomes of octets that came from a peer by a transport, their reply going there.
 abbrev pub IsServedOrLacks : Machine → Peer → To → List ℕ → Transport → List Bool → machine.Effects → Machine → Type 0
 IsServedOrLacks old peer to octets transport fails effects new =
     IsServed fails old to peer (handled (shown_zones old) octets transport) effects new
-    ⊎ LacksRequest fails old to octets effects new
+    ⊎ LacksRequest fails old to (request_lacks old to peer (handled (shown_zones old) octets transport)) octets effects new

@@ -10,10 +10,11 @@ use Rattle.dns_wire.specs.Text.{text}
 use Rattle.dns_request.specs.Request.{rcode_formerr, rcode_refused}
 use Rattle.dns_answer.specs.Answer.{bare_reply}
 use Rattle.dns_update.specs.Verdict.{Verdict, Refuses, Keeps, Leaves, verdict}
-use Rattle.dns_store.specs.Versions.{newest_of}
+use Rattle.dns_store.specs.Versions.{Kept, newest_of}
 use Rattle.dns_store.specs.Room.{entry_between, sectors_left}
 use Rattle.dns_held.specs.Held.{newest_zone}
 use Rattle.dns_held.specs.Staging.{has_room}
+use Rattle.dns_held.specs.Checkpoint.{sectors_lacked}
 use Rattle.dns_primary.specs.declared.event.To.{To}
 use Rattle.dns_primary.specs.Machine.{Made, ZoneState, Machine, kept_of, updates_of}
 use Rattle.dns_primary.specs.Flush.{Sent, Replied, rcode_servfail, flushed, flush_sends}
@@ -84,7 +85,7 @@ abbrev pub replies : Asked → ℕ → Sent
 replies a rcode = Replied a.to (text (bare_reply a.message.header rcode))
 
 -- An accepted update is staged. One for which there is no room is refused, and its reply waits. One whose entry is over what is
--- left of the journal is refused at once, as long as there are no checkpoints.
+-- left of the journal is refused at once: a checkpoint came before, and could not leave that room.
 abbrev pub accepted_in : Machine → Asked → ℕ → ZoneState → List Record → Machine × List Sent
 accepted_in m a place z records =
     if not (has_room (kept_of z) records) then (waits m a place rcode_servfail (updates_of z), [])
@@ -110,8 +111,24 @@ is_full m = not (nat_lt (length m.waiting) most_waiting)
 abbrev pub made_place : List Bool → Machine → Machine × List Sent
 made_place fails m = if is_full m then (flushed fails m, flush_sends fails m) else (m, [])
 
-abbrev pub updated : List Bool → Machine → Asked → Machine × List Sent
-updated fails m a =
-    let begun = made_place fails m in
-    let ended = admitted begun.0 a (admission begun.0.zones a) in
-    (ended.0, begun.1 ++ ended.1)
+-- How many sectors an update lacks that is judged so: those of its entry, where there is room for its version, but not in what is
+-- left of the journal.
+abbrev pub lacked_by : Kept → Verdict → Option ℕ
+lacked_by k (Refuses rcode) = None
+lacked_by k Keeps = None
+lacked_by k (Leaves records) = sectors_lacked k records
+
+-- The place of the zone whose journal lacks room for the update, and how many sectors. Then a checkpoint comes first that leaves
+-- them. No flush before it changes the newest version or what is left.
+abbrev pub lacked_at : Asked → Admission → Option (ℕ × ℕ)
+lacked_at a (Rejects rcode) = None
+lacked_at a (Admits place z) =
+    option_map (λ sectors. (place, sectors))
+    (lacked_by (kept_of z) (verdict (newest_zone (kept_of z)) a.message.answers a.message.authorities))
+
+abbrev pub room_lacked : Machine → Asked → Option (ℕ × ℕ)
+room_lacked m a = lacked_at a (admission m.zones a)
+
+-- The update is tested and judged on the machine that is left by what came first.
+abbrev pub answer : Machine → Asked → Machine × List Sent
+answer m a = admitted m a (admission m.zones a)

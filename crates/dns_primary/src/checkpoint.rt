@@ -1,16 +1,16 @@
 //! Checkpoints: all zones are flushed, and then the base of one is moved, so that its journal has room again.
-ghost use Rattle.std.specs.Prelude.{◌≡◌, ◌-◌, ℕ, [], None, true, length};
+ghost use Rattle.std.specs.Prelude.{◌≡◌, ◌<◌, ◌-◌, ℕ, [], Some, None, true, length};
 ghost use Rattle.dns_zone.specs.Zone.{Zone as Stated};
 ghost use Rattle.dns_sectors.specs.Device.{LeavesOnly};
 ghost use Rattle.dns_store.specs.Versions.{Kept, OpensAsEither, StandsStill};
 ghost use Rattle.dns_store.specs.Checkpoint.{IsKeptNumber};
-ghost use Rattle.dns_held.specs.Held.{HasVersions};
+ghost use Rattle.dns_held.specs.Held.{HasVersions, newest_each};
 ghost use Rattle.dns_held.specs.Flush.{HasFailed};
 ghost use Rattle.dns_primary.specs.Machine.{Machine, ZoneState, kept_of};
 ghost use Rattle.dns_primary.specs.Checkpoint.{IsMovedBy, IsSettled};
 ghost use Rattle.dns_primary.specs.Step.{Checkpoint};
 ghost use Rattle.dns_primary.specs.Keeps.{IsKept};
-ghost use Rattle.dns_primary.specs.Steps.{SteppedBy, noted_moved};
+ghost use Rattle.dns_primary.specs.Steps.{IsBegunOrLacks, SteppedBy, SteppedOn, noted_moved};
 
 use crate::{Effects, Noted, Primary};
 use dns_held::Behind;
@@ -34,6 +34,7 @@ fn move_base<I: ZoneIndex, S: ZoneStore>(
         → StandsStill S.moment S.left_since behind.old.store behind.new.store }
     ensures failed { result ≡ Err CheckpointError.Device
         → HasFailed (S.failed behind.old.store) (S.failed behind.new.store) }
+    ensures tip { behind.new.tip ≡ behind.old.tip }
 {
     match behind.store.checkpoint(keep, room) {
         Ok(()) => Ok(()),
@@ -61,18 +62,33 @@ fn noted_behind(noted: Noted, place: usize, moved: Result<(), CheckpointError>) 
 
 impl<I: ZoneIndex, S: ZoneStore> Primary<I, S> {
     /// Flushes all zones, and then moves the base of the one at a place to the version shown less as many changes as it is to keep,
+    /// where their entries leave so many sectors of its journal.
+    pub(crate) fn make_room(&mut self, place: usize, room: usize) -> Effects
+        requires inside { place < length self.old.behind.items }
+        ensures step { (old : Machine) → IsKept self.old old
+            → SteppedOn old (Some (place, room)) self.old self.new result (IsBegunOrLacks old (Some (place, room))) }
+        ensures room { length self.new.waiting.items < 32 }
+        ensures bare { result.reply ≡ None }
+        ensures as_many { length self.new.behind.items ≡ length self.old.behind.items }
+        ensures newest { newest_each self.new.zones.items self.new.behind.items
+            ≡ newest_each self.old.zones.items self.old.behind.items }
+    {
+        let mut effects = self.flush();
+        let keep = self.settings[place].keep as usize;
+        let moved = move_base(&mut self.behind[place], keep, room);
+        effects.noted = noted_behind(effects.noted, place, moved);
+        effects
+    }
+
+    /// Flushes all zones, and then moves the base of the one at a place to the version shown less as many changes as it is to keep,
     /// where their entries fit in its journal. Where there is no such zone nothing happens.
     pub(crate) fn checkpoint(&mut self, place: usize) -> Effects
         ensures step { (old : Machine) → IsKept self.old old → SteppedBy old (Checkpoint place) self.old self.new result }
         ensures bare { result.reply ≡ None }
     {
-        if place >= self.zones.len() {
+        if place >= self.behind.len() {
             return Effects::nothing(*self.places.allocator());
         }
-        let mut effects = self.flush();
-        let keep = self.settings[place].keep as usize;
-        let moved = move_base(&mut self.behind[place], keep, 0);
-        effects.noted = noted_behind(effects.noted, place, moved);
-        effects
+        self.make_room(place, 0)
     }
 }

@@ -4,7 +4,7 @@ ghost use Rattle.dns_zone.specs.Zone.{Zone as Stated};
 ghost use Rattle.dns_sectors.specs.Device.{LeavesOnly};
 ghost use Rattle.dns_store.specs.Versions.{Kept, OpensAsLeft};
 ghost use Rattle.dns_held.specs.Each.{Each2, Each3};
-ghost use Rattle.dns_held.specs.Held.{HasVersions};
+ghost use Rattle.dns_held.specs.Held.{HasVersions, newest_each};
 ghost use Rattle.dns_held.specs.Flush.{FailedWhere, first_true};
 ghost use Rattle.dns_primary.specs.Machine.{Machine, ZoneState, Waits};
 ghost use Rattle.dns_primary.specs.Flush.{all_out, flush_sends, flushed, goes_out, is_closed_in, rcode_servfail, released};
@@ -114,6 +114,7 @@ pub(crate) fn flush<I: ZoneIndex, S: ZoneStore>(
     ensures few { length headers.new.items ≤ 32 }
     ensures any_moment { (ks : List Kept) → Each3 (λ z b k. HasVersions S.keeps z b k) zones.old behind.old ks
         → Each3 (λ a b k. LeavesOnly S.moment S.left_since a.store b.store (OpensAsLeft S.opens k)) behind.old behind.new ks }
+    ensures newest { newest_each zones.new behind.new ≡ newest_each zones.old behind.old }
 {
     let failed = flush_all(zones, behind);
     release_all(behind, waiting, headers);

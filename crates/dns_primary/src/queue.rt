@@ -1,14 +1,16 @@
 //! Updates that are tested, judged and staged, and their replies, which wait for the next flush.
-ghost use Rattle.std.specs.Prelude.{◌≡◌, ◌<◌, ◌≤◌, List, Some, false, length, slice_get};
+ghost use Rattle.std.specs.Prelude.{◌≡◌, ◌<◌, ◌≤◌, List, length, IfOk};
 ghost use Rattle.dns_wire.specs.Message.{header_of};
 ghost use Rattle.dns_held.specs.Each.{Each2};
+ghost use Rattle.dns_held.specs.Held.{newest_each};
 ghost use Rattle.dns_primary.specs.declared.primary.ZoneSettings.{ZoneSettings as Settings};
-ghost use Rattle.dns_primary.specs.Machine.{Machine, ZoneState};
-ghost use Rattle.dns_primary.specs.Update.{Admits, admission, admitted};
-ghost use Rattle.dns_primary.specs.Queue.{Holds, IsAnswered, IsUntouched, asked_of};
+ghost use Rattle.dns_primary.specs.Machine.{Machine};
+ghost use Rattle.dns_primary.specs.Update.{answer};
+ghost use Rattle.dns_primary.specs.Keeps.{HaveVersions, IsSet};
+ghost use Rattle.dns_primary.specs.Queue.{Holds, HoldsStill, IsAnswered, IsReady, IsStageableAt, IsTested, IsUntouched, asked_of};
 
 use crate::admission::admit;
-use crate::update::{Outcome, judge_and_stage};
+use crate::update::{Judgement, Outcome, judge_newest, stage_judged};
 use crate::{To, Waiting, ZoneSettings};
 use arrayvec::ArrayVec;
 use dns_held::Behind;
@@ -16,7 +18,9 @@ use dns_memory::Heap;
 use dns_names::Name;
 use dns_request::RequestMessage;
 use dns_store::ZoneStore;
+use dns_wire::Rcode;
 use dns_zone::{Zone, ZoneIndex};
+use std::alloc::AllocError;
 use std::net::IpAddr;
 
 /// An update that came.
@@ -41,32 +45,66 @@ pub(crate) fn header_octets<'a>(request: &RequestMessage<'a>) -> &'a [u8; 12]
     request.header()
 }
 
-/// Judges an update of the zone at a place, which isn't closed, stages what it makes, and lets its reply wait, unless it goes out
-/// at once.
-fn judge_at<I: ZoneIndex, S: ZoneStore>(
+/// What an update comes to that is tested and judged.
+#[derive(Drop)]
+pub(crate) enum Tested<I: ZoneIndex> {
+    /// It is refused before it is judged, at once, with this code.
+    AtOnce(Rcode),
+    /// It is for the zone at this place, and judged so.
+    Judged(usize, Judgement<I>),
+}
+
+/// Tests an update, and judges it where it is admitted. The name is that of the zone that it names. Nothing changes.
+pub(crate) fn admit_and_judge<I: ZoneIndex, S: ZoneStore>(
     alloc: Heap,
+    zones: &[Zone<I>],
+    behind: &[Behind<I, S>],
+    settings: &[ZoneSettings],
+    update: &UpdateRequest<'_>,
+    name: &Name,
+) -> Result<Tested<I>, AllocError>
+    requires as_many { length zones.now ≡ length behind.now }
+    requires settled { length zones.now ≡ length settings.now }
+    requires name { name.now ≡ update.now.request.question.name }
+    ensures tested { (m : Machine) → HaveVersions S.keeps zones.now behind.now m.zones → Each2 IsSet settings.now m.zones
+        → IfOk result (IsTested I.records m (asked_of update.now)) }
+    ensures ready { IfOk result (IsReady I.records zones.now behind.now) }
+{
+    let question = &update.request.question;
+    match admit(zones, behind, settings, question, name, update.address) {
+        Ok(place) => {
+            let message = &update.request.message;
+            let judged = judge_newest(alloc, &zones[place], &behind[place], message)?;
+            Ok(Tested::Judged(place, judged))
+        }
+        Err(rcode) => Ok(Tested::AtOnce(rcode)),
+    }
+}
+
+/// Stages what an update of the zone at a place makes, and lets its reply wait, unless the zone is closed: then it goes out at once.
+pub(crate) fn stage_at<I: ZoneIndex, S: ZoneStore>(
     zones: &[Zone<I>],
     behind: &mut [Behind<I, S>],
     waiting: &mut ArrayVec<Waiting, 32>,
     place: usize,
     update: &UpdateRequest<'_>,
+    judged: Judgement<I>,
 ) -> Outcome
     requires as_many { length zones.now ≡ length behind.old }
     requires inside { place < length zones.now }
     requires behind { place < length behind.old }
     requires room { length waiting.old.items < 32 }
     requires header { header_of update.now.header.now ≡ update.now.request.message.message.header }
-    ensures done { (settings : List Settings) (m : Machine) (z : ZoneState)
+    requires stageable { IsStageableAt I.records (newest_each zones.now behind.old) place judged }
+    ensures done { (settings : List Settings) (m : Machine)
         → Holds S.keeps zones.now behind.old settings waiting.old.items m.connections m
-        → slice_get m.zones place ≡ Some z
-        → z.closed ≡ false
+        → HoldsStill I.records m (asked_of update.now) place judged
         → IsAnswered (Holds S.keeps zones.now behind.new settings waiting.new.items m.connections) m (asked_of update.now)
-        (admitted m (asked_of update.now) (Admits place z)) result }
+        (answer m (asked_of update.now)) result }
     ensures still { Each2 (λ a b. IsUntouched S.moment S.left_since S.failed a.store b.store) behind.old behind.new }
     ensures few { length waiting.new.items ≤ 32 }
 {
-    let message = &update.request.message;
-    match judge_and_stage(alloc, &zones[place], &mut behind[place], message) {
+    match stage_judged(&zones[place], &mut behind[place], judged) {
         Outcome::Waits(rcode) => {
             waiting.push(Waiting {
                 to: update.to,
@@ -78,35 +116,5 @@ fn judge_at<I: ZoneIndex, S: ZoneStore>(
         }
         Outcome::AtOnce(rcode) => Outcome::AtOnce(rcode),
         Outcome::OutOfMemory => Outcome::OutOfMemory,
-    }
-}
-
-/// Tests an update, judges and stages it where it is admitted, and lets its reply wait, unless it goes out at once. The
-/// name is that of the zone that it names.
-pub(crate) fn admit_and_judge<I: ZoneIndex, S: ZoneStore>(
-    alloc: Heap,
-    zones: &[Zone<I>],
-    behind: &mut [Behind<I, S>],
-    settings: &[ZoneSettings],
-    waiting: &mut ArrayVec<Waiting, 32>,
-    update: &UpdateRequest<'_>,
-    name: &Name,
-) -> Outcome
-    requires as_many { length zones.now ≡ length behind.old }
-    requires settled { length zones.now ≡ length settings.now }
-    requires room { length waiting.old.items < 32 }
-    requires header { header_of update.now.header.now ≡ update.now.request.message.message.header }
-    requires name { name.now ≡ update.now.request.question.name }
-    ensures done { (m : Machine)
-        → Holds S.keeps zones.now behind.old settings.now waiting.old.items m.connections m
-        → IsAnswered (Holds S.keeps zones.now behind.new settings.now waiting.new.items m.connections) m (asked_of update.now)
-        (admitted m (asked_of update.now) (admission m.zones (asked_of update.now))) result }
-    ensures still { Each2 (λ a b. IsUntouched S.moment S.left_since S.failed a.store b.store) behind.old behind.new }
-    ensures few { length waiting.new.items ≤ 32 }
-{
-    let question = &update.request.question;
-    match admit(zones, &*behind, settings, question, name, update.address) {
-        Ok(place) => judge_at(alloc, zones, behind, waiting, place, update),
-        Err(rcode) => Outcome::AtOnce(rcode),
     }
 }

@@ -1,8 +1,9 @@
 //! The events, one step each.
 ghost use Rattle.std.specs.Prelude.{◌≡◌, ◌≢◌, ◌≤◌, [], false, None, MatchOption, length, slice_get};
+ghost use Rattle.dns_held.specs.Held.{newest_each};
 ghost use Rattle.dns_primary.specs.declared.event.Noted.TheVariants.{OutOfMemory as StatedLack};
 ghost use Rattle.dns_primary.specs.Machine.{Machine};
-ghost use Rattle.dns_primary.specs.Step.{Arrives, IsFlushed, Step, noted_of, takes_memory};
+ghost use Rattle.dns_primary.specs.Step.{Arrives, IsFlushed, noted_of, takes_memory};
 ghost use Rattle.dns_primary.specs.Fresh.{IsShown};
 ghost use Rattle.dns_primary.specs.Keeps.{IsKept};
 ghost use Rattle.dns_primary.specs.Steps.{Stepped, SteppedBy, event_shown};
@@ -36,6 +37,8 @@ impl<I: ZoneIndex, S: ZoneStore> Primary<I, S> {
             → Stepped old self.old self.new result (λ fails stated next. IsFlushed fails old stated next) }
         ensures bare { result.reply ≡ None }
         ensures as_many { length self.new.behind.items ≡ length self.old.behind.items }
+        ensures newest { newest_each self.new.zones.items self.new.behind.items
+            ≡ newest_each self.old.zones.items self.old.behind.items }
         ensures empty { self.new.waiting.items ≡ [] }
         ensures memory { result.noted ≢ StatedLack }
     {
@@ -57,8 +60,7 @@ impl<I: ZoneIndex, S: ZoneStore> Primary<I, S> {
 
     /// Does with a message on a connection what is to be done with it. On a connection that isn't there nothing happens.
     fn arrive(&mut self, alloc: Heap, number: usize, octets: &[u8]) -> Effects
-        ensures step { (old : Machine) → IsKept self.old old
-            → Stepped old self.old self.new result (λ fails stated next. Step fails old (Arrives number octets.now) stated next) }
+        ensures step { (old : Machine) → IsKept self.old old → SteppedBy old (Arrives number octets.now) self.old self.new result }
     {
         match self.connections.get(number).copied() {
             Some(peer) => self.serve(alloc, peer, To::Connection(number), octets, Transport::Tcp),
@@ -69,18 +71,21 @@ impl<I: ZoneIndex, S: ZoneStore> Primary<I, S> {
     /// Lets an event happen, and tells what it does to the world.
     ///
     /// - `Datagram`, `Message`: queries are answered of what is shown, transfers with NOTIMP. An update is tested, judged on the
-    ///   newest version and staged, and its reply waits for the next flush; one that is refused before it is judged, or whose entry
-    ///   is over what is left of the journal, is answered at once. Where 32 wait, a flush comes first.
+    ///   newest version and staged, and its reply waits for the next flush; one that is refused before it is judged is answered at
+    ///   once. Where 32 wait, a flush comes first; where the entry is over what is left of the zone's journal, a flush and a
+    ///   checkpoint that leaves its sectors. Where that fails, or can't leave them, it is answered with SERVFAIL at once.
     /// - `Connect`: the connection gets a number that no other has, or none where there are 64.
     /// - `Flush`: what was staged is made durable and shown, and what waits goes out. `Closed`: what waits to go there goes nowhere.
     ///   Neither takes memory.
     /// - `Checkpoint`: all zones are flushed; then the one at the place, unless it is closed, gets a later base, and keeps the newest
     ///   changes alone. One whose base would take more sectors than a snapshot has keeps its base.
     ///
-    /// Where memory is refused, a request is answered with SERVFAIL, and nothing has changed but by the flush that came first.
+    /// Where memory is refused, a request is answered with SERVFAIL, and nothing has changed but by the flush and the checkpoint that
+    /// came first.
     pub fn step(&mut self, alloc: Heap, event: Event<'_>) -> Effects
         // Whatever older versions there were, it is the step of the machine, and a crash at any moment of it leaves each device so
-        // that it opens as the versions shown and the first of those staged, and the zone of a checkpoint so or with its next base.
+        // that it opens as the versions shown and the first of those staged, and the zone of a checkpoint, also of one that comes
+        // before an update, so or with its next base.
         ensures step { (old : Machine) → IsKept self.old old → SteppedBy old (event_shown event.entry) self.old self.new result }
         ensures memory { takes_memory (event_shown event.entry) ≡ false → result.noted ≢ StatedLack }
         ensures few { length result.headers.items ≤ 32 }

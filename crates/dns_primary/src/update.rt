@@ -1,16 +1,43 @@
-//! An update, judged and staged.
-ghost use Rattle.std.specs.Prelude.{◌≡◌, false};
+//! An update, judged, and staged where it is accepted.
+ghost use Rattle.std.specs.Prelude.{◌≡◌, true, false, IfOk};
 ghost use Rattle.dns_store.specs.Versions.{Kept, StandsStill};
-ghost use Rattle.dns_update.specs.Verdict.{verdict};
-ghost use Rattle.dns_held.specs.Held.{HasVersions, newest_zone};
-ghost use Rattle.dns_primary.specs.Outcome.{IsDone, refused_as};
+ghost use Rattle.dns_update.specs.Verdict.{Verdict, verdict};
+ghost use Rattle.dns_held.specs.Held.{HasVersions, newer, newest_zone};
+ghost use Rattle.dns_wire.specs.declared.codes.Rcode.TheVariants.{ServFail};
+ghost use Rattle.dns_primary.specs.declared.update.Outcome.TheVariants.{AtOnce};
+ghost use Rattle.dns_primary.specs.Update.{lacked_by};
+ghost use Rattle.dns_primary.specs.Outcome.{IsDone, IsStageable, IsVerdictOf, lacked_of, refused_as};
 
-use dns_held::{Behind, StagingError, newest, stage};
+use dns_changes::Change;
+use dns_held::{Behind, StagingError, newest, sectors_lacked, stage};
 use dns_memory::Heap;
 use dns_store::ZoneStore;
 use dns_update::{Judged, judge};
 use dns_wire::{Message, Rcode};
 use dns_zone::{Zone, ZoneIndex};
+use std::alloc::AllocError;
+
+/// What an update of a zone is judged to be.
+#[derive(Drop)]
+pub(crate) enum Judgement<I: ZoneIndex> {
+    /// It changes nothing, and is answered with this code.
+    Unchanged(Rcode),
+    /// It is accepted: the change, the records that it leads to, and how many sectors its entry takes where they are more than are
+    /// left of the journal.
+    Accepted(Change, I, Option<usize>),
+}
+
+impl<I: ZoneIndex> Judgement<I> {
+    /// How many sectors have to be made free for it.
+    pub(crate) fn lacked(&self) -> Option<usize>
+        ensures { result ≡ lacked_of self.now }
+    {
+        match self {
+            Judgement::Unchanged(_) => None,
+            Judgement::Accepted(_, _, lacked) => *lacked,
+        }
+    }
+}
 
 /// What becomes of the reply to an update that is judged.
 #[derive(Clone, Copy, Debug, PartialEq, Eq)]
@@ -35,27 +62,54 @@ fn refused(error: StagingError) -> Outcome
     }
 }
 
-/// Judges an update on the newest version of a zone that isn't closed, and stages the version that it makes (RFC 2136 sections
-/// 3.2 to 3.6). No device is touched.
-pub(crate) fn judge_and_stage<I: ZoneIndex, S: ZoneStore>(
+/// Judges an update on the newest version of a zone (RFC 2136 sections 3.2 to 3.6). Nothing changes.
+pub(crate) fn judge_newest<I: ZoneIndex, S: ZoneStore>(
     alloc: Heap,
     zone: &Zone<I>,
-    behind: &mut Behind<I, S>,
+    behind: &Behind<I, S>,
     message: &Message<'_>,
+) -> Result<Judgement<I>, AllocError>
+    ensures judged { (k : Kept) → HasVersions S.keeps zone.now behind.now k
+        → IfOk result (IsVerdictOf I.records (verdict (newest_zone k) message.now.message.answers message.now.message.authorities)) }
+    ensures lacks { (k : Kept) → HasVersions S.keeps zone.now behind.now k
+        → IfOk result (λ j. lacked_of j
+        ≡ lacked_by k (verdict (newest_zone k) message.now.message.answers message.now.message.authorities)) }
+    ensures stageable { IfOk result (IsStageable I.records (newer zone.now behind.now.tip)) }
+{
+    match judge(alloc, newest(zone, behind), message) {
+        Ok(Judged::Refused(rcode)) => Ok(Judgement::Unchanged(rcode)),
+        Ok(Judged::NoChange) => Ok(Judgement::Unchanged(Rcode::NoError)),
+        Ok(Judged::Accepted(change, records)) => {
+            let lacked = sectors_lacked(zone, behind, &change, &records);
+            Ok(Judgement::Accepted(change, records, lacked))
+        }
+        Err(error) => Err(error),
+    }
+}
+
+/// Stages the version that an update makes behind the newest one, unless the zone is closed. No device is touched.
+pub(crate) fn stage_judged<I: ZoneIndex, S: ZoneStore>(
+    zone: &Zone<I>,
+    behind: &mut Behind<I, S>,
+    judged: Judgement<I>,
 ) -> Outcome
-    ensures done { (k : Kept) → HasVersions S.keeps zone.now behind.old k → k.closed ≡ false
-        → IsDone (λ k. HasVersions S.keeps zone.now behind.new k) k
-        (verdict (newest_zone k) message.now.message.answers message.now.message.authorities) result }
+    requires stageable { IsStageable I.records (newer zone.now behind.old.tip) judged }
+    ensures done { (k : Kept) (v : Verdict) → HasVersions S.keeps zone.now behind.old k → k.closed ≡ false
+        → IsVerdictOf I.records v judged
+        → IsDone (λ k. HasVersions S.keeps zone.now behind.new k) k v result }
+    ensures closed { (k : Kept) → HasVersions S.keeps zone.now behind.old k → k.closed ≡ true
+        → (result ≡ AtOnce ServFail) × HasVersions S.keeps zone.now behind.new k }
     ensures still { StandsStill S.moment S.left_since behind.old.store behind.new.store }
     ensures quiet { S.failed behind.new.store ≡ S.failed behind.old.store }
 {
-    match judge(alloc, newest(&*zone, &*behind), message) {
-        Ok(Judged::Refused(rcode)) => Outcome::Waits(rcode),
-        Ok(Judged::NoChange) => Outcome::Waits(Rcode::NoError),
-        Ok(Judged::Accepted(change, records)) => match stage(zone, behind, change, records) {
+    if behind.store.is_closed() {
+        return Outcome::AtOnce(Rcode::ServFail);
+    }
+    match judged {
+        Judgement::Unchanged(rcode) => Outcome::Waits(rcode),
+        Judgement::Accepted(change, records, _) => match stage(zone, behind, change, records) {
             Ok(()) => Outcome::Waits(Rcode::NoError),
             Err(error) => refused(error),
         },
-        Err(_) => Outcome::OutOfMemory,
     }
 }

@@ -1,35 +1,54 @@
-use Rattle.std.proofs.Common.{◌≡◌, ◌<◌, length, map, [], ◌∷◌, refl, sym, ap, subst, ◌∙◌, arith}
+use Rattle.std.proofs.Common.{◌≡◌, ◌<◌, length, map, refl, sym, ap, subst, ◌∙◌, arith}
 use Rattle.std.proofs.lemmas.List.{length-map}
-use Rattle.dns_wire.specs.Codes.{number_of_rcode}
-use Rattle.dns_held.specs.Held.{HasVersions}
-use Rattle.dns_held.proofs.Lists.{long3}
+use Rattle.std.specs.Prelude.{slice_index_or}
+use Rattle.dns_zone.specs.Zone.{Zone}
+use Rattle.dns_store.specs.Versions.{Kept}
+use Rattle.dns_held.specs.declared.behind.Behind.{Behind}
+use Rattle.dns_held.specs.Held.{HasVersions, newer}
+use Rattle.dns_held.proofs.Lists.{long3, newest_at}
+use Rattle.std.proofs.Common.{Some}
 use Rattle.dns_primary.specs.Machine.{kept_of}
-use Rattle.dns_primary.specs.Update.{Admission, Admits, Rejects, admission, admitted, replies}
+use Rattle.dns_primary.specs.Update.{Admits, admission}
 use Rattle.dns_primary.specs.Keeps.{admits_at}
-use Rattle.dns_primary.specs.Queue.{Holds, IsAnswered, IsUntouched, asked_of}
-use Rattle.dns_primary.proofs.Places.{itself2, some_at}
-use Rattle.dns_primary.proofs.Queued.{admitted_open}
+use Rattle.dns_primary.specs.Outcome.{IsStageable}
+use Rattle.dns_primary.specs.Queue.{asked_of}
+use Rattle.dns_primary.proofs.Places.{at3, map_get, some_at}
 use Rattle.dns_primary.proofs.queue.admit_and_judge.Goals as goal
 
-pub returns-in-Ok-clause-done : goal.returns-in-Ok-clause-done
-returns-in-Ok-clause-done g c m held =
+pub returns-in_ok-judged-in-Ok-clause-tested : goal.returns-in_ok-judged-in-Ok-clause-tested
+returns-in_ok-judged-in-Ok-clause-tested g c m held set =
+    let keeps = g.S.ZoneStore.keeps in
+    let R = λ (z : Zone) (b : Behind g.row.I.Denot g.row.S.Denot) (k : Kept). HasVersions keeps z b k in
+    let zones = c.args.zones.now in
+    let behind = c.args.behind.now in
     let a = asked_of c.args.update.now in
     let place = c.in-Ok.place in
-    let long = long3 (λ z b k. HasVersions g.S.ZoneStore.keeps z b k) c.args.zones.now c.args.behind.now (map kept_of m.zones) held.zones_are in
+    let long = long3 R zones behind (map kept_of m.zones) held in
     let inside : place < length m.zones = omega (arith, c.in-Ok.ensures.inside, c.requires.as_many, long, length-map m.zones kept_of) in
     let at = some_at m.zones place inside in
-    let is : Admits place at.0 ≡ admission m.zones a = ap (admits_at place) (sym at.1) ∙ c.in-Ok.ensures.admission m.zones a held.zones_are held.settings_are refl refl in
-    let opened = admitted_open m.zones a place at.0 (sym is) in
-    subst (λ (x : Admission). IsAnswered (Holds g.S.ZoneStore.keeps c.args.zones.now c.judge_at.new.behind c.args.settings.now c.judge_at.new.waiting.items m.connections) m a (admitted m a x) c.judge_at.result) is
-    (c.judge_at.ensures.done c.args.settings.now m at.0 held at.1 opened)
+    let is : Admits place at.0 ≡ admission m.zones a = ap (admits_at place) (sym at.1) ∙ c.in-Ok.ensures.admission m.zones a held set refl refl in
+    let z = c.index-zones-place.result in
+    let b = c.index-behind-place.result in
+    let was = at3 R zones behind (map kept_of m.zones) place z b (kept_of at.0) held (map_get kept_of m.zones place at.0 at.1) in
+    let first = subst (λ (y : Zone). HasVersions keeps y (slice_index_or behind place b) (kept_of at.0)) (sym c.index-zones-place.is) was in
+    let here = subst (λ (y : Behind g.row.I.Denot g.row.S.Denot). HasVersions keeps z y (kept_of at.0)) (sym c.index-behind-place.is) first in
+    record { zone = at.0; admits = sym is; is = c.in_ok-judged-in-Ok.ensures.judged (kept_of at.0) here; lacks = c.in_ok-judged-in-Ok.ensures.lacks (kept_of at.0) here }
 
-pub returns-in-Err-clause-done : goal.returns-in-Err-clause-done
-returns-in-Err-clause-done g c m held =
-    let a = asked_of c.args.update.now in
-    let rcode = number_of_rcode c.in-Err.rcode in
-    let is : Rejects rcode ≡ admission m.zones a = c.in-Err.ensures.admission m.zones a held.zones_are held.settings_are refl refl in
-    subst (λ (x : Admission). ((admitted m a x).1 ≡ replies a rcode ∷ []) × Holds g.S.ZoneStore.keeps c.args.zones.now c.args.behind.now c.args.settings.now c.args.waiting.now.items m.connections (admitted m a x).0) is (refl, held)
+pub returns-in_ok-judged-in-Ok-clause-ready : goal.returns-in_ok-judged-in-Ok-clause-ready
+returns-in_ok-judged-in-Ok-clause-ready g c =
+    let zones = c.args.zones.now in
+    let behind = c.args.behind.now in
+    let place = c.in-Ok.place in
+    let z = c.index-zones-place.result in
+    let b = c.index-behind-place.result in (
+      c.in-Ok.ensures.inside,
+      λ v there.
+          let at = newest_at zones behind place z b c.in-Ok.ensures.inside (omega (arith, c.in-Ok.ensures.inside, c.requires.as_many)) in
+          let some : Some (newer (slice_index_or zones place z) (slice_index_or behind place b).tip) ≡ Some v = sym at ∙ there in
+          let one : newer (slice_index_or zones place z) (slice_index_or behind place b).tip ≡ v = cc some in
+          let same : newer z b.tip ≡ newer (slice_index_or zones place z) (slice_index_or behind place b).tip = λ i. newer (c.index-zones-place.is i) (c.index-behind-place.is i).tip in
+          subst (λ (y : Zone). IsStageable g.I.ZoneIndex.records y c.in_ok-judged-in-Ok.judged) (same ∙ one) c.in_ok-judged-in-Ok.ensures.stageable,
+    )
 
-pub returns-in-Err-clause-still : goal.returns-in-Err-clause-still
-returns-in-Err-clause-still g c =
-    itself2 (λ a b. IsUntouched g.S.ZoneStore.moment g.S.ZoneStore.left_since g.S.ZoneStore.failed a.store b.store) c.args.behind.now (λ x. record { still = record { no_later = refl; same = λ t l left. left }; quiet = refl })
+pub returns-in-Err-clause-tested : goal.returns-in-Err-clause-tested
+returns-in-Err-clause-tested g c m held set = sym (c.in-Err.ensures.admission m.zones (asked_of c.args.update.now) held set refl refl)

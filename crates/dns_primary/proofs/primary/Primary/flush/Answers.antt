@@ -4,7 +4,7 @@ use Rattle.std.specs.Prelude.{None}
 use Rattle.dns_sectors.specs.Device.{LeavesOnly}
 use Rattle.dns_store.specs.Versions.{OpensAsLeft}
 use Rattle.dns_held.specs.Each.{Each2}
-use Rattle.dns_held.specs.Held.{HasVersions}
+use Rattle.dns_held.specs.Held.{HasVersions, newest_each}
 use Rattle.dns_held.specs.Flush.{first_true}
 use Rattle.dns_primary.specs.declared.event.Waiting.{Waiting}
 use Rattle.dns_primary.specs.Machine.{kept_of}
@@ -41,3 +41,13 @@ returns-clause-step g c old kept =
         waiting_are = subst (λ (l : List Waiting). Each2 IsWaiting l (flushed fails old).waiting) (sym c.flush-failed.ensures.empty) tt;
       };
     }
+
+pub returns-clause-newest : goal.returns-clause-newest
+returns-clause-newest g c =
+    let zones = c.args.self.now.zones in
+    let behind = c.args.self.now.behind in
+    let a = c.deref_mut.ensures.value in
+    let b = c.deref_mut-2.ensures.value in
+    let z = refilled zones.len c.flush-failed.new.zones zones.items (omega (arith, c.flush-failed.auto.zones, ap length a, zones.ok)) in
+    let y = refilled behind.len c.flush-failed.new.behind behind.items (omega (arith, c.flush-failed.auto.behind, ap length b, behind.ok)) in
+    (λ i. newest_each (z i) (y i)) ∙ c.flush-failed.ensures.newest ∙ (λ i. newest_each (a i) (b i))

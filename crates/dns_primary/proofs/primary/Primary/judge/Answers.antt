@@ -1,62 +1,22 @@
-use Rattle.std.proofs.Common.{length, map, refl, sym, ap, subst, ◌∙◌, arith}
-use Rattle.std.specs.Vec.{with_items}
+use Rattle.std.proofs.Common.{List, map, sym, subst}
+use Rattle.std.specs.Prelude.{IfOk}
+use Rattle.dns_zone.specs.Zone.{Zone}
+use Rattle.dns_held.specs.declared.behind.Behind.{Behind}
 use Rattle.dns_held.specs.Each.{Each2}
 use Rattle.dns_held.specs.Held.{HasVersions}
-use Rattle.dns_primary.specs.Machine.{kept_of, peer_at}
-use Rattle.dns_primary.specs.Update.{admission, admitted}
-use Rattle.dns_primary.specs.Keeps.{IsKept, IsSet}
-use Rattle.dns_primary.specs.Queue.{Holds, IsUntouched, asked_of}
-use Rattle.dns_primary.proofs.Flushed.{refilled, moved3}
-use Rattle.dns_primary.proofs.Places.{itself2}
-use Rattle.dns_primary.proofs.Served.{held_as}
+use Rattle.dns_primary.specs.Machine.{kept_of}
+use Rattle.dns_primary.specs.Keeps.{IsSet}
+use Rattle.dns_primary.specs.Queue.{IsReady}
+use Rattle.dns_primary.proofs.Flushed.{moved3}
 use Rattle.dns_primary.proofs.primary.Primary.judge.Goals as goal
 
-pub returns-clause-done : goal.returns-clause-done
-returns-clause-done g c old kept =
-    let self = c.args.self.now in
-    let new = c.admit_and_judge.new.behind in
-    let a = asked_of c.args.update.now in
-    let zones = c.as_slice-zones.ensures.value in
-    let behind = c.deref_mut.ensures.value in
-    let settings = c.as_slice-settings.ensures.value in
-    let y = refilled self.behind.len new self.behind.items (omega (arith, c.admit_and_judge.auto.behind, ap length behind, self.behind.ok)) in
-    let given : Holds g.S.ZoneStore.keeps c.as_slice-zones.result.now c.deref_mut.result.now c.as_slice-settings.result.now self.waiting.items old.connections old = record {
-      zones_are = moved3 (sym zones) (sym behind) (map kept_of old.zones) (λ z b k. HasVersions g.S.ZoneStore.keeps z b k) kept.zones_are;
-      settings_are = subst (λ l. Each2 IsSet l old.zones) (sym settings) kept.settings_are;
-      waiting_are = kept.waiting_are;
-      connections_are = refl;
-    } in
-    let done = c.admit_and_judge.ensures.done old given in
-    held_as (Holds g.S.ZoneStore.keeps c.as_slice-zones.result.now new c.as_slice-settings.result.now c.admit_and_judge.new.waiting.items old.connections)
-    (IsKept {i = g.I.ZoneIndex} {s = g.S.ZoneStore} (record { zones = self.zones; behind = with_items self.behind new; settings = self.settings; waiting = c.admit_and_judge.new.waiting; places = c.reserve_exact.new.self; connections = self.connections; as_many = _; settled = _; unused = _; reserved = _ }))
-    (λ m h. record {
-      zones_are = moved3 zones (sym y) (map kept_of m.zones) (λ z b k. HasVersions g.S.ZoneStore.keeps z b k) h.zones_are;
-      settings_are = subst (λ l. Each2 IsSet l m.zones) settings h.settings_are;
-      waiting_are = h.waiting_are;
-      connections_are = λ number. kept.connections_are number ∙ ap (peer_at number) (sym h.connections_are);
-      as_many = kept.as_many ∙ ap length (sym h.connections_are);
-    }) old a (admitted old a (admission old.zones a)) c.admit_and_judge.result done
+pub returns-clause-tested : goal.returns-clause-tested
+returns-clause-tested g c m kept =
+    c.admit_and_judge.ensures.tested m
+    (moved3 (sym c.deref.ensures.value) (sym c.deref-2.ensures.value) (map kept_of m.zones) (λ z b k. HasVersions g.S.ZoneStore.keeps z b k) kept.zones_are)
+    (subst (λ l. Each2 IsSet l m.zones) (sym c.deref-3.ensures.value) kept.settings_are)
 
-pub returns-in_default-clause-still : goal.returns-in_default-clause-still
-returns-in_default-clause-still g c =
-    itself2 (λ a b. IsUntouched g.S.ZoneStore.moment g.S.ZoneStore.left_since g.S.ZoneStore.failed a.store b.store) c.args.self.now.behind.items (λ x. record { still = record { no_later = refl; same = λ t l left. left }; quiet = refl })
-
-pub invariant_of-self-2-clause-as_many : goal.invariant_of-self-2-clause-as_many
-invariant_of-self-2-clause-as_many g c =
-    let self = c.args.self.now in
-    let new = c.admit_and_judge.new.behind in
-    let behind = c.deref_mut.ensures.value in
-    let y = refilled self.behind.len new self.behind.items (omega (arith, c.admit_and_judge.auto.behind, ap length behind, self.behind.ok)) in
-    omega (arith, self.as_many, c.admit_and_judge.auto.behind, ap length behind, ap length y)
-
-pub invariant_of-self-2-clause-reserved : goal.invariant_of-self-2-clause-reserved
-invariant_of-self-2-clause-reserved g c = omega (arith, c.admit_and_judge.ensures.few, c.capacity.ensures, c.in-Ok.ensures.ok)
-
-pub returns-clause-still : goal.returns-clause-still
-returns-clause-still g c =
-    let self = c.args.self.now in
-    let new = c.admit_and_judge.new.behind in
-    let behind = c.deref_mut.ensures.value in
-    let y = refilled self.behind.len new self.behind.items (omega (arith, c.admit_and_judge.auto.behind, ap length behind, self.behind.ok)) in
-    subst (λ l. Each2 (λ a b. IsUntouched g.S.ZoneStore.moment g.S.ZoneStore.left_since g.S.ZoneStore.failed a.store b.store) self.behind.items l) (sym y)
-    (subst (λ l. Each2 (λ a b. IsUntouched g.S.ZoneStore.moment g.S.ZoneStore.left_since g.S.ZoneStore.failed a.store b.store) l new) behind c.admit_and_judge.ensures.still)
+pub returns-clause-ready : goal.returns-clause-ready
+returns-clause-ready g c =
+    subst (λ (l : List Zone). IfOk c.admit_and_judge.result (IsReady g.I.ZoneIndex.records l c.args.self.now.behind.items)) c.deref.ensures.value
+    (subst (λ (l : List (Behind g.row.I.Denot g.row.S.Denot)). IfOk c.admit_and_judge.result (IsReady g.I.ZoneIndex.records c.deref.result.now l)) c.deref-2.ensures.value c.admit_and_judge.ensures.ready)

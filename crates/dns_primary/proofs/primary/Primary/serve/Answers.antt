@@ -1,4 +1,4 @@
-use Rattle.std.proofs.Common.{map, ◌≡◌, inr, ⊎_elim, ℕ, List, [], refl, sym, ap, subst, ◌∙◌}
+use Rattle.std.proofs.Common.{map, ◌≡◌, inr, ⊎_elim, ℕ, List, [], Option, refl, sym, ap, subst, ◌∙◌}
 use Rattle.dns_wire.specs.Codes.{number_of_rcode}
 use Rattle.dns_wire.specs.Message.{Header, header_of}
 use Rattle.dns_wire.specs.Text.{text}
@@ -6,12 +6,14 @@ use Rattle.dns_zone.specs.Zone.{Zone}
 use Rattle.dns_request.specs.Request as request
 use Rattle.dns_request.specs.Request.{rcode_notimp, request_of}
 use Rattle.std.specs.Prelude.{IfOk, IfErr}
-use Rattle.dns_primary.specs.Update.{Asked}
-use Rattle.dns_answer.specs.Answer.{answered, bare_reply, fitted, with_question}
+use Rattle.dns_primary.specs.Update.{Asked, room_lacked}
+use Rattle.dns_primary.specs.Step.{request_lacks}
+use Rattle.dns_answer.specs.Answer.{answered, bare_reply, fitted, handled, handled_as, with_question}
 use Rattle.dns_primary.specs.Machine.{kept_of, shown_zones}
 use Rattle.dns_primary.specs.Flush.{Replied, rcode_servfail}
 use Rattle.dns_primary.specs.Keeps.{AreEffects}
-use Rattle.dns_primary.specs.Steps.{IsServedOrLacks, nothing, one_reply}
+use Rattle.dns_primary.specs.Steps.{AtAnyMomentOf, IsServedOrLacks, LacksRequest, nothing, one_reply}
+use Rattle.dns_primary.proofs.Moved.{on_any}
 use Rattle.dns_primary.proofs.Served.{rests, are_shown, asking, gives_none, gives_one, lack, lacks_update, replied, replies_or_lacks, served_as, stays, update_opcode}
 use Rattle.dns_primary.proofs.primary.Primary.serve.Goals as goal
 
@@ -19,8 +21,9 @@ pub returns-in-Ignored : goal.returns-in-Ignored
 returns-in-Ignored g c = record {
   step = λ old kept.
       let octets = c.args.octets.now in
-      stays c.args.self.now old c.nothing.result nothing (IsServedOrLacks old c.args.peer c.args.to octets c.args.transport) (rests g.S.ZoneStore c.args.self.now.zones.items c.args.self.now.behind.items (map kept_of old.zones) (λ x k h y left. g.met.S.ZoneStore.at_rest x k h y left) kept.zones_are) kept c.nothing.ensures.effects_are
-      (served_as old old c.args.peer c.args.to octets c.args.transport request.Ignored [] nothing c.in-Ignored.ensures.request (refl, gives_none old));
+      on_any old c.args.self.now c.args.self.now c.nothing.result (request_lacks old c.args.to c.args.peer (handled (shown_zones old) octets c.args.transport)) (IsServedOrLacks old c.args.peer c.args.to octets c.args.transport)
+      (stays c.args.self.now old c.nothing.result nothing (IsServedOrLacks old c.args.peer c.args.to octets c.args.transport) (rests g.S.ZoneStore c.args.self.now.zones.items c.args.self.now.behind.items (map kept_of old.zones) (λ x k h y left. g.met.S.ZoneStore.at_rest x k h y left) kept.zones_are) kept c.nothing.ensures.effects_are
+      (served_as old old c.args.peer c.args.to octets c.args.transport request.Ignored [] nothing c.in-Ignored.ensures.request (refl, gives_none old)));
 }
 
 pub returns-in-Refused : goal.returns-in-Refused
@@ -29,9 +32,10 @@ returns-in-Refused g c = record {
       let octets = c.args.octets.now in
       let rcode = number_of_rcode c.in-Refused.rcode in
       let reply = λ (h : Header). Replied c.args.to (text (bare_reply h rcode)) in
-      stays c.args.self.now old c.refusal.result (one_reply (reply (header_of octets))) (IsServedOrLacks old c.args.peer c.args.to octets c.args.transport) (rests g.S.ZoneStore c.args.self.now.zones.items c.args.self.now.behind.items (map kept_of old.zones) (λ x k h y left. g.met.S.ZoneStore.at_rest x k h y left) kept.zones_are) kept
+      on_any old c.args.self.now c.args.self.now c.refusal.result (request_lacks old c.args.to c.args.peer (handled (shown_zones old) octets c.args.transport)) (IsServedOrLacks old c.args.peer c.args.to octets c.args.transport)
+      (stays c.args.self.now old c.refusal.result (one_reply (reply (header_of octets))) (IsServedOrLacks old c.args.peer c.args.to octets c.args.transport) (rests g.S.ZoneStore c.args.self.now.zones.items c.args.self.now.behind.items (map kept_of old.zones) (λ x k h y left. g.met.S.ZoneStore.at_rest x k h y left) kept.zones_are) kept
       (subst (λ (h : Header). AreEffects (one_reply (reply h)) c.refusal.result) c.in-Refused.ensures.of c.refusal.ensures)
-      (served_as old old c.args.peer c.args.to octets c.args.transport (request.Refused rcode) [] (one_reply (reply (header_of octets))) c.in-Refused.ensures.request (refl, gives_one old (reply (header_of octets))));
+      (served_as old old c.args.peer c.args.to octets c.args.transport (request.Refused rcode) [] (one_reply (reply (header_of octets))) c.in-Refused.ensures.request (refl, gives_one old (reply (header_of octets)))));
 }
 
 pub returns-in-NotServed : goal.returns-in-NotServed
@@ -46,8 +50,9 @@ returns-in-NotServed g c = record {
       let is = subst (λ (xs : List ℕ). IfOk c.refuse.result (λ v. v.items ≡ fitted c.args.transport (with_question xs q.message.message q.question rcode))) of c.refuse.ensures in
       let header : header_of c.header_octets-header.result.now ≡ header_of octets = c.header_octets-header.ensures.octets ∙ ap header_of of in
       let none = subst (λ (h : Header). IfErr c.refuse.result (λ _. AreEffects (lack (Replied c.args.to (text (bare_reply h rcode_servfail)))) c.reply.result)) header c.reply.ensures.failed in
-      replies_or_lacks c.args.self.now old c.reply.result c.args.peer c.args.to octets c.args.transport r reply c.in-NotServed.ensures.request (λ e. cc e) refl (rests g.S.ZoneStore c.args.self.now.zones.items c.args.self.now.behind.items (map kept_of old.zones) (λ x k h y left. g.met.S.ZoneStore.at_rest x k h y left) kept.zones_are) kept
-      (replied (λ v. v.items) c.refuse.result c.reply.result c.args.to reply (text (bare_reply (header_of octets) rcode_servfail)) is c.reply.ensures.sent none);
+      on_any old c.args.self.now c.args.self.now c.reply.result (request_lacks old c.args.to c.args.peer (handled (shown_zones old) octets c.args.transport)) (IsServedOrLacks old c.args.peer c.args.to octets c.args.transport)
+      (replies_or_lacks c.args.self.now old c.reply.result c.args.peer c.args.to octets c.args.transport r reply c.in-NotServed.ensures.request (λ e. cc e) refl (rests g.S.ZoneStore c.args.self.now.zones.items c.args.self.now.behind.items (map kept_of old.zones) (λ x k h y left. g.met.S.ZoneStore.at_rest x k h y left) kept.zones_are) kept
+      (replied (λ v. v.items) c.refuse.result c.reply.result c.args.to reply (text (bare_reply (header_of octets) rcode_servfail)) is c.reply.ensures.sent none));
 }
 
 pub returns-in-Query : goal.returns-in-Query
@@ -63,8 +68,9 @@ returns-in-Query g c = record {
       let is = subst (λ (xs : List ℕ). IfOk c.reply-in-Query.result (λ v. v.items ≡ fitted c.args.transport (answered (shown_zones old) xs q.message.message q.question))) of shown in
       let header : header_of c.header_octets-header-in-Query.result.now ≡ header_of octets = c.header_octets-header-in-Query.ensures.octets ∙ ap header_of of in
       let none = subst (λ (h : Header). IfErr c.reply-in-Query.result (λ _. AreEffects (lack (Replied c.args.to (text (bare_reply h rcode_servfail)))) c.reply-in-Query-2.result)) header c.reply-in-Query-2.ensures.failed in
-      replies_or_lacks c.args.self.now old c.reply-in-Query-2.result c.args.peer c.args.to octets c.args.transport r reply c.in-Query.ensures.request (λ e. cc e) refl (rests g.S.ZoneStore c.args.self.now.zones.items c.args.self.now.behind.items (map kept_of old.zones) (λ x k h y left. g.met.S.ZoneStore.at_rest x k h y left) kept.zones_are) kept
-      (replied (λ v. v.items) c.reply-in-Query.result c.reply-in-Query-2.result c.args.to reply (text (bare_reply (header_of octets) rcode_servfail)) is c.reply-in-Query-2.ensures.sent none);
+      on_any old c.args.self.now c.args.self.now c.reply-in-Query-2.result (request_lacks old c.args.to c.args.peer (handled (shown_zones old) octets c.args.transport)) (IsServedOrLacks old c.args.peer c.args.to octets c.args.transport)
+      (replies_or_lacks c.args.self.now old c.reply-in-Query-2.result c.args.peer c.args.to octets c.args.transport r reply c.in-Query.ensures.request (λ e. cc e) refl (rests g.S.ZoneStore c.args.self.now.zones.items c.args.self.now.behind.items (map kept_of old.zones) (λ x k h y left. g.met.S.ZoneStore.at_rest x k h y left) kept.zones_are) kept
+      (replied (λ v. v.items) c.reply-in-Query.result c.reply-in-Query-2.result c.args.to reply (text (bare_reply (header_of octets) rcode_servfail)) is c.reply-in-Query-2.ensures.sent none));
 }
 
 pub returns-in-Update : goal.returns-in-Update
@@ -77,15 +83,18 @@ returns-in-Update g c = record {
       let e : r ≡ request_of octets c.args.transport = c.in-Update.ensures.request in
       let header : m.header ≡ header_of octets = sym c.header_octets-header-in-Update.ensures.message ∙ c.header_octets-header-in-Update.ensures.octets ∙ ap header_of c.in-Update.ensures.of in
       let a : Asked = record { to = c.args.to; address = c.args.peer.address; message = m; zone = u.question } in
+      let lacked : room_lacked old a ≡ request_lacks old c.args.to c.args.peer (handled (shown_zones old) octets c.args.transport) =
+      ap (λ (x : request.Request). request_lacks old c.args.to c.args.peer (handled_as (shown_zones old) octets c.args.transport x)) e in
       let s = c.update.ensures.step old kept in
       record {
         fails = s.fails;
         failed = s.failed;
-        any_moment = s.any_moment;
+        any_moment = subst (λ (o : Option (ℕ × ℕ)). AtAnyMomentOf g.S.ZoneStore o old c.args.self.now.behind.items c.update.new.self.behind.items) lacked s.any_moment;
         next = s.next;
         stated = s.stated;
         is = ⊎_elim (λ h. served_as old s.next c.args.peer c.args.to octets c.args.transport r s.fails s.stated e h)
-            (λ h. inr (lacks_update s.fails old s.next a octets s.stated (asking octets c.args.transport r (sym e) (λ x. cc x)) header (update_opcode octets c.args.transport m u.question (sym e)) h)) s.is;
+            (λ h. inr (subst (λ (o : Option (ℕ × ℕ)). LacksRequest s.fails old c.args.to o octets s.stated s.next) lacked
+            (lacks_update s.fails old s.next a octets s.stated (asking octets c.args.transport r (sym e) (λ x. cc x)) header (update_opcode octets c.args.transport m u.question (sym e)) h))) s.is;
         effects_are = s.effects_are;
         kept = s.kept;
       };
@@ -97,7 +106,8 @@ returns-in-Transfer g c = record {
       let octets = c.args.octets.now in
       let r = c.in-Transfer.request in
       let reply = λ (h : Header). Replied c.args.to (text (bare_reply h rcode_notimp)) in
-      stays c.args.self.now old c.refusal-in-Transfer.result (one_reply (reply r.message.message.header)) (IsServedOrLacks old c.args.peer c.args.to octets c.args.transport) (rests g.S.ZoneStore c.args.self.now.zones.items c.args.self.now.behind.items (map kept_of old.zones) (λ x k h y left. g.met.S.ZoneStore.at_rest x k h y left) kept.zones_are) kept
+      on_any old c.args.self.now c.args.self.now c.refusal-in-Transfer.result (request_lacks old c.args.to c.args.peer (handled (shown_zones old) octets c.args.transport)) (IsServedOrLacks old c.args.peer c.args.to octets c.args.transport)
+      (stays c.args.self.now old c.refusal-in-Transfer.result (one_reply (reply r.message.message.header)) (IsServedOrLacks old c.args.peer c.args.to octets c.args.transport) (rests g.S.ZoneStore c.args.self.now.zones.items c.args.self.now.behind.items (map kept_of old.zones) (λ x k h y left. g.met.S.ZoneStore.at_rest x k h y left) kept.zones_are) kept
       (subst (λ (h : Header). AreEffects (one_reply (reply h)) c.refusal-in-Transfer.result) c.header_octets.ensures.message c.refusal-in-Transfer.ensures)
-      (served_as old old c.args.peer c.args.to octets c.args.transport (request.Transfer r.message.message r.question) [] (one_reply (reply r.message.message.header)) c.in-Transfer.ensures.request (refl, gives_one old (reply r.message.message.header)));
+      (served_as old old c.args.peer c.args.to octets c.args.transport (request.Transfer r.message.message r.question) [] (one_reply (reply r.message.message.header)) c.in-Transfer.ensures.request (refl, gives_one old (reply r.message.message.header))));
 }

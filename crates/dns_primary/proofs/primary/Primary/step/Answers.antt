@@ -12,8 +12,7 @@ returns-in-Datagram-clause-step g c old kept =
     let event = Datagram c.in-Datagram.peer c.in-Datagram.octets.now in
     let is : event_shown c.args.event ≡ event = ap event_shown c.in-Datagram.is in
     subst (λ (e : Event). SteppedBy old e c.args.self.now c.serve.new.self c.serve.result) (sym is)
-    (simple old event c.args.self.now c.serve.new.self c.serve.result (λ i. None)
-    (record { fails = s.fails; failed = s.failed; any_moment = s.any_moment; next = s.next; stated = s.stated; is = came old s.next c.in-Datagram.peer c.in-Datagram.octets.now s.fails s.stated s.is; effects_are = s.effects_are; kept = s.kept }))
+    (record { fails = s.fails; failed = s.failed; any_moment = s.any_moment; next = s.next; stated = s.stated; is = came old s.next c.in-Datagram.peer c.in-Datagram.octets.now s.fails s.stated s.is; effects_are = s.effects_are; kept = s.kept })
 
 pub returns-in-Connect-clause-step : goal.returns-in-Connect-clause-step
 returns-in-Connect-clause-step g c old kept =
@@ -27,7 +26,7 @@ returns-in-Message-clause-step g c old kept =
     let event = Arrives c.in-Message.number c.in-Message.octets.now in
     let is : event_shown c.args.event ≡ event = ap event_shown c.in-Message.is in
     subst (λ (e : Event). SteppedBy old e c.args.self.now c.arrive.new.self c.arrive.result) (sym is)
-    (simple old event c.args.self.now c.arrive.new.self c.arrive.result (λ i. None) (c.arrive.ensures.step old kept))
+    (c.arrive.ensures.step old kept)
 
 pub returns-in-Closed-clause-step : goal.returns-in-Closed-clause-step
 returns-in-Closed-clause-step g c old kept =
