@@ -2,12 +2,14 @@
 #![tactic(auto)]
 
 mod behind;
+mod changes;
 mod checkpoint;
 mod flush;
 mod octets;
 mod staging;
 
 pub use behind::{Behind, newest};
+pub use changes::shown_changes;
 pub use checkpoint::{checkpoint_zone, sectors_lacked};
 pub use flush::{flush_all, flush_zone};
 pub use octets::snapshot_len;

@@ -14,7 +14,7 @@ use Rattle.dns_store.specs.Holding.{Holds}
 use Rattle.dns_store.specs.Checkpoint.{IsLent}
 use Rattle.dns_store.proofs.Leaves.{newest_split}
 
-led_append : (before : List Record) (vs : Versions) (cs : List Change) (v : List Record) (c : Change) → AreLed before vs cs → IsChange (newest_after before vs) v c → AreLed before (vs ++ v ∷ []) (cs ++ c ∷ [])
+pub led_append : (before : List Record) (vs : Versions) (cs : List Change) (v : List Record) (c : Change) → AreLed before vs cs → IsChange (newest_after before vs) v c → AreLed before (vs ++ v ∷ []) (cs ++ c ∷ [])
 led_append before [] [] v c led is = (is, tt)
 led_append before [] (d ∷ cs) v c led is = absurd led
 led_append before (w ∷ vs) [] v c led is = absurd led

@@ -27,7 +27,7 @@ use Rattle.dns_store.proofs.Places.{along_drop, number_kept}
 use Rattle.dns_store.proofs.Moving.{led_count, newest_on}
 
 -- the sectors of the entries of changes, and of those between the versions
-led_sums : (before : List Record) (vs : Versions) (cs : List Change) (i : ℕ) → AreLed before vs cs → sum_by sectors_for (drop i cs) ≡ sum_by (λ size. size) (drop i (entries_along before vs))
+pub led_sums : (before : List Record) (vs : Versions) (cs : List Change) (i : ℕ) → AreLed before vs cs → sum_by sectors_for (drop i cs) ≡ sum_by (λ size. size) (drop i (entries_along before vs))
 led_sums before [] [] zero led = refl
 led_sums before [] [] (suc i) led = refl
 led_sums before [] (c ∷ cs) i led = absurd led
@@ -48,14 +48,14 @@ zones_take apex zero vs zones = tt
 zones_take apex (suc n) [] zones = tt
 zones_take apex (suc n) (v ∷ vs) zones = (zones.0, zones_take apex n vs zones.1)
 
-led_take : (n : ℕ) (before : List Record) (vs : Versions) (cs : List Change) → AreLed before vs cs → AreLed before (take n vs) (take n cs)
+pub led_take : (n : ℕ) (before : List Record) (vs : Versions) (cs : List Change) → AreLed before vs cs → AreLed before (take n vs) (take n cs)
 led_take zero before vs cs led = tt
 led_take (suc n) before [] [] led = tt
 led_take (suc n) before [] (c ∷ cs) led = absurd led
 led_take (suc n) before (v ∷ vs) [] led = absurd led
 led_take (suc n) before (v ∷ vs) (c ∷ cs) led = (led.0, led_take n v vs cs led.1)
 
-led_drop : (n : ℕ) (before : List Record) (vs : Versions) (cs : List Change) → AreLed before vs cs → AreLed (newest_after before (take n vs)) (drop n vs) (drop n cs)
+pub led_drop : (n : ℕ) (before : List Record) (vs : Versions) (cs : List Change) → AreLed before vs cs → AreLed (newest_after before (take n vs)) (drop n vs) (drop n cs)
 led_drop zero before vs cs led = led
 led_drop (suc n) before [] [] led = tt
 led_drop (suc n) before [] (c ∷ cs) led = absurd led

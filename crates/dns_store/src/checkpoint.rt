@@ -198,15 +198,6 @@ impl Entry for Change {
     }
 }
 
-// Its sectors alone.
-impl Entry for usize {
-    ghost takes = { λ sectors. sectors };
-
-    fn sectors(&self) -> usize {
-        *self
-    }
-}
-
 // How many of the newest entries are kept: the greatest number, at most `keep`, that take at most so many sectors.
 pub(crate) fn most_kept<E: Entry>(entries: &[E], keep: usize, room: usize) -> usize
     ensures { IsMostKept E.takes entries.now keep room result }

@@ -76,14 +76,6 @@ impl<D: Sectors, I: ZoneIndex> KeptStore<D, I> {
         &self.base
     }
 
-    /// The changes from there to the newest version, staged ones among them.
-    pub fn changes(&self) -> &[Change]
-        ensures { (k : Kept) → keeps self.now k
-            → AreLed (version_at k k.base) (drop k.base (k.shown ++ k.staged)) result.now }
-    {
-        &self.changes
-    }
-
     /// The device, in whatever state it is. What was staged is forgotten.
     pub fn into_device(self) -> D
         ensures { result ≡ store_device self }
@@ -124,6 +116,10 @@ impl<D: Sectors + Drop, I: ZoneIndex> ZoneStore for KeptStore<D, I> {
 
     fn left(&self) -> usize {
         self.journal.left()
+    }
+
+    fn changes(&self) -> &[Change] {
+        &self.changes
     }
 
     fn stage(&mut self, change: Change) -> Result<(), StageError> {

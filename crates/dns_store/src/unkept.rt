@@ -1,5 +1,6 @@
 //! A store that keeps nothing on a device.
 ghost use Rattle.std.specs.Prelude.{◌≡◌, ◌-◌, ◌≤◌, ℕ, List, [], false, length, sum_by};
+ghost use Rattle.dns_journal.specs.Bank.{sectors_for};
 ghost use Rattle.dns_store.specs.Versions.{Kept};
 ghost use Rattle.dns_store.specs.Unkept.{IsUnkept};
 
@@ -17,8 +18,8 @@ use std::alloc::AllocError;
 pub struct Unkept {
     // how many sectors the journal has
     journal: usize,
-    // how many each entry behind the base takes
-    entries: Vec<usize, Heap>,
+    // those from the base to the newest version
+    changes: Vec<Change, Heap>,
     left: usize,
     newest: u64,
 }
@@ -31,20 +32,20 @@ impl Unkept {
     {
         Unkept {
             journal: journal as usize,
-            entries: Vec::new(alloc),
+            changes: Vec::new(alloc),
             left: journal as usize,
             newest: 0,
         }
     }
 }
 
-// How many sectors of a journal these entries leave.
-fn left_behind(journal: usize, entries: &[usize]) -> usize
-    ensures { result ≡ journal - sum_by (λ n. n) entries.now }
+// How many sectors of a journal the entries of these changes leave.
+fn left_behind(journal: usize, changes: &[Change]) -> usize
+    ensures { result ≡ journal - sum_by sectors_for changes.now }
 {
     let mut left = journal;
-    for sectors in entries {
-        left = left.saturating_sub(*sectors);
+    for change in changes {
+        left = left.saturating_sub(entry_sectors(change.encoded_len()));
     }
     left
 }
@@ -72,12 +73,16 @@ impl ZoneStore for Unkept {
         self.left
     }
 
+    fn changes(&self) -> &[Change] {
+        &self.changes
+    }
+
     fn stage(&mut self, change: Change) -> Result<(), StageError> {
         let sectors = entry_sectors(change.encoded_len());
         if self.newest == u64::MAX || sectors > self.left {
             return Err(StageError::Full);
         }
-        self.entries.push(sectors).map_err(AllocError::from)?;
+        self.changes.push(change).map_err(AllocError::from)?;
         self.left -= sectors;
         self.newest += 1;
         Ok(())
@@ -88,10 +93,10 @@ impl ZoneStore for Unkept {
     }
 
     fn checkpoint(&mut self, keep: usize, room: usize) -> Result<(), CheckpointError> {
-        let kept = most_kept(&self.entries, keep, self.journal.saturating_sub(room));
-        let gone = self.entries.len() - kept;
-        keep_newest(&mut self.entries, gone);
-        self.left = left_behind(self.journal, &self.entries);
+        let kept = most_kept(&self.changes, keep, self.journal.saturating_sub(room));
+        let gone = self.changes.len() - kept;
+        keep_newest(&mut self.changes, gone);
+        self.left = left_behind(self.journal, &self.changes);
         Ok(())
     }
 

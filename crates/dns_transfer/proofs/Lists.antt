@@ -1,5 +1,5 @@
 -- An element of a list by its number, and what is behind it.
-use Rattle.std.proofs.Common.{◌≡◌, ℕ, zero, suc, ◌+◌, ◌-◌, ◌<◌, ◌≤◌, List, [], ◌∷◌, ◌++◌, Some, None, length, drop, refl, ap, ◌∙◌, arith}
+use Rattle.std.proofs.Common.{◌≡◌, ℕ, zero, suc, ◌+◌, ◌-◌, ◌<◌, ◌≤◌, List, [], ◌∷◌, ◌++◌, Some, None, length, get_or, drop, refl, ap, ◌∙◌, arith}
 use Rattle.std.specs.Prelude.{slice_get}
 
 pub get_left : {X : Type 0} (xs ys : List X) (k : ℕ) → k < length xs → slice_get (xs ++ ys) k ≡ slice_get xs k
@@ -16,6 +16,11 @@ pub past : {X : Type 0} (xs : List X) (k : ℕ) → slice_get xs k ≡ None → 
 past [] k e = omega arith
 past (y ∷ ys) zero e = absurd cc
 past (y ∷ ys) (suc k) e = omega (arith, past ys k e)
+
+pub get_at : {X : Type 0} (xs : List X) (k : ℕ) (x : X) → k < length xs → x ≡ get_or xs k x → slice_get xs k ≡ Some x
+get_at [] k x h e = absurd (omega (arith, h))
+get_at (y ∷ ys) zero x h e = let is : y ≡ x = cc in ap (λ z. Some z) is
+get_at (y ∷ ys) (suc k) x h e = get_at ys k x (omega (arith, h)) e
 
 -- from an element on
 pub drop_get : {X : Type 0} (xs : List X) (k : ℕ) (x : X) → slice_get xs k ≡ Some x → drop k xs ≡ x ∷ drop (k + 1) xs

@@ -6,7 +6,6 @@ ghost use Rattle.dns_serial.specs.Serial.{advance};
 ghost use Rattle.dns_transfer.specs.Form.{form_of, since};
 ghost use Rattle.dns_transfer.specs.Left.{stated_form};
 
-use crate::History;
 use dns_changes::Change;
 use dns_serial::Serial;
 
@@ -42,21 +41,19 @@ fn advance_of(change: &Change) -> u32
 
 /// The number of the change that leads on from the journalled version of a serial. It is looked for from the newest change on, as
 /// far as the serial goes less than 2^31.
-fn first_since(history: &History, serial: u32) -> Option<usize>
-    ensures { option_map (λ first. drop first history.now) result ≡ since serial history.now }
+fn first_since(changes: &[Change], serial: u32) -> Option<usize>
+    ensures { option_map (λ first. drop first changes.now) result ≡ since serial changes.now }
 {
     let mut first = None;
     let mut gone: u64 = 0;
-    let mut number = history.len();
-    'changes: while number > 0 {
-        let Some(change) = history.get(number - 1) else {
-            unreachable!()
-        };
+    let mut number = changes.len();
+    'newest: while number > 0 {
+        number -= 1;
+        let change = &changes[number];
         gone += advance_of(change) as u64;
         if gone >= 1 << 31 {
             return first;
         }
-        number -= 1;
         if old_serial(change) == serial {
             first = Some(number);
         }
@@ -64,10 +61,10 @@ fn first_since(history: &History, serial: u32) -> Option<usize>
     first
 }
 
-/// The form for a client that has a serial, where the version that is shown has the current one and that history. An AXFR has no
-/// serial.
-pub fn choose_form(current: u32, history: &History, client: Option<u32>) -> Form
-    ensures { stated_form history.now result ≡ form_of current history.now client }
+/// The form for a client that has a serial, where the version that is shown has the current one and those changes lead to it. An
+/// AXFR has no serial.
+pub fn choose_form(current: u32, changes: &[Change], client: Option<u32>) -> Form
+    ensures { stated_form changes.now result ≡ form_of current changes.now client }
 {
     let Some(serial) = client else {
         return Form::Full;
@@ -78,7 +75,7 @@ pub fn choose_form(current: u32, history: &History, client: Option<u32>) -> Form
     if !Serial(current).greater(Serial(serial)) {
         return Form::Full;
     }
-    match first_since(history, serial) {
+    match first_since(changes, serial) {
         Some(first) => Form::Incremental(first),
         None => Form::Full,
     }

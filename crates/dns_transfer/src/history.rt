@@ -1,15 +1,15 @@
 //! The changes that lead to a version of a zone.
-ghost use Rattle.std.specs.Prelude.{◌≡◌, ◌↔◌, [], ◌∷◌, ◌++◌, length, slice_get, IsTrue, IfOk, OnOk, OnErr};
+ghost use Rattle.std.specs.Prelude.{◌≡◌, ◌↔◌, [], ◌∷◌, ◌++◌, drop, length, slice_get, IsTrue, IfOk, OnOk, OnErr};
 ghost use Rattle.std.specs.Option.{option_copied};
 
 use dns_changes::Change;
 use dns_memory::Heap;
+use dns_records::Record;
 use std::alloc::AllocError;
 use std::marker::Model;
 use std::rc::Rc;
 
-/// The changes that lead from one version of a zone to a later one, the oldest first. It can be shared: the changes stand in memory
-/// once.
+/// The changes that lead from one version of a zone to a later one, the oldest first.
 #[derive(Drop)]
 pub struct History {
     changes: Vec<Rc<Change, Heap>, Heap>,
@@ -22,6 +22,28 @@ impl Model for History {
     ghost Value = { List Stated };
 
     ghost view = { λ h. map (λ c. c.value) h.changes.items };
+}
+
+/// Copies of records.
+fn copied_records(alloc: Heap, records: &[Record]) -> Result<Vec<Record, Heap>, AllocError>
+    ensures { IfOk result (λ copies. copies.items ≡ records.now) }
+{
+    let mut copies = Vec::with_capacity(alloc, records.len())?;
+    for record in records {
+        copies.push_reserved(record.clone()?);
+    }
+    Ok(copies)
+}
+
+/// A copy of a change.
+fn copied_change(alloc: Heap, change: &Change) -> Result<Change, AllocError>
+    ensures { IfOk result (λ copy. copy ≡ change.now) }
+{
+    let removed = copied_records(alloc, change.removed())?;
+    let added = copied_records(alloc, change.added())?;
+    let old_soa = change.old_soa().clone()?;
+    let new_soa = change.new_soa().clone()?;
+    Ok(Change::new(old_soa, removed, new_soa, added))
 }
 
 impl History {
@@ -44,13 +66,17 @@ impl History {
         Ok(())
     }
 
-    /// The same changes again. What is pushed behind the one isn't behind the other.
-    pub fn share(&self) -> Result<History, AllocError>
-        ensures { IfOk result (λ h. h ≡ self.now) }
+    /// Copies of changes, those from a number on.
+    pub fn copied(alloc: Heap, changes: &[Change], first: usize) -> Result<History, AllocError>
+        ensures { IfOk result (λ h. h ≡ drop first changes.now) }
     {
-        Ok(History {
-            changes: self.changes.clone()?,
-        })
+        let mut history = History::new(alloc);
+        let mut number = first;
+        'changes: while number < changes.len() {
+            history.push(alloc, copied_change(alloc, &changes[number])?)?;
+            number += 1;
+        }
+        Ok(history)
     }
 
     /// How many changes there are.

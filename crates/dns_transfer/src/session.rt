@@ -1,16 +1,18 @@
 //! A transfer under way: the version that was shown when it was opened, and how far it was sent (RFC 5936 section 2.2, RFC 1995
 //! section 4).
-ghost use Rattle.std.specs.Prelude.{◌≡◌, ◌≤◌, [], true, length, IfOk, OnErr, MatchOption};
+ghost use Rattle.std.specs.Prelude.{◌≡◌, ◌≤◌, ◌↔◌, [], true, length, IfOk, IsTrue, OnErr, OnSome, MatchOption};
 ghost use Rattle.dns_wire.specs.Echo.{echo_of};
 ghost use Rattle.dns_wire.specs.Puts.{asked};
 ghost use Rattle.dns_wire.specs.Reply.{echo, stated};
 ghost use Rattle.dns_wire.specs.Text.{question_octets, text};
+ghost use Rattle.dns_transfer.specs.Left.{stated_form};
 ghost use Rattle.dns_transfer.specs.Messages.{message_with, datagram_of};
 ghost use Rattle.dns_transfer.specs.Refusal.{client_serial, serial_asked};
 ghost use Rattle.dns_transfer.specs.Session.{IsOpened, Opens, Sends};
 
 use crate::filling::{as_it_stands, fill};
-use crate::{History, Place, choose_form, client_serial, refusal_of};
+use crate::{Form, History, Place, choose_form, client_serial, refusal_of};
+use dns_changes::Change;
 use dns_memory::Heap;
 use dns_names::Name;
 use dns_records::Record;
@@ -48,8 +50,10 @@ impl Model for KeptQuestion {
 /// A version of a zone that is held, and the changes that lead to it.
 #[derive(Drop)]
 pub struct Version<'v, I: ZoneIndex> {
+    /// The zone.
     pub zone: &'v Zone<I>,
-    pub history: &'v History,
+    /// The changes that lead to it from the oldest version that a client may go on from, the oldest first.
+    pub changes: &'v [Change],
 }
 
 impl<'v, I: ZoneIndex> Model for Version<'v, I> {
@@ -57,11 +61,11 @@ impl<'v, I: ZoneIndex> Model for Version<'v, I> {
 
     ghost Value = { Stated };
 
-    ghost view = { λ v. record { zone = v.zone.now; changes = v.history.now } };
+    ghost view = { λ v. record { zone = v.zone.now; changes = v.changes.now } };
 }
 
-/// A transfer under way. It holds the version that was shown when it was opened, shared with the zone, and makes a message when
-/// it is asked for one.
+/// A transfer under way. It holds the version that was shown when it was opened, shared with the zone, and copies of the changes that
+/// are sent, and makes a message when it is asked for one.
 #[derive(Drop)]
 pub struct Session<I: ZoneIndex> {
     pub(crate) transport: Transport,
@@ -121,6 +125,23 @@ fn serial_asked(question: &QuestionView<'_>, client: Option<u32>) -> Option<u32>
     None
 }
 
+/// The same form over those changes alone that it sends, copied: none but in the incremental form.
+fn sent_alone(
+    alloc: Heap,
+    form: Form,
+    changes: &[Change],
+) -> Result<(Form, History), AllocError>
+    ensures { IfOk result (λ r. stated_form r.1 r.0 ≡ stated_form changes.now form) }
+{
+    match form {
+        Form::Current => Ok((Form::Current, History::new(alloc))),
+        Form::Incremental(first) => {
+            Ok((Form::Incremental(0), History::copied(alloc, changes, first)?))
+        }
+        Form::Full => Ok((Form::Full, History::new(alloc))),
+    }
+}
+
 impl<I: ZoneIndex> Session<I> {
     /// The answer to a request that is not refused, from a version of the zone, none of it sent.
     fn of(
@@ -137,7 +158,8 @@ impl<I: ZoneIndex> Session<I> {
         let question = kept_question(alloc, request)?;
         let soa = version.zone.soa();
         let asked = serial_asked(&request.question, client);
-        let form = choose_form(soa.serial(), version.history, asked);
+        let form = choose_form(soa.serial(), version.changes, asked);
+        let (form, history) = sent_alone(alloc, form, version.changes)?;
         Ok(Session {
             transport,
             id: request.message.id(),
@@ -145,7 +167,7 @@ impl<I: ZoneIndex> Session<I> {
             question: Some(question),
             soa: soa.clone()?,
             index: version.zone.index().fork()?,
-            history: version.history.share()?,
+            history,
             place: Place::Opening(form),
         })
     }
@@ -241,12 +263,20 @@ impl<I: ZoneIndex> Session<I> {
         }
     }
 
+    /// Whether nothing is left to be sent.
+    pub fn is_done(&self) -> bool
+        ensures { IsTrue result ↔ (self.now.left ≡ []) }
+    {
+        self.place.is_end()
+    }
+
     /// The next message, made when it is asked for, or none behind the last. Where memory is refused the session is as it was,
     /// so that the next call gives the same message.
     pub fn next_message(&mut self, alloc: Heap) -> Result<Option<Vec<u8, Heap>>, AllocError>
         ensures sent { IfOk result
             (λ message. MatchOption message ((self.new ≡ self.old) × (self.old.left ≡ []))
             (λ octets. Sends self.old octets.items self.new)) }
+        ensures more { IfOk result (λ message. OnSome message (self.old.left ≡ [] → ⊥)) }
         ensures refused { OnErr result (self.new ≡ self.old) }
     {
         if self.place.is_end() {

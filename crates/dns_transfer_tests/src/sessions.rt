@@ -1,10 +1,11 @@
 //! Sessions, their messages octet for octet, over the zone of RFC 4592 and over one of long texts.
 use crate::given::{AXFR, AXFR_OF_TEXTS, CHANGES, EXAMPLE, IXFR, UPDATE, WHOLE};
+use dns_changes::Change;
 use dns_masterfile::read_zone;
 use dns_memory::{Heap, heap};
 use dns_names::Name;
 use dns_request::{Request, Transport, classify};
-use dns_transfer::{History, Session, Version};
+use dns_transfer::{Session, Version};
 use dns_update::{Judged, judge};
 use dns_wire::{Message, Rcode};
 use dns_zone::{RecordList, Zone};
@@ -14,7 +15,7 @@ use std::test::Fail;
 #[derive(Drop)]
 struct ShownZone {
     zone: Zone<RecordList>,
-    history: History,
+    changes: Vec<Change, Heap>,
 }
 
 /// The zone of a master file, to which no change led.
@@ -23,8 +24,8 @@ fn held(alloc: Heap, apex: &[u8], text: &[u8]) -> Option<ShownZone> {
     let records = read_zone(alloc, text, &root).ok()?;
     let apex = Name::from_text(alloc, apex, &root).ok()?;
     let zone = Zone::from_records(alloc, apex, records).ok()?;
-    let history = History::new(alloc);
-    Some(ShownZone { zone, history })
+    let changes = Vec::new(alloc);
+    Some(ShownZone { zone, changes })
 }
 
 /// The same behind an update.
@@ -38,9 +39,9 @@ fn updated(alloc: Heap, before: ShownZone, update: &str) -> Option<ShownZone> {
     let Ok(zone) = Zone::from_index(apex, index) else {
         return None;
     };
-    let mut history = before.history;
-    history.push(alloc, change).ok()?;
-    Some(ShownZone { zone, history })
+    let mut changes = before.changes;
+    changes.push(change).ok()?;
+    Some(ShownZone { zone, changes })
 }
 
 /// The session that a request opens, or its refusal; none where memory is refused or it asks for no transfer.
@@ -56,7 +57,7 @@ fn opened(
     };
     let version = held.map(|held| Version {
         zone: &held.zone,
-        history: &held.history,
+        changes: &held.changes,
     });
     Session::open(alloc, version, allowed, &request, transport).ok()
 }

@@ -1,3 +1,4 @@
+use Rattle.std.specs.Prelude.{IsTrue, false}
 use Rattle.std.proofs.Common.{◌≡◌, ℕ, [], None, refl, sym, ap, subst, ◌∙◌, List}
 use Rattle.dns_wire.specs.Building.{Building}
 use Rattle.dns_request.specs.declared.request.Transport.{Transport}
@@ -6,7 +7,7 @@ use Rattle.dns_transfer.specs.Left.{left_at}
 use Rattle.dns_transfer.specs.Messages.{message_with}
 use Rattle.dns_transfer.specs.Session.{IsFilled, Sending, SendsBy}
 use Rattle.dns_transfer.specs.declared.rest.Place.{Place}
-use Rattle.dns_transfer.proofs.Filled.{next_of}
+use Rattle.dns_transfer.proofs.Filled.{next_of, some_left}
 use Rattle.dns_transfer.proofs.session.Session.next_message.Goals as goal
 use Rattle.dns_transfer.proofs.session.Session.next_message.Goals.{in-Tcp+in_ok-message-in-Tcp+in_ok-fill-in-Tcp, in-Udp+in_ok-datagram-in-Udp}
 
@@ -37,3 +38,10 @@ returns-clause-sent g c =
             subst (λ (p : Place). SendsBy d.transport d made.0.items (at p)) (sym (λ i. (w.octets-is i).1)) with_octets)
       ],
     )
+
+pub returns-clause-more : goal.returns-clause-more
+returns-clause-more g c none =
+    let s = c.self.inside in
+    let more = some_left s.soa (g.I.ZoneIndex.records s.index) s.history s.place (λ e. (let no : IsTrue false = c.if-is_end.ensures.1 e in cc)) in
+    let left = ap (λ (x : Sending). x.left) c.self.view_is in
+    absurd (let clash = sym more.2 ∙ left ∙ none in cc)
