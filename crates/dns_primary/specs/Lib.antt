@@ -12,5 +12,6 @@ pub mod Queue
 pub mod Steps
 pub mod Fresh
 pub mod Open
+pub mod HandOut
 pub mod Runs
 pub mod Causes

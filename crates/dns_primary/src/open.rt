@@ -1,7 +1,12 @@
 //! Primaries over devices: the store of each zone is opened, and at the end all devices are handed out again.
-ghost use Rattle.std.specs.Prelude.{◌≡◌, ◌≤◌, ◌+◌, ◌++◌, List, length, map, vec_capacity, IfErr, MatchResult};
+ghost use Rattle.std.specs.Prelude.{◌≡◌, ◌≤◌, ◌+◌, ◌++◌, List, length, map, vec_capacity, IfErr, IfOk, MatchResult};
 ghost use Rattle.dns_primary.specs.Machine.{Machine};
+ghost use Rattle.dns_names.specs.Name.{Labels};
+ghost use Rattle.dns_primary.specs.declared.event.Effects.{Effects as StatedEffects};
+ghost use Rattle.dns_primary.specs.declared.primary.ZoneSettings.{ZoneSettings as StatedSettings};
 ghost use Rattle.dns_primary.specs.Step.{Event as StatedEvent};
+ghost use Rattle.dns_primary.specs.Steps.{SteppedBy};
+ghost use Rattle.dns_primary.specs.HandOut.{AreSetAs};
 ghost use Rattle.dns_primary.specs.Stop.{IsStopped};
 ghost use Rattle.dns_primary.specs.Keeps.{IsKept};
 ghost use Rattle.dns_primary.specs.Open.{AreHandedBack, AreOpened, AreRecoverable, AreRefused, IsNotOpened, IsOpened};
@@ -191,5 +196,35 @@ impl<D: Sectors + Drop, I: ZoneIndex> Primary<I, KeptStore<D, I>> {
                 devices,
             }),
         }
+    }
+
+    /// Hands out the devices of all zones, in the order in which they came. What was staged is lost, as by a stop. Where memory for
+    /// their list is refused the primary is handed back.
+    pub fn into_devices(self) -> Result<Vec<D, Heap>, Primary<I, KeptStore<D, I>>>
+        ensures handed_out { MatchResult result (λ devices. devices.items ≡ map (λ b. device_behind b) self.behind.items)
+            (λ back. back ≡ self) }
+        // Between two events: a machine that it keeps, which stops here.
+        ensures at_rest { IfOk result (λ devices. (m : Machine) (event : StatedEvent) (apexes : List Labels)
+            (settings : List StatedSettings) → IsKept self m → AreSetAs apexes settings m.zones
+            → AreRecoverable D.Sectors m event 0 m.zones apexes settings devices.items) }
+        // Within the event that led here: the machine from which it came.
+        ensures within { IfOk result (λ devices. (m : Machine) (event : StatedEvent) (before : _) (effects : StatedEffects)
+            (apexes : List Labels) (settings : List StatedSettings)
+            → SteppedBy m event before self effects → AreSetAs apexes settings m.zones
+            → AreRecoverable D.Sectors m event 0 m.zones apexes settings devices.items) }
+    {
+        let Ok(mut devices) = Vec::with_capacity(*self.places.allocator(), self.behind.len()) else {
+            return Err(self);
+        };
+        let Primary {
+            zones: _,
+            behind,
+            settings: _,
+            waiting: _,
+            places: _,
+            connections: _,
+        } = self;
+        take_back(&mut devices, behind);
+        Ok(devices)
     }
 }

@@ -1,0 +1,130 @@
+-- Devices that are handed out by a machine, between two events or within one.
+use Rattle.std.proofs.Common.{◌≡◌, ◌≤◌, ◌+◌, ℕ, zero, suc, Bool, true, false, Option, Some, None, List, [], ◌∷◌, map, refl, sym, subst, ap, arith}
+use Rattle.std.specs.List.{AllByRecursion}
+use Rattle.dns_names.specs.Name.{Labels}
+use Rattle.dns_zone.specs.Zone.{Zone}
+use Rattle.dns_sectors.specs.Device.{Content, LeavesOnly}
+use Rattle.dns_sectors.specs.declared.device.Sectors.{Ghosts}
+use Rattle.dns_journal.specs.State.{device_of}
+use Rattle.dns_journal.specs.declared.journal.Journal.{Journal}
+use Rattle.dns_store.specs.Versions.{Kept}
+use Rattle.dns_store.specs.Opens.{KeepsBy, opens}
+use Rattle.dns_store.specs.Opening.{keeps}
+use Rattle.dns_store.specs.Laws.{at_rest_of}
+use Rattle.dns_store.specs.declared.kept_store.KeptStore.{KeptStore}
+use Rattle.dns_held.specs.declared.behind.Behind.{Behind}
+use Rattle.dns_held.specs.Each.{Each3}
+use Rattle.dns_held.specs.Held.{HasVersions}
+use Rattle.dns_primary.specs.declared.primary.ZoneSettings.{ZoneSettings}
+use Rattle.dns_primary.specs.Machine.{ZoneState, Machine, kept_of}
+use Rattle.dns_primary.specs.Step.{Event, Datagram, Connect, Arrives, Flush, Checkpoint, Closed}
+use Rattle.dns_primary.specs.Steps.{OpensAsEvent, base_moved, with_room, with_rooms, without_room}
+use Rattle.dns_primary.specs.Stop.{Checkpoints, IsMaking, OpensAsRecovered}
+use Rattle.dns_primary.specs.Keeps.{HaveVersions}
+use Rattle.dns_primary.specs.Open.{device_behind, IsRecoverable, AreRecoverable}
+use Rattle.dns_primary.specs.HandOut.{IsSetAs, AreSetAs}
+use Rattle.dns_primary.proofs.Recovering.{left_recovered, checkpoint_recovered}
+
+-- where an event moves a base
+pub moves : (m : Machine) (event : Event) (p r : ℕ) → base_moved event ≡ Some (p, r) → Checkpoints m event p r
+moves m (Datagram peer octets) p r e = absurd cc
+moves m (Connect peer) p r e = absurd cc
+moves m (Arrives number octets) p r e = absurd cc
+moves m Flush p r e = absurd cc
+moves m (Checkpoint place) p r e = (let both : (place, 0) ≡ (p, r) = cc in (sym (ap (λ (x : ℕ × ℕ). x.0) both), sym (ap (λ (x : ℕ × ℕ). x.1) both)))
+moves m (Closed number) p r e = absurd cc
+
+honest_of : {D : Type 0} {g : Ghosts D} (journal : Journal D g) (k : Kept) (closed : Bool) → KeepsBy journal k closed → g.is_honest (device_of journal)
+honest_of journal k true kept = kept.honest
+honest_of journal k false (s, staged, kept) = kept.keeps.2.honest
+
+module _ {D I : Type 0} {g : Ghosts D} (m : Machine) (event : Event)
+    (counts_now : (device : D) (t : ℕ) (c : Content) → g.is_honest device → t ≤ g.moment device → g.may_leave device c → g.left_since device t c)
+    (only_now : (device : D) (c : Content) → g.is_honest device → g.left_since device (g.moment device) c → g.may_leave device c)
+  where
+    -- between two events
+    rests_recoverable : (making : ℕ → Type 0) (a : Labels) (s : ZoneSettings) (z : ZoneState) (zone : Zone) (b : Behind I (KeptStore D I g)) → IsSetAs a s z → HasVersions (λ (x : KeptStore D I g) k. keeps x k) zone b (kept_of z) → IsRecoverable g making z a s (device_behind b)
+    rests_recoverable making a s z zone b so h =
+        let k = kept_of z in
+        let journal = b.store.journal in
+        let honest = honest_of journal k k.closed h.kept.keeps in
+        record {
+          shape = so.shape;
+          set = so.set;
+          range = so.range;
+          honest = honest;
+          leaves = λ c left. left_recovered making z c (at_rest_of only_now journal k k.closed h.kept.keeps c (counts_now (device_of journal) (g.moment (device_of journal)) c honest (omega arith) left));
+        }
+
+    pub rest_recoverable : (place : ℕ) (zones : List Zone) (behind : List (Behind I (KeptStore D I g))) (states : List ZoneState) (apexes : List Labels) (settings : List ZoneSettings)
+        → HaveVersions (λ (x : KeptStore D I g) k. keeps x k) zones behind states → AreSetAs apexes settings states → AreRecoverable g m event place states apexes settings (map (λ b. device_behind b) behind)
+    rest_recoverable place [] [] [] [] [] held so = tt
+    rest_recoverable place (y ∷ zones) (b ∷ behind) (z ∷ states) (a ∷ apexes) (s ∷ settings) held so =
+        (rests_recoverable (IsMaking m event place z) a s z y b so.0 held.0, rest_recoverable (suc place) zones behind states apexes settings held.1 so.1)
+    rest_recoverable place zones behind [] (a ∷ apexes) [] held so = absurd so
+    rest_recoverable place zones behind [] (a ∷ apexes) (s ∷ settings) held so = absurd so
+    rest_recoverable place zones behind [] [] (s ∷ settings) held so = absurd so
+    rest_recoverable place zones behind (z ∷ states) [] [] held so = absurd so
+    rest_recoverable place zones behind (z ∷ states) [] (s ∷ settings) held so = absurd so
+    rest_recoverable place zones behind (z ∷ states) (a ∷ apexes) [] held so = absurd so
+    rest_recoverable place _ _ _ apexes settings held so = absurd held
+
+    pub all_honest : (zones : List Zone) (behind : List (Behind I (KeptStore D I g))) (states : List ZoneState) → HaveVersions (λ (x : KeptStore D I g) k. keeps x k) zones behind states → AllByRecursion (λ b. g.is_honest (device_behind b)) behind
+    all_honest [] [] [] held = tt
+    all_honest (y ∷ zones) (b ∷ behind) (z ∷ states) held =
+        (honest_of b.store.journal (kept_of z) (kept_of z).closed held.0.kept.keeps, all_honest zones behind states held.1)
+    all_honest _ _ _ held = absurd held
+
+    -- within an event
+    abbrev pub LeavesZone : Behind I (KeptStore D I g) → Behind I (KeptStore D I g) → Option ℕ × ZoneState → Type 0
+    LeavesZone a b k = LeavesOnly (λ (x : KeptStore D I g). g.moment (device_of x.journal)) (λ (x : KeptStore D I g). g.left_since (device_of x.journal)) a.store b.store (OpensAsEvent opens k.0 k.1)
+
+    left_now : (making : ℕ → Type 0) (a : Labels) (s : ZoneSettings) (z : ZoneState) (old new : Behind I (KeptStore D I g)) (room : Option ℕ) → IsSetAs a s z → g.is_honest (device_behind new) → LeavesZone old new (room, z)
+        → ((c : Content) → OpensAsEvent opens room z c → OpensAsRecovered opens making z c) → IsRecoverable g making z a s (device_behind new)
+    left_now making a s z old new room so honest leaves recovers = record {
+      shape = so.shape;
+      set = so.set;
+      range = so.range;
+      honest = honest;
+      leaves = λ c left. recovers c (leaves.each c (counts_now (device_behind new) (g.moment (device_behind old)) c honest leaves.later left));
+    }
+
+    none_moved : (place : ℕ) (olds news : List (Behind I (KeptStore D I g))) (states : List ZoneState) (apexes : List Labels) (settings : List ZoneSettings)
+        → AreSetAs apexes settings states → AllByRecursion (λ b. g.is_honest (device_behind b)) news → Each3 LeavesZone olds news (map without_room states) → AreRecoverable g m event place states apexes settings (map (λ b. device_behind b) news)
+    none_moved place [] [] [] [] [] so honest leaves = tt
+    none_moved place (o ∷ olds) (n ∷ news) (z ∷ states) (a ∷ apexes) (s ∷ settings) so honest leaves =
+        (left_now (IsMaking m event place z) a s z o n None so.0 honest.0 leaves.0 (λ c is. left_recovered (IsMaking m event place z) z c is), none_moved (suc place) olds news states apexes settings so.1 honest.1 leaves.1)
+    none_moved place olds news [] (a ∷ apexes) [] so honest leaves = absurd so
+    none_moved place olds news [] (a ∷ apexes) (s ∷ settings) so honest leaves = absurd so
+    none_moved place olds news [] [] (s ∷ settings) so honest leaves = absurd so
+    none_moved place olds news (z ∷ states) [] [] so honest leaves = absurd so
+    none_moved place olds news (z ∷ states) [] (s ∷ settings) so honest leaves = absurd so
+    none_moved place olds news (z ∷ states) (a ∷ apexes) [] so honest leaves = absurd so
+    none_moved place _ _ _ apexes settings so honest leaves = absurd leaves
+
+    one_moved : (place behind room : ℕ) (olds news : List (Behind I (KeptStore D I g))) (states : List ZoneState) (apexes : List Labels) (settings : List ZoneSettings)
+        → Checkpoints m event (place + behind) room
+        → AreSetAs apexes settings states → AllByRecursion (λ b. g.is_honest (device_behind b)) news → Each3 LeavesZone olds news (with_room behind room states) → AreRecoverable g m event place states apexes settings (map (λ b. device_behind b) news)
+    one_moved place zero room [] [] [] [] [] makes so honest leaves = tt
+    one_moved place (suc behind) room [] [] [] [] [] makes so honest leaves = tt
+    one_moved place zero room (o ∷ olds) (n ∷ news) (z ∷ states) (a ∷ apexes) (s ∷ settings) makes so honest leaves =
+        let here : Checkpoints m event place room = subst (λ (p : ℕ). Checkpoints m event p room) (let e : place + 0 ≡ place = omega arith in e) makes in
+        (left_now (IsMaking m event place z) a s z o n (Some room) so.0 honest.0 leaves.0 (λ c is. checkpoint_recovered m event place room z c here is), none_moved (suc place) olds news states apexes settings so.1 honest.1 leaves.1)
+    one_moved place (suc behind) room (o ∷ olds) (n ∷ news) (z ∷ states) (a ∷ apexes) (s ∷ settings) makes so honest leaves =
+        let later : Checkpoints m event (suc place + behind) room = subst (λ (p : ℕ). Checkpoints m event p room) (let e : place + suc behind ≡ suc place + behind = omega arith in e) makes in
+        (left_now (IsMaking m event place z) a s z o n None so.0 honest.0 leaves.0 (λ c is. left_recovered (IsMaking m event place z) z c is), one_moved (suc place) behind room olds news states apexes settings later so.1 honest.1 leaves.1)
+    one_moved place behind room olds news [] (a ∷ apexes) [] makes so honest leaves = absurd so
+    one_moved place behind room olds news [] (a ∷ apexes) (s ∷ settings) makes so honest leaves = absurd so
+    one_moved place behind room olds news [] [] (s ∷ settings) makes so honest leaves = absurd so
+    one_moved place behind room olds news (z ∷ states) [] [] makes so honest leaves = absurd so
+    one_moved place behind room olds news (z ∷ states) [] (s ∷ settings) makes so honest leaves = absurd so
+    one_moved place behind room olds news (z ∷ states) (a ∷ apexes) [] makes so honest leaves = absurd so
+    one_moved place zero room _ _ _ apexes settings makes so honest leaves = absurd leaves
+    one_moved place (suc behind) room _ _ _ apexes settings makes so honest leaves = absurd leaves
+
+    pub event_recoverable : (moved : Option (ℕ × ℕ)) (olds news : List (Behind I (KeptStore D I g))) (states : List ZoneState) (apexes : List Labels) (settings : List ZoneSettings)
+        → ((p r : ℕ) → moved ≡ Some (p, r) → Checkpoints m event p r)
+        → AreSetAs apexes settings states → AllByRecursion (λ b. g.is_honest (device_behind b)) news → Each3 LeavesZone olds news (with_rooms moved states) → AreRecoverable g m event 0 states apexes settings (map (λ b. device_behind b) news)
+    event_recoverable None olds news states apexes settings makes so honest leaves = none_moved 0 olds news states apexes settings so honest leaves
+    event_recoverable (Some (p, r)) olds news states apexes settings makes so honest leaves =
+        one_moved 0 p r olds news states apexes settings (subst (λ (i : ℕ). Checkpoints m event i r) (let e : p ≡ 0 + p = omega arith in e) (makes p r refl)) so honest leaves
