@@ -1,1 +1,3 @@
 pub mod Framed
+pub mod Memory
+pub mod Stream
