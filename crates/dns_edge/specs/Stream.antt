@@ -8,3 +8,9 @@ abbrev pub moved : Moved → ℕ
 moved (Octets count) = count
 moved Later = 0
 moved Ended = 0
+
+-- where octets moved
+abbrev pub IfOctets : Moved → Type 0 → Type 0
+IfOctets (Octets count) fact = fact
+IfOctets Later fact = Unit {0}
+IfOctets Ended fact = Unit {0}
