@@ -1,6 +1,6 @@
 //! All connections, by their numbers.
 ghost use Rattle.std.specs.Prelude.{◌≡◌, ◌≤◌, ◌<◌, length, replicate, slice_set, None, Some, IfErr, IfOk, OnOk, OnErr};
-ghost use Rattle.dns_edge.specs.Connections.{IsPushed, places_of};
+ghost use Rattle.dns_edge.specs.Connections.{IsPushed, is_open, places_of};
 
 use crate::{Connection, Stream};
 use dns_memory::Heap;
@@ -45,6 +45,16 @@ impl<S: Stream + Drop> Connections<S> {
     /// The connection with that number.
     pub fn get_mut(&mut self, number: usize) -> Option<&mut Connection<S>> {
         self.places.get_mut(number)?.as_mut()
+    }
+
+    /// Whether there is a connection with that number.
+    pub fn is_open(&self, number: usize) -> bool
+        ensures { result ≡ is_open number (places_of self.now) }
+    {
+        match self.places.get(number) {
+            Some(place) => place.is_some(),
+            None => false,
+        }
     }
 
     /// Lets go the connection with that number, and its stream.
