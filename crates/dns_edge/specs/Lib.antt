@@ -1,1 +1,5 @@
 pub mod Framed
+pub mod Memory
+pub mod Stream
+pub mod Connection
+pub mod Connections

@@ -17,22 +17,13 @@ use Rattle.dns_held.specs.Each.{Each3}
 use Rattle.dns_held.specs.Held.{HasVersions}
 use Rattle.dns_primary.specs.declared.primary.ZoneSettings.{ZoneSettings}
 use Rattle.dns_primary.specs.Machine.{ZoneState, Machine, kept_of}
-use Rattle.dns_primary.specs.Step.{Event, Datagram, Connect, Arrives, Flush, Checkpoint, Closed}
-use Rattle.dns_primary.specs.Steps.{OpensAsEvent, base_moved, with_room, with_rooms, without_room}
+use Rattle.dns_primary.specs.Step.{Event}
+use Rattle.dns_primary.specs.Steps.{OpensAsEvent, with_room, with_rooms, without_room}
 use Rattle.dns_primary.specs.Stop.{Checkpoints, IsMaking, OpensAsRecovered}
 use Rattle.dns_primary.specs.Keeps.{HaveVersions}
 use Rattle.dns_primary.specs.Open.{device_behind, IsRecoverable, AreRecoverable}
 use Rattle.dns_primary.specs.HandOut.{IsSetAs, AreSetAs}
 use Rattle.dns_primary.proofs.Recovering.{left_recovered, checkpoint_recovered}
-
--- where an event moves a base
-pub moves : (m : Machine) (event : Event) (p r : ℕ) → base_moved event ≡ Some (p, r) → Checkpoints m event p r
-moves m (Datagram peer octets) p r e = absurd cc
-moves m (Connect peer) p r e = absurd cc
-moves m (Arrives number octets) p r e = absurd cc
-moves m Flush p r e = absurd cc
-moves m (Checkpoint place) p r e = (let both : (place, 0) ≡ (p, r) = cc in (sym (ap (λ (x : ℕ × ℕ). x.0) both), sym (ap (λ (x : ℕ × ℕ). x.1) both)))
-moves m (Closed number) p r e = absurd cc
 
 honest_of : {D : Type 0} {g : Ghosts D} (journal : Journal D g) (k : Kept) (closed : Bool) → KeepsBy journal k closed → g.is_honest (device_of journal)
 honest_of journal k true kept = kept.honest

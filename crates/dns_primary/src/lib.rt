@@ -15,6 +15,7 @@ mod serve;
 mod step;
 mod unkept;
 mod update;
+mod waits;
 
 pub use event::{Effects, Event, HeaderTo, Noted, Peer, Reply, ReplyOctets, To, Waiting};
 pub use laws::{fresh_law, replies_wait_law, servfail_law, stop_law, versions_law};

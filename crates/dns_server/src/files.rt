@@ -18,7 +18,7 @@ use std::fmt;
 use std::io::{self, Write};
 
 /// How the records of a zone are kept.
-pub(crate) type Index = SharedTree;
+pub type Index = SharedTree;
 
 /// Exit statuses: all was done; a file, a line or a word was refused; the words are wrong; a writer failed, or memory was refused.
 pub const DONE: u8 = 0;
@@ -38,10 +38,14 @@ pub struct File<'a> {
 
 /// What is wrong with a file or a word.
 #[derive(Clone, Copy)]
-pub(crate) enum Fault {
+pub enum Fault {
+    /// Memory was refused.
     OutOfMemory,
+    /// The file can't be read.
     Unreadable,
+    /// The file holds no configuration.
     BadConfig,
+    /// The word is no name, or that of no zone of the configuration.
     BadOrigin,
     /// A line of a script is no command.
     Syntax(u64),
@@ -115,7 +119,7 @@ impl fmt::Display for PrintedOctet {
 
 /// A path or a word, so that it stays on its line and says nothing to a terminal.
 #[derive(Drop)]
-pub(crate) struct PrintedWord<'a>(pub(crate) &'a [u8]);
+pub struct PrintedWord<'a>(pub &'a [u8]);
 
 impl fmt::Display for PrintedWord<'_> {
     ghost output = { λ w. Some (printed_word w.0.now) };
@@ -150,7 +154,7 @@ impl fmt::Display for FaultText<'_> {
 }
 
 /// Tells in one line what is wrong with the file or the word, and gives the exit status. Of refused memory nothing is told.
-pub(crate) fn tell<E: Write>(err: &mut E, what: &str, fault: Fault) -> io::Result<u8>
+pub fn tell<E: Write>(err: &mut E, what: &str, fault: Fault) -> io::Result<u8>
     ensures { IfOk result
         (λ status. MatchBool (is_memory fault) (status ≡ FAILED)
         ((status ≡ REFUSED) × Appends (E.contents err.old) (E.contents err.new) (line (fault_text what.now fault)))) }
@@ -163,7 +167,7 @@ pub(crate) fn tell<E: Write>(err: &mut E, what: &str, fault: Fault) -> io::Resul
 }
 
 /// The name that a text is, under the root.
-pub(crate) fn apex(alloc: Heap, text: &str) -> Result<Name, Fault>
+pub fn apex(alloc: Heap, text: &str) -> Result<Name, Fault>
     ensures { MatchResult result (λ name. name_of_text [] text.now ≡ Ok name)
         (λ f. (f ≡ Fault.OutOfMemory) ⊎ ((f ≡ Fault.BadOrigin) × ((e : StatedError) × (name_of_text [] text.now ≡ Err e)))) }
 {
@@ -175,7 +179,7 @@ pub(crate) fn apex(alloc: Heap, text: &str) -> Result<Name, Fault>
 }
 
 /// The zone of an apex that a master file holds, and how many records it has.
-pub(crate) fn load(
+pub fn load(
     alloc: Heap,
     octets: Option<&[u8]>,
     apex: Name,

@@ -1,0 +1,84 @@
+//! All connections, by their numbers.
+ghost use Rattle.std.specs.Prelude.{◌≡◌, ◌≤◌, ◌<◌, length, replicate, slice_set, None, Some, IfErr, IfOk, OnOk, OnErr};
+ghost use Rattle.dns_edge.specs.Connections.{IsPushed, is_open, places_of};
+
+use crate::{Connection, Stream};
+use dns_memory::Heap;
+use std::alloc::AllocError;
+
+/// How many connections there are at most; their numbers are below it.
+const PLACES: usize = 64;
+
+/// The connections by their numbers.
+#[derive(Drop)]
+pub struct Connections<S: Stream> {
+    places: Vec<Option<Connection<S>>, Heap>,
+}
+
+impl<S: Stream + Drop> Connections<S> {
+    /// No connection, and places for 64, whose numbers are below that. Refused where the memory for the places is.
+    pub fn new(alloc: Heap) -> Result<Connections<S>, AllocError>
+        ensures { IfOk result (λ c. places_of c ≡ replicate 64 None) }
+    {
+        let mut places = Vec::with_capacity(alloc, PLACES)?;
+        for _place in 0..PLACES {
+            places.push(None)?;
+        }
+        Ok(Connections { places })
+    }
+
+    /// Puts a connection under its number. One whose number is that of no place is handed back.
+    pub fn insert(&mut self, number: usize, connection: Connection<S>) -> Result<(), Connection<S>>
+        ensures put { OnOk result (places_of self.new ≡ slice_set (places_of self.old) number (Some connection)) }
+        ensures back { IfErr result (λ c. (c ≡ connection) × (length (places_of self.old) ≤ number)) }
+        ensures still { OnErr result (places_of self.new ≡ places_of self.old) }
+    {
+        match self.places.get_mut(number) {
+            Some(place) => {
+                *place = Some(connection);
+                Ok(())
+            }
+            None => Err(connection),
+        }
+    }
+
+    /// The connection with that number.
+    pub fn get_mut(&mut self, number: usize) -> Option<&mut Connection<S>> {
+        self.places.get_mut(number)?.as_mut()
+    }
+
+    /// Whether there is a connection with that number.
+    pub fn is_open(&self, number: usize) -> bool
+        ensures { result ≡ is_open number (places_of self.now) }
+    {
+        match self.places.get(number) {
+            Some(place) => place.is_some(),
+            None => false,
+        }
+    }
+
+    /// Lets go the connection with that number, and its stream.
+    pub fn remove(&mut self, number: usize)
+        ensures { places_of self.new ≡ slice_set (places_of self.old) number None }
+    {
+        if let Some(place) = self.places.get_mut(number) {
+            *place = None;
+        }
+    }
+
+    /// Queues a reply on the connection with that number; to one that isn't there nothing goes. Where memory is refused all are as
+    /// they were.
+    pub fn push(&mut self, number: usize, reply: &[u8]) -> Result<(), AllocError>
+        requires { length reply.now < 65536 }
+        ensures queued { OnOk result (IsPushed number reply.now (places_of self.old) (places_of self.new)) }
+        ensures refused { OnErr result (places_of self.new ≡ places_of self.old) }
+    {
+        if number >= self.places.len() {
+            return Ok(());
+        }
+        match &mut self.places[number] {
+            Some(connection) => connection.push(reply),
+            None => Ok(()),
+        }
+    }
+}

@@ -1,0 +1,283 @@
+//! Turns: what is done with the network, one turn after the other.
+ghost use Rattle.std.specs.Prelude.{◌≡◌, ◌++◌, map, None, slice_set};
+ghost use Rattle.dns_primary.specs.Keeps.{header_out, reply_out};
+ghost use Rattle.dns_turns.specs.Delivery.{AreSent, IsSent, connections_of};
+
+use crate::{Network, Note, Notes};
+use dns_edge::{Connection, Connections, Moved, Stream};
+use dns_memory::Heap;
+use dns_primary::{Effects, Event, HeaderTo, Noted, Primary, Reply, To};
+use dns_store::ZoneStore;
+use dns_zone::ZoneIndex;
+use std::alloc::AllocError;
+
+/// How many octets are read at once. A datagram of over 512 octets is told from shorter ones by its length.
+const PIECE: usize = 4096;
+
+/// The longest message on a stream (RFC 1035 section 4.2.2).
+const LONGEST: usize = 65535;
+
+/// The connections of a server, and a buffer for what is read.
+#[derive(Drop)]
+pub struct Edge<S: Stream> {
+    connections: Connections<S>,
+    // the numbers of all connections are below it
+    end: usize,
+    buffer: Vec<u8, Heap>,
+}
+
+impl<S: Stream + Drop> Edge<S> {
+    /// No connection. Refused where the memory for the buffer and for the places of connections is.
+    pub fn new(alloc: Heap) -> Result<Edge<S>, AllocError> {
+        let mut buffer = Vec::new(alloc);
+        buffer.resize(PIECE, 0)?;
+        Ok(Edge {
+            connections: Connections::new(alloc)?,
+            end: 0,
+            buffer,
+        })
+    }
+
+    /// The connection with that number.
+    pub fn connection_mut(&mut self, number: usize) -> Option<&mut Connection<S>> {
+        self.connections.get_mut(number)
+    }
+
+    /// Behind which number there is no connection.
+    fn last_end(&self) -> usize {
+        for number in (0..self.end).rev() {
+            if self.connections.is_open(number) {
+                return number.saturating_add(1);
+            }
+        }
+        0
+    }
+
+    /// Closes a connection: its stream is let go, and what waits to go to it goes nowhere.
+    fn close<I: ZoneIndex, D: ZoneStore, L: Notes>(
+        &mut self,
+        alloc: Heap,
+        primary: &mut Primary<I, D>,
+        notes: &mut L,
+        number: usize,
+    )
+        ensures { connections_of self.new ≡ slice_set (connections_of self.old) number None }
+    {
+        let _nothing = primary.step(alloc, Event::Closed(number));
+        self.connections.remove(number);
+        self.end = self.last_end();
+        notes.note(Note::Closed(number));
+    }
+
+    /// Sends a reply to where it goes, or queues it there. A connection whose reply can't be queued is closed.
+    fn send<I: ZoneIndex, D: ZoneStore, N: Network<S>, L: Notes>(
+        &mut self,
+        alloc: Heap,
+        network: &mut N,
+        primary: &mut Primary<I, D>,
+        notes: &mut L,
+        to: To,
+        reply: &[u8],
+    )
+        ensures { IsSent to reply.now (connections_of self.old) (connections_of self.new) }
+    {
+        match to {
+            To::Address(peer) => network.send(peer, reply),
+            To::Connection(number) => {
+                if reply.len() > LONGEST {
+                    self.close(alloc, primary, notes, number);
+                } else if self.connections.push(number, reply).is_err() {
+                    notes.note(Note::OutOfMemory);
+                    self.close(alloc, primary, notes, number);
+                }
+            }
+            To::Nowhere => {}
+        }
+    }
+
+    /// Sends the replies that waited, in their order.
+    fn send_headers<I: ZoneIndex, D: ZoneStore, N: Network<S>, L: Notes>(
+        &mut self,
+        alloc: Heap,
+        network: &mut N,
+        primary: &mut Primary<I, D>,
+        notes: &mut L,
+        headers: &[HeaderTo],
+    )
+        ensures { AreSent (map (λ h. header_out h) headers.now) (connections_of self.old) (connections_of self.new) }
+    {
+        for header in headers {
+            self.send(alloc, network, primary, notes, header.to, &header.octets);
+        }
+    }
+
+    /// Sends the reply to what came, if there is one.
+    fn send_reply<I: ZoneIndex, D: ZoneStore, N: Network<S>, L: Notes>(
+        &mut self,
+        alloc: Heap,
+        network: &mut N,
+        primary: &mut Primary<I, D>,
+        notes: &mut L,
+        reply: &Option<Reply>,
+    )
+        ensures { AreSent (reply_out reply.now) (connections_of self.old) (connections_of self.new) }
+    {
+        if let Some(reply) = reply {
+            let octets = reply.octets.as_slice();
+            self.send(alloc, network, primary, notes, reply.to, octets);
+        }
+    }
+
+    /// Lets the effects of an event happen: the replies that waited in their order, then the one to what came; and tells the rest.
+    fn deliver<I: ZoneIndex, D: ZoneStore, N: Network<S>, L: Notes>(
+        &mut self,
+        alloc: Heap,
+        network: &mut N,
+        primary: &mut Primary<I, D>,
+        notes: &mut L,
+        effects: Effects,
+    )
+        ensures { AreSent (map (λ h. header_out h) effects.headers.items ++ reply_out effects.reply) (connections_of self.old)
+            (connections_of self.new) }
+    {
+        self.send_headers(alloc, network, primary, notes, effects.headers.as_slice());
+        self.send_reply(alloc, network, primary, notes, &effects.reply);
+        tell(notes, effects.noted);
+    }
+
+    /// Accepts one connection, if a peer made one. One that gets no number is closed at once.
+    fn accept<I: ZoneIndex, D: ZoneStore, N: Network<S>, L: Notes>(
+        &mut self,
+        alloc: Heap,
+        network: &mut N,
+        primary: &mut Primary<I, D>,
+        notes: &mut L,
+        now: u64,
+    ) -> bool {
+        let Some((stream, peer)) = network.accept() else {
+            return false;
+        };
+        let effects = primary.step(alloc, Event::Connect(peer));
+        tell(notes, effects.noted);
+        let Some(number) = effects.accepted else {
+            return true;
+        };
+        notes.note(Note::Opened(number, peer));
+        let connection = Connection::new(alloc, stream, now);
+        match self.connections.insert(number, connection) {
+            Ok(()) => self.end = self.end.max(number.saturating_add(1)),
+            Err(_) => self.close(alloc, primary, notes, number),
+        }
+        true
+    }
+
+    /// Reads one datagram, if one came, and lets it be answered.
+    fn receive<I: ZoneIndex, D: ZoneStore, N: Network<S>, L: Notes>(
+        &mut self,
+        alloc: Heap,
+        network: &mut N,
+        primary: &mut Primary<I, D>,
+        notes: &mut L,
+    ) -> bool {
+        let Some((count, peer)) = network.receive(&mut self.buffer) else {
+            return false;
+        };
+        let effects = primary.step(alloc, Event::Datagram(peer, &self.buffer[..count]));
+        self.deliver(alloc, network, primary, notes, effects);
+        true
+    }
+
+    /// Queues the next message of a transfer. There are no transfers yet.
+    fn pump(&mut self, _number: usize) -> bool {
+        false
+    }
+
+    /// Reads one piece of a connection where there is none to handle, and handles one message.
+    fn hear<I: ZoneIndex, D: ZoneStore, N: Network<S>, L: Notes>(
+        &mut self,
+        alloc: Heap,
+        network: &mut N,
+        primary: &mut Primary<I, D>,
+        notes: &mut L,
+        number: usize,
+        now: u64,
+    ) -> bool {
+        let Some(connection) = self.connections.get_mut(number) else {
+            return false;
+        };
+        let moved = connection.read(alloc, &mut self.buffer, now);
+        let message = connection.next_message();
+        let is_silent = connection.is_silent(now);
+        if let Some(message) = message {
+            let effects = primary.step(alloc, Event::Message(number, &message));
+            self.deliver(alloc, network, primary, notes, effects);
+            return true;
+        }
+        if moved == Moved::Ended || is_silent {
+            self.close(alloc, primary, notes, number);
+            return true;
+        }
+        moved != Moved::Later
+    }
+
+    /// Gives a connection its part of a turn: what is left to write is written; else the next message of a transfer is queued; else a
+    /// piece is read, and a message handled.
+    fn visit<I: ZoneIndex, D: ZoneStore, N: Network<S>, L: Notes>(
+        &mut self,
+        alloc: Heap,
+        network: &mut N,
+        primary: &mut Primary<I, D>,
+        notes: &mut L,
+        number: usize,
+        now: u64,
+    ) -> bool {
+        let Some(connection) = self.connections.get_mut(number) else {
+            return false;
+        };
+        if connection.has_left() {
+            let moved = connection.write(now);
+            if moved == Moved::Ended {
+                self.close(alloc, primary, notes, number);
+            }
+            return moved != Moved::Later;
+        }
+        self.pump(number) || self.hear(alloc, network, primary, notes, number, now)
+    }
+
+    /// Makes one turn, in the second `now`, and answers whether anything was done in it: at most one connection is accepted and at
+    /// most one datagram read; each connection has its part, by rising number; then there is a flush if a reply waits for one.
+    ///
+    /// A read or a write that would wait does nothing, and one that fails closes its connection. So does refused memory.
+    pub fn turn<I: ZoneIndex, D: ZoneStore, N: Network<S>, L: Notes>(
+        &mut self,
+        alloc: Heap,
+        network: &mut N,
+        primary: &mut Primary<I, D>,
+        notes: &mut L,
+        now: u64,
+    ) -> bool {
+        let accepted = self.accept(alloc, network, primary, notes, now);
+        let received = self.receive(alloc, network, primary, notes);
+        let mut is_done = accepted || received;
+        for number in 0..self.end {
+            if self.visit(alloc, network, primary, notes, number, now) {
+                is_done = true;
+            }
+        }
+        if primary.has_waiting() {
+            let effects = primary.step(alloc, Event::Flush);
+            self.deliver(alloc, network, primary, notes, effects);
+            is_done = true;
+        }
+        is_done
+    }
+}
+
+/// Tells what was noted of an event.
+fn tell<L: Notes>(notes: &mut L, noted: Noted) {
+    match noted {
+        Noted::Nothing => {}
+        Noted::OutOfMemory => notes.note(Note::OutOfMemory),
+        Noted::Device(place) => notes.note(Note::Device(place)),
+    }
+}

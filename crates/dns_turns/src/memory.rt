@@ -1,0 +1,113 @@
+//! A network in memory, for tests.
+ghost use Rattle.std.specs.Prelude.{◌≤◌, length, IfSome};
+
+use crate::{Network, Note, Notes};
+use dns_edge::{MemoryStream, Octets};
+use dns_memory::Heap;
+use dns_primary::Peer;
+use std::alloc::AllocError;
+use std::cmp::min;
+
+/// A network in memory. What is sent by it is kept, and so is what is told of turns.
+#[derive(Drop)]
+pub struct MemoryNetwork {
+    alloc: Heap,
+    streams: Vec<(MemoryStream, Peer), Heap>,
+    datagrams: Vec<(Octets, Peer), Heap>,
+    sent: Vec<(Octets, Peer), Heap>,
+    sends_fail: bool,
+}
+
+impl MemoryNetwork {
+    /// A network on which nothing came yet.
+    pub fn new(alloc: Heap) -> MemoryNetwork {
+        MemoryNetwork {
+            alloc,
+            streams: Vec::new(alloc),
+            datagrams: Vec::new(alloc),
+            sent: Vec::new(alloc),
+            sends_fail: false,
+        }
+    }
+
+    /// A peer connects, by this stream.
+    pub fn connect(&mut self, stream: MemoryStream, peer: Peer) -> Result<(), AllocError> {
+        self.streams.push((stream, peer))?;
+        Ok(())
+    }
+
+    /// A peer sends a datagram.
+    pub fn give(&mut self, octets: &[u8], peer: Peer) -> Result<(), AllocError> {
+        let octets = Vec::from_slice(self.alloc, octets)?;
+        self.datagrams.push((octets, peer))?;
+        Ok(())
+    }
+
+    /// The datagrams that were sent, in their order, each with its peer.
+    pub fn sent(&self) -> &[(Octets, Peer)] {
+        &self.sent
+    }
+
+    /// From here on datagrams can be sent or not.
+    pub fn set_sends_fail(&mut self, sends_fail: bool) {
+        self.sends_fail = sends_fail;
+    }
+
+    // Keeps a datagram that is sent.
+    fn keep(&mut self, octets: &[u8], peer: Peer) -> Result<(), AllocError> {
+        let octets = Vec::from_slice(self.alloc, octets)?;
+        self.sent.push((octets, peer))?;
+        Ok(())
+    }
+}
+
+impl Network<MemoryStream> for MemoryNetwork {
+    fn accept(&mut self) -> Option<(MemoryStream, Peer)> {
+        if self.streams.is_empty() {
+            return None;
+        }
+        Some(self.streams.remove(0))
+    }
+
+    fn receive(&mut self, into: &mut [u8]) -> Option<(usize, Peer)> {
+        if self.datagrams.is_empty() {
+            return None;
+        }
+        let (octets, peer) = self.datagrams.remove(0);
+        let count = min(octets.len(), into.len());
+        into[..count].copy_from_slice(&octets[..count]);
+        Some((count, peer))
+    }
+
+    fn send(&mut self, to: Peer, octets: &[u8]) {
+        if !self.sends_fail {
+            let _kept = self.keep(octets, to);
+        }
+    }
+}
+
+/// Notes in memory, for tests: one that memory is refused for is dropped.
+#[derive(Drop)]
+pub struct MemoryNotes {
+    notes: Vec<Note, Heap>,
+}
+
+impl MemoryNotes {
+    /// No note.
+    pub fn new(alloc: Heap) -> MemoryNotes {
+        MemoryNotes {
+            notes: Vec::new(alloc),
+        }
+    }
+
+    /// The notes, in their order.
+    pub fn as_slice(&self) -> &[Note] {
+        &self.notes
+    }
+}
+
+impl Notes for MemoryNotes {
+    fn note(&mut self, note: Note) {
+        let _kept = self.notes.push(note);
+    }
+}
