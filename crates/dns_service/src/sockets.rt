@@ -1,5 +1,6 @@
 //! The sockets of a server. None of their calls waits but `wait`, which waits until one of them is ready.
-ghost use Rattle.std.specs.Prelude.{[]};
+ghost use Rattle.std.specs.Prelude.{◌≡◌, []};
+ghost use Rattle.dns_edge.specs.Stream.{moved};
 
 use dns_edge::{Moved, Stream};
 use dns_memory::Heap;
@@ -104,8 +105,10 @@ impl Network<Socket> for Sockets {
     }
 }
 
-/// What an error of a stream means for it.
-fn after(error: &io::Error) -> Moved {
+/// What an error of a stream means for it: no octet moved.
+fn after(error: &io::Error) -> Moved
+    ensures { moved result ≡ 0 }
+{
     match error.kind() {
         ErrorKind::WouldBlock | ErrorKind::Interrupted => Moved::Later,
         _ => Moved::Ended,
