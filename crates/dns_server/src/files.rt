@@ -179,11 +179,7 @@ pub fn apex(alloc: Heap, text: &str) -> Result<Name, Fault>
 }
 
 /// The zone of an apex that a master file holds, and how many records it has.
-pub fn load(
-    alloc: Heap,
-    octets: Option<&[u8]>,
-    apex: Name,
-) -> Result<(Zone<Index>, usize), Fault>
+pub fn load(alloc: Heap, octets: Option<&[u8]>, apex: Name) -> Result<(Zone<Index>, usize), Fault>
     ensures found { IfOk result
         (λ z. (records : List Record)
         × (loaded (option_copied octets.entry) apex ≡ Ok records)

@@ -10,6 +10,7 @@ mod run;
 pub use configuration::{Configuration, ConfigurationError, ZoneSettings};
 pub use explain::{explain_check, explain_unreadable};
 pub use explain_settings::explain_replay;
-pub use files::{DONE, FAILED, Fault, File, Index, PrintedWord, REFUSED, USAGE};
-pub use files::{apex, check, load, tell};
+pub use files::{
+    DONE, FAILED, Fault, File, Index, PrintedWord, REFUSED, USAGE, apex, check, load, tell,
+};
 pub use run::replay;

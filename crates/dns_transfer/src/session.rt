@@ -126,17 +126,16 @@ fn serial_asked(question: &QuestionView<'_>, client: Option<u32>) -> Option<u32>
 }
 
 /// The same form over those changes alone that it sends, copied: none but in the incremental form.
-fn sent_alone(
-    alloc: Heap,
-    form: Form,
-    changes: &[Change],
-) -> Result<(Form, History), AllocError>
+fn sent_alone(alloc: Heap, form: Form, changes: &[Change]) -> Result<(Form, History), AllocError>
     ensures { IfOk result (λ r. stated_form r.1 r.0 ≡ stated_form changes.now form) }
 {
     match form {
         Form::Current => Ok((Form::Current, History::new(alloc))),
         Form::Incremental(first) => {
-            Ok((Form::Incremental(0), History::copied(alloc, changes, first)?))
+            Ok((
+                Form::Incremental(0),
+                History::copied(alloc, changes, first)?,
+            ))
         }
         Form::Full => Ok((Form::Full, History::new(alloc))),
     }
