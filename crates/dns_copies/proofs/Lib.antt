@@ -1,0 +1,6 @@
+pub mod Serials
+pub mod Chains
+pub mod Wholes
+pub mod Forms
+pub mod Prefixes
+pub mod Fed

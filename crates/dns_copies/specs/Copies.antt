@@ -1,0 +1,90 @@
+-- What one who holds a version, or nothing, makes of a transfer.
+use Rattle.std.specs.Prelude.{◌≡◌, ⊤, ℕ, ◌<◌, ◌^◌, Bool, List, [], ◌∷◌, ◌++◌, map, Option, Some, None}
+use Rattle.std.specs.List.{AllByRecursion}
+use Rattle.dns_names.specs.Name.{Labels}
+use Rattle.dns_records.specs.Record.{Record, IsRecord}
+use Rattle.dns_zone.specs.Zone.{Zone, soas}
+use Rattle.dns_changes.specs.Change.{Change}
+use Rattle.dns_changes.specs.Version.{serial_in}
+use Rattle.dns_wire.specs.Text.{EchoedQuestion}
+use Rattle.dns_wire.specs.Valid.{IsEchoed, item_of, question_of}
+use Rattle.dns_request.specs.declared.request.Transport.TheVariants.{Tcp}
+use Rattle.dns_transfer.specs.Form.{advances}
+use Rattle.dns_transfer.specs.Messages.{Heading, IsNext}
+use Rattle.dns_transfer.specs.Records.{transfer_of}
+use Rattle.dns_secondary.specs.Receiving.{Receiving}
+use Rattle.dns_secondary.specs.Request.{question_asked}
+use Rattle.dns_secondary.specs.Rest.{AreHeld}
+use Rattle.dns_secondary.specs.State.{Begun}
+use Rattle.dns_secondary.specs.Taken.{Taken}
+use Rattle.dns_secondary.specs.Told.{Feeds, RefusesFeed, holding}
+use Rattle.dns_secondary.specs.declared.fault.Fault.{Fault}
+use Rattle.dns_secondary.specs.declared.fault.Progress.TheVariants.{More, Done, UpToDate, RetryTcp}
+use Rattle.dns_copies.specs.Versions.{LeadTo, EndAlike}
+
+-- What is held where a transfer is asked for: nothing; or a version from which changes lead to the one that is shown, over which the
+-- serial goes less than 2^31. It may be older than the first whose changes are kept.
+abbrev pub IsFollowed : Labels → Option Zone → List Change → List Record → Type 0
+IsFollowed apex None kept shown = ⊤
+IsFollowed apex (Some z) kept shown =
+    (later : List Change) × LeadTo apex z.records later shown × (advances later < 2 ^ 31) × EndAlike later kept
+
+-- The serial of the version that is held.
+abbrev pub serial_held : Option Zone → Option ℕ
+serial_held None = None
+serial_held (Some z) = Some (serial_in (soas z.records))
+
+-- The records of the transfer.
+abbrev pub answer_for : Option Zone → List Change → List Record → List Record
+answer_for held kept shown = transfer_of shown kept (serial_held held)
+
+-- The answer to whoever holds nothing, or a version that is followed, means the version that is shown.
+abbrev pub TransferIsTaken : Type 0
+TransferIsTaken =
+    (apex : Labels) (held : Option Zone) (base : List Record) (kept : List Change) (shown : List Record)
+    → LeadTo apex base kept shown
+    → IsFollowed apex held kept shown
+    → AllByRecursion IsRecord (answer_for held kept shown)
+    → Taken apex held (map item_of (answer_for held kept shown)) shown
+
+abbrev pub AreMessages : Heading → Option EchoedQuestion → List Record → List (List ℕ) → Type 0
+AreMessages h question left [] = left ≡ []
+AreMessages h question left (message ∷ messages) =
+    (left ≡ [] → ⊥) × (rest : List Record) × IsNext h question left message rest × AreMessages h None rest messages
+
+-- The messages of that transfer by TCP: they have the number of the request, and the first its question.
+pub record AreAnswers (s : Receiving) (kept : List Change) (shown : List Record) (messages : List (List ℕ)) : Type 0 where
+  pub rd : Bool
+  pub question : EchoedQuestion
+  pub echoed : IsEchoed question
+  pub asked : question_of question ≡ question_asked s.apex s.held
+  pub number : s.id < 2 ^ 16
+  pub by_tcp : s.transport ≡ Tcp
+  pub each : AllByRecursion IsRecord (answer_for s.held kept shown)
+  pub are : AreMessages (record { id = s.id; rd = rd }) (Some question) (answer_for s.held kept shown) messages
+
+-- Messages are fed, of each of which it is told that more is to come.
+abbrev pub GoesOn : Receiving → List (List ℕ) → Receiving → Type 0
+GoesOn s [] now = now ≡ s
+GoesOn s (message ∷ rest) now = (next : Receiving) × Feeds s message More next × GoesOn next rest now
+
+-- The next message of a transfer of the version that is shown is not refused. More is to come only where a message is left; behind
+-- the last the version that is shown is held, anew or as before, and it is told behind no other.
+pub record Follows (s : Receiving) (message : List ℕ) (behind : List (List ℕ)) (shown : List Record) : Type 0 where
+  pub refused : (fault : Fault) → RefusesFeed s message fault → ⊥
+  pub more : (next : Receiving) → Feeds s message More next → behind ≡ [] → ⊥
+  pub done : (next : Receiving) → Feeds s message Done next → (behind ≡ []) × (next ≡ holding s shown)
+  pub current : (next : Receiving) → Feeds s message UpToDate next → (behind ≡ []) × AreHeld s.held shown
+  pub never_again : (next : Receiving) → Feeds s message RetryTcp next → ⊥
+
+-- Who asks for a transfer of a version, and is fed its messages in order, holds that version behind the last.
+abbrev pub TransferIsFollowed : Type 0
+TransferIsFollowed =
+    (s : Receiving) (base : List Record) (kept : List Change) (shown : List Record) (before : List (List ℕ)) (message : List ℕ)
+    (behind : List (List ℕ)) (now : Receiving)
+    → s.state ≡ Some Begun
+    → LeadTo s.apex base kept shown
+    → IsFollowed s.apex s.held kept shown
+    → AreAnswers s kept shown (before ++ message ∷ behind)
+    → GoesOn s before now
+    → Follows now message behind shown
