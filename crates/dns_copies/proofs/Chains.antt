@@ -1,14 +1,14 @@
 -- Changes that lead from one version to another.
-use Rattle.std.proofs.Common.{◌≡◌, ℕ, ◌+◌, ◌^◌, ◌<◌, ◌≤◌, ◌⊎◌, inl, inr, Bool, true, false, not, List, [], ◌∷◌, ◌++◌, Option, Some, None, refl, sym, ap, subst, ◌∙◌, arith}
-use Rattle.std.specs.Prelude.{◌==◌, ◌&&◌, nat_lt, if◌then◌else◌}
+use Rattle.std.proofs.Common.{◌≡◌, ℕ, ◌+◌, ◌^◌, ◌<◌, ◌⊎◌, inl, inr, true, false, List, [], ◌∷◌, ◌++◌, Some, None, refl, sym, ap, subst, ◌∙◌, arith}
+use Rattle.std.specs.Prelude.{◌==◌, ◌&&◌, if◌then◌else◌}
 use Rattle.std.proofs.lemmas.Bool.Decides.{nat_tests}
 use Rattle.dns_names.specs.Name.{Labels}
 use Rattle.dns_records.specs.Record.{Record, serial_of}
-use Rattle.dns_serial.specs.Serial.{advance, greater}
+use Rattle.dns_serial.specs.Serial.{advance}
 use Rattle.dns_zone.specs.Zone.{IsZone, soas}
 use Rattle.dns_zone.specs.Order.{both_true}
 use Rattle.dns_zone.specs.Sets.{true_or_false}
-use Rattle.dns_changes.specs.Change.{Change, is_formed}
+use Rattle.dns_changes.specs.Change.{Change}
 use Rattle.dns_changes.specs.Applied.{change_leads}
 use Rattle.dns_changes.proofs.Formed.{formed}
 use Rattle.dns_transfer.specs.Form.{advances, is_journalled, since}
@@ -161,9 +161,13 @@ leads apex from c (d ∷ rest) to b h less last =
     let reached : c.new_soa ≡ d.old_soa = one_soa next c.new_soa d.old_soa h.2.change.new_soa (first_soa apex next d rest to h.3) in
     let up : 0 < advances (d ∷ rest) = omega (arith, steps_up next h.3.1 d h.3.2) in
     let gone = went apex next (d ∷ rest) to c.new_soa b h.3 fewer h.2.change.new_soa last in
-    let other : (serial_of c.new_soa == serial_of b) ≡ false = other_number (serial_of c.new_soa) (serial_of b) (λ e. apart (serial_of c.new_soa) (advances (d ∷ rest)) (serial_of b) up fewer gone e) in
-    (refl, other, next, applies apex from next c h.0 (first_zone apex next (d ∷ rest) to h.3) h.2,
-    subst (λ (r : Record). Leads b r next (d ∷ rest) to) (sym reached) (leads apex next d rest to b h.3 fewer last))
+    let other : (serial_of c.new_soa == serial_of b) ≡ false = other_number (serial_of c.new_soa) (serial_of b) (λ e. apart (serial_of c.new_soa) (advances (d ∷ rest)) (serial_of b) up fewer gone e) in (
+      refl,
+      other,
+      next,
+      applies apex from next c h.0 (first_zone apex next (d ∷ rest) to h.3) h.2,
+      subst (λ (r : Record). Leads b r next (d ∷ rest) to) (sym reached) (leads apex next d rest to b h.3 fewer last),
+    )
   where
     apart : (s a last : ℕ) → 0 < a → a < 2 ^ 31 → (s + a ≡ last) ⊎ (s + a ≡ last + 2 ^ 32) → s ≡ last → ⊥
     apart s a last up less (inl e) f = omega arith

@@ -1,33 +1,31 @@
 -- The messages of a transfer, fed one after the other.
-use Rattle.std.proofs.Common.{◌≡◌, ℕ, ◌+◌, ◌^◌, ◌<◌, ◌≤◌, ◌⊎◌, inl, inr, Bool, true, false, not, ◌&&◌, List, [], ◌∷◌, ◌++◌, length, map, Option, Some, None, refl, sym, ap, subst, ◌∙◌, arith, append-nil, append_assoc}
+use Rattle.std.proofs.Common.{◌≡◌, ℕ, ◌+◌, ◌^◌, ◌<◌, ◌≤◌, inl, inr, Bool, true, false, not, ◌&&◌, List, [], ◌∷◌, ◌++◌, length, map, Option, Some, None, refl, sym, ap, subst, ◌∙◌, arith, append-nil, append_assoc}
 use Rattle.std.specs.Prelude.{◌↔◌, ◌==◌, IfSome, if◌then◌else◌}
 use Rattle.std.specs.List.{AllByRecursion}
-use Rattle.dns_names.specs.Name.{Labels, names_eq}
 use Rattle.dns_records.specs.Record.{Record, IsRecord}
 use Rattle.dns_zone.specs.Order.{names_itself, number_itself}
 use Rattle.dns_zone.specs.Zone.{Zone}
 use Rattle.dns_wire.specs.Message.{Message, Question, ResourceRecord, record_of_item}
 use Rattle.dns_wire.specs.Reads.{Reads}
-use Rattle.dns_wire.specs.Text.{EchoedQuestion, text}
+use Rattle.dns_wire.specs.Text.{EchoedQuestion}
 use Rattle.dns_wire.specs.Valid.{IsEchoed, IsReply, item_of, message_of_reply, question_of, questions_of}
 use Rattle.dns_wire.proofs.ReadsBack.{reads_back}
 use Rattle.dns_wire.proofs.TextPut.{text_long}
 use Rattle.dns_wire.proofs.Whole.{message_unique}
-use Rattle.dns_request.specs.declared.request.Transport.TheVariants.{Udp, Tcp}
-use Rattle.dns_transfer.specs.Messages.{Heading, IsNext, message_with, octets_with}
+use Rattle.dns_request.specs.declared.request.Transport.TheVariants.{Tcp}
+use Rattle.dns_transfer.specs.Messages.{Heading, IsNext, AreMessages, message_with, octets_with}
 use Rattle.dns_secondary.specs.Receiving.{Receiving, header_fault, is_answer, repeats_question, type_asked}
 use Rattle.dns_secondary.specs.Request.{question_asked}
 use Rattle.dns_secondary.specs.Rest.{Rest, AreHeld, is_current}
 use Rattle.dns_secondary.specs.State.{State, Begun, Led}
-use Rattle.dns_secondary.specs.Taken.{Taken}
-use Rattle.dns_secondary.specs.Told.{Feeds, RefusesFeed, RefusesFrom, Fails, Tells, Hears, IsAlone, holding}
+use Rattle.dns_secondary.specs.Told.{Feeds, RefusesFeed, RefusesFrom, Fails, Tells, holding}
 use Rattle.dns_secondary.specs.declared.fault.Fault.{Fault}
 use Rattle.dns_secondary.specs.declared.fault.Fault.TheVariants.{BadMessage, WrongId}
 use Rattle.dns_secondary.specs.declared.fault.Progress.{Progress}
 use Rattle.dns_secondary.specs.declared.fault.Progress.TheVariants.{More, Done, UpToDate, RetryTcp}
 use Rattle.dns_secondary.proofs.Forms.{taken_rest}
 use Rattle.dns_secondary.proofs.Runs.{rest_of}
-use Rattle.dns_copies.specs.Copies.{AreMessages, AreAnswers, GoesOn, Follows, TransferIsFollowed, answer_for}
+use Rattle.dns_copies.specs.Copies.{GoesOn, Follows, TransferIsFollowed, answer_for}
 use Rattle.dns_copies.proofs.Forms.{Means, IsNewer, all_fit, back_again, is_good}
 use Rattle.dns_copies.proofs.Prefixes.{only_current, rest_once}
 
@@ -242,9 +240,10 @@ module _ (s : Receiving) (h : Heading) (question : Option EchoedQuestion) (whole
               (let joins : map item_of (f.done ++ n.sent) ++ more ≡ map item_of f.done ++ (map item_of n.sent ++ more) =
               ap (λ (xs : List ResourceRecord). xs ++ more) (items_joined f.done n.sent) ∙ append_assoc (map item_of f.done) (map item_of n.sent) more in
               let first = f.reads (map item_of n.sent ++ more) set in
-              let second = told.2 more set in
-              (λ r. second.0 (first.0 (subst (λ (xs : List ResourceRecord). Rest s.apex s.held Begun xs set) joins r)),
-              λ r. subst (λ (xs : List ResourceRecord). Rest s.apex s.held Begun xs set) (sym joins) (first.1 (second.1 r))));
+              let second = told.2 more set in (
+                λ r. second.0 (first.0 (subst (λ (xs : List ResourceRecord). Rest s.apex s.held Begun xs set) joins r)),
+                λ r. subst (λ (xs : List ResourceRecord). Rest s.apex s.held Begun xs set) (sym joins) (first.1 (second.1 r)),
+              ));
         })
 
 go_on : (h : Heading) (whole shown : List Record) (before : List (List ℕ)) (message : List ℕ) (behind : List (List ℕ)) (s now : Receiving) (question : Option EchoedQuestion) (left : List Record)

@@ -1,7 +1,7 @@
 -- The answer to whoever holds nothing, or a version that is followed, means the version that is shown.
-use Rattle.std.proofs.Common.{◌≡◌, ◌≢◌, ℕ, ◌+◌, ◌^◌, ◌<◌, ◌⊎◌, inl, inr, Bool, true, false, not, ◌||◌, List, [], ◌∷◌, ◌++◌, map, Option, Some, None, refl, sym, ap, subst, ◌∙◌, arith}
+use Rattle.std.proofs.Common.{◌≡◌, ℕ, ◌+◌, ◌^◌, ◌<◌, ◌⊎◌, inl, inr, true, false, not, ◌||◌, List, [], ◌∷◌, ◌++◌, map, Option, Some, None, refl, sym, ap, subst, ◌∙◌, arith}
 use Rattle.std.specs.Prelude.{◌==◌, if◌then◌else◌}
-use Rattle.std.specs.List.{AllByRecursion, flat_map}
+use Rattle.std.specs.List.{AllByRecursion}
 use Rattle.dns_names.specs.Name.{Labels}
 use Rattle.dns_records.specs.Record.{Record, IsRecord, serial_of}
 use Rattle.dns_serial.specs.Serial.{greater}
@@ -10,16 +10,16 @@ use Rattle.dns_zone.specs.Zone.{Zone, IsZone, soas}
 use Rattle.dns_zone.proofs.OneSoa.{zone_soa}
 use Rattle.dns_changes.specs.Change.{Change}
 use Rattle.dns_changes.specs.Version.{serial_in}
-use Rattle.dns_wire.specs.Message.{ResourceRecord, record_of_item}
+use Rattle.dns_wire.specs.Message.{record_of_item}
 use Rattle.dns_wire.specs.Valid.{item_of}
-use Rattle.dns_transfer.specs.Form.{Form, Current, Incremental, Full, advances, since, form_since, form_of}
+use Rattle.dns_transfer.specs.Form.{Current, Incremental, Full, advances, since, form_since, form_of}
 use Rattle.dns_transfer.specs.Records.{answer_of, transfer_from, transfer_of, others, sequences}
 use Rattle.dns_transfer.proofs.Since.{same_number, other_number}
 use Rattle.dns_secondary.specs.Step.{IsFit}
 use Rattle.dns_secondary.specs.Rest.{is_current}
-use Rattle.dns_secondary.specs.Taken.{IsCurrent, IsWhole, IsChanged, Taken}
+use Rattle.dns_secondary.specs.Taken.{IsCurrent, IsWhole, IsChanged}
 use Rattle.dns_copies.specs.Versions.{LeadTo, EndAlike}
-use Rattle.dns_copies.specs.Copies.{IsFollowed, serial_held, answer_for, TransferIsTaken}
+use Rattle.dns_copies.specs.Copies.{IsFollowed, answer_for, TransferIsTaken}
 use Rattle.dns_copies.proofs.Serials.{not_itself, zone_small, greater_by, not_greater_by}
 use Rattle.dns_copies.proofs.Chains.{last_zone, first_zone, first_soa, steps_up, went, since_is, leads}
 use Rattle.dns_copies.proofs.Wholes.{soa_at, is_whole}

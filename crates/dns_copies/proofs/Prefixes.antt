@@ -8,7 +8,7 @@ use Rattle.dns_zone.specs.Zone.{Zone, soas}
 use Rattle.dns_changes.specs.Change.{is_soa}
 use Rattle.dns_wire.specs.Message.{ResourceRecord, record_of_item}
 use Rattle.dns_secondary.specs.State.{State, Begun, Led, Whole, Removing, Adding, Ended}
-use Rattle.dns_secondary.specs.Step.{step, begin, second, within_whole, last, collect, first_sequence, sequence_from, remove, removing, new_soa, add, adding}
+use Rattle.dns_secondary.specs.Step.{step, second, within_whole, last, collect, first_sequence, sequence_from, remove, new_soa, add}
 use Rattle.dns_secondary.specs.Rest.{Means, Rest, Reaches, AreHeld, is_current}
 use Rattle.dns_secondary.specs.declared.fault.Fault.{Fault}
 use Rattle.dns_secondary.specs.declared.fault.Fault.TheVariants.{BadSequence, RemovesAbsent, AddsPresent, InvalidZone}

@@ -1,6 +1,6 @@
 -- The full form gives the version.
-use Rattle.std.proofs.Common.{◌≡◌, ◌≢◌, Bool, true, false, not, ◌||◌, ◌⊎◌, inl, inr, List, [], ◌∷◌, ◌++◌, Option, Some, None, refl, sym, ap, subst, ◌∙◌}
-use Rattle.std.specs.Prelude.{◌&&◌, cond, filter, is_some}
+use Rattle.std.proofs.Common.{◌≡◌, ◌≢◌, Bool, true, false, not, ◌||◌, inl, inr, List, [], ◌∷◌, ◌++◌, Option, Some, None, refl, sym, ap, subst, ◌∙◌}
+use Rattle.std.specs.Prelude.{◌&&◌, cond, is_some}
 use Rattle.dns_names.specs.Name.{Labels, names_eq}
 use Rattle.dns_records.specs.Record.{Record, record_cmp}
 use Rattle.dns_zone.specs.Order.{same_itself, names_itself}
@@ -8,7 +8,7 @@ use Rattle.dns_zone.specs.Records.{has, put, contains}
 use Rattle.dns_zone.specs.Sets.{ties, found, Sorted, sorted_from, true_or_false, same_sets, sorted_put, sorted_filter, only, found_filter, or_else, found_put, found_contains, found_tied, contains_found, not_found, below_tied, equal_is}
 use Rattle.dns_zone.specs.Soa.{HasSoa}
 use Rattle.dns_zone.specs.Zone.{IsZone, soas}
-use Rattle.dns_zone.proofs.OneSoa.{is_one, zone_soa}
+use Rattle.dns_zone.proofs.OneSoa.{is_one}
 use Rattle.dns_changes.specs.Applied.{one_is, one_in, soa_tied, not_true}
 use Rattle.dns_changes.specs.Change.{is_soa}
 use Rattle.dns_changes.proofs.Steps.{has_is}

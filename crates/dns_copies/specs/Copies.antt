@@ -10,7 +10,7 @@ use Rattle.dns_wire.specs.Text.{EchoedQuestion}
 use Rattle.dns_wire.specs.Valid.{IsEchoed, item_of, question_of}
 use Rattle.dns_request.specs.declared.request.Transport.TheVariants.{Tcp}
 use Rattle.dns_transfer.specs.Form.{advances}
-use Rattle.dns_transfer.specs.Messages.{Heading, IsNext}
+use Rattle.dns_transfer.specs.Messages.{AreMessages}
 use Rattle.dns_transfer.specs.Records.{transfer_of}
 use Rattle.dns_secondary.specs.Receiving.{Receiving}
 use Rattle.dns_secondary.specs.Request.{question_asked}
@@ -46,11 +46,6 @@ TransferIsTaken =
     → IsFollowed apex held kept shown
     → AllByRecursion IsRecord (answer_for held kept shown)
     → Taken apex held (map item_of (answer_for held kept shown)) shown
-
-abbrev pub AreMessages : Heading → Option EchoedQuestion → List Record → List (List ℕ) → Type 0
-AreMessages h question left [] = left ≡ []
-AreMessages h question left (message ∷ messages) =
-    (left ≡ [] → ⊥) × (rest : List Record) × IsNext h question left message rest × AreMessages h None rest messages
 
 -- The messages of that transfer by TCP: they have the number of the request, and the first its question.
 pub record AreAnswers (s : Receiving) (kept : List Change) (shown : List Record) (messages : List (List ℕ)) : Type 0 where
