@@ -1,5 +1,5 @@
 mod Lists
-mod Since
+pub mod Since
 mod Sequences
 mod Shared
 mod Soa
