@@ -1,6 +1,6 @@
 -- Records taken out of a set and put into it name by name.
 use Rattle.std.proofs.Common.{◌≡◌, ℕ, zero, suc, ◌+◌, ◌<◌, ◌≤◌, length, length-drop, get_or, take, drop, arith, Bool, true, false, not, ◌&&◌, ◌||◌, inl, inr, List, [], ◌∷◌, ◌++◌, Option, Some, None, refl, sym, ap, subst, ◌∙◌, cond, append_assoc}
-use Rattle.std.specs.Prelude.{filter, slice_set}
+use Rattle.std.specs.Prelude.{slice_set}
 use Rattle.std.specs.List.{list_any, list_all, AllWithin}
 use Rattle.std.specs.Ordering.{ordering_reverse}
 use Rattle.std.specs.FinMap.Entries.{by_order}
@@ -16,7 +16,7 @@ use Rattle.dns_zone.specs.Sets.{Sorted, Below, true_or_false, sorted_from, sorte
 use Rattle.dns_zone.proofs.Alone.{of_all}
 use Rattle.dns_zone.proofs.Listed.{ordered_from, put_ordered, without_ordered}
 use Rattle.dns_zone.proofs.Parted.{AllOf, put_behind, has_parted}
-use Rattle.dns_zone.proofs.Replaced.{at_ordered, at_pass, still_pass, replaced_kept, all_from, AllAt}
+use Rattle.dns_zone.proofs.Replaced.{at_pass, still_pass, replaced_kept, all_from, AllAt}
 use Rattle.dns_zone.proofs.Searching.{told_nat}
 use Rattle.dns_changes.specs.Group.{IsGroup}
 use Rattle.dns_changes.specs.Change.{removed_from, are_present, are_new}

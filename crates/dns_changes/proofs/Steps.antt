@@ -1,20 +1,18 @@
 -- Records taken out of a set and put into it one behind another.
-use Rattle.std.proofs.Common.{◌≡◌, ℕ, zero, suc, ◌+◌, ◌<◌, ◌≤◌, length, drop, get_or, arith, Bool, true, false, not, ◌&&◌, ◌||◌, inl, inr, List, [], ◌∷◌, Option, Some, None, Ok, Err, refl, sym, ap, subst, ◌∙◌}
-use Rattle.std.proofs.lemmas.List.{drop_all}
+use Rattle.std.proofs.Common.{◌≡◌, ℕ, zero, suc, ◌+◌, ◌<◌, length, drop, get_or, arith, Bool, true, false, not, ◌&&◌, ◌||◌, inl, inr, List, [], ◌∷◌, Option, Some, None, Ok, Err, refl, sym, ap, subst, ◌∙◌}
 use Rattle.std.specs.Prelude.{cond, filter, ◌==◌, is_some, is_ok, Result, IfOk, IfErr, if◌then◌else◌}
 use Rattle.std.specs.List.{list_any, list_all}
 use Rattle.std.specs.Ordering.{is_eq}
 use Rattle.std.specs.Cmp.{both_ways, tied_itself}
 use Rattle.dns_records.specs.Record.{Record, record_cmp}
-use Rattle.dns_names.specs.Name.{Labels, names_eq}
+use Rattle.dns_names.specs.Name.{names_eq}
 use Rattle.dns_records.specs.Compare.{same_record, same_record-Decides, same_record-equiv}
-use Rattle.dns_zone.specs.Records.{is_ordered, has, put, without, united, same, alike, contains, records_at, rrset}
+use Rattle.dns_zone.specs.Records.{is_ordered, has, put, without, united, same, alike, contains, rrset}
 use Rattle.dns_zone.specs.Place.{StandsAt, BelongsAt}
 use Rattle.dns_zone.specs.Zone.{has_twice}
 use Rattle.dns_zone.specs.Order.{record_total, both_true, same_is, same_itself, names_itself, number_itself, tied_key}
 use Rattle.dns_zone.specs.Twice.{alike_is, alike_flips, any_by}
 use Rattle.dns_zone.specs.Sets.{ties, found, Sorted, true_or_false, sorted_from, equal_is, found_tied, same_sets, sorted_filter, only, found_filter, or_else, found_put, found_united, sorted_put, sorted_united, found_contains, contains_found, filter_contains, contains_filter}
-use Rattle.dns_zone.proofs.Listed.{ordered_from}
 use Rattle.dns_changes.specs.Change.{Change, change_fault, removed_from, are_present, are_new}
 use Rattle.dns_changes.specs.declared.ChangeError.TheVariants.{WrongSoa, RemovesAbsent, AddsPresent}
 

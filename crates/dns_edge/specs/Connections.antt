@@ -20,7 +20,8 @@ module _ {S : Type 0} where
 
   -- A reply was queued on the connection with that number: this one stood there, if there is such a place and a connection in it,
   -- and nothing else is another than it was.
-  abbrev pub IsPushedTo : ℕ → List ℕ → Option (Option (Connection S)) → List (Option (Connection S)) → List (Option (Connection S)) → Type 0
+  abbrev pub IsPushedTo : ℕ → List ℕ → Option (Option (Connection S)) → List (Option (Connection S))
+      → List (Option (Connection S)) → Type 0
   IsPushedTo number reply None old new = new ≡ old
   IsPushedTo number reply (Some None) old new = new ≡ old
   IsPushedTo number reply (Some (Some c)) old new = (d : Connection S) × IsQueued reply c d × (new ≡ slice_set old number (Some d))

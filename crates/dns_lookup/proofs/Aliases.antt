@@ -8,7 +8,7 @@ use Rattle.dns_names.specs.Name.{Labels, names_eq}
 use Rattle.dns_records.specs.Record.{Record}
 use Rattle.dns_zone.specs.Records.{rrset}
 use Rattle.dns_zone.specs.Zone.{Zone}
-use Rattle.dns_lookup.specs.Lookup.{Outcome, Referral, Alias, Answers, NoData, NameError, cut, node, at_node, asked, outcome, next_name, alias_at}
+use Rattle.dns_lookup.specs.Lookup.{Outcome, Alias, outcome, next_name, alias_at}
 use Rattle.dns_lookup.specs.Lookup as lookup
 use Rattle.dns_lookup.specs.Represented.{names_searched}
 use Rattle.dns_lookup.specs.declared.chain.Found.{Found}

@@ -1,25 +1,16 @@
 -- The words of the data of each type, by its parts.
-use Rattle.std.proofs.Common.{◌≡◌, ℕ, zero, suc, ◌^◌, ◌<◌, true, List, [], ◌∷◌, ◌++◌, length, take, drop, decimal, refl, ap, ◌∙◌, arith, length-append, append_assoc}
-use Rattle.std.specs.Int.{w16, w32, to_be_bytes}
+use Rattle.std.proofs.Common.{◌≡◌, ℕ, zero, suc, ◌^◌, ◌<◌, List, [], ◌∷◌, ◌++◌, length, take, drop, decimal, refl, ap, ◌∙◌, arith, length-append, append_assoc}
+use Rattle.std.specs.Int.{w32, to_be_bytes}
 use Rattle.std.specs.List.{AllByRecursion}
 use Rattle.std.proofs.lemmas.List.{take_at, drop_at, take_all}
 use Rattle.dns_names.specs.Name.{Labels, IsName, IsLabel, wire, labels_of, labels_within}
-use Rattle.dns_names.specs.PlainLaws.{labels_of-wire, fewer_labels}
+use Rattle.dns_names.specs.PlainLaws.{fewer_labels}
 use Rattle.dns_names.specs.Text.{printed_name}
 use Rattle.dns_records.specs.Record.{number_of}
-use Rattle.dns_records.specs.Typed.{a_data, aaaa_data, mx_data, srv_data, soa_data, soa_numbers}
-use Rattle.dns_records.specs.declared.typed.Mx.{Mx}
-use Rattle.dns_records.specs.declared.typed.Srv.{Srv}
+use Rattle.dns_records.specs.Typed.{aaaa_data, soa_data, soa_numbers}
 use Rattle.dns_records.specs.declared.typed.Soa.{Soa}
 use Rattle.dns_records.specs.Types.{Field, Name, Values, U32}
-use Rattle.dns_records.specs.Laws.{name_form}
-use Rattle.dns_records.specs.Typed.{is_name_type, name_of}
-use Rattle.dns_records.specs.Record.{Data}
-use Rattle.dns_records.specs.TextStrings.{txt_data}
-use Rattle.dns_records.proofs.StringParts.{strings_of-flat}
-use Rattle.std.specs.Prelude.{map, Some, None, Bool, false, if◌then◌else◌}
-use Rattle.std.specs.Net.Text.{ipv4_text}
-use Rattle.dns_masterfile.specs.Text.{printed_string, printed_ipv6}
+use Rattle.dns_masterfile.specs.Text.{printed_ipv6}
 use Rattle.dns_masterfile.specs.Printed.{spaced, data_words, printed_data}
 
 pub number_4 : (n : ℕ) → n < 2 ^ 32 → number_of (to_be_bytes w32 n) ≡ n

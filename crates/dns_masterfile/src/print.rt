@@ -63,8 +63,8 @@ impl fmt::Display for MxWords<'_> {
 struct SrvWords<'a>(&'a Srv<'a>);
 
 impl fmt::Display for SrvWords<'_> {
-    ghost output = { λ s. Some (spaced (decimal s.0.now.priority ∷ decimal s.0.now.weight ∷ decimal s.0.now.port ∷ printed_name s.0.now.target
-        ∷ [])) };
+    ghost output = { λ s. Some (spaced (decimal s.0.now.priority ∷ decimal s.0.now.weight ∷ decimal s.0.now.port
+        ∷ printed_name s.0.now.target ∷ [])) };
 
     fn fmt<W: fmt::Write>(&self, f: &mut fmt::Formatter<W>) -> fmt::Result {
         let srv = self.0;

@@ -1,5 +1,5 @@
 -- A text that is refused is no prefix.
-use Rattle.std.proofs.Common.{◌≡◌, ℕ, List, subst}
+use Rattle.std.proofs.Common.{ℕ, List, subst}
 use Rattle.std.specs.declared.net.ip_addr.IpAddr.{IpAddr}
 use Rattle.dns_policy.specs.declared.PrefixError.{PrefixError}
 use Rattle.dns_policy.specs.declared.PrefixError.TheVariants.{BadPrefix, BadLength}

@@ -1,6 +1,6 @@
 -- Laws of data made of its parts.
 use Rattle.std.proofs.Common.{◌≡◌, ℕ, ◌<◌, ◌≤◌, zero, suc, Bool, true, false, List, [], ◌∷◌, ◌++◌, length, refl, sym, ap, subst, ◌∙◌, arith, append-nil, length-append, append_assoc, Option, cond}
-use Rattle.std.specs.Prelude.{◌==◌, ◌||◌, Some, None, IfSome, is_some}
+use Rattle.std.specs.Prelude.{◌==◌, ◌||◌, Some, IfSome, is_some}
 use Rattle.std.specs.List.{AllByRecursion}
 use Rattle.std.specs.Int.{Width, w16, w32, to_be_bytes, bytes_high_first, byte_at, byte_len}
 use borrow.Author.Tests.{eqb-true}

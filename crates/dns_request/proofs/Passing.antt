@@ -1,5 +1,5 @@
 -- Octets that pass the tests before they are read.
-use Rattle.std.proofs.Common.{◌≡◌, ℕ, Bool, true, false, ◌||◌, List, refl, sym, ap, ◌∙◌, arith}
+use Rattle.std.proofs.Common.{◌≡◌, ℕ, Bool, true, false, ◌||◌, refl, sym, ap, arith}
 use Rattle.std.specs.Prelude.{◌≢◌, ◌==◌, not, Option, Some, None, IfSome, IfNone, is_some, if◌then◌else◌}
 use Rattle.std.proofs.lemmas.Bool.Decides.{nat_tests}
 use Rattle.dns_wire.specs.Message.{Message}

@@ -29,7 +29,8 @@ pub record IsCurrent (apex : Labels) (held : Option Zone) (answer set : List Rec
 abbrev pub Collects : List Record → List Record → List Record → Type 0
 Collects set [] whole = whole ≡ set
 Collects set (r ∷ rest) whole =
-    ((has r set ≡ false) × Collects (put r set) rest whole) ⊎ ((contains set r ≡ true) × (has r set ≡ true) × Collects set rest whole)
+    ((has r set ≡ false) × Collects (put r set) rest whole)
+    ⊎ ((contains set r ≡ true) × (has r set ≡ true) × Collects set rest whole)
 
 -- A SOA, records that are none, and the same SOA: the set of them all (RFC 5936 2.2).
 pub record IsWhole (apex : Labels) (answer set : List Record) : Type 0 where

@@ -98,7 +98,8 @@ verdict s (Adding soa set reached) = More
 -- What that makes of the receiver.
 abbrev pub Concludes : Receiving → State → Progress → Receiving → Type 0
 Concludes s at More new = new ≡ record s { state = Some at }
-Concludes s at Done new = (set : List Record) × (at ≡ Ended set) × IsZone (record { apex = s.apex; records = set }) × (new ≡ holding s set)
+Concludes s at Done new =
+    (set : List Record) × (at ≡ Ended set) × IsZone (record { apex = s.apex; records = set }) × (new ≡ holding s set)
 Concludes s at UpToDate new = new ≡ over s
 Concludes s at RetryTcp new = new ≡ over s
 

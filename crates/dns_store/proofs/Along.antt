@@ -5,12 +5,11 @@ use Rattle.std.proofs.lemmas.List.{append-nil, take-append-le, drop-append-le, l
 use Rattle.dns_records.specs.Record.{Record}
 use Rattle.dns_changes.specs.Change.{Change, IsChange}
 use Rattle.dns_journal.specs.Bank.{sectors_for}
-use Rattle.dns_store.specs.Versions.{Versions, Kept, newest_after, newest_of, version_at, staged_with, moved_to}
+use Rattle.dns_store.specs.Versions.{Versions, Kept, newest_after, newest_of, version_at, moved_to}
 use Rattle.dns_store.specs.Room.{entries_along, sectors_left}
 use Rattle.dns_store.specs.Staged.{entries_length}
 use Rattle.dns_store.specs.Recovered.{AreLed}
 use Rattle.dns_store.specs.Checkpoint.{newest_sectors, IsMostKept, IsKeptNumber, entries_of}
-use Rattle.dns_store.proofs.Keeping.{drop_end}
 use Rattle.dns_store.proofs.Leaves.{newest_split}
 use Rattle.dns_store.proofs.Places.{along_drop}
 use Rattle.dns_store.proofs.Moving.{led_count, newest_on}

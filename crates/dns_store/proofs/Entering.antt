@@ -9,7 +9,7 @@ use Rattle.dns_layout.specs.Store.{Stored, OpensBy, OpensAs, IsTidy}
 use Rattle.dns_layout.specs.declared.root.Root.{Root}
 use Rattle.dns_journal.specs.Reads.{OnlyReads}
 use Rattle.dns_store.specs.Versions.{Shape, Opened}
-use Rattle.dns_store.specs.Opens.{IsPartOf, opens, sizes_of}
+use Rattle.dns_store.specs.Opens.{IsPartOf, sizes_of}
 use Rattle.dns_store.specs.Opening.{OpensAsPossible}
 use Rattle.dns_store.specs.Turn.{StaysStored}
 use Rattle.dns_store.proofs.Opening.{stands_first}

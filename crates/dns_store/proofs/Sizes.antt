@@ -1,13 +1,12 @@
 -- The sizes of entries that a store in memory keeps, behind a checkpoint.
-use Rattle.std.proofs.Common.{◌≡◌, ⊎_elim, ℕ, ◌+◌, ◌-◌, ◌≤◌, ◌<◌, sum_by, List, [], ◌++◌, length, drop, refl, sym, ◌∙◌, ap, subst, arith, drop-drop}
+use Rattle.std.proofs.Common.{◌≡◌, ⊎_elim, ℕ, ◌+◌, ◌-◌, ◌≤◌, ◌<◌, sum_by, List, [], ◌++◌, length, drop, ◌∙◌, ap, arith, drop-drop}
 use Rattle.std.proofs.lemmas.Bool.{cases_lt}
 use Rattle.std.proofs.lemmas.List.{append-nil, length-drop}
 use Rattle.dns_store.specs.Versions.{Versions, Kept, moved_to}
 use Rattle.dns_store.specs.Room.{entries_along, sectors_left}
 use Rattle.dns_store.specs.Staged.{entries_length}
-use Rattle.dns_store.specs.Checkpoint.{IsMostKept, IsKeptNumber, entries_of, newest_sectors}
+use Rattle.dns_store.specs.Checkpoint.{IsKeptNumber, entries_of, newest_sectors}
 use Rattle.dns_store.proofs.Keeping.{drop_end}
-use Rattle.dns_store.proofs.Lent.{most_one}
 
 -- A checkpoint leaves the room that it is made for.
 pub room_left : (k : Kept) (keep room n : ℕ) → k.staged ≡ [] → room ≤ k.shape.journal → IsKeptNumber k keep room n → room ≤ sectors_left (moved_to (length k.shown - n) k)

@@ -1,5 +1,5 @@
 -- What a checkpoint makes of a store: a later base, and the newest changes alone.
-use Rattle.std.specs.Prelude.{◌≡◌, ◌≤◌, ◌-◌, ℕ, true, List, [], ◌∷◌, length, take, drop, sum_by}
+use Rattle.std.specs.Prelude.{◌≡◌, ◌≤◌, ◌-◌, ℕ, List, [], ◌∷◌, length, drop, sum_by}
 use Rattle.std.specs.List.{flat_map}
 use Rattle.dns_records.specs.Record.{Record, plain}
 use Rattle.dns_names.specs.Name.{Labels}

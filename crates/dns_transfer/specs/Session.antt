@@ -39,7 +39,8 @@ pub record Version : Type 0 where
   pub changes : List Change
 
 -- The answer to the request, from that version, is still to be sent.
-pub record IsOpened (transport : Transport) (octets : List ℕ) (m : Message) (q : Question) (version : Version) (s : Sending) : Type 0 where
+pub record IsOpened (transport : Transport) (octets : List ℕ) (m : Message) (q : Question) (version : Version) (s : Sending)
+    : Type 0 where
   pub by : s.transport ≡ transport
   pub heading : s.heading ≡ record { id = m.header.id; rd = m.header.rd }
   pub question : s.question ≡ Some (echo_of octets q)

@@ -21,4 +21,5 @@ module _ {S : Type 0} where
   -- so does each of these replies, one after the other
   abbrev pub AreSent : List (To × List ℕ) → List (Option (Connection S)) → List (Option (Connection S)) → Type 0
   AreSent [] old new = new ≡ old
-  AreSent (one ∷ rest) old new = (between : List (Option (Connection S))) × IsSent one.0 one.1 old between × AreSent rest between new
+  AreSent (one ∷ rest) old new =
+      (between : List (Option (Connection S))) × IsSent one.0 one.1 old between × AreSent rest between new

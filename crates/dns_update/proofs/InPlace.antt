@@ -1,5 +1,5 @@
 -- What a name owns, taken out of a set, changed and put back.
-use Rattle.std.proofs.Common.{◌≡◌, Bool, true, false, cond, not, ◌&&◌, inl, inr, List, [], ◌∷◌, refl, sym, ap, subst, ◌∙◌}
+use Rattle.std.proofs.Common.{◌≡◌, Bool, true, false, cond, not, ◌&&◌, inl, inr, List, [], ◌∷◌, refl, ap, ◌∙◌}
 use Rattle.std.specs.Prelude.{filter}
 use Rattle.std.specs.Ordering.{is_eq}
 use Rattle.dns_names.specs.Name.{Labels, names_eq}

@@ -1,14 +1,11 @@
 -- Tests of items and records.
 use Rattle.std.proofs.Common.{◌≡◌, ℕ, zero, suc, ◌+◌, ◌<◌, true, false, ◌&&◌, List, [], ◌∷◌, Option, Some, None, length, drop, get_or, refl, subst, sym, ap, ◌∙◌, arith}
 use Rattle.std.specs.Prelude.{is_some, ◌==◌}
-use Rattle.std.specs.List.{AllByRecursion, list_any, find}
-use Rattle.std.specs.Ordering.{is_eq}
+use Rattle.std.specs.List.{AllByRecursion, find}
 use Rattle.dns_names.specs.Name.{names_eq}
-use Rattle.dns_records.specs.Record.{Record, record_cmp}
-use Rattle.dns_zone.specs.Records.{alike, has, rrset}
+use Rattle.dns_records.specs.Record.{Record}
+use Rattle.dns_zone.specs.Records.{alike, rrset}
 use Rattle.dns_zone.specs.Order.{both_true, names_same, names_itself, number_itself}
-use Rattle.dns_zone.specs.Twice.{alike_is, any_by}
-use Rattle.dns_changes.proofs.Steps.{tied_here}
 use Rattle.dns_wire.specs.Message.{ResourceRecord}
 use Rattle.dns_update.specs.ResourceRecord.{HasForm, first_fault, otherwise}
 use Rattle.dns_wire.specs.declared.codes.Rcode.{Rcode}

@@ -1,10 +1,10 @@
 -- A message while its answer is filled, and its text.
-use Rattle.std.proofs.Common.{◌≡◌, ℕ, ◌+◌, ◌*◌, ◌<◌, ◌≤◌, List, [], ◌∷◌, ◌++◌, length, take, drop, refl, sym, ap, subst, ◌∙◌, arith, append_assoc}
+use Rattle.std.proofs.Common.{◌≡◌, ℕ, ◌+◌, ◌≤◌, List, [], ◌∷◌, ◌++◌, length, drop, refl, sym, ap, ◌∙◌, arith, append_assoc}
 use Rattle.std.proofs.lemmas.List.{length-append, append-nil, drop_at}
-use Rattle.dns_records.specs.Record.{Record, IsRecord}
+use Rattle.dns_records.specs.Record.{Record}
 use Rattle.dns_wire.specs.Compress.{Place, Compressing, compressed_record}
 use Rattle.dns_wire.specs.Text.{Reply, header_octets, question_octets, question_places, text}
-use Rattle.dns_wire.specs.Puts.{RefusesUpTo, asked, compressed_all}
+use Rattle.dns_wire.specs.Puts.{asked, compressed_all}
 use Rattle.dns_wire.specs.Building.{Building, with_record, compressed_answer, IsBuilt, StandsBuilt, HasNoRecord}
 use Rattle.dns_wire.proofs.TextPut.{all_append, text_is, text_long, asked_octets, asked_places, first_all, second_all, third_all}
 

@@ -5,7 +5,7 @@ use Rattle.dns_names.specs.Name.{Labels, wire, labels_of}
 use Rattle.dns_records.specs.Types.{Field, Value, Values, octet_count, Name}
 use Rattle.dns_records.specs.Record.{AreFields}
 use Rattle.dns_wire.specs.Compress.{Place, Compressing, compressed_name, compressed_fields}
-use Rattle.dns_wire.specs.Puts.{RefusesUpTo, BeginsWithName}
+use Rattle.dns_wire.specs.Puts.{RefusesUpTo}
 use Rattle.dns_wire.specs.declared.WriteError.{WriteError}
 use Rattle.dns_wire.proofs.Puts.{Leaves, leaves_next, refuses_part}
 use Rattle.dns_wire.proofs.Fronts.{labels_of_front}

@@ -1,14 +1,12 @@
 -- An index of a table of places grows with the table.
 use Rattle.std.proofs.Common.{min, ◌≡◌, ◌+◌, ◌≤◌, ◌<◌, ℕ, Bool, not, true, false, List, [], ◌∷◌, ◌++◌, length, take, drop, Option, Some, None, IfSome, refl, sym, ap, subst, ◌∙◌, arith, Bor, if◌then◌else◌}
 use Rattle.std.specs.Prelude.{nat_lt}
-use Rattle.std.specs.List.{find}
 use Rattle.std.specs.Option.{option_map, option_or, option_copied, is_some}
 use Rattle.std.specs.Ordering.{nat_cmp}
 use Rattle.std.specs.Cmp.Lexicographic.{slice_cmp}
-use Rattle.std.specs.Map.{update}
 use Rattle.std.specs.Str.{bytes_eq}
 use Rattle.std.specs.BTreeMap.{BTreeMap, UpdatesBy}
-use Rattle.std.proofs.lemmas.List.{take-append-drop, take_min, drop-append-le}
+use Rattle.std.proofs.lemmas.List.{take-append-drop, take_min}
 use Rattle.std.proofs.lemmas.List.Folds.{find-append}
 use Rattle.std.proofs.lemmas.Map.Text.{btree_map_updates_str}
 use Rattle.dns_names.specs.Name.{Labels, labels_of, names_eq}

@@ -1,15 +1,13 @@
 -- A plain form, read as a name.
-use Rattle.std.proofs.Common.{◌≡◌, ℕ, ◌<◌, ◌≤◌, List, [], ◌∷◌, ◌++◌, length, map, take, drop, refl, sym, ap, ◌∙◌, arith}
+use Rattle.std.proofs.Common.{◌≡◌, ℕ, ◌<◌, ◌≤◌, List, [], ◌∷◌, ◌++◌, length, map, refl, sym, ap, ◌∙◌, arith}
 use Rattle.std.specs.Char.{to_ascii_lowercase}
 use Rattle.std.specs.List.{AllByRecursion}
-use Rattle.std.proofs.lemmas.List.{map-append, take_all}
+use Rattle.std.proofs.lemmas.List.{map-append}
 use Rattle.dns_names.specs.Name.{Labels, IsLabel, IsName, wire}
 use Rattle.dns_names.specs.Lower.{lower_low}
-use Rattle.dns_names.specs.PlainLaws.{wire_stands, wire_once}
-use Rattle.dns_names.specs.Runs.{run_unique}
+use Rattle.dns_names.specs.PlainLaws.{wire_once}
 use Rattle.std.specs.Prelude.{Bool, IsTrue}
 use Rattle.std.specs.Str.{bytes_eq}
-use Rattle.dns_wire.specs.NameLaws.{zero_ends}
 use Rattle.dns_wire.proofs.Places.{bytes_same, bytes_self}
 
 -- a name is in lower case

@@ -1,17 +1,15 @@
 -- The header and the question of what came are those of a valid reply.
-use Rattle.std.proofs.Common.{◌≡◌, ℕ, zero, suc, ◌+◌, ◌-◌, ◌<◌, ◌≤◌, List, [], ◌∷◌, ◌++◌, length, map, take, drop, get_or, refl, sym, ap, subst, ◌∙◌, arith}
-use Rattle.std.specs.Prelude.{◌^◌, ◌/◌, ◌%◌, slice_range}
+use Rattle.std.proofs.Common.{◌≡◌, ℕ, zero, suc, ◌+◌, ◌-◌, ◌<◌, ◌≤◌, List, [], ◌∷◌, length, map, take, drop, ap, subst, ◌∙◌, arith}
+use Rattle.std.specs.Prelude.{◌^◌, slice_range}
 use Rattle.std.specs.List.{AllByRecursion}
 use Rattle.std.specs.Char.{to_ascii_lowercase}
 use Rattle.std.proofs.lemmas.List.{take-take, length-take-le, length-drop}
-use Rattle.dns_names.specs.Name.{Labels, IsName, wire}
+use Rattle.dns_names.specs.Name.{Labels, wire}
 use Rattle.dns_names.specs.Lower.{AreOctets, octets_behind}
 use Rattle.dns_names.specs.PlainLaws.{wire_read}
-use Rattle.dns_records.specs.Record.{number_of}
 use Rattle.dns_wire.specs.NameAt.{NameAt, ends, points}
-use Rattle.dns_wire.specs.Message.{Question, Message, Header, header_of}
-use Rattle.dns_wire.specs.Reads.{Reads, QuestionAt, QuestionsAt}
-use Rattle.dns_wire.specs.Text.{EchoedQuestion}
+use Rattle.dns_wire.specs.Message.{Question, Message, header_of}
+use Rattle.dns_wire.specs.Reads.{Reads, QuestionsAt}
 use Rattle.dns_wire.specs.Valid.{IsEchoed}
 use Rattle.dns_wire.proofs.Shown.{first_name}
 

@@ -1,5 +1,5 @@
 -- Records, written one behind the other.
-use Rattle.std.proofs.Common.{◌≡◌, ℕ, suc, ◌+◌, ◌-◌, ◌<◌, ◌≤◌, List, [], ◌∷◌, ◌++◌, length, take, drop, get_or, refl, sym, ap, subst, ◌∙◌, arith, append_assoc}
+use Rattle.std.proofs.Common.{◌≡◌, ℕ, suc, ◌+◌, ◌-◌, ◌<◌, ◌≤◌, List, [], ◌∷◌, ◌++◌, length, take, drop, get_or, refl, sym, ap, ◌∙◌, arith, append_assoc}
 use Rattle.std.specs.Int.{w16, w32, to_be_bytes}
 use Rattle.std.proofs.Math.Seq.{drop-cons}
 use Rattle.std.proofs.lemmas.List.{length-append, length-take, length-drop, take_at, drop_at}
@@ -8,7 +8,7 @@ use Rattle.dns_records.specs.Record.{Record}
 use Rattle.dns_wire.specs.Compress.{Place, Compressing, compressed_name, compressed_rdata, compressed_record}
 use Rattle.dns_wire.specs.Puts.{RefusesUpTo, fixed_octets, compressed_all}
 use Rattle.dns_wire.specs.declared.WriteError.{WriteError}
-use Rattle.dns_wire.proofs.Puts.{Leaves, leaves_next, refuses_part}
+use Rattle.dns_wire.proofs.Puts.{Leaves, refuses_part}
 
 -- these records are still to be written
 abbrev pub RecordsLeft : List ℕ → Compressing → List ℕ → List Place → List Record → Type 0

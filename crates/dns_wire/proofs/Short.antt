@@ -1,9 +1,9 @@
 -- Compressed, names and records are no longer than in plain form.
-use Rattle.std.proofs.Common.{◌≡◌, ℕ, suc, ◌+◌, ◌<◌, ◌≤◌, ◌⊎◌, inl, inr, List, [], ◌∷◌, ◌++◌, length, take, drop, Option, Some, None, refl, sym, ap, subst, ◌∙◌, arith}
+use Rattle.std.proofs.Common.{◌≡◌, ℕ, ◌+◌, ◌<◌, ◌≤◌, List, [], ◌∷◌, ◌++◌, length, take, drop, Option, Some, None, refl, sym, ap, subst, ◌∙◌, arith}
 use Rattle.std.specs.Prelude.{IfSome}
 use Rattle.std.specs.List.{AllByRecursion}
 use Rattle.std.proofs.lemmas.List.{length-append, length-take-le, length-drop, drop_at}
-use Rattle.dns_names.specs.Name.{Labels, IsLabel, IsName, wire, labels_of}
+use Rattle.dns_names.specs.Name.{Labels, IsLabel, wire, labels_of}
 use Rattle.dns_records.specs.Types.{Field, Values, octet_count, Name, UncompressedName, Strings, form}
 use Rattle.dns_records.specs.Record.{Record, IsRecord, AreFields}
 use Rattle.dns_wire.specs.Compress.{Place, Compressing, place_of, pointer, compress_name, compressed_name, compressed_fields, compressed_rdata, compressed_record}

@@ -72,7 +72,8 @@ pub trait ZoneIndex: Drop {
     fn take_at(&mut self, name: &NameRef<'_>) -> Result<Vec<Record, Heap>, AllocError>
         ensures taken { IfOk result (λ taken. taken.items ≡ records_at (records self.old) name.now) }
         ensures left { OnOk result (records self.new ≡ others (records self.old) name.now) }
-        ensures err { OnErr result ((records self.new ≡ records self.old) ⊎ (records self.new ≡ others (records self.old) name.now)) };
+        ensures err { OnErr result
+            ((records self.new ≡ records self.old) ⊎ (records self.new ≡ others (records self.old) name.now)) };
 
     /// How many records there are.
     fn len(&self) -> usize

@@ -155,7 +155,8 @@ fn leave_alone<I: ZoneIndex>(
     name: &NameRef<'_>,
     rtype: u16,
 ) -> Result<(), AllocError>
-    ensures { OnOk result (I.records index.new ≡ united (others (I.records index.old) name.now) (rrset (I.records index.old) name.now rtype)) }
+    ensures { OnOk result
+        (I.records index.new ≡ united (others (I.records index.old) name.now) (rrset (I.records index.old) name.now rtype)) }
 {
     let kept = index.rrset(name, rtype).to_vec(alloc)?;
     index.replace_at(name, kept)

@@ -1,4 +1,4 @@
-use Rattle.std.proofs.Common.{◌≡◌, ℕ, ◌+◌, ◌<◌, ◌≤◌, true, List, sym, ap, ◌∙◌, arith}
+use Rattle.std.proofs.Common.{◌≡◌, ℕ, ◌+◌, ◌<◌, ◌≤◌, true, sym, ◌∙◌, arith}
 use Rattle.dns_names.specs.Name.{names_eq}
 use Rattle.dns_zone.specs.Order.{names_itself}
 use Rattle.dns_changes.proofs.Groups.{owned_more}

@@ -1,4 +1,4 @@
-use Rattle.std.proofs.Common.{◌≡◌, suc, ◌+◌, true, subst, sym, ap, ◌∙◌, arith}
+use Rattle.std.proofs.Common.{◌≡◌, suc, ◌+◌, true, subst, ◌∙◌, arith}
 use Rattle.std.specs.List.{AllWithin}
 use Rattle.dns_names.specs.Name.{Labels, names_eq}
 use Rattle.dns_changes.proofs.Groups.{group_is}

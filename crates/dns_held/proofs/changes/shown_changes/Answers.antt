@@ -1,4 +1,4 @@
-use Rattle.std.proofs.Common.{◌≡◌, ◌-◌, ℕ, List, length, take, drop, sym, ap, subst, ◌∙◌, arith}
+use Rattle.std.proofs.Common.{◌≡◌, ◌-◌, List, length, take, drop, sym, ap, subst, arith}
 use Rattle.dns_changes.specs.Change.{Change}
 use Rattle.dns_store.specs.Versions.{version_at}
 use Rattle.dns_store.specs.Recovered.{AreLed}

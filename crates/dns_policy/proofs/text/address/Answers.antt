@@ -1,4 +1,4 @@
-use Rattle.std.proofs.Common.{◌≡◌, ℕ, List, Some, sym, ap, rules}
+use Rattle.std.proofs.Common.{Some, sym, ap, rules}
 use Rattle.dns_policy.proofs.Addresses.{address_unique, ipv4_read, ipv4_unread, ipv6_read, ipv6_unread}
 use Rattle.std.specs.declared.net.ip_addr.IpAddr.{IpAddr as StatedIp}
 use Rattle.std.specs.declared.net.ip_addr.IpAddr.TheVariants.{V4, V6}

@@ -1,8 +1,8 @@
-use Rattle.std.proofs.Common.{◌≡◌, ◌≤◌, ℕ, Bool, true, false, ◌||◌, List, length, refl, sym, ap, subst, ◌∙◌, arith, rules}
-use Rattle.std.specs.Prelude.{◌==◌, not, nat_lt, Option, Some, None, IsOk}
+use Rattle.std.proofs.Common.{◌≡◌, ◌≤◌, ℕ, true, false, ◌||◌, length, sym, ap, subst, ◌∙◌, arith, rules}
+use Rattle.std.specs.Prelude.{◌==◌, not, nat_lt, Some, None, IsOk}
 use borrow.Author.Tests.{le-ltb}
 use Rattle.dns_names.specs.Lower.{AreOctets}
-use Rattle.dns_wire.specs.Message.{Message, header_of}
+use Rattle.dns_wire.specs.Message.{header_of}
 use Rattle.dns_wire.specs.Reading.{message_of}
 use Rattle.dns_request.specs.Request.{read_as, too_long}
 use Rattle.dns_request.proofs.Passing.{is_read, kind_not_served, kind_served, none_read, not_served}

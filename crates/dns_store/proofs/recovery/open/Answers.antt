@@ -1,5 +1,5 @@
 use Rattle.std.proofs.Common.{sym, ◌∙◌, ap, subst}
-use Rattle.dns_sectors.specs.Device.{Content, Only, LeavesOnly}
+use Rattle.dns_sectors.specs.Device.{Only, LeavesOnly}
 use Rattle.dns_layout.specs.Sector.{sector_at}
 use Rattle.dns_layout.specs.Journal.{place_behind}
 use Rattle.dns_layout.specs.Store.{journal_place, bank_end, version_of}

@@ -1,7 +1,7 @@
 use Rattle.std.proofs.Common.{◌≡◌, true, None, List, sym, ap, subst, ◌∙◌}
 use Rattle.std.specs.List.{find}
 use Rattle.dns_records.specs.Record.{Record}
-use Rattle.dns_zone.specs.Records.{are_of, is_ordered, others, records_at, united}
+use Rattle.dns_zone.specs.Records.{are_of, is_ordered, others, united}
 use Rattle.dns_update.specs.Effect.{deleted_set}
 use Rattle.dns_update.proofs.Found.{is_deleted, deleted_here, deleted_at, kept_ordered, kept_owned, none_copied, done_at}
 use Rattle.dns_update.proofs.Gone.{none_goes}

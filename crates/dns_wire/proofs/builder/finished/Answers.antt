@@ -1,5 +1,4 @@
-use Rattle.std.proofs.Common.{◌≡◌, ◌<◌, ◌≤◌, ◌+◌, ◌++◌, length, take, drop, sym, ap, subst, ◌∙◌, arith, ℕ, List}
-use Rattle.dns_wire.specs.Text.{header_octets, text}
+use Rattle.std.proofs.Common.{◌<◌, ◌+◌, ◌++◌, length, drop, ap, ◌∙◌, arith, ℕ, List}
 use Rattle.dns_wire.specs.Reply.{stated}
 use Rattle.dns_wire.proofs.Built.{built_text, built_few}
 use Rattle.dns_wire.proofs.builder.finished.Goals as goal

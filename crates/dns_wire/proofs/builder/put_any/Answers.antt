@@ -1,4 +1,4 @@
-use Rattle.std.proofs.Common.{◌<◌, ◌≤◌, ◌+◌, length, sym, subst, arith, ℕ}
+use Rattle.std.proofs.Common.{◌<◌, ◌≤◌, ◌+◌, length, subst, arith}
 use Rattle.dns_wire.specs.Compress.{compressed_record}
 use Rattle.dns_wire.specs.Puts.{RefusesUpTo}
 use Rattle.dns_wire.proofs.Short.{record_short}

@@ -1,8 +1,5 @@
-use Rattle.std.proofs.Common.{◌≡◌, ◌<◌, ◌≤◌, List, [], ◌∷◌, ◌++◌, IfOk, IfSome, ℕ, ◌+◌, length, Some, None, take, drop, refl, sym, ap, subst, ◌∙◌, arith, Bor}
-use Rattle.dns_names.specs.Name.{Labels, labels_of, names_eq}
-use Rattle.dns_names.specs.Plain.{IsPlain}
-use Rattle.dns_wire.specs.Compress.{Place}
-use Rattle.dns_wire.specs.Indexed.{IsIndexed, offset_at, index_at}
+use Rattle.std.proofs.Common.{◌≡◌, Some, None, sym, ◌∙◌}
+use Rattle.dns_wire.specs.Indexed.{index_at}
 use Rattle.dns_wire.proofs.Indexed.{indexed_more, indexed_still, nothing_there, something_there}
 use Rattle.dns_wire.proofs.known.keep_least.Goals as goal
 

@@ -1,4 +1,4 @@
-use Rattle.std.proofs.Common.{◌≡◌, ◌-◌, ℕ, List, ◌++◌, length, drop, sum_by, sym, ◌∙◌, ap, subst, arith}
+use Rattle.std.proofs.Common.{◌≡◌, ◌-◌, List, ◌++◌, length, drop, sum_by, sym, ◌∙◌, ap, subst, arith}
 use Rattle.dns_changes.specs.Change.{Change}
 use Rattle.dns_journal.specs.Bank.{sectors_for}
 use Rattle.dns_store.specs.Versions.{version_at, moved_to}

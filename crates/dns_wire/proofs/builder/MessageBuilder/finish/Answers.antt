@@ -1,4 +1,4 @@
-use Rattle.std.proofs.Common.{◌≡◌, ◌≤◌, length, sym, ap, subst, ◌∙◌, arith, ℕ, List}
+use Rattle.std.proofs.Common.{◌≤◌, length, ap, subst, arith, ℕ}
 use Rattle.dns_wire.specs.Building.{Building}
 use Rattle.dns_wire.specs.Reply.{stated}
 use Rattle.dns_wire.proofs.Built.{built_size}

@@ -1,4 +1,4 @@
-use Rattle.std.proofs.Common.{◌≡◌, ◌<◌, ◌≤◌, length, sym, ap, subst, ◌∙◌, arith, ℕ, List}
+use Rattle.std.proofs.Common.{◌<◌, ◌≤◌, length, sym, ap, subst, ◌∙◌, arith, List}
 use Rattle.dns_records.specs.Record.{Record}
 use Rattle.dns_wire.specs.Building.{Building, StandsBuilt, with_record}
 use Rattle.dns_wire.specs.Pushed.{IsPushed}

@@ -1,8 +1,7 @@
-use Rattle.std.proofs.Common.{min, ◌≡◌, ◌<◌, ◌≤◌, List, [], ◌∷◌, ◌++◌, IfOk, IfSome, ℕ, ◌+◌, length, Some, None, take, drop, refl, sym, ap, subst, ◌∙◌, arith, Bor}
-use Rattle.dns_names.specs.Name.{Labels, labels_of, names_eq}
-use Rattle.dns_names.specs.Plain.{IsPlain}
+use Rattle.std.proofs.Common.{min, ◌≡◌, List, ℕ, length, take, sym, ap, ◌∙◌}
+use Rattle.dns_names.specs.Name.{labels_of}
 use Rattle.dns_wire.specs.Compress.{Place}
-use Rattle.dns_wire.specs.Indexed.{IsIndexed, offset_at, index_at}
+use Rattle.dns_wire.specs.Indexed.{offset_at}
 use Rattle.dns_wire.proofs.Indexed.{found_first, found_later}
 use Rattle.dns_wire.proofs.known.Places.offset_of.Goals as goal
 use Rattle.dns_wire.proofs.known.Places.offset_of.Goals.{After-place_of}

@@ -1,9 +1,8 @@
-use Rattle.std.proofs.Common.{◌≡◌, ◌<◌, ◌≤◌, List, [], ◌∷◌, ◌++◌, IfOk, IfSome, ℕ, ◌+◌, length, Some, None, take, drop, refl, sym, ap, subst, ◌∙◌, arith, Bor}
-use Rattle.dns_names.specs.Name.{Labels, labels_of, names_eq}
-use Rattle.dns_names.specs.Plain.{IsPlain}
+use Rattle.std.proofs.Common.{◌≡◌, ◌<◌, ◌≤◌, List, [], ◌∷◌, ◌++◌, ◌+◌, length, drop, sym, ap, subst, ◌∙◌, arith}
+use Rattle.dns_names.specs.Name.{labels_of}
 use Rattle.dns_wire.specs.Compress.{Place}
-use Rattle.dns_wire.specs.Indexed.{IsIndexed, offset_at, index_at}
-use Rattle.std.proofs.lemmas.List.{drop-append-le, drop_all, length-append}
+use Rattle.dns_wire.specs.Indexed.{IsIndexed}
+use Rattle.std.proofs.lemmas.List.{drop-append-le, drop_all}
 use Rattle.dns_wire.proofs.known.Places.push.Goals as goal
 
 pub invariant_of-self-then-len-lt-LOOKED_THROUGH : goal.invariant_of-self-then-len-lt-LOOKED_THROUGH

@@ -1,6 +1,6 @@
 use Rattle.std.proofs.Common.{◌≡◌, true, List, subst, reverse}
 use Rattle.std.specs.List.{AllByRecursion}
-use Rattle.dns_records.specs.Record.{Record, IsRecord}
+use Rattle.dns_records.specs.Record.{IsRecord}
 use Rattle.dns_zone.specs.Records.{is_ordered, others, united}
 use Rattle.dns_zoneindex.specs.Entries.{Entry}
 use Rattle.dns_zoneindex.specs.Owned.{records_of, are_owned}
