@@ -23,10 +23,12 @@ use Rattle.dns_secondary.specs.declared.fault.Fault.{Fault}
 use Rattle.dns_secondary.specs.declared.fault.Fault.TheVariants.{BadMessage, WrongId}
 use Rattle.dns_secondary.specs.declared.fault.Progress.{Progress}
 use Rattle.dns_secondary.specs.declared.fault.Progress.TheVariants.{More, Done, UpToDate, RetryTcp}
+use Rattle.dns_secondary.proofs.Asked.{asked, is_echoed, question_is, type_small}
 use Rattle.dns_secondary.proofs.Forms.{taken_rest}
 use Rattle.dns_secondary.proofs.Runs.{rest_of}
 use Rattle.dns_copies.specs.Copies.{GoesOn, Follows, TransferIsFollowed, answer_for}
 use Rattle.dns_copies.proofs.Forms.{Means, IsNewer, all_fit, back_again, is_good}
+use Rattle.dns_copies.proofs.Sessions.{opened_for, as_messages}
 use Rattle.dns_copies.proofs.Prefixes.{only_current, rest_once}
 
 all_front : (xs ys : List Record) → AllByRecursion IsRecord (xs ++ ys) → AllByRecursion IsRecord xs × AllByRecursion IsRecord ys
@@ -255,21 +257,23 @@ go_on h whole shown (first ∷ before) message behind s now question left f m on
 
 pub transfer_is_followed : TransferIsFollowed
 transfer_is_followed s base kept shown before message behind now begun leads followed answers on =
+    let sending = answers.sending in
     let whole = answer_for s.held kept shown in
     let good = is_good s.apex s.held base kept shown leads followed in
-    let h : Heading = record { id = s.id; rd = answers.rd } in
-    go_on h whole shown before message behind s now (Some answers.question) whole (record {
+    let opened = opened_for s.apex s.held s.id kept shown sending answers.named followed answers.opened in
+    let h : Heading = record { id = s.id; rd = false } in
+    go_on h whole shown before message behind s now (Some (asked (question_asked s.apex s.held))) whole (record {
       by_tcp = answers.by_tcp;
       number = refl;
       small = answers.number;
-      echoed = answers.echoed;
-      asks = answers.asked;
+      echoed = is_echoed (question_asked s.apex s.held) answers.named;
+      asks = question_is (question_asked s.apex s.held) (type_small s.held) (omega arith);
       means = good.means;
       newer = good.newer;
-      each = answers.each;
+      each = subst (AllByRecursion IsRecord) opened.left answers.each;
       done = [];
       parts = refl;
       at = Begun;
       is = begun;
       reads = λ more set. (λ r. r, λ r. r);
-    }) answers.are on
+    }) (as_messages s.apex s.held s.id kept shown sending opened (before ++ message ∷ behind) answers.all) on

@@ -85,8 +85,11 @@ all_kept test (x ∷ xs) h =
       | false ↦ all_kept test xs h.1
     ]
 
+pub kept_soa : (xs : List Record) (a : Record) → soas xs ≡ a ∷ [] → AllByRecursion IsRecord xs → IsRecord a
+kept_soa xs a one all = (subst (AllByRecursion IsRecord) one (all_kept _ xs all)).0
+
 soa_small : (xs : List Record) (a : Record) → soas xs ≡ a ∷ [] → AllByRecursion IsRecord xs → serial_of a < 2 ^ 32
-soa_small xs a one all = serial_small a (subst (AllByRecursion IsRecord) one (all_kept _ xs all)).0
+soa_small xs a one all = serial_small a (kept_soa xs a one all)
 
 -- the serial of a version has 32 bits
 pub zone_small : (apex : Labels) (xs : List Record) (a : Record) → IsZone (record { apex = apex; records = xs }) → soas xs ≡ a ∷ [] → serial_of a < 2 ^ 32

@@ -1,19 +1,18 @@
 -- What one who holds a version, or nothing, makes of a transfer.
 use Rattle.std.specs.Prelude.{◌≡◌, ⊤, ℕ, ◌<◌, ◌^◌, Bool, List, [], ◌∷◌, ◌++◌, map, Option, Some, None}
 use Rattle.std.specs.List.{AllByRecursion}
-use Rattle.dns_names.specs.Name.{Labels}
+use Rattle.dns_names.specs.Name.{Labels, IsName}
 use Rattle.dns_records.specs.Record.{Record, IsRecord}
 use Rattle.dns_zone.specs.Zone.{Zone, soas}
 use Rattle.dns_changes.specs.Change.{Change}
 use Rattle.dns_changes.specs.Version.{serial_in}
-use Rattle.dns_wire.specs.Text.{EchoedQuestion}
-use Rattle.dns_wire.specs.Valid.{IsEchoed, item_of, question_of}
+use Rattle.dns_wire.specs.Valid.{item_of}
 use Rattle.dns_request.specs.declared.request.Transport.TheVariants.{Tcp}
 use Rattle.dns_transfer.specs.Form.{advances}
-use Rattle.dns_transfer.specs.Messages.{AreMessages}
 use Rattle.dns_transfer.specs.Records.{transfer_of}
+use Rattle.dns_transfer.specs.Session.{Sending, Sends, IsOpened}
 use Rattle.dns_secondary.specs.Receiving.{Receiving}
-use Rattle.dns_secondary.specs.Request.{question_asked}
+use Rattle.dns_secondary.specs.Request.{question_asked, request_message, request_octets}
 use Rattle.dns_secondary.specs.Rest.{AreHeld}
 use Rattle.dns_secondary.specs.State.{Begun}
 use Rattle.dns_secondary.specs.Taken.{Taken}
@@ -47,16 +46,21 @@ TransferIsTaken =
     → AllByRecursion IsRecord (answer_for held kept shown)
     → Taken apex held (map item_of (answer_for held kept shown)) shown
 
--- The messages of that transfer by TCP: they have the number of the request, and the first its question.
+-- A session sends all that is left of it, one message after the other.
+abbrev pub SendsAll : Sending → List (List ℕ) → Type 0
+SendsAll s [] = s.left ≡ []
+SendsAll s (message ∷ messages) = (s.left ≡ [] → ⊥) × (next : Sending) × Sends s message next × SendsAll next messages
+
+-- The messages of the session that is opened for the request of one who asks by TCP, for the version that is shown.
 pub record AreAnswers (s : Receiving) (kept : List Change) (shown : List Record) (messages : List (List ℕ)) : Type 0 where
-  pub rd : Bool
-  pub question : EchoedQuestion
-  pub echoed : IsEchoed question
-  pub asked : question_of question ≡ question_asked s.apex s.held
+  pub named : IsName s.apex
   pub number : s.id < 2 ^ 16
   pub by_tcp : s.transport ≡ Tcp
-  pub each : AllByRecursion IsRecord (answer_for s.held kept shown)
-  pub are : AreMessages (record { id = s.id; rd = rd }) (Some question) (answer_for s.held kept shown) messages
+  pub sending : Sending
+  pub opened : IsOpened Tcp (request_octets s.apex s.held s.id) (request_message s.apex s.held s.id) (question_asked s.apex s.held)
+      (record { zone = record { apex = s.apex; records = shown }; changes = kept }) sending
+  pub each : AllByRecursion IsRecord sending.left
+  pub all : SendsAll sending messages
 
 -- Messages are fed, of each of which it is told that more is to come.
 abbrev pub GoesOn : Receiving → List (List ℕ) → Receiving → Type 0

@@ -23,19 +23,19 @@ use Rattle.dns_secondary.specs.Receiving.{type_asked}
 use Rattle.dns_secondary.specs.Request.{asked_octets, as_reply, octets_with, query_with}
 use Rattle.dns_secondary.proofs.Carried.{reads_on}
 
-abbrev asked : Question → EchoedQuestion
+abbrev pub asked : Question → EchoedQuestion
 asked q = record { octets = asked_octets q; name = q.name }
 
-abbrev four : Question → List ℕ
+abbrev pub four : Question → List ℕ
 four q = to_be_bytes w16 q.qtype ++ to_be_bytes w16 q.qclass
 
 four_octets : (q : Question) → AllByRecursion (λ octet. octet < 256) (four q)
 four_octets q = (omega arith, (omega arith, (omega arith, (omega arith, tt))))
 
-octets_are : (q : Question) → asked_octets q ≡ wire q.name ++ four q
+pub octets_are : (q : Question) → asked_octets q ≡ wire q.name ++ four q
 octets_are q = append_assoc (wire q.name) (to_be_bytes w16 q.qtype) (to_be_bytes w16 q.qclass)
 
-is_echoed : (q : Question) → IsName q.name → IsEchoed (asked q)
+pub is_echoed : (q : Question) → IsName q.name → IsEchoed (asked q)
 is_echoed q valid = subst (λ (octets : List ℕ). IsEchoed (record { octets = octets; name = q.name })) (sym (octets_are q)) (record {
   valid = valid;
   size = length-append (wire q.name) (four q);
@@ -53,7 +53,7 @@ behind name rest from to =
     let parts : drop (length name + from) (name ++ rest) ≡ drop from rest = drop_behind name rest from in
     ap (λ (k : ℕ). take k (drop (length name + from) (name ++ rest))) less ∙ ap (take (to - from)) parts
 
-question_is : (q : Question) → q.qtype < 2 ^ 16 → q.qclass < 2 ^ 16 → question_of (asked q) ≡ q
+pub question_is : (q : Question) → q.qtype < 2 ^ 16 → q.qclass < 2 ^ 16 → question_of (asked q) ≡ q
 question_is q h k =
     let n = length (wire q.name) in
     let zero_is : n ≡ n + 0 = omega arith in
