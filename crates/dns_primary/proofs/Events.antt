@@ -1,5 +1,5 @@
 -- Requests that are served, as events of the machine.
-use Rattle.std.proofs.Common.{◌≡◌, inl, inr, ⊎_elim, ℕ, Bool, true, List, [], ◌++◌, Option, Some, None, refl, sym, ap, subst, ◌∙◌}
+use Rattle.std.proofs.Common.{◌≡◌, inl, inr, ⊎_elim, ℕ, Bool, List, [], ◌++◌, Option, Some, None, refl, sym, ap, subst, ◌∙◌}
 use Rattle.std.specs.Prelude.{is_some, ◌&&◌, ◌||◌, ◌==◌}
 use Rattle.dns_request.specs.Request.{opcode_update}
 use Rattle.dns_request.specs.declared.request.Transport.TheVariants.{Udp, Tcp}

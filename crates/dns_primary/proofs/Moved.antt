@@ -14,7 +14,7 @@ use Rattle.dns_held.specs.declared.behind.Behind.{Behind}
 use Rattle.dns_held.specs.Each.{Each3}
 use Rattle.dns_held.specs.Held.{HasVersions}
 use Rattle.dns_held.specs.Flush as held
-use Rattle.dns_held.specs.Flush.{FailedWhere, HasFailed, first_true}
+use Rattle.dns_held.specs.Flush.{first_true}
 use Rattle.dns_held.specs.Checkpoint.{IsNextBase}
 use Rattle.dns_primary.specs.declared.event.Noted.{Noted}
 use Rattle.dns_primary.specs.declared.event.Noted.TheVariants.{OutOfMemory}

@@ -1,11 +1,8 @@
 -- What is judged ends as the versions of its zone say, and its reply waits.
 use Rattle.std.proofs.Common.{◌≡◌, ℕ, Bool, true, false, not, List, [], ◌∷◌, ◌++◌, map, refl, sym, ap, subst, ◌∙◌}
-use Rattle.std.specs.Prelude.{Some, None, Option, slice_get, slice_set, slice_index_or, nat_le, ◌==◌, IsTrue, ◌↔◌, if◌then◌else◌}
-use Rattle.std.specs.declared.net.ip_addr.IpAddr.{IpAddr}
+use Rattle.std.specs.Prelude.{Some, slice_get, slice_set, slice_index_or, nat_le, IsTrue, ◌↔◌, if◌then◌else◌}
 use Rattle.std.proofs.lemmas.List.{map-append}
 use Rattle.dns_records.specs.Record.{Record}
-use Rattle.dns_records.specs.Types.{type_soa, class_in}
-use Rattle.dns_request.specs.Request.{rcode_formerr, rcode_refused}
 use Rattle.dns_wire.specs.Message.{header_of}
 use Rattle.dns_wire.specs.Codes.{number_of_rcode}
 use Rattle.dns_wire.specs.declared.codes.Rcode.{Rcode}
@@ -25,7 +22,7 @@ use Rattle.dns_primary.specs.declared.update.Outcome.{Outcome}
 use Rattle.dns_primary.specs.declared.update.Outcome.TheVariants as outcome
 use Rattle.dns_primary.specs.Machine.{Setting, Made, ZoneState, Machine, kept_of, updates_of, versions_of}
 use Rattle.dns_primary.specs.Flush.{Sent, rcode_servfail}
-use Rattle.dns_primary.specs.Update.{Asked, Admission, Rejects, Admits, admission, admission_at, admission_in, place_of, rcode_notauth, waits, stages, replies, with_staged, judged_in}
+use Rattle.dns_primary.specs.Update.{Asked, waits, stages, replies, with_staged, judged_in}
 use Rattle.dns_primary.specs.Outcome.{Ends, end_of}
 use Rattle.dns_primary.specs.Keeps.{IsSet, IsWaiting}
 use Rattle.dns_primary.specs.Queue.{Holds}

@@ -80,9 +80,11 @@ OpensAsEvent opens None z c = OpensAsLeft opens (kept_of z) c
 OpensAsEvent opens (Some room) z c = OpensAsCheckpointed opens z.setting.keep room (kept_of z) c
 
 -- A crash at any moment between the two leaves each device so that it opens as that.
-abbrev pub AtAnyMomentOf : {I S : Type 0} → store.Ghosts S → Option (ℕ × ℕ) → Machine → List (Behind I S) → List (Behind I S) → Type 0
+abbrev pub AtAnyMomentOf : {I S : Type 0}
+    → store.Ghosts S → Option (ℕ × ℕ) → Machine → List (Behind I S) → List (Behind I S) → Type 0
 AtAnyMomentOf s moved m olds news =
-    Each3 (λ a b k. LeavesOnly s.moment s.left_since a.store b.store (OpensAsEvent s.opens k.0 k.1)) olds news (with_rooms moved m.zones)
+    Each3 (λ a b k. LeavesOnly s.moment s.left_since a.store b.store (OpensAsEvent s.opens k.0 k.1)) olds news
+    (with_rooms moved m.zones)
 
 -- Devices failed in a flush, or behind it, where the primary kept what the flush had left, that of one zone in the move of its base.
 pub record HaveFailedInTurn {I S : Type 0} {i : index.Ghosts I} {s : store.Ghosts S} (m : Machine) (fails : List Bool)

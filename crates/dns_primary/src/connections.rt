@@ -1,5 +1,5 @@
 //! Connections that come and go.
-ghost use Rattle.std.specs.Prelude.{◌≡◌, ◌≢◌, ◌⊎◌, map};
+ghost use Rattle.std.specs.Prelude.{◌≡◌, ◌≢◌, map};
 ghost use Rattle.dns_primary.specs.declared.event.Waiting.{Waiting as Stated};
 ghost use Rattle.dns_primary.specs.declared.event.Noted.TheVariants.{OutOfMemory as StatedLack};
 ghost use Rattle.dns_primary.specs.Machine.{Machine};

@@ -9,7 +9,7 @@ ghost use Rattle.dns_primary.specs.Steps.{SteppedBy};
 ghost use Rattle.dns_primary.specs.HandOut.{AreSetAs};
 ghost use Rattle.dns_primary.specs.Stop.{IsStopped};
 ghost use Rattle.dns_primary.specs.Keeps.{IsKept};
-ghost use Rattle.dns_primary.specs.Open.{AreHandedBack, AreOpened, AreRecoverable, AreRefused, IsNotOpened, IsOpened};
+ghost use Rattle.dns_primary.specs.Open.{AreOpened, AreRecoverable, AreRefused, IsNotOpened, IsOpened};
 ghost use Rattle.dns_primary.specs.Open.{IsRecoveryStopped, LeaveRecovered, device_behind};
 
 use crate::{Primary, ZoneSettings};

@@ -1,5 +1,5 @@
 //! Requests: what is done with octets that came, by either transport.
-ghost use Rattle.std.specs.Prelude.{◌≡◌, ◌≢◌, ◌<◌, List, true, false, None, IfOk, length, option_map};
+ghost use Rattle.std.specs.Prelude.{◌≡◌, ◌≢◌, ◌<◌, true, false, None, IfOk, length, option_map};
 ghost use Rattle.dns_wire.specs.Message.{header_of};
 ghost use Rattle.dns_answer.specs.Answer.{handled};
 ghost use Rattle.dns_held.specs.Each.{Each2};

@@ -70,7 +70,8 @@ pub(crate) fn judge_newest<I: ZoneIndex, S: ZoneStore>(
     message: &Message<'_>,
 ) -> Result<Judgement<I>, AllocError>
     ensures judged { (k : Kept) → HasVersions S.keeps zone.now behind.now k
-        → IfOk result (IsVerdictOf I.records (verdict (newest_zone k) message.now.message.answers message.now.message.authorities)) }
+        → IfOk result
+        (IsVerdictOf I.records (verdict (newest_zone k) message.now.message.answers message.now.message.authorities)) }
     ensures lacks { (k : Kept) → HasVersions S.keeps zone.now behind.now k
         → IfOk result (λ j. lacked_of j
         ≡ lacked_by k (verdict (newest_zone k) message.now.message.answers message.now.message.authorities)) }

@@ -8,8 +8,9 @@ use Rattle.dns_names.specs.Name.{Labels}
 use Rattle.dns_names.specs.Text.{name_of_text}
 use Rattle.dns_records.specs.Types.{type_soa}
 use Rattle.dns_records.specs.Record.{Record, serial_of}
-use Rattle.dns_server.specs.declared.files.Fault.{Fault}
-use Rattle.dns_server.specs.Checks.{CheckEnds, is_memory, line, loaded, ok_text, fault_text}
+use Rattle.dns_configuration.specs.declared.files.Fault.{Fault}
+use Rattle.dns_configuration.specs.Faults.{is_memory, line, loaded, fault_text}
+use Rattle.dns_server.specs.Checks.{CheckEnds, ok_text}
 
 -- A file that holds a zone.
 pub good : (octets : Option (List ℕ)) (path origin : List ℕ) (out out_after err : Option (List ℕ)) (apex : Labels) (records : List Record) (soa : Record) (count serial : ℕ) → name_of_text [] origin ≡ Ok apex → loaded octets apex ≡ Ok records → Contains records soa → soa.rtype ≡ type_soa → count ≡ length records → serial ≡ serial_of soa → Appends out out_after (line (ok_text count serial)) → CheckEnds octets path origin out out_after err err 0

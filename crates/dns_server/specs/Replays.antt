@@ -1,69 +1,25 @@
 -- How a run of a script over the zones of a configuration ends.
-use Rattle.std.specs.Prelude.{◌≡◌, ⊤, ◌⊎◌, ◌↔◌, IsTrue, ℕ, ◌≤◌, false, List, [], ◌∷◌, map, Option, Some, None, Result, Ok, Err, bytes_eq, if◌then◌else◌}
+use Rattle.std.specs.Prelude.{◌≡◌, ◌⊎◌, ◌↔◌, IsTrue, ℕ, ◌≤◌, false, List, [], Option, Some, None, Ok, Err}
 use Rattle.std.specs.List.{AllZip}
 use Rattle.std.specs.declared.net.ip_addr.IpAddr.{IpAddr}
 use Rattle.std.specs.Option.{option_copied}
-use Rattle.std.specs.String.{string_bytes}
 use Rattle.std.specs.Io.KnownBytes.{Appends, Keeps}
-use Rattle.dns_records.specs.Record.{Record}
-use Rattle.dns_zone.specs.Made.{IsSetOf}
 use Rattle.dns_zone.specs.Zone.{Zone}
 use Rattle.dns_names.specs.Name.{Labels}
 use Rattle.dns_policy.specs.Prefix.{IsAllowed}
 use Rattle.dns_held.specs.Each.{Each3}
-use Rattle.dns_primary.specs.declared.primary.ZoneSettings as primary
 use Rattle.dns_primary.specs.Machine.{Machine, ZoneState}
-use Rattle.dns_server.specs.declared.configuration.ZoneSettings.{ZoneSettings}
-use Rattle.dns_server.specs.declared.configuration.Configuration.{Configuration}
-use Rattle.dns_server.specs.declared.files.File.{File}
-use Rattle.dns_server.specs.declared.files.Fault.{Fault}
-use Rattle.dns_server.specs.declared.files.Fault.TheVariants.{OutOfMemory, Unreadable, BadConfig, Syntax}
+use Rattle.dns_configuration.specs.declared.configuration.ZoneSettings.{ZoneSettings}
+use Rattle.dns_configuration.specs.declared.configuration.Configuration.{Configuration}
+use Rattle.dns_configuration.specs.declared.files.File.{File}
+use Rattle.dns_configuration.specs.declared.files.Fault.{Fault}
+use Rattle.dns_configuration.specs.declared.files.Fault.TheVariants.{Unreadable, Syntax}
 use Rattle.dns_replay.specs.declared.run.Ending.TheVariants as ending
-use Rattle.dns_server.specs.Checks.{line, loaded, fault_text}
+use Rattle.dns_configuration.specs.Faults.{line, fault_text}
+use Rattle.dns_configuration.specs.Files.{Holds, IsFirstFault, IsLoaded}
+use Rattle.dns_configuration.specs.Known.{origins_of}
 use Rattle.dns_script.specs.Lines.{lines}
 use Rattle.dns_replay.specs.Scripts.{RunsInto}
-use Rattle.dns_server.specs.Settings.{IsDescribedBy}
-
--- The configuration that a file holds, or why it holds none.
-abbrev pub Holds : Option (List ℕ) → Result Configuration Fault → Type 0
-Holds None (Err Unreadable) = ⊤
-Holds (Some octets) (Ok c) = IsDescribedBy octets c
-Holds (Some octets) (Err BadConfig) = (c : Configuration) → ¬ (IsDescribedBy octets c)
-Holds octets (Err OutOfMemory) = ⊤
-Holds octets r = ⊥
-
--- The octets of the first file with that path, if it is given and can be read.
-abbrev pub octets_at : List File → List ℕ → Option (List ℕ)
-octets_at [] path = None
-octets_at (f ∷ files) path = if bytes_eq f.path.now path then option_copied f.octets else octets_at files path
-
--- What the file of a zone holds; the zone that it is.
-abbrev pub loaded_by : List File → ZoneSettings → Result (List Record) Fault
-loaded_by files z = loaded (octets_at files (string_bytes z.file)) z.origin
-
-pub record IsLoaded (files : List File) (settings : ZoneSettings) (zone : Zone) : Type 0 where
-  pub records : List Record
-  pub read : loaded_by files settings ≡ Ok records
-  pub apex : zone.apex ≡ settings.origin
-  pub same : IsSetOf records zone.records
-
--- The first zone, in order, whose file holds none, its path and why.
-abbrev pub IsFirstFault : List File → List ZoneSettings → List ℕ → Fault → Type 0
-IsFirstFault files [] path fault = ⊥
-IsFirstFault files (z ∷ rest) path fault =
-    ((path ≡ string_bytes z.file) × (loaded_by files z ≡ Err fault))
-    ⊎ ((records : List Record) × (loaded_by files z ≡ Ok records) × IsFirstFault files rest path fault)
-
--- The names of the zones, in their order.
-abbrev pub origins_of : List ZoneSettings → List Labels
-origins_of settings = map (λ (z : ZoneSettings). z.origin) settings
-
--- What a primary is to know of a zone.
-pub record IsSettingOf (settings : ZoneSettings) (known : primary.ZoneSettings) : Type 0 where
-  pub snapshot : known.snapshot ≡ settings.snapshot_sectors
-  pub journal : known.journal ≡ settings.journal_sectors
-  pub keep : known.keep ≡ settings.keep
-  pub update : known.update.items ≡ settings.update.items
 
 -- A zone as it was loaded, with what is configured of it: no update was accepted.
 pub record IsBegun (settings : ZoneSettings) (zone : Zone) (z : ZoneState) : Type 0 where

@@ -1,12 +1,13 @@
 //! What one who mends a refused master file is told beside its fault: the word that was met, or the lines of the records that are
 //! no zone together. It serves `--explain` alone, and no clause says more of it than that it ends.
-use crate::files::{Fault, File, Index, PrintedWord, apex, load};
+use crate::files::Index;
+use dns_configuration::{Fault, File, PrintedWord, apex, load};
 use dns_masterfile::{FileError, Places, RefusedEntry, TypeWord, find_places};
 use dns_memory::Heap;
 use dns_names::Name;
 use dns_records::Record;
 use dns_records::types::{CNAME, NS, SOA};
-use dns_zone::{ZoneError, ZoneIndex};
+use dns_zone::{Zone, ZoneError, ZoneIndex};
 use std::alloc::AllocError;
 use std::cmp::Ordering;
 use std::io::{self, Write};
@@ -185,7 +186,8 @@ fn explain_zone<E: Write>(
     places: &Places<'_>,
     err: &mut E,
 ) -> io::Result<bool> {
-    let Err(Fault::NoZone(error)) = load(heap, file.octets, apex.clone()?) else {
+    let loaded: Result<(Zone<Index>, usize), _> = load(heap, file.octets, apex.clone()?);
+    let Err(Fault::NoZone(error)) = loaded else {
         return Ok(false);
     };
     match find_clash(heap, apex, error, &places.records)? {

@@ -1,7 +1,7 @@
 //! Which configurations are read: changes of one that is, each in one piece of its text.
 use crate::runs::EXAMPLE;
+use dns_configuration::{Configuration, ConfigurationError};
 use dns_memory::{Heap, heap};
-use dns_server::{Configuration, ConfigurationError};
 use std::alloc::Global;
 use std::test::Fail;
 

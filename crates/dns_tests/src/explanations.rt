@@ -1,7 +1,8 @@
 //! What one who mends a refused file is told beside its fault.
 use crate::runs::{EXAMPLE, EXAMPLE_ZONE};
+use dns_configuration::File;
 use dns_memory::{Heap, heap};
-use dns_server::{File, explain_check, explain_replay};
+use dns_server::{explain_check, explain_replay};
 use std::alloc::Global;
 use std::test::Fail;
 

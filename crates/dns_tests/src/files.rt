@@ -2,8 +2,9 @@
 use crate::given::Full;
 use crate::runs::{EXAMPLE, EXAMPLE_ZONE, RUNS, Run, TWO_ZONES, ZONE_P, ZONE_Q};
 use crate::updates::UPDATES;
+use dns_configuration::{DONE, FAILED, File, REFUSED};
 use dns_memory::{Heap, heap};
-use dns_server::{DONE, FAILED, File, REFUSED, check, replay};
+use dns_server::{check, replay};
 use std::alloc::Global;
 use std::io;
 use std::test::Fail;

@@ -1,7 +1,8 @@
 //! Calls with each allocation refused in turn.
 use crate::given::{primary, reply_of};
+use dns_configuration::{DONE, FAILED, File};
 use dns_memory::{Heap, heap};
-use dns_server::{DONE, FAILED, File, check};
+use dns_server::check;
 use std::io;
 use std::test::Fail;
 

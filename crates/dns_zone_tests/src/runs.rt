@@ -201,14 +201,34 @@ fn is_match(
     Ok(expected)
 }
 
+/// Copies of records.
+fn copies_of(heap: Heap, plain: &[Record]) -> Result<Vec<Record, Heap>, Fail> {
+    let mut copies: Vec<Record, Heap> = Vec::new(heap);
+    for record in plain {
+        copies.push(record.clone()?)?;
+    }
+    Ok(copies)
+}
+
 /// Whether the copies are what is left of the records in order behind so many.
 fn is_rest(heap: Heap, plain: &[Record], place: usize, copies: &Copies) -> Result<bool, Fail> {
-    let mut sorted: Vec<Record, Heap> = Vec::new(heap);
-    for record in plain {
-        sorted.push(record.clone()?)?;
-    }
+    let mut sorted = copies_of(heap, plain)?;
     sorted.sort_by(|a, b| a.compare(b))?;
     Ok(copies.records() == &sorted[place.min(sorted.len())..])
+}
+
+/// Puts a record into a plain list, in place of one that ties.
+fn put(plain: &mut Vec<Record, Heap>, added: &Record) -> Result<(), Fail> {
+    take_out(plain, added);
+    plain.push(added.clone()?)?;
+    Ok(())
+}
+
+/// Whether the copies are the records of the added one's name in a copy of the list that has it too.
+fn is_fork(heap: Heap, plain: &[Record], added: &Record, copies: &Copies) -> Result<bool, Fail> {
+    let mut other = copies_of(heap, plain)?;
+    put(&mut other, added)?;
+    Ok(are_all(copies, &other, added.owner()))
 }
 
 /// Makes the call of a plain list, and says whether the reply is its.
@@ -238,8 +258,7 @@ fn agrees(
                     .any(|r| r.owner().lend().is_under(&name.lend()))
         }
         (Command::Insert(added), Reply::Done) => {
-            take_out(plain, added);
-            plain.push(added.clone()?)?;
+            put(plain, added)?;
             true
         }
         (Command::Remove(gone), Reply::Found(found)) => *found == take_out(plain, gone),
@@ -254,38 +273,66 @@ fn agrees(
         (Command::Walk(after), Reply::Next(next)) => is_next(next, plain, after),
         (Command::From(place), Reply::Held(copies)) => is_rest(heap, plain, *place, copies)?,
         (Command::Match(apex, name), reply) => is_match(heap, plain, apex, name, reply)?,
-        (Command::Fork(added), Reply::Held(copies)) => {
-            let mut other: Vec<Record, Heap> = Vec::new(heap);
-            for record in plain.iter() {
-                other.push(record.clone()?)?;
-            }
-            take_out(&mut other, added);
-            other.push(added.clone()?)?;
-            are_all(copies, &other, added.owner())
-        }
+        (Command::Fork(added), Reply::Held(copies)) => is_fork(heap, plain, added, copies)?,
         _ => false,
     })
 }
 
-/// Makes four hundred calls of an index, and says whether each reply and the set that is left are those of a plain list that comes to
-/// have more than five records.
-fn agrees_with_plain<I: ZoneIndex>(heap: Heap, index: I, seed: u64) -> Result<bool, Fail> {
+/// Four hundred calls.
+fn some_commands(heap: Heap, seed: u64) -> Result<Vec<Command, Heap>, Fail> {
     let mut numbers = Numbers { state: seed };
     let mut commands = Vec::new(heap);
     for _ in 0..400 {
         commands.push(some_command(heap, &mut numbers)?)?;
     }
-    let (set, replies) = run_index(heap, index, &commands)?;
-    let mut plain: Vec<Record, Heap> = Vec::new(heap);
+    Ok(commands)
+}
+
+/// Makes the calls of a plain list, and says whether each reply is its.
+fn all_agree(
+    heap: Heap,
+    plain: &mut Vec<Record, Heap>,
+    commands: &[Command],
+    replies: &[Reply],
+) -> Result<bool, Fail> {
     for (command, reply) in commands.iter().zip(replies.iter()) {
-        if !agrees(heap, &mut plain, command, reply)? {
+        if !agrees(heap, plain, command, reply)? {
             return Ok(false);
         }
     }
+    Ok(commands.len() == replies.len())
+}
+
+/// Whether a set has just the records of a list.
+fn has_all<I: ZoneIndex>(set: &I, plain: &[Record]) -> bool {
     let held = plain
         .iter()
         .all(|r| set.records_at(&r.owner().lend()).contains(r));
-    Ok(held && set.len() == plain.len() && plain.len() > 5)
+    held && set.len() == plain.len()
+}
+
+/// Whether the replies, and the set that is left, are those of a plain list that comes to have more than five records.
+fn are_those_of_plain<I: ZoneIndex>(
+    heap: Heap,
+    commands: &[Command],
+    replies: &[Reply],
+    set: &I,
+) -> Result<bool, Fail> {
+    let mut plain: Vec<Record, Heap> = Vec::new(heap);
+    let agree = all_agree(heap, &mut plain, commands, replies)?;
+    Ok(agree && has_all(set, &plain) && plain.len() > 5)
+}
+
+/// Makes the calls of an index, and says whether it agrees with a plain list.
+fn agrees_by<I: ZoneIndex>(heap: Heap, index: I, commands: &[Command]) -> Result<bool, Fail> {
+    let (set, replies) = run_index(heap, index, commands)?;
+    are_those_of_plain(heap, commands, &replies, &set)
+}
+
+/// Makes four hundred calls of an index, and says whether it agrees with a plain list.
+fn agrees_with_plain<I: ZoneIndex>(heap: Heap, index: I, seed: u64) -> Result<bool, Fail> {
+    let commands = some_commands(heap, seed)?;
+    agrees_by(heap, index, &commands)
 }
 
 // The sorted list against a plain one.

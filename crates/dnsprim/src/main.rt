@@ -1,16 +1,20 @@
 //! The program: reads the words of its command line and the files that they name, and turns how a run ended into an exit status.
 #![tactic(auto)]
 
-use clap::{Arg, ArgAction, Command, Error};
+use clap::{Arg, ArgAction, ArgMatches, Command, Error};
+use dns_configuration::{Configuration, FAILED, File, REFUSED, USAGE};
+use dns_devices::{Disk, dump, init};
+use dns_files::{DiskFile, FileSectors};
 use dns_memory::{Heap, heap};
-use dns_server::{
-    Configuration, FAILED, File, REFUSED, USAGE, check, explain_check, explain_replay,
-    explain_unreadable, replay,
-};
+use dns_server::{Index, check, explain_check, explain_replay, explain_unreadable, replay};
+use dns_service::serve;
 use std::alloc::Global;
 use std::io::{self, Write};
 use std::process::ExitCode;
 use std::{env, fs};
+
+/// The device of a zone: a file of the system.
+type Device = FileSectors<DiskFile>;
 
 /// What the words ask for.
 #[derive(Clone, Copy)]
@@ -19,6 +23,12 @@ enum Task<'a> {
     Check(&'a str, &'a str),
     /// `replay CONFIG SCRIPT`
     Replay(&'a str, &'a str),
+    /// `init CONFIG`
+    Init(&'a str),
+    /// `dump CONFIG ORIGIN`
+    Dump(&'a str, &'a str),
+    /// `serve CONFIG --turns N`
+    Serve(&'a str, u32),
 }
 
 /// What the words ask for, and whether a fault is to be explained in a second line.
@@ -28,48 +38,139 @@ struct Asked<'a> {
     explain: bool,
 }
 
-/// A subcommand of two words.
-fn of_two_words<'a>(
+/// What stands behind the words in a help text.
+const ABOUT: &str =
+    "An authoritative DNS primary. A first zone: write zone.db and dnsprim.toml, then \
+`dnsprim check zone.db ORIGIN`, `dnsprim init dnsprim.toml`, and `dnsprim serve dnsprim.toml --turns 4294967295`";
+
+/// A word that has to stand behind a subcommand.
+fn word<'a>(alloc: Global, name: &'static str, help: &'static str) -> Arg<'a> {
+    Arg::new(alloc, name)
+        .required(true)
+        .action(ArgAction::Set)
+        .help(help)
+}
+
+/// A subcommand of one word.
+fn of_one_word<'a>(
     alloc: Global,
     name: &'static str,
-    first: &'static str,
-    second: &'static str,
+    about: &'static str,
+    first: Arg<'a>,
 ) -> Result<Command<'a>, Error> {
-    let first = Arg::new(alloc, first).required(true).action(ArgAction::Set);
-    let second = Arg::new(alloc, second)
-        .required(true)
-        .action(ArgAction::Set);
     let explain = Arg::new(alloc, "explain")
         .long("explain")
         .action(ArgAction::SetTrue)
         .help("Tells in a second line what is wrong with a file, and what is expected");
     Ok(
         Command::new(alloc, name)
+            .about(about)
             .arg(first)?
-            .arg(second)?
             .arg(explain)?,
     )
 }
 
+/// The word of a configuration.
+fn config<'a>(alloc: Global) -> Arg<'a> {
+    word(
+        alloc,
+        "CONFIG",
+        "The configuration: the address to listen on, and each zone with its master file and its device",
+    )
+}
+
+/// The word of an origin.
+fn origin<'a>(alloc: Global) -> Arg<'a> {
+    word(alloc, "ORIGIN", "The name of the zone's apex, as example.")
+}
+
+/// The subcommands that read files alone.
+fn with_readers<'a>(alloc: Global, command: Command<'a>) -> Result<Command<'a>, Error> {
+    let file = word(alloc, "FILE", "A master file (RFC 1035 section 5)");
+    let script = word(
+        alloc,
+        "SCRIPT",
+        "A file of commands, one a line: udp ADDR HEX, flush, ..",
+    );
+    let check = of_one_word(
+        alloc,
+        "check",
+        "Reads a master file and tells what is wrong with it",
+        file,
+    )?
+    .arg(origin(alloc))?;
+    let replay = of_one_word(
+        alloc,
+        "replay",
+        "Runs a script of requests over the zones of a configuration, kept in memory",
+        config(alloc),
+    )?
+    .arg(script)?;
+    Ok(command.subcommand(check)?.subcommand(replay)?)
+}
+
+/// The subcommands that have to do with devices.
+fn with_devices<'a>(alloc: Global, command: Command<'a>) -> Result<Command<'a>, Error> {
+    let turns = Arg::new(alloc, "turns")
+        .long("turns")
+        .required(true)
+        .action(ArgAction::Set)
+        .help(
+            "The server ends after so many turns, at most 4294967295; waiting takes one a second",
+        );
+    let init = of_one_word(
+        alloc,
+        "init",
+        "Makes the device of each zone from its master file; from then on the device is the zone",
+        config(alloc),
+    )?;
+    let dump = of_one_word(
+        alloc,
+        "dump",
+        "Prints the zone that a device keeps, as a master file; not while it is served",
+        config(alloc),
+    )?
+    .arg(origin(alloc))?;
+    let serve = of_one_word(
+        alloc,
+        "serve",
+        "Answers queries and takes updates, by UDP and TCP; an update is durable before it is answered",
+        config(alloc),
+    )?
+    .arg(turns)?;
+    Ok(
+        command
+            .subcommand(init)?
+            .subcommand(dump)?
+            .subcommand(serve)?,
+    )
+}
+
+/// The task of a subcommand and its words. None where one is missing, or where a number is none.
+fn task_of<'a>(name: &str, inner: &ArgMatches<'a>) -> Option<Task<'a>> {
+    match name {
+        "check" => Some(Task::Check(inner.get_str("FILE")?, inner.get_str("ORIGIN")?)),
+        "replay" => Some(Task::Replay(inner.get_str("CONFIG")?, inner.get_str("SCRIPT")?)),
+        "init" => Some(Task::Init(inner.get_str("CONFIG")?)),
+        "dump" => Some(Task::Dump(inner.get_str("CONFIG")?, inner.get_str("ORIGIN")?)),
+        "serve" => {
+            let turns = inner.get_str("turns")?.parse().ok()?;
+            Some(Task::Serve(inner.get_str("CONFIG")?, turns))
+        }
+        _ => None,
+    }
+}
+
 /// What the words ask for, if it is a task.
 fn read_words<'a>(alloc: Global, words: &'a [&'a str]) -> Result<Option<Asked<'a>>, Error> {
-    let command = Command::new(alloc, "dnsprim")
-        .subcommand(of_two_words(alloc, "check", "FILE", "ORIGIN")?)?
-        .subcommand(of_two_words(alloc, "replay", "CONFIG", "SCRIPT")?)?;
+    let command = Command::new(alloc, "dnsprim").about(ABOUT);
+    let command = with_devices(alloc, with_readers(alloc, command)?)?;
     let matches = command.try_get_matches_from(words)?;
     let Some((name, inner)) = matches.subcommand() else {
         return Ok(None);
     };
-    let task = if name == "check" {
-        match (inner.get_str("FILE"), inner.get_str("ORIGIN")) {
-            (Some(file), Some(origin)) => Task::Check(file, origin),
-            _ => return Ok(None),
-        }
-    } else {
-        match (inner.get_str("CONFIG"), inner.get_str("SCRIPT")) {
-            (Some(config), Some(script)) => Task::Replay(config, script),
-            _ => return Ok(None),
-        }
+    let Some(task) = task_of(name, inner) else {
+        return Ok(None);
     };
     let explain = inner.get_flag("explain");
     Ok(Some(Asked { task, explain }))
@@ -184,12 +285,115 @@ fn run_replay(
     Ok(status)
 }
 
+/// Explains why a configuration or a master file was refused.
+fn explain_files(
+    rt: &HostRuntime,
+    heap: Heap,
+    config: &File<'_>,
+    files: &[File<'_>],
+) -> io::Result<()> {
+    let mut err = rt.stderr();
+    let none = File {
+        path: "",
+        octets: None,
+    };
+    explain_missing(rt, config, &mut err)?;
+    for file in files {
+        explain_missing(rt, file, &mut err)?;
+    }
+    explain_replay(rt.alloc(), heap, config, files, &none, &mut err)
+}
+
+/// Makes devices, and gives the exit status.
+fn run_init(rt: &HostRuntime, heap: Heap, config: &str, explain: bool) -> io::Result<u8> {
+    let text = octets(rt, config)?;
+    let config = file(config, &text);
+    let texts = master_files(rt, heap, &config)?;
+    let mut files = Vec::new(rt.alloc());
+    for (path, text) in &texts {
+        files.push(file(path, text))?;
+    }
+    let (mut out, mut err) = (io::writer(rt), rt.stderr());
+    let status = init::<Device, _, Index, _, _>(
+        rt.alloc(),
+        heap,
+        &Disk(rt),
+        &config,
+        &files,
+        explain,
+        &mut out,
+        &mut err,
+    );
+    if explain && status == REFUSED {
+        explain_files(rt, heap, &config, &files)?;
+    }
+    Ok(status)
+}
+
+/// Prints what a device keeps, and gives the exit status.
+fn run_dump(
+    rt: &HostRuntime,
+    heap: Heap,
+    config: &str,
+    origin: &str,
+    explain: bool,
+) -> io::Result<u8> {
+    let text = octets(rt, config)?;
+    let config = file(config, &text);
+    let mut out = io::BufWriter::new(rt.alloc(), io::writer(rt))?;
+    let mut err = rt.stderr();
+    let status = dump::<Device, _, Index, _, _>(
+        rt.alloc(),
+        heap,
+        &Disk(rt),
+        &config,
+        origin,
+        explain,
+        &mut out,
+        &mut err,
+    );
+    out.flush()?;
+    if explain && status == REFUSED {
+        explain_files(rt, heap, &config, &[])?;
+    }
+    Ok(status)
+}
+
+/// Serves, and gives the exit status.
+fn run_serve(
+    rt: &HostRuntime,
+    heap: Heap,
+    config: &str,
+    turns: u32,
+    explain: bool,
+) -> io::Result<u8> {
+    let text = octets(rt, config)?;
+    let config = file(config, &text);
+    let status = serve::<Device, _, Index, _, _>(
+        rt.alloc(),
+        heap,
+        rt,
+        &Disk(rt),
+        &config,
+        turns,
+        explain,
+        &mut rt.stderr(),
+    );
+    if explain && status == REFUSED {
+        explain_files(rt, heap, &config, &[])?;
+    }
+    Ok(status)
+}
+
 /// Does the task, and gives the exit status.
 fn run(rt: &HostRuntime, asked: Asked<'_>) -> io::Result<u8> {
     let heap = heap(rt.alloc())?;
     match asked.task {
         Task::Check(path, origin) => run_check(rt, heap, path, origin, asked.explain),
         Task::Replay(config, script) => run_replay(rt, heap, config, script, asked.explain),
+        Task::Init(config) => run_init(rt, heap, config, asked.explain),
+        Task::Dump(config, origin) => run_dump(rt, heap, config, origin, asked.explain),
+        Task::Serve(config, turns) => run_serve(rt, heap, config, turns, asked.explain),
     }
 }
 
@@ -207,7 +411,7 @@ fn start(rt: &HostRuntime) -> io::Result<u8> {
         Ok(Some(asked)) => run(rt, asked),
         Ok(None) => {
             eprintln!(rt;
-                "usage: dnsprim check FILE ORIGIN [--explain] | dnsprim replay CONFIG SCRIPT [--explain]"
+                "usage: dnsprim check FILE ORIGIN | replay CONFIG SCRIPT | init CONFIG | dump CONFIG ORIGIN | serve CONFIG --turns N [--explain]"
             )?;
             Ok(USAGE)
         }

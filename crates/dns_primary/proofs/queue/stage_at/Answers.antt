@@ -1,5 +1,5 @@
-use Rattle.std.proofs.Common.{◌≡◌, Bool, true, false, List, [], ◌∷◌, refl, sym, ap, subst, ◌∙◌}
-use Rattle.std.specs.Prelude.{slice_get, slice_index_or, slice_set, Some}
+use Rattle.std.proofs.Common.{◌≡◌, List, [], ◌∷◌, refl, sym, ap, subst}
+use Rattle.std.specs.Prelude.{slice_index_or, slice_set}
 use Rattle.dns_zone.specs.Zone.{Zone}
 use Rattle.dns_wire.specs.Codes.{number_of_rcode}
 use Rattle.dns_wire.specs.declared.codes.Rcode.{Rcode}
@@ -11,9 +11,9 @@ use Rattle.dns_primary.specs.declared.event.Waiting.{Waiting}
 use Rattle.dns_primary.specs.declared.update.Outcome.TheVariants as outcome
 use Rattle.dns_primary.specs.Machine.{Machine, kept_of}
 use Rattle.dns_primary.specs.Flush.{Sent}
-use Rattle.dns_primary.specs.Update.{Admission, Admits, Rejects, admission, admitted, answer, judged_in, replies}
+use Rattle.dns_primary.specs.Update.{Admission, admitted, judged_in, replies}
 use Rattle.dns_primary.specs.Outcome.{IsStageable, end_of}
-use Rattle.dns_primary.specs.Queue.{Holds, IsAnswered, IsUntouched, asked_of}
+use Rattle.dns_primary.specs.Queue.{Holds, IsUntouched, asked_of}
 use Rattle.dns_primary.proofs.Places.{changed2}
 use Rattle.dns_primary.proofs.Queued.{by_state, ends_waiting, ends_at_once, was_held, still_holds, holds_more}
 use Rattle.dns_primary.proofs.queue.stage_at.Goals as goal

@@ -1,6 +1,6 @@
 use Rattle.std.proofs.Common.{refl}
 use Rattle.std.proofs.KnownBytes.{Keeps-refl}
-use Rattle.dns_server.specs.declared.files.Fault.TheVariants.{Syntax, Unreadable}
+use Rattle.dns_configuration.specs.declared.files.Fault.TheVariants.{Syntax, Unreadable}
 use Rattle.dns_server.proofs.Replayed.{refused_over, script_done}
 use Rattle.dns_server.proofs.run.run.Goals as goal
 

@@ -1,4 +1,4 @@
-use Rattle.std.proofs.Common.{◌≡◌, ℕ, Some, inl, inr, List, [], ◌++◌, length, map, sym, ap, subst, ◌∙◌, arith, append-nil}
+use Rattle.std.proofs.Common.{◌≡◌, ◌++◌, map, sym, ap, subst, ◌∙◌, append-nil}
 use Rattle.dns_primary.specs.Step.{base_moved}
 use Rattle.dns_primary.specs.Open.{AreRecoverable, device_behind}
 use Rattle.dns_primary.proofs.HandedOut.{all_honest, event_recoverable, rest_recoverable}

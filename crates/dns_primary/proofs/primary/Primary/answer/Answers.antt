@@ -1,8 +1,7 @@
-use Rattle.std.proofs.Common.{◌≡◌, ℕ, List, Option, inr, sym, ap, subst, ◌∙◌, arith}
+use Rattle.std.proofs.Common.{◌≡◌, ℕ, List, Option, inr, sym, ap, subst, ◌∙◌}
 use Rattle.std.specs.Prelude.{option_map}
 use Rattle.dns_zone.specs.Zone.{Zone}
 use Rattle.dns_primary.specs.Update.{room_lacked}
-use Rattle.dns_primary.specs.Outcome.{lacked_of}
 use Rattle.dns_primary.specs.Keeps.{IsKept}
 use Rattle.dns_primary.specs.Queue.{IsStageableAt, asked_of}
 use Rattle.dns_primary.specs.Steps.{IsBegunOrLacks, SteppedOn, answered_with}

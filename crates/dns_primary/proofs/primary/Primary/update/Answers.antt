@@ -1,10 +1,10 @@
-use Rattle.std.proofs.Common.{◌≡◌, List, None, map, ap, subst, sym, [], ◌∷◌, inr, inl, refl, arith}
+use Rattle.std.proofs.Common.{◌≡◌, None, map, ap, subst, sym, [], ◌∷◌, inr, inl, refl, arith}
 use Rattle.std.proofs.Common.{Option, ℕ}
 use Rattle.dns_wire.specs.Message.{Header, header_of}
 use Rattle.dns_wire.specs.Codes.{number_of_rcode}
 use Rattle.dns_wire.specs.Text.{text}
 use Rattle.dns_answer.specs.Answer.{bare_reply}
-use Rattle.dns_primary.specs.Flush.{Sent, Replied, rcode_servfail}
+use Rattle.dns_primary.specs.Flush.{Replied, rcode_servfail}
 use Rattle.dns_primary.specs.declared.update.Outcome.TheVariants as outcome
 use Rattle.dns_primary.specs.declared.queue.Tested.{Tested}
 use Rattle.dns_primary.specs.Update.{Admission, Rejects, admission, admitted, room_lacked}

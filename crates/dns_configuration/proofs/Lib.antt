@@ -1,0 +1,5 @@
+pub mod Hosts
+pub mod Loaded
+pub mod Ports
+pub mod Unread
+pub mod Zipped

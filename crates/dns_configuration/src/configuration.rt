@@ -1,0 +1,381 @@
+//! The configuration: the zones that are held, their files, and who may change and copy them.
+ghost use Rattle.std.specs.Prelude.{◌≡◌, ◌≢◌, ℕ, ◌<◌, ◌^◌, List, [], ◌∷◌, ◌++◌, Ok, Some, MatchOption, IfOk, map, option_map, pos};
+ghost use Rattle.std.specs.List.{list_any};
+ghost use Rattle.std.specs.Option.{option_copied};
+ghost use Rattle.toml.specs.View.{array_view, view};
+ghost use Rattle.dns_names.specs.Text.{name_of_text};
+ghost use Rattle.dns_policy.specs.Address.{IsAddress};
+ghost use Rattle.std.specs.declared.net.ip_addr.IpAddr.TheVariants.{V4, V6};
+ghost use Rattle.dns_configuration.specs.declared.configuration.ConfigurationError.TheVariants as told;
+ghost use Rattle.dns_configuration.specs.Settings.{ArePrefixes, AreSettings, Describes, Finds, HasCount, HasName, HasNone, HasPath, HasPrefixes, IsConfiguration, IsDescribedBy, IsHost, IsLastParted, IsListener, IsPort, IsSettings, Reads, are_alike, has_keys, list_at, number_at, text_at};
+
+use dns_memory::Heap;
+use dns_names::{Name, NameError};
+use dns_policy::{Prefix, address};
+use std::alloc::{AllocError, AllocFailed, Global};
+use std::net::{IpAddr, Ipv4Addr, Ipv6Addr, SocketAddr};
+use toml::Value;
+
+/// At most so many zones are held.
+const MOST_ZONES: usize = 16;
+
+/// The largest count of sectors or versions.
+const MOST: u32 = 65536;
+
+/// One zone of a configuration.
+#[derive(Drop)]
+pub struct ZoneSettings {
+    /// The apex.
+    pub origin: Name,
+    /// The path of the master file.
+    pub file: String,
+    /// The path of the device that keeps the zone.
+    pub device: String,
+    /// How many sectors a snapshot has, 1 to 65,536.
+    pub snapshot_sectors: u32,
+    /// How many sectors a journal has, 8 to 65,536.
+    pub journal_sectors: u32,
+    /// How many versions are kept, at most 65,536.
+    pub keep: u32,
+    /// Who may update the zone (RFC 2136).
+    pub update: Vec<Prefix>,
+    /// Who may copy the zone (RFC 5936, RFC 1995).
+    pub transfer: Vec<Prefix>,
+}
+
+/// What a server holds, and where it listens.
+#[derive(Drop)]
+pub struct Configuration {
+    /// The address and the port, by UDP and TCP.
+    pub listen: SocketAddr,
+    /// At most 16 zones, with distinct apexes and devices.
+    pub zones: Vec<ZoneSettings>,
+}
+
+/// Why there is no configuration.
+#[derive(Clone, Copy, Debug, PartialEq, Eq)]
+pub enum ConfigurationError {
+    /// Memory was refused.
+    OutOfMemory,
+    /// The text is no TOML, a key is missing or not known, or a value is none of its key.
+    BadConfig,
+}
+
+impl From<AllocError> for ConfigurationError {
+    ghost from_gives = { λ _ e. e ≡ told.OutOfMemory };
+
+    fn from(_error: AllocError) -> ConfigurationError {
+        ConfigurationError::OutOfMemory
+    }
+}
+
+impl<T: Drop> From<AllocFailed<T>> for ConfigurationError {
+    ghost from_gives = { λ _ e. e ≡ told.OutOfMemory };
+
+    fn from(_error: AllocFailed<T>) -> ConfigurationError {
+        ConfigurationError::OutOfMemory
+    }
+}
+
+/// A port: a decimal number from 1 to 65,535, without leading zeros.
+fn port(text: &str) -> Option<u16>
+    ensures { Finds (IsPort text.now) result }
+{
+    let first = *text.as_bytes().first()?;
+    if first == b'0' || first == b'+' {
+        return None;
+    }
+    text.parse().ok()
+}
+
+/// What stands between brackets.
+fn between_brackets(text: &[u8]) -> Option<&[u8]>
+    ensures { MatchOption result ((inner : List ℕ) → text.now ≢ 91 ∷ inner ++ 93 ∷ [])
+        (λ inner. text.now ≡ 91 ∷ inner.now ++ 93 ∷ []) }
+{
+    match text {
+        [b'[', inner @ .., b']'] => Some(inner),
+        _ => None,
+    }
+}
+
+/// An IPv4 address.
+fn ipv4(text: &[u8]) -> Option<Ipv4Addr>
+    ensures { Finds (λ a. IsHost text.now (V4 a)) result }
+{
+    match address(text) {
+        Some(IpAddr::V4(ip)) => Some(ip),
+        _ => None,
+    }
+}
+
+/// An IPv6 address.
+fn ipv6(text: &[u8]) -> Option<Ipv6Addr>
+    ensures { Finds (λ a. IsAddress text.now (V6 a)) result }
+{
+    match address(text) {
+        Some(IpAddr::V6(ip)) => Some(ip),
+        _ => None,
+    }
+}
+
+/// An IPv6 address between brackets.
+fn bracketed_ipv6(text: &[u8]) -> Option<Ipv6Addr>
+    ensures { Finds (λ a. IsHost text.now (V6 a)) result }
+{
+    match between_brackets(text) {
+        Some(inner) => ipv6(inner),
+        None => None,
+    }
+}
+
+/// An IPv4 address, or an IPv6 address between brackets.
+fn host(text: &[u8]) -> Option<IpAddr>
+    ensures { Finds (IsHost text.now) result }
+{
+    match ipv4(text) {
+        Some(ip) => Some(IpAddr::V4(ip)),
+        None => match bracketed_ipv6(text) {
+            Some(ip) => Some(IpAddr::V6(ip)),
+            None => None,
+        },
+    }
+}
+
+/// What stands before the last colon, and behind it.
+fn split_at_last_colon(text: &str) -> Option<(&str, &str)>
+    ensures { MatchOption result (HasNone 58 text.now) (λ parts. IsLastParted 58 text.now (parts.0.now, parts.1.now)) }
+{
+    text.rsplit_once(':')
+}
+
+/// An address, and behind a colon a port.
+pub(crate) fn listener(text: &str) -> Option<SocketAddr>
+    ensures { Finds (IsListener text.now) result }
+{
+    let (front, digits) = split_at_last_colon(text)?;
+    let ip = host(front.as_bytes())?;
+    Some(SocketAddr::new(ip, port(digits)?))
+}
+
+/// The text at a key of a table.
+pub(crate) fn text_at<'a>(table: &'a Value, key: &str) -> Option<&'a str>
+    ensures { option_copied result ≡ text_at key.now (view table.now) }
+{
+    match table.get(key) {
+        Some(value) => value.as_str(),
+        None => None,
+    }
+}
+
+/// The number at a key of a table.
+fn number_at(table: &Value, key: &str) -> Option<u32>
+    ensures { MatchOption result ((n : ℕ) → n < 2 ^ 32 → number_at key.now (view table.now) ≢ Some (pos n))
+        (λ n. number_at key.now (view table.now) ≡ Some (pos n)) }
+{
+    match table.get(key) {
+        Some(value) => u32::try_from(value.as_integer()?).ok(),
+        None => None,
+    }
+}
+
+/// The list at a key of a table.
+pub(crate) fn list_at<'a>(table: &'a Value, key: &str) -> Option<&'a Vec<Value>>
+    ensures { option_map (λ v. array_view v.now) result ≡ list_at key.now (view table.now) }
+{
+    match table.get(key) {
+        Some(value) => value.as_array(),
+        None => None,
+    }
+}
+
+/// Whether a table has so many keys.
+pub(crate) fn has_keys(table: &Value, count: usize) -> bool
+    ensures { result ≡ has_keys count (view table.now) }
+{
+    match table.as_table() {
+        Some(table) => table.len() == count,
+        None => false,
+    }
+}
+
+/// The prefixes of a list of texts.
+fn prefixes(alloc: Global, texts: &[Value]) -> Result<Vec<Prefix>, ConfigurationError>
+    ensures { Reads (λ ps. ArePrefixes (map view texts.now) ps.items) result }
+{
+    let mut prefixes = Vec::new(alloc);
+    'texts: for value in texts {
+        let Some(text) = value.as_str() else {
+            return Err(ConfigurationError::BadConfig);
+        };
+        match Prefix::parse(text.as_bytes()) {
+            Ok(prefix) => prefixes.push(prefix)?,
+            Err(_) => return Err(ConfigurationError::BadConfig),
+        }
+    }
+    Ok(prefixes)
+}
+
+/// The prefixes at a key of a table.
+pub(crate) fn prefixes_at(
+    alloc: Global,
+    table: &Value,
+    key: &str,
+) -> Result<Vec<Prefix>, ConfigurationError>
+    ensures { Reads (HasPrefixes key.now (view table.now)) result }
+{
+    match list_at(table, key) {
+        Some(texts) => prefixes(alloc, texts.as_slice()),
+        None => Err(ConfigurationError::BadConfig),
+    }
+}
+
+/// The path at a key of a table.
+pub(crate) fn path_at(alloc: Global, table: &Value, key: &str) -> Result<String, ConfigurationError>
+    ensures { Reads (HasPath key.now (view table.now)) result }
+{
+    match text_at(table, key) {
+        Some(path) => Ok(String::from_str(alloc, path)?),
+        None => Err(ConfigurationError::BadConfig),
+    }
+}
+
+/// The number at a key of a table, where it is in the range.
+pub(crate) fn count_at(
+    table: &Value,
+    key: &str,
+    low: u32,
+    high: u32,
+) -> Result<u32, ConfigurationError>
+    ensures { Reads (HasCount key.now (view table.now) low high) result }
+{
+    match number_at(table, key) {
+        Some(number) if low <= number && number <= high => Ok(number),
+        _ => Err(ConfigurationError::BadConfig),
+    }
+}
+
+/// The name of a text, under the root if no dot ends it.
+fn name(heap: Heap, text: &str) -> Result<Name, ConfigurationError>
+    ensures { Reads (λ name. name_of_text [] text.now ≡ Ok name) result }
+{
+    match Name::from_text(heap, text.as_bytes(), &Name::root(heap)) {
+        Ok(name) => Ok(name),
+        Err(NameError::OutOfMemory) => Err(ConfigurationError::OutOfMemory),
+        Err(_) => Err(ConfigurationError::BadConfig),
+    }
+}
+
+/// The name at a key of a table, under the root if no dot ends it.
+pub(crate) fn name_at(heap: Heap, table: &Value, key: &str) -> Result<Name, ConfigurationError>
+    ensures { Reads (HasName key.now (view table.now)) result }
+{
+    match text_at(table, key) {
+        Some(text) => name(heap, text),
+        None => Err(ConfigurationError::BadConfig),
+    }
+}
+
+/// The settings of a zone by its table.
+fn settings(alloc: Global, heap: Heap, zone: &Value) -> Result<ZoneSettings, ConfigurationError>
+    ensures { Reads (IsSettings (view zone.now)) result }
+{
+    if !has_keys(zone, 8) {
+        return Err(ConfigurationError::BadConfig);
+    }
+    Ok(ZoneSettings {
+        origin: name_at(heap, zone, "origin")?,
+        file: path_at(alloc, zone, "file")?,
+        device: path_at(alloc, zone, "device")?,
+        snapshot_sectors: count_at(zone, "snapshot_sectors", 1, MOST)?,
+        journal_sectors: count_at(zone, "journal_sectors", 8, MOST)?,
+        keep: count_at(zone, "keep", 0, MOST)?,
+        update: prefixes_at(alloc, zone, "update")?,
+        transfer: prefixes_at(alloc, zone, "transfer")?,
+    })
+}
+
+/// Whether two zones have one apex or one device.
+fn are_alike(zone: &ZoneSettings, other: &ZoneSettings) -> bool
+    ensures { result ≡ are_alike zone.now other.now }
+{
+    zone.origin == other.origin || zone.device == other.device
+}
+
+/// Whether a zone has the apex or the device of one before it.
+fn is_double(zones: &[ZoneSettings], zone: &ZoneSettings) -> bool
+    ensures { result ≡ list_any (λ z. are_alike z zone.now) zones.now }
+{
+    zones.iter().any(|other| are_alike(other, zone))
+}
+
+/// The settings of zones by their tables: at most 16, no two with one apex or one device.
+fn all_settings(
+    alloc: Global,
+    heap: Heap,
+    tables: &[Value],
+) -> Result<Vec<ZoneSettings>, ConfigurationError>
+    ensures { Reads (λ zones. AreSettings (map view tables.now) zones.items) result }
+{
+    let mut zones = Vec::new(alloc);
+    'zones: for table in tables {
+        let zone = settings(alloc, heap, table)?;
+        if zones.len() == MOST_ZONES {
+            return Err(ConfigurationError::BadConfig);
+        }
+        if is_double(&zones, &zone) {
+            return Err(ConfigurationError::BadConfig);
+        }
+        zones.push(zone)?;
+    }
+    Ok(zones)
+}
+
+/// The configuration by its document.
+fn configuration_of(
+    alloc: Global,
+    heap: Heap,
+    document: &Value,
+) -> Result<Configuration, ConfigurationError>
+    ensures { Reads (Describes (view document.now)) result }
+{
+    if !has_keys(document, 2) {
+        return Err(ConfigurationError::BadConfig);
+    }
+    let Some(text) = text_at(document, "listen") else {
+        return Err(ConfigurationError::BadConfig);
+    };
+    let Some(listen) = listener(text) else {
+        return Err(ConfigurationError::BadConfig);
+    };
+    let Some(tables) = list_at(document, "zone") else {
+        return Err(ConfigurationError::BadConfig);
+    };
+    let zones = all_settings(alloc, heap, tables.as_slice())?;
+    if zones.is_empty() {
+        return Err(ConfigurationError::BadConfig);
+    }
+    Ok(Configuration { listen, zones })
+}
+
+impl Configuration {
+    /// Reads a configuration in TOML: its keys are those of `Configuration` and of its zones, `listen` with the address, a colon
+    /// and the port as one text. `BadConfig` comes for every other text.
+    pub fn read(
+        alloc: Global,
+        heap: Heap,
+        octets: &[u8],
+    ) -> Result<Configuration, ConfigurationError>
+        ensures described { Reads (IsDescribedBy octets.now) result }
+        ensures valid { IfOk result IsConfiguration }
+    {
+        let Ok(text) = std::str::from_utf8(octets) else {
+            return Err(ConfigurationError::BadConfig);
+        };
+        match toml::table_from_str(alloc, text) {
+            Ok(table) => configuration_of(alloc, heap, &Value::Table(table)),
+            Err(error) if error.is_memory() => Err(ConfigurationError::OutOfMemory),
+            Err(_) => Err(ConfigurationError::BadConfig),
+        }
+    }
+}

@@ -1,0 +1,16 @@
+//! What a server is given: its configuration, the files that it names, the zones that they hold, and how a fault in one is told.
+#![tactic(auto)]
+
+mod configuration;
+mod explain;
+mod files;
+mod known;
+mod loading;
+
+pub use configuration::{Configuration, ConfigurationError, ZoneSettings};
+pub use explain::explain_configuration;
+pub use files::{
+    DONE, FAILED, Fault, File, PrintedWord, REFUSED, USAGE, apex, read_configuration, tell,
+};
+pub use known::{origins_of, settings_of};
+pub use loading::{load, load_all};

@@ -1,0 +1,70 @@
+-- What is wrong with a device, and how it is told.
+use Rattle.std.specs.Prelude.{◌≡◌, ℕ, Bool, true, false, List, ◌++◌, Option, codes, decimal, if◌then◌else◌}
+use Rattle.std.specs.Bool.{MatchBool}
+use Rattle.std.specs.Io.KnownBytes.{Appends}
+use Rattle.dns_store.specs.declared.formatting.FormatError.{FormatError}
+use Rattle.dns_store.specs.declared.formatting.FormatError.TheVariants as unmade
+use Rattle.dns_store.specs.declared.root.OpenError.{OpenError}
+use Rattle.dns_store.specs.declared.root.OpenError.TheVariants as refused
+use Rattle.dns_configuration.specs.Faults.{line, printed_word}
+use Rattle.dns_devices.specs.declared.faults.DeviceFault.{DeviceFault}
+use Rattle.dns_devices.specs.declared.faults.DeviceFault.TheVariants.{Exists, Device, Blank, Damaged, Geometry, ZoneTooLarge, OutOfMemory}
+
+-- A refusal of the store, as one of its device.
+abbrev pub fault_of_format : FormatError → DeviceFault
+fault_of_format unmade.Device = Device
+fault_of_format unmade.Geometry = Geometry
+fault_of_format unmade.ZoneTooLarge = ZoneTooLarge
+fault_of_format unmade.OutOfMemory = OutOfMemory
+
+abbrev pub fault_of_open : OpenError → DeviceFault
+fault_of_open refused.Device = Device
+fault_of_open refused.Blank = Blank
+fault_of_open (refused.Damaged sector) = Damaged sector
+fault_of_open refused.Geometry = Geometry
+fault_of_open refused.OutOfMemory = OutOfMemory
+
+-- The name of each fault, and what can be done about it.
+abbrev pub device_word : DeviceFault → List ℕ
+device_word Exists = codes "Exists"
+device_word Device = codes "Device"
+device_word Blank = codes "Blank"
+device_word (Damaged sector) = codes "Damaged(" ++ decimal sector ++ codes ")"
+device_word Geometry = codes "Geometry"
+device_word ZoneTooLarge = codes "ZoneTooLarge"
+device_word OutOfMemory = codes "OutOfMemory"
+
+abbrev pub advice : DeviceFault → List ℕ
+advice Exists = codes "init makes new files alone; move the file away, or serve it"
+advice Device = codes "the file is missing, may not be read and written, is held by another process, or failed"
+advice Blank = codes "no store was ever made in the file, or making it was stopped; move it away and run init"
+advice (Damaged sector) =
+    codes "that sector of 512 octets, the first being 0, is not what it should be; take the file from a backup"
+advice Geometry = codes "the file was made for another zone, or with other snapshot_sectors or journal_sectors"
+advice ZoneTooLarge =
+    codes "the zone takes more sectors than snapshot_sectors allows; a sector holds 488 octets of records"
+advice OutOfMemory = codes "memory was refused"
+
+-- Memory was refused, of which nothing is told.
+abbrev pub is_memory : DeviceFault → Bool
+is_memory OutOfMemory = true
+is_memory _ = false
+
+-- The exit status: 3 where the device can't be had, and else 1.
+abbrev pub status_of : DeviceFault → ℕ
+status_of Device = 3
+status_of OutOfMemory = 3
+status_of _ = 1
+
+-- What is told: the path and the fault, and in a second line, if it is wanted, what can be done.
+abbrev pub device_text : List ℕ → DeviceFault → Bool → List ℕ
+device_text path fault explain =
+    if explain
+    then printed_word path ++ codes ": " ++ device_word fault ++ codes "\n" ++ printed_word path ++ codes ": " ++ advice fault
+    else printed_word path ++ codes ": " ++ device_word fault
+
+-- How a run that met a fault goes on: of refused memory nothing is told; else the fault is, and the status is that of the fault.
+abbrev pub IsDeviceTold : List ℕ → DeviceFault → Bool → Option (List ℕ) → Option (List ℕ) → ℕ → Type 0
+IsDeviceTold path fault explain err err_after status =
+    MatchBool (is_memory fault) (status ≡ 3)
+    ((status ≡ status_of fault) × Appends err err_after (line (device_text path fault explain)))

@@ -1,0 +1,13 @@
+//! Tests of the receiving side of a transfer: faults, answers that were made up, memory that is refused, and answers of other servers.
+#![tactic(auto)]
+
+#[cfg(test)]
+mod answers;
+#[cfg(test)]
+mod exchanges;
+#[cfg(test)]
+mod given;
+#[cfg(test)]
+mod large;
+#[cfg(test)]
+mod peers;

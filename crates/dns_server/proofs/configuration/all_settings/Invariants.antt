@@ -1,8 +1,0 @@
-use Rattle.std.proofs.Common.{take}
-use Rattle.std.specs.Prelude.{map}
-use Rattle.toml.specs.View.{view}
-use Rattle.dns_server.specs.Settings.{AreSettings}
-use Rattle.dns_server.proofs.configuration.all_settings.Given as goal
-
-abbrev pub invariant-zones : goal.invariant-zones
-invariant-zones l = AreSettings (map view (take l.table-index l.tables)) l.zones.items

@@ -1,8 +1,0 @@
-use Rattle.std.proofs.Common.{take}
-use Rattle.std.specs.Prelude.{map}
-use Rattle.toml.specs.View.{view}
-use Rattle.dns_server.specs.Settings.{ArePrefixes}
-use Rattle.dns_server.proofs.configuration.prefixes.Given as goal
-
-abbrev pub invariant-texts : goal.invariant-texts
-invariant-texts l = ArePrefixes (map view (take l.value-index l.texts)) l.prefixes.items

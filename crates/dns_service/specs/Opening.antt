@@ -1,0 +1,57 @@
+-- The zones of a configuration over their devices.
+use Rattle.std.specs.Prelude.{◌≡◌, ◌⊎◌, ℕ, zero, suc, List, [], ◌∷◌, Ok, Err}
+use Rattle.std.specs.List.{AllZip}
+use Rattle.std.specs.String.{string_bytes}
+use Rattle.dns_sectors.specs.declared.device.DeviceError.{DeviceError}
+use Rattle.dns_sectors.specs.declared.device.Sectors.{Ghosts}
+use Rattle.dns_store.specs.declared.root.OpenError.{OpenError}
+use Rattle.dns_primary.specs.Machine.{Machine}
+use Rattle.dns_primary.specs.Open.{AreRecoverable, AreRefused}
+use Rattle.dns_primary.specs.Step.{Event}
+use Rattle.dns_primary.specs.Stop.{IsStopped}
+use Rattle.dns_primary.specs.declared.primary.ZoneSettings as primary
+use Rattle.dns_configuration.specs.declared.configuration.ZoneSettings.{ZoneSettings}
+use Rattle.dns_configuration.specs.Known.{IsSettingOf, origins_of}
+use Rattle.dns_devices.specs.Faults.{fault_of_open}
+use Rattle.dns_devices.specs.Showing.{Gives}
+use Rattle.dns_devices.specs.declared.faults.DeviceFault.{DeviceFault}
+use Rattle.dns_devices.specs.declared.faults.DeviceFault.TheVariants.{Device, OutOfMemory}
+
+-- The devices that were given for the zones, each by its path.
+abbrev pub AreGiven : {D : Type 0} → Gives D → List ZoneSettings → List D → Type 0
+AreGiven opened zones devices = AllZip (λ z device. opened (string_bytes z.device) (Ok device)) zones devices
+
+-- The device of the zone there can't be had, or memory was refused.
+abbrev pub CannotBeHad : {D : Type 0} → Gives D → List ZoneSettings → ℕ → Type 0
+CannotBeHad opened [] place = ⊥
+CannotBeHad opened (z ∷ zones) zero = (e : DeviceError) × opened (string_bytes z.device) (Err e)
+CannotBeHad opened (z ∷ zones) (suc place) = CannotBeHad opened zones place
+
+abbrev pub IsNotGiven : {D : Type 0} → Gives D → List ZoneSettings → ℕ → DeviceFault → Type 0
+IsNotGiven opened zones place fault = (fault ≡ OutOfMemory) ⊎ ((fault ≡ Device) × CannotBeHad opened zones place)
+
+-- A primary over the devices that were given: on those of a machine that stopped it keeps one that recovered from that stop.
+pub record IsServed {D : Type 0} (g : Ghosts D) (opened : Gives D) (zones : List ZoneSettings) (keeps : Machine → Type 0)
+    : Type 0 where
+  pub devices : List D
+  pub given : AreGiven opened zones devices
+  pub known : List primary.ZoneSettings
+  pub settings : AllZip IsSettingOf zones known
+  pub recovered : (m : Machine) (event : Event)
+      → AreRecoverable g m event 0 m.zones (origins_of zones) known devices
+      → (new : Machine) × IsStopped m event new × keeps new
+
+-- The devices were given, and that of the zone there was not opened, for this.
+pub record IsNotOpened {D : Type 0} (g : Ghosts D) (opened : Gives D) (zones : List ZoneSettings) (place : ℕ) (fault : DeviceFault)
+    : Type 0 where
+  pub devices : List D
+  pub given : AreGiven opened zones devices
+  pub known : List primary.ZoneSettings
+  pub settings : AllZip IsSettingOf zones known
+  pub back : List D
+  pub error : OpenError
+  pub named : fault ≡ fault_of_open error
+  pub refused : AreRefused g error place (origins_of zones) known devices back
+
+abbrev pub IsNotServed : {D : Type 0} → Ghosts D → Gives D → List ZoneSettings → ℕ → DeviceFault → Type 0
+IsNotServed g opened zones place fault = IsNotGiven opened zones place fault ⊎ IsNotOpened g opened zones place fault

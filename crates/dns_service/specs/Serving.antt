@@ -1,0 +1,57 @@
+-- How a server ends.
+use Rattle.std.specs.Prelude.{◌≡◌, ◌⊎◌, ◌≤◌, ℕ, zero, suc, Bool, List, [], ◌∷◌, Option, Ok, Err}
+use Rattle.std.specs.Option.{option_copied}
+use Rattle.std.specs.String.{string_bytes}
+use Rattle.std.specs.Io.KnownBytes.{Appends}
+use Rattle.dns_sectors.specs.declared.device.Sectors.{Ghosts}
+use Rattle.dns_configuration.specs.declared.configuration.ZoneSettings.{ZoneSettings}
+use Rattle.dns_configuration.specs.declared.configuration.Configuration.{Configuration}
+use Rattle.dns_configuration.specs.declared.files.File.{File}
+use Rattle.dns_configuration.specs.declared.files.Fault.{Fault}
+use Rattle.dns_configuration.specs.Faults.{fault_text, line}
+use Rattle.dns_configuration.specs.Files.{Holds}
+use Rattle.dns_devices.specs.declared.faults.DeviceFault.{DeviceFault}
+use Rattle.dns_devices.specs.Faults.{device_text, status_of}
+use Rattle.dns_devices.specs.Showing.{Gives}
+use Rattle.dns_service.specs.Opening.{AreGiven, IsNotServed}
+
+-- The path of the device of the zone there.
+abbrev pub IsPathAt : List ZoneSettings → ℕ → List ℕ → Type 0
+IsPathAt [] place path = ⊥
+IsPathAt (z ∷ zones) zero path = path ≡ string_bytes z.device
+IsPathAt (z ∷ zones) (suc place) path = IsPathAt zones place path
+
+-- The device of a zone is refused, and the text says so.
+pub record IsDeviceRefused {D : Type 0} (g : Ghosts D) (opened : Gives D) (zones : List ZoneSettings) (explain : Bool)
+    (text : List ℕ)
+    : Type 0 where
+  pub place : ℕ
+  pub path : List ℕ
+  pub fault : DeviceFault
+  pub at : IsPathAt zones place path
+  pub refused : IsNotServed g opened zones place fault
+  pub says : text ≡ device_text path fault explain
+  pub status : status_of fault ≡ 1
+
+-- How a server ends: all its turns were made, over the devices of the zones of its configuration; or nothing was served, and the
+-- fault of the configuration or of the first device that is refused is told. With status 3 a device or the address can't be had, a
+-- writer failed or memory was refused.
+pub record ServingEnds {D : Type 0} (g : Ghosts D) (opened : Gives D) (config : File) (explain : Bool)
+    (err err_after : Option (List ℕ)) (status : ℕ)
+    : Type 0 where
+  pub done : status ≡ 0
+      → (c : Configuration) × Holds (option_copied config.octets) (Ok c)
+      × ((devices : List D) × AreGiven opened c.zones.items devices)
+  pub refused : status ≡ 1
+      → (text : List ℕ) × Appends err err_after (line text)
+      × (((fault : Fault) × Holds (option_copied config.octets) (Err fault) × (text ≡ fault_text config.path.now fault))
+      ⊎ ((c : Configuration) × Holds (option_copied config.octets) (Ok c)
+      × IsDeviceRefused g opened c.zones.items explain text))
+  pub others : status ≤ 1 ⊎ (status ≡ 3)
+
+-- What is told of a device that is refused: nothing where memory was, and nothing where there is no such zone.
+abbrev pub IsRefusalTold : List ZoneSettings → ℕ → DeviceFault → Bool → Option (List ℕ) → Option (List ℕ) → ℕ → Type 0
+IsRefusalTold zones place fault explain err err_after status =
+    (status ≡ 3)
+    ⊎ ((status ≡ 1) × (status_of fault ≡ 1)
+    × ((path : List ℕ) × IsPathAt zones place path × Appends err err_after (line (device_text path fault explain))))

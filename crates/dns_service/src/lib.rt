@@ -1,0 +1,9 @@
+//! A server over devices and sockets.
+#![tactic(auto)]
+
+mod log;
+mod opening;
+mod server;
+mod sockets;
+
+pub use server::serve;

@@ -1,0 +1,40 @@
+//! What a server tells of its turns.
+use dns_names::Name;
+use dns_policy::print_address;
+use dns_turns::{Note, Notes};
+use std::io::{self, Write};
+
+/// Lines of a log: one for each note. One that can't be written is left out.
+#[derive(Drop)]
+pub(crate) struct Log<'a, E: Write> {
+    pub(crate) err: &'a mut E,
+    /// The names of the zones, by their places.
+    pub(crate) origins: &'a [Name],
+}
+
+impl<E: Write> Log<'_, E> {
+    /// Writes the line of a note.
+    fn line(&mut self, note: Note) -> io::Result<()> {
+        match note {
+            Note::Opened(number, peer) => {
+                writeln!(
+                    self.err,
+                    "conn {number} open {}",
+                    print_address(peer.address)
+                )
+            }
+            Note::Closed(number) => writeln!(self.err, "conn {number} closed"),
+            Note::OutOfMemory => writeln!(self.err, "out of memory"),
+            Note::Device(place) => match self.origins.get(place) {
+                Some(origin) => writeln!(self.err, "device {origin}"),
+                None => Ok(()),
+            },
+        }
+    }
+}
+
+impl<E: Write> Notes for Log<'_, E> {
+    fn note(&mut self, note: Note) {
+        let _written = self.line(note);
+    }
+}

@@ -1,0 +1,82 @@
+//! The zones of a configuration over their devices: what a primary is given, and why there is none.
+ghost use Rattle.std.specs.Prelude.{◌≡◌, MatchResult};
+ghost use Rattle.dns_primary.specs.Keeps.{IsKept};
+ghost use Rattle.dns_configuration.specs.Known.{origins_of};
+ghost use Rattle.dns_service.specs.Opening.{AreGiven, IsNotGiven, IsNotServed, IsServed};
+
+use dns_configuration::{ZoneSettings, settings_of};
+use dns_devices::{DeviceFault, Devices};
+use dns_memory::Heap;
+use dns_names::Name;
+use dns_primary::Primary;
+use dns_sectors::Sectors;
+use dns_store::KeptStore;
+use dns_zone::ZoneIndex;
+
+/// The device of a zone that is refused: the place of the zone, and why.
+#[derive(Clone, Copy)]
+pub(crate) struct Refusal {
+    pub(crate) place: usize,
+    pub(crate) fault: DeviceFault,
+}
+
+/// The devices of zones, or the first one that can't be had.
+fn open_devices<D: Sectors + Drop, F: Devices<D>>(
+    heap: Heap,
+    devices: &F,
+    zones: &[ZoneSettings],
+) -> Result<Vec<D, Heap>, Refusal>
+    ensures { MatchResult result (λ given. AreGiven (F.opened devices.now) zones.now given.items)
+        (λ r. IsNotGiven (F.opened devices.now) zones.now r.place r.fault) }
+{
+    let mut given = Vec::new(heap);
+    for place in 0..zones.len() {
+        let refused = Refusal {
+            place,
+            fault: DeviceFault::Device,
+        };
+        let Ok(device) = devices.open(&zones[place].device) else {
+            return Err(refused);
+        };
+        match given.push(device) {
+            Ok(()) => {}
+            Err(_) => {
+                return Err(Refusal {
+                    place,
+                    fault: DeviceFault::OutOfMemory,
+                });
+            }
+        }
+    }
+    Ok(given)
+}
+
+/// The primary of zones over their devices, or the device that was refused.
+pub(crate) fn open_primary<D: Sectors + Drop, F: Devices<D>, I: ZoneIndex>(
+    heap: Heap,
+    devices: &F,
+    zones: &[ZoneSettings],
+    origins: &[Name],
+) -> Result<Primary<I, KeptStore<D, I>>, Refusal>
+    requires { origins.now ≡ origins_of zones.now }
+    ensures { MatchResult result (λ p. IsServed D.Sectors (F.opened devices.now) zones.now (λ m. IsKept p m))
+        (λ r. IsNotServed D.Sectors (F.opened devices.now) zones.now r.place r.fault) }
+{
+    let Ok(settings) = settings_of(heap, zones) else {
+        return Err(Refusal {
+            place: 0,
+            fault: DeviceFault::OutOfMemory,
+        });
+    };
+    let given = match open_devices(heap, devices, zones) {
+        Ok(given) => given,
+        Err(refusal) => return Err(refusal),
+    };
+    match Primary::open(heap, given, origins, settings) {
+        Ok(primary) => Ok(primary),
+        Err(refused) => Err(Refusal {
+            place: refused.place,
+            fault: DeviceFault::from(refused.error),
+        }),
+    }
+}
