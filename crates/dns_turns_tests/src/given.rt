@@ -41,26 +41,48 @@ pub(crate) fn peer() -> Peer {
     }
 }
 
-/// A primary of the zone, which may be updated from anywhere.
-fn primary(heap: Heap) -> Result<Primary<RecordList, Unkept>, Fail> {
+/// The zone.
+fn zone(heap: Heap) -> Result<Zone<RecordList>, Fail> {
     let apex = Name::from_text(heap, b"example.", &Name::root(heap))?;
     let Ok(records) = read_zone(heap, ZONE, &apex) else {
         return Err(Fail::from("the file is refused"));
     };
-    let Ok(zone) = Zone::from_records(heap, apex, records) else {
-        return Err(Fail::from("the records are no zone"));
-    };
-    let mut update = Vec::new(heap);
-    update.push(Prefix::parse(b"0.0.0.0/0")?)?;
-    let mut zones = Vec::new(heap);
-    zones.push(zone)?;
+    match Zone::from_records(heap, apex, records) {
+        Ok(zone) => Ok(zone),
+        Err(_) => Err(Fail::from("the records are no zone")),
+    }
+}
+
+/// The prefix of all IPv4 addresses.
+fn anywhere(heap: Heap) -> Result<Vec<Prefix, Heap>, Fail> {
+    let mut prefixes = Vec::new(heap);
+    prefixes.push(Prefix::parse(b"0.0.0.0/0")?)?;
+    Ok(prefixes)
+}
+
+/// The settings of a zone that may be updated from anywhere.
+fn settings(heap: Heap) -> Result<Vec<ZoneSettings, Heap>, Fail> {
     let mut settings = Vec::new(heap);
     settings.push(ZoneSettings {
         snapshot: 8,
         journal: 16,
         keep: 4,
-        update,
+        update: anywhere(heap)?,
     })?;
+    Ok(settings)
+}
+
+/// A list of the zone alone.
+fn zones(heap: Heap) -> Result<Vec<Zone<RecordList>, Heap>, Fail> {
+    let mut zones = Vec::new(heap);
+    zones.push(zone(heap)?)?;
+    Ok(zones)
+}
+
+/// A primary of the zone.
+fn primary(heap: Heap) -> Result<Primary<RecordList, Unkept>, Fail> {
+    let zones = zones(heap)?;
+    let settings = settings(heap)?;
     if zones.len() != settings.len() {
         return Err(Fail::from("one zone"));
     }
