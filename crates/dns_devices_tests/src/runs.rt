@@ -4,8 +4,16 @@ use dns_files::FileSectors;
 use std::fs;
 use std::test::Fail;
 
+/// Takes away the devices that an earlier test left: each runs in a process of its own, one behind the other.
+fn clear(rt: &HostRuntime) {
+    for path in ["example.device", "other.device"] {
+        let _removed = fs::remove_file(rt, path);
+    }
+}
+
 #[test]
 fn made_once_and_shown(rt: HostRuntime) -> Result<(), Fail> {
+    clear(&rt);
     let formatted = "formatted example. serial 7\nformatted other. serial 4294967295\n";
     ended(&rt, &run_init(&rt, OTHER, false)?, 0, formatted, "");
     ended(&rt, &run_dump(&rt, "example.", false)?, 0, PRINTED, "");
@@ -16,6 +24,7 @@ fn made_once_and_shown(rt: HostRuntime) -> Result<(), Fail> {
 
 #[test]
 fn exists_before_any_is_made(rt: HostRuntime) -> Result<(), Fail> {
+    clear(&rt);
     assert!(rt; fs::write(&rt, "other.device", [0u8; 1]).is_ok());
     let exists =
         "other.device: Exists\nother.device: init makes new files alone; move the file away, or serve it\n";
@@ -26,6 +35,7 @@ fn exists_before_any_is_made(rt: HostRuntime) -> Result<(), Fail> {
 
 #[test]
 fn files_come_first(rt: HostRuntime) -> Result<(), Fail> {
+    clear(&rt);
     let refused = "other.zone:1: NoTtl\n";
     ended(&rt, &run_init(&rt, "@ NS ns\n", false)?, 1, "", refused);
     assert_eq!(rt; fs::exists(&rt, "example.device").ok(), Some(false));
@@ -34,6 +44,7 @@ fn files_come_first(rt: HostRuntime) -> Result<(), Fail> {
 
 #[test]
 fn one_that_takes_too_much_is_taken_away(rt: HostRuntime) -> Result<(), Fail> {
+    clear(&rt);
     let mut text = String::from_str(rt.alloc(), OTHER)?;
     for number in 0..40u8 {
         text.push_str(&format!(in rt.alloc(); "h A 192.0.2.{number}\n")?)?;
@@ -47,6 +58,7 @@ fn one_that_takes_too_much_is_taken_away(rt: HostRuntime) -> Result<(), Fail> {
 
 #[test]
 fn devices_that_show_nothing(rt: HostRuntime) -> Result<(), Fail> {
+    clear(&rt);
     ended(
         &rt,
         &run_dump(&rt, "none.", false)?,
@@ -84,6 +96,7 @@ fn devices_that_show_nothing(rt: HostRuntime) -> Result<(), Fail> {
 
 #[test]
 fn one_that_is_served_is_not_shown(rt: HostRuntime) -> Result<(), Fail> {
+    clear(&rt);
     assert_eq!(rt; run_init(&rt, OTHER, false)?.status, 0);
     let served = FileSectors::open(&rt, "example.device");
     assert!(rt; served.is_ok());

@@ -292,16 +292,23 @@ fn none_longer(alloc: Heap, letters: &[u8], from: usize) -> bool {
 }
 
 /// Whether an answer, fed in messages of one to four records, and at first of two or more, agrees with the plain reader.
-fn agrees(alloc: Heap, numbers: &mut Numbers, letters: &[u8]) -> Option<bool> {
-    let mut secondary = asking(alloc)?;
+fn agrees_with(
+    alloc: Heap,
+    secondary: &mut Secondary<RecordList>,
+    numbers: &mut Numbers,
+    letters: &[u8],
+) -> Option<bool> {
     let mut left = letters;
     let mut fed = 0;
-    while !left.is_empty() {
+    for _ in letters {
+        if left.is_empty() {
+            return Some(true);
+        }
         let least = if fed == 0 { 2 } else { 1 };
         let size = (least + usize::from(numbers.next(3))).min(left.len());
         let (part, behind) = left.split_at_checked(size)?;
-        fed += size;
-        match told(alloc, &mut secondary, part, letters.get(..fed)?)? {
+        fed = letters.len() - behind.len().min(letters.len());
+        match told(alloc, secondary, part, letters.get(..fed)?)? {
             Verdict::More => left = behind,
             Verdict::Over => return Some(true),
             Verdict::Fault => return Some(none_longer(alloc, letters, fed)),
@@ -311,6 +318,12 @@ fn agrees(alloc: Heap, numbers: &mut Numbers, letters: &[u8]) -> Option<bool> {
     Some(true)
 }
 
+/// The same of one who holds serial 7.
+fn agrees(alloc: Heap, numbers: &mut Numbers, letters: &[u8]) -> Option<bool> {
+    let mut secondary = asking(alloc)?;
+    agrees_with(alloc, &mut secondary, numbers, letters)
+}
+
 /// The first of so many answers that does not agree, and how many have a meaning.
 fn disagreeing(alloc: Heap, count: u32) -> Option<(Option<u32>, u32)> {
     let mut numbers = Numbers(1);
@@ -318,7 +331,7 @@ fn disagreeing(alloc: Heap, count: u32) -> Option<(Option<u32>, u32)> {
     for number in 0..count {
         let letters = made_up(alloc, &mut numbers)?;
         if meaning(alloc, letters.as_slice()).is_some() {
-            with_meaning += 1;
+            with_meaning = with_meaning.wrapping_add(1);
         }
         if !agrees(alloc, &mut numbers, letters.as_slice())? {
             return Some((Some(number), with_meaning));
