@@ -327,7 +327,7 @@ fn agrees(alloc: Heap, numbers: &mut Numbers, letters: &[u8]) -> Option<bool> {
 /// The first of so many answers that does not agree, and how many have a meaning.
 fn disagreeing(alloc: Heap, count: u32) -> Option<(Option<u32>, u32)> {
     let mut numbers = Numbers(1);
-    let mut with_meaning = 0;
+    let mut with_meaning = 0u32;
     for number in 0..count {
         let letters = made_up(alloc, &mut numbers)?;
         if meaning(alloc, letters.as_slice()).is_some() {
