@@ -36,7 +36,7 @@ abbrev pub AreValid : Handled → Type 0
 AreValid (Replies out) = IsTextOf out
 AreValid NoReply = Unit {0}
 AreValid (Update m q) = Unit {0}
-AreValid (Transfer m q) = Unit {0}
+AreValid (Transfer octets m q) = Unit {0}
 
 first_part : (xs ys : List Record) → AllByRecursion IsRecord (xs ++ ys) → AllByRecursion IsRecord xs
 first_part [] ys h = tt

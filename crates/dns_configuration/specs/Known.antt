@@ -14,3 +14,4 @@ pub record IsSettingOf (settings : ZoneSettings) (known : primary.ZoneSettings) 
   pub journal : known.journal ≡ settings.journal_sectors
   pub keep : known.keep ≡ settings.keep
   pub update : known.update.items ≡ settings.update.items
+  pub transfer : known.transfer.items ≡ settings.transfer.items

@@ -28,6 +28,7 @@ fn setting_of(heap: Heap, own: &ZoneSettings) -> Result<dns_primary::ZoneSetting
         journal: own.journal_sectors,
         keep: own.keep,
         update: Vec::from_slice(heap, &own.update)?,
+        transfer: Vec::from_slice(heap, &own.transfer)?,
     })
 }
 

@@ -45,6 +45,7 @@ begun zone settings = record {
     shape = record { apex = zone.apex; snapshot = settings.snapshot; journal = settings.journal };
     keep = settings.keep;
     may_update = allows settings.update.items;
+    may_transfer = allows settings.transfer.items;
   };
   loaded = zone.records;
   shown = [];
@@ -64,7 +65,7 @@ all_begun (z ∷ zones) (s ∷ settings) e =
       (
         record {
           shape = refl;
-          set = record { keep = refl; update = allows_is s.update.items };
+          set = record { keep = refl; update = allows_is s.update.items; transfer = allows_is s.transfer.items };
           loaded = refl;
           shown = refl;
           staged = refl;

@@ -1,6 +1,6 @@
 -- What replies with SERVFAIL come of.
-use Rattle.std.proofs.Common.{◌≡◌, ◌⊎◌, inl, inr, ⊎_elim, ◌<◌, ℕ, Bool, true, false, List, [], ◌∷◌, ◌++◌, length, map, Option, Some, None, refl, sym, ap, subst, ◌∙◌, arith, suc}
-use Rattle.std.specs.Prelude.{slice_get, not, ◌&&◌, ◌||◌, ◌==◌, ◌%◌, nat_le, nat_lt, is_none, if◌then◌else◌}
+use Rattle.std.proofs.Common.{◌≡◌, ◌⊎◌, inl, inr, ⊎_elim, ◌<◌, ℕ, Bool, true, false, List, [], ◌∷◌, ◌++◌, length, map, Option, Some, None, Result, Ok, Err, refl, sym, ap, subst, ◌∙◌, arith, suc}
+use Rattle.std.specs.Prelude.{slice_get, not, ◌&&◌, ◌||◌, ◌==◌, ◌%◌, nat_le, nat_lt, is_none, is_some, option_map, if◌then◌else◌}
 use Rattle.std.specs.List.{AllByRecursion, Contains}
 use Rattle.std.proofs.lemmas.Bool.Decides.{nat_tests}
 use Rattle.dns_records.specs.Record.{Record}
@@ -8,6 +8,8 @@ use Rattle.dns_records.specs.Types.{type_soa, type_ixfr, type_axfr, type_mailb, 
 use Rattle.dns_wire.specs.Message.{Message, Question, header_of}
 use Rattle.dns_wire.specs.Reading.{message_of}
 use Rattle.dns_wire.specs.Codes.{number_of_rcode}
+use Rattle.dns_wire.specs.declared.codes.Rcode.{Rcode}
+use Rattle.dns_wire.specs.declared.codes.Rcode.TheVariants as rcode
 use Rattle.dns_wire.specs.Text.{Reply, text}
 use Rattle.dns_zone.specs.Zone.{Zone}
 use Rattle.dns_lookup.specs.Lookup.{resolve, zone_of}
@@ -18,6 +20,9 @@ use Rattle.dns_request.specs.declared.request.Transport.TheVariants.{Udp, Tcp}
 use Rattle.dns_answer.specs.Fit.{by_udp_without_additional, failed, truncated, is_referral}
 use Rattle.dns_answer.specs.Sections.{is_name_error}
 use Rattle.dns_answer.specs.Answer.{answered, fitted, handled_as, reply_for, rcode_nxdomain, with_question}
+use Rattle.dns_transfer.specs.Messages.{octets_with, message_with}
+use Rattle.dns_transfer.specs.Refusal.{client_serial, is_malformed, refusal as refusal_by}
+use Rattle.dns_transfer.specs.Session.{Sending, SendsBy}
 use Rattle.dns_update.specs.Verdict.{Verdict, Refuses, Keeps, Leaves, verdict}
 use Rattle.dns_store.specs.Versions.{newest_of}
 use Rattle.dns_store.specs.Room.{entry_between, sectors_left}
@@ -27,13 +32,15 @@ use Rattle.dns_primary.specs.declared.event.Peer.{Peer}
 use Rattle.dns_primary.specs.declared.event.To.{To}
 use Rattle.dns_primary.specs.declared.event.To.TheVariants as to
 use Rattle.dns_primary.specs.declared.event.Noted.TheVariants.{OutOfMemory}
-use Rattle.dns_primary.specs.Machine.{Made, ZoneState, Waits, Machine, kept_of, updates_of, shown_zones, peer_at}
+use Rattle.dns_primary.specs.Machine.{Made, ZoneState, Waits, Machine, kept_of, updates_of, shown_zones, peer_at, sending_at}
 use Rattle.dns_primary.specs.Flush.{Sent, Answered, Replied, rcode_servfail, flushed, flush_sends, released, is_closed_in}
 use Rattle.dns_primary.specs.Connections.{without_connection}
 use Rattle.dns_primary.specs.Update.{Asked, Admission, Rejects, Admits, admission, admission_at, admission_in, place_of, rcode_notauth, waits, stages, replies, accepted_in, judged_in, admitted, is_full, made_place, answer, room_lacked}
-use Rattle.dns_primary.specs.Step.{Event, Datagram, Connect, Arrives, Flush, Checkpoint, Closed, IsCheckpointed, IsBegun, IsUpdated, Effects, IsServed, IsArrived, Goes, Step}
+use Rattle.dns_primary.specs.Transfer.{version_of, zone_named, transport_of, is_free, may_have, OpensFrom, refusal_of, TransferBegins, IsStarted, IsTransferred, IsSentOn, IsPumped}
+use Rattle.dns_primary.specs.Step.{Event, Datagram, Connect, Arrives, Flush, Checkpoint, Pump, Closed, IsCheckpointed, IsBegun, IsUpdated, Effects, IsServed, IsArrived, Goes, Step}
 use Rattle.dns_primary.specs.Runs.{IsReleasedFrom}
 use Rattle.dns_primary.specs.Causes.{code_of, IsForClosed, LacksRoom, UpdateCause, IsTooLong, RequestCause, ArrivedCause, EventCause, HasCause, Waited, HaveCauses}
+use Rattle.dns_primary.proofs.Quiet.{IsQuiet, transferred_quiet, pumped_quiet}
 use Rattle.dns_primary.proofs.Zonewise.{tested}
 use Rattle.dns_primary.proofs.Sound.{all_with, all_more}
 use Rattle.dns_primary.proofs.Released.{step_releases}
@@ -244,6 +251,76 @@ other_answer zones octets m q =
 one_reply : (Cause : Type 0) (old : Machine) (to : To) (octets : List ℕ) → (code_of octets ≡ 2 → Cause) → Ended Cause old (old, Replied to octets ∷ [])
 one_reply Cause old to octets cause = record { sent = (cause, tt); waiting = waited_all old Cause }
 
+-- what goes out by a transfer has NOERROR, or the code of a refusal
+no_error : (message out : List ℕ) → code_of message ≡ 0 → out ≡ message → code_of out ≡ 2 → ⊥
+no_error message out zero_is is e = omega (arith, zero_is, ap code_of (sym is), e)
+
+sends_by : (transport : Transport) (s : Sending) (message : List ℕ) (rest : List Record) → SendsBy transport s message rest → code_of message ≡ 2 → ⊥
+sends_by Tcp s message rest h = no_error (octets_with s.heading s.question h.sent) message refl h.packed
+sends_by Udp s message rest h =
+    let whole = octets_with s.heading s.question s.left in
+    let alone = octets_with s.heading s.question (s.soa ∷ []) in
+    let cut = text (record (message_with s.heading s.question []) { tc = true }) in
+    let P = λ (octets : List ℕ). message ≡ octets → code_of message ≡ 2 → ⊥ in
+    by_test P (nat_le (length whole) 512) whole (elim (nat_le (length alone) 512) [ true ↦ alone | false ↦ cut ]) (λ _ is. no_error whole message refl is)
+    (λ _. by_test P (nat_le (length alone) 512) alone cut (λ _ is. no_error alone message refl is) (λ _ is. no_error cut message refl is)) h.0
+
+same_waiting : (Cause : Type 0) (old new : Machine) (sent : List Sent) → IsQuiet old sent new → AllByRecursion (AtOnce Cause) sent → Ended Cause old (new, sent)
+same_waiting Cause old new sent q out = record { sent = out; waiting = subst (λ (ws : List Waits). AllByRecursion (WaitsBy Cause old) ws) (sym q.waiting) (waited_all old Cause) }
+
+one_sent : (Cause : Type 0) (to : To) (octets : List ℕ) (sent : List Sent) → sent ≡ Replied to octets ∷ [] → (code_of octets ≡ 2 → Cause) → AllByRecursion (AtOnce Cause) sent
+one_sent Cause to octets sent is cause = subst (λ (l : List Sent). AllByRecursion (AtOnce Cause) l) (sym is) (cause, tt)
+
+none_sent : (Cause : Type 0) (sent : List Sent) → sent ≡ [] → AllByRecursion (AtOnce Cause) sent
+none_sent Cause sent is = subst (λ (l : List Sent). AllByRecursion (AtOnce Cause) l) (sym is) tt
+
+abbrev IsOtherCode : Option ℕ → Type 0
+IsOtherCode None = Unit {0}
+IsOtherCode (Some n) = n % 16 ≡ 2 → ⊥
+
+other_code : (n : ℕ) → (n % 16 ≡ 2 → ⊥) → IsOtherCode (Some n)
+other_code n other = other
+
+other_refusal : (transport : Transport) (q : Question) (client : Option ℕ) (held allowed : Bool) → IsOtherCode (refusal_by transport q client held allowed)
+other_refusal transport q client held allowed =
+    either IsOtherCode (is_malformed transport q client) _ _ (other_code rcode_formerr (λ e. omega (arith, e)))
+    (either IsOtherCode (not (q.qclass == class_in) || not held) _ _ (other_code rcode_notauth (λ e. omega (arith, e)))
+    (either IsOtherCode (not allowed) _ _ (other_code rcode_refused (λ e. omega (arith, e))) tt))
+
+refusal_code : (to : To) (octets : List ℕ) (m : Message) (q : Question) (rcode : Rcode) → (number_of_rcode rcode % 16 ≡ 2 → ⊥) → code_of (refusal_of (transport_of to) octets m q rcode) ≡ 2
+    → (n : ℕ) × IsTooLong (transport_of to) (with_question octets m q n)
+refusal_code to octets m q rcode.FormErr other e = absurd (other e)
+refusal_code to octets m q rcode other e = (number_of_rcode rcode, fits (transport_of to) (with_question octets m q (number_of_rcode rcode)) other e)
+
+begun_codes : (Cause : Type 0) (old : Machine) (to : To) (s : Sending) (out : List Sent) (next : Machine) → TransferBegins old to s out next → AllByRecursion (AtOnce Cause) out
+begun_codes Cause old (to.Connection number) s out next h = none_sent Cause out h.0
+begun_codes Cause old (to.Address peer) s out next h = one_sent Cause (to.Address peer) h.0 out h.3 (λ e. absurd (sends_by s.transport s h.0 (h.1).left (h.2).1 e))
+begun_codes Cause old to.Nowhere s out next h = none_sent Cause out h.0
+
+started_codes : (old : Machine) (to : To) (peer : Peer) (octets : List ℕ) (m : Message) (q : Question) (r : Result Sending Rcode) (out : List Sent) (next : Machine) → OpensFrom old to peer octets m q r → IsStarted old to octets m q r out next
+    → AllByRecursion (AtOnce ((n : ℕ) × IsTooLong (transport_of to) (with_question octets m q n))) out
+started_codes old to peer octets m q (Ok s) out next o h = begun_codes _ old to s out next h
+started_codes old to peer octets m q (Err rcode) out next o h =
+    one_sent _ to (refusal_of (transport_of to) octets m q rcode) out h.0
+    (refusal_code to octets m q rcode
+    (subst IsOtherCode o (other_refusal (transport_of to) q (client_serial q m.authorities) (is_some (option_map version_of (zone_named q.name old.zones))) (may_have peer.address (zone_named q.name old.zones) && is_free to old.connections))))
+
+transferred : (old : Machine) (to : To) (peer : Peer) (octets : List ℕ) (m : Message) (q : Question) (out : List Sent) (next : Machine) → IsTransferred old to peer octets m q out next
+    → Ended ((n : ℕ) × IsTooLong (transport_of to) (with_question octets m q n)) old (next, out)
+transferred old to peer octets m q out next h =
+    same_waiting _ old next out (transferred_quiet old to peer octets m q out next h) (started_codes old to peer octets m q h.0 out next h.1 h.2)
+
+sent_codes : (old : Machine) (number : ℕ) (s : Sending) (left : List Record) (out : List Sent) (next : Machine) → IsSentOn old number s left out next → AllByRecursion (AtOnce ⊥) out
+sent_codes old number s [] out next h = none_sent ⊥ out h.0
+sent_codes old number s (r ∷ left) out next h = one_sent ⊥ (to.Connection number) h.0 out h.3 (sends_by s.transport s h.0 (h.1).left (h.2).1)
+
+pumped_codes : (old : Machine) (number : ℕ) (s : Option Sending) (out : List Sent) (next : Machine) → IsPumped old number s out next → AllByRecursion (AtOnce ⊥) out
+pumped_codes old number None out next h = none_sent ⊥ out h.0
+pumped_codes old number (Some s) out next h = sent_codes old number s s.left out next h
+
+pumped : (old : Machine) (number : ℕ) (s : Option Sending) (out : List Sent) (next : Machine) → IsPumped old number s out next → Ended ⊥ old (next, out)
+pumped old number s out next h = same_waiting ⊥ old next out (pumped_quiet old number s out next h) (pumped_codes old number s out next h)
+
 served : (fails : List Bool) (old : Machine) (to : To) (peer : Peer) (octets : List ℕ) (transport : Transport) (r : request.Request) (effects : Effects) (new : Machine) → IsOtherRequest r
     → IsServed fails old to peer (handled_as (shown_zones old) octets transport r) effects new → Ended (RequestCause fails old to peer octets transport r) old (new, effects.sent)
 served fails old to peer octets transport request.Ignored effects new other g =
@@ -256,8 +333,7 @@ served fails old to peer octets transport (request.Query m q) effects new other 
     reaches _ old new old effects.sent _ (g.1).state (g.1).sent (one_reply _ old to _ (fits transport (answered (shown_zones old) octets m q) (other_answer (shown_zones old) octets m q)))
 served fails old to peer octets transport (request.Update m q) effects new other g =
     ends_updated fails old (record { to = to; address = peer.address; message = m; zone = q }) effects new g
-served fails old to peer octets transport (request.Transfer m q) effects new other g =
-    reaches _ old new old effects.sent _ (g.1).state (g.1).sent (one_reply _ old to _ (λ e. omega (arith, e)))
+served fails old to peer octets transport (request.Transfer m q) effects new other g = transferred old to peer octets m q effects.sent new g.1
 
 arrived : (fails : List Bool) (old : Machine) (number : ℕ) (peer : Option Peer) (octets : List ℕ) (effects : Effects) (new : Machine) → IsArrived fails old number peer octets effects new
     → Ended (ArrivedCause fails old number peer octets) old (new, effects.sent)
@@ -286,6 +362,7 @@ goes fails old (Connect peer) effects new g = elim (g.1) [
 goes fails old (Arrives number octets) effects new g = arrived fails old number (peer_at number old.connections) octets effects new g
 goes fails old Flush effects new g = reaches _ old new (flushed fails old) effects.sent (flush_sends fails old) (g.1).state (g.1).sent (record { sent = none_at_once _ _ old.waiting; waiting = tt })
 goes fails old (Checkpoint place) effects new g = checkpointed fails old place (slice_get old.zones place) effects new g
+goes fails old (Pump number) effects new g = pumped old number (sending_at number old.connections) effects.sent new g.1
 goes fails old (Closed number) effects new g = reaches _ old new _ effects.sent [] (g.1).state (g.1).sent (record { sent = tt; waiting = redirected _ old number old.waiting (λ w h. h) })
 
 -- those that waited

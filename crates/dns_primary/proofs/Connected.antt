@@ -9,19 +9,19 @@ use Rattle.dns_primary.specs.declared.event.Peer.{Peer}
 use Rattle.dns_primary.specs.Machine.{Connection, peer_at}
 use Rattle.dns_primary.proofs.Judged.{tested, untested}
 
-is_one : (a b : ℕ) → (a == b) ≡ true → a ≡ b
+pub is_one : (a b : ℕ) → (a == b) ≡ true → a ≡ b
 is_one a b e = grind (arith, nat_tests, e)
 
 is_other : (a b : ℕ) → (a == b) ≡ false → a ≡ b → ⊥
 is_other a b e same = grind (arith, nat_tests, e, same)
 
-test_same : (a b : ℕ) → a ≡ b → (a == b) ≡ true
+pub test_same : (a b : ℕ) → a ≡ b → (a == b) ≡ true
 test_same a b e = grind (arith, nat_tests, e)
 
-test_other : (a b : ℕ) → (a ≡ b → ⊥) → (a == b) ≡ false
+pub test_other : (a b : ℕ) → (a ≡ b → ⊥) → (a == b) ≡ false
 test_other a b e = grind (arith, nat_tests, e)
 
-by_test : {R : Type 0} (b : Bool) → (b ≡ true → R) → (b ≡ false → R) → R
+pub by_test : {R : Type 0} (b : Bool) → (b ≡ true → R) → (b ≡ false → R) → R
 by_test true here other = here refl
 by_test false here other = other refl
 
@@ -126,7 +126,7 @@ module _ (old new : Slab Peer) (number : ℕ) (cs : List Connection) (updates : 
 
 -- a connection is made
 pub connected_are : (old new : Slab Peer) (number : ℕ) (peer : Peer) (cs : List Connection) → Updates old new number (Some peer) → ((n : ℕ) → get old n ≡ peer_at n cs)
-    → (n : ℕ) → get new n ≡ peer_at n (record { number = number; peer = peer } ∷ cs)
+    → (n : ℕ) → get new n ≡ peer_at n (record { number = number; peer = peer; transfer = None } ∷ cs)
 connected_are old new number peer cs updates were n = by_test (number == n)
     (λ e. ap (get new) (sym (is_one number n e)) ∙ updates.changed ∙ sym (tested (number == n) (Some peer) (peer_at n cs) e))
     (λ e. updates.others n (λ same. is_other number n e (sym same)) ∙ were n ∙ sym (untested (number == n) (Some peer) (peer_at n cs) e))

@@ -65,4 +65,4 @@ flushed_settings ss [] zs each = each
 flushed_settings [] (f ∷ fails) [] each = each
 flushed_settings (s ∷ ss) (f ∷ fails) [] each = absurd each
 flushed_settings [] (f ∷ fails) (z ∷ zs) each = absurd each
-flushed_settings (s ∷ ss) (f ∷ fails) (z ∷ zs) each = (record { keep = each.0.keep ∙ ap (λ (t : Setting). t.keep) (sym (setting_stays f z)); update = λ a. subst (λ (t : Setting). IsTrue (t.may_update a) ↔ IsAllowed s.update.items a) (sym (setting_stays f z)) (each.0.update a) }, flushed_settings ss fails zs each.1)
+flushed_settings (s ∷ ss) (f ∷ fails) (z ∷ zs) each = (record { keep = each.0.keep ∙ ap (λ (t : Setting). t.keep) (sym (setting_stays f z)); update = λ a. subst (λ (t : Setting). IsTrue (t.may_update a) ↔ IsAllowed s.update.items a) (sym (setting_stays f z)) (each.0.update a); transfer = λ a. subst (λ (t : Setting). IsTrue (t.may_transfer a) ↔ IsAllowed s.transfer.items a) (sym (setting_stays f z)) (each.0.transfer a) }, flushed_settings ss fails zs each.1)

@@ -130,6 +130,7 @@ module _ {D : Type 0} {g : Ghosts D} (making : ℕ → Type 0) (z : ZoneState) (
   set_recovered w r = record {
     keep = is.set.keep ∙ sym (ap (λ (x : Setting). x.keep) r.setting);
     update = (subst (λ (x : Setting). IsSet s (record z { setting = x })) (sym r.setting) is.set).update;
+    transfer = (subst (λ (x : Setting). IsSet s (record z { setting = x })) (sym r.setting) is.set).transfer;
   }
 
   pub record IsReopened {I : Type 0} (zone : Zone) (b : Behind I (KeptStore D I g)) : Type 0 where

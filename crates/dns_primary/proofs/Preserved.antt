@@ -6,7 +6,7 @@ use Rattle.dns_records.specs.Record.{Record}
 use Rattle.dns_wire.specs.Message.{header_of}
 use Rattle.dns_wire.specs.Text.{text}
 use Rattle.dns_wire.specs.Codes.{number_of_rcode}
-use Rattle.dns_request.specs.Request.{rcode_formerr, rcode_refused, rcode_notimp}
+use Rattle.dns_request.specs.Request.{rcode_formerr, rcode_refused}
 use Rattle.dns_records.specs.Types.{type_soa, class_in}
 use Rattle.dns_answer.specs.Answer.{Handled, NoReply, Replies, Update, Transfer, bare_reply}
 use Rattle.dns_update.specs.Verdict.{Verdict, Refuses, Keeps, Leaves, verdict}
@@ -17,13 +17,14 @@ use Rattle.dns_held.specs.Staging.{has_room}
 use Rattle.dns_primary.specs.declared.event.Peer.{Peer}
 use Rattle.dns_primary.specs.declared.event.To.{To}
 use Rattle.dns_primary.specs.declared.event.To.TheVariants as to
-use Rattle.dns_primary.specs.Machine.{ZoneState, Waits, Machine, kept_of, updates_of, peer_at}
+use Rattle.dns_primary.specs.Machine.{ZoneState, Waits, Machine, kept_of, updates_of, peer_at, sending_at}
 use Rattle.dns_primary.specs.Flush.{Sent, Replied, rcode_servfail, flushed, flush_sends}
 use Rattle.dns_primary.specs.Connections.{connected, closed, without_connection}
 use Rattle.dns_primary.specs.Update.{Asked, Admission, Rejects, Admits, rcode_notauth, place_of, admission_in, admission_at, admission, waits, stages, replies, accepted_in, judged_in, admitted, is_full, made_place, answer, room_lacked}
-use Rattle.dns_primary.specs.Step.{Event, Datagram, Connect, Arrives, Flush, Checkpoint, Closed, IsCheckpointed, IsBegun, IsUpdated, Effects, AreFailures, Gives, IsServed, IsArrived, Goes, Lacks, Step, is_asking, failure, failure_on, failures}
+use Rattle.dns_primary.specs.Step.{Event, Datagram, Connect, Arrives, Flush, Checkpoint, Pump, Closed, IsCheckpointed, IsBegun, IsUpdated, Effects, AreFailures, Gives, IsServed, IsArrived, Goes, Lacks, Step, is_asking, failure, failure_on, failures}
 use Rattle.dns_primary.specs.Checkpoint.{rebased, IsMovedUnlessClosed}
-use Rattle.dns_primary.specs.Runs.{Lasts, IsTrueIn, HasHistory}
+use Rattle.dns_primary.specs.Runs.{Lasts, AllLast, IsTrueIn, HasHistory}
+use Rattle.dns_primary.proofs.Quiet.{IsQuiet, transferred_quiet, pumped_quiet, replies_all}
 use Rattle.dns_primary.proofs.Zonewise.{tested, all_last_same, lasts_same, pair_set, all_set, all_found, Same, same_history}
 use Rattle.dns_primary.proofs.Sound.{IsPlaced, IsSound, Preserves, all_with, stays, and_then, with_reply, flush_preserves, wait_preserves, stage_preserves}
 
@@ -167,13 +168,24 @@ connect_preserves m number peer s = record {
   good = tt;
 }
 
+-- a transfer
+quiet_preserves : (old new : Machine) (sent : List Sent) → IsSound old → IsQuiet old sent new → Preserves old new sent
+quiet_preserves old new sent s q = record {
+  lasts = subst (λ (zs : List ZoneState). AllLast old.zones zs) (sym q.zones) (all_last_same old.zones);
+  sound = record {
+    zones = subst (λ (zs : List ZoneState). AllByRecursion HasHistory zs) (sym q.zones) s.zones;
+    waiting = subst (λ (zs : List ZoneState). AllByRecursion (IsPlaced zs) new.waiting) (sym q.zones) (subst (λ (ws : List Waits). AllByRecursion (IsPlaced old.zones) ws) (sym q.waiting) s.waiting);
+  };
+  good = replies_all (IsTrueIn new.zones) (λ to octets. tt) sent q.replies;
+}
+
 served_goes : (fails : List Bool) (old : Machine) (to : To) (peer : Peer) (h : Handled) (effects : Effects) (new : Machine) → IsSound old → IsServed fails old to peer h effects new → Preserves old new effects.sent
 served_goes fails old to peer NoReply effects new s g = given old effects new old [] [] g.1 (stays old s)
 served_goes fails old to peer (Replies reply) effects new s g = given old effects new old _ [] g.1 (with_reply old old [] to reply (stays old s))
 served_goes fails old to peer (Update message question) effects new s g =
     update_goes fails old (record { to = to; address = peer.address; message = message; zone = question }) effects new s g
-served_goes fails old to peer (Transfer message question) effects new s g =
-    given old effects new old _ [] g.1 (with_reply old old [] to (text (bare_reply message.header rcode_notimp)) (stays old s))
+served_goes fails old to peer (Transfer octets message question) effects new s g =
+    quiet_preserves old new effects.sent s (transferred_quiet old to peer octets message question effects.sent new g.1)
 
 arrived_goes : (fails : List Bool) (old : Machine) (number : ℕ) (peer : Option Peer) (octets : List ℕ) (effects : Effects) (new : Machine) → IsSound old → IsArrived fails old number peer octets effects new → Preserves old new effects.sent
 arrived_goes fails old number None octets effects new s g = given old effects new old [] [] g.1 (stays old s)
@@ -192,6 +204,7 @@ event_goes fails old (Connect peer) effects new s g = elim (g.1) [
 event_goes fails old (Arrives number octets) effects new s g = arrived_goes fails old number (peer_at number old.connections) octets effects new s g
 event_goes fails old Flush effects new s g = given old effects new (flushed fails old) (flush_sends fails old) fails g.1 (flush_preserves fails old g.0 s)
 event_goes fails old (Checkpoint place) effects new s g = checkpointed_goes fails old place (slice_get old.zones place) effects new s g
+event_goes fails old (Pump number) effects new s g = quiet_preserves old new effects.sent s (pumped_quiet old number (sending_at number old.connections) effects.sent new g.1)
 event_goes fails old (Closed number) effects new s g = given old effects new (closed number old) [] [] g.1 (close_preserves number old s)
 
 -- memory that is refused
@@ -209,6 +222,7 @@ failures_true zones m (Arrives number octets) = failure_on_true zones number (pe
 failures_true zones m (Connect peer) = tt
 failures_true zones m Flush = tt
 failures_true zones m (Checkpoint place) = tt
+failures_true zones m (Pump number) = tt
 failures_true zones m (Closed number) = tt
 
 with_failures : (old new : Machine) (sent : List Sent) (event : Event) → Preserves old new sent → Preserves old new (sent ++ failures old event)

@@ -122,7 +122,7 @@ module _ {I S : Type 0} (keeps : S → Kept → Type 0) (zones : List Zone) (beh
             subst (λ (ks : List Kept). Each3 (λ (z : Zone) (b : Behind I S) (k : Kept). HasVersions keeps z b k) zones (slice_set behind place new) ks) (sym (map_set kept_of m.zones place w.zone))
             (mid_set (λ (z : Zone) (b : Behind I S) (k : Kept). HasVersions keeps z b k) zones behind (map kept_of m.zones) place d new (kept_of w.zone) held.zones_are behind_is);
         settings_are = right_set IsSet settings m.zones place z w.zone held.settings_are there
-            (λ s set. record { keep = set.keep ∙ ap (λ (t : Setting). t.keep) (sym w.setting_is); update = λ x. subst (λ (t : Setting). IsTrue (t.may_update x) ↔ IsAllowed s.update.items x) (sym w.setting_is) (set.update x) });
+            (λ s set. record { keep = set.keep ∙ ap (λ (t : Setting). t.keep) (sym w.setting_is); update = λ x. subst (λ (t : Setting). IsTrue (t.may_update x) ↔ IsAllowed s.update.items x) (sym w.setting_is) (set.update x); transfer = λ x. subst (λ (t : Setting). IsTrue (t.may_transfer x) ↔ IsAllowed s.transfer.items x) (sym w.setting_is) (set.transfer x) });
         waiting_are = push2 IsWaiting waiting m.waiting one (record { to = a.to; header = a.message.header; rcode = number_of_rcode rcode; zone = place; updates = w.updates }) held.waiting_are
             (record { to = to_is; header = header_is; rcode = ap number_of_rcode rcode_is; zone = zone_is });
         connections_are = held.connections_are;

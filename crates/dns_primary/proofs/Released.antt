@@ -15,12 +15,13 @@ use Rattle.dns_held.specs.Staging.{has_room}
 use Rattle.dns_primary.specs.declared.event.Peer.{Peer}
 use Rattle.dns_primary.specs.declared.event.To.{To}
 use Rattle.dns_primary.specs.declared.event.To.TheVariants as to
-use Rattle.dns_primary.specs.Machine.{Made, ZoneState, Waits, Machine, kept_of, updates_of, peer_at}
+use Rattle.dns_primary.specs.Machine.{Made, ZoneState, Waits, Machine, kept_of, updates_of, peer_at, sending_at}
 use Rattle.dns_primary.specs.Flush.{Sent, Replied, rcode_servfail, flushed, flush_sends, flushed_zones, released, is_closed_in, is_none_made}
 use Rattle.dns_primary.specs.Checkpoint.{IsMovedUnlessClosed}
 use Rattle.dns_primary.specs.Update.{Asked, Admission, Rejects, Admits, admission, waits, stages, with_staged, replies, accepted_in, judged_in, admitted, is_full, made_place, answer, room_lacked}
-use Rattle.dns_primary.specs.Step.{Event, Datagram, Connect, Arrives, Flush, Checkpoint, Closed, IsCheckpointed, IsBegun, IsUpdated, Effects, IsServed, IsArrived, Goes, Lacks, Step, is_asking, failure, failure_on, failures}
+use Rattle.dns_primary.specs.Step.{Event, Datagram, Connect, Arrives, Flush, Checkpoint, Pump, Closed, IsCheckpointed, IsBegun, IsUpdated, Effects, IsServed, IsArrived, Goes, Lacks, Step, is_asking, failure, failure_on, failures}
 use Rattle.dns_primary.specs.Runs.{IsReleasedFrom}
+use Rattle.dns_primary.proofs.Quiet.{transferred_quiet, pumped_quiet, replies_all}
 use Rattle.dns_primary.proofs.Zonewise.{tested}
 use Rattle.dns_primary.proofs.Sound.{all_with}
 use Rattle.dns_primary.proofs.Preserved.{StandsIn, admission_stands}
@@ -161,7 +162,8 @@ served_releases fails old to peer NoReply effects new g = reaches old new old ef
 served_releases fails old to peer (Replies reply) effects new g = reaches old new old effects.sent _ (g.1).state (g.1).sent (tt, tt)
 served_releases fails old to peer (Update message question) effects new g =
     update_releases fails old (record { to = to; address = peer.address; message = message; zone = question }) effects new g
-served_releases fails old to peer (Transfer message question) effects new g = reaches old new old effects.sent _ (g.1).state (g.1).sent (tt, tt)
+served_releases fails old to peer (Transfer octets message question) effects new g =
+    replies_all (IsReleasedFrom old new) (λ to octets. tt) effects.sent (transferred_quiet old to peer octets message question effects.sent new g.1).replies
 
 arrived_releases : (fails : List Bool) (old : Machine) (number : ℕ) (peer : Option Peer) (octets : List ℕ) (effects : Effects) (new : Machine) → IsArrived fails old number peer octets effects new → Releases old new effects.sent
 arrived_releases fails old number None octets effects new g = reaches old new old effects.sent [] (g.1).state (g.1).sent tt
@@ -176,6 +178,7 @@ event_releases fails old (Connect peer) effects new g = elim (g.1) [
 event_releases fails old (Arrives number octets) effects new g = arrived_releases fails old number (peer_at number old.connections) octets effects new g
 event_releases fails old Flush effects new g = reaches old new (flushed fails old) effects.sent (flush_sends fails old) (g.1).state (g.1).sent (flush_releases fails old (flushed fails old) (λ n e. e))
 event_releases fails old (Checkpoint place) effects new g = checkpointed_releases fails old place (slice_get old.zones place) effects new g
+event_releases fails old (Pump number) effects new g = replies_all (IsReleasedFrom old new) (λ to octets. tt) effects.sent (pumped_quiet old number (sending_at number old.connections) effects.sent new g.1).replies
 event_releases fails old (Closed number) effects new g = subst (λ (xs : List Sent). Releases old new xs) (sym (g.1).sent) tt
 
 failure_released : (old new : Machine) (to : To) (octets : List ℕ) → Releases old new (failure to octets)
@@ -192,6 +195,7 @@ failures_released old new m (Arrives number octets) = failure_on_released old ne
 failures_released old new m (Connect peer) = tt
 failures_released old new m Flush = tt
 failures_released old new m (Checkpoint place) = tt
+failures_released old new m (Pump number) = tt
 failures_released old new m (Closed number) = tt
 
 lacks_releases : (fails : List Bool) (old : Machine) (event : Event) (effects : Effects) (new : Machine) → Lacks fails old event effects new → Releases old new effects.sent

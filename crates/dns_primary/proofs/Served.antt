@@ -34,7 +34,7 @@ use Rattle.dns_primary.specs.Step as machine
 use Rattle.dns_primary.specs.Step.{AreFailures, Gives, IsBegun, IsServed, failure, is_asking, request_lacks}
 use Rattle.dns_primary.specs.Keeps.{HaveVersions, IsKept, AreEffects}
 use Rattle.dns_primary.specs.Queue.{IsAnswered, IsUntouched}
-use Rattle.dns_primary.specs.Steps.{AtAnyMoment, Stepped, nothing, one_reply, answered_with, IsBegunOrLacks, LacksUpdate, IsUpdatedOrLacks, LacksRequest, IsServedOrLacks}
+use Rattle.dns_primary.specs.Steps.{AtAnyMoment, Stepped, nothing, one_reply, answered_with, IsBegunOrLacks, LacksUpdate, IsUpdatedOrLacks, LacksRequest, IsServedOrLacks, LacksAlone, IsTransferredOrLacks}
 use Rattle.dns_primary.proofs.Judged.{tested, untested}
 
 -- the zones are those that the machine shows
@@ -294,6 +294,17 @@ lacks_update fails old new a octets effects asks is kind l =
         ]
       ];
     }
+
+-- a request for a transfer, as a request
+pub transferred_as : (old new : Machine) (peer : Peer) (to : To) (octets : List ℕ) (transport : Transport) (m : Message) (q : Question) (fails : List Bool) (stated : machine.Effects) → request.Transfer m q ≡ request_of octets transport → m.header ≡ header_of octets
+    → IsTransferredOrLacks old peer to octets m q fails stated new → IsServedOrLacks old peer to octets transport fails stated new
+transferred_as old new peer to octets transport m q fails stated e header h =
+    ⊎_elim (λ g. served_as old new peer to octets transport (request.Transfer m q) fails stated e g)
+    (λ (l : LacksAlone fails old to m.header stated new). inr (record {
+      noted = ap (λ (x : machine.Effects). x.noted) l.is;
+      accepted = ap (λ (x : machine.Effects). x.accepted) l.is;
+      stays = inl (l.nothing, l.stays, ap (λ (x : machine.Effects). x.sent) l.is ∙ sym (failure_is to octets m.header (asking octets transport (request.Transfer m q) (sym e) (λ x. cc x)) header));
+    })) h
 
 module _ {I S : Type 0} {i : index.Ghosts I} {s : store.Ghosts S} where
   -- a request that changes nothing is replied to, or lacks memory

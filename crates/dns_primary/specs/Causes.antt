@@ -20,7 +20,8 @@ use Rattle.dns_primary.specs.declared.event.To.TheVariants as to
 use Rattle.dns_primary.specs.Machine.{ZoneState, Waits, Machine, kept_of, shown_zones, peer_at}
 use Rattle.dns_primary.specs.Flush.{Sent, Answered, Replied, is_closed_in, rcode_servfail}
 use Rattle.dns_primary.specs.Update.{Asked, Admits, admission, room_lacked, place_of}
-use Rattle.dns_primary.specs.Step.{Effects, IsBegun, Event, Datagram, Connect, Arrives, Flush, Checkpoint, Closed}
+use Rattle.dns_primary.specs.Transfer.{transport_of}
+use Rattle.dns_primary.specs.Step.{Effects, IsBegun, Event, Datagram, Connect, Arrives, Flush, Checkpoint, Pump, Closed}
 
 -- The response code of a reply (RFC 1035 4.1.1).
 abbrev pub code_of : List ℕ → ℕ
@@ -65,7 +66,8 @@ RequestCause fails m to peer octets transport (request.Query message question) =
     IsTooLong transport (answered (shown_zones m) octets message question)
 RequestCause fails m to peer octets transport (request.Update message question) =
     UpdateCause fails m (record { to = to; address = peer.address; message = message; zone = question })
-RequestCause fails m to peer octets transport (request.Transfer message question) = ⊥
+RequestCause fails m to peer octets transport (request.Transfer message question) =
+    (rcode : ℕ) × IsTooLong (transport_of to) (with_question octets message question rcode)
 
 abbrev pub ArrivedCause : List Bool → Machine → ℕ → Option Peer → List ℕ → Type 0
 ArrivedCause fails m number None octets = ⊥
@@ -78,6 +80,7 @@ EventCause fails m (Arrives number octets) = ArrivedCause fails m number (peer_a
 EventCause fails m (Connect peer) = ⊥
 EventCause fails m Flush = ⊥
 EventCause fails m (Checkpoint place) = ⊥
+EventCause fails m (Pump number) = ⊥
 EventCause fails m (Closed number) = ⊥
 
 -- A reply that waited goes out with SERVFAIL where it waited with it, or where its zone is closed then; one to a request, by the

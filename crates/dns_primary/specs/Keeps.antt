@@ -1,6 +1,6 @@
 -- What a primary keeps of the machine, and how it tells of effects.
-use Rattle.std.specs.Prelude.{◌≡◌, ◌++◌, ◌↔◌, ℕ, List, [], ◌∷◌, map, length, Option, Some, None, Result, Ok, Err, IsTrue, slice_get}
-use Rattle.slab.specs.Slab.{get, slab_len}
+use Rattle.std.specs.Prelude.{◌≡◌, ◌++◌, ◌↔◌, ℕ, List, [], ◌∷◌, map, length, Option, Some, None, Result, Ok, Err, IsTrue, slice_get, ◌==◌, if◌then◌else◌}
+use Rattle.slab.specs.Slab.{Slab, get, slab_len}
 use Rattle.std.specs.declared.net.ip_addr.IpAddr.{IpAddr}
 use Rattle.dns_wire.specs.Message.{header_of}
 use Rattle.dns_wire.specs.Codes.{number_of_rcode}
@@ -9,6 +9,7 @@ use Rattle.dns_zone.specs.declared.index.ZoneIndex as index
 use Rattle.dns_store.specs.declared.zone_store.ZoneStore as store
 use Rattle.dns_policy.specs.Prefix.{IsAllowed}
 use Rattle.dns_store.specs.Versions.{Kept}
+use Rattle.dns_transfer.specs.Session.{Sending}
 use Rattle.dns_held.specs.declared.behind.Behind.{Behind}
 use Rattle.dns_held.specs.Each.{Each2, Each3}
 use Rattle.dns_held.specs.Held.{HasVersions}
@@ -16,11 +17,14 @@ use Rattle.dns_primary.specs.declared.event.Waiting.{Waiting}
 use Rattle.dns_primary.specs.declared.event.HeaderTo.{HeaderTo}
 use Rattle.dns_primary.specs.declared.event.Reply.{Reply}
 use Rattle.dns_primary.specs.declared.event.Effects.{Effects}
+use Rattle.dns_primary.specs.declared.event.Peer.{Peer}
 use Rattle.dns_primary.specs.declared.event.To.{To}
+use Rattle.dns_primary.specs.declared.event.To.TheVariants as to
 use Rattle.dns_primary.specs.declared.primary.Primary.{Primary}
 use Rattle.dns_primary.specs.declared.primary.ZoneSettings.{ZoneSettings}
 use Rattle.dns_primary.specs.To.{octets_in}
-use Rattle.dns_primary.specs.Machine.{Waits, Machine, ZoneState, kept_of, peer_at}
+use Rattle.dns_primary.specs.declared.transfers.OpenTransfer.{OpenTransfer}
+use Rattle.dns_primary.specs.Machine.{Waits, Machine, ZoneState, kept_of, peer_at, sending_at}
 use Rattle.dns_primary.specs.Flush.{all_out}
 use Rattle.dns_wire.specs.declared.codes.Rcode.{Rcode}
 use Rattle.dns_primary.specs.Update.{Admission, Rejects, Admits, rcode_notauth}
@@ -37,18 +41,26 @@ pub record IsWaiting (w : Waiting) (stated : Waits) : Type 0 where
   pub rcode : number_of_rcode w.rcode ≡ stated.rcode
   pub zone : w.zone ≡ stated.zone
 
--- A checkpoint keeps so many changes, and the addresses from which a zone may be updated are those that its list allows.
+-- A checkpoint keeps so many changes, and the addresses from which a zone may be updated are those that its list allows, and so are
+-- those from which it may be transferred.
 pub record IsSet (s : ZoneSettings) (z : ZoneState) : Type 0 where
   pub keep : s.keep ≡ z.setting.keep
   pub update : (a : IpAddr) → IsTrue (z.setting.may_update a) ↔ IsAllowed s.update.items a
+  pub transfer : (a : IpAddr) → IsTrue (z.setting.may_transfer a) ↔ IsAllowed s.transfer.items a
 
--- What is shown, what stands behind it, what waits and the connections are those of the machine, whatever older versions there
--- were.
+-- The transfer that is open on the connection with that number, as they are stored.
+abbrev pub sending_on : {I : Type 0} → ℕ → List (OpenTransfer I) → Option Sending
+sending_on number [] = None
+sending_on number (t ∷ rest) = if t.number == number then Some t.session else sending_on number rest
+
+-- What is shown, what stands behind it, what waits, the connections and the transfers that are open on them are those of the machine,
+-- whatever older versions there were.
 pub record IsKept {I S : Type 0} {i : index.Ghosts I} {s : store.Ghosts S} (p : Primary I S i s) (m : Machine) : Type 0 where
   pub zones_are : HaveVersions s.keeps p.zones.items p.behind.items m.zones
   pub settings_are : Each2 IsSet p.settings.items m.zones
   pub waiting_are : Each2 IsWaiting p.waiting.items m.waiting
   pub connections_are : (number : ℕ) → get p.connections number ≡ peer_at number m.connections
+  pub transfers_are : (number : ℕ) → sending_on number p.transfers.items ≡ sending_at number m.connections
   pub as_many : slab_len p.connections ≡ length m.connections
 
 abbrev pub header_out : HeaderTo → To × List ℕ
@@ -76,3 +88,9 @@ admits_at place (Some z) = Admits place z
 abbrev pub admission_shown : List ZoneState → Result ℕ Rcode → Admission
 admission_shown states (Ok place) = admits_at place (slice_get states place)
 admission_shown states (Err rcode) = Rejects (number_of_rcode rcode)
+
+-- Where a reply goes to a connection, it is there.
+abbrev pub IsThere : Slab Peer → To → Type 0
+IsThere connections (to.Address peer) = Unit {0}
+IsThere connections (to.Connection number) = get connections number ≡ None → ⊥
+IsThere connections to.Nowhere = Unit {0}

@@ -4,14 +4,17 @@ pub mod Flush
 pub mod Update
 pub mod Checkpoint
 pub mod Connections
+pub mod Transfer
 pub mod Step
 pub mod Stop
 pub mod Keeps
 pub mod Outcome
 pub mod Queue
 pub mod Steps
+pub mod Sending
 pub mod Fresh
 pub mod Open
 pub mod HandOut
 pub mod Runs
+pub mod Continues
 pub mod Causes

@@ -5,16 +5,18 @@ use Rattle.dns_records.specs.Record.{Record}
 use Rattle.dns_zone.specs.Zone.{Zone}
 use Rattle.dns_wire.specs.Message.{Header, Message}
 use Rattle.dns_store.specs.Versions.{Shape, Kept, Versions}
+use Rattle.dns_transfer.specs.Session.{Sending}
 use Rattle.dns_held.specs.Held.{shown_zone}
 use Rattle.dns_primary.specs.declared.event.Peer.{Peer}
 use Rattle.dns_primary.specs.declared.event.To.{To}
 
 -- What is configured of a zone: its apex, the sizes of its store, how many changes a checkpoint keeps at most, and from which
--- addresses it may be updated.
+-- addresses it may be updated and transferred.
 pub record Setting : Type 0 where
   pub shape : Shape
   pub keep : ℕ
   pub may_update : IpAddr → Bool
+  pub may_transfer : IpAddr → Bool
 
 -- An accepted update, and the records that it left.
 pub record Made : Type 0 where
@@ -60,10 +62,11 @@ pub record Waits : Type 0 where
   pub zone : ℕ
   pub updates : List Made
 
--- A connection, and the peer that made it.
+-- A connection, the peer that made it, and the transfer that is open on it.
 pub record Connection : Type 0 where
   pub number : ℕ
   pub peer : Peer
+  pub transfer : Option Sending
 
 pub record Machine : Type 0 where
   pub zones : List ZoneState
@@ -78,3 +81,8 @@ shown_zones m = map (λ z. shown_zone (kept_of z)) m.zones
 abbrev pub peer_at : ℕ → List Connection → Option Peer
 peer_at number [] = None
 peer_at number (c ∷ rest) = if c.number == number then Some c.peer else peer_at number rest
+
+-- The transfer that is open on the connection with that number.
+abbrev pub sending_at : ℕ → List Connection → Option Sending
+sending_at number [] = None
+sending_at number (c ∷ rest) = if c.number == number then c.transfer else sending_at number rest

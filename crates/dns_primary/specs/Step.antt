@@ -2,7 +2,7 @@
 use Rattle.std.specs.Prelude.{◌≡◌, ◌⊎◌, ◌<◌, ◌≤◌, ℕ, Bool, true, false, not, ◌&&◌, ◌||◌, ◌==◌, nat_lt, List, [], ◌∷◌, ◌++◌, length, slice_get, is_some, Option, Some, None, if◌then◌else◌}
 use Rattle.dns_wire.specs.Message.{header_of}
 use Rattle.dns_wire.specs.Text.{text}
-use Rattle.dns_request.specs.Request.{opcode_update, rcode_notimp}
+use Rattle.dns_request.specs.Request.{opcode_update}
 use Rattle.dns_request.specs.declared.request.Transport.TheVariants.{Udp, Tcp}
 use Rattle.dns_answer.specs.Answer.{Handled, NoReply, Replies, Update, Transfer, handled, bare_reply}
 use Rattle.dns_held.specs.Flush.{first_true}
@@ -11,20 +11,22 @@ use Rattle.dns_primary.specs.declared.event.To.{To}
 use Rattle.dns_primary.specs.declared.event.To.TheVariants as to
 use Rattle.dns_primary.specs.declared.event.Noted.{Noted}
 use Rattle.dns_primary.specs.declared.event.Noted.TheVariants.{Nothing, OutOfMemory, Device}
-use Rattle.dns_primary.specs.Machine.{ZoneState, Machine, shown_zones, peer_at}
+use Rattle.dns_primary.specs.Machine.{ZoneState, Machine, shown_zones, peer_at, sending_at}
 use Rattle.dns_primary.specs.Flush.{Sent, Replied, rcode_servfail, flushed, flush_sends}
 use Rattle.dns_primary.specs.Update.{Asked, is_full, made_place, room_lacked, answer}
 use Rattle.dns_primary.specs.Checkpoint.{IsCheckpoint, either_fails, first_of}
+use Rattle.dns_primary.specs.Transfer.{IsTransferred, IsPumped}
 use Rattle.dns_primary.specs.Connections.{connected, closed, most_connections}
 
 -- A datagram comes from a peer, a peer connects, a message comes on a connection, what waits is to be flushed, the zone at a place
--- is to get a later base, a connection is closed.
+-- is to get a later base, a transfer is to give its next message, a connection is closed.
 pub data Event : Type 0 where
   Datagram : Peer → List ℕ → Event
   Connect : Peer → Event
   Arrives : ℕ → List ℕ → Event
   Flush : Event
   Checkpoint : ℕ → Event
+  Pump : ℕ → Event
   Closed : ℕ → Event
 
 -- What goes out, the number of a connection that was made, and what is to be known of it besides.
@@ -87,14 +89,14 @@ pub record IsUpdated (fails : List Bool) (old : Machine) (a : Asked) (effects : 
   pub accepted : effects.accepted ≡ first.accepted
   pub noted : effects.noted ≡ first.noted
 
--- What is done with a request, by what becomes of its octets: a query is answered of what is shown, transfers are not served.
+-- What is done with a request, by what becomes of its octets: a query is answered of what is shown.
 abbrev pub IsServed : List Bool → Machine → To → Peer → Handled → Effects → Machine → Type 0
 IsServed fails old to peer NoReply effects new = (fails ≡ []) × Gives effects new old [] []
 IsServed fails old to peer (Replies reply) effects new = (fails ≡ []) × Gives effects new old (Replied to reply ∷ []) []
 IsServed fails old to peer (Update message question) effects new =
     IsUpdated fails old (record { to = to; address = peer.address; message = message; zone = question }) effects new
-IsServed fails old to peer (Transfer message question) effects new =
-    (fails ≡ []) × Gives effects new old (Replied to (text (bare_reply message.header rcode_notimp)) ∷ []) []
+IsServed fails old to peer (Transfer octets message question) effects new =
+    (fails ≡ []) × IsTransferred old to peer octets message question effects.sent new × Tells effects effects.sent None
 
 -- A message on a connection that isn't there does nothing.
 abbrev pub IsArrived : List Bool → Machine → ℕ → Option Peer → List ℕ → Effects → Machine → Type 0
@@ -118,6 +120,8 @@ Goes fails old (Connect peer) effects new = (fails ≡ []) × IsConnected old pe
 Goes fails old (Arrives number octets) effects new = IsArrived fails old number (peer_at number old.connections) octets effects new
 Goes fails old Flush effects new = IsFlushed fails old effects new
 Goes fails old (Checkpoint place) effects new = IsCheckpointed fails old place (slice_get old.zones place) effects new
+Goes fails old (Pump number) effects new =
+    (fails ≡ []) × IsPumped old number (sending_at number old.connections) effects.sent new × Tells effects effects.sent None
 Goes fails old (Closed number) effects new = (fails ≡ []) × Gives effects new (closed number old) [] []
 
 -- Octets that get a reply: a header, and no response (RFC 1035 4.1.1).
@@ -138,6 +142,7 @@ failures m (Arrives number octets) = failure_on number (peer_at number m.connect
 failures m (Connect peer) = []
 failures m Flush = []
 failures m (Checkpoint place) = []
+failures m (Pump number) = []
 failures m (Closed number) = []
 
 -- A flush takes no memory, nor does the end of a connection.
@@ -147,6 +152,7 @@ takes_memory (Connect peer) = true
 takes_memory (Arrives number octets) = true
 takes_memory Flush = false
 takes_memory (Checkpoint place) = true
+takes_memory (Pump number) = true
 takes_memory (Closed number) = false
 
 -- The checkpoint that comes first where an update lacks room: of which zone, and the room that it leaves.
@@ -155,7 +161,7 @@ request_lacks m to peer NoReply = None
 request_lacks m to peer (Replies reply) = None
 request_lacks m to peer (Update message question) =
     room_lacked m (record { to = to; address = peer.address; message = message; zone = question })
-request_lacks m to peer (Transfer message question) = None
+request_lacks m to peer (Transfer octets message question) = None
 
 abbrev pub arrived_lacks : Machine → ℕ → Option Peer → List ℕ → Option (ℕ × ℕ)
 arrived_lacks m number None octets = None
@@ -167,6 +173,7 @@ checkpoint_first m (Arrives number octets) = arrived_lacks m number (peer_at num
 checkpoint_first m (Connect peer) = None
 checkpoint_first m Flush = None
 checkpoint_first m (Checkpoint place) = None
+checkpoint_first m (Pump number) = None
 checkpoint_first m (Closed number) = None
 
 -- An update that comes while as many wait as may flushes first, and so does one that lacks room, and the checkpoint of a zone that
@@ -179,6 +186,7 @@ flushes_first m (Arrives number octets) =
 flushes_first m (Connect peer) = false
 flushes_first m Flush = false
 flushes_first m (Checkpoint place) = is_some (slice_get m.zones place)
+flushes_first m (Pump number) = false
 flushes_first m (Closed number) = false
 
 -- Of which zone the event moves the base, and the room that is to be left.
@@ -188,6 +196,7 @@ base_moved m (Arrives number octets) = checkpoint_first m (Arrives number octets
 base_moved m (Connect peer) = None
 base_moved m Flush = None
 base_moved m (Checkpoint place) = Some (place, 0)
+base_moved m (Pump number) = None
 base_moved m (Closed number) = None
 
 -- Memory was refused: the machine is as before, or as after the event's flush, or as after the flush and the checkpoint that come

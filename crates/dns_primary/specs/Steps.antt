@@ -1,10 +1,11 @@
 -- Steps of a primary, and what is told of them.
 use Rattle.std.specs.Prelude.{◌≡◌, ◌⊎◌, ℕ, zero, suc, Bool, true, ◌&&◌, ◌||◌, ◌==◌, is_some, List, [], ◌∷◌, ◌++◌, Option, Some, None, Result, Ok, Err, map, slice_get}
-use Rattle.dns_wire.specs.Message.{header_of}
+use Rattle.dns_wire.specs.Message.{Header, Question, Message, header_of}
 use Rattle.dns_wire.specs.Codes.{number_of_rcode}
 use Rattle.dns_request.specs.Request.{opcode_update}
 use Rattle.dns_request.specs.declared.request.Transport.{Transport}
-use Rattle.dns_answer.specs.Answer.{handled}
+use Rattle.dns_wire.specs.Text.{text}
+use Rattle.dns_answer.specs.Answer.{Handled, Transfer, bare_reply, handled}
 use Rattle.dns_zone.specs.declared.index.ZoneIndex as index
 use Rattle.dns_store.specs.declared.zone_store.ZoneStore as store
 use Rattle.dns_sectors.specs.Device.{Content, LeavesOnly}
@@ -27,7 +28,7 @@ use Rattle.dns_primary.specs.declared.update.Outcome.{Outcome}
 use Rattle.dns_primary.specs.declared.update.Outcome.TheVariants as outcome
 use Rattle.dns_primary.specs.Machine.{ZoneState, Machine, kept_of, shown_zones}
 use Rattle.dns_primary.specs.Checkpoint.{either_fails}
-use Rattle.dns_primary.specs.Flush.{Sent, flushed, flush_sends, rcode_servfail}
+use Rattle.dns_primary.specs.Flush.{Sent, Replied, flushed, flush_sends, rcode_servfail}
 use Rattle.dns_primary.specs.Update.{Asked, replies, is_full, room_lacked}
 use Rattle.dns_primary.specs.Step as machine
 use Rattle.dns_primary.specs.Step.{AreFailures, IsBegun, IsServed, IsUpdated, failure, request_lacks}
@@ -40,6 +41,7 @@ event_shown (event.Connect peer) = machine.Connect peer
 event_shown (event.Message number octets) = machine.Arrives number octets.now
 event_shown event.Flush = machine.Flush
 event_shown (event.Checkpoint place) = machine.Checkpoint place
+event_shown (event.Pump number) = machine.Pump number
 event_shown (event.Closed number) = machine.Closed number
 
 -- A crash at any moment between the two leaves each device so that it opens as the versions shown and the first of those staged.
@@ -192,3 +194,15 @@ abbrev pub IsServedOrLacks : Machine → Peer → To → List ℕ → Transport 
 IsServedOrLacks old peer to octets transport fails effects new =
     IsServed fails old to peer (handled (shown_zones old) octets transport) effects new
     ⊎ LacksRequest fails old to (request_lacks old to peer (handled (shown_zones old) octets transport)) octets effects new
+
+-- Memory was refused to a request that changes nothing then.
+pub record LacksAlone (fails : List Bool) (old : Machine) (to : To) (header : Header) (effects : machine.Effects) (new : Machine)
+    : Type 0 where
+  pub nothing : fails ≡ []
+  pub stays : new ≡ old
+  pub is : effects ≡ record (one_reply (Replied to (text (bare_reply header rcode_servfail)))) { noted = OutOfMemory }
+
+-- What becomes of a request for a transfer.
+abbrev pub IsTransferredOrLacks : Machine → Peer → To → List ℕ → Message → Question → List Bool → machine.Effects → Machine → Type 0
+IsTransferredOrLacks old peer to octets message question fails effects new =
+    IsServed fails old to peer (Transfer octets message question) effects new ⊎ LacksAlone fails old to message.header effects new

@@ -27,7 +27,7 @@ fn has_apex<I: ZoneIndex>(zone: &Zone<I>, apex: &NameRef<'_>) -> bool
 }
 
 /// The place of the first zone of that apex.
-fn place_of<I: ZoneIndex>(zones: &[Zone<I>], apex: &NameRef<'_>) -> Option<usize>
+pub(crate) fn place_of<I: ZoneIndex>(zones: &[Zone<I>], apex: &NameRef<'_>) -> Option<usize>
     ensures place { result ≡ position (λ z. names_eq z.apex apex.now) zones.now }
     ensures inside { IfSome result (λ place. place < length zones.now) }
 {

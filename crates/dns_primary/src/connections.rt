@@ -8,6 +8,7 @@ ghost use Rattle.dns_primary.specs.Step.{Step, Connect, Closed};
 ghost use Rattle.dns_primary.specs.Keeps.{IsKept};
 ghost use Rattle.dns_primary.specs.Steps.{Stepped};
 
+use crate::transfers::forget;
 use crate::{Effects, Noted, Peer, Primary, To, Waiting};
 use dns_store::ZoneStore;
 use dns_zone::ZoneIndex;
@@ -63,7 +64,7 @@ impl<I: ZoneIndex, S: ZoneStore> Primary<I, S> {
         }
     }
 
-    /// A connection is closed. What waits to go to it keeps its place, and goes nowhere.
+    /// A connection is closed. What waits to go to it keeps its place, and goes nowhere; the transfer that is open on it is forgotten.
     pub(crate) fn close(&mut self, number: usize) -> Effects
         ensures step { (old : Machine) → IsKept self.old old
             → Stepped old self.old self.new result (λ fails stated next. Step fails old (Closed number) stated next) }
@@ -71,6 +72,7 @@ impl<I: ZoneIndex, S: ZoneStore> Primary<I, S> {
     {
         let _closed = self.connections.try_remove(number);
         redirect(self.waiting.as_mut_slice(), number);
+        forget(&mut self.transfers, number);
         Effects::nothing(*self.places.allocator())
     }
 }

@@ -52,6 +52,8 @@ pub enum Event<'a> {
     Flush,
     /// The zone at a place is to be flushed with all others, and then to get a later base, so that its journal has room again.
     Checkpoint(usize),
+    /// The transfer that is open on a connection is to give its next message.
+    Pump(usize),
     /// A connection is closed.
     Closed(usize),
 }

@@ -1,14 +1,16 @@
 //! What holds of every run of the machine.
-ghost use Rattle.std.specs.Prelude.{◌≡◌, ◌≢◌, ℕ, Bool, List, length};
+ghost use Rattle.std.specs.Prelude.{◌≡◌, ◌≢◌, ℕ, Bool, List, None, Some, length};
 ghost use Rattle.std.specs.List.{AllByRecursion};
 ghost use Rattle.dns_zone.specs.Zone.{Zone as StatedZone};
 ghost use Rattle.dns_store.specs.Versions.{OpensAsLeft};
 ghost use Rattle.dns_store.specs.Opens.{opens};
 ghost use Rattle.dns_held.specs.Checkpoint.{OpensAsCheckpointed};
-ghost use Rattle.dns_primary.specs.Machine.{Machine, ZoneState, kept_of};
+ghost use Rattle.dns_transfer.specs.Session.{Sending};
+ghost use Rattle.dns_primary.specs.Machine.{Machine, ZoneState, kept_of, sending_at};
 ghost use Rattle.dns_primary.specs.Step.{Effects as StatedEffects, Event as StatedEvent, Step};
 ghost use Rattle.dns_primary.specs.Stop.{Checkpoints, IsMaking, OpensAsRecovered};
 ghost use Rattle.dns_primary.specs.Fresh.{IsFresh};
+ghost use Rattle.dns_primary.specs.Continues.{Continues, OpensOn};
 ghost use Rattle.dns_primary.specs.Causes.{HaveCauses};
 ghost use Rattle.dns_primary.specs.declared.event.Noted.TheVariants.{OutOfMemory};
 ghost use Rattle.dns_primary.specs.Runs.{IsReleasedFrom, Moment, Run, Promise};
@@ -48,6 +50,17 @@ pub fn replies_wait_law()
 pub fn servfail_law()
     ensures { (fails : List Bool) (old : Machine) (event : StatedEvent) (effects : StatedEffects) (new : Machine)
         → Step fails old event effects new → effects.noted ≢ OutOfMemory → HaveCauses fails old event effects.sent new }
+{}
+
+/// A transfer that is open on a connection is of the version that was shown when its request came there, for a peer that may have
+/// it. Whatever else happens from then on, in any order, each pump of the connection gives its next message (RFC 5936 section 2.2,
+/// RFC 1995 section 4), until the last one; where memory is refused the next pump gives it.
+pub fn transfers_law()
+    ensures opened { (number : ℕ) (fails : List Bool) (old : Machine) (event : StatedEvent) (effects : StatedEffects) (new : Machine)
+        (s : Sending) → sending_at number old.connections ≡ None → sending_at number new.connections ≡ Some s
+        → Step fails old event effects new → OpensOn old number event s }
+    ensures continues { (number : ℕ) (start : Machine) (run : List Moment)
+        → Run start run → Continues number run (sending_at number start.connections) }
 {}
 
 /// Zones and as many settings have a machine to which nothing has happened: what is said of each such machine is said of one.

@@ -13,11 +13,12 @@ mod primary;
 mod queue;
 mod serve;
 mod step;
+mod transfers;
 mod unkept;
 mod update;
 mod waits;
 
 pub use event::{Effects, Event, HeaderTo, Noted, Peer, Reply, ReplyOctets, To, Waiting};
-pub use laws::{fresh_law, replies_wait_law, servfail_law, stop_law, versions_law};
+pub use laws::{fresh_law, replies_wait_law, servfail_law, stop_law, transfers_law, versions_law};
 pub use open::NotOpened;
 pub use primary::{Primary, ZoneSettings};

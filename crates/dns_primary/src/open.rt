@@ -189,6 +189,7 @@ impl<D: Sectors + Drop, I: ZoneIndex> Primary<I, KeptStore<D, I>> {
                 waiting: ArrayVec::new(),
                 places: Vec::new(alloc),
                 connections: Slab::new(alloc),
+                transfers: Vec::new(alloc),
             }),
             Err(refusal) => Err(NotOpened {
                 place: refusal.place,
@@ -223,6 +224,7 @@ impl<D: Sectors + Drop, I: ZoneIndex> Primary<I, KeptStore<D, I>> {
             waiting: _,
             places: _,
             connections: _,
+            transfers: _,
         } = self;
         take_back(&mut devices, behind);
         Ok(devices)

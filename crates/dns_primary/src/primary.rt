@@ -1,6 +1,7 @@
 //! What a primary keeps.
 ghost use Rattle.std.specs.Prelude.{◌≡◌, ◌≤◌, [], length, vec_capacity};
 
+use crate::transfers::OpenTransfer;
 use crate::{HeaderTo, Peer, Waiting};
 use arrayvec::ArrayVec;
 use dns_held::Behind;
@@ -21,9 +22,12 @@ pub struct ZoneSettings {
     pub keep: u32,
     /// From which addresses the zone may be updated.
     pub update: Vec<Prefix, Heap>,
+    /// From which addresses the zone may be transferred.
+    pub transfer: Vec<Prefix, Heap>,
 }
 
-/// All zones as they are shown, what stands behind each, the replies that wait, and the connections.
+/// All zones as they are shown, what stands behind each, the replies that wait, the connections, and the transfers that are open on
+/// them, at most one on each.
 #[derive(Drop)]
 pub struct Primary<I: ZoneIndex, S: ZoneStore> {
     pub(crate) zones: Vec<Zone<I>, Heap>,
@@ -33,6 +37,7 @@ pub struct Primary<I: ZoneIndex, S: ZoneStore> {
     // Nothing, with a place for each reply that waits: a flush hands it out.
     pub(crate) places: Vec<HeaderTo, Heap>,
     pub(crate) connections: Slab<Peer, Heap>,
+    pub(crate) transfers: Vec<OpenTransfer<I>, Heap>,
     ghost as_many: { length zones.items ≡ length behind.items },
     ghost settled: { length zones.items ≡ length settings.items },
     ghost unused: { places.items ≡ [] },

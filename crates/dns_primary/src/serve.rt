@@ -9,7 +9,7 @@ ghost use Rattle.dns_primary.specs.To.{is_nowhere};
 ghost use Rattle.dns_primary.specs.Machine.{Machine, shown_zones};
 ghost use Rattle.dns_primary.specs.Update.{answer, room_lacked};
 ghost use Rattle.dns_primary.specs.Step.{IsBegun, request_lacks};
-ghost use Rattle.dns_primary.specs.Keeps.{IsKept};
+ghost use Rattle.dns_primary.specs.Keeps.{IsKept, IsThere};
 ghost use Rattle.dns_primary.specs.Queue.{HoldsStill, IsAnswered, IsJudged, IsReady, IsStageableAt, IsTested, IsUntouched, asked_of};
 ghost use Rattle.dns_primary.specs.Steps.{IsBegunOrLacks, IsServedOrLacks, IsUpdatedOrLacks, Stepped, SteppedOn};
 
@@ -21,7 +21,6 @@ use dns_memory::Heap;
 use dns_names::Name;
 use dns_request::{Request, Transport, classify};
 use dns_store::ZoneStore;
-use dns_wire::Rcode;
 use dns_zone::ZoneIndex;
 use std::alloc::AllocError;
 
@@ -168,7 +167,8 @@ impl<I: ZoneIndex, S: ZoneStore> Primary<I, S> {
         octets: &[u8],
         transport: Transport,
     ) -> Effects
-        requires { is_nowhere to ≡ false }
+        requires somewhere { is_nowhere to ≡ false }
+        requires there { IsThere self.old.connections to }
         ensures step { (old : Machine) → IsKept self.old old
             → SteppedOn old (request_lacks old to peer (handled (shown_zones old) octets.now transport)) self.old self.new result
             (IsServedOrLacks old peer to octets.now transport) }
@@ -202,9 +202,7 @@ impl<I: ZoneIndex, S: ZoneStore> Primary<I, S> {
                     },
                 )
             }
-            Request::Transfer(request) => {
-                Effects::refusal(alloc, to, header_octets(&request), Rcode::NotImp)
-            }
+            Request::Transfer(request) => self.transfer(alloc, peer, to, &request),
         }
     }
 }

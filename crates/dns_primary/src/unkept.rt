@@ -55,6 +55,7 @@ impl<I: ZoneIndex> Primary<I, Unkept> {
             waiting: ArrayVec::new(),
             places: Vec::new(alloc),
             connections: Slab::new(alloc),
+            transfers: Vec::new(alloc),
         })
     }
 }

@@ -52,6 +52,7 @@ printed_connection (machine.Datagram peer octets) accepted = []
 printed_connection (Arrives number octets) accepted = []
 printed_connection machine.Flush accepted = []
 printed_connection (machine.Checkpoint place) accepted = []
+printed_connection (machine.Pump number) accepted = []
 printed_connection (Closed number) accepted = []
 
 -- The zone whose device failed first.

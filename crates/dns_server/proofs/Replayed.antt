@@ -54,7 +54,7 @@ fresh_zones files [] [] [] [] h k e = tt
 fresh_zones files (s ∷ ss) (p ∷ ps) (z ∷ zs) (m ∷ ms) h k e = (
   record {
     shape = e.0.shape ∙ (λ i. record { apex = z.apex; snapshot = sym k.0.snapshot i; journal = sym k.0.journal i });
-    set = record { keep = k.0.keep ∙ sym e.0.keep; update = λ a. subst (λ (ps : List (IpAddr × ℕ)). IsTrue (m.setting.may_update a) ↔ IsAllowed ps a) (sym k.0.update) (e.0.update a) };
+    set = record { keep = k.0.keep ∙ sym e.0.keep; update = λ a. subst (λ (ps : List (IpAddr × ℕ)). IsTrue (m.setting.may_update a) ↔ IsAllowed ps a) (sym k.0.update) (e.0.update a); transfer = λ a. subst (λ (ps : List (IpAddr × ℕ)). IsTrue (m.setting.may_transfer a) ↔ IsAllowed ps a) (sym k.0.transfer) (e.0.transfer a) };
     loaded = e.0.loaded;
     shown = e.0.shown;
     staged = e.0.staged;

@@ -27,6 +27,7 @@ pub record IsBegun (settings : ZoneSettings) (zone : Zone) (z : ZoneState) : Typ
       ≡ record { apex = zone.apex; snapshot = settings.snapshot_sectors; journal = settings.journal_sectors }
   pub keep : z.setting.keep ≡ settings.keep
   pub update : (a : IpAddr) → IsTrue (z.setting.may_update a) ↔ IsAllowed settings.update.items a
+  pub transfer : (a : IpAddr) → IsTrue (z.setting.may_transfer a) ↔ IsAllowed settings.transfer.items a
   pub loaded : z.loaded ≡ zone.records
   pub shown : z.shown ≡ []
   pub staged : z.staged ≡ []

@@ -123,6 +123,7 @@ pub(crate) fn primary(heap: Heap) -> Result<Primary<RecordList, Unkept>, Fail> {
         journal: 8,
         keep: 4,
         update: Vec::new(heap),
+        transfer: Vec::new(heap),
     })?;
     if zones.len() != settings.len() {
         return Err(Fail::from("a zone without settings"));

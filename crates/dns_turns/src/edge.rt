@@ -187,9 +187,20 @@ impl<S: Stream + Drop> Edge<S> {
         true
     }
 
-    /// Queues the next message of a transfer. There are no transfers yet.
-    fn pump(&mut self, _number: usize) -> bool {
-        false
+    /// Queues the next message of the transfer that is open on a connection, and answers whether there was one. Where memory is
+    /// refused there was none, and a later pump gives it.
+    fn pump<I: ZoneIndex, D: ZoneStore, N: Network<S>, L: Notes>(
+        &mut self,
+        alloc: Heap,
+        network: &mut N,
+        primary: &mut Primary<I, D>,
+        notes: &mut L,
+        number: usize,
+    ) -> bool {
+        let effects = primary.step(alloc, Event::Pump(number));
+        let is_sent = effects.reply.is_some();
+        self.deliver(alloc, network, primary, notes, effects);
+        is_sent
     }
 
     /// Reads one piece of a connection where there is none to handle, and handles one message.
@@ -241,7 +252,10 @@ impl<S: Stream + Drop> Edge<S> {
             }
             return moved != Moved::Later;
         }
-        self.pump(number) || self.hear(alloc, network, primary, notes, number, now)
+        if self.pump(alloc, network, primary, notes, number) {
+            return true;
+        }
+        self.hear(alloc, network, primary, notes, number, now)
     }
 
     /// Makes one turn, in the second `now`, and answers whether anything was done in it: at most one connection is accepted and at

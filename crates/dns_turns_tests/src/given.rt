@@ -12,7 +12,7 @@ use std::net::{IpAddr, Ipv4Addr};
 use std::test::Fail;
 
 /// A zone of four records.
-const ZONE: &[u8] = b"$TTL 3600
+pub(crate) const ZONE: &[u8] = b"$TTL 3600
 @ SOA ns.example.com. hostmaster 7 7200 900 1209600 300
 @ NS ns.example.com.
 @ NS ns.example.net.
@@ -41,10 +41,10 @@ pub(crate) fn peer() -> Peer {
     }
 }
 
-/// The zone.
-fn zone(heap: Heap) -> Result<Zone<RecordList>, Fail> {
+/// The zone that a master file holds.
+fn zone(heap: Heap, file: &[u8]) -> Result<Zone<RecordList>, Fail> {
     let apex = Name::from_text(heap, b"example.", &Name::root(heap))?;
-    let Ok(records) = read_zone(heap, ZONE, &apex) else {
+    let Ok(records) = read_zone(heap, file, &apex) else {
         return Err(Fail::from("the file is refused"));
     };
     match Zone::from_records(heap, apex, records) {
@@ -60,7 +60,7 @@ fn anywhere(heap: Heap) -> Result<Vec<Prefix, Heap>, Fail> {
     Ok(prefixes)
 }
 
-/// The settings of a zone that may be updated from anywhere.
+/// The settings of a zone that may be updated and transferred from anywhere.
 fn settings(heap: Heap) -> Result<Vec<ZoneSettings, Heap>, Fail> {
     let mut settings = Vec::new(heap);
     settings.push(ZoneSettings {
@@ -68,20 +68,21 @@ fn settings(heap: Heap) -> Result<Vec<ZoneSettings, Heap>, Fail> {
         journal: 16,
         keep: 4,
         update: anywhere(heap)?,
+        transfer: anywhere(heap)?,
     })?;
     Ok(settings)
 }
 
 /// A list of the zone alone.
-fn zones(heap: Heap) -> Result<Vec<Zone<RecordList>, Heap>, Fail> {
+fn zones(heap: Heap, file: &[u8]) -> Result<Vec<Zone<RecordList>, Heap>, Fail> {
     let mut zones = Vec::new(heap);
-    zones.push(zone(heap)?)?;
+    zones.push(zone(heap, file)?)?;
     Ok(zones)
 }
 
 /// A primary of the zone.
-fn primary(heap: Heap) -> Result<Primary<RecordList, Unkept>, Fail> {
-    let zones = zones(heap)?;
+fn primary(heap: Heap, file: &[u8]) -> Result<Primary<RecordList, Unkept>, Fail> {
+    let zones = zones(heap, file)?;
     let settings = settings(heap)?;
     if zones.len() != settings.len() {
         return Err(Fail::from("one zone"));
@@ -102,11 +103,16 @@ pub(crate) struct Server {
 impl Server {
     /// A server that nobody asked anything.
     pub(crate) fn new(heap: Heap) -> Result<Server, Fail> {
+        Server::over(heap, ZONE)
+    }
+
+    /// One of the zone that a master file holds.
+    pub(crate) fn over(heap: Heap, file: &[u8]) -> Result<Server, Fail> {
         Ok(Server {
             heap,
             edge: Edge::new(heap)?,
             network: MemoryNetwork::new(heap),
-            primary: primary(heap)?,
+            primary: primary(heap, file)?,
             notes: MemoryNotes::new(heap),
         })
     }

@@ -4,4 +4,6 @@
 #[cfg(test)]
 mod given;
 #[cfg(test)]
+mod transfers;
+#[cfg(test)]
 mod turns;

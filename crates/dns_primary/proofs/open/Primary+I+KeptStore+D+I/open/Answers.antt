@@ -5,7 +5,7 @@ use Rattle.dns_primary.specs.declared.event.Peer.{Peer}
 use Rattle.dns_primary.specs.declared.event.Waiting.{Waiting}
 use Rattle.dns_primary.specs.declared.primary.ZoneSettings.{ZoneSettings}
 use Rattle.dns_primary.specs.Machine.{Machine}
-use Rattle.dns_primary.specs.Keeps.{IsWaiting}
+use Rattle.dns_primary.specs.Keeps.{IsWaiting, sending_on}
 use Rattle.dns_primary.specs.Open.{AreOpened, AreRefused}
 use Rattle.dns_primary.proofs.Opened.{opened_many, all_reopened, refused_held}
 use Rattle.dns_primary.proofs.open.Primary+I+KeptStore+D+I.open.Goals as goal
@@ -32,6 +32,7 @@ returns-in-Ok-clause-recovered g c m event is =
         settings_are = all.set;
         waiting_are = subst (λ (l : List Waiting). Each2 IsWaiting l []) (sym c.new.ensures) tt;
         connections_are = λ number. ap (λ (l : List (Option Peer)). slice_index_or l number None) c.new-in-Ok-2.ensures.empty;
+        transfers_are = λ number. ap (sending_on number) c.new-in-Ok-3.ensures.items;
         as_many = ap (λ (l : List (Option Peer)). count_by is_some l) c.new-in-Ok-2.ensures.empty;
       },
     )

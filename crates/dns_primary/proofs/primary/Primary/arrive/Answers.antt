@@ -30,6 +30,9 @@ returns-in-Some g c = record {
       };
 }
 
+pub serve-requires-clause-there : goal.serve-requires-clause-there
+serve-requires-clause-there g c none = (let there = sym none ∙ sym c.get.ensures ∙ sym c.copied.ensures ∙ c.in-Some.is in cc)
+
 pub returns-in-None : goal.returns-in-None
 returns-in-None g c = record {
   step = λ old kept.

@@ -4,9 +4,10 @@ use Rattle.dns_held.specs.Each.{Each2}
 use Rattle.dns_primary.specs.declared.event.Waiting.{Waiting}
 use Rattle.dns_primary.specs.Machine.{kept_of, Waits}
 use Rattle.dns_primary.specs.Connections.{closed, without_connection}
-use Rattle.dns_primary.specs.Keeps.{IsWaiting}
+use Rattle.dns_primary.specs.Keeps.{IsWaiting, sending_on}
 use Rattle.dns_primary.specs.Steps.{nothing}
 use Rattle.dns_primary.proofs.Connected.{closed_are, closed_as_many, map2}
+use Rattle.dns_primary.proofs.Transferred.{closed_sending}
 use Rattle.dns_primary.proofs.Served.{rests}
 use Rattle.dns_primary.proofs.Flushed.{refilled}
 use Rattle.dns_primary.proofs.primary.Primary.close.Goals as goal
@@ -34,6 +35,7 @@ returns-clause-step g c old kept =
         zones_are = kept.zones_are;
         settings_are = kept.settings_are;
         waiting_are = subst (λ (l : List Waiting). Each2 IsWaiting l (map h old.waiting)) (sym (y ∙ new)) waits;
+        transfers_are = λ n. ap (λ (ts : List _). sending_on n ts) c.forget.ensures ∙ closed_sending number c.args.self.now.transfers.items old.connections kept.transfers_are n;
         connections_are = closed_are slab left number old.connections c.try_remove-closed.ensures.updates kept.connections_are kept.as_many;
         as_many = closed_as_many slab left number old.connections c.try_remove-closed.ensures.updates kept.connections_are kept.as_many c.try_remove-closed.result c.try_remove-closed.ensures.value c.try_remove-closed.ensures.len c.try_remove-closed.ensures.absent;
       };

@@ -6,6 +6,7 @@ use Rattle.dns_primary.specs.Connections.{connected}
 use Rattle.dns_primary.specs.Step.{Step, Connect}
 use Rattle.dns_primary.specs.Steps.{nothing}
 use Rattle.dns_primary.proofs.Connected.{connected_are}
+use Rattle.dns_primary.proofs.Transferred.{made_sending}
 use Rattle.dns_primary.specs.Machine.{kept_of}
 use Rattle.dns_primary.proofs.Served.{rests, gives_none, stays}
 use Rattle.dns_primary.proofs.primary.Primary.connect.Goals as goal
@@ -36,6 +37,7 @@ returns-in-Ok g c = record {
           zones_are = kept.zones_are;
           settings_are = kept.settings_are;
           waiting_are = kept.waiting_are;
+          transfers_are = λ n. kept.transfers_are n ∙ made_sending number n c.args.peer old.connections (sym (kept.connections_are number) ∙ c.in-Ok.ensures.was_vacant);
           connections_are = connected_are c.args.self.now.connections c.insert.new.self number c.args.peer old.connections c.in-Ok.ensures.updates kept.connections_are;
           as_many = omega (arith, c.in-Ok.ensures.len, kept.as_many);
         };
@@ -58,6 +60,7 @@ returns-in-Err g c = record {
           zones_are = kept.zones_are;
           settings_are = kept.settings_are;
           waiting_are = kept.waiting_are;
+          transfers_are = kept.transfers_are;
           connections_are = λ n. ap (λ (s : Slab Peer). get s n) c.in-Err.ensures.err ∙ kept.connections_are n;
           as_many = ap (λ (s : Slab Peer). slab_len s) c.in-Err.ensures.err ∙ kept.as_many;
         };

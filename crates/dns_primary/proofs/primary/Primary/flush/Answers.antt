@@ -37,6 +37,7 @@ returns-clause-step g c old kept =
         zones_are = moved3 (sym z) (sym y) (map kept_of (flushed fails old).zones) (λ z b k. HasVersions g.S.ZoneStore.keeps z b k) done.3;
         settings_are = flushed_settings c.args.self.now.settings.items fails old.zones kept.settings_are;
         connections_are = kept.connections_are;
+        transfers_are = kept.transfers_are;
         as_many = kept.as_many;
         waiting_are = subst (λ (l : List Waiting). Each2 IsWaiting l (flushed fails old).waiting) (sym c.flush-failed.ensures.empty) tt;
       };

@@ -97,9 +97,10 @@ returns-clause-step g c old kept =
         zones_are = subst (λ (ks : List Kept). Each3 R q.zones.items (slice_set q.behind.items place new) ks) (sym (map_set kept_of zones place moved.0))
             (mid_set R q.zones.items q.behind.items (map kept_of zones) place d new (kept_of moved.0) mid.zones_are moved.2);
         settings_are = right_set IsSet q.settings.items zones place zf moved.0 mid.settings_are at.1
-            (λ x is. record { keep = is.keep ∙ ap (λ (t : Setting). t.keep) (sym setting); update = λ y. subst (λ (t : Setting). IsTrue (t.may_update y) ↔ IsAllowed x.update.items y) (sym setting) (is.update y) });
+            (λ x is. record { keep = is.keep ∙ ap (λ (t : Setting). t.keep) (sym setting); update = λ y. subst (λ (t : Setting). IsTrue (t.may_update y) ↔ IsAllowed x.update.items y) (sym setting) (is.update y); transfer = λ y. subst (λ (t : Setting). IsTrue (t.may_transfer y) ↔ IsAllowed x.transfer.items y) (sym setting) (is.transfer y) });
         waiting_are = mid.waiting_are;
         connections_are = mid.connections_are;
+        transfers_are = mid.transfers_are;
         as_many = mid.as_many;
       };
     }

@@ -4,7 +4,7 @@ use Rattle.dns_wire.specs.Message.{Header, header_of}
 use Rattle.dns_wire.specs.Text.{text}
 use Rattle.dns_zone.specs.Zone.{Zone}
 use Rattle.dns_request.specs.Request as request
-use Rattle.dns_request.specs.Request.{rcode_notimp, request_of}
+use Rattle.dns_request.specs.Request.{request_of}
 use Rattle.std.specs.Prelude.{IfOk, IfErr}
 use Rattle.dns_primary.specs.Update.{Asked, room_lacked}
 use Rattle.dns_primary.specs.Step.{request_lacks}
@@ -12,9 +12,9 @@ use Rattle.dns_answer.specs.Answer.{answered, bare_reply, fitted, handled, handl
 use Rattle.dns_primary.specs.Machine.{kept_of, shown_zones}
 use Rattle.dns_primary.specs.Flush.{Replied, rcode_servfail}
 use Rattle.dns_primary.specs.Keeps.{AreEffects}
-use Rattle.dns_primary.specs.Steps.{AtAnyMomentOf, IsServedOrLacks, LacksRequest, nothing, one_reply}
+use Rattle.dns_primary.specs.Steps.{AtAnyMomentOf, IsServedOrLacks, IsTransferredOrLacks, LacksRequest, nothing, one_reply}
 use Rattle.dns_primary.proofs.Moved.{on_any}
-use Rattle.dns_primary.proofs.Served.{rests, are_shown, asking, gives_none, gives_one, lack, lacks_update, replied, replies_or_lacks, served_as, stays, update_opcode}
+use Rattle.dns_primary.proofs.Served.{transferred_as, rests, are_shown, asking, gives_none, gives_one, lack, lacks_update, replied, replies_or_lacks, served_as, stays, update_opcode}
 use Rattle.dns_primary.proofs.primary.Primary.serve.Goals as goal
 
 pub returns-in-Ignored : goal.returns-in-Ignored
@@ -104,10 +104,21 @@ pub returns-in-Transfer : goal.returns-in-Transfer
 returns-in-Transfer g c = record {
   step = λ old kept.
       let octets = c.args.octets.now in
-      let r = c.in-Transfer.request in
-      let reply = λ (h : Header). Replied c.args.to (text (bare_reply h rcode_notimp)) in
-      on_any old c.args.self.now c.args.self.now c.refusal-in-Transfer.result (request_lacks old c.args.to c.args.peer (handled (shown_zones old) octets c.args.transport)) (IsServedOrLacks old c.args.peer c.args.to octets c.args.transport)
-      (stays c.args.self.now old c.refusal-in-Transfer.result (one_reply (reply r.message.message.header)) (IsServedOrLacks old c.args.peer c.args.to octets c.args.transport) (rests g.S.ZoneStore c.args.self.now.zones.items c.args.self.now.behind.items (map kept_of old.zones) (λ x k h y left. g.met.S.ZoneStore.at_rest x k h y left) kept.zones_are) kept
-      (subst (λ (h : Header). AreEffects (one_reply (reply h)) c.refusal-in-Transfer.result) c.header_octets.ensures.message c.refusal-in-Transfer.ensures)
-      (served_as old old c.args.peer c.args.to octets c.args.transport (request.Transfer r.message.message r.question) [] (one_reply (reply r.message.message.header)) c.in-Transfer.ensures.request (refl, gives_one old (reply r.message.message.header))));
+      let t = c.in-Transfer.request in
+      let m = t.message.message in
+      let e : request.Transfer m t.question ≡ request_of octets c.args.transport = c.in-Transfer.ensures.request in
+      let of : t.message.octets ≡ octets = c.in-Transfer.ensures.of in
+      let s = c.transfer.ensures.step old kept in
+      on_any old c.args.self.now c.transfer.new.self c.transfer.result (request_lacks old c.args.to c.args.peer (handled (shown_zones old) octets c.args.transport)) (IsServedOrLacks old c.args.peer c.args.to octets c.args.transport)
+      (record {
+        fails = s.fails;
+        failed = s.failed;
+        any_moment = s.any_moment;
+        next = s.next;
+        stated = s.stated;
+        is = transferred_as old s.next c.args.peer c.args.to octets c.args.transport m t.question s.fails s.stated e (c.transfer.ensures.header ∙ ap header_of of)
+            (subst (λ (xs : List ℕ). IsTransferredOrLacks old c.args.peer c.args.to xs m t.question s.fails s.stated s.next) of s.is);
+        effects_are = s.effects_are;
+        kept = s.kept;
+      });
 }

@@ -3,7 +3,7 @@ use Rattle.dns_zone.specs.Zone.{Zone}
 use Rattle.std.specs.Vec.{with_items}
 use Rattle.dns_held.specs.Each.{Each2}
 use Rattle.dns_held.specs.Held.{HasVersions, newest_each}
-use Rattle.dns_primary.specs.Machine.{kept_of, peer_at}
+use Rattle.dns_primary.specs.Machine.{kept_of, peer_at, sending_at}
 use Rattle.dns_primary.specs.Update.{answer}
 use Rattle.dns_primary.specs.Keeps.{IsKept}
 use Rattle.dns_primary.specs.Queue.{Holds, IsStageableAt, IsUntouched, asked_of}
@@ -28,12 +28,13 @@ returns-clause-done g c m kept holds =
     } in
     let done = c.stage_at.ensures.done self.settings.items m given holds in
     held_as (Holds g.S.ZoneStore.keeps c.as_slice-zones.result.now new self.settings.items c.stage_at.new.waiting.items m.connections)
-    (IsKept {i = g.I.ZoneIndex} {s = g.S.ZoneStore} (record { zones = self.zones; behind = with_items self.behind new; settings = self.settings; waiting = c.stage_at.new.waiting; places = c.reserve_exact.new.self; connections = self.connections; as_many = _; settled = _; unused = _; reserved = _ }))
+    (IsKept {i = g.I.ZoneIndex} {s = g.S.ZoneStore} (record { zones = self.zones; behind = with_items self.behind new; settings = self.settings; waiting = c.stage_at.new.waiting; places = c.reserve_exact.new.self; connections = self.connections; transfers = self.transfers; as_many = _; settled = _; unused = _; reserved = _ }))
     (λ n h. record {
       zones_are = moved3 zones (sym y) (map kept_of n.zones) (λ z b k. HasVersions g.S.ZoneStore.keeps z b k) h.zones_are;
       settings_are = h.settings_are;
       waiting_are = h.waiting_are;
       connections_are = λ number. kept.connections_are number ∙ ap (peer_at number) (sym h.connections_are);
+      transfers_are = λ number. kept.transfers_are number ∙ ap (sending_at number) (sym h.connections_are);
       as_many = kept.as_many ∙ ap length (sym h.connections_are);
     }) m a (answer m a) c.stage_at.result done
 

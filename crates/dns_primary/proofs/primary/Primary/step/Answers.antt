@@ -1,6 +1,6 @@
 use Rattle.std.proofs.Common.{◌≡◌, inl, sym, ap, subst}
 use Rattle.std.specs.Prelude.{None}
-use Rattle.dns_primary.specs.Step.{Event, Datagram, Connect, Arrives, Flush, Closed}
+use Rattle.dns_primary.specs.Step.{Event, Datagram, Connect, Arrives, Flush, Pump, Closed}
 use Rattle.dns_primary.specs.Steps.{event_shown, SteppedBy}
 use Rattle.dns_primary.proofs.Events.{came}
 use Rattle.dns_primary.proofs.Moved.{simple}
@@ -27,6 +27,13 @@ returns-in-Message-clause-step g c old kept =
     let is : event_shown c.args.event ≡ event = ap event_shown c.in-Message.is in
     subst (λ (e : Event). SteppedBy old e c.args.self.now c.arrive.new.self c.arrive.result) (sym is)
     (c.arrive.ensures.step old kept)
+
+pub returns-in-Pump-clause-step : goal.returns-in-Pump-clause-step
+returns-in-Pump-clause-step g c old kept =
+    let event = Pump c.in-Pump.number in
+    let is : event_shown c.args.event ≡ event = ap event_shown c.in-Pump.is in
+    subst (λ (e : Event). SteppedBy old e c.args.self.now c.pump.new.self c.pump.result) (sym is)
+    (simple old event c.args.self.now c.pump.new.self c.pump.result (λ i. None) (c.pump.ensures.step old kept))
 
 pub returns-in-Closed-clause-step : goal.returns-in-Closed-clause-step
 returns-in-Closed-clause-step g c old kept =

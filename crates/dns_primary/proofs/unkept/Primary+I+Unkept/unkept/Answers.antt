@@ -5,8 +5,8 @@ use Rattle.dns_zone.specs.Zone.{Zone}
 use Rattle.dns_held.specs.Each.{Each2, Each3}
 use Rattle.dns_primary.specs.declared.event.Waiting.{Waiting}
 use Rattle.dns_primary.specs.declared.primary.ZoneSettings.{ZoneSettings}
-use Rattle.dns_primary.specs.Machine.{Waits, peer_at}
-use Rattle.dns_primary.specs.Keeps.{HaveVersions, IsWaiting}
+use Rattle.dns_primary.specs.Machine.{Waits, peer_at, sending_at}
+use Rattle.dns_primary.specs.Keeps.{HaveVersions, IsWaiting, sending_on}
 use Rattle.dns_primary.specs.Fresh.{IsLoaded, keeps_unkept}
 use Rattle.dns_primary.proofs.Loaded.{loaded_set}
 use Rattle.dns_primary.proofs.unkept.Primary+I+Unkept.unkept.Goals as goal
@@ -22,5 +22,6 @@ returns g c m fresh =
       settings_are = loaded_set c.args.zones.items c.args.settings.items m.zones fresh.zones_are;
       waiting_are = subst (λ (l : List Waits). Each2 IsWaiting c.new.result.items l) (sym fresh.waiting) (subst (λ (l : List Waiting). Each2 IsWaiting l []) (sym c.new.ensures) tt);
       connections_are = λ number. ap (λ (l : List (Option Peer)). slice_index_or l number None) c.new-3.ensures.empty ∙ sym (ap (peer_at number) fresh.connections);
+      transfers_are = λ number. ap (sending_on number) c.new-4.ensures.items ∙ sym (ap (sending_at number) fresh.connections);
       as_many = ap (λ (l : List (Option Peer)). count_by is_some l) c.new-3.ensures.empty ∙ sym (ap length fresh.connections);
     }
