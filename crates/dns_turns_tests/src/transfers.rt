@@ -101,7 +101,10 @@ fn a_transfer_beside_a_query(rt: HostRuntime) -> Result<(), Fail> {
     let seen = beside_a_transfer(&mut server);
     let (is_answered, early, late) = seen?;
     assert!(rt; is_answered && early > 0 && early < 10);
-    assert!(rt; late.is_some_and(|counts| counts.0 > 40 && counts.1 == 40005), "{late:?}");
+    assert!(rt;
+        late.is_some_and(|counts| counts.0 > 40 && counts.1 == 40005),
+        "{late:?}"
+    );
     Ok(())
 }
 
@@ -171,7 +174,8 @@ fn is_whole_or_closed(heap: Heap, n: u64) -> Result<bool, Fail> {
 
 /// Whether what is on a stream is SERVFAIL, as a header alone, where nothing was opened, or the whole transfer.
 fn is_whole(stream: &[u8]) -> bool {
-    counted(stream) == Some((3, 1505)) || stream == b"\x00\x0c\x00\x0c\x80\x02\x00\x00\x00\x00\x00\x00\x00\x00"
+    counted(stream) == Some((3, 1505))
+        || stream == b"\x00\x0c\x00\x0c\x80\x02\x00\x00\x00\x00\x00\x00\x00\x00"
 }
 
 /// The first of so many calls for memory whose refusal leaves a transfer that is neither whole nor closed.
