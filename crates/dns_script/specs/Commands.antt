@@ -18,6 +18,7 @@ pub data Command : Type 0 where
   Datagram : IpAddr → List ℕ → Command
   Connect : IpAddr → Command
   Message : ℕ → List ℕ → Command
+  Pump : ℕ → Command
   Close : ℕ → Command
   Flush : Command
   Checkpoint : ℕ → Command
@@ -41,8 +42,8 @@ pub record IsCount (text : List ℕ) (n : ℕ) : Type 0 where
   pub number : IsNumber text n
   pub some : 0 < n
 
--- A blank line or a comment; `udp ADDR HEX`, `connect ADDR`, `tcp N HEX`, `close N`, `flush`, `checkpoint ORIGIN`, `fail N`,
--- `stop N`, `crash [ORIGIN=LIST ..]`, `reopen N [ORIGIN=LIST ..]`, each ORIGIN the name of one of these zones.
+-- A blank line or a comment; `udp ADDR HEX`, `connect ADDR`, `tcp N HEX`, `pump N`, `close N`, `flush`, `checkpoint ORIGIN`,
+-- `fail N`, `stop N`, `crash [ORIGIN=LIST ..]`, `reopen N [ORIGIN=LIST ..]`, each ORIGIN the name of one of these zones.
 abbrev pub AreWordsOf : List Labels → List (List ℕ) → Command → Type 0
 AreWordsOf origins line Nothing = line ≡ []
 AreWordsOf origins line (Datagram peer octets) =
@@ -50,6 +51,7 @@ AreWordsOf origins line (Datagram peer octets) =
 AreWordsOf origins line (Connect peer) = (address : List ℕ) × (line ≡ codes "connect" ∷ address ∷ []) × IsAddress address peer
 AreWordsOf origins line (Message number octets) =
     (digits hex : List ℕ) × (line ≡ codes "tcp" ∷ digits ∷ hex ∷ []) × IsNumber digits number × HasOctets hex octets
+AreWordsOf origins line (Pump number) = (digits : List ℕ) × (line ≡ codes "pump" ∷ digits ∷ []) × IsNumber digits number
 AreWordsOf origins line (Close number) = (digits : List ℕ) × (line ≡ codes "close" ∷ digits ∷ []) × IsNumber digits number
 AreWordsOf origins line Flush = line ≡ codes "flush" ∷ []
 AreWordsOf origins line (Checkpoint zone) =
@@ -89,6 +91,7 @@ said code_command.Nothing = Nothing
 said (code_command.Datagram peer octets) = Datagram peer octets.items
 said (code_command.Connect peer) = Connect peer
 said (code_command.Message number octets) = Message number octets.items
+said (code_command.Pump number) = Pump number
 said (code_command.Close number) = Close number
 said code_command.Flush = Flush
 said (code_command.Checkpoint zone) = Checkpoint zone

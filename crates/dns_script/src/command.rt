@@ -24,6 +24,8 @@ pub enum Command {
     Connect(IpAddr),
     /// `tcp N HEX`: a message on a connection.
     Message(u32, Vec<u8, Heap>),
+    /// `pump N`: the transfer on a connection gives its next message.
+    Pump(u32),
     /// `close N`: a connection is closed.
     Close(u32),
     /// `flush`: what was staged is shown, and what waits goes out.
@@ -109,6 +111,15 @@ fn close(rest: &[u8]) -> Option<Command>
 {
     let connection = number(only_word(rest)?)?;
     Some(Command::Close(connection))
+}
+
+/// The command whose words are `pump` and these.
+fn pump(rest: &[u8]) -> Option<Command>
+    ensures { (origins : List Labels) → MatchOption result ((c : Stated) → ¬ (AreWordsOf origins (codes "pump" ∷ words rest.now) c))
+        (λ c. AreWordsOf origins (codes "pump" ∷ words rest.now) (said c)) }
+{
+    let connection = number(only_word(rest)?)?;
+    Some(Command::Pump(connection))
 }
 
 /// The command whose words are `flush` and these.
@@ -230,6 +241,9 @@ fn command_of(
     }
     if verb == b"stop".as_slice() {
         return Ok(stop(rest));
+    }
+    if verb == b"pump".as_slice() {
+        return Ok(pump(rest));
     }
     if verb == b"crash".as_slice() {
         return crash(alloc, origins, rest);

@@ -25,3 +25,6 @@ returns-then-eq-7 c = (let same : c.args.verb.now ≡ codes "fail" = search rule
 
 pub returns-then-eq-8 : goal.returns-then-eq-8
 returns-then-eq-8 c = (let same : c.args.verb.now ≡ codes "stop" = search rules in rw same (c.stop.ensures c.args.origins.now))
+
+pub returns-then-eq-9 : goal.returns-then-eq-9
+returns-then-eq-9 c = (let same : c.args.verb.now ≡ codes "pump" = search rules in rw same (c.pump.ensures c.args.origins.now))
