@@ -1,2 +1,5 @@
 pub mod Printing
 pub mod Running
+pub mod Crashed
+pub mod Loaded
+pub mod Led

@@ -1,69 +1,165 @@
 -- The lines of a script, one by one.
-use Rattle.std.proofs.Common.{◌≡◌, ℕ, ◌+◌, inl, inr, None, Option, List, [], ◌∷◌, ◌++◌, refl, sym, subst, append-nil, append_assoc}
+use Rattle.std.proofs.Common.{◌≡◌, ℕ, ◌+◌, inl, inr, Option, Some, List, [], ◌∷◌, ◌++◌, refl, sym, ap, subst, ◌∙◌, append-nil, append_assoc}
 use Rattle.std.specs.Io.KnownBytes.{Appends, Keeps}
 use Rattle.std.proofs.KnownBytes.{Appends-kept}
 use Rattle.dns_names.specs.Name.{Labels}
+use Rattle.dns_sectors.specs.declared.device.Sectors.{Ghosts}
 use Rattle.dns_zone.specs.declared.index.ZoneIndex as index
 use Rattle.dns_store.specs.declared.zone_store.ZoneStore as store
+use Rattle.dns_store.specs.declared.kept_store.KeptStore.{KeptStore}
 use Rattle.dns_primary.specs.declared.primary.Primary.{Primary}
-use Rattle.dns_primary.specs.Machine.{Machine}
-use Rattle.dns_primary.specs.Keeps.{IsKept}
+use Rattle.dns_primary.specs.declared.primary.ZoneSettings.{ZoneSettings}
+use Rattle.dns_primary.specs.Machine.{Machine, Setting, ZoneState}
+use Rattle.dns_primary.specs.Keeps.{IsKept, IsSet}
+use Rattle.dns_primary.specs.HandOut.{AreSetAs, IsSetAs}
+use Rattle.dns_primary.specs.Runs.{AllLast, Lasts, Moment, Run, last_of}
+use Rattle.dns_primary.proofs.Stopping.{fresh_keeps}
 use Rattle.dns_replay.specs.declared.run.Ending.{Ending}
-use Rattle.dns_replay.specs.declared.run.Ending.TheVariants.{Done, Syntax}
+use Rattle.dns_replay.specs.declared.run.Ending.TheVariants.{Done, Syntax, Refused}
 use Rattle.dns_replay.proofs.Printing.{appends_more, nothing_more}
-use Rattle.dns_replay.specs.Scripts.{IsNoCommand, Prints, Runs, RunsInto}
-use Rattle.dns_replay.specs.Runs.{RanCommand, RanLine, RanScript}
+use Rattle.dns_replay.specs.Scripts.{Standing, Takes, Stands, machine_of, Said, Nothing, Happens, Plans, Crashes, Reopens, Led, Leads, Recovers, LineLeads, LineRefuses, IsNoCommand, Runs, idle}
+use Rattle.dns_replay.specs.Runs.{IsAt, IsReached, LeadsOn, RanScript}
 
--- A run up to a line: that is printed so far, and what is printed from there on follows it.
-pub record IsRunUpTo (origins : List Labels) (begun : Machine) (all : List (List ℕ)) (number : ℕ) (left : List (List ℕ)) (out out_now : Option (List ℕ)) (now : Machine) : Type 0 where
+-- moments behind others
+pub runs_joined : (start : Machine) (xs ys : List Moment) → Run start xs → Run (last_of start xs) ys → Run start (xs ++ ys)
+runs_joined start [] ys r q = q
+runs_joined start (x ∷ xs) ys r q = (r.0, runs_joined _ xs ys r.1 q)
+
+pub last_joined : (start : Machine) (xs ys : List Moment) → last_of start (xs ++ ys) ≡ last_of (last_of start xs) ys
+last_joined start [] ys = refl
+last_joined start (x ∷ xs) ys = last_joined _ xs ys
+
+-- what is said leads by a run of the machine
+pub record IsRun (s : Standing) (led : Led) : Type 0 where
+  pub run : Run (machine_of s) led.moments
+  pub last : last_of (machine_of s) led.moments ≡ machine_of led.standing
+
+run_of : (s : Standing) (led is : Led) → led ≡ is → IsRun s is → IsRun s led
+run_of s led is e r = subst (λ (l : Led). IsRun s l) (sym e) r
+
+recovers_runs : (names : List Labels) (s : Standing) (led : Led) → Recovers names s led → IsRun s led
+recovers_runs names (Takes m) led h = run_of (Takes m) led _ h.2 (record { run = ((tt, h.1), tt); last = refl })
+recovers_runs names (Stands m event) led h = run_of (Stands m event) led _ h.2 (record { run = ((tt, h.1), tt); last = refl })
+
+pub leads_runs : (names : List Labels) (s : Standing) (said : Said) (led : Led) → Leads names s said led → IsRun s led
+leads_runs names s Nothing led h = run_of s led (idle s) h (record { run = tt; last = refl })
+leads_runs names (Takes m) (Happens event) led (inl h) = run_of (Takes m) led _ h.4 (record { run = (h.3, tt); last = refl })
+leads_runs names (Takes m) (Happens event) led (inr h) = run_of (Takes m) led _ h (record { run = tt; last = refl })
+leads_runs names (Stands m stopped) (Happens event) led h = run_of (Stands m stopped) led _ h (record { run = tt; last = refl })
+leads_runs names (Takes m) Plans led h = run_of (Takes m) led _ h (record { run = tt; last = refl })
+leads_runs names (Stands m event) Plans led h = run_of (Stands m event) led _ h (record { run = tt; last = refl })
+leads_runs names s Crashes led h = recovers_runs names s led h
+leads_runs names s Reopens led (inl h) = recovers_runs names s led h
+leads_runs names (Takes m) Reopens led (inr h) = run_of (Takes m) led _ h (record { run = tt; last = refl })
+leads_runs names (Stands m event) Reopens led (inr h) = run_of (Stands m event) led _ h (record { run = tt; last = refl })
+
+-- what zones were opened for lasts
+set_lasts_one : (a : Labels) (s : ZoneSettings) (z w : ZoneState) → IsSetAs a s z → Lasts z w → IsSetAs a s w
+set_lasts_one a s z w so l = record {
+  shape = ap (λ (x : Setting). x.shape) l.setting ∙ so.shape;
+  set = record {
+    keep = so.set.keep ∙ sym (ap (λ (x : Setting). x.keep) l.setting);
+    update = (subst (λ (x : Setting). IsSet s (record z { setting = x })) (sym l.setting) so.set).update;
+    transfer = (subst (λ (x : Setting). IsSet s (record z { setting = x })) (sym l.setting) so.set).transfer;
+  };
+  range = so.range;
+}
+
+pub set_lasts : (names : List Labels) (settings : List ZoneSettings) (olds news : List ZoneState) → AreSetAs names settings olds → AllLast olds news → AreSetAs names settings news
+set_lasts [] [] [] [] so l = tt
+set_lasts (a ∷ names) (s ∷ settings) (z ∷ olds) (w ∷ news) so l = (set_lasts_one a s z w so.0 l.0, set_lasts names settings olds news so.1 l.1)
+set_lasts names settings [] (w ∷ news) so l = absurd l
+set_lasts names settings (z ∷ olds) [] so l = absurd l
+set_lasts [] (s ∷ settings) [] [] so l = absurd so
+set_lasts (a ∷ names) [] [] [] so l = absurd so
+set_lasts (a ∷ names) (s ∷ settings) [] [] so l = absurd so
+set_lasts [] [] (z ∷ olds) (w ∷ news) so l = absurd so
+set_lasts [] (s ∷ settings) (z ∷ olds) (w ∷ news) so l = absurd so
+set_lasts (a ∷ names) [] (z ∷ olds) (w ∷ news) so l = absurd so
+
+-- A run up to a line: that is printed so far, and what is led to from there on follows it.
+pub record IsRunUpTo (names : List Labels) (start : Machine) (all : List (List ℕ)) (number : ℕ) (left : List (List ℕ)) (out out_now : Option (List ℕ)) (now : Standing) : Type 0 where
+  pub moments : List Moment
   pub text : List ℕ
   pub written : Appends out out_now text
-  pub goes_on : (more : List ℕ) (ending : Ending) (last : Machine) → Runs origins now number left more ending last → Runs origins begun 1 all (text ++ more) ending last
+  pub run : Run start moments
+  pub last : last_of start moments ≡ machine_of now
+  pub goes_on : (more : Led) (ending : Ending) → Runs names now number left more ending → Runs names (Takes start) 1 all (record { moments = moments ++ more.moments; text = text ++ more.text; standing = more.standing }) ending
 
-pub run_begins : (origins : List Labels) (begun : Machine) (all : List (List ℕ)) (out : Option (List ℕ)) → IsRunUpTo origins begun all 1 all out out begun
-run_begins origins begun all out = record { text = []; written = nothing_more out; goes_on = λ more ending last r. r }
+module _ (names : List Labels) (start : Machine) (all : List (List ℕ)) where
+  pub run_begins : (out : Option (List ℕ)) → IsRunUpTo names start all 1 all out out (Takes start)
+  run_begins out = record { moments = []; text = []; written = nothing_more out; run = tt; last = refl; goes_on = λ more ending r. r }
 
-module _ (origins : List Labels) (begun : Machine) (all : List (List ℕ)) (number : ℕ) where
-  run_more : (line : List ℕ) (left whole : List (List ℕ)) (out out_now out_after : Option (List ℕ)) (now new : Machine) (first : List ℕ) → whole ≡ line ∷ left → IsRunUpTo origins begun all number whole out out_now now → Prints origins now line first new → Appends out_now out_after first → IsRunUpTo origins begun all (number + 1) left out out_after new
-  run_more line left whole out out_now out_after now new first e h p a = record {
-    text = h.text ++ first;
-    written = appends_more out out_now out_after h.text first h.written a;
-    goes_on = λ more ending last r. subst (λ (t : List ℕ). Runs origins begun 1 all t ending last) (sym (append_assoc h.text first more)) (h.goes_on (first ++ more) ending last (subst (λ (ls : List (List ℕ)). Runs origins now number ls (first ++ more) ending last) (sym e) (inl (first, more, new, p, r, refl))));
-  }
+  pub run_more : (number : ℕ) (line : List ℕ) (left whole : List (List ℕ)) (out out_now out_after : Option (List ℕ)) (now : Standing) (first : Led) → whole ≡ line ∷ left → IsRunUpTo names start all number whole out out_now now → LineLeads names now line first → Appends out_now out_after first.text → IsRunUpTo names start all (number + 1) left out out_after first.standing
+  run_more number line left whole out out_now out_after now first e h p a =
+      let more = leads_runs names now _ first p.leads in
+      record {
+        moments = h.moments ++ first.moments;
+        text = h.text ++ first.text;
+        written = appends_more out out_now out_after h.text first.text h.written a;
+        run = runs_joined start h.moments first.moments h.run (subst (λ (m : Machine). Run m first.moments) (sym h.last) more.run);
+        last = last_joined start h.moments first.moments ∙ ap (λ (m : Machine). last_of m first.moments) h.last ∙ more.last;
+        goes_on = λ later ending r.
+            let whole_led : Led = record { moments = first.moments ++ later.moments; text = first.text ++ later.text; standing = later.standing } in
+            let here = h.goes_on whole_led ending (subst (λ (ls : List (List ℕ)). Runs names now number ls whole_led ending) (sym e) (inl (first, later, p, r, refl))) in
+            subst (λ (ms : List Moment). Runs names (Takes start) 1 all (record { moments = ms; text = (h.text ++ first.text) ++ later.text; standing = later.standing }) ending) (sym (append_assoc h.moments first.moments later.moments)) (
+            subst (λ (t : List ℕ). Runs names (Takes start) 1 all (record { moments = h.moments ++ (first.moments ++ later.moments); text = t; standing = later.standing }) ending) (sym (append_assoc h.text first.text later.text)) here);
+      }
 
-  run_ends : (out out_now : Option (List ℕ)) (now : Machine) → IsRunUpTo origins begun all number [] out out_now now → RunsInto origins begun all Done out out_now now
-  run_ends out out_now now h = (h.text, subst (λ (t : List ℕ). Runs origins begun 1 all t Done now) (append-nil h.text) (h.goes_on [] Done now (refl, refl, refl)), h.written)
+  -- where nothing more happens to the machine, and this is printed
+  ends_with : (number : ℕ) (left : List (List ℕ)) (out out_now out_after : Option (List ℕ)) (now : Standing) (text : List ℕ) (ending : Ending) → IsRunUpTo names start all number left out out_now now → Appends out_now out_after text
+      → Runs names now number left (record (idle now) { text = text }) ending
+      → (led : Led) × Runs names (Takes start) 1 all led ending × Run start led.moments × Appends out out_after led.text
+  ends_with number left out out_now out_after now text ending h a r =
+      let led : Led = record { moments = h.moments ++ []; text = h.text ++ text; standing = now } in
+      (led, h.goes_on (record (idle now) { text = text }) ending r, subst (λ (ms : List Moment). Run start ms) (sym (append-nil h.moments)) h.run, appends_more out out_now out_after h.text text h.written a)
 
-  run_stops : (line : List ℕ) (left whole : List (List ℕ)) (out out_now out_after : Option (List ℕ)) (now : Machine) → whole ≡ line ∷ left → IsRunUpTo origins begun all number whole out out_now now → IsNoCommand line → Keeps out_now out_after → RunsInto origins begun all (Syntax number) out out_after now
-  run_stops line left whole out out_now out_after now e h none keeps = (
-    h.text,
-    subst (λ (t : List ℕ). Runs origins begun 1 all t (Syntax number) now) (append-nil h.text) (h.goes_on [] (Syntax number) now (subst (λ (ls : List (List ℕ)). Runs origins now number ls [] (Syntax number) now) (sym e) (inr (none, refl, refl, refl)))),
-    Appends-kept out out_now out_after h.text h.written keeps,
-  )
+  pub run_ends : (number : ℕ) (out out_now : Option (List ℕ)) (now : Standing) → IsRunUpTo names start all number [] out out_now now
+      → (led : Led) × Runs names (Takes start) 1 all led Done × Run start led.moments × Appends out out_now led.text
+  run_ends number out out_now now h = ends_with number [] out out_now out_now now [] Done h (nothing_more out_now) (refl, refl)
 
-pub nothing_happens : {I S : Type 0} {i : index.Ghosts I} {s : store.Ghosts S} (origins : List Labels) (p : Primary I S i s) (out : Option (List ℕ)) → RanCommand origins None p p out out
-nothing_happens origins p out old kept = (old, [], (refl, refl), nothing_more out, kept)
+  pub run_stops : (number : ℕ) (line : List ℕ) (left whole : List (List ℕ)) (out out_now out_after : Option (List ℕ)) (now : Standing) → whole ≡ line ∷ left → IsRunUpTo names start all number whole out out_now now → IsNoCommand names line → Keeps out_now out_after
+      → (led : Led) × Runs names (Takes start) 1 all led (Syntax number) × Run start led.moments × Appends out out_after led.text
+  run_stops number line left whole out out_now out_after now e h none keeps =
+      ends_with number whole out out_now out_after now [] (Syntax number) h (Appends-kept out_now out_now out_after [] (nothing_more out_now) keeps)
+      (subst (λ (ls : List (List ℕ)). Runs names now number ls (idle now) (Syntax number)) (sym e) (inr (inl (none, refl, refl))))
 
--- The same over primaries, whatever machine the first one kept.
-module _ {I S : Type 0} {i : index.Ghosts I} {s : store.Ghosts S} (origins : List Labels) (all : List (List ℕ)) where
-  abbrev pub AreRunUpTo : ℕ → List (List ℕ) → Option (List ℕ) → Option (List ℕ) → Primary I S i s → Primary I S i s → Type 0
-  AreRunUpTo number left out out_now before now =
-      (begun : Machine) → IsKept before begun → (m : Machine) × IsRunUpTo origins begun all number left out out_now m × IsKept now m
+  pub run_refused : (number : ℕ) (line : List ℕ) (left whole : List (List ℕ)) (out out_now out_after : Option (List ℕ)) (now : Standing) (text : List ℕ) → whole ≡ line ∷ left → IsRunUpTo names start all number whole out out_now now → LineRefuses names line text → Appends out_now out_after text
+      → (led : Led) × Runs names (Takes start) 1 all led Refused × Run start led.moments × Appends out out_after led.text
+  run_refused number line left whole out out_now out_after now text e h refuses a =
+      ends_with number whole out out_now out_after now text Refused h a
+      (subst (λ (ls : List (List ℕ)). Runs names now number ls (record (idle now) { text = text }) Refused) (sym e) (inr (inr (text, refuses, refl, refl))))
 
-  pub begin_all : (out : Option (List ℕ)) (before : Primary I S i s) → AreRunUpTo 1 all out out before before
-  begin_all out before begun kept = (begun, run_begins origins begun all out, kept)
+-- The same over what a primary and its devices stand for, whatever machine the first one kept.
+module _ {D I : Type 0} {g : Ghosts D} {i : index.Ghosts I} {s : store.Ghosts (KeptStore D I g)} (names : List Labels) (settings : List ZoneSettings) (all : List (List ℕ)) (first : Primary I (KeptStore D I g) i s) where
+  abbrev pub AreRunUpTo : ℕ → List (List ℕ) → Option (List ℕ) → Option (List ℕ) → Option (Primary I (KeptStore D I g) i s) → List D → Type 0
+  AreRunUpTo number left out out_now p devices =
+      (start : Machine) → IsReached names settings start → IsKept first start → (now : Standing) × IsRunUpTo names start all number left out out_now now × IsAt names settings p devices now
 
-  pub more_all : (number : ℕ) (line : List ℕ) (left whole : List (List ℕ)) (out out_now out_after : Option (List ℕ)) (before now after : Primary I S i s) → whole ≡ line ∷ left → AreRunUpTo number whole out out_now before now → RanLine origins line now after out_now out_after → AreRunUpTo (number + 1) left out out_after before after
-  more_all number line left whole out out_now out_after before now after e h ran begun kept =
-      let here = h begun kept in
-      let next = ran here.0 here.2 in
-      (next.0, run_more origins begun all number line left whole out out_now out_after here.0 next.0 next.1 e here.1 next.2 next.3, next.4)
+  pub begin_all : (out : Option (List ℕ)) (devices : List D) → AreRunUpTo 1 all out out (Some first) devices
+  begin_all out devices start reached kept = (Takes start, run_begins names start all out, kept)
 
-  pub ends_all : (number : ℕ) (out out_now : Option (List ℕ)) (before now : Primary I S i s) → AreRunUpTo number [] out out_now before now → RanScript origins all Done before now out out_now
-  ends_all number out out_now before now h begun kept =
-      let here = h begun kept in (here.0, run_ends origins begun all number out out_now here.0 here.1, here.2)
+  set_now : (start : Machine) (number : ℕ) (left : List (List ℕ)) (out out_now : Option (List ℕ)) (now : Standing) → IsReached names settings start → IsRunUpTo names start all number left out out_now now → AreSetAs names settings (machine_of now).zones
+  set_now start number left out out_now now reached h =
+      let joined = runs_joined reached.first reached.before h.moments reached.run (subst (λ (m : Machine). Run m h.moments) (sym reached.last) h.run) in
+      let promise = fresh_keeps reached.zones reached.loaded reached.first (reached.before ++ h.moments) reached.fresh joined in
+      let last = last_joined reached.first reached.before h.moments ∙ ap (λ (m : Machine). last_of m h.moments) reached.last ∙ h.last in
+      subst (λ (m : Machine). AreSetAs names settings m.zones) last (set_lasts names settings (reached.first).zones (last_of reached.first (reached.before ++ h.moments)).zones reached.set promise.loaded)
 
-  pub stops_all : (number : ℕ) (line : List ℕ) (left whole : List (List ℕ)) (out out_now out_after : Option (List ℕ)) (before now after : Primary I S i s) → whole ≡ line ∷ left → AreRunUpTo number whole out out_now before now → IsNoCommand line → after ≡ now → Keeps out_now out_after → RanScript origins all (Syntax number) before after out out_after
-  stops_all number line left whole out out_now out_after before now after e h none same keeps begun kept =
-      let here = h begun kept in
-      (here.0, run_stops origins begun all number line left whole out out_now out_after here.0 e here.1 none keeps, subst (λ (p : Primary I S i s). IsKept p here.0) (sym same) here.2)
+  pub more_all : (number : ℕ) (line : List ℕ) (left whole : List (List ℕ)) (out out_now out_after : Option (List ℕ)) (p q : Option (Primary I (KeptStore D I g) i s)) (devices rest : List D) → whole ≡ line ∷ left → AreRunUpTo number whole out out_now p devices
+      → LeadsOn names settings (λ from led. LineLeads names from line led) p devices q rest out_now out_after → AreRunUpTo (number + 1) left out out_after q rest
+  more_all number line left whole out out_now out_after p q devices rest e h does start reached kept =
+      let here = h start reached kept in
+      let next = does here.0 here.2 (set_now start number whole out out_now here.0 reached here.1) in
+      (next.0.standing, run_more names start all number line left whole out out_now out_after here.0 next.0 e here.1 next.1 next.2, next.3)
+
+  pub ends_all : (number : ℕ) (out out_now : Option (List ℕ)) (p : Option (Primary I (KeptStore D I g) i s)) (devices : List D) → AreRunUpTo number [] out out_now p devices → RanScript names settings all Done first out out_now
+  ends_all number out out_now p devices h start reached kept = (let here = h start reached kept in run_ends names start all number out out_now here.0 here.1)
+
+  pub stops_all : (number : ℕ) (line : List ℕ) (left whole : List (List ℕ)) (out out_now out_after : Option (List ℕ)) (p : Option (Primary I (KeptStore D I g) i s)) (devices : List D) → whole ≡ line ∷ left → AreRunUpTo number whole out out_now p devices → IsNoCommand names line → Keeps out_now out_after → RanScript names settings all (Syntax number) first out out_after
+  stops_all number line left whole out out_now out_after p devices e h none keeps start reached kept =
+      let here = h start reached kept in run_stops names start all number line left whole out out_now out_after here.0 e here.1 none keeps
+
+  pub refused_all : (number : ℕ) (line : List ℕ) (left whole : List (List ℕ)) (out out_now out_after : Option (List ℕ)) (p : Option (Primary I (KeptStore D I g) i s)) (devices : List D) (text : List ℕ) → whole ≡ line ∷ left → AreRunUpTo number whole out out_now p devices → LineRefuses names line text → Appends out_now out_after text → RanScript names settings all Refused first out out_after
+  refused_all number line left whole out out_now out_after p devices text e h refuses a start reached kept =
+      let here = h start reached kept in run_refused names start all number line left whole out out_now out_after here.0 text e here.1 refuses a

@@ -1,33 +1,119 @@
--- What a run over a primary does: for each machine that it kept there is one that it keeps now, to which the run leads.
-use Rattle.std.specs.Prelude.{ℕ, List, ◌++◌, map, Option}
-use Rattle.std.specs.Io.KnownBytes.{Appends}
+-- What a script runs over, and what it leads to.
+use Rattle.std.specs.Prelude.{◌≡◌, ℕ, List, ◌++◌, map, slice_get, Option, Some, None}
+use Rattle.std.specs.Io.KnownBytes.{Appends, Keeps}
 use Rattle.dns_names.specs.Name.{Labels}
+use Rattle.dns_zone.specs.Zone.{Zone}
+use Rattle.dns_sectors.specs.Device.{Content}
+use Rattle.dns_sectors.specs.declared.device.Sectors.{Ghosts}
 use Rattle.dns_zone.specs.declared.index.ZoneIndex as index
 use Rattle.dns_store.specs.declared.zone_store.ZoneStore as store
+use Rattle.dns_store.specs.declared.kept_store.KeptStore.{KeptStore}
 use Rattle.dns_primary.specs.declared.event.Effects.{Effects}
 use Rattle.dns_primary.specs.declared.event.To.{To}
 use Rattle.dns_primary.specs.declared.primary.Primary.{Primary}
+use Rattle.dns_primary.specs.declared.primary.ZoneSettings.{ZoneSettings}
 use Rattle.dns_primary.specs.Machine.{Machine}
 use Rattle.dns_primary.specs.Keeps.{IsKept, header_out, reply_out}
-use Rattle.dns_primary.specs.Step.{Event}
-use Rattle.dns_replay.specs.Scripts.{Happens, Prints, RunsInto}
+use Rattle.dns_primary.specs.Open.{AreRecoverable}
+use Rattle.dns_primary.specs.HandOut.{AreSetAs}
+use Rattle.dns_primary.specs.Runs.{Moment, Run, last_of}
+use Rattle.dns_primary.specs.Fresh.{IsFresh}
+use Rattle.dns_replay.specs.Scripts.{Standing, Takes, Stands, machine_of, Said, Crashes, Reopens, Led, Leads, LineLeads, LineRefuses, IsNoCommand, MayRefuse, Runs, printed_refusal, printed_stop}
+use Rattle.dns_store.specs.declared.root.OpenError.{OpenError}
+use Rattle.dns_replay.specs.declared.run.After.{After}
+use Rattle.dns_replay.specs.declared.run.After.TheVariants.{GoesOn, NoCommand, Refused}
 use Rattle.dns_replay.specs.declared.run.Ending.{Ending}
 
 -- The replies of an event in order, as they go out.
 abbrev pub replies_out : Effects → List (To × List ℕ)
 replies_out effects = map header_out effects.headers.items ++ reply_out effects.reply
 
-module _ {I S : Type 0} {i : index.Ghosts I} {s : store.Ghosts S} (origins : List Labels) where
-  abbrev pub RanCommand : Option Event → Primary I S i s → Primary I S i s → Option (List ℕ) → Option (List ℕ) → Type 0
-  RanCommand event before after out out_after =
-      (old : Machine) → IsKept before old
-      → (new : Machine) × (text : List ℕ) × Happens origins old event text new × Appends out out_after text × IsKept after new
+-- The same settings again.
+pub record AreSame (s t : ZoneSettings) : Type 0 where
+  pub snapshot : t.snapshot ≡ s.snapshot
+  pub journal : t.journal ≡ s.journal
+  pub keep : t.keep ≡ s.keep
+  pub update : t.update.items ≡ s.update.items
+  pub transfer : t.transfer.items ≡ s.transfer.items
 
-  abbrev pub RanLine : List ℕ → Primary I S i s → Primary I S i s → Option (List ℕ) → Option (List ℕ) → Type 0
-  RanLine line before after out out_after =
-      (old : Machine) → IsKept before old
-      → (new : Machine) × (text : List ℕ) × Prints origins old line text new × Appends out out_after text × IsKept after new
+-- The device after a crash: it leaves what the device might have left before.
+pub record IsLeftBy {D : Type 0} (g : Ghosts D) (old new : D) : Type 0 where
+  pub honest : g.is_honest old → g.is_honest new
+  pub left : (c : Content) → g.is_honest old → g.may_leave new c → g.may_leave old c
 
-  abbrev pub RanScript : List (List ℕ) → Ending → Primary I S i s → Primary I S i s → Option (List ℕ) → Option (List ℕ) → Type 0
-  RanScript lines ending before after out out_after =
-      (old : Machine) → IsKept before old → (new : Machine) × RunsInto origins old lines ending out out_after new × IsKept after new
+-- What a crash says, with the number of the write or sync of the opening that is the last, if one is.
+abbrev pub crash_by : Option ℕ → Said
+crash_by None = Crashes
+crash_by (Some n) = Reopens
+
+module _ {D I : Type 0} {g : Ghosts D} {i : index.Ghosts I} {s : store.Ghosts (KeptStore D I g)} (names : List Labels)
+    (settings : List ZoneSettings)
+  where
+    -- A primary keeps the machine; or of one that stopped within an event these devices are left.
+    abbrev pub IsAt : Option (Primary I (KeptStore D I g) i s) → List D → Standing → Type 0
+    IsAt (Some p) devices (Takes m) = IsKept p m
+    IsAt None devices (Stands m event) = AreRecoverable g m event 0 m.zones names settings devices
+    IsAt (Some p) devices (Stands m event) = ⊥
+    IsAt None devices (Takes m) = ⊥
+
+    -- Wherever the script stood, this is what it was led to, and where it stands.
+    abbrev pub LeadsOn : (Standing → Led → Type 0) → Option (Primary I (KeptStore D I g) i s) → List D
+        → Option (Primary I (KeptStore D I g) i s) → List D → Option (List ℕ) → Option (List ℕ) → Type 0
+    LeadsOn leads p devices q left out out_after =
+        (from : Standing) → IsAt p devices from → AreSetAs names settings (machine_of from).zones
+        → (led : Led) × leads from led × Appends out out_after led.text × IsAt q left led.standing
+
+-- A store was refused, as is printed.
+pub record Refuses (origins : List Labels) (out out_after : Option (List ℕ)) : Type 0 where
+  pub place : ℕ
+  pub error : OpenError
+  pub printed : Appends out out_after (printed_refusal (slice_get origins place) error)
+
+-- A stop fell in the opening, and these are the devices; or the run ends.
+abbrev pub IsRefused : {D : Type 0} → List Labels → Said → List D → List D → Option (List ℕ) → Option (List ℕ) → After → Type 0
+IsRefused names said devices left out out_after GoesOn = (said ≡ Reopens) × (left ≡ devices) × Appends out out_after printed_stop
+IsRefused names said devices left out out_after Refused = Refuses names out out_after
+IsRefused names said devices left out out_after NoCommand = ⊥
+
+module _ {D I : Type 0} {g : Ghosts D} {i : index.Ghosts I} {s : store.Ghosts (KeptStore D I g)} where
+  -- What is said leads on, or ends the run.
+  abbrev pub DoesBy : List Labels → List ZoneSettings → Said → Option (Primary I (KeptStore D I g) i s) → List D
+      → Option (Primary I (KeptStore D I g) i s) → List D → Option (List ℕ) → Option (List ℕ) → After → Type 0
+  DoesBy names settings said p devices q left out out_after GoesOn =
+      LeadsOn names settings (λ from led. Leads names from said led) p devices q left out out_after
+  DoesBy names settings said p devices q left out out_after Refused = MayRefuse said × Refuses names out out_after
+  DoesBy names settings said p devices q left out out_after NoCommand = ⊥
+
+  abbrev pub LineDoes : List Labels → List ZoneSettings → List ℕ → Option (Primary I (KeptStore D I g) i s) → List D
+      → Option (Primary I (KeptStore D I g) i s) → List D → Option (List ℕ) → Option (List ℕ) → After → Type 0
+  LineDoes names settings line p devices q left out out_after GoesOn =
+      LeadsOn names settings (λ from led. LineLeads names from line led) p devices q left out out_after
+  LineDoes names settings line p devices q left out out_after Refused =
+      (text : List ℕ) × LineRefuses names line text × Appends out out_after text
+  LineDoes names settings line p devices q left out out_after NoCommand =
+      IsNoCommand names line × (q ≡ p) × (left ≡ devices) × Keeps out out_after
+
+-- A run led to the machine from one to which nothing had happened, and whose zones were opened for these names and settings.
+pub record IsReached (names : List Labels) (settings : List ZoneSettings) (m : Machine) : Type 0 where
+  pub zones : List Zone
+  pub loaded : List ZoneSettings
+  pub first : Machine
+  pub fresh : IsFresh zones loaded first
+  pub set : AreSetAs names settings first.zones
+  pub before : List Moment
+  pub run : Run first before
+  pub last : last_of first before ≡ m
+
+-- From each such machine that the primary kept, the lines lead there, by moments that are a run of the machine.
+abbrev pub RanScript : {D I : Type 0} {g : Ghosts D} {i : index.Ghosts I} {s : store.Ghosts (KeptStore D I g)} → List Labels
+    → List ZoneSettings → List (List ℕ) → Ending → Primary I (KeptStore D I g) i s → Option (List ℕ) → Option (List ℕ) → Type 0
+RanScript names settings lines ending primary out out_after =
+    (start : Machine) → IsReached names settings start → IsKept primary start
+    → (led : Led) × Runs names (Takes start) 1 lines led ending × Run start led.moments × Appends out out_after led.text
+
+-- The same of zones that were loaded: from each machine of them to which nothing has happened.
+abbrev pub RunsFrom : List Zone → List ZoneSettings → List (List ℕ) → Ending → Option (List ℕ) → Option (List ℕ) → Type 0
+RunsFrom zones settings lines ending out out_after =
+    (start : Machine) → IsFresh zones settings start
+    → (led : Led) × Runs (map (λ z. z.apex) zones) (Takes start) 1 lines led ending × Run start led.moments
+    × Appends out out_after led.text

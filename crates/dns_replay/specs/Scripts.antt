@@ -1,7 +1,6 @@
 -- Scripts: what is printed of each line, and the machine that it leads to.
-use Rattle.std.specs.Prelude.{◌≡◌, ◌⊎◌, ℕ, ◌+◌, Bool, List, [], ◌∷◌, ◌++◌, flat_map, slice_get, Option, Some, None, codes, decimal}
+use Rattle.std.specs.Prelude.{◌≡◌, ◌⊎◌, ℕ, ◌+◌, zero, suc, Bool, List, [], ◌∷◌, ◌++◌, flat_map, length, slice_get, Option, Some, None, codes, decimal}
 use Rattle.std.specs.declared.net.ip_addr.IpAddr.{IpAddr}
-use Rattle.std.specs.Io.KnownBytes.{Appends, Keeps}
 use Rattle.hex.specs.Hex.{encode_lower}
 use Rattle.dns_names.specs.Name.{Labels}
 use Rattle.dns_names.specs.Text.{printed_name}
@@ -11,26 +10,48 @@ use Rattle.dns_primary.specs.declared.event.To.{To}
 use Rattle.dns_primary.specs.declared.event.To.TheVariants as to
 use Rattle.dns_primary.specs.declared.event.Noted.{Noted}
 use Rattle.dns_primary.specs.declared.event.Noted.TheVariants as noted
-use Rattle.dns_primary.specs.Machine.{Machine}
+use Rattle.dns_records.specs.Record.{Record, serial_of}
+use Rattle.dns_zone.specs.Zone.{soas}
+use Rattle.dns_store.specs.declared.root.OpenError.{OpenError}
+use Rattle.dns_store.specs.declared.root.OpenError.TheVariants as refused
+use Rattle.dns_held.specs.Held.{shown_zone}
+use Rattle.dns_primary.specs.Machine.{Machine, ZoneState, kept_of}
 use Rattle.dns_primary.specs.Flush.{all_out}
 use Rattle.dns_primary.specs.Step.{Effects, Event, Step, Arrives, Closed}
 use Rattle.dns_primary.specs.Step as machine
-use Rattle.dns_script.specs.Commands.{Command, Nothing, Datagram, Connect, Message, Flush, Close, Says}
+use Rattle.dns_primary.specs.Stop.{IsStopped}
+use Rattle.dns_primary.specs.Runs.{Moment, Took, Stopped}
+use Rattle.dns_script.specs.Commands.{Command, Says}
+use Rattle.dns_script.specs.Commands as script
 use Rattle.dns_replay.specs.declared.run.Ending.{Ending}
-use Rattle.dns_replay.specs.declared.run.Ending.TheVariants.{Done, Syntax}
+use Rattle.dns_replay.specs.declared.run.Ending.TheVariants.{Done, Syntax, Refused}
 
 -- A peer has no port in a script.
 abbrev pub peer_of : IpAddr → Peer
 peer_of address = record { address = address; port = 0 }
 
--- The event that a command is, if it is one.
-abbrev pub event_of : Command → Option Event
-event_of Nothing = None
-event_of (Datagram address octets) = Some (machine.Datagram (peer_of address) octets)
-event_of (Connect address) = Some (machine.Connect (peer_of address))
-event_of (Message number octets) = Some (Arrives number octets)
-event_of Flush = Some machine.Flush
-event_of (Close number) = Some (Closed number)
+-- What a command says: nothing; an event; that a write or a sync is to fail; that a crash comes, all stores are opened anew, and that
+-- a write or a sync of the opening may be the last.
+pub data Said : Type 0 where
+  Nothing : Said
+  Happens : Event → Said
+  Plans : Said
+  Crashes : Said
+  Reopens : Said
+
+abbrev pub said_by : Command → Said
+said_by script.Nothing = Nothing
+said_by (script.Datagram address octets) = Happens (machine.Datagram (peer_of address) octets)
+said_by (script.Connect address) = Happens (machine.Connect (peer_of address))
+said_by (script.Message number octets) = Happens (Arrives number octets)
+said_by (script.Pump number) = Happens (machine.Pump number)
+said_by (script.Close number) = Happens (Closed number)
+said_by script.Flush = Happens machine.Flush
+said_by (script.Checkpoint place) = Happens (machine.Checkpoint place)
+said_by (script.Fail n) = Plans
+said_by (script.Stop n) = Plans
+said_by (script.Crash keeps) = Crashes
+said_by (script.Reopen n keeps) = Reopens
 
 -- A reply: where it goes, and its octets.
 abbrev pub printed_to : To → List ℕ
@@ -72,30 +93,140 @@ printed_effects origins event effects =
     ++ printed_connection event effects.accepted
     ++ printed_noted origins effects.noted
 
--- A command leads from a machine to another, and that is printed of it.
-abbrev pub Happens : List Labels → Machine → Option Event → List ℕ → Machine → Type 0
-Happens origins old None text new = (text ≡ []) × (new ≡ old)
-Happens origins old (Some event) text new =
-    (fails : List Bool) × (effects : Effects) × Step fails old event effects new × (text ≡ printed_effects origins event effects)
+-- A command in which a stop fell, and each behind it until a crash.
+abbrev pub printed_stop : List ℕ
+printed_stop = codes "stopped" ++ 10 ∷ []
 
--- A line that is a command does.
-pub record Prints (origins : List Labels) (old : Machine) (line text : List ℕ) (new : Machine) : Type 0 where
+-- The serial of the first of these SOA records.
+abbrev pub first_serial : List Record → ℕ
+first_serial [] = 0
+first_serial (soa ∷ rest) = serial_of soa
+
+-- The number of the version that is shown of a zone, the loaded one having 0, and its serial.
+abbrev pub shown_version : Option ZoneState → Option (ℕ × ℕ)
+shown_version None = None
+shown_version (Some z) = Some (length z.shown, first_serial (soas (shown_zone (kept_of z)).records))
+
+abbrev pub recovered_line : Labels → ℕ → ℕ → List ℕ
+recovered_line origin number serial =
+    codes "recovered " ++ printed_name origin ++ codes " version " ++ decimal number ++ codes " serial " ++ decimal serial ++ 10 ∷ []
+
+-- A zone behind a crash.
+abbrev pub recovered_version : Labels → Option (ℕ × ℕ) → List ℕ
+recovered_version origin None = []
+recovered_version origin (Some version) = recovered_line origin version.0 version.1
+
+abbrev pub recovered_zone : Option Labels → Option ZoneState → List ℕ
+recovered_zone None z = []
+recovered_zone (Some origin) z = recovered_version origin (shown_version z)
+
+-- So many zones, in order.
+abbrev pub recovered_zones : List Labels → List ZoneState → ℕ → List ℕ
+recovered_zones origins zones zero = []
+recovered_zones origins zones (suc n) =
+    recovered_zones origins zones n ++ recovered_zone (slice_get origins n) (slice_get zones n)
+
+-- A store that is refused, and why.
+abbrev pub refusal_word : OpenError → List ℕ
+refusal_word refused.Device = codes "Device"
+refusal_word refused.Blank = codes "Blank"
+refusal_word (refused.Damaged sector) = codes "Damaged(" ++ decimal sector ++ codes ")"
+refusal_word refused.Geometry = codes "Geometry"
+refusal_word refused.OutOfMemory = codes "OutOfMemory"
+
+abbrev pub refused_line : Labels → OpenError → List ℕ
+refused_line origin error = codes "refused " ++ printed_name origin ++ codes " " ++ refusal_word error ++ 10 ∷ []
+
+abbrev pub printed_refusal : Option Labels → OpenError → List ℕ
+printed_refusal None error = []
+printed_refusal (Some origin) error = refused_line origin error
+
+-- Where a script stands: a machine takes events; or one stopped within an event, and its devices alone are left.
+pub data Standing : Type 0 where
+  Takes : Machine → Standing
+  Stands : Machine → Event → Standing
+
+-- The machine that a crash comes to, and the event that it comes in. Between two events it is as in a flush that has not begun.
+abbrev pub machine_of : Standing → Machine
+machine_of (Takes m) = m
+machine_of (Stands m event) = m
+
+abbrev pub event_in : Standing → Event
+event_in (Takes m) = machine.Flush
+event_in (Stands m event) = event
+
+-- What happens to the machine meanwhile, what is printed, and where the script stands then.
+pub record Led : Type 0 where
+  pub moments : List Moment
+  pub text : List ℕ
+  pub standing : Standing
+
+abbrev pub idle : Standing → Led
+idle s = record { moments = []; text = []; standing = s }
+
+abbrev pub halted : Machine → Event → Led
+halted m event = record { moments = []; text = printed_stop; standing = Stands m event }
+
+-- An event is a step of the machine, or a stop fell within it.
+abbrev pub EventLeads : List Labels → Standing → Event → Led → Type 0
+EventLeads origins (Takes m) event led =
+    ((fails : List Bool) × (effects : Effects) × (next : Machine) × Step fails m event effects next
+    × (led ≡ record { moments = Took event fails effects next ∷ []; text = printed_effects origins event effects; standing = Takes next }))
+    ⊎ (led ≡ halted m event)
+EventLeads origins (Stands m stopped) event led = led ≡ halted m stopped
+
+-- A crash, and the stores are opened again: the machine stopped, and recovered.
+abbrev pub Recovers : List Labels → Standing → Led → Type 0
+Recovers origins s led =
+    (next : Machine) × IsStopped (machine_of s) (event_in s) next
+    × (led ≡ record {
+      moments = Stopped (event_in s) [] next ∷ [];
+      text = recovered_zones origins next.zones (length origins);
+      standing = Takes next;
+    })
+
+-- A plan is made for the devices of a machine that takes events.
+abbrev pub PlanLeads : Standing → Led → Type 0
+PlanLeads (Takes m) led = led ≡ idle (Takes m)
+PlanLeads (Stands m event) led = led ≡ halted m event
+
+abbrev pub Leads : List Labels → Standing → Said → Led → Type 0
+Leads origins s Nothing led = led ≡ idle s
+Leads origins s (Happens event) led = EventLeads origins s event led
+Leads origins s Plans led = PlanLeads s led
+Leads origins s Crashes led = Recovers origins s led
+Leads origins s Reopens led = Recovers origins s led ⊎ (led ≡ halted (machine_of s) (event_in s))
+
+-- What a command may end: a store is refused behind a crash.
+abbrev pub MayRefuse : Said → Type 0
+MayRefuse Crashes = Unit {0}
+MayRefuse Reopens = Unit {0}
+MayRefuse _ = ⊥
+
+-- A line that is a command leads on.
+pub record LineLeads (origins : List Labels) (s : Standing) (line : List ℕ) (led : Led) : Type 0 where
   pub command : Command
-  pub says : Says line command
-  pub happens : Happens origins old (event_of command) text new
+  pub says : Says origins line command
+  pub leads : Leads origins s (said_by command) led
 
-abbrev pub IsNoCommand : List ℕ → Type 0
-IsNoCommand line = (c : Command) → ¬ (Says line c)
+-- ... or ends the run.
+pub record LineRefuses (origins : List Labels) (line text : List ℕ) : Type 0 where
+  pub command : Command
+  pub says : Says origins line command
+  pub crashes : MayRefuse (said_by command)
+  pub place : ℕ
+  pub error : OpenError
+  pub printed : text ≡ printed_refusal (slice_get origins place) error
 
--- What is printed of lines, the first of which has that number, and how the run ends: where all are commands, or at the first
--- that is none.
-abbrev pub Runs : List Labels → Machine → ℕ → List (List ℕ) → List ℕ → Ending → Machine → Type 0
-Runs origins old number [] text ending new = (text ≡ []) × (ending ≡ Done) × (new ≡ old)
-Runs origins old number (line ∷ rest) text ending new =
-    ((first more : List ℕ) × (mid : Machine) × Prints origins old line first mid
-    × Runs origins mid (number + 1) rest more ending new × (text ≡ first ++ more))
-    ⊎ (IsNoCommand line × (text ≡ []) × (ending ≡ Syntax number) × (new ≡ old))
+abbrev pub IsNoCommand : List Labels → List ℕ → Type 0
+IsNoCommand origins line = (c : Command) → ¬ (Says origins line c)
 
-abbrev pub RunsInto : List Labels → Machine → List (List ℕ) → Ending → Option (List ℕ) → Option (List ℕ) → Machine → Type 0
-RunsInto origins old lines ending out out_after new =
-    (text : List ℕ) × Runs origins old 1 lines text ending new × Appends out out_after text
+-- What lines lead to, the first of which has that number, and how the run ends: where all are commands, at the first that is none, or
+-- at one behind which a store is refused.
+abbrev pub Runs : List Labels → Standing → ℕ → List (List ℕ) → Led → Ending → Type 0
+Runs origins s number [] led ending = (led ≡ idle s) × (ending ≡ Done)
+Runs origins s number (line ∷ rest) led ending =
+    ((first more : Led) × LineLeads origins s line first × Runs origins first.standing (number + 1) rest more ending
+    × (led ≡ record { moments = first.moments ++ more.moments; text = first.text ++ more.text; standing = more.standing }))
+    ⊎ (IsNoCommand origins line × (led ≡ idle s) × (ending ≡ Syntax number))
+    ⊎ ((text : List ℕ) × LineRefuses origins line text × (led ≡ record (idle s) { text = text }) × (ending ≡ Refused))

@@ -1,16 +1,23 @@
 //! The effects of an event in print, a line each.
-ghost use Rattle.std.specs.Prelude.{flat_map, map, OnOk, Some};
+ghost use Rattle.std.specs.Prelude.{◌≡◌, flat_map, length, map, slice_get, OnOk, Some};
 ghost use Rattle.std.specs.Io.KnownBytes.{Appends};
 ghost use Rattle.dns_primary.specs.Keeps.{AreEffects, header_out};
 ghost use Rattle.dns_primary.specs.Step.{Effects as Stated};
 ghost use Rattle.dns_primary.specs.Steps.{event_shown};
-ghost use Rattle.dns_replay.specs.Scripts.{printed_effects, printed_noted, printed_number, printed_reply, printed_to};
+ghost use Rattle.dns_primary.specs.Machine.{Machine};
+ghost use Rattle.dns_primary.specs.Keeps.{IsKept};
+ghost use Rattle.dns_replay.specs.Scripts.{printed_effects, printed_noted, printed_number, printed_refusal, printed_reply, printed_stop};
+ghost use Rattle.dns_replay.specs.Scripts.{printed_to, recovered_line, recovered_zone, recovered_zones, refusal_word, refused_line};
 ghost use Rattle.dns_replay.specs.Runs.{replies_out};
 
+use crate::device::ScriptDevice;
+use crate::stepping::version_at;
 use dns_memory::Heap;
 use dns_names::Name;
 use dns_policy::print_address;
-use dns_primary::{Effects, Event, HeaderTo, Noted, To};
+use dns_primary::{Effects, Event, HeaderTo, Noted, Primary, To};
+use dns_store::{KeptStore, OpenError};
+use dns_zone::ZoneIndex;
 use std::fmt;
 use std::io::{self, Write};
 
@@ -101,4 +108,98 @@ pub(crate) fn print_effects<W: Write>(
         print_number(effects.accepted, out)?;
     }
     print_noted(origins, effects.noted, out)
+}
+
+/// Prints that a stop fell.
+pub(crate) fn print_stop<W: Write>(out: &mut W) -> io::Result<()>
+    ensures { OnOk result (Appends (W.contents out.old) (W.contents out.new) printed_stop) }
+{
+    writeln!(out, "stopped")
+}
+
+/// Prints a zone behind a crash: the number of the version that is shown, and its serial.
+fn print_recovered_zone<W: Write>(
+    origin: &Name,
+    number: u64,
+    serial: u32,
+    out: &mut W,
+) -> io::Result<()>
+    ensures { OnOk result (Appends (W.contents out.old) (W.contents out.new) (recovered_line origin.now number serial)) }
+{
+    writeln!(out, "recovered {origin} version {number} serial {serial}")
+}
+
+/// Prints the zone at a place behind a crash.
+fn print_recovered_at<D: ScriptDevice, I: ZoneIndex, W: Write>(
+    origins: &[Name],
+    primary: &Primary<I, KeptStore<D, I>>,
+    place: usize,
+    out: &mut W,
+) -> io::Result<()>
+    ensures { OnOk result ((m : Machine) → IsKept primary.now m → Appends (W.contents out.old) (W.contents out.new)
+        (recovered_zone (slice_get origins.now place) (slice_get m.zones place))) }
+{
+    let Some(origin) = origins.get(place) else {
+        return Ok(());
+    };
+    match version_at(primary, place) {
+        Some((number, serial)) => print_recovered_zone(origin, number, serial, out),
+        None => Ok(()),
+    }
+}
+
+/// Prints all zones behind a crash.
+pub(crate) fn print_recovered<D: ScriptDevice, I: ZoneIndex, W: Write>(
+    origins: &[Name],
+    primary: &Primary<I, KeptStore<D, I>>,
+    out: &mut W,
+) -> io::Result<()>
+    ensures { OnOk result ((m : Machine) → IsKept primary.now m → Appends (W.contents out.old) (W.contents out.new)
+        (recovered_zones origins.now m.zones (length origins.now))) }
+{
+    for place in 0..origins.len() {
+        print_recovered_at(origins, primary, place, out)?;
+    }
+    Ok(())
+}
+
+/// Why a store is refused.
+#[derive(Drop)]
+struct Refusal(OpenError);
+
+impl fmt::Display for Refusal {
+    ghost output = { λ r. Some (refusal_word r.0) };
+
+    fn fmt<W: fmt::Write>(&self, f: &mut fmt::Formatter<W>) -> fmt::Result {
+        match self.0 {
+            OpenError::Device => write!(f, "Device"),
+            OpenError::Blank => write!(f, "Blank"),
+            OpenError::Damaged(sector) => write!(f, "Damaged({sector})"),
+            OpenError::Geometry => write!(f, "Geometry"),
+            OpenError::OutOfMemory => write!(f, "OutOfMemory"),
+        }
+    }
+}
+
+/// Prints that the store of a zone is refused.
+fn print_refused_zone<W: Write>(origin: &Name, error: OpenError, out: &mut W) -> io::Result<()>
+    ensures { OnOk result (Appends (W.contents out.old) (W.contents out.new) (refused_line origin.now error)) }
+{
+    writeln!(out, "refused {origin} {}", Refusal(error))
+}
+
+/// Prints that the store of the zone at a place is refused.
+pub(crate) fn print_refusal<W: Write>(
+    origins: &[Name],
+    place: usize,
+    error: OpenError,
+    out: &mut W,
+) -> io::Result<()>
+    ensures { OnOk result
+        (Appends (W.contents out.old) (W.contents out.new) (printed_refusal (slice_get origins.now place) error)) }
+{
+    match origins.get(place) {
+        Some(origin) => print_refused_zone(origin, error, out),
+        None => Ok(()),
+    }
 }

@@ -1,19 +1,18 @@
 //! Scripts run over a primary, a line at a time.
-ghost use Rattle.std.specs.Prelude.{◌≡◌, ◌≢◌, Some, IfOk, OnOk, option_map};
-ghost use Rattle.std.specs.Bool.{MatchBool};
-ghost use Rattle.std.specs.Io.KnownBytes.{Keeps};
-ghost use Rattle.dns_primary.specs.Steps.{event_shown};
+ghost use Rattle.std.specs.Prelude.{◌≡◌, ◌≢◌, IfOk};
 ghost use Rattle.dns_script.specs.Commands.{said};
 ghost use Rattle.dns_script.specs.Lines.{lines};
-ghost use Rattle.dns_replay.specs.Scripts.{IsNoCommand, event_of, peer_of};
-ghost use Rattle.dns_replay.specs.Runs.{RanCommand, RanLine, RanScript};
+ghost use Rattle.dns_replay.specs.Scripts.{PlanLeads, peer_of, said_by};
+ghost use Rattle.dns_replay.specs.Runs.{DoesBy, LeadsOn, LineDoes, RanScript};
 
-use crate::print::print_effects;
+use crate::device::ScriptDevice;
+use crate::print::print_stop;
+use crate::standing::{World, crash, run_event};
 use dns_memory::Heap;
-use dns_names::Name;
 use dns_primary::{Event, Peer, Primary};
 use dns_script::{Command, read_command, split_line};
-use dns_store::ZoneStore;
+use dns_sectors::Plan;
+use dns_store::KeptStore;
 use dns_zone::ZoneIndex;
 use std::io::{self, Write};
 use std::net::IpAddr;
@@ -25,24 +24,17 @@ pub enum Ending {
     Done,
     /// The line with this number, the first being 1, is no command.
     Syntax(u64),
+    /// Behind a crash a store was refused, as was printed.
+    Refused,
     /// A writer failed, or memory was refused.
     Failed,
 }
 
-/// Lets an event happen, and prints what it does.
-fn run_event<I: ZoneIndex, S: ZoneStore, W: Write>(
-    alloc: Heap,
-    primary: &mut Primary<I, S>,
-    origins: &[Name],
-    event: Event<'_>,
-    out: &mut W,
-) -> io::Result<()>
-    ensures { OnOk result
-        (RanCommand origins.now (Some (event_shown event.entry)) primary.old primary.new
-        (W.contents out.old) (W.contents out.new)) }
-{
-    let effects = primary.step(alloc, event);
-    print_effects(alloc, origins, event, &effects, out)
+/// What a plan says of the n-th write or sync from here on: that it fails, or that it is the last.
+#[derive(Clone, Copy)]
+pub(crate) enum Plans {
+    Fail(u32),
+    Stop(u32),
 }
 
 /// The peer of an address, which has no port in a script.
@@ -52,82 +44,135 @@ fn peer_of(address: IpAddr) -> Peer
     Peer { address, port: 0 }
 }
 
-/// The event that a command is, if it is one.
-fn event_of(command: &Command) -> Option<Event<'_>>
-    ensures { option_map event_shown result ≡ event_of (said command.now) }
-{
-    match command {
-        Command::Nothing => None,
-        Command::Datagram(address, octets) => {
-            Some(Event::Datagram(peer_of(*address), octets.as_slice()))
-        }
-        Command::Connect(address) => Some(Event::Connect(peer_of(*address))),
-        Command::Message(number, octets) => {
-            Some(Event::Message(*number as usize, octets.as_slice()))
-        }
-        Command::Flush => Some(Event::Flush),
-        Command::Close(number) => Some(Event::Closed(*number as usize)),
+/// What becomes of a run behind a line.
+#[derive(Clone, Copy, Debug, PartialEq, Eq)]
+pub(crate) enum After {
+    /// It goes on.
+    GoesOn,
+    /// The line is no command.
+    NoCommand,
+    /// A store was refused.
+    Refused,
+}
+
+/// Makes the n-th write or sync fail, or the last.
+fn make_plan(plan: &Plan, plans: Plans) {
+    match plans {
+        Plans::Fail(n) => plan.fail_at(u64::from(n)),
+        Plans::Stop(n) => plan.stop_at(u64::from(n)),
     }
 }
 
-/// Runs a command.
-fn run_command<I: ZoneIndex, S: ZoneStore, W: Write>(
-    alloc: Heap,
-    primary: &mut Primary<I, S>,
-    origins: &[Name],
+/// Makes the n-th write or sync fail, or the last, unless a stop came before.
+fn run_plan<D: ScriptDevice, I: ZoneIndex, W: Write>(
+    world: World<'_>,
+    primary: &Option<Primary<I, KeptStore<D, I>>>,
+    plans: Plans,
+    out: &mut W,
+) -> io::Result<After>
+    ensures { (devices : _) → IfOk result (λ after. (after ≡ After.GoesOn)
+        × LeadsOn world.entry.origins.now world.entry.settings.now PlanLeads
+        primary.now devices primary.now devices
+        (W.contents out.old) (W.contents out.new)) }
+{
+    match primary {
+        None => {
+            print_stop(out)?;
+            Ok(After::GoesOn)
+        }
+        Some(_) => {
+            make_plan(world.plan, plans);
+            Ok(After::GoesOn)
+        }
+    }
+}
+
+/// Runs a command, and says what becomes of the run.
+fn run_command<D: ScriptDevice, I: ZoneIndex, W: Write>(
+    world: World<'_>,
+    primary: &mut Option<Primary<I, KeptStore<D, I>>>,
+    devices: &mut Vec<D, Heap>,
     command: &Command,
     out: &mut W,
-) -> io::Result<()>
-    ensures { OnOk result
-        (RanCommand origins.now (event_of (said command.now)) primary.old primary.new (W.contents out.old) (W.contents out.new)) }
+) -> io::Result<After>
+    ensures { IfOk result (DoesBy world.entry.origins.now world.entry.settings.now (said_by (said command.now))
+        primary.old devices.old.items primary.new devices.new.items
+        (W.contents out.old) (W.contents out.new)) }
 {
-    match event_of(command) {
-        Some(event) => run_event(alloc, primary, origins, event, out),
-        None => Ok(()),
+    match command {
+        Command::Nothing => Ok(After::GoesOn),
+        Command::Fail(n) => run_plan(world, &*primary, Plans::Fail(*n), out),
+        Command::Stop(n) => run_plan(world, &*primary, Plans::Stop(*n), out),
+        Command::Crash(keeps) => crash(world, primary, devices, None, keeps, out),
+        Command::Reopen(n, keeps) => crash(world, primary, devices, Some(*n), keeps, out),
+        Command::Datagram(address, octets) => {
+            let event = Event::Datagram(peer_of(*address), octets.as_slice());
+            run_event(world, primary, devices, event, out)
+        }
+        Command::Connect(address) => {
+            let event = Event::Connect(peer_of(*address));
+            run_event(world, primary, devices, event, out)
+        }
+        Command::Message(number, octets) => {
+            let event = Event::Message(*number as usize, octets.as_slice());
+            run_event(world, primary, devices, event, out)
+        }
+        Command::Pump(number) => {
+            let event = Event::Pump(*number as usize);
+            run_event(world, primary, devices, event, out)
+        }
+        Command::Close(number) => {
+            let event = Event::Closed(*number as usize);
+            run_event(world, primary, devices, event, out)
+        }
+        Command::Flush => run_event(world, primary, devices, Event::Flush, out),
+        Command::Checkpoint(place) => {
+            let event = Event::Checkpoint(*place);
+            run_event(world, primary, devices, event, out)
+        }
     }
 }
 
-/// Runs one line, and says whether it is a command.
-fn run_line<I: ZoneIndex, S: ZoneStore, W: Write>(
-    alloc: Heap,
-    primary: &mut Primary<I, S>,
-    origins: &[Name],
+/// Runs one line, and says what becomes of the run.
+fn run_line<D: ScriptDevice, I: ZoneIndex, W: Write>(
+    world: World<'_>,
+    primary: &mut Option<Primary<I, KeptStore<D, I>>>,
+    devices: &mut Vec<D, Heap>,
     line: &[u8],
     out: &mut W,
-) -> io::Result<bool>
-    ensures { IfOk result
-        (λ is_command. MatchBool is_command
-        (RanLine origins.now line.now primary.old primary.new (W.contents out.old) (W.contents out.new))
-        (IsNoCommand line.now × (primary.new ≡ primary.old) × Keeps (W.contents out.old) (W.contents out.new))) }
+) -> io::Result<After>
+    ensures { IfOk result (LineDoes world.entry.origins.now world.entry.settings.now line.now
+        primary.old devices.old.items primary.new devices.new.items
+        (W.contents out.old) (W.contents out.new)) }
 {
-    match read_command(alloc, line)? {
-        Some(command) => {
-            run_command(alloc, primary, origins, &command, out)?;
-            Ok(true)
-        }
-        None => Ok(false),
+    match read_command(world.heap, world.origins, line)? {
+        Some(command) => run_command(world, primary, devices, &command, out),
+        None => Ok(After::NoCommand),
     }
 }
 
-/// Runs a script over a primary, and writes the effects of each line in order. What was written before a line that is no command
-/// stays. A line ends with LF or CR LF. The origins are the names of the zones, in their order.
-pub fn run_script<I: ZoneIndex, S: ZoneStore, W: Write>(
-    alloc: Heap,
-    primary: &mut Primary<I, S>,
-    origins: &[Name],
+/// Runs a script over a primary, whose zones have the names and the settings of the world and whose devices have its plan, and writes
+/// the effects of each line in order. What was written before a line that ends the run stays. A line ends with LF or CR LF.
+pub fn run_script<D: ScriptDevice, I: ZoneIndex, W: Write>(
+    world: World<'_>,
+    primary: Primary<I, KeptStore<D, I>>,
     script: &[u8],
     out: &mut W,
 ) -> Ending
     ensures { result ≢ Ending.Failed
-        → RanScript origins.now (lines script.now) result primary.old primary.new (W.contents out.old) (W.contents out.new) }
+        → RanScript world.entry.origins.now world.entry.settings.now (lines script.now) result primary
+        (W.contents out.old) (W.contents out.new) }
 {
+    let mut running = Some(primary);
+    let mut devices = Vec::new(world.heap);
     let mut number: u64 = 1;
     let mut rest = Some(script);
     'lines: while let Some(text) = rest {
         let (line, behind) = split_line(text);
-        match run_line(alloc, primary, origins, line, out) {
-            Ok(true) => {}
-            Ok(false) => return Ending::Syntax(number),
+        match run_line(world, &mut running, &mut devices, line, out) {
+            Ok(After::GoesOn) => {}
+            Ok(After::NoCommand) => return Ending::Syntax(number),
+            Ok(After::Refused) => return Ending::Refused,
             Err(_) => return Ending::Failed,
         }
         number += 1;

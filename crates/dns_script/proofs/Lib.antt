@@ -1,1 +1,2 @@
 pub mod Words
+pub mod Kept

@@ -23,6 +23,11 @@ abbrev pub lines_left : Option (List ℕ) → List (List ℕ)
 lines_left None = []
 lines_left (Some rest) = lines rest
 
+-- What stands between certain octets of a text, if there is one.
+abbrev pub pieces_left : (ℕ → Bool) → Option (List ℕ) → List (List ℕ)
+pieces_left is_between None = []
+pieces_left is_between (Some rest) = slice_split is_between rest
+
 -- How much that is.
 abbrev pub room : Option (List ℕ) → ℕ
 room None = 0

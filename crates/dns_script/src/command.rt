@@ -1,11 +1,14 @@
 //! The commands of a script, one a line.
 ghost use Rattle.std.specs.Prelude.{◌≡◌, ℕ, List, [], ◌∷◌, length, MatchOption, IfOk, Some, codes};
-ghost use Rattle.dns_script.specs.Commands.{AreWordsOf, Command as Stated, HasOctets, IsNumber, Says, is_comment, said};
+ghost use Rattle.dns_names.specs.Name.{Labels};
+ghost use Rattle.dns_script.specs.Commands.{AreWordsOf, Command as Stated, HasOctets, IsCount, IsNumber, Says, is_comment, said};
 ghost use Rattle.dns_script.specs.Lines.{words};
 
+use crate::keeps::{ZoneKeep, keeps, place_named};
 use crate::lines::{first_word, only_word, two_words};
 use dns_masterfile::number;
 use dns_memory::Heap;
+use dns_names::Name;
 use dns_policy::address;
 use std::alloc::AllocError;
 use std::net::IpAddr;
@@ -21,10 +24,22 @@ pub enum Command {
     Connect(IpAddr),
     /// `tcp N HEX`: a message on a connection.
     Message(u32, Vec<u8, Heap>),
-    /// `flush`
-    Flush,
+    /// `pump N`: the transfer on a connection gives its next message.
+    Pump(u32),
     /// `close N`: a connection is closed.
     Close(u32),
+    /// `flush`: what was staged is shown, and what waits goes out.
+    Flush,
+    /// `checkpoint ORIGIN`: the zone at a place gets a later base.
+    Checkpoint(usize),
+    /// `fail N`: the N-th write or sync from here on fails.
+    Fail(u32),
+    /// `stop N`: the N-th write or sync from here on is the last.
+    Stop(u32),
+    /// `crash [ORIGIN=LIST ..]`: of the pending writes these are kept, and all stores are opened anew.
+    Crash(Vec<ZoneKeep, Heap>),
+    /// `reopen N [ORIGIN=LIST ..]`: the same, and the N-th write or sync of the opening is the last.
+    Reopen(u32, Vec<ZoneKeep, Heap>),
 }
 
 /// A message has at most so many octets.
@@ -46,9 +61,9 @@ fn octets(alloc: Heap, text: &[u8]) -> Result<Option<Vec<u8, Heap>>, AllocError>
 
 /// The command whose words are `udp` and these.
 fn datagram(alloc: Heap, rest: &[u8]) -> Result<Option<Command>, AllocError>
-    ensures { IfOk result
-        (λ read. MatchOption read ((c : Stated) → ¬ (AreWordsOf (codes "udp" ∷ words rest.now) c))
-        (λ c. AreWordsOf (codes "udp" ∷ words rest.now) (said c))) }
+    ensures { (origins : List Labels) → IfOk result
+        (λ read. MatchOption read ((c : Stated) → ¬ (AreWordsOf origins (codes "udp" ∷ words rest.now) c))
+        (λ c. AreWordsOf origins (codes "udp" ∷ words rest.now) (said c))) }
 {
     let Some((peer, text)) = two_words(rest) else {
         return Ok(None);
@@ -64,9 +79,9 @@ fn datagram(alloc: Heap, rest: &[u8]) -> Result<Option<Command>, AllocError>
 
 /// The command whose words are `tcp` and these.
 fn message(alloc: Heap, rest: &[u8]) -> Result<Option<Command>, AllocError>
-    ensures { IfOk result
-        (λ read. MatchOption read ((c : Stated) → ¬ (AreWordsOf (codes "tcp" ∷ words rest.now) c))
-        (λ c. AreWordsOf (codes "tcp" ∷ words rest.now) (said c))) }
+    ensures { (origins : List Labels) → IfOk result
+        (λ read. MatchOption read ((c : Stated) → ¬ (AreWordsOf origins (codes "tcp" ∷ words rest.now) c))
+        (λ c. AreWordsOf origins (codes "tcp" ∷ words rest.now) (said c))) }
 {
     let Some((digits, text)) = two_words(rest) else {
         return Ok(None);
@@ -82,8 +97,8 @@ fn message(alloc: Heap, rest: &[u8]) -> Result<Option<Command>, AllocError>
 
 /// The command whose words are `connect` and these.
 fn connect(rest: &[u8]) -> Option<Command>
-    ensures { MatchOption result ((c : Stated) → ¬ (AreWordsOf (codes "connect" ∷ words rest.now) c))
-        (λ c. AreWordsOf (codes "connect" ∷ words rest.now) (said c)) }
+    ensures { (origins : List Labels) → MatchOption result ((c : Stated) → ¬ (AreWordsOf origins (codes "connect" ∷ words rest.now) c))
+        (λ c. AreWordsOf origins (codes "connect" ∷ words rest.now) (said c)) }
 {
     let peer = address(only_word(rest)?)?;
     Some(Command::Connect(peer))
@@ -91,17 +106,26 @@ fn connect(rest: &[u8]) -> Option<Command>
 
 /// The command whose words are `close` and these.
 fn close(rest: &[u8]) -> Option<Command>
-    ensures { MatchOption result ((c : Stated) → ¬ (AreWordsOf (codes "close" ∷ words rest.now) c))
-        (λ c. AreWordsOf (codes "close" ∷ words rest.now) (said c)) }
+    ensures { (origins : List Labels) → MatchOption result ((c : Stated) → ¬ (AreWordsOf origins (codes "close" ∷ words rest.now) c))
+        (λ c. AreWordsOf origins (codes "close" ∷ words rest.now) (said c)) }
 {
     let connection = number(only_word(rest)?)?;
     Some(Command::Close(connection))
 }
 
+/// The command whose words are `pump` and these.
+fn pump(rest: &[u8]) -> Option<Command>
+    ensures { (origins : List Labels) → MatchOption result ((c : Stated) → ¬ (AreWordsOf origins (codes "pump" ∷ words rest.now) c))
+        (λ c. AreWordsOf origins (codes "pump" ∷ words rest.now) (said c)) }
+{
+    let connection = number(only_word(rest)?)?;
+    Some(Command::Pump(connection))
+}
+
 /// The command whose words are `flush` and these.
 fn flush(rest: &[u8]) -> Option<Command>
-    ensures { MatchOption result ((c : Stated) → ¬ (AreWordsOf (codes "flush" ∷ words rest.now) c))
-        (λ c. AreWordsOf (codes "flush" ∷ words rest.now) (said c)) }
+    ensures { (origins : List Labels) → MatchOption result ((c : Stated) → ¬ (AreWordsOf origins (codes "flush" ∷ words rest.now) c))
+        (λ c. AreWordsOf origins (codes "flush" ∷ words rest.now) (said c)) }
 {
     match first_word(rest) {
         Some(_) => None,
@@ -109,11 +133,90 @@ fn flush(rest: &[u8]) -> Option<Command>
     }
 }
 
-/// The command that begins with a word, and goes on with the words of a text.
-fn command_of(alloc: Heap, verb: &[u8], rest: &[u8]) -> Result<Option<Command>, AllocError>
+/// The number from 1 on that a text is.
+fn count(text: &[u8]) -> Option<u32>
+    ensures { MatchOption result ((n : ℕ) → ¬ (IsCount text.now n)) (λ n. IsCount text.now n) }
+{
+    match number(text) {
+        Some(0) => None,
+        Some(n) => Some(n),
+        None => None,
+    }
+}
+
+/// The command whose words are `fail` and these.
+fn fail(rest: &[u8]) -> Option<Command>
+    ensures { (origins : List Labels) → MatchOption result ((c : Stated) → ¬ (AreWordsOf origins (codes "fail" ∷ words rest.now) c))
+        (λ c. AreWordsOf origins (codes "fail" ∷ words rest.now) (said c)) }
+{
+    let n = count(only_word(rest)?)?;
+    Some(Command::Fail(n))
+}
+
+/// The command whose words are `stop` and these.
+fn stop(rest: &[u8]) -> Option<Command>
+    ensures { (origins : List Labels) → MatchOption result ((c : Stated) → ¬ (AreWordsOf origins (codes "stop" ∷ words rest.now) c))
+        (λ c. AreWordsOf origins (codes "stop" ∷ words rest.now) (said c)) }
+{
+    let n = count(only_word(rest)?)?;
+    Some(Command::Stop(n))
+}
+
+/// The command whose words are `checkpoint` and these.
+fn checkpoint(alloc: Heap, origins: &[Name], rest: &[u8]) -> Result<Option<Command>, AllocError>
     ensures { IfOk result
-        (λ read. MatchOption read ((c : Stated) → ¬ (AreWordsOf (verb.now ∷ words rest.now) c))
-        (λ c. AreWordsOf (verb.now ∷ words rest.now) (said c))) }
+        (λ read. MatchOption read ((c : Stated) → ¬ (AreWordsOf origins.now (codes "checkpoint" ∷ words rest.now) c))
+        (λ c. AreWordsOf origins.now (codes "checkpoint" ∷ words rest.now) (said c))) }
+{
+    let Some(origin) = only_word(rest) else {
+        return Ok(None);
+    };
+    match place_named(alloc, origins, origin)? {
+        Some(zone) => Ok(Some(Command::Checkpoint(zone))),
+        None => Ok(None),
+    }
+}
+
+/// The command whose words are `crash` and these.
+fn crash(alloc: Heap, origins: &[Name], rest: &[u8]) -> Result<Option<Command>, AllocError>
+    ensures { IfOk result
+        (λ read. MatchOption read ((c : Stated) → ¬ (AreWordsOf origins.now (codes "crash" ∷ words rest.now) c))
+        (λ c. AreWordsOf origins.now (codes "crash" ∷ words rest.now) (said c))) }
+{
+    match keeps(alloc, origins, rest)? {
+        Some(keeps) => Ok(Some(Command::Crash(keeps))),
+        None => Ok(None),
+    }
+}
+
+/// The command whose words are `reopen` and these.
+fn reopen(alloc: Heap, origins: &[Name], rest: &[u8]) -> Result<Option<Command>, AllocError>
+    ensures { IfOk result
+        (λ read. MatchOption read ((c : Stated) → ¬ (AreWordsOf origins.now (codes "reopen" ∷ words rest.now) c))
+        (λ c. AreWordsOf origins.now (codes "reopen" ∷ words rest.now) (said c))) }
+{
+    let Some((digits, behind)) = first_word(rest) else {
+        return Ok(None);
+    };
+    let Some(n) = count(digits) else {
+        return Ok(None);
+    };
+    match keeps(alloc, origins, behind)? {
+        Some(keeps) => Ok(Some(Command::Reopen(n, keeps))),
+        None => Ok(None),
+    }
+}
+
+/// The command that begins with a word, and goes on with the words of a text.
+fn command_of(
+    alloc: Heap,
+    origins: &[Name],
+    verb: &[u8],
+    rest: &[u8],
+) -> Result<Option<Command>, AllocError>
+    ensures { IfOk result
+        (λ read. MatchOption read ((c : Stated) → ¬ (AreWordsOf origins.now (verb.now ∷ words rest.now) c))
+        (λ c. AreWordsOf origins.now (verb.now ∷ words rest.now) (said c))) }
 {
     if verb == b"udp".as_slice() {
         return datagram(alloc, rest);
@@ -130,6 +233,24 @@ fn command_of(alloc: Heap, verb: &[u8], rest: &[u8]) -> Result<Option<Command>, 
     if verb == b"flush".as_slice() {
         return Ok(flush(rest));
     }
+    if verb == b"checkpoint".as_slice() {
+        return checkpoint(alloc, origins, rest);
+    }
+    if verb == b"fail".as_slice() {
+        return Ok(fail(rest));
+    }
+    if verb == b"stop".as_slice() {
+        return Ok(stop(rest));
+    }
+    if verb == b"pump".as_slice() {
+        return Ok(pump(rest));
+    }
+    if verb == b"crash".as_slice() {
+        return crash(alloc, origins, rest);
+    }
+    if verb == b"reopen".as_slice() {
+        return reopen(alloc, origins, rest);
+    }
     Ok(None)
 }
 
@@ -140,16 +261,20 @@ fn is_comment(line: &[u8]) -> bool
     line.first() == Some(&b'#')
 }
 
-/// The command that a line is, if it is one. Words are separated by spaces or tabs.
-pub fn read_command(alloc: Heap, line: &[u8]) -> Result<Option<Command>, AllocError>
+/// The command that a line is, if it is one, where the zones have these names. Words are separated by spaces or tabs.
+pub fn read_command(
+    alloc: Heap,
+    origins: &[Name],
+    line: &[u8],
+) -> Result<Option<Command>, AllocError>
     ensures { IfOk result
-        (λ read. MatchOption read ((c : Stated) → ¬ (Says line.now c)) (λ c. Says line.now (said c))) }
+        (λ read. MatchOption read ((c : Stated) → ¬ (Says origins.now line.now c)) (λ c. Says origins.now line.now (said c))) }
 {
     if is_comment(line) {
         return Ok(Some(Command::Nothing));
     }
     match first_word(line) {
-        Some((verb, rest)) => command_of(alloc, verb, rest),
+        Some((verb, rest)) => command_of(alloc, origins, verb, rest),
         None => Ok(Some(Command::Nothing)),
     }
 }

@@ -2,7 +2,9 @@
 #![tactic(auto)]
 
 mod command;
+mod keeps;
 mod lines;
 
 pub use command::{Command, read_command};
+pub use keeps::{Keep, ZoneKeep};
 pub use lines::split_line;

@@ -1,9 +1,9 @@
 //! Lines and words of a script.
-ghost use Rattle.std.specs.Prelude.{◌≡◌, ◌≢◌, ◌<◌, ◌≤◌, ℕ, List, [], ◌∷◌, length, position, MatchOption, Some, None};
+ghost use Rattle.std.specs.Prelude.{◌≡◌, ◌≢◌, ◌==◌, ◌<◌, ◌≤◌, ℕ, List, [], ◌∷◌, length, position, MatchOption, Some, None};
 ghost use Rattle.std.specs.Option.{option_copied};
 ghost use Rattle.std.specs.Str.Lines.{strip_carriage_return};
-ghost use Rattle.std.specs.List.{after_first, before_first};
-ghost use Rattle.dns_script.specs.Lines.{is_blank, is_feed, lines, lines_left, room, words};
+ghost use Rattle.std.specs.List.{after_first, before_first, slice_split};
+ghost use Rattle.dns_script.specs.Lines.{is_blank, lines, lines_left, pieces_left, room, words};
 
 /// A space or a tab.
 fn is_blank(octet: u8) -> bool
@@ -67,22 +67,38 @@ pub(crate) fn two_words(text: &[u8]) -> Option<(&[u8], &[u8])>
     Some((first, second))
 }
 
-/// Where the first line feed stands.
-fn first_feed(text: &[u8]) -> Option<usize>
-    ensures { result ≡ position is_feed text.now }
+/// Where the first octet of that value stands.
+fn first_at(text: &[u8], octet: u8) -> Option<usize>
+    ensures { result ≡ position (λ c. c == octet) text.now }
 {
-    text.iter().position(|octet| *octet == b'\n')
+    text.iter().position(|c| *c == octet)
 }
 
-/// What stands before the first line feed, and behind it if there is one.
-fn cut_at_feed(text: &[u8]) -> (&[u8], Option<&[u8]>)
-    ensures { MatchOption (position is_feed text.now) ((result.0.now ≡ text.now) × (option_copied result.1 ≡ None))
-        (λ _. (result.0.now ≡ before_first is_feed text.now) × (option_copied result.1 ≡ Some (after_first is_feed text.now))) }
+/// What stands before it, and behind it if there is one.
+fn parted_at(text: &[u8], octet: u8) -> (&[u8], Option<&[u8]>)
+    ensures { MatchOption (position (λ c. c == octet) text.now)
+        ((result.0.now ≡ text.now) × (option_copied result.1 ≡ None))
+        (λ _. (result.0.now ≡ before_first (λ c. c == octet) text.now)
+        × (option_copied result.1 ≡ Some (after_first (λ c. c == octet) text.now))) }
 {
-    match first_feed(text) {
+    match first_at(text, octet) {
         Some(end) => (&text[..end], Some(&text[end + 1..])),
         None => (text, None),
     }
+}
+
+/// What stands before the first octet of that value, and behind it if there is one.
+pub(crate) fn cut_at(text: &[u8], octet: u8) -> (&[u8], Option<&[u8]>)
+    ensures parts { MatchOption (position (λ c. c == octet) text.now)
+        ((result.0.now ≡ text.now) × (option_copied result.1 ≡ None))
+        (λ _. (result.0.now ≡ before_first (λ c. c == octet) text.now)
+        × (option_copied result.1 ≡ Some (after_first (λ c. c == octet) text.now))) }
+    ensures pieces { slice_split (λ c. c == octet) text.now
+        ≡ result.0.now ∷ pieces_left (λ c. c == octet) (option_copied result.1) }
+    ensures less { room (option_copied result.1) ≤ length text.now }
+{
+    let (front, behind) = parted_at(text, octet);
+    (front, behind)
 }
 
 /// A line without the carriage return at its end, if it has one.
@@ -100,6 +116,6 @@ pub fn split_line(script: &[u8]) -> (&[u8], Option<&[u8]>)
     ensures line { lines script.now ≡ result.0.now ∷ lines_left (option_copied result.1) }
     ensures less { room (option_copied result.1) ≤ length script.now }
 {
-    let (line, behind) = cut_at_feed(script);
+    let (line, behind) = cut_at(script, b'\n');
     (without_return(line), behind)
 }

@@ -1,9 +1,10 @@
 -- How a run of a script over the zones of a configuration ends.
-use Rattle.std.proofs.Common.{◌≡◌, ℕ, suc, Bool, true, false, inl, inr, List, [], ◌∷◌, length, Option, Result, Ok, Err, IfOk, refl, sym, ap, subst, ◌∙◌, arith}
-use Rattle.std.specs.Prelude.{◌⊎◌, ◌↔◌, IsTrue}
+use Rattle.std.proofs.Common.{◌≡◌, ℕ, zero, suc, Bool, true, false, inl, inr, List, [], ◌∷◌, length, map, Option, Result, Ok, Err, IfOk, refl, sym, ap, subst, ◌∙◌, arith}
+use Rattle.std.specs.Prelude.{◌⊎◌, ◌↔◌, Some, IsTrue, slice_get}
 use Rattle.std.specs.Bool.{MatchBool}
 use Rattle.std.specs.List.{AllZip}
 use Rattle.std.specs.Option.{option_copied}
+use Rattle.std.specs.String.{string_bytes}
 use Rattle.std.specs.Io.KnownBytes.{Appends}
 use Rattle.std.proofs.KnownBytes.{Keeps-refl}
 use Rattle.std.specs.declared.net.ip_addr.IpAddr.{IpAddr}
@@ -21,32 +22,89 @@ use Rattle.dns_configuration.specs.declared.files.Fault.{Fault}
 use Rattle.dns_configuration.specs.Faults.{is_memory, line, fault_text}
 use Rattle.dns_configuration.specs.Files.{Holds, IsFirstFault, IsLoaded}
 use Rattle.dns_configuration.specs.Known.{IsSettingOf, origins_of}
-use Rattle.dns_server.specs.Replays.{Begins, IsBegun, IsScriptFault, Ran, ReplayEnds, ScriptEnds}
+use Rattle.dns_store.specs.declared.formatting.FormatError.{FormatError}
+use Rattle.dns_devices.specs.Faults.{IsDeviceTold, fault_of_format}
+use Rattle.dns_devices.proofs.Ended.{device_told}
+use Rattle.dns_replay.specs.declared.run.Ending.TheVariants as ending
+use Rattle.dns_server.specs.Replays.{Begins, IsBegun, IsScriptFault, IsUnmadeTold, Ran, ReplayEnds, ScriptEnds, devices_of}
 
 -- A script that can't be read, or whose line is no command.
-pub script_refused : {E : Type 0} (origins : List Labels) (m : Machine) (script : File) (fault : Fault) (out out_after err err_after : Option (List ℕ)) (r : Result ℕ E) → is_memory fault ≡ false → IsScriptFault origins m (option_copied script.octets) fault out out_after → IfOk r (λ status. MatchBool (is_memory fault) (status ≡ 3) ((status ≡ 1) × Appends err err_after (line (fault_text script.path.now fault)))) → IfOk r (ScriptEnds origins m script out out_after err err_after)
-script_refused origins m script fault out out_after err err_after (Err e) is h k = tt
-script_refused origins m script fault out out_after err err_after (Ok status) is h k =
+pub script_refused : {E : Type 0} (origins : List Labels) (devices : List (List ℕ)) (m : Machine) (script : File) (fault : Fault) (out out_after err err_after : Option (List ℕ)) (r : Result ℕ E) → is_memory fault ≡ false → IsScriptFault origins m (option_copied script.octets) fault out out_after → IfOk r (λ status. MatchBool (is_memory fault) (status ≡ 3) ((status ≡ 1) × Appends err err_after (line (fault_text script.path.now fault)))) → IfOk r (ScriptEnds origins devices m script out out_after err err_after)
+script_refused origins devices m script fault out out_after err err_after (Err e) is h k = tt
+script_refused origins devices m script fault out out_after err err_after (Ok status) is h k =
     let said : (status ≡ 1) × Appends err err_after (line (fault_text script.path.now fault)) = subst (λ (b : Bool). MatchBool b (status ≡ 3) ((status ≡ 1) × Appends err err_after (line (fault_text script.path.now fault)))) is k in
     record {
       done = λ e. absurd (omega (arith, e, said.0));
-      refused = λ _. (fault, h, said.1);
+      refused = λ _. inl (record { fault = fault; is = h; told = said.1 });
       others = inl (omega (arith, said.0));
     }
 
-pub refused_over : {E : Type 0} (origins : List Labels) (zones : List Zone) (known : List primary.ZoneSettings) (script : File) (fault : Fault) (out out_after err err_after : Option (List ℕ)) (r : Result ℕ E) → is_memory fault ≡ false
+pub refused_over : {E : Type 0} (origins : List Labels) (devices : List (List ℕ)) (zones : List Zone) (known : List primary.ZoneSettings) (script : File) (fault : Fault) (out out_after err err_after : Option (List ℕ)) (r : Result ℕ E) → is_memory fault ≡ false
     → ((m : Machine) → fresh.IsFresh zones known m → IsScriptFault origins m (option_copied script.octets) fault out out_after) → IfOk r (λ status. MatchBool (is_memory fault) (status ≡ 3) ((status ≡ 1) × Appends err err_after (line (fault_text script.path.now fault))))
-    → IfOk r (λ status. (m : Machine) → fresh.IsFresh zones known m → ScriptEnds origins m script out out_after err err_after status)
-refused_over origins zones known script fault out out_after err err_after (Err e) is h k = tt
-refused_over {E = E} origins zones known script fault out out_after err err_after (Ok status) is h k = λ m f. script_refused {E = E} origins m script fault out out_after err err_after (Ok status) is (h m f) k
+    → IfOk r (λ status. (m : Machine) → fresh.IsFresh zones known m → ScriptEnds origins devices m script out out_after err err_after status)
+refused_over origins devices zones known script fault out out_after err err_after (Err e) is h k = tt
+refused_over {E = E} origins devices zones known script fault out out_after err err_after (Ok status) is h k = λ m f. script_refused {E = E} origins devices m script fault out out_after err err_after (Ok status) is (h m f) k
 
 -- A script whose lines were all run.
-pub script_done : (origins : List Labels) (m : Machine) (script : File) (out out_after err : Option (List ℕ)) → Ran origins m (option_copied script.octets) out out_after → ScriptEnds origins m script out out_after err err 0
-script_done origins m script out out_after err ran = record {
+pub script_done : (origins : List Labels) (devices : List (List ℕ)) (m : Machine) (script : File) (out out_after err : Option (List ℕ)) → Ran origins m ending.Done (option_copied script.octets) out out_after → ScriptEnds origins devices m script out out_after err err 0
+script_done origins devices m script out out_after err ran = record {
   done = λ _. (ran, Keeps-refl err);
   refused = λ e. absurd (omega (arith, e));
   others = inl (omega arith);
 }
+
+-- One that ended where a store was refused.
+pub script_ended : (origins : List Labels) (devices : List (List ℕ)) (m : Machine) (script : File) (out out_after err : Option (List ℕ)) → Ran origins m ending.Refused (option_copied script.octets) out out_after → ScriptEnds origins devices m script out out_after err err 1
+script_ended origins devices m script out out_after err ran = record {
+  done = λ e. absurd (omega (arith, e));
+  refused = λ _. inr (inl (ran, Keeps-refl err));
+  others = inl (omega arith);
+}
+
+-- One whose run failed.
+pub script_failed : (origins : List Labels) (devices : List (List ℕ)) (m : Machine) (script : File) (out out_after err err_after : Option (List ℕ)) (status : ℕ) → status ≡ 3 → ScriptEnds origins devices m script out out_after err err_after status
+script_failed origins devices m script out out_after err err_after status e = record {
+  done = λ d. absurd (omega (arith, e, d));
+  refused = λ d. absurd (omega (arith, e, d));
+  others = inr e;
+}
+
+-- One that was not begun, since no store could be made.
+pub script_unmade : (origins : List Labels) (devices : List (List ℕ)) (m : Machine) (script : File) (out err err_after : Option (List ℕ)) (status : ℕ) → (status ≡ 3) ⊎ ((status ≡ 1) × IsUnmadeTold devices err err_after) → ScriptEnds origins devices m script out out err err_after status
+script_unmade origins devices m script out err err_after status (inl e) = script_failed origins devices m script out out err err_after status e
+script_unmade origins devices m script out err err_after status (inr h) = record {
+  done = λ d. absurd (omega (arith, h.0, d));
+  refused = λ _. inr (inr (h.1, Keeps-refl out));
+  others = inl (omega (arith, h.0));
+}
+
+pub unmade_over : {E : Type 0} (origins : List Labels) (devices : List (List ℕ)) (zones : List Zone) (known : List primary.ZoneSettings) (script : File) (out out_after err err_after : Option (List ℕ)) (r : Result ℕ E) → out_after ≡ out
+    → IfOk r (λ status. (status ≡ 3) ⊎ ((status ≡ 1) × IsUnmadeTold devices err err_after))
+    → IfOk r (λ status. (m : Machine) → fresh.IsFresh zones known m → ScriptEnds origins devices m script out out_after err err_after status)
+unmade_over origins devices zones known script out out_after err err_after (Err e) same h = tt
+unmade_over origins devices zones known script out out_after err err_after (Ok status) same h = λ m f.
+    subst (λ (o : Option (List ℕ)). ScriptEnds origins devices m script out o err err_after status) (sym same) (script_unmade origins devices m script out err err_after status h)
+
+-- What is told of a store that can't be made.
+pub unmade_told : {E : Type 0} (devices : List (List ℕ)) (place : ℕ) (path : List ℕ) (error : FormatError) (err err_after : Option (List ℕ)) (r : Result ℕ E) → slice_get devices place ≡ Some path
+    → IfOk r (λ status. IsDeviceTold path (fault_of_format error) false err err_after status)
+    → IfOk r (λ status. (status ≡ 3) ⊎ ((status ≡ 1) × IsUnmadeTold devices err err_after))
+unmade_told devices place path error err err_after r is h =
+    device_told (λ (status : ℕ). (status ≡ 3) ⊎ ((status ≡ 1) × IsUnmadeTold devices err err_after)) path (fault_of_format error) false err err_after r h
+    (inl refl) (λ _ said. inr (refl, record { place = place; path = path; is = is; error = error; told = said }))
+
+-- The path of the device of the zone there.
+pub device_at : (own : List ZoneSettings) (place : ℕ) (zone : ZoneSettings) → slice_get own place ≡ Some zone → slice_get (devices_of own) place ≡ Some (string_bytes zone.device)
+device_at [] place zone e = absurd cc
+device_at (z ∷ own) zero zone e = (let is : z ≡ zone = cc in ap (λ (x : ZoneSettings). Some (string_bytes x.device)) is)
+device_at (z ∷ own) (suc place) zone e = device_at own place zone e
+
+-- The names of zones that were loaded.
+pub loaded_names : (files : List File) (settings : List ZoneSettings) (zones : List Zone) → AllZip (IsLoaded files) settings zones → map (λ (z : Zone). z.apex) zones ≡ origins_of settings
+loaded_names files [] [] h = refl
+loaded_names files (s ∷ settings) (z ∷ zones) h = (let rest = loaded_names files settings zones h.1 in λ i. h.0.apex i ∷ rest i)
+loaded_names files [] (z ∷ zones) h = absurd h
+loaded_names files (s ∷ settings) [] h = absurd h
 
 -- The zones that were loaded are those of a machine to which nothing has happened.
 pub fresh_zones : (files : List File) (settings : List ZoneSettings) (known : List primary.ZoneSettings) (zones : List Zone) (states : List ZoneState) → AllZip (IsLoaded files) settings zones → AllZip IsSettingOf settings known → Each3 IsBegun settings zones states → Each3 fresh.IsLoaded zones known states
@@ -82,16 +140,18 @@ as_many R Q [] [] (z ∷ zs) h k = absurd k
 as_many R Q (x ∷ xs) [] zs h k = absurd h
 as_many R Q (x ∷ xs) (y ∷ ys) [] h k = absurd k
 
-pub script_ran : {E : Type 0} (config : File) (files : List File) (script : File) (c : Configuration) (zones : List Zone) (known : List primary.ZoneSettings) (names : List Labels) (out out_after err err_after : Option (List ℕ)) (r : Result ℕ E)
-    → Holds (option_copied config.octets) (Ok c) → AllZip (IsLoaded files) c.zones.items zones → AllZip IsSettingOf c.zones.items known → names ≡ origins_of c.zones.items
-    → IfOk r (λ status. (m : Machine) → fresh.IsFresh zones known m → ScriptEnds names m script out out_after err err_after status) → IfOk r (ReplayEnds config files script out out_after err err_after)
-script_ran config files script c zones known names out out_after err err_after (Err e) holds loaded settings same h = tt
-script_ran config files script c zones known names out out_after err err_after (Ok status) holds loaded settings same h = inr (inl (record {
+pub script_ran : {E : Type 0} (config : File) (files : List File) (script : File) (c : Configuration) (zones : List Zone) (known : List primary.ZoneSettings) (devices : List (List ℕ)) (out out_after err err_after : Option (List ℕ)) (r : Result ℕ E)
+    → Holds (option_copied config.octets) (Ok c) → AllZip (IsLoaded files) c.zones.items zones → AllZip IsSettingOf c.zones.items known → devices ≡ devices_of c.zones.items
+    → IfOk r (λ status. (m : Machine) → fresh.IsFresh zones known m → ScriptEnds (map (λ (z : Zone). z.apex) zones) devices m script out out_after err err_after status) → IfOk r (ReplayEnds config files script out out_after err err_after)
+script_ran config files script c zones known devices out out_after err err_after (Err e) holds loaded settings same h = tt
+script_ran config files script c zones known devices out out_after err err_after (Ok status) holds loaded settings same h = inr (inl (record {
   configuration = c;
   zones = zones;
   described = holds;
   loaded = loaded;
-  ends = λ m b. subst (λ (ns : List Labels). ScriptEnds ns m script out out_after err err_after status) same (h m (is_fresh files c.zones.items known zones m loaded settings b));
+  ends = λ m b.
+      subst (λ (ns : List Labels). ScriptEnds ns (devices_of c.zones.items) m script out out_after err err_after status) (loaded_names files c.zones.items zones loaded) (
+      subst (λ (ds : List (List ℕ)). ScriptEnds (map (λ (z : Zone). z.apex) zones) ds m script out out_after err err_after status) same (h m (is_fresh files c.zones.items known zones m loaded settings b)));
 }))
 
 -- A master file that holds no zone is told.

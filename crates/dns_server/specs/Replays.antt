@@ -1,25 +1,30 @@
 -- How a run of a script over the zones of a configuration ends.
-use Rattle.std.specs.Prelude.{◌≡◌, ◌⊎◌, ◌↔◌, IsTrue, ℕ, ◌≤◌, false, List, [], Option, Some, None, Ok, Err}
+use Rattle.std.specs.Prelude.{◌≡◌, ◌⊎◌, ◌↔◌, IsTrue, ℕ, ◌≤◌, false, List, [], map, slice_get, Option, Some, None, Ok, Err}
 use Rattle.std.specs.List.{AllZip}
 use Rattle.std.specs.declared.net.ip_addr.IpAddr.{IpAddr}
 use Rattle.std.specs.Option.{option_copied}
+use Rattle.std.specs.String.{string_bytes}
 use Rattle.std.specs.Io.KnownBytes.{Appends, Keeps}
 use Rattle.dns_zone.specs.Zone.{Zone}
 use Rattle.dns_names.specs.Name.{Labels}
 use Rattle.dns_policy.specs.Prefix.{IsAllowed}
 use Rattle.dns_held.specs.Each.{Each3}
 use Rattle.dns_primary.specs.Machine.{Machine, ZoneState}
+use Rattle.dns_primary.specs.Runs.{Run}
+use Rattle.dns_store.specs.declared.formatting.FormatError.{FormatError}
 use Rattle.dns_configuration.specs.declared.configuration.ZoneSettings.{ZoneSettings}
 use Rattle.dns_configuration.specs.declared.configuration.Configuration.{Configuration}
 use Rattle.dns_configuration.specs.declared.files.File.{File}
 use Rattle.dns_configuration.specs.declared.files.Fault.{Fault}
 use Rattle.dns_configuration.specs.declared.files.Fault.TheVariants.{Unreadable, Syntax}
+use Rattle.dns_replay.specs.declared.run.Ending.{Ending}
 use Rattle.dns_replay.specs.declared.run.Ending.TheVariants as ending
 use Rattle.dns_configuration.specs.Faults.{line, fault_text}
 use Rattle.dns_configuration.specs.Files.{Holds, IsFirstFault, IsLoaded}
 use Rattle.dns_configuration.specs.Known.{origins_of}
+use Rattle.dns_devices.specs.Faults.{device_text, fault_of_format}
 use Rattle.dns_script.specs.Lines.{lines}
-use Rattle.dns_replay.specs.Scripts.{RunsInto}
+use Rattle.dns_replay.specs.Scripts.{Led, Runs, Takes}
 
 -- A zone as it was loaded, with what is configured of it: no update was accepted.
 pub record IsBegun (settings : ZoneSettings) (zone : Zone) (z : ZoneState) : Type 0 where
@@ -41,25 +46,52 @@ pub record Begins (settings : List ZoneSettings) (zones : List Zone) (m : Machin
   pub waiting : m.waiting ≡ []
   pub connections : m.connections ≡ []
 
--- What a run of a script over zones wrote, by its exit status: with 0 what all its lines print, with 1 what those before the first
--- print that is no command, and that line is told; or that the script can't be read. With 3 a writer failed or memory was refused.
-abbrev pub Ran : List Labels → Machine → Option (List ℕ) → Option (List ℕ) → Option (List ℕ) → Type 0
-Ran origins m None out out_after = ⊥
-Ran origins m (Some octets) out out_after = (new : Machine) × RunsInto origins m (lines octets) ending.Done out out_after new
+-- The paths of the devices, in the order of the zones.
+abbrev pub devices_of : List ZoneSettings → List (List ℕ)
+devices_of settings = map (λ (z : ZoneSettings). string_bytes z.device) settings
+
+-- The lines of a script lead there, from this machine on, by a run of the machine; and the run ends so.
+abbrev pub RunsInto : List Labels → Machine → List (List ℕ) → Ending → Option (List ℕ) → Option (List ℕ) → Type 0
+RunsInto origins m lines ending out out_after =
+    (led : Led) × Runs origins (Takes m) 1 lines led ending × Run m led.moments × Appends out out_after led.text
+
+abbrev pub Ran : List Labels → Machine → Ending → Option (List ℕ) → Option (List ℕ) → Option (List ℕ) → Type 0
+Ran origins m ending None out out_after = ⊥
+Ran origins m ending (Some octets) out out_after = RunsInto origins m (lines octets) ending out out_after
 
 abbrev pub IsScriptFault : List Labels → Machine → Option (List ℕ) → Fault → Option (List ℕ) → Option (List ℕ) → Type 0
 IsScriptFault origins m None Unreadable out out_after = Keeps out out_after
 IsScriptFault origins m (Some octets) (Syntax number) out out_after =
-    (new : Machine) × RunsInto origins m (lines octets) (ending.Syntax number) out out_after new
+    RunsInto origins m (lines octets) (ending.Syntax number) out out_after
 IsScriptFault origins m octets fault out out_after = ⊥
 
-pub record ScriptEnds (origins : List Labels) (m : Machine) (script : File) (out out_after err err_after : Option (List ℕ))
-    (status : ℕ) : Type 0 where
-  pub done : status ≡ 0 → Ran origins m (option_copied script.octets) out out_after × Keeps err err_after
+-- A fault of the script is told: that it can't be read, or the first line that is no command, behind what the lines before it print.
+pub record IsScriptTold (origins : List Labels) (m : Machine) (script : File) (out out_after err err_after : Option (List ℕ)) : Type 0
+  where
+    pub fault : Fault
+    pub is : IsScriptFault origins m (option_copied script.octets) fault out out_after
+    pub told : Appends err err_after (line (fault_text script.path.now fault))
+
+-- A device is told on which no store can be made, and why.
+pub record IsUnmadeTold (devices : List (List ℕ)) (err err_after : Option (List ℕ)) : Type 0 where
+  pub place : ℕ
+  pub path : List ℕ
+  pub is : slice_get devices place ≡ Some path
+  pub error : FormatError
+  pub told : Appends err err_after (line (device_text path (fault_of_format error) false))
+
+-- What a run of a script over zones wrote, by its exit status. With 0 what all its lines print. With 1 what those before the first
+-- print that is no command, and that line is told, or that the script can't be read; or what the lines print up to the one behind
+-- which a store is refused; or nothing, and the device is told on which no store can be made. With 3 a writer or a device failed, or
+-- memory was refused.
+pub record ScriptEnds (origins : List Labels) (devices : List (List ℕ)) (m : Machine) (script : File)
+    (out out_after err err_after : Option (List ℕ)) (status : ℕ)
+    : Type 0 where
+  pub done : status ≡ 0 → Ran origins m ending.Done (option_copied script.octets) out out_after × Keeps err err_after
   pub refused : status ≡ 1
-      → (fault : Fault)
-      × IsScriptFault origins m (option_copied script.octets) fault out out_after
-      × Appends err err_after (line (fault_text script.path.now fault))
+      → IsScriptTold origins m script out out_after err err_after
+      ⊎ (Ran origins m ending.Refused (option_copied script.octets) out out_after × Keeps err err_after)
+      ⊎ (IsUnmadeTold devices err err_after × Keeps out out_after)
   pub others : status ≤ 1 ⊎ (status ≡ 3)
 
 -- The zones of the configuration that a file holds, and how a run of a script ends that begins with them.
@@ -71,7 +103,8 @@ pub record RunsOver (config : Option (List ℕ)) (files : List File) (script : F
   pub loaded : AllZip (IsLoaded files) configuration.zones.items zones
   pub ends : (m : Machine)
       → Begins configuration.zones.items zones m
-      → ScriptEnds (origins_of configuration.zones.items) m script out out_after err err_after status
+      → ScriptEnds (origins_of configuration.zones.items) (devices_of configuration.zones.items) m script out out_after err err_after
+      status
 
 -- The fault that is told, behind a path, before the script runs: of the configuration, or else of the first master file that
 -- holds no zone, in the order of the zones.
@@ -81,7 +114,7 @@ IsFault config files path fault =
     ⊎ ((c : Configuration) × Holds (option_copied config.octets) (Ok c) × IsFirstFault files c.zones.items path fault)
 
 -- How a run with a configuration, files and a script ends: nothing runs, and the first fault is told; or the script ran over the
--- zones that are held; or, with status 3, a writer failed or memory was refused.
+-- zones that are held; or, with status 3, a writer or a device failed or memory was refused.
 abbrev pub ReplayEnds : File → List File → File → Option (List ℕ) → Option (List ℕ) → Option (List ℕ) → Option (List ℕ) → ℕ → Type 0
 ReplayEnds config files script out out_after err err_after status =
     ((status ≡ 1) × Keeps out out_after

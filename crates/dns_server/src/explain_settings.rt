@@ -1,14 +1,24 @@
 //! What one who mends a refused file of a run is told beside its fault. It serves `--explain` alone, and no clause says more of it
 //! than that it ends.
 use crate::explain::explain_file;
-use dns_configuration::{Configuration, File, PrintedWord, explain_configuration};
+use dns_configuration::{Configuration, File, PrintedWord, explain_configuration, origins_of};
 use dns_memory::Heap;
+use dns_names::Name;
 use dns_script::{read_command, split_line};
 use std::alloc::Global;
 use std::io::{self, Write};
 
+/// The commands of a script.
+const COMMANDS: &str =
+    "udp ADDR HEX, connect ADDR, tcp N HEX, pump N, close N, flush, checkpoint ORIGIN, fail N, stop N, crash [ORIGIN=LIST ..] or reopen N [ORIGIN=LIST ..]";
+
 /// Tells which line of a script is no command.
-fn explain_script<E: Write>(heap: Heap, script: &File<'_>, err: &mut E) -> io::Result<()> {
+fn explain_script<E: Write>(
+    heap: Heap,
+    origins: &[Name],
+    script: &File<'_>,
+    err: &mut E,
+) -> io::Result<()> {
     let what = PrintedWord(script.path.as_bytes());
     let mut rest = script.octets;
     let mut number = 0usize;
@@ -19,12 +29,9 @@ fn explain_script<E: Write>(heap: Heap, script: &File<'_>, err: &mut E) -> io::R
         let (line, behind) = split_line(text);
         number = number.saturating_add(1);
         rest = behind;
-        if read_command(heap, line)?.is_none() {
+        if read_command(heap, origins, line)?.is_none() {
             let met = PrintedWord(line);
-            return writeln!(
-                err,
-                "{what}:{number}: '{met}': udp ADDR HEX, connect ADDR, tcp N HEX, flush or close N is expected"
-            );
+            return writeln!(err, "{what}:{number}: '{met}': {COMMANDS} is expected");
         }
     }
     Ok(())
@@ -52,5 +59,6 @@ pub fn explain_replay<E: Write>(
             }
         }
     }
-    explain_script(heap, script, err)
+    let origins = origins_of(heap, &configuration.zones)?;
+    explain_script(heap, &origins, script, err)
 }

@@ -1,46 +1,60 @@
 //! A script over the zones of a configuration.
-ghost use Rattle.std.specs.Prelude.{◌≡◌, length, IfOk};
+ghost use Rattle.std.specs.Prelude.{◌≡◌, ◌⊎◌, length, map, IfOk};
 ghost use Rattle.dns_primary.specs.Machine.{Machine};
 ghost use Rattle.dns_primary.specs.Fresh.{IsFresh};
-ghost use Rattle.dns_server.specs.Replays.{ReplayEnds, ScriptEnds};
+ghost use Rattle.dns_server.specs.Replays.{IsUnmadeTold, ReplayEnds, ScriptEnds, devices_of};
 
 use crate::files::Index;
 use dns_configuration::{
-    DONE, FAILED, Fault, File, load_all, origins_of, read_configuration, settings_of, tell,
+    DONE, FAILED, Fault, File, REFUSED, ZoneSettings, load_all, read_configuration, settings_of,
+    tell,
 };
+use dns_devices::{DeviceFault, tell_device};
 use dns_memory::Heap;
-use dns_names::Name;
-use dns_primary::Primary;
-use dns_replay::{Ending, run_script};
+use dns_replay::{Ending, NotMade, replay_zones};
+use dns_sectors::MemorySectors;
 use dns_zone::Zone;
 use std::alloc::Global;
 use std::io::{self, Write};
+
+/// Tells that no store can be made for the zone at a place, and gives the exit status.
+fn tell_unmade<E: Write>(err: &mut E, own: &[ZoneSettings], unmade: NotMade) -> io::Result<u8>
+    ensures { IfOk result
+        (λ status. (status ≡ FAILED)
+        ⊎ ((status ≡ REFUSED) × IsUnmadeTold (devices_of own.now) (E.contents err.old) (E.contents err.new))) }
+{
+    match own.get(unmade.place) {
+        Some(zone) => tell_device(err, &zone.device, DeviceFault::from(unmade.error), false),
+        None => Ok(FAILED),
+    }
+}
 
 /// Runs a script that a file holds over zones that were loaded, and gives the exit status.
 fn run<W: Write, E: Write>(
     heap: Heap,
     zones: Vec<Zone<Index>, Heap>,
-    settings: Vec<dns_primary::ZoneSettings, Heap>,
-    origins: &[Name],
+    known: Vec<dns_primary::ZoneSettings, Heap>,
+    own: &[ZoneSettings],
     script: &File<'_>,
     out: &mut W,
     err: &mut E,
 ) -> io::Result<u8>
-    requires { length zones.items ≡ length settings.items }
+    requires { length zones.items ≡ length known.items }
     ensures { IfOk result
         (λ status. (m : Machine)
-        → IsFresh zones.entry.items settings.entry.items m
-        → ScriptEnds origins.now m script.now (W.contents out.old) (W.contents out.new) (E.contents err.old) (E.contents err.new)
-        status) }
+        → IsFresh zones.entry.items known.entry.items m
+        → ScriptEnds (map (λ z. z.apex) zones.entry.items) (devices_of own.now) m script.now (W.contents out.old)
+        (W.contents out.new) (E.contents err.old) (E.contents err.new) status) }
 {
     let Some(lines) = script.octets else {
         return tell(err, script.path, Fault::Unreadable);
     };
-    let mut primary = Primary::unkept(heap, zones, settings)?;
-    match run_script(heap, &mut primary, origins, lines, out) {
-        Ending::Done => Ok(DONE),
-        Ending::Syntax(line) => tell(err, script.path, Fault::Syntax(line)),
-        Ending::Failed => Ok(FAILED),
+    match replay_zones::<MemorySectors, Index, W>(heap, zones, known, lines, out) {
+        Ok(Ending::Done) => Ok(DONE),
+        Ok(Ending::Syntax(line)) => tell(err, script.path, Fault::Syntax(line)),
+        Ok(Ending::Refused) => Ok(REFUSED),
+        Ok(Ending::Failed) => Ok(FAILED),
+        Err(unmade) => tell_unmade(err, own, unmade),
     }
 }
 
@@ -62,18 +76,18 @@ fn replayed<W: Write, E: Write>(
         Ok(configuration) => configuration.zones,
         Err(fault) => return tell(err, config.path, fault),
     };
-    let origins = origins_of(heap, &settings)?;
     let known = settings_of(heap, &settings)?;
     let loaded: Result<Vec<Zone<Index>, Heap>, _> = load_all(heap, files, &settings);
     match loaded {
-        Ok(zones) => run(heap, zones, known, &origins, script, out, err),
+        Ok(zones) => run(heap, zones, known, &settings, script, out, err),
         Err((path, fault)) => tell(err, path, fault),
     }
 }
 
 /// Runs a script over the zones that a configuration names, and prints the effects of each line. Faults are told in one line, the
-/// first in this order: the configuration, the master files in the order of the zones, the script, its lines as they run. Gives the
-/// exit status: `DONE`, `REFUSED`, or `FAILED` where a writer failed or memory was refused.
+/// first in this order: the configuration, the master files in the order of the zones, the script, the device on which no store can
+/// be made, the script's lines as they run. Where a store is refused behind a crash, that is printed, and the run ends. Gives the exit
+/// status: `DONE`, `REFUSED`, or `FAILED` where a writer failed, a device failed while it was made or memory was refused.
 pub fn replay<W: Write, E: Write>(
     alloc: Global,
     heap: Heap,

@@ -131,7 +131,7 @@ const RUNS: &[(&str, &str, &str, &str)] = &[
         "",
         "",
         "flush\nfluhs\n",
-        "s:2: 'fluhs': udp ADDR HEX, connect ADDR, tcp N HEX, flush or close N is expected\n",
+        "s:2: 'fluhs': udp ADDR HEX, connect ADDR, tcp N HEX, pump N, close N, flush, checkpoint ORIGIN, fail N, stop N, crash [ORIGIN=LIST ..] or reopen N [ORIGIN=LIST ..] is expected\n",
     ),
 ];
 

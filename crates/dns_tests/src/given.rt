@@ -113,10 +113,15 @@ pub(crate) fn small(heap: Heap) -> Result<Zone<RecordList>, Fail> {
     zone(heap, "example.", records(heap, SMALL)?)
 }
 
-/// A primary of the zone of four records, which nobody may update.
-pub(crate) fn primary(heap: Heap) -> Result<Primary<RecordList, Unkept>, Fail> {
+/// The zone of four records, alone.
+pub(crate) fn zones(heap: Heap) -> Result<Vec<Zone<RecordList>, Heap>, Fail> {
     let mut zones = Vec::new(heap);
     zones.push(small(heap)?)?;
+    Ok(zones)
+}
+
+/// Its settings: nobody may update it.
+pub(crate) fn settings(heap: Heap) -> Result<Vec<ZoneSettings, Heap>, Fail> {
     let mut settings = Vec::new(heap);
     settings.push(ZoneSettings {
         snapshot: 8,
@@ -125,6 +130,12 @@ pub(crate) fn primary(heap: Heap) -> Result<Primary<RecordList, Unkept>, Fail> {
         update: Vec::new(heap),
         transfer: Vec::new(heap),
     })?;
+    Ok(settings)
+}
+
+/// A primary of the zone of four records.
+pub(crate) fn primary(heap: Heap) -> Result<Primary<RecordList, Unkept>, Fail> {
+    let (zones, settings) = (zones(heap)?, settings(heap)?);
     if zones.len() != settings.len() {
         return Err(Fail::from("a zone without settings"));
     }

@@ -1,9 +1,23 @@
 //! Scripts: their lines, and what is printed of them.
-use crate::given::{Full, primary};
+use crate::given::{Full, settings, zones};
 use dns_memory::{Heap, heap};
-use dns_replay::{Ending, run_script};
+use dns_replay::{Ending, replay_zones};
+use dns_sectors::MemorySectors;
+use dns_zone::RecordList;
 use std::io::Write;
 use std::test::Fail;
+
+/// How a script over the zone of four records ends.
+fn run<W: Write>(heap: Heap, script: &[u8], out: &mut W) -> Result<Ending, Fail> {
+    let (zones, settings) = (zones(heap)?, settings(heap)?);
+    if zones.len() != settings.len() {
+        return Err(Fail::from("a zone without settings"));
+    }
+    match replay_zones::<MemorySectors, RecordList, W>(heap, zones, settings, script, out) {
+        Ok(ending) => Ok(ending),
+        Err(_) => Err(Fail::from("no store was made")),
+    }
+}
 
 // Each kind of line, and the lines that are none.
 #[test]
@@ -32,12 +46,29 @@ fn lines_of_scripts(rt: HostRuntime) -> Result<(), Fail> {
         ("tcp 00\n", Ending::Syntax(1)),
         ("tcp 4294967296 00\n", Ending::Syntax(1)),
         ("tcp 0 \n", Ending::Syntax(1)),
-        ("pump 0\n", Ending::Syntax(1)),
+        ("pump 0\n", Ending::Done),
+        ("pump\n", Ending::Syntax(1)),
         ("connect\n", Ending::Syntax(1)),
+        (
+            "checkpoint EXAMPLE.\nfail 1\nstop 4294967295\n",
+            Ending::Done,
+        ),
+        ("checkpoint other.\n", Ending::Syntax(1)),
+        ("checkpoint\n", Ending::Syntax(1)),
+        ("fail 0\n", Ending::Syntax(1)),
+        ("stop 0\n", Ending::Syntax(1)),
+        ("reopen\n", Ending::Syntax(1)),
+        ("reopen 0\n", Ending::Syntax(1)),
+        ("crash example.\n", Ending::Syntax(1)),
+        ("crash example.=\n", Ending::Syntax(1)),
+        ("crash example.=0\n", Ending::Syntax(1)),
+        ("crash example.=1,1\n", Ending::Syntax(1)),
+        ("crash example.=1,\n", Ending::Syntax(1)),
+        ("crash other.=all\n", Ending::Syntax(1)),
+        ("crash example.=1 example.=all\n", Ending::Syntax(1)),
     ] {
         let mut out: Vec<u8> = Vec::new(rt.alloc());
-        let mut primary = primary(heap)?;
-        let given = run_script(heap, &mut primary, &[], script.as_bytes(), &mut out);
+        let given = run(heap, script.as_bytes(), &mut out)?;
         assert!(rt; given == ending, "{script:?} ends with {given:?}");
         assert!(rt; out.is_empty());
     }
@@ -48,18 +79,16 @@ fn lines_of_scripts(rt: HostRuntime) -> Result<(), Fail> {
 #[test]
 fn the_most_connections(rt: HostRuntime) -> Result<(), Fail> {
     let heap = heap(rt.alloc())?;
-    let mut primary = primary(heap)?;
+    let mut script: Vec<u8> = Vec::new(rt.alloc());
     let mut want: Vec<u8> = Vec::new(rt.alloc());
-    let mut out: Vec<u8> = Vec::new(rt.alloc());
     for number in 0..64u32 {
-        let ending = run_script(heap, &mut primary, &[], b"connect 192.0.2.1\n", &mut out);
-        assert!(rt; ending == Ending::Done);
+        writeln!(script, "connect 192.0.2.1")?;
         writeln!(want, "conn {number}")?;
     }
-    let script = b"connect 192.0.2.1\nclose 7\nconnect 192.0.2.1\n";
-    assert!(rt; run_script(heap, &mut primary, &[], script, &mut out) == Ending::Done);
-    writeln!(want, "conn none")?;
-    writeln!(want, "conn 7")?;
+    script.extend_from_slice(b"connect 192.0.2.1\nclose 7\nconnect 192.0.2.1\n")?;
+    want.extend_from_slice(b"conn none\nconn 7\n")?;
+    let mut out: Vec<u8> = Vec::new(rt.alloc());
+    assert!(rt; run(heap, &script, &mut out)? == Ending::Done);
     assert!(rt; out == want);
     Ok(())
 }
@@ -68,28 +97,25 @@ fn the_most_connections(rt: HostRuntime) -> Result<(), Fail> {
 #[test]
 fn effects_of_scripts(rt: HostRuntime) -> Result<(), Fail> {
     let heap = heap(rt.alloc())?;
-    let mut primary = primary(heap)?;
     let script =
         b"udp 10.0.0.7 123400000000000000000000\nudp 10.0.0.7 123410000000000000000000\nbad\n";
     let mut out: Vec<u8> = Vec::new(rt.alloc());
-    let ending = run_script(heap, &mut primary, &[], script, &mut out);
-    assert!(rt; ending == Ending::Syntax(3));
+    assert!(rt; run(heap, script, &mut out)? == Ending::Syntax(3));
     let want = b"udp 10.0.0.7 123480010000000000000000\nudp 10.0.0.7 123490040000000000000000\n";
     assert!(rt; out.as_slice() == want.as_slice());
     let mut full = Full::after(50);
-    assert!(rt; run_script(heap, &mut primary, &[], script, &mut full) == Ending::Failed);
+    assert!(rt; run(heap, script, &mut full)? == Ending::Failed);
     Ok(())
 }
 
 /// How a script of one line ends that has so many octets in hexadecimal.
 fn ending_of_zeros(heap: Heap, count: usize, out: &mut Vec<u8>) -> Result<Ending, Fail> {
-    let mut primary = primary(heap)?;
     let mut script = Vec::new(heap);
     script.extend_from_slice(b"udp 127.0.0.1 ")?;
     for _ in 0..count {
         script.extend_from_slice(b"00")?;
     }
-    Ok(run_script(heap, &mut primary, &[], &script, out))
+    run(heap, &script, out)
 }
 
 // A line has at most 65,535 octets.

@@ -1,0 +1,37 @@
+//! Devices that a script runs over.
+ghost use Rattle.std.specs.Prelude.{◌≡◌, List, ℕ, IfOk};
+
+use dns_memory::Heap;
+use dns_sectors::{Keep, MemorySectors, Plan, Sectors};
+use std::alloc::AllocError;
+use std::rc::Rc;
+
+/// A device that a script makes, and that can be told to crash.
+pub trait ScriptDevice: Sectors + Drop {
+    /// A device of so many sectors, whose writes and syncs fail and stop by a plan.
+    fn make(alloc: Heap, len: usize, plan: Rc<Plan, Heap>) -> Result<Self, AllocError>
+        ensures { IfOk result (λ device. Self.is_honest device) };
+
+    /// The device after a crash that keeps these of the writes that were pending.
+    fn after_crash(self, keep: Keep<'_>) -> Self
+        ensures honest { Self.is_honest self → Self.is_honest result }
+        ensures left { (c : List (List ℕ)) → Self.is_honest self → Self.may_leave result c → Self.may_leave self c };
+}
+
+/// How many writes and syncs a device in memory can record for each of its sectors, and how many more.
+const CALLS_A_SECTOR: usize = 2;
+
+const MORE_CALLS: usize = 4096;
+
+impl ScriptDevice for MemorySectors {
+    fn make(alloc: Heap, len: usize, plan: Rc<Plan, Heap>) -> Result<MemorySectors, AllocError> {
+        let calls = len
+            .saturating_mul(CALLS_A_SECTOR)
+            .saturating_add(MORE_CALLS);
+        MemorySectors::new(alloc, len, calls, plan)
+    }
+
+    fn after_crash(self, keep: Keep<'_>) -> Self {
+        self.crash(keep)
+    }
+}

@@ -1,0 +1,65 @@
+//! Primaries over any store, as a script lets events happen to them and sees what they show.
+//!
+//! A call that names both a store over a device and the memory of every collection has no proof, so here the memory, the event and its
+//! effects are type parameters.
+ghost use Rattle.std.specs.Prelude.{◌≡◌, ℕ, Option, slice_get};
+ghost use Rattle.dns_primary.specs.Machine.{Machine};
+ghost use Rattle.dns_primary.specs.Keeps.{IsKept};
+ghost use Rattle.dns_primary.specs.Steps.{SteppedBy, event_shown};
+ghost use Rattle.dns_replay.specs.Scripts.{shown_version};
+
+use dns_memory::Heap;
+use dns_primary::{Effects, Event, Primary};
+use dns_store::ZoneStore;
+use dns_zone::ZoneIndex;
+
+/// What events happen to.
+pub(crate) trait TakesEvents<H, E, R> {
+    /// It took a step of an event, with these effects.
+    ghost stepped: { Self → Self → E → R → Type 0 };
+
+    /// Lets an event happen.
+    fn take_event(&mut self, heap: H, event: E) -> R
+        ensures { stepped self.old self.new event result };
+}
+
+impl<'e, I: ZoneIndex, S: ZoneStore> TakesEvents<Heap, Event<'e>, Effects> for Primary<I, S> {
+    ghost stepped = { λ old new event effects. (m : Machine) → IsKept old m → SteppedBy m (event_shown event) old new effects };
+
+    fn take_event(&mut self, heap: Heap, event: Event<'e>) -> Effects {
+        self.step(heap, event)
+    }
+}
+
+/// Lets an event happen.
+pub(crate) fn happen<H, E, R, P: TakesEvents<H, E, R>>(primary: &mut P, heap: H, event: E) -> R
+    ensures { P.stepped primary.old primary.new event result }
+{
+    primary.take_event(heap, event)
+}
+
+/// What shows a version of each of its zones.
+pub(crate) trait ShowsVersions {
+    /// The zone at a place is shown in the version with this number, and this serial.
+    ghost shows: { Self → ℕ → Option (ℕ × ℕ) → Type 0 };
+
+    /// The number of the version that is shown of the zone at a place, and its serial.
+    fn version_at(&self, place: usize) -> Option<(u64, u32)>
+        ensures { shows self.now place result };
+}
+
+impl<I: ZoneIndex, S: ZoneStore> ShowsVersions for Primary<I, S> {
+    ghost shows = { λ p place version. (m : Machine) → IsKept p m → version ≡ shown_version (slice_get m.zones place) };
+
+    fn version_at(&self, place: usize) -> Option<(u64, u32)> {
+        let (number, zone) = self.shown(place)?;
+        Some((number, zone.soa().serial()))
+    }
+}
+
+/// The number of the version that is shown of the zone at a place, and its serial.
+pub(crate) fn version_at<P: ShowsVersions>(primary: &P, place: usize) -> Option<(u64, u32)>
+    ensures { P.shows primary.now place result }
+{
+    primary.version_at(place)
+}
