@@ -93,16 +93,16 @@ fn beside_a_transfer(server: &mut Server) -> Result<(bool, u32, Option<(u32, u32
     Ok((is_answered, early, counted(server.stream(0)?.sent())))
 }
 
-// While 40,000 addresses go out, a query on another connection is answered; the transfer is whole, and ends with the SOA with which it
+// While 4,000 addresses go out, a query on another connection is answered; the transfer is whole, and ends with the SOA with which it
 // began.
 #[test]
 fn a_transfer_beside_a_query(rt: HostRuntime) -> Result<(), Fail> {
-    let mut server = server(heap(rt.alloc())?, 40000)?;
+    let mut server = server(heap(rt.alloc())?, 4000)?;
     let seen = beside_a_transfer(&mut server);
     let (is_answered, early, late) = seen?;
-    assert!(rt; is_answered && early > 0 && early < 10);
+    assert!(rt; is_answered && early > 0 && early < 5);
     assert!(rt;
-        late.is_some_and(|counts| counts.0 > 40 && counts.1 == 40005),
+        late.is_some_and(|counts| counts.0 > 4 && counts.1 == 4005),
         "{late:?}"
     );
     Ok(())
@@ -123,7 +123,7 @@ fn both_ask(server: &mut Server, n: u64) -> Result<(), Fail> {
 
 /// How many messages and records the second peer has then.
 fn second_has(heap: Heap, n: u64) -> Result<Option<(u32, u32)>, Fail> {
-    let mut server = server(heap, 1500)?;
+    let mut server = server(heap, 800)?;
     match both_ask(&mut server, n) {
         Ok(()) => Ok(counted(server.stream(1)?.sent())),
         Err(fail) => Err(fail),
@@ -133,7 +133,7 @@ fn second_has(heap: Heap, n: u64) -> Result<Option<(u32, u32)>, Fail> {
 /// The first of so many calls of the first one's stream whose failure changes what the second one has.
 fn first_noticed(heap: Heap, calls: u64) -> Result<Option<u64>, Fail> {
     for n in 0..calls {
-        if second_has(heap, n)? != Some((3, 1505)) {
+        if second_has(heap, n)? != Some((2, 805)) {
             return Ok(Some(n));
         }
     }
@@ -143,7 +143,7 @@ fn first_noticed(heap: Heap, calls: u64) -> Result<Option<u64>, Fail> {
 // Each read and each write of a stream fails in turn in the middle of a transfer, and the transfer on the other connection is whole.
 #[test]
 fn a_transfer_whose_stream_fails(rt: HostRuntime) -> Result<(), Fail> {
-    let noticed = first_noticed(heap(rt.alloc())?, 24)?;
+    let noticed = first_noticed(heap(rt.alloc())?, 12)?;
     assert!(rt; noticed.is_none(), "{noticed:?} is noticed");
     Ok(())
 }
@@ -162,7 +162,7 @@ fn transfer_short(server: &mut Server, n: u64) -> Result<(), Fail> {
 
 /// Whether the transfer is whole then, or its connection was closed.
 fn is_whole_or_closed(heap: Heap, n: u64) -> Result<bool, Fail> {
-    let mut server = server(heap, 1500)?;
+    let mut server = server(heap, 800)?;
     match transfer_short(&mut server, n) {
         Ok(()) => match server.edge.connection_mut(0) {
             Some(connection) => Ok(is_whole(connection.stream_mut().sent())),
@@ -172,10 +172,12 @@ fn is_whole_or_closed(heap: Heap, n: u64) -> Result<bool, Fail> {
     }
 }
 
-/// Whether what is on a stream is SERVFAIL, as a header alone, where nothing was opened, or the whole transfer.
+/// SERVFAIL, as a header alone, as it is on a stream.
+const SERVFAIL: &[u8] = b"\x00\x0c\x00\x0c\x80\x02\x00\x00\x00\x00\x00\x00\x00\x00";
+
+/// Whether what is on a stream is SERVFAIL, where nothing was opened, or the whole transfer.
 fn is_whole(stream: &[u8]) -> bool {
-    counted(stream) == Some((3, 1505))
-        || stream == b"\x00\x0c\x00\x0c\x80\x02\x00\x00\x00\x00\x00\x00\x00\x00"
+    stream == SERVFAIL || counted(stream) == Some((2, 805))
 }
 
 /// The first of so many calls for memory whose refusal leaves a transfer that is neither whole nor closed.
@@ -191,7 +193,7 @@ fn first_torn(heap: Heap, calls: u64) -> Result<Option<u64>, Fail> {
 // Each allocation of a transfer is refused in turn: it is whole all the same, or its connection was closed.
 #[test]
 fn a_transfer_short_of_memory(rt: HostRuntime) -> Result<(), Fail> {
-    let torn = first_torn(heap(rt.alloc())?, 60)?;
+    let torn = first_torn(heap(rt.alloc())?, 24)?;
     assert!(rt; torn.is_none(), "{torn:?} tears it");
     Ok(())
 }
