@@ -1,5 +1,5 @@
 -- How a run of a script over the zones of a configuration ends.
-use Rattle.std.proofs.Common.{◌≡◌, ℕ, zero, suc, Bool, true, false, inl, inr, List, [], ◌∷◌, length, map, Option, Result, Ok, Err, IfOk, refl, sym, ap, subst, ◌∙◌, arith}
+use Rattle.std.proofs.Common.{◌≡◌, ℕ, zero, suc, Bool, true, false, inl, inr, List, [], ◌∷◌, length, map, Option, Result, Ok, Err, IfOk, refl, sym, ap, subst, ◌∙◌, arith, ◌<◌, get_or}
 use Rattle.std.specs.Prelude.{◌⊎◌, ◌↔◌, Some, IsTrue, slice_get}
 use Rattle.std.specs.Bool.{MatchBool}
 use Rattle.std.specs.List.{AllZip}
@@ -94,10 +94,10 @@ unmade_told devices place path error err err_after r is h =
     (inl refl) (λ _ said. inr (refl, record { place = place; path = path; is = is; error = error; told = said }))
 
 -- The path of the device of the zone there.
-pub device_at : (own : List ZoneSettings) (place : ℕ) (zone : ZoneSettings) → slice_get own place ≡ Some zone → slice_get (devices_of own) place ≡ Some (string_bytes zone.device)
-device_at [] place zone e = absurd cc
-device_at (z ∷ own) zero zone e = (let is : z ≡ zone = cc in ap (λ (x : ZoneSettings). Some (string_bytes x.device)) is)
-device_at (z ∷ own) (suc place) zone e = device_at own place zone e
+pub device_at : (own : List ZoneSettings) (place : ℕ) (zone : ZoneSettings) → place < length own → slice_get (devices_of own) place ≡ Some (string_bytes (get_or own place zone).device)
+device_at [] place zone inside = absurd (omega (arith, inside))
+device_at (z ∷ own) zero zone inside = refl
+device_at (z ∷ own) (suc place) zone inside = device_at own place zone (omega (arith, inside))
 
 -- The names of zones that were loaded.
 pub loaded_names : (files : List File) (settings : List ZoneSettings) (zones : List Zone) → AllZip (IsLoaded files) settings zones → map (λ (z : Zone). z.apex) zones ≡ origins_of settings

@@ -1,4 +1,4 @@
-use Rattle.std.proofs.Common.{◌≡◌, true, ap, ◌∙◌}
+use Rattle.std.proofs.Common.{◌≡◌, true, ap}
 use Rattle.std.specs.Prelude.{◌⊎◌}
 use Rattle.dns_configuration.specs.Faults.{is_memory}
 use Rattle.dns_configuration.specs.Files.{IsFirstFault, IsLoaded}
