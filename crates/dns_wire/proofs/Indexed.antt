@@ -1,18 +1,15 @@
 -- An index of a table of places grows with the table.
-use Rattle.std.proofs.Common.{min, ◌≡◌, ◌+◌, ◌≤◌, ◌<◌, ℕ, Bool, not, true, false, List, [], ◌∷◌, ◌++◌, length, take, drop, Option, Some, None, IfSome, refl, sym, ap, subst, ◌∙◌, arith, Bor, if◌then◌else◌}
+use Rattle.std.proofs.Common.{min, ◌≡◌, ◌≢◌, ◌⊎◌, inl, inr, ◌≤◌, ◌<◌, ℕ, zero, suc, Bool, true, false, List, [], ◌∷◌, ◌++◌, length, take, drop, set, get_or, nat_eq, Option, Some, None, refl, sym, ap, subst, ◌∙◌, arith, if◌then◌else◌}
 use Rattle.std.specs.Prelude.{nat_lt}
-use Rattle.std.specs.Option.{option_map, option_or, option_copied, is_some}
-use Rattle.std.specs.Ordering.{nat_cmp}
-use Rattle.std.specs.Cmp.Lexicographic.{slice_cmp}
+use Rattle.std.specs.Option.{option_map, option_or}
 use Rattle.std.specs.Str.{bytes_eq}
-use Rattle.std.specs.BTreeMap.{BTreeMap, UpdatesBy}
-use Rattle.std.proofs.lemmas.List.{take-append-drop, take_min}
+use Rattle.std.proofs.lemmas.Bool.Decides.{eqb_tells}
+use Rattle.std.proofs.lemmas.List.{take-append-drop, take_min, get_or-set_same, get_or-set_other}
 use Rattle.std.proofs.lemmas.List.Folds.{find-append}
-use Rattle.std.proofs.lemmas.Map.Text.{btree_map_updates_str}
 use Rattle.dns_names.specs.Name.{Labels, labels_of, names_eq}
 use Rattle.dns_names.specs.Plain.{IsPlain}
 use Rattle.dns_wire.specs.Compress.{Place, place_of}
-use Rattle.dns_wire.specs.Indexed.{IsIndexed, offset_at, index_at}
+use Rattle.dns_wire.specs.Indexed.{IsIndexed, bucket_of, offset_at}
 use Rattle.dns_wire.specs.Puts.{noted}
 use Rattle.dns_wire.proofs.Places.{bytes_same, names_same}
 use Rattle.dns_wire.proofs.Suffixes.{plain_eq}
@@ -39,60 +36,64 @@ at_one offset octets suffix h k = go (bytes_eq octets suffix) (sym (plain_eq oct
     go true is = rw (is) refl
     go false is = rw (is) refl
 
--- a suffix that stood nowhere is put into the index
-pub indexed_more : (places : List Place) (old new : BTreeMap (Bor (List ℕ)) ℕ) (offset : ℕ) (octets : List ℕ) → IsPlain octets → offset < 16384 → index_at old octets ≡ None
-    → UpdatesBy (λ x y. slice_cmp nat_cmp x.now y.now) (λ k. slice_cmp nat_cmp octets k.now) old new (Some offset)
-    → IsIndexed places old → IsIndexed (places ++ one offset octets) new
-indexed_more places old new offset octets plain low none updates h = record {
-  at = λ suffix k. is suffix k;
-  low = λ suffix. subst (λ (o : Option ℕ). IfSome o (λ p. p < 16384)) (sym (btree_map_updates_str octets old new (Some offset) updates suffix)) (below (bytes_eq octets suffix) suffix);
-}
+-- what stands in the bucket with a number
+abbrev bucket_at : List (List Place) → ℕ → List Place
+bucket_at buckets number = get_or buckets number []
+
+-- a suffix is put behind the others of its bucket
+pub indexed_more : (places : List Place) (buckets : List (List Place)) (offset : ℕ) (octets : List ℕ) (bucket : List Place) → IsPlain octets
+    → bucket_of octets < length buckets → bucket ≡ bucket_at buckets (bucket_of octets) ++ one offset octets
+    → IsIndexed places buckets → IsIndexed (places ++ one offset octets) (set buckets (bucket_of octets) bucket)
+indexed_more places buckets offset octets bucket plain inside grown h = record { at = λ suffix k. by (bytes_eq octets suffix) suffix refl k }
   where
-    below : (b : Bool) (suffix : List ℕ) → IfSome (if b then Some offset else index_at old suffix) (λ p. p < 16384)
-    below true suffix = low
-    below false suffix = h.low suffix
+    -- the same suffix: it is found in the longer bucket
+    own : offset_at (bucket_at (set buckets (bucket_of octets) bucket) (bucket_of octets)) (labels_of octets) ≡ offset_at (places ++ one offset octets) (labels_of octets)
+    own =
+        ap (λ (ps : List Place). offset_at ps (labels_of octets)) (get_or-set_same buckets (bucket_of octets) bucket [] inside ∙ grown)
+        ∙ offset_at-append (bucket_at buckets (bucket_of octets)) (one offset octets) (labels_of octets)
+        ∙ ap (λ (o : Option ℕ). option_or o (offset_at (one offset octets) (labels_of octets))) (h.at octets plain)
+        ∙ sym (offset_at-append places (one offset octets) (labels_of octets))
 
-    by : (b : Bool) (suffix : List ℕ) → bytes_eq octets suffix ≡ b → IsPlain suffix → (if b then Some offset else index_at old suffix) ≡ option_or (offset_at places (labels_of suffix)) (if b then Some offset else None)
-    by true suffix same k =
-        let nowhere : offset_at places (labels_of suffix) ≡ None = sym (h.at suffix k) ∙ ap (index_at old) (sym (bytes_same octets suffix same)) ∙ none in
-        sym (ap (λ (o : Option ℕ). option_or o (Some offset)) nowhere)
-    by false suffix other k = h.at suffix k ∙ or_none (offset_at places (labels_of suffix))
-
-    is : (suffix : List ℕ) → IsPlain suffix → index_at new suffix ≡ offset_at (places ++ one offset octets) (labels_of suffix)
-    is suffix k =
-        btree_map_updates_str octets old new (Some offset) updates suffix
-        ∙ by (bytes_eq octets suffix) suffix refl k
-        ∙ ap (option_or (offset_at places (labels_of suffix))) (sym (at_one offset octets suffix plain k))
+    -- another suffix is not the new place's, whichever bucket it has
+    still : (suffix : List ℕ) → IsPlain suffix → bytes_eq octets suffix ≡ false → offset_at places (labels_of suffix) ≡ offset_at (places ++ one offset octets) (labels_of suffix)
+    still suffix k other =
+        or_none (offset_at places (labels_of suffix))
+        ∙ ap (option_or (offset_at places (labels_of suffix))) (sym (at_one offset octets suffix plain k ∙ ap (λ (b : Bool). if b then Some offset else None) other))
         ∙ sym (offset_at-append places (one offset octets) (labels_of suffix))
 
--- a suffix that stood somewhere leaves the index as it was
-pub indexed_still : (places : List Place) (index : BTreeMap (Bor (List ℕ)) ℕ) (offset : ℕ) (octets : List ℕ) (earlier : ℕ) → IsPlain octets → index_at index octets ≡ Some earlier
-    → IsIndexed places index → IsIndexed (places ++ one offset octets) index
-indexed_still places index offset octets earlier plain known h = record {
-  at = λ suffix k. h.at suffix k ∙ still (bytes_eq octets suffix) suffix refl k ∙ ap (option_or (offset_at places (labels_of suffix))) (sym (at_one offset octets suffix plain k)) ∙ sym (offset_at-append places (one offset octets) (labels_of suffix));
-  low = h.low;
+    stays : (ps : List Place) (suffix : List ℕ) → IsPlain suffix → bytes_eq octets suffix ≡ false → offset_at (ps ++ one offset octets) (labels_of suffix) ≡ offset_at ps (labels_of suffix)
+    stays ps suffix k other =
+        offset_at-append ps (one offset octets) (labels_of suffix)
+        ∙ ap (option_or (offset_at ps (labels_of suffix))) (at_one offset octets suffix plain k ∙ ap (λ (b : Bool). if b then Some offset else None) other)
+        ∙ sym (or_none (offset_at ps (labels_of suffix)))
+
+    looked : (suffix : List ℕ) → ((nat_eq (bucket_of octets) (bucket_of suffix) ≡ true) × (bucket_of octets ≡ bucket_of suffix)) ⊎ ((nat_eq (bucket_of octets) (bucket_of suffix) ≡ false) × (bucket_of octets ≢ bucket_of suffix))
+        → IsPlain suffix → bytes_eq octets suffix ≡ false
+        → offset_at (bucket_at (set buckets (bucket_of octets) bucket) (bucket_of suffix)) (labels_of suffix) ≡ offset_at (bucket_at buckets (bucket_of suffix)) (labels_of suffix)
+    looked suffix (inl same) k other =
+        ap (λ (n : ℕ). offset_at (bucket_at (set buckets (bucket_of octets) bucket) n) (labels_of suffix)) (sym same.1)
+        ∙ ap (λ (ps : List Place). offset_at ps (labels_of suffix)) (get_or-set_same buckets (bucket_of octets) bucket [] inside ∙ grown)
+        ∙ stays (bucket_at buckets (bucket_of octets)) suffix k other
+        ∙ ap (λ (n : ℕ). offset_at (bucket_at buckets n) (labels_of suffix)) same.1
+    looked suffix (inr apart) k other =
+        ap (λ (ps : List Place). offset_at ps (labels_of suffix)) (get_or-set_other buckets (bucket_of octets) (bucket_of suffix) bucket [] (λ e. apart.1 (sym e)))
+
+    by : (b : Bool) (suffix : List ℕ) → bytes_eq octets suffix ≡ b → IsPlain suffix
+        → offset_at (bucket_at (set buckets (bucket_of octets) bucket) (bucket_of suffix)) (labels_of suffix) ≡ offset_at (places ++ one offset octets) (labels_of suffix)
+    by true suffix same k = subst (λ (s : List ℕ). offset_at (bucket_at (set buckets (bucket_of octets) bucket) (bucket_of s)) (labels_of s) ≡ offset_at (places ++ one offset octets) (labels_of s)) (bytes_same octets suffix same) own
+    by false suffix other k = looked suffix (eqb_tells (bucket_of octets) (bucket_of suffix)) k other ∙ h.at suffix k ∙ still suffix k other
+
+-- an empty bucket behind the others holds nothing
+empty_behind : (buckets : List (List Place)) (number : ℕ) → bucket_at (buckets ++ [] ∷ []) number ≡ bucket_at buckets number
+empty_behind [] zero = refl
+empty_behind [] (suc number) = refl
+empty_behind (b ∷ bs) zero = refl
+empty_behind (b ∷ bs) (suc number) = empty_behind bs number
+
+pub indexed_behind : (places : List Place) (buckets : List (List Place)) → IsIndexed places buckets → IsIndexed places (buckets ++ [] ∷ [])
+indexed_behind places buckets h = record {
+  at = λ suffix k. ap (λ (ps : List Place). offset_at ps (labels_of suffix)) (empty_behind buckets (bucket_of suffix)) ∙ h.at suffix k;
 }
-  where
-    still : (b : Bool) (suffix : List ℕ) → bytes_eq octets suffix ≡ b → IsPlain suffix → offset_at places (labels_of suffix) ≡ option_or (offset_at places (labels_of suffix)) (if b then Some offset else None)
-    still true suffix same k =
-        let there : offset_at places (labels_of suffix) ≡ Some earlier = sym (h.at suffix k) ∙ ap (index_at index) (sym (bytes_same octets suffix same)) ∙ known in
-        there ∙ sym (ap (λ (o : Option ℕ). option_or o (Some offset)) there)
-    still false suffix other k = or_none (offset_at places (labels_of suffix))
-
--- what a look into the index finds
-pub nothing_there : (o : Option (Bor ℕ)) (b : Bool) → is_some o ≡ not b → b ≡ true → option_copied o ≡ None
-nothing_there None b e t = refl
-nothing_there (Some x) true e t = absurd cc
-nothing_there (Some x) false e t = absurd cc
-
-pub record Earlier (o : Option ℕ) : Type 0 where
-  pub offset : ℕ
-  pub is : o ≡ Some offset
-
-pub something_there : (o : Option (Bor ℕ)) (b : Bool) → is_some o ≡ not b → b ≡ false → Earlier (option_copied o)
-something_there None true e t = absurd cc
-something_there None false e t = absurd cc
-something_there (Some x) b e t = record { offset = x.now; is = refl }
 
 -- the first so many places, and the others
 parted : (k : ℕ) (places : List Place) (suffix : Labels) → offset_at places suffix ≡ option_or (offset_at (take (min k (length places)) places) suffix) (offset_at (drop k places) suffix)

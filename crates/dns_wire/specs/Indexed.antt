@@ -1,10 +1,7 @@
--- An index of a table of places.
-use Rattle.std.specs.Prelude.{◌≡◌, ℕ, ◌<◌, List, Option, IfSome}
+-- An index of a table of places: each stands in a bucket by a number of its suffix.
+use Rattle.std.specs.Prelude.{◌≡◌, ◌+◌, ◌*◌, ◌%◌, ℕ, List, [], Option, get_or}
 use Rattle.std.specs.Option.{option_map}
-use Rattle.std.specs.Ordering.{nat_cmp}
-use Rattle.std.specs.Cmp.Lexicographic.{slice_cmp}
-use Rattle.std.specs.BTreeMap.{BTreeMap, get_by}
-use Rattle.std.specs.Borrow.{Bor}
+use Rattle.std.specs.List.{fold}
 use Rattle.dns_names.specs.Name.{Labels, labels_of}
 use Rattle.dns_names.specs.Plain.{IsPlain}
 use Rattle.dns_wire.specs.Compress.{Place, place_of}
@@ -13,11 +10,15 @@ use Rattle.dns_wire.specs.Compress.{Place, place_of}
 abbrev pub offset_at : List Place → Labels → Option ℕ
 offset_at places suffix = option_map (λ p. p.offset) (place_of places suffix)
 
--- What an index has at the plain form of a suffix.
-abbrev pub index_at : BTreeMap (Bor (List ℕ)) ℕ → List ℕ → Option ℕ
-index_at index suffix = get_by (λ k. slice_cmp nat_cmp suffix k.now) index
+-- A number of some octets, and of one more.
+abbrev pub summed : ℕ → ℕ → ℕ
+summed sum octet = (sum * 31 + octet) % 65536
 
--- The index has the least offset of each suffix, and offsets that a pointer can name alone.
-pub record IsIndexed (places : List Place) (index : BTreeMap (Bor (List ℕ)) ℕ) : Type 0 where
-  pub at : (suffix : List ℕ) → IsPlain suffix → index_at index suffix ≡ offset_at places (labels_of suffix)
-  pub low : (suffix : List ℕ) → IfSome (index_at index suffix) (λ offset. offset < 16384)
+-- The number of the bucket of a suffix in plain form.
+unfoldable pub bucket_of : List ℕ → ℕ
+bucket_of suffix = fold summed 0 suffix % 128
+
+-- Each suffix has in its bucket the least offset at which it stands.
+pub record IsIndexed (places : List Place) (buckets : List (List Place)) : Type 0 where
+  pub at : (suffix : List ℕ) → IsPlain suffix
+      → offset_at (get_or buckets (bucket_of suffix) []) (labels_of suffix) ≡ offset_at places (labels_of suffix)

@@ -1,13 +1,12 @@
 //! The places that pointers can name: where a suffix was written before (RFC 1035 section 4.1.4).
-ghost use Rattle.std.specs.Prelude.{◌≡◌, ◌<◌, List, [], ◌∷◌, ◌++◌, IfOk, IfSome, OnErr, OnOk};
+ghost use Rattle.std.specs.Prelude.{◌≡◌, ◌<◌, List, [], ◌∷◌, ◌++◌, length, get_or, IfOk, IfSome, OnErr, OnOk};
 ghost use Rattle.dns_names.specs.Name.{labels_of, names_eq};
 ghost use Rattle.dns_names.specs.Plain.{IsPlain};
 ghost use Rattle.dns_wire.specs.Compress.{Place};
-ghost use Rattle.dns_wire.specs.Indexed.{IsIndexed, offset_at};
+ghost use Rattle.dns_wire.specs.Indexed.{IsIndexed, bucket_of, offset_at};
 
 use dns_memory::Heap;
 use std::alloc::AllocError;
-use std::collections::BTreeMap;
 use std::marker::Model;
 
 /// Where a suffix of an earlier name stands: the plain form of the suffix is lent.
@@ -55,32 +54,104 @@ fn place_of(places: &[Target<'_>], suffix: &[u8]) -> Option<usize>
 }
 
 /// How many places are looked through one by one: few messages have more.
-const LOOKED_THROUGH: usize = 32;
+const LOOKED_THROUGH: usize = 12;
 
-/// Indexes that a suffix stands at an offset, where it stands at none before.
-fn keep_least<'a>(
-    index: &mut BTreeMap<&'a [u8], usize, Heap>,
+/// The places behind them whose suffixes have one number, in the order of their offsets.
+#[derive(Drop)]
+struct Bucket<'a> {
+    places: Vec<Target<'a>, Heap>,
+}
+
+impl<'a> Model for Bucket<'a> {
+    ghost use Rattle.std.specs.Prelude.{List};
+    ghost use Rattle.dns_wire.specs.Compress.{Place};
+
+    ghost Value = { List Place };
+
+    ghost view = { λ b. b.places.items };
+}
+
+impl<'a> Bucket<'a> {
+    /// No place.
+    fn new(alloc: Heap) -> Bucket<'a>
+        ensures { result ≡ [] }
+    {
+        Bucket {
+            places: Vec::new(alloc),
+        }
+    }
+
+    /// Keeps that a suffix stands at an offset that a pointer can name.
+    fn push(&mut self, offset: usize, suffix: &'a [u8]) -> Result<(), AllocError>
+        requires plain { IsPlain suffix.now }
+        requires low { offset < 16384 }
+        ensures pushed { OnOk result
+            (self.new ≡ self.old ++ record { offset = offset; suffix = labels_of suffix.now } ∷ []) }
+        ensures refused { OnErr result (self.new ≡ self.old) }
+    {
+        self.places.push(Target { offset, suffix })?;
+        Ok(())
+    }
+}
+
+/// The number of the bucket in which a suffix is looked for: of its octets, so that most have one of their own.
+fn bucket_of(suffix: &[u8]) -> usize
+    ensures { result ≡ bucket_of suffix.now }
+{
+    let mut sum = 0usize;
+    'octets: for octet in suffix {
+        sum = (sum * 31 + *octet as usize) % 65536;
+    }
+    sum % 128
+}
+
+/// What stands in the bucket with a number.
+fn places_in<'b, 'a>(buckets: &'b [Bucket<'a>], number: usize) -> &'b [Target<'a>]
+    ensures { result.now ≡ get_or buckets.now number [] }
+{
+    if number < buckets.len() {
+        let bucket = &buckets[number];
+        return &bucket.places;
+    }
+    &[]
+}
+
+/// Puts empty buckets behind the others until there is one with that number.
+fn reach(alloc: Heap, buckets: &mut Vec<Bucket<'_>, Heap>, number: usize) -> Result<(), AllocError>
+    ensures there { OnOk result (number < length buckets.new.items) }
+    ensures same { (places : List Place) → IsIndexed places buckets.old.items → IsIndexed places buckets.new.items }
+{
+    'buckets: while buckets.len() <= number {
+        buckets.push(Bucket::new(alloc))?;
+    }
+    Ok(())
+}
+
+/// Keeps in its bucket that a suffix stands at an offset.
+fn keep_later<'a>(
+    alloc: Heap,
+    buckets: &mut Vec<Bucket<'a>, Heap>,
     offset: usize,
     suffix: &'a [u8],
 ) -> Result<(), AllocError>
     requires plain { IsPlain suffix.now }
     requires low { offset < 16384 }
-    ensures kept { OnOk result ((places : List Place) → IsIndexed places index.old
-        → IsIndexed (places ++ record { offset = offset; suffix = labels_of suffix.now } ∷ []) index.new) }
-    ensures refused { OnErr result ((places : List Place) → IsIndexed places index.old → IsIndexed places index.new) }
+    ensures kept { OnOk result ((places : List Place) → IsIndexed places buckets.old.items
+        → IsIndexed (places ++ record { offset = offset; suffix = labels_of suffix.now } ∷ []) buckets.new.items) }
+    ensures refused { OnErr result ((places : List Place) → IsIndexed places buckets.old.items
+        → IsIndexed places buckets.new.items) }
 {
-    if index.get(&suffix).is_none() {
-        index.insert(suffix, offset)?;
-    }
-    Ok(())
+    let number = bucket_of(suffix);
+    reach(alloc, buckets, number)?;
+    buckets[number].push(offset, suffix)
 }
 
 /// The places of a message, in the order of their offsets.
 #[derive(Drop)]
 pub(crate) struct Places<'a> {
     all: Vec<Target<'a>, Heap>,
-    /// The least offset of each suffix behind the places that are looked through.
-    later: BTreeMap<&'a [u8], usize, Heap>,
+    /// Those behind the places that are looked through, by the number of their suffix.
+    later: Vec<Bucket<'a>, Heap>,
 }
 
 impl<'a> Model for Places<'a> {
@@ -92,7 +163,7 @@ impl<'a> Model for Places<'a> {
 
     ghost view = { λ p. p.all.items };
 
-    ghost invariant = { λ p. IsIndexed (drop 32 p.all.items) p.later };
+    ghost invariant = { λ p. IsIndexed (drop 12 p.all.items) p.later.items };
 }
 
 impl<'a> Places<'a> {
@@ -102,7 +173,7 @@ impl<'a> Places<'a> {
     {
         Ok(Places {
             all: Vec::with_capacity(alloc, LOOKED_THROUGH)?,
-            later: BTreeMap::new(alloc),
+            later: Vec::new(alloc),
         })
     }
 
@@ -116,7 +187,7 @@ impl<'a> Places<'a> {
         if let Some(offset) = place_of(&self.all.as_slice()[..first], suffix) {
             return Some(offset);
         }
-        self.later.get(&suffix).copied()
+        place_of(places_in(&self.later, bucket_of(suffix)), suffix)
     }
 
     /// Keeps that a suffix stands at an offset that a pointer can name.
@@ -132,7 +203,8 @@ impl<'a> Places<'a> {
             self.all.push_reserved(Target { offset, suffix });
             return Ok(());
         }
-        keep_least(&mut self.later, offset, suffix)?;
+        let alloc = *self.all.allocator();
+        keep_later(alloc, &mut self.later, offset, suffix)?;
         self.all.push_reserved(Target { offset, suffix });
         Ok(())
     }

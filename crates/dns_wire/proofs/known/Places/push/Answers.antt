@@ -1,4 +1,4 @@
-use Rattle.std.proofs.Common.{◌≡◌, ◌<◌, ◌≤◌, List, [], ◌∷◌, ◌++◌, ◌+◌, length, drop, sym, ap, subst, ◌∙◌, arith}
+use Rattle.std.proofs.Common.{◌≡◌, ◌<◌, ◌≤◌, List, [], ◌∷◌, ◌++◌, length, drop, sym, ap, subst, ◌∙◌, arith}
 use Rattle.dns_names.specs.Name.{labels_of}
 use Rattle.dns_wire.specs.Compress.{Place}
 use Rattle.dns_wire.specs.Indexed.{IsIndexed}
@@ -9,17 +9,17 @@ pub invariant_of-self-then-len-lt-LOOKED_THROUGH : goal.invariant_of-self-then-l
 invariant_of-self-then-len-lt-LOOKED_THROUGH c =
     let all = c.self.inside.all.items in
     let new = c.push_reserved.new.self.items in
-    let few : length all < 32 = (let e = ap length c.in_ok-reserve.ensures.items in let l = c.len.ensures in let t = c.if-len-lt-LOOKED_THROUGH.true in omega (arith, e, l, t)) in
-    let none : drop 32 all ≡ [] = drop_all 32 all (let f = few in omega (arith, f)) in
-    let size : length new ≤ 32 = (let e = ap length c.in_ok-reserve.ensures.items in let g = c.push_reserved.ensures.len in let l = c.len.ensures in let t = c.if-len-lt-LOOKED_THROUGH.true in omega (arith, e, g, l, t)) in
-    let still : drop 32 new ≡ [] = drop_all 32 new size in
-    subst (λ (ps : List Place). IsIndexed ps c.self.inside.later) (none ∙ sym still) c.self.invariant
+    let few : length all < 12 = (let e = ap length c.in_ok-reserve.ensures.items in let l = c.len.ensures in let t = c.if-len-lt-LOOKED_THROUGH.true in omega (arith, e, l, t)) in
+    let none : drop 12 all ≡ [] = drop_all 12 all (let f = few in omega (arith, f)) in
+    let size : length new ≤ 12 = (let e = ap length c.in_ok-reserve.ensures.items in let g = c.push_reserved.ensures.len in let l = c.len.ensures in let t = c.if-len-lt-LOOKED_THROUGH.true in omega (arith, e, g, l, t)) in
+    let still : drop 12 new ≡ [] = drop_all 12 new size in
+    subst (λ (ps : List Place). IsIndexed ps c.self.inside.later.items) (none ∙ sym still) c.self.invariant
 
 pub invariant_of-self-2 : goal.invariant_of-self-2
 invariant_of-self-2 c =
     let all = c.self.inside.all.items in
     let one : List Place = record { offset = c.args.offset; suffix = labels_of c.args.suffix.now } ∷ [] in
-    let many : 32 ≤ length all = (let e = ap length c.in_ok-reserve.ensures.items in let l = c.len.ensures in let t = c.if-len-lt-LOOKED_THROUGH.false in omega (arith, e, l, t)) in
+    let many : 12 ≤ length all = (let e = ap length c.in_ok-reserve.ensures.items in let l = c.len.ensures in let t = c.if-len-lt-LOOKED_THROUGH.false in omega (arith, e, l, t)) in
     let grown : c.push_reserved-2.new.self.items ≡ all ++ one = c.push_reserved-2.ensures.items ∙ ap (λ (ps : List Place). ps ++ one) c.in_ok-reserve.ensures.items in
-    subst (λ (ps : List Place). IsIndexed ps c.keep_least.new.index) (sym (ap (drop 32) grown ∙ drop-append-le 32 all one many))
-    (c.in_ok-keep_least.ensures.kept (drop 32 all) c.self.invariant)
+    subst (λ (ps : List Place). IsIndexed ps c.keep_later.new.buckets.items) (sym (ap (drop 12) grown ∙ drop-append-le 12 all one many))
+    (c.in_ok-keep_later.ensures.kept (drop 12 all) c.self.invariant)
