@@ -19,8 +19,17 @@ use toml::Value;
 /// At most so many zones are held.
 const MOST_ZONES: usize = 16;
 
+/// The least count of sectors of a snapshot.
+pub(crate) const LEAST_SNAPSHOT: u32 = 1;
+
+/// The least count of sectors of a journal.
+pub(crate) const LEAST_JOURNAL: u32 = 8;
+
 /// The largest count of sectors or versions.
-const MOST: u32 = 65536;
+pub(crate) const MOST: u32 = 65536;
+
+/// How many keys the table of a zone has.
+pub(crate) const ZONE_KEYS: usize = 8;
 
 /// One zone of a configuration.
 #[derive(Drop)]
@@ -280,15 +289,15 @@ pub(crate) fn name_at(heap: Heap, table: &Value, key: &str) -> Result<Name, Conf
 fn settings(alloc: Global, heap: Heap, zone: &Value) -> Result<ZoneSettings, ConfigurationError>
     ensures { Reads (IsSettings (view zone.now)) result }
 {
-    if !has_keys(zone, 8) {
+    if !has_keys(zone, ZONE_KEYS) {
         return Err(ConfigurationError::BadConfig);
     }
     Ok(ZoneSettings {
         origin: name_at(heap, zone, "origin")?,
         file: path_at(alloc, zone, "file")?,
         device: path_at(alloc, zone, "device")?,
-        snapshot_sectors: count_at(zone, "snapshot_sectors", 1, MOST)?,
-        journal_sectors: count_at(zone, "journal_sectors", 8, MOST)?,
+        snapshot_sectors: count_at(zone, "snapshot_sectors", LEAST_SNAPSHOT, MOST)?,
+        journal_sectors: count_at(zone, "journal_sectors", LEAST_JOURNAL, MOST)?,
         keep: count_at(zone, "keep", 0, MOST)?,
         update: prefixes_at(alloc, zone, "update")?,
         transfer: prefixes_at(alloc, zone, "transfer")?,

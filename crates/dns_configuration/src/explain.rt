@@ -1,7 +1,8 @@
 //! What one who mends a refused configuration is told beside its fault: the key whose value is missing or wrong, and what is
 //! expected there. It serves `--explain` alone, and no clause says more of it than that it ends.
 use crate::configuration::{
-    count_at, has_keys, list_at, listener, name_at, path_at, prefixes_at, text_at,
+    LEAST_JOURNAL, LEAST_SNAPSHOT, MOST, ZONE_KEYS, count_at, has_keys, list_at, listener, name_at,
+    path_at, prefixes_at, text_at,
 };
 use crate::files::{File, PrintedWord};
 use dns_memory::Heap;
@@ -9,43 +10,69 @@ use std::alloc::Global;
 use std::io::{self, Write};
 use toml::Value;
 
-/// A key of a zone, and what is expected there.
-type Key = (&'static str, &'static str);
+/// What is expected at a key of a zone.
+#[derive(Clone, Copy)]
+enum Expected {
+    /// The name of the apex.
+    Apex,
+    /// The path of a file.
+    Path(&'static str),
+    /// A number in a range.
+    Count(u32, u32),
+    /// Prefixes of addresses.
+    Prefixes,
+}
 
-/// The keys of a zone.
-const KEYS: [Key; 8] = [
-    ("origin", "the name of the zone's apex is expected"),
-    ("file", "the path of a master file is expected"),
-    ("device", "the path of a device is expected"),
-    ("snapshot_sectors", "a number from 1 to 65536 is expected"),
-    ("journal_sectors", "a number from 8 to 65536 is expected"),
-    ("keep", "a number from 0 to 65536 is expected"),
-    (
-        "update",
-        "a list of prefixes such as \"192.0.2.0/24\" is expected",
-    ),
-    (
-        "transfer",
-        "a list of prefixes such as \"192.0.2.0/24\" is expected",
-    ),
+/// The keys of a zone, and what is expected at each.
+const KEYS: [(&str, Expected); ZONE_KEYS] = [
+    ("origin", Expected::Apex),
+    ("file", Expected::Path("master file")),
+    ("device", Expected::Path("device")),
+    ("snapshot_sectors", Expected::Count(LEAST_SNAPSHOT, MOST)),
+    ("journal_sectors", Expected::Count(LEAST_JOURNAL, MOST)),
+    ("keep", Expected::Count(0, MOST)),
+    ("update", Expected::Prefixes),
+    ("transfer", Expected::Prefixes),
 ];
 
 /// Whether the table has a value at that key of a zone, of the key's form.
-fn is_good(alloc: Global, heap: Heap, zone: &Value, key: &str) -> bool {
-    match key {
-        "origin" => name_at(heap, zone, key).is_ok(),
-        "file" | "device" => path_at(alloc, zone, key).is_ok(),
-        "snapshot_sectors" => count_at(zone, key, 1, 65536).is_ok(),
-        "journal_sectors" => count_at(zone, key, 8, 65536).is_ok(),
-        "keep" => count_at(zone, key, 0, 65536).is_ok(),
-        _ => prefixes_at(alloc, zone, key).is_ok(),
+fn is_good(alloc: Global, heap: Heap, zone: &Value, key: &str, expected: Expected) -> bool {
+    match expected {
+        Expected::Apex => name_at(heap, zone, key).is_ok(),
+        Expected::Path(_) => path_at(alloc, zone, key).is_ok(),
+        Expected::Count(low, high) => count_at(zone, key, low, high).is_ok(),
+        Expected::Prefixes => prefixes_at(alloc, zone, key).is_ok(),
     }
 }
 
 /// The first key of a zone that is wrong.
-fn wrong_key(alloc: Global, heap: Heap, zone: &Value) -> Option<Key> {
-    KEYS.into_iter()
-        .find(|(key, _)| !is_good(alloc, heap, zone, key))
+fn wrong_key(alloc: Global, heap: Heap, zone: &Value) -> Option<(&'static str, Expected)> {
+    for (key, expected) in KEYS {
+        if !is_good(alloc, heap, zone, key, expected) {
+            return Some((key, expected));
+        }
+    }
+    None
+}
+
+/// Tells which key of the zone with that number is wrong, and what is expected there.
+fn tell_key<E: Write>(
+    what: &PrintedWord<'_>,
+    number: usize,
+    key: &str,
+    expected: Expected,
+    err: &mut E,
+) -> io::Result<()> {
+    write!(err, "{what}: zone {number}: {key}: ")?;
+    match expected {
+        Expected::Apex => writeln!(err, "the name of the zone's apex is expected"),
+        Expected::Path(file) => writeln!(err, "the path of a {file} is expected"),
+        Expected::Count(low, high) => writeln!(err, "a number from {low} to {high} is expected"),
+        Expected::Prefixes => writeln!(
+            err,
+            "a list of prefixes such as \"192.0.2.0/24\" is expected"
+        ),
+    }
 }
 
 /// Tells which value of a document is wrong.
@@ -70,9 +97,9 @@ fn explain_document<E: Write>(
     for zone in zones {
         number = number.saturating_add(1);
         if let Some((key, expected)) = wrong_key(alloc, heap, zone) {
-            return writeln!(err, "{what}: zone {number}: {key}: {expected}");
+            return tell_key(&what, number, key, expected, err);
         }
-        if !has_keys(zone, KEYS.len()) {
+        if !has_keys(zone, ZONE_KEYS) {
             return writeln!(err, "{what}: zone {number}: it has a key that no zone has");
         }
     }
