@@ -12,6 +12,8 @@ mod files;
 #[cfg(test)]
 mod given;
 #[cfg(test)]
+mod large;
+#[cfg(test)]
 mod lookups;
 #[cfg(test)]
 mod memory;
