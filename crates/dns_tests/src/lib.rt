@@ -1,12 +1,9 @@
-//! Tests that cross crates: exchanges octet for octet, each refusal, memory refused at each allocation, and a writer that fails.
+//! Tests that cross crates, of what no run over files shows: memory refused at each allocation, writers that fail, and the values of a
+//! configuration.
 #![tactic(auto)]
 
 #[cfg(test)]
 mod configurations;
-#[cfg(test)]
-mod exchanges;
-#[cfg(test)]
-mod explanations;
 #[cfg(test)]
 mod files;
 #[cfg(test)]
@@ -14,14 +11,8 @@ mod given;
 #[cfg(test)]
 mod large;
 #[cfg(test)]
-mod lookups;
-#[cfg(test)]
-mod memory;
-#[cfg(test)]
 mod replies;
 #[cfg(test)]
-mod runs;
+mod transfers;
 #[cfg(test)]
-mod scripts;
-#[cfg(test)]
-mod updates;
+mod writers;
