@@ -7,7 +7,7 @@ use std::io::Write;
 use std::test::Fail;
 
 /// How many addresses the zone has.
-const HOSTS: u32 = 2000;
+const HOSTS: u32 = 40000;
 
 /// A zone that has room for them, and keeps one version behind the newest.
 const CONFIG: &str = "listen = \"127.0.0.1:5300\"
