@@ -3,6 +3,8 @@
 #![tactic(auto)]
 
 #[cfg(test)]
+mod devices;
+#[cfg(test)]
 mod file_devices;
 #[cfg(test)]
 mod memory_devices;

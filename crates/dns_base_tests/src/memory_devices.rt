@@ -1,76 +1,91 @@
 //! What a plan counts can be seen by no clause, and neither can it that a call succeeds.
+use crate::devices::{contents, fails_to_read, write};
 use dns_memory::{Heap, heap};
 use dns_sectors::{Keep, MemorySectors, Plan, SectorWrite, Sectors, write_all, write_phase};
-use std::process::Abort;
+use std::alloc::AllocError;
 use std::rc::Rc;
 use std::test::Fail;
 
-fn shared_plan(heap: Heap) -> Result<Rc<Plan, Heap>, Fail> {
-    Ok(Rc::new(heap, Plan::new())?)
+/// A device of so many sectors with a plan, and room for so many writes and syncs.
+fn device(
+    alloc: Heap,
+    len: usize,
+    calls: usize,
+    plan: &Rc<Plan, Heap>,
+) -> Result<MemorySectors, AllocError> {
+    MemorySectors::new(alloc, len, calls, plan.clone()?)
 }
 
-// Writes a sector that is full of one octet, and says whether that succeeded.
-fn write(rt: &impl Abort, device: &mut MemorySectors, at: usize, octet: u8) -> bool {
-    assert!(rt; at < device.len());
-    device.write(at, &[octet; 512]).is_ok()
+/// A device of so many sectors whose calls all succeed.
+fn plain_device(alloc: Heap, len: usize) -> Result<MemorySectors, AllocError> {
+    device(alloc, len, 8, &Rc::new(alloc, Plan::new())?)
 }
 
-// The octet that a sector is full of; none where the read fails.
-fn read(rt: &impl Abort, device: &mut MemorySectors, at: usize) -> Option<u8> {
-    assert!(rt; at < device.len());
-    match device.read(at) {
-        Ok(sector) => {
-            assert!(rt; sector.iter().all(|octet| *octet == sector[0]));
-            Some(sector[0])
-        }
-        Err(_) => None,
+/// Sector and octet of the writes that are pending, some of them over one another.
+const WRITES: [(usize, u8); 4] = [(0, 1), (1, 2), (0, 3), (2, 4)];
+
+/// Makes so many of the writes, behind a write of the second sector that is durable, and says whether all succeed.
+fn write_some<D: Sectors>(device: &mut D, count: usize) -> bool {
+    let mut is_written = write(device, 1, 9) && device.sync().is_ok();
+    for (at, octet) in WRITES.iter().take(count) {
+        is_written &= write(device, *at, *octet);
     }
+    is_written
 }
 
-fn set(plain: &mut [u8], at: usize, octet: u8) {
-    if let Some(place) = plain.get_mut(at) {
-        *place = octet;
-    }
+/// Of so many of the writes: whether all succeed, how many are pending, how many still are behind a crash that keeps those
+/// with these numbers, and what that leaves.
+fn left(
+    alloc: Heap,
+    count: usize,
+    numbers: &[u64],
+) -> Result<(bool, [usize; 2], Option<[u8; 3]>), AllocError> {
+    let mut device = plain_device(alloc, 3)?;
+    let is_written = write_some(&mut device, count);
+    let pending = device.pending();
+    let mut left = device.crash(Keep::These(numbers));
+    Ok((is_written, [pending, left.pending()], contents(&mut left)))
 }
 
-fn contains(rt: &impl Abort, device: &mut MemorySectors, plain: &[u8]) {
-    assert_eq!(rt; device.len(), plain.len());
-    for (at, octet) in plain.iter().enumerate() {
-        assert_eq!(rt; read(rt, device, at), Some(*octet), "sector {at}");
-    }
-}
+/// How many writes there are at least, the numbers of those that a crash keeps, and what it leaves.
+const SUBLISTS: &[(usize, &[u64], [u8; 3])] = &[
+    (0, &[], [0, 9, 0]),
+    (1, &[1], [1, 9, 0]),
+    (2, &[2], [0, 2, 0]),
+    (2, &[1, 2], [1, 2, 0]),
+    (3, &[3], [3, 9, 0]),
+    (3, &[1, 3], [3, 9, 0]),
+    (3, &[2, 3], [3, 2, 0]),
+    (3, &[1, 2, 3], [3, 2, 0]),
+    (4, &[4], [0, 9, 4]),
+    (4, &[1, 4], [1, 9, 4]),
+    (4, &[2, 4], [0, 2, 4]),
+    (4, &[1, 2, 4], [1, 2, 4]),
+    (4, &[3, 4], [3, 9, 4]),
+    (4, &[1, 3, 4], [3, 9, 4]),
+    (4, &[2, 3, 4], [3, 2, 4]),
+    (4, &[1, 2, 3, 4], [3, 2, 4]),
+];
 
-// Sector and octet of the writes that are pending, some of them over one another.
-static WRITES: [(usize, u8); 4] = [(0, 1), (1, 2), (0, 3), (2, 4)];
-
+// Each sublist of as many of the writes as have its last one.
 #[test]
 fn each_sublist(rt: HostRuntime) -> Result<(), Fail> {
-    let heap = heap(rt.alloc())?;
-    for count in 0..5usize {
-        for choice in 0..1u32 << count {
-            let mut device = MemorySectors::new(heap, 3, 8, shared_plan(heap)?)?;
-            assert!(rt; write(&rt, &mut device, 1, 9));
-            assert!(rt; device.sync().is_ok());
-            let mut plain = [0, 9, 0];
-            let mut kept = Vec::new(heap);
-            for (i, (at, octet)) in WRITES.iter().enumerate().take(count) {
-                assert!(rt; write(&rt, &mut device, *at, *octet));
-                if i < 32 && choice >> i & 1 == 1 {
-                    kept.push(i as u64 + 1)?;
-                    set(&mut plain, *at, *octet);
-                }
-            }
-            assert_eq!(rt; device.pending(), count);
-            let mut left = device.crash(Keep::These(&kept));
-            assert_eq!(rt; left.pending(), 0);
-            contains(&rt, &mut left, &plain);
+    let alloc = heap(rt.alloc())?;
+    for (least, numbers, plain) in SUBLISTS {
+        for count in *least..5 {
+            let wanted = (true, [count, 0], Some(*plain));
+            assert_eq!(rt;
+                left(alloc, count, numbers),
+                Ok(wanted),
+                "{numbers:?} of {count}"
+            );
         }
     }
     Ok(())
 }
 
-// A run over two devices: which device, which sector, and the octet; 0 stands for a sync.
-static RUN: [(bool, usize, u8); 8] = [
+/// A run over two devices: whether it is the second, which sector, and the octet; 0 stands for a sync.
+const RUN: [(bool, usize, u8); 8] = [
     (false, 0, 1),
     (true, 0, 2),
     (false, 0, 0),
@@ -81,157 +96,245 @@ static RUN: [(bool, usize, u8); 8] = [
     (false, 0, 0),
 ];
 
-// Makes an operation of the run, and says whether it succeeded.
-fn run(
-    rt: &impl Abort,
-    a: &mut MemorySectors,
-    b: &mut MemorySectors,
-    second: bool,
-    at: usize,
-    octet: u8,
-) -> bool {
+/// Makes an operation of the run, and says whether it succeeded.
+fn operate<D: Sectors>(device: &mut D, at: usize, octet: u8) -> bool {
     if octet == 0 {
-        if second {
-            b.sync().is_ok()
-        } else {
-            a.sync().is_ok()
-        }
-    } else if second {
-        write(rt, b, at, octet)
+        device.sync().is_ok()
     } else {
-        write(rt, a, at, octet)
+        write(device, at, octet)
     }
 }
 
-// What the operation makes of plain sectors.
-fn note(a: &mut [u8], b: &mut [u8], second: bool, at: usize, octet: u8) {
-    if octet == 0 {
-        return;
+/// Makes the run, and says which of its operations succeeded.
+fn run<D: Sectors>(first: &mut D, second: &mut D) -> [bool; 8] {
+    let mut done = [false; 8];
+    for (place, (is_second, at, octet)) in done.iter_mut().zip(RUN.iter()) {
+        *place = if *is_second {
+            operate(second, *at, *octet)
+        } else {
+            operate(first, *at, *octet)
+        };
     }
-    if second {
-        set(b, at, octet)
-    } else {
-        set(a, at, octet)
-    }
+    done
 }
+
+/// What is seen of two devices: their failures, and their sectors.
+type Seen = ([u64; 2], [Option<[u8; 2]>; 2]);
+
+fn seen<D: Sectors>(first: &mut D, second: &mut D) -> Seen {
+    (
+        [first.failures(), second.failures()],
+        [contents(first), contents(second)],
+    )
+}
+
+/// What is seen behind a run of which this operation fails: which succeed, whether the plan stops, and the devices.
+fn failing(alloc: Heap, n: u64) -> Result<([bool; 8], bool, Seen), AllocError> {
+    let plan = Rc::new(alloc, Plan::new())?;
+    let mut first = device(alloc, 2, 8, &plan)?;
+    let mut second = device(alloc, 2, 8, &plan)?;
+    plan.fail_at(3);
+    plan.fail_at(n);
+    let done = run(&mut first, &mut second);
+    Ok((done, plan.stopped(), seen(&mut first, &mut second)))
+}
+
+/// For each operation that fails, in order, and for none: the failures of the two devices, and their sectors.
+const FAILING: [([u64; 2], [u8; 2], [u8; 2]); 9] = [
+    ([1, 0], [0, 4], [5, 3]),
+    ([0, 1], [1, 4], [5, 3]),
+    ([1, 0], [1, 4], [5, 3]),
+    ([0, 1], [1, 4], [5, 0]),
+    ([0, 1], [1, 4], [5, 3]),
+    ([1, 0], [1, 0], [5, 3]),
+    ([0, 1], [1, 4], [2, 3]),
+    ([1, 0], [1, 4], [5, 3]),
+    ([0, 0], [1, 4], [5, 3]),
+];
 
 #[test]
 fn fails_once(rt: HostRuntime) -> Result<(), Fail> {
-    let heap = heap(rt.alloc())?;
-    for n in 1..10u64 {
-        let plan = shared_plan(heap)?;
-        let mut a = MemorySectors::new(heap, 2, 8, plan.clone()?)?;
-        let mut b = MemorySectors::new(heap, 2, 8, plan.clone()?)?;
-        let (mut plain_a, mut plain_b) = ([0; 2], [0; 2]);
-        plan.fail_at(3);
-        plan.fail_at(n);
-        for (i, (second, at, octet)) in RUN.iter().enumerate() {
-            let fails = i as u64 + 1 == n;
-            let done = run(&rt, &mut a, &mut b, *second, *at, *octet);
-            assert_eq!(rt; done, !fails, "operation {i} of {n}");
-            if !fails {
-                note(&mut plain_a, &mut plain_b, *second, *at, *octet);
-            }
+    let alloc = heap(rt.alloc())?;
+    for (i, (failures, first, second)) in FAILING.iter().enumerate() {
+        let mut done = [true; 8];
+        if let Some(place) = done.get_mut(i) {
+            *place = false;
         }
-        let failed = a.failures().checked_add(b.failures());
-        assert_eq!(rt; failed, Some(if n < 9 { 1 } else { 0 }));
-        assert!(rt; !plan.stopped());
-        contains(&rt, &mut a, &plain_a);
-        contains(&rt, &mut b, &plain_b);
+        let wanted = (done, false, (*failures, [Some(*first), Some(*second)]));
+        assert_eq!(rt; failing(alloc, i as u64 + 1), Ok(wanted), "operation {i}");
     }
     Ok(())
 }
 
+/// Makes the run of which this operation is the last: which operations succeed, whether the plan stops, and whether the first
+/// device fails to be read then.
+fn stop(
+    plan: &Plan,
+    first: &mut MemorySectors,
+    second: &mut MemorySectors,
+    n: u64,
+) -> ([bool; 8], [bool; 2]) {
+    // Where the same operation is to fail and to stop, it stops.
+    plan.fail_at(n);
+    plan.stop_at(n);
+    let done = run(first, second);
+    (done, [plan.stopped(), fails_to_read(first, 0)])
+}
+
+/// Whether a device fails to be read up to a reset of its plan, whether the plan stops behind that, and the devices.
+fn reset(
+    plan: &Plan,
+    first: &mut MemorySectors,
+    second: &mut MemorySectors,
+) -> ([bool; 2], [Option<[u8; 2]>; 2]) {
+    let fails = fails_to_read(second, 0);
+    plan.reset();
+    ([fails, plan.stopped()], [contents(first), contents(second)])
+}
+
+type Stopping = (([bool; 8], [bool; 2]), ([bool; 2], [Option<[u8; 2]>; 2]));
+
+/// What is seen of a run of which this operation is the last, and then behind a crash that keeps all writes.
+fn stopping(alloc: Heap, n: u64) -> Result<Stopping, AllocError> {
+    let plan = Rc::new(alloc, Plan::new())?;
+    let mut first = device(alloc, 2, 8, &plan)?;
+    let mut second = device(alloc, 2, 8, &plan)?;
+    let stopped = stop(&plan, &mut first, &mut second, n);
+    let mut first = first.crash(Keep::All);
+    let mut second = second.crash(Keep::All);
+    Ok((stopped, reset(&plan, &mut first, &mut second)))
+}
+
+/// For each operation that is the last, in order, the sectors of the two devices.
+const STOPPING: [[[u8; 2]; 2]; 8] = [
+    [[1, 0], [0, 0]],
+    [[1, 0], [2, 0]],
+    [[1, 0], [2, 0]],
+    [[1, 0], [2, 3]],
+    [[1, 0], [2, 3]],
+    [[1, 4], [2, 3]],
+    [[1, 4], [5, 3]],
+    [[1, 4], [5, 3]],
+];
+
 #[test]
 fn stops(rt: HostRuntime) -> Result<(), Fail> {
-    let heap = heap(rt.alloc())?;
-    for n in 1..9u64 {
-        let plan = shared_plan(heap)?;
-        let mut a = MemorySectors::new(heap, 2, 8, plan.clone()?)?;
-        let mut b = MemorySectors::new(heap, 2, 8, plan.clone()?)?;
-        let (mut plain_a, mut plain_b) = ([0; 2], [0; 2]);
-        // Where the same operation is to fail and to stop, it stops.
-        plan.fail_at(n);
-        plan.stop_at(n);
-        for (i, (second, at, octet)) in RUN.iter().enumerate() {
-            let done = run(&rt, &mut a, &mut b, *second, *at, *octet);
-            assert_eq!(rt; done, i as u64 + 1 < n, "operation {i} of {n}");
-            if i as u64 + 1 <= n {
-                note(&mut plain_a, &mut plain_b, *second, *at, *octet);
-            }
+    let alloc = heap(rt.alloc())?;
+    for (i, [first, second]) in STOPPING.iter().enumerate() {
+        let mut done = [false; 8];
+        for (at, place) in done.iter_mut().enumerate() {
+            *place = at < i;
         }
-        assert!(rt; plan.stopped());
-        assert_eq!(rt; read(&rt, &mut a, 0), None);
-        let (mut a, mut b) = (a.crash(Keep::All), b.crash(Keep::All));
-        assert_eq!(rt; read(&rt, &mut b, 0), None);
-        plan.reset();
-        assert!(rt; !plan.stopped());
-        contains(&rt, &mut a, &plain_a);
-        contains(&rt, &mut b, &plain_b);
+        let behind = ([true, false], [Some(*first), Some(*second)]);
+        let wanted = ((done, [true, true]), behind);
+        assert_eq!(rt; stopping(alloc, i as u64 + 1), Ok(wanted), "operation {i}");
     }
     Ok(())
+}
+
+/// Which writes and syncs succeed on a device whose record has room for three calls, of which the second fails; the write that
+/// fails has its place in the record, so that there is no room for a fourth.
+fn fill<D: Sectors>(device: &mut D) -> [bool; 5] {
+    [
+        write(device, 0, 1),
+        write(device, 1, 2),
+        write(device, 1, 3),
+        device.sync().is_ok(),
+        write(device, 0, 4),
+    ]
+}
+
+/// What is left of such a device behind a crash that keeps the second write, and whether a sync succeeds then.
+fn left_full(device: MemorySectors) -> (Option<[u8; 2]>, bool) {
+    let mut left = device.crash(Keep::These(&[2, 3, 7]));
+    (contents(&mut left), left.sync().is_ok())
+}
+
+/// Which calls succeed, the pending writes, the failures, the sectors, and what is left.
+type Filled = (
+    [bool; 5],
+    usize,
+    u64,
+    Option<[u8; 2]>,
+    (Option<[u8; 2]>, bool),
+);
+
+fn filled(alloc: Heap) -> Result<Filled, AllocError> {
+    let plan = Rc::new(alloc, Plan::new())?;
+    let mut device = device(alloc, 2, 3, &plan)?;
+    plan.fail_at(2);
+    let done = fill(&mut device);
+    let (pending, failures) = (device.pending(), device.failures());
+    let plain = contents(&mut device);
+    Ok((done, pending, failures, plain, left_full(device)))
 }
 
 #[test]
 fn room(rt: HostRuntime) -> Result<(), Fail> {
-    let heap = heap(rt.alloc())?;
-    let plan = shared_plan(heap)?;
-    let mut device = MemorySectors::new(heap, 2, 3, plan.clone()?)?;
-    plan.fail_at(2);
-    assert!(rt; write(&rt, &mut device, 0, 1));
-    assert!(rt; !write(&rt, &mut device, 1, 2));
-    assert!(rt; write(&rt, &mut device, 1, 3));
-    // The write that failed has its place in the record, so that there is no room for a fourth call.
-    assert!(rt; device.sync().is_err());
-    assert!(rt; !write(&rt, &mut device, 0, 4));
-    assert_eq!(rt; device.pending(), 2);
-    assert_eq!(rt; device.failures(), 3);
-    contains(&rt, &mut device, &[1, 3]);
-    let mut left = device.crash(Keep::These(&[2, 3, 7]));
-    contains(&rt, &mut left, &[0, 3]);
-    assert!(rt; left.sync().is_ok());
+    let alloc = heap(rt.alloc())?;
+    let done = [true, false, true, false, false];
+    let left = (Some([0, 3]), true);
+    assert_eq!(rt; filled(alloc), Ok((done, 2, 3, Some([1, 3]), left)));
     Ok(())
+}
+
+/// Two writes of one phase.
+const PHASE: [SectorWrite; 2] = [
+    SectorWrite {
+        at: 1,
+        octets: [5; 512],
+    },
+    SectorWrite {
+        at: 0,
+        octets: [6; 512],
+    },
+];
+
+/// Makes the writes, and then a phase of them: how many are pending in between, if all succeeds.
+fn write_twice(device: &mut MemorySectors) -> Option<usize> {
+    if device.len() != 2 {
+        return None;
+    }
+    write_all(device, &PHASE).ok()?;
+    let pending = device.pending();
+    write_phase(device, &PHASE).ok()?;
+    Some(pending)
+}
+
+/// What is pending between the two, and what a crash leaves that keeps nothing.
+fn phased(alloc: Heap) -> Result<(Option<usize>, Option<[u8; 2]>), AllocError> {
+    let mut device = plain_device(alloc, 2)?;
+    let pending = write_twice(&mut device);
+    let mut left = device.crash(Keep::These(&[]));
+    Ok((pending, contents(&mut left)))
 }
 
 #[test]
 fn phases(rt: HostRuntime) -> Result<(), Fail> {
-    let heap = heap(rt.alloc())?;
-    let mut device = MemorySectors::new(heap, 2, 8, shared_plan(heap)?)?;
-    let writes = [
-        SectorWrite {
-            at: 1,
-            octets: [5; 512],
-        },
-        SectorWrite {
-            at: 0,
-            octets: [6; 512],
-        },
-    ];
-    assert_eq!(rt; device.len(), 2);
-    assert!(rt; write_all(&mut device, &writes).is_ok());
-    assert_eq!(rt; device.pending(), 2);
-    assert_eq!(rt; device.len(), 2);
-    assert!(rt; write_phase(&mut device, &writes).is_ok());
-    let mut left = device.crash(Keep::These(&[]));
-    contains(&rt, &mut left, &[6, 5]);
+    let alloc = heap(rt.alloc())?;
+    assert_eq!(rt; phased(alloc), Ok((Some(2), Some([6, 5]))));
     Ok(())
+}
+
+/// How many sectors a device of so many has whose n-th allocation is refused; none where there is no device.
+fn refused(alloc: Heap, n: u64, len: usize) -> Result<Option<usize>, AllocError> {
+    let plan = Rc::new(alloc, Plan::new())?;
+    alloc.refuse(n);
+    let made = MemorySectors::new(alloc, len, 4, plan);
+    alloc.refuse(0);
+    match made {
+        Ok(device) => Ok(Some(device.len())),
+        Err(_) => Ok(None),
+    }
 }
 
 #[test]
 fn refused_memory(rt: HostRuntime) -> Result<(), Fail> {
-    let heap = heap(rt.alloc())?;
-    let plan = shared_plan(heap)?;
+    let alloc = heap(rt.alloc())?;
     for n in 1..7u64 {
-        let shared = plan.clone()?;
-        heap.refuse(n);
-        assert_eq!(rt;
-            MemorySectors::new(heap, 2, 4, shared).is_ok(),
-            n == 6,
-            "allocation {n}"
-        );
+        let wanted = if n == 6 { Some(2) } else { None };
+        assert_eq!(rt; refused(alloc, n, 2), Ok(wanted), "allocation {n}");
     }
-    heap.refuse(0);
-    let empty = MemorySectors::new(heap, 0, 0, plan)?;
-    assert_eq!(rt; empty.len(), 0);
+    assert_eq!(rt; refused(alloc, 0, 0), Ok(Some(0)));
     Ok(())
 }

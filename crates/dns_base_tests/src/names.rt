@@ -10,111 +10,113 @@ pub(crate) fn name(alloc: Heap, text: &[u8]) -> Result<Name, NameError> {
 }
 
 /// Whether a name is that of a text.
-pub(crate) fn is_named(alloc: Heap, host: &Name, text: &[u8]) -> Result<bool, NameError> {
-    Ok(*host == name(alloc, text)?)
+fn is_named(alloc: Heap, host: &Name, text: &[u8]) -> Option<bool> {
+    Some(*host == name(alloc, text).ok()?)
 }
 
 /// Whether a name is shown as a text.
-fn is_shown(alloc: Heap, host: &Name, text: &str) -> Result<bool, AllocError> {
-    let shown = format!(in alloc; "{host}")?;
-    Ok(shown.as_str() == text)
+fn is_shown(alloc: Heap, host: &Name, text: &str) -> Option<bool> {
+    let shown = format!(in alloc; "{host}").ok()?;
+    Some(shown.as_str() == text)
+}
+
+/// How many octets a name is read from, and whether it has these in plain form, is that of a text, and is shown as the text.
+fn read(alloc: Heap, octets: &[u8], plain: &[u8], text: &str) -> Option<(usize, [bool; 3])> {
+    let (host, size) = Name::parse_wire(alloc, octets).ok()?;
+    let is_plain = host.as_wire() == plain;
+    let is_named = is_named(alloc, &host, text.as_bytes())?;
+    Some((size, [is_plain, is_named, is_shown(alloc, &host, text)?]))
 }
 
 // RFC 1035 section 4.1.4: F.ISI.ARPA in octets.
 #[test]
 fn a_name_in_octets(rt: HostRuntime) -> Result<(), Fail> {
     let alloc = heap(rt.alloc())?;
-    let (host, size) = Name::parse_wire(alloc, b"\x01F\x03ISI\x04ARPA\x00rest")?;
-    assert_eq!(rt; size, 12);
-    assert_eq!(rt; is_named(alloc, &host, b"f.isi.arpa."), Ok(true));
-    assert_eq!(rt; host.as_wire(), b"\x01f\x03isi\x04arpa\x00".as_slice());
-    assert_eq!(rt; is_shown(alloc, &host, "f.isi.arpa."), Ok(true));
+    let plain = b"\x01f\x03isi\x04arpa\x00";
+    let read = read(alloc, b"\x01F\x03ISI\x04ARPA\x00rest", plain, "f.isi.arpa.");
+    assert_eq!(rt; read, Some((12, [true; 3])));
     Ok(())
 }
 
-/// Whether the name of a text is under another name.
-fn is_text_under(alloc: Heap, text: &[u8], above: &Name) -> Result<bool, NameError> {
-    Ok(name(alloc, text)?.is_under(above))
+/// The name of 4321:0:1:2:3:4:567:89ab (RFC 3596 section 2.5).
+const REVERSE: &[u8] = b"b.a.9.8.7.6.5.0.4.0.0.0.3.0.0.0.2.0.0.0.1.0.0.0.0.0.0.0.1.2.3.4.IP6.ARPA.";
+
+/// How many labels and octets the name of a text has, and whether it is shown as another text.
+fn size_and_show(alloc: Heap, text: &[u8], shown: &str) -> Option<(usize, usize, bool)> {
+    let host = name(alloc, text).ok()?;
+    let size = host.as_wire().len();
+    Some((
+        host.lend().label_count(),
+        size,
+        is_shown(alloc, &host, shown)?,
+    ))
 }
 
-/// Whether a name is under that of a text.
-fn is_under_text(alloc: Heap, host: &Name, text: &[u8]) -> Result<bool, NameError> {
-    Ok(host.is_under(&name(alloc, text)?))
-}
-
-// RFC 3596 section 2.5: the name of 4321:0:1:2:3:4:567:89ab.
 #[test]
 fn the_name_of_an_ipv6_address(rt: HostRuntime) -> Result<(), Fail> {
     let alloc = heap(rt.alloc())?;
-    let text = b"b.a.9.8.7.6.5.0.4.0.0.0.3.0.0.0.2.0.0.0.1.0.0.0.0.0.0.0.1.2.3.4.IP6.ARPA.";
     let shown = "b.a.9.8.7.6.5.0.4.0.0.0.3.0.0.0.2.0.0.0.1.0.0.0.0.0.0.0.1.2.3.4.ip6.arpa.";
-    let reverse = name(alloc, text)?;
-    assert_eq!(rt; reverse.lend().label_count(), 34);
-    assert_eq!(rt; reverse.as_wire().len(), 74);
-    assert_eq!(rt; is_under_text(alloc, &reverse, b"ip6.arpa"), Ok(true));
-    assert_eq!(rt; is_shown(alloc, &reverse, shown), Ok(true));
+    assert_eq!(rt; size_and_show(alloc, REVERSE, shown), Some((34, 74, true)));
     Ok(())
 }
 
-/// The wildcard of a name that is short enough to have one.
-fn star_of(alloc: Heap, above: &Name) -> Option<Name> {
+/// Whether the wildcard below the name of a text is that of another text.
+fn is_starred(alloc: Heap, text: &[u8], star: &[u8]) -> Option<bool> {
+    let above = name(alloc, text).ok()?;
     if above.as_wire().len() > 253 {
         return None;
     }
-    above.wildcard_of(alloc).ok()
+    let wildcard = above.wildcard_of(alloc).ok()?;
+    is_named(alloc, &wildcard, star)
 }
 
-// RFC 4592 section 2.2.1: the wildcard and the names beside it.
+/// Whether a text below an origin is the name of another text.
+fn is_below(alloc: Heap, text: &[u8], origin: &[u8], whole: &[u8]) -> Option<bool> {
+    let origin = name(alloc, origin).ok()?;
+    let host = Name::from_text(alloc, text, &origin).ok()?;
+    is_named(alloc, &host, whole)
+}
+
+// RFC 4592 section 2.2.1: the wildcard, and a service of a host, its text below the origin.
 #[test]
-fn a_wildcard(rt: HostRuntime) -> Result<(), Fail> {
+fn names_below_another(rt: HostRuntime) -> Result<(), Fail> {
     let alloc = heap(rt.alloc())?;
-    let example = name(alloc, b"example")?;
-    let star = star_of(alloc, &example).ok_or("a wildcard")?;
-    assert_eq!(rt; is_named(alloc, &star, b"*.Example."), Ok(true));
-    assert!(rt; star.is_under(&example));
-    assert_eq!(rt; is_text_under(alloc, b"sub.*.example.", &star), Ok(true));
-    assert_eq!(rt; is_text_under(alloc, b"host1.example.", &star), Ok(false));
+    let is_starred = is_starred(alloc, b"example", b"*.Example.");
+    let whole = b"_ssh._tcp.host1.example.";
+    let is_below = is_below(alloc, b"_ssh._tcp.host1", b"example", whole);
+    assert_eq!(rt; (is_starred, is_below), (Some(true), Some(true)));
     Ok(())
 }
 
-// RFC 4592 section 2.2.1: a service of a host, its text below the origin.
-#[test]
-fn a_name_below_an_origin(rt: HostRuntime) -> Result<(), Fail> {
-    let alloc = heap(rt.alloc())?;
-    let example = name(alloc, b"example")?;
-    let service = Name::from_text(alloc, b"_ssh._tcp.host1", &example)?;
-    assert_eq!(rt;
-        is_named(alloc, &service, b"_ssh._tcp.host1.example."),
-        Ok(true)
-    );
-    Ok(())
-}
-
-/// The example of the order of names (RFC 4034 section 6.1), of which the names with other octets are left out.
-const ORDER: &[&[u8]] = &[
-    b"example",
-    b"a.example",
-    b"yljkjljk.a.example",
-    b"Z.a.example",
-    b"zABC.a.EXAMPLE",
-    b"z.example",
-    b"*.z.example",
+/// A name, one that comes behind it, and whether that is under it: the example of the order of names (RFC 4034 section 6.1),
+/// of which the names with other octets are left out; a wildcard and names beside it (RFC 4592 section 2.2.1); and the name of
+/// an address.
+const ORDER: &[(&[u8], &[u8], bool)] = &[
+    (b".", b"example", true),
+    (b"example", b"a.example", true),
+    (b"a.example", b"yljkjljk.a.example", true),
+    (b"yljkjljk.a.example", b"Z.a.example", false),
+    (b"Z.a.example", b"zABC.a.EXAMPLE", false),
+    (b"zABC.a.EXAMPLE", b"z.example", false),
+    (b"z.example", b"*.z.example", true),
+    (b"example", b"*.Example.", true),
+    (b"*.Example.", b"sub.*.example.", true),
+    (b"*.Example.", b"host1.example.", false),
+    (b"ip6.arpa", REVERSE, true),
 ];
 
-/// Whether the name of a text comes before that of another.
-fn comes_before(alloc: Heap, first: &[u8], second: &[u8]) -> Result<bool, NameError> {
-    let first = name(alloc, first)?;
-    Ok(first < name(alloc, second)?)
+/// Whether the name of a text comes before that of another, and whether that is under it.
+fn compared(alloc: Heap, first: &[u8], second: &[u8]) -> Option<(bool, bool)> {
+    let first = name(alloc, first).ok()?;
+    let second = name(alloc, second).ok()?;
+    Some((first < second, second.is_under(&first)))
 }
 
-// The root, and the names of the example.
 #[test]
 fn names_in_order(rt: HostRuntime) -> Result<(), Fail> {
     let alloc = heap(rt.alloc())?;
-    let mut last: &[u8] = b".";
-    for text in ORDER {
-        assert_eq!(rt; comes_before(alloc, last, text), Ok(true));
-        last = text;
+    for (first, second, is_under) in ORDER {
+        assert_eq!(rt; compared(alloc, first, second), Some((true, *is_under)));
     }
     Ok(())
 }
@@ -129,15 +131,6 @@ const TEXTS: &[(&[u8], Option<NameError>)] = &[
     (&[b'a'; 63], None),
 ];
 
-#[test]
-fn refused_texts(rt: HostRuntime) -> Result<(), Fail> {
-    let alloc = heap(rt.alloc())?;
-    for (text, error) in TEXTS {
-        assert_eq!(rt; name(alloc, text).err(), *error);
-    }
-    Ok(())
-}
-
 /// Octets, and why they are no names.
 const OCTETS: &[(&[u8], NameError)] = &[
     (b"\x03ab", NameError::Cut),
@@ -146,15 +139,18 @@ const OCTETS: &[(&[u8], NameError)] = &[
 ];
 
 #[test]
-fn refused_octets(rt: HostRuntime) -> Result<(), Fail> {
+fn refused_names(rt: HostRuntime) -> Result<(), Fail> {
     let alloc = heap(rt.alloc())?;
+    for (text, error) in TEXTS {
+        assert_eq!(rt; name(alloc, text).err(), *error);
+    }
     for (octets, error) in OCTETS {
         assert_eq!(rt; Name::parse_wire(alloc, octets).err(), Some(*error));
     }
     Ok(())
 }
 
-/// Octets that are repeated, with others before and behind them.
+/// Octets that are repeated behind others, and an octet behind them.
 fn repeated(
     alloc: Heap,
     first: &[u8],
@@ -171,32 +167,28 @@ fn repeated(
     Ok(all)
 }
 
-/// Whether all of the octets are the name of a text.
-fn is_whole_name(alloc: Heap, octets: &[u8], text: &[u8]) -> Result<bool, NameError> {
-    let (host, size) = Name::parse_wire(alloc, octets)?;
-    Ok(size == octets.len() && host == name(alloc, text)?)
+/// How many octets a name of 127 labels has, how many are read, and whether it is that of a text of as many.
+fn longest(alloc: Heap) -> Option<(usize, usize, bool)> {
+    let octets = repeated(alloc, b"", b"\x01x", 127, b"\x00").ok()?;
+    let text = repeated(alloc, b"", b"x.", 127, b"").ok()?;
+    let (host, size) = Name::parse_wire(alloc, &octets).ok()?;
+    Some((octets.len(), size, is_named(alloc, &host, &text)?))
 }
 
-// A plain form of 255 octets is a name (RFC 1035 section 2.3.4).
+/// How many octets would be a name with one octet more, why they are none, and why a text of 128 labels is none.
+fn too_long(alloc: Heap) -> Option<(usize, [Option<NameError>; 2])> {
+    let octets = repeated(alloc, b"\x02xx", b"\x01x", 126, b"\x00").ok()?;
+    let fault = Name::parse_wire(alloc, &octets).err();
+    let text = repeated(alloc, b"", b"x.", 128, b"").ok()?;
+    Some((octets.len(), [fault, name(alloc, &text).err()]))
+}
+
+// A plain form of 255 octets is a name, and one of 256 is not (RFC 1035 section 2.3.4).
 #[test]
 fn the_longest_name(rt: HostRuntime) -> Result<(), Fail> {
     let alloc = heap(rt.alloc())?;
-    let octets = repeated(alloc, b"", b"\x01x", 127, b"\x00")?;
-    assert_eq!(rt; octets.len(), 255);
-    let text = repeated(alloc, b"", b"x.", 127, b"")?;
-    assert_eq!(rt; is_whole_name(alloc, &octets, &text), Ok(true));
-    Ok(())
-}
-
-// One of 256 is not.
-#[test]
-fn a_name_that_is_too_long(rt: HostRuntime) -> Result<(), Fail> {
-    let alloc = heap(rt.alloc())?;
-    let octets = repeated(alloc, b"\x02xx", b"\x01x", 126, b"\x00")?;
-    assert_eq!(rt; octets.len(), 256);
-    let error = Some(NameError::NameTooLong);
-    assert_eq!(rt; Name::parse_wire(alloc, &octets).err(), error);
-    let text = repeated(alloc, b"", b"x.", 128, b"")?;
-    assert_eq!(rt; name(alloc, &text).err(), error);
+    assert_eq!(rt; longest(alloc), Some((255, 255, true)));
+    let errors = [Some(NameError::NameTooLong); 2];
+    assert_eq!(rt; too_long(alloc), Some((256, errors)));
     Ok(())
 }

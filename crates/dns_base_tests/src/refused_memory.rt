@@ -1,8 +1,9 @@
 //! Memory refused at each call in turn.
 use crate::names::name;
+use crate::records::{naming, start};
 use dns_memory::{Heap, heap};
 use dns_names::{Name, NameError};
-use dns_records::{Mx, RData, Record, RecordError, Soa, Srv};
+use dns_records::{RData, Record, RecordError, types};
 use std::alloc::AllocError;
 use std::test::Fail;
 
@@ -26,51 +27,19 @@ fn name_steps(alloc: Heap) -> Result<(), NameError> {
     Ok(())
 }
 
-/// An exchange, and a copy of it.
-fn exchange_step(alloc: Heap, host: &Name) -> Result<(), AllocError> {
-    let mx = Mx {
-        preference: 10,
-        exchange: host.lend(),
-    };
-    RData::mx(alloc, &mx)?.clone()?;
+/// An exchange and a copy of it, and a service, of a name.
+fn naming_steps(alloc: Heap, host: &Name) -> Result<(), AllocError> {
+    naming(alloc, types::MX, host)?.clone()?;
+    naming(alloc, types::SRV, host)?;
     Ok(())
 }
 
-/// A service.
-fn service_step(alloc: Heap, host: &Name) -> Result<(), AllocError> {
-    let srv = Srv {
-        priority: 0,
-        weight: 1,
-        port: 9,
-        target: host.lend(),
-    };
-    RData::srv(alloc, &srv)?;
-    Ok(())
-}
-
-/// Data of a long name.
-fn data_steps(alloc: Heap) -> Result<(), RecordError> {
-    let Ok(host) = name(alloc, LONG) else {
-        return Err(RecordError::OutOfMemory);
-    };
-    exchange_step(alloc, &host)?;
-    service_step(alloc, &host)?;
-    RData::txt(alloc, &[LONG, LONG])?;
-    Ok(())
-}
-
-/// The data of a SOA whose names are this one.
-fn start_of_zone(alloc: Heap, host: &Name) -> Result<RData, AllocError> {
-    let soa = Soa {
-        mname: host.lend(),
-        rname: host.lend(),
-        serial: 7,
-        refresh: 7200,
-        retry: 900,
-        expire: 1209600,
-        minimum: 300,
-    };
-    RData::soa(alloc, &soa)
+/// A record of a name with the data of a SOA, in plain form.
+fn plain_record(alloc: Heap, host: Name) -> Result<Vec<u8, Heap>, AllocError> {
+    let rdata = start(alloc, &host, &host)?;
+    let mut octets = Vec::new(alloc);
+    Record::new(host, 3600, rdata).to_wire_plain(&mut octets)?;
+    Ok(octets)
 }
 
 /// A record that is read, and a copy of it.
@@ -80,14 +49,14 @@ fn reading_step(alloc: Heap, octets: &[u8]) -> Result<(), RecordError> {
     Ok(())
 }
 
-/// A record of a long name, written, and read.
+/// Data of a name, and a record of it, written and read.
 fn record_steps(alloc: Heap) -> Result<(), RecordError> {
     let Ok(host) = name(alloc, LONG) else {
         return Err(RecordError::OutOfMemory);
     };
-    let rdata = start_of_zone(alloc, &host)?;
-    let mut octets = Vec::new(alloc);
-    Record::new(host, 3600, rdata).to_wire_plain(&mut octets)?;
+    naming_steps(alloc, &host)?;
+    RData::txt(alloc, &[LONG, LONG])?;
+    let octets = plain_record(alloc, host)?;
     reading_step(alloc, &octets)
 }
 
@@ -95,31 +64,15 @@ fn record_steps(alloc: Heap) -> Result<(), RecordError> {
 fn names_that_are_refused_memory(rt: HostRuntime) -> Result<(), Fail> {
     let alloc = heap(rt.alloc())?;
     alloc.refuse(0);
-    name_steps(alloc)?;
+    assert_eq!(rt; name_steps(alloc), Ok(()));
     let calls = alloc.calls();
     assert!(rt; calls > 4);
     for n in 1..=calls {
         alloc.refuse(n);
-        assert_eq!(rt; name_steps(alloc).err(), Some(NameError::OutOfMemory));
+        assert_eq!(rt; name_steps(alloc), Err(NameError::OutOfMemory));
     }
     alloc.refuse(0);
-    name_steps(alloc)?;
-    Ok(())
-}
-
-#[test]
-fn data_that_is_refused_memory(rt: HostRuntime) -> Result<(), Fail> {
-    let alloc = heap(rt.alloc())?;
-    alloc.refuse(0);
-    data_steps(alloc)?;
-    let calls = alloc.calls();
-    assert!(rt; calls > 4);
-    for n in 1..=calls {
-        alloc.refuse(n);
-        assert_eq!(rt; data_steps(alloc).err(), Some(RecordError::OutOfMemory));
-    }
-    alloc.refuse(0);
-    data_steps(alloc)?;
+    assert_eq!(rt; name_steps(alloc), Ok(()));
     Ok(())
 }
 
@@ -127,14 +80,14 @@ fn data_that_is_refused_memory(rt: HostRuntime) -> Result<(), Fail> {
 fn records_that_are_refused_memory(rt: HostRuntime) -> Result<(), Fail> {
     let alloc = heap(rt.alloc())?;
     alloc.refuse(0);
-    record_steps(alloc)?;
+    assert_eq!(rt; record_steps(alloc), Ok(()));
     let calls = alloc.calls();
-    assert!(rt; calls > 4);
+    assert!(rt; calls > 8);
     for n in 1..=calls {
         alloc.refuse(n);
-        assert_eq!(rt; record_steps(alloc).err(), Some(RecordError::OutOfMemory));
+        assert_eq!(rt; record_steps(alloc), Err(RecordError::OutOfMemory));
     }
     alloc.refuse(0);
-    record_steps(alloc)?;
+    assert_eq!(rt; record_steps(alloc), Ok(()));
     Ok(())
 }

@@ -4,19 +4,15 @@ use dns_memory::{Heap, heap};
 use std::alloc::AllocError;
 use std::test::Fail;
 
-/// The messages of the stream of the tests: none of its octets, one, and three.
-const MESSAGES: [&[u8]; 3] = [b"", b"\x07", b"abc"];
-
-/// Those messages behind their lengths, and the front of one more.
+/// A stream with the messages of the tests behind their lengths, none of its octets, one, and three, and the front of one more.
 const STREAM: &[u8] = b"\x00\x00\x00\x01\x07\x00\x03abc\x01\x00de";
 
 /// Whether these are the messages of the stream.
 fn are_messages(octets: &[Octets]) -> bool {
-    octets.len() == MESSAGES.len()
-        && octets
-            .iter()
-            .zip(MESSAGES.iter())
-            .all(|(octets, message)| octets.as_slice() == *message)
+    let [first, second, third] = octets else {
+        return false;
+    };
+    first.is_empty() && second.as_slice() == [7].as_slice() && third.as_slice() == b"abc".as_slice()
 }
 
 /// Puts the messages of one more piece behind the others.
@@ -48,16 +44,6 @@ fn is_read_cut(alloc: Heap, at: usize) -> Result<bool, AllocError> {
     Ok(are_messages(&read_pieces(alloc, &[front, back])?))
 }
 
-// Wherever the stream is cut it has the same messages.
-#[test]
-fn a_stream_cut_at_each_place(rt: HostRuntime) -> Result<(), Fail> {
-    let alloc = heap(rt.alloc())?;
-    for at in 0..=STREAM.len() {
-        assert_eq!(rt; is_read_cut(alloc, at), Ok(true));
-    }
-    Ok(())
-}
-
 /// Whether the stream, fed octet by octet, is read as its messages.
 fn is_read_by_octets(alloc: Heap) -> Result<bool, AllocError> {
     let mut framing = Framing::new(alloc);
@@ -68,32 +54,36 @@ fn is_read_by_octets(alloc: Heap) -> Result<bool, AllocError> {
     Ok(are_messages(&octets))
 }
 
+// Wherever the stream is cut it has the same messages, and so it has octet by octet.
 #[test]
-fn a_stream_octet_by_octet(rt: HostRuntime) -> Result<(), Fail> {
+fn a_stream_in_pieces(rt: HostRuntime) -> Result<(), Fail> {
     let alloc = heap(rt.alloc())?;
+    for at in 0..=STREAM.len() {
+        assert_eq!(rt; is_read_cut(alloc, at), Ok(true));
+    }
     assert_eq!(rt; is_read_by_octets(alloc), Ok(true));
     Ok(())
 }
 
-/// How many octets the messages of the longest one on a stream have, and how many messages those are.
-fn longest(alloc: Heap) -> Result<(usize, usize), AllocError> {
-    let mut message = Vec::with_capacity(alloc, 65535)?;
-    for _ in 0..65535 {
-        message.push(9)?;
-    }
-    let length = if message.len() < 65536 {
-        length_octets(&message)
-    } else {
-        [0, 0]
-    };
+/// The longest message on a stream, behind its length.
+fn longest_stream(alloc: Heap) -> Result<Vec<u8, Heap>, AllocError> {
+    let message = vec![in alloc; 9u8; 65535]?;
     let mut stream = Vec::new(alloc);
-    stream.extend_from_slice(&length)?;
+    if message.len() < 65536 {
+        stream.extend_from_slice(&length_octets(&message))?;
+    }
     stream.extend_from_slice(&message)?;
+    Ok(stream)
+}
+
+/// How many octets the first message of that stream has, and how many messages there are.
+fn longest(alloc: Heap) -> Result<(usize, usize), AllocError> {
+    let stream = longest_stream(alloc)?;
     let octets = read_pieces(alloc, &[stream.as_slice()])?;
-    Ok((
-        octets.first().map_or(0, |octets| octets.len()),
-        octets.len(),
-    ))
+    match octets.first() {
+        Some(first) => Ok((first.len(), octets.len())),
+        None => Ok((0, 0)),
+    }
 }
 
 #[test]
@@ -103,26 +93,31 @@ fn the_longest_message(rt: HostRuntime) -> Result<(), Fail> {
     Ok(())
 }
 
-/// Whether a piece that was refused memory can be given again.
-fn is_read_again(alloc: Heap, n: u64) -> Result<bool, AllocError> {
+/// Whether a piece is refused the n-th allocation, and is read as the messages when it is given again.
+fn is_read_again(alloc: Heap, n: u64) -> Result<(bool, bool), AllocError> {
     let mut framing = Framing::new(alloc);
     alloc.refuse(n);
-    let refused = framing.feed(alloc, STREAM).is_err();
+    let is_refused = framing.feed(alloc, STREAM).is_err();
     alloc.refuse(0);
     let octets = framing.feed(alloc, STREAM)?;
-    Ok(refused && are_messages(&octets))
+    Ok((is_refused, are_messages(&octets)))
+}
+
+/// How many allocations the stream takes as one piece.
+fn calls(alloc: Heap) -> Result<u64, AllocError> {
+    alloc.refuse(0);
+    Framing::new(alloc).feed(alloc, STREAM)?;
+    Ok(alloc.calls())
 }
 
 // Each allocation is refused in turn, and the piece is then given again.
 #[test]
 fn a_piece_that_is_refused_memory(rt: HostRuntime) -> Result<(), Fail> {
     let alloc = heap(rt.alloc())?;
-    alloc.refuse(0);
-    let whole = Framing::new(alloc).feed(alloc, STREAM)?;
-    let calls = alloc.calls();
-    assert!(rt; are_messages(&whole) && calls > 2);
+    let calls = calls(alloc)?;
+    assert!(rt; calls > 2);
     for n in 1..=calls {
-        assert_eq!(rt; is_read_again(alloc, n), Ok(true));
+        assert_eq!(rt; is_read_again(alloc, n), Ok((true, true)));
     }
     Ok(())
 }

@@ -1,32 +1,51 @@
 //! A device in a file of the system.
+use crate::devices::{contents, fails_to_read, read, write};
 use dns_files::FileSectors;
 use dns_sectors::Sectors;
-use std::fs;
+use std::fs::{self, Files};
 use std::test::Fail;
+
+/// Of a device that was made: how many sectors it has, whether its last is written and made durable, and what its second holds.
+fn used<D: Sectors>(device: &mut D) -> (usize, [bool; 2], Option<u8>) {
+    let is_written = write(device, 2, 9);
+    let is_durable = device.sync().is_ok();
+    (device.len(), [is_written, is_durable], read(device, 1))
+}
+
+/// The same of a device that is made, and whether it is locked for as long as it is open.
+fn made<R: Files<File = fs::File>>(files: &R) -> Option<((usize, [bool; 2], Option<u8>), bool)> {
+    let mut device = FileSectors::make(files, "device", 3).ok()?;
+    let used = used(&mut device);
+    Some((used, FileSectors::open(files, "device").is_err()))
+}
+
+/// What that device holds when it is opened again, and how often it failed.
+fn opened<R: Files<File = fs::File>>(files: &R) -> Option<(Option<[u8; 3]>, u64)> {
+    let mut device = FileSectors::open(files, "device").ok()?;
+    Some((contents(&mut device), device.failures()))
+}
 
 #[test]
 fn made_and_opened(rt: HostRuntime) -> Result<(), Fail> {
-    let made = FileSectors::make(&rt, "device", 3);
-    assert!(rt; made.is_ok());
-    if let Ok(mut device) = made {
-        assert_eq!(rt; device.len(), 3);
-        assert!(rt; device.write(2, &[9; 512]).is_ok());
-        assert!(rt; device.sync().is_ok());
-        assert_eq!(rt; device.read(1), Ok([0; 512]));
-        // It is locked for as long as it is open.
-        assert!(rt; FileSectors::open(&rt, "device").is_err());
-    }
+    let used = (3, [true, true], Some(0));
+    assert_eq!(rt; made(&rt), Some((used, true)));
     assert!(rt; FileSectors::make(&rt, "device", 3).is_err());
-    let opened = FileSectors::open(&rt, "device");
-    assert!(rt; opened.is_ok());
-    if let Ok(mut device) = opened {
-        assert_eq!(rt; device.len(), 3);
-        assert_eq!(rt; device.read(2), Ok([9; 512]));
-        assert_eq!(rt; device.read(0), Ok([0; 512]));
-        assert_eq!(rt; device.failures(), 0);
-    }
+    assert_eq!(rt; opened(&rt), Some((Some([0, 0, 9]), 0)));
     assert!(rt; FileSectors::open(&rt, "none").is_err());
     Ok(())
+}
+
+/// What a device of two sectors holds; whether its file is cut behind its back; what its first sector then holds, whether it
+/// fails to read the second, and how often it failed.
+fn cut<R: Files<File = fs::File>>(
+    files: &R,
+) -> Option<(Option<[u8; 2]>, bool, (Option<u8>, bool, u64))> {
+    let mut device = FileSectors::open(files, "even").ok()?;
+    let whole = contents(&mut device);
+    let is_cut = fs::write(files, "even", [1u8; 600]).is_ok();
+    let first = read(&mut device, 0);
+    let fails = fails_to_read(&mut device, 1);
+    Some((whole, is_cut, (first, fails, device.failures())))
 }
 
 #[test]
@@ -34,16 +53,7 @@ fn files_that_others_made(rt: HostRuntime) -> Result<(), Fail> {
     assert!(rt; fs::write(&rt, "odd", [1u8; 513]).is_ok());
     assert!(rt; FileSectors::open(&rt, "odd").is_err());
     assert!(rt; fs::write(&rt, "even", [1u8; 1024]).is_ok());
-    let opened = FileSectors::open(&rt, "even");
-    assert!(rt; opened.is_ok());
-    if let Ok(mut device) = opened {
-        assert_eq!(rt; device.len(), 2);
-        assert_eq!(rt; device.read(1), Ok([1; 512]));
-        // The file is cut behind the device's back.
-        assert!(rt; fs::write(&rt, "even", [1u8; 600]).is_ok());
-        assert_eq!(rt; device.read(0), Ok([1; 512]));
-        assert!(rt; device.read(1).is_err());
-        assert_eq!(rt; device.failures(), 1);
-    }
+    let behind = (Some(1), true, 1);
+    assert_eq!(rt; cut(&rt), Some((Some([1, 1]), true, behind)));
     Ok(())
 }

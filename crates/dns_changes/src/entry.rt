@@ -40,9 +40,11 @@ impl Change {
         let (removed, rest) = split_counted(alloc, rest)?;
         let (added, rest) = split_counted(alloc, rest)?;
         if !rest.is_empty() {
+            drop((old_soa, removed, new_soa, added));
             return Err(ChangeError::BadBytes);
         }
         if !is_formed(&old_soa, &removed, &new_soa, &added) {
+            drop((old_soa, removed, new_soa, added));
             return Err(ChangeError::BadBytes);
         }
         Ok(Change::new(old_soa, removed, new_soa, added))

@@ -114,6 +114,7 @@ pub fn stage<I: ZoneIndex, S: ZoneStore>(
     let _valid = newest(&*zone, &*behind).apex();
     let octets = octets_after(behind.octets, &change);
     if !has_room(behind, &change, &records, octets) {
+        drop((change, records));
         return Err(StagingError::NoRoom);
     }
     let version = next_version(newest(&*zone, &*behind), records)?;

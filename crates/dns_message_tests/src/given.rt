@@ -1,73 +1,52 @@
-//! Records and a zone for tests.
+//! Octets, records and a zone for tests.
 use dns_memory::Heap;
 use dns_names::Name;
-use dns_records::{RData, Record, Soa};
+use dns_records::{RData, Record, types};
 use dns_zone::{RecordList, Zone};
 
-/// Data of a record, the names in a SOA the root.
-#[derive(Clone, Copy)]
-pub(crate) enum Kind {
-    Soa(u32),
-    Ns(&'static [u8]),
-    A(u8),
-}
+/// The data of a SOA with serial 7, the names in it the root.
+pub(crate) const SEVENTH: &[u8] =
+    b"\x00\x00\x00\x00\x00\x07\x00\x00\x00\x01\x00\x00\x00\x01\x00\x00\x00\x01\x00\x00\x00\x01";
 
 /// The records of `example.`: an empty nonterminal stands between `_ssh._tcp.host1` and `host1`.
-const RECORDS: &[(&[u8], Kind)] = &[
-    (b"example.", Kind::Soa(7)),
-    (b"example.", Kind::Ns(b"ns.example.com.")),
-    (b"example.", Kind::Ns(b"ns.example.net.")),
-    (b"host1.example.", Kind::A(1)),
-    (b"_ssh._tcp.host1.example.", Kind::A(2)),
+const RECORDS: &[(&[u8], u16, &[u8])] = &[
+    (b"example.", types::SOA, SEVENTH),
+    (b"example.", types::NS, b"\x02ns\x07example\x03com\x00"),
+    (b"example.", types::NS, b"\x02ns\x07example\x03net\x00"),
+    (b"host1.example.", types::A, b"\xc0\x00\x02\x01"),
+    (b"_ssh._tcp.host1.example.", types::A, b"\xc0\x00\x02\x02"),
 ];
 
+/// The octets of these digits, each part behind the one before it.
+pub(crate) fn octets(alloc: Heap, parts: &[&str]) -> Option<Vec<u8, Heap>> {
+    let mut digits = String::new(alloc);
+    for part in parts {
+        digits.push_str(part).ok()?;
+    }
+    hex::decode(alloc, digits.as_str()).ok()
+}
+
 /// The name of a text, under the root.
-pub(crate) fn name(alloc: Heap, text: &[u8]) -> Option<Name> {
+fn name(alloc: Heap, text: &[u8]) -> Option<Name> {
     Name::from_text(alloc, text, &Name::root(alloc)).ok()
 }
 
-fn soa(alloc: Heap, serial: u32) -> Option<RData> {
-    let root = Name::root(alloc);
-    let soa = Soa {
-        mname: root.lend(),
-        rname: root.lend(),
-        serial,
-        refresh: 1,
-        retry: 1,
-        expire: 1,
-        minimum: 1,
-    };
-    RData::soa(alloc, &soa).ok()
-}
-
-fn ns(alloc: Heap, host: &[u8]) -> Option<RData> {
-    RData::ns(alloc, &name(alloc, host)?).ok()
-}
-
-fn data(alloc: Heap, kind: Kind) -> Option<RData> {
-    match kind {
-        Kind::Soa(serial) => soa(alloc, serial),
-        Kind::Ns(host) => ns(alloc, host),
-        Kind::A(last) => Some(RData::a(alloc, [192, 0, 2, last])),
-    }
-}
-
-/// A record of an owner, a TTL and data.
-pub(crate) fn record(alloc: Heap, owner: &[u8], ttl: u32, kind: Kind) -> Option<Record> {
-    let owner = name(alloc, owner)?;
-    Some(Record::new(owner, ttl, data(alloc, kind)?))
+/// A record of an owner with a TTL of an hour, a type and data.
+pub(crate) fn record(alloc: Heap, owner: &[u8], rtype: u16, octets: &[u8]) -> Option<Record> {
+    let rdata = RData::new(alloc, rtype, octets).ok()?;
+    Some(Record::new(name(alloc, owner)?, 3600, rdata))
 }
 
 fn records(alloc: Heap) -> Option<Vec<Record, Heap>> {
     let mut records = Vec::new(alloc);
-    for (owner, kind) in RECORDS {
-        records.push(record(alloc, owner, 3600, *kind)?).ok()?;
+    for (owner, rtype, octets) in RECORDS {
+        records.push(record(alloc, owner, *rtype, octets)?).ok()?;
     }
     Some(records)
 }
 
 /// The zone of them.
 pub(crate) fn zone(alloc: Heap) -> Option<Zone<RecordList>> {
-    let apex = name(alloc, b"example.")?;
-    Zone::from_records(alloc, apex, records(alloc)?).ok()
+    let records = records(alloc)?;
+    Zone::from_records(alloc, name(alloc, b"example.")?, records).ok()
 }

@@ -6,8 +6,10 @@ use std::alloc::AllocError;
 use std::test::Fail;
 
 // The MX of a synthesised name with the address of its host (RFC 4592 section 2.2.1).
-const REPLY: &str =
-    "00028400000100010000000105686f737433076578616d706c6500000f0001c00c000f000100000e10000a000a05686f737431c012c02d0001000100000e100004c0000201";
+const REPLY: [u8; 69] = *b"\x00\x02\x84\x00\x00\x01\x00\x01\x00\x00\x00\x01\
+\x05host3\x07example\x00\x00\x0f\x00\x01\
+\xc0\x0c\x00\x0f\x00\x01\x00\x00\x0e\x10\x00\x0a\x00\x0a\x05host1\xc0\x12\
+\xc0\x2d\x00\x01\x00\x01\x00\x00\x0e\x10\x00\x04\xc0\x00\x02\x01";
 
 /// The TTLs of a section, one added to the other.
 fn ttls(mut section: Section<'_>) -> u32 {
@@ -89,36 +91,31 @@ pub(crate) fn fault(octets: &[u8]) -> Option<ReadError> {
     Message::read(octets).err()
 }
 
-// A message that is cut anywhere is none.
+/// The reply with an octet more.
+fn longer_reply() -> [u8; 70] {
+    let mut octets = [0; 70];
+    octets[..69].copy_from_slice(&REPLY);
+    octets
+}
+
+// A message that is cut anywhere is none, nor is one with an octet more.
 #[test]
-fn cut_at_each_octet(rt: HostRuntime) -> Result<(), Fail> {
-    let alloc = heap(rt.alloc())?;
-    let octets = hex::decode(alloc, REPLY)?;
-    assert_eq!(rt; fault(&octets), None);
-    for end in 0..octets.len() {
+fn cut_at_each_octet(rt: HostRuntime) {
+    assert_eq!(rt; fault(&REPLY), None);
+    for end in 0..REPLY.len() {
         let wanted = if end < 12 {
             ReadError::Short
         } else {
             ReadError::Cut
         };
-        assert_eq!(rt; fault(&octets[..end]), Some(wanted), "{end}");
+        assert_eq!(rt; fault(&REPLY[..end]), Some(wanted), "{end}");
     }
-    Ok(())
-}
-
-// Nor is one with an octet more.
-#[test]
-fn one_octet_more(rt: HostRuntime) -> Result<(), Fail> {
-    let alloc = heap(rt.alloc())?;
-    let mut octets = hex::decode(alloc, REPLY)?;
-    octets.push(0)?;
-    assert_eq!(rt; fault(&octets), Some(ReadError::Trailing));
-    Ok(())
+    assert_eq!(rt; fault(&longer_reply()), Some(ReadError::Trailing));
 }
 
 /// Whether the reply is still a message when the octet at a place is a count, and whether the count is the true one.
-fn lie(alloc: Heap, at: usize, count: u8) -> Option<(bool, bool)> {
-    let mut octets = hex::decode(alloc, REPLY).ok()?;
+fn lie(at: usize, count: u8) -> Option<(bool, bool)> {
+    let mut octets = REPLY;
     let octet = octets.get_mut(at)?;
     let was = *octet;
     *octet = count;
@@ -128,10 +125,9 @@ fn lie(alloc: Heap, at: usize, count: u8) -> Option<(bool, bool)> {
 // Each count, one too high and one too low.
 #[test]
 fn counts_that_lie(rt: HostRuntime) -> Result<(), Fail> {
-    let alloc = heap(rt.alloc())?;
     for at in [5usize, 7, 9, 11] {
         for count in 0..4u8 {
-            let (is_read, is_true) = lie(alloc, at, count).ok_or("an octet")?;
+            let (is_read, is_true) = lie(at, count).ok_or("an octet")?;
             assert_eq!(rt; is_read, is_true, "{at} {count}");
         }
     }

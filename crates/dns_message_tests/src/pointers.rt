@@ -1,7 +1,7 @@
 //! Names behind pointers.
 use crate::messages::fault;
 use dns_memory::{Heap, heap};
-use dns_names::{Name, NameRef};
+use dns_names::NameRef;
 use dns_wire::{Message, NameView, ReadError};
 use std::alloc::AllocError;
 use std::test::Fail;
@@ -51,10 +51,9 @@ fn two_answers(octets: &[u8], name: &NameRef<'_>) -> Option<(u16, bool, bool)> {
 
 /// How many octets a chain has, and what its answers are.
 fn read_chain(alloc: Heap, pointers: u16) -> Option<(usize, (u16, bool, bool))> {
-    let name = Name::from_text(alloc, b"a.", &Name::root(alloc)).ok()?;
+    let (name, _) = NameRef::first(b"\x01a\x00")?;
     let octets = chain(alloc, pointers).ok()?;
-    let answers = two_answers(&octets, &name.lend())?;
-    Some((octets.len(), answers))
+    Some((octets.len(), two_answers(&octets, &name)?))
 }
 
 // Every length of a chain that a datagram of 512 octets holds.
@@ -76,48 +75,35 @@ fn chains_of_pointers(rt: HostRuntime) -> Result<(), Fail> {
 
 // A pointer to itself, one forward, one into the header, and one beyond the message.
 #[test]
-fn refused_pointers(rt: HostRuntime) -> Result<(), Fail> {
+fn refused_pointers(rt: HostRuntime) {
     for [high, low] in [[0xc0u8, 0x0c], [0xc0, 0x0e], [0xc0, 0x0b], [0xff, 0xff]] {
         let mut octets = *b"\x00\x00\x00\x00\x00\x01\x00\x00\x00\x00\x00\x00..\x00\x01\x00\x01";
         octets[12] = high;
         octets[13] = low;
         assert_eq!(rt; fault(&octets), Some(ReadError::BadPointer));
     }
-    Ok(())
 }
 
 #[test]
-fn reserved_labels(rt: HostRuntime) -> Result<(), Fail> {
+fn reserved_labels(rt: HostRuntime) {
     for first in [64u8, 127, 128, 191] {
         let mut octets = *b"\x00\x00\x00\x00\x00\x01\x00\x00\x00\x00\x00\x00.\x00\x00\x01\x00\x01";
         octets[12] = first;
         assert_eq!(rt; fault(&octets), Some(ReadError::ReservedLabel));
     }
-    Ok(())
 }
 
 /// Octets before a name that has 255 octets in plain form, the name, a pointer to it, a label before such a pointer, and
 /// one before a pointer to the second label.
-fn longest_name(alloc: Heap) -> Result<Vec<u8, Heap>, AllocError> {
-    let mut octets: Vec<u8, Heap> = Vec::new(alloc);
-    octets.extend_from_slice(&[0; 12])?;
-    for size in [63u8, 63, 63, 61] {
-        octets.extend_from_slice(&[size])?;
-        for _ in 0..size {
-            octets.extend_from_slice(b"x")?;
-        }
-    }
-    octets.extend_from_slice(b"\x00\xc0\x0c\x01y\xc0\x0c\x01z\xc0\x4c")?;
-    Ok(octets)
-}
-
-/// The name at an offset.
-fn name_at(alloc: Heap, octets: &[u8], at: usize) -> Option<Name> {
-    if at > octets.len() {
-        return None;
-    }
-    let (name, _) = NameView::read(octets, at).ok()?;
-    name.to_name(alloc).ok()
+fn longest_name() -> [u8; 277] {
+    let mut octets = [b'x'; 277];
+    octets[..12].copy_from_slice(&[0; 12]);
+    octets[12] = 63;
+    octets[76] = 63;
+    octets[140] = 63;
+    octets[204] = 61;
+    octets[266..].copy_from_slice(b"\x00\xc0\x0c\x01y\xc0\x0c\x01z\xc0\x4c");
+    octets
 }
 
 /// Where the name at an offset ends, and whether it is another.
@@ -132,12 +118,9 @@ fn read_at(octets: &[u8], at: usize, name: &NameRef<'_>) -> Result<(usize, bool)
 // A name of 255 octets is read where it stands and behind a pointer; with one label before it it is too long.
 #[test]
 fn the_longest_name_behind_a_pointer(rt: HostRuntime) -> Result<(), Fail> {
-    let alloc = heap(rt.alloc())?;
-    let octets = longest_name(alloc)?;
-    assert_eq!(rt; octets.len(), 277);
-    let longest = name_at(alloc, &octets, 12).ok_or("a name")?;
-    assert_eq!(rt; longest.as_wire().len(), 255);
-    let name = longest.lend();
+    let octets = longest_name();
+    let (name, rest) = NameRef::first(&octets[12..]).ok_or("a name")?;
+    assert_eq!(rt; (name.as_wire().len(), rest.len()), (255, 10));
     assert_eq!(rt; read_at(&octets, 12, &name), Ok((267, true)));
     assert_eq!(rt; read_at(&octets, 267, &name), Ok((269, true)));
     assert_eq!(rt; read_at(&octets, 269, &name), Err(ReadError::NameTooLong));

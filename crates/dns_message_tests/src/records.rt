@@ -1,4 +1,5 @@
 //! Records of messages, copied.
+use crate::given::octets;
 use dns_memory::{Heap, heap};
 use dns_records::RecordError;
 use dns_wire::{Message, RecordView};
@@ -44,8 +45,7 @@ const DATA: &[(&str, &str, Option<RecordError>)] = &[
 
 /// The octets of a response with an answer.
 fn response(alloc: Heap, answer: &str) -> Option<Vec<u8, Heap>> {
-    let digits = format!(in alloc; "{FRONT}{answer}").ok()?;
-    hex::decode(alloc, digits.as_str()).ok()
+    octets(alloc, &[FRONT, answer])
 }
 
 /// The first answer of a message.
@@ -78,13 +78,6 @@ fn data_in_plain_form(rt: HostRuntime) -> Result<(), Fail> {
     Ok(())
 }
 
-/// A response with a text of 4,097 octets.
-fn long_text(alloc: Heap) -> Option<Vec<u8, Heap>> {
-    let mut octets = response(alloc, "0010000100000e101001")?;
-    octets.extend_from_slice(&[0; 4097]).ok()?;
-    Some(octets)
-}
-
 /// How many octets the data of the first answer have, and why it is no record.
 fn length(alloc: Heap, octets: &[u8]) -> Option<(usize, Option<RecordError>)> {
     let answer = first(octets)?;
@@ -92,13 +85,19 @@ fn length(alloc: Heap, octets: &[u8]) -> Option<(usize, Option<RecordError>)> {
     Some((length, answer.to_record(alloc).err()))
 }
 
+/// The same of a response with a text of 4,097 octets.
+fn length_of_text(alloc: Heap) -> Option<(usize, Option<RecordError>)> {
+    let mut octets = response(alloc, "0010000100000e101001")?;
+    octets.extend_from_slice(&[0; 4097]).ok()?;
+    length(alloc, &octets)
+}
+
 // A text of 4,097 octets stands in a message and is none in a record.
 #[test]
 fn data_that_is_too_long(rt: HostRuntime) -> Result<(), Fail> {
     let alloc = heap(rt.alloc())?;
-    let octets = long_text(alloc).ok_or("octets")?;
     let too_long = Some(RecordError::TooLong);
-    assert_eq!(rt; length(alloc, &octets), Some((4097, too_long)));
+    assert_eq!(rt; length_of_text(alloc), Some((4097, too_long)));
     Ok(())
 }
 
@@ -111,21 +110,34 @@ fn two_copies(alloc: Heap, answer: &RecordView<'_>) -> (bool, Option<RecordError
 /// A SOA whose names are pointers.
 const START: &str = "0006000100000e100018c00cc00c0000000100000002000000030000000400000005";
 
+/// Whether each allocation of the two copies is refused.
+fn each_refused(alloc: Heap, answer: &RecordView<'_>) -> bool {
+    alloc.refuse(1);
+    let first = two_copies(alloc, answer);
+    alloc.refuse(0);
+    let whole = two_copies(alloc, answer);
+    let calls = alloc.calls();
+    for n in 1..=calls {
+        alloc.refuse(n);
+        let (is_copied, error) = two_copies(alloc, answer);
+        if is_copied != (error == Some(RecordError::OutOfMemory)) {
+            return false;
+        }
+    }
+    alloc.refuse(0);
+    calls > 0 && first == (false, None) && whole == (true, None)
+}
+
+/// Whether it is so for the answer of a response.
+fn copies_refused(alloc: Heap, answer: &str) -> Option<bool> {
+    let octets = response(alloc, answer)?;
+    Some(each_refused(alloc, &first(&octets)?))
+}
+
 // Each allocation of a copy is refused in turn.
 #[test]
 fn a_copy_that_is_refused_memory(rt: HostRuntime) -> Result<(), Fail> {
     let alloc = heap(rt.alloc())?;
-    let octets = response(alloc, START).ok_or("octets")?;
-    let answer = first(&octets).ok_or("an answer")?;
-    alloc.refuse(1);
-    assert_eq!(rt; two_copies(alloc, &answer), (false, None));
-    alloc.refuse(0);
-    assert_eq!(rt; two_copies(alloc, &answer), (true, None));
-    let calls = alloc.calls();
-    for n in 1..=calls {
-        alloc.refuse(n);
-        let (is_copied, error) = two_copies(alloc, &answer);
-        assert_eq!(rt; is_copied, error == Some(RecordError::OutOfMemory), "{n}");
-    }
+    assert_eq!(rt; copies_refused(alloc, START), Some(true));
     Ok(())
 }

@@ -56,8 +56,13 @@ impl<I: ZoneIndex> Reading<I> {
         ensures refused { IfErr result
             (λ e. (e ≡ Fault.OutOfMemory) ⊎ Refuses apex.now held.now self item.now e) }
     {
-        let r = fit_record(alloc, item)?;
-        self.take(alloc, apex, held, r)
+        match fit_record(alloc, item) {
+            Ok(r) => self.take(alloc, apex, held, r),
+            Err(fault) => {
+                drop(self);
+                Err(fault)
+            }
+        }
     }
 
     /// All records of a section. It stops at the first that is a fault.

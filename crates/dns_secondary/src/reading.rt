@@ -47,7 +47,8 @@ impl<I: ZoneIndex> Reading<I> {
     pub(crate) fn into_set(self) -> I
         ensures { (set : List Stated) → self ≡ Ended set → I.records result ≡ set }
     {
-        let Reading { phase: _phase, set } = self;
+        let Reading { phase, set } = self;
+        drop(phase);
         set
     }
 }

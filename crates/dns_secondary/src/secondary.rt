@@ -110,17 +110,22 @@ impl<I: ZoneIndex> Secondary<I> {
         ensures { IfOk result
             (λ s. s ≡ record { apex = apex; held = held; id = id; transport = transport; state = Some Begun }) }
     {
-        let reading = Reading {
-            phase: Phase::Begun,
-            set: I::empty(alloc)?,
-        };
-        Ok(Secondary {
-            apex,
-            held,
-            id,
-            transport,
-            reading: Some(reading),
-        })
+        match I::empty(alloc) {
+            Ok(set) => Ok(Secondary {
+                apex,
+                held,
+                id,
+                transport,
+                reading: Some(Reading {
+                    phase: Phase::Begun,
+                    set,
+                }),
+            }),
+            Err(error) => {
+                drop((apex, held));
+                Err(error)
+            }
+        }
     }
 
     /// The version that is held: the one that `new` was given, until the answer is at its end.
@@ -254,12 +259,14 @@ impl<I: ZoneIndex> Secondary<I> {
     {
         match self.verdict(&reading) {
             Progress::More => {
-                self.reading = Some(reading);
+                self.reading.insert(reading);
                 Ok(Progress::More)
             }
             Progress::Done => self.finish(reading),
-            Progress::UpToDate => Ok(Progress::UpToDate),
-            Progress::RetryTcp => Ok(Progress::RetryTcp),
+            alone => {
+                drop(reading);
+                Ok(alone)
+            }
         }
     }
 
@@ -303,8 +310,13 @@ impl<I: ZoneIndex> Secondary<I> {
             (λ e. (e ≡ Fault.OutOfMemory) ⊎ RefusesFrom self.old (Some reading) octets.now e) }
         ensures stays { OnErr result (self.new ≡ self.old) }
     {
-        let message = self.accept(octets)?;
-        self.apply(alloc, reading, &message)
+        match self.accept(octets) {
+            Ok(message) => self.apply(alloc, reading, &message),
+            Err(fault) => {
+                drop(reading);
+                Err(fault)
+            }
+        }
     }
 
     /// Reads the next message of the answer, and applies its records as they come. The tests stand in this order:

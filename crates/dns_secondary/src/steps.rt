@@ -1,9 +1,9 @@
 //! One record of an answer applied to the set that was reached.
-ghost use Rattle.std.specs.Prelude.{◌≡◌, ◌⊎◌, ◌==◌, true, Ok, Err, IfOk, IfErr};
+ghost use Rattle.std.specs.Prelude.{◌≡◌, ◌⊎◌, ◌==◌, [], true, Ok, Err, IfOk, IfErr};
 ghost use Rattle.dns_names.specs.Name.{names_eq};
 ghost use Rattle.dns_records.specs.Record.{serial_of};
 ghost use Rattle.dns_zone.specs.Zone.{soas};
-ghost use Rattle.dns_zone.specs.Records.{same};
+ghost use Rattle.dns_zone.specs.Records.{put, same};
 ghost use Rattle.dns_changes.specs.Change.{is_soa};
 ghost use Rattle.dns_secondary.specs.Step.{begin, collect, last, within_whole, remove, removing, add, adding, sequence_from, new_soa, first_sequence, second, step};
 
@@ -15,6 +15,7 @@ use dns_names::Name;
 use dns_records::Record;
 use dns_records::types::SOA;
 use dns_zone::{Zone, ZoneIndex};
+use std::alloc::AllocError;
 
 /// Whether the record is a SOA.
 fn is_soa(r: &Record) -> bool
@@ -53,10 +54,16 @@ fn collect<I: ZoneIndex>(set: I, soa: Record, r: Record) -> Result<Reading<I>, F
     ensures refused { IfErr result (λ e. (e ≡ Fault.OutOfMemory) ⊎ (collect soa (I.records set) r ≡ Err e)) }
 {
     let mut set = set;
-    if !holds_key(&set, &r) {
-        set.insert(r)?;
-    } else if !holds(&set, &r) {
-        return Err(Fault::InvalidZone);
+    if holds_key(&set, &r) {
+        let is_held = holds(&set, &r);
+        drop(r);
+        if !is_held {
+            drop((set, soa));
+            return Err(Fault::InvalidZone);
+        }
+    } else if set.insert(r).is_err() {
+        drop((set, soa));
+        return Err(Fault::OutOfMemory);
     }
     Ok(Reading {
         phase: Phase::Whole(soa),
@@ -115,13 +122,19 @@ fn add<I: ZoneIndex>(set: I, soa: Record, reached: Record, r: Record) -> Result<
 {
     let mut set = set;
     if holds_key(&set, &r) {
+        drop((set, soa, reached, r));
         return Err(Fault::AddsPresent);
     }
-    set.insert(r)?;
-    Ok(Reading {
-        phase: Phase::Adding(soa, reached),
-        set,
-    })
+    match set.insert(r) {
+        Ok(()) => Ok(Reading {
+            phase: Phase::Adding(soa, reached),
+            set,
+        }),
+        Err(_) => {
+            drop((set, soa, reached));
+            Err(Fault::OutOfMemory)
+        }
+    }
 }
 
 /// The SOA with which a sequence is to begin.
@@ -150,10 +163,16 @@ fn renew<I: ZoneIndex>(set: I, soa: Record, r: Record) -> Result<Reading<I>, Fau
     ensures refused { IfErr result (λ e. (e ≡ Fault.OutOfMemory) ⊎ (new_soa soa (I.records set) r ≡ Err e)) }
 {
     if have_one_serial(&r, &soa) & !is_same(&r, &soa) {
+        drop((set, soa, r));
         return Err(Fault::BadSequence);
     }
-    let reached = r.clone()?;
-    add(set, soa, reached, r)
+    match r.clone() {
+        Ok(reached) => add(set, soa, reached, r),
+        Err(_) => {
+            drop((set, soa, r));
+            Err(Fault::OutOfMemory)
+        }
+    }
 }
 
 /// The SOA that marks changes of the version that is held: the first sequence begins with it.
@@ -172,6 +191,15 @@ fn begin_changes<I: ZoneIndex>(zone: &Zone<I>, soa: Record, r: &Record) -> Resul
     begin_sequence(zone.index().fork()?, soa, reached, r)
 }
 
+/// A set of one record.
+fn set_of<I: ZoneIndex>(alloc: Heap, r: &Record) -> Result<I, AllocError>
+    ensures { IfOk result (λ set. I.records set ≡ put r.now []) }
+{
+    let mut set = I::empty(alloc)?;
+    set.insert(r.clone()?)?;
+    Ok(set)
+}
+
 /// The record behind the SOA that leads.
 fn second<I: ZoneIndex>(
     alloc: Heap,
@@ -186,12 +214,18 @@ fn second<I: ZoneIndex>(
 {
     if let Some(zone) = held {
         if is_soa(&r) {
-            return begin_changes(zone, soa, &r);
+            let begun = begin_changes(zone, soa, &r);
+            drop(r);
+            return begun;
         }
     }
-    let mut set = I::empty(alloc)?;
-    set.insert(soa.clone()?)?;
-    go_on(set, soa, r)
+    match set_of(alloc, &soa) {
+        Ok(set) => go_on(set, soa, r),
+        Err(_) => {
+            drop((soa, r));
+            Err(Fault::OutOfMemory)
+        }
+    }
 }
 
 /// The first record, which is to be a SOA of the zone.
@@ -236,9 +270,13 @@ fn go_on_adding<I: ZoneIndex>(
         return add(set, soa, reached, r);
     }
     if have_one_serial(&reached, &soa) {
-        return end(set, &soa, &r);
+        let ended = end(set, &soa, &r);
+        drop((soa, reached, r));
+        return ended;
     }
-    begin_sequence(set, soa, &reached, &r)
+    let begun = begin_sequence(set, soa, &reached, &r);
+    drop((reached, r));
+    begun
 }
 
 impl<I: ZoneIndex> Reading<I> {

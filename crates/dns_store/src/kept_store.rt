@@ -124,13 +124,16 @@ impl<D: Sectors + Drop, I: ZoneIndex> ZoneStore for KeptStore<D, I> {
 
     fn stage(&mut self, change: Change) -> Result<(), StageError> {
         if self.journal.is_closed() {
+            drop(change);
             return Err(StageError::Closed);
         }
         if self.journal.newest() == u64::MAX {
+            drop(change);
             return Err(StageError::Full);
         }
         let sectors = entry_sectors(change.encoded_len());
         if sectors > self.journal.left() {
+            drop(change);
             return Err(StageError::Full);
         }
         self.changes.reserve(1).map_err(AllocError::from)?;
@@ -139,7 +142,10 @@ impl<D: Sectors + Drop, I: ZoneIndex> ZoneStore for KeptStore<D, I> {
                 self.changes.push_reserved(change);
                 Ok(())
             }
-            Err(error) => Err(error),
+            Err(error) => {
+                drop(change);
+                Err(error)
+            }
         }
     }
 

@@ -22,6 +22,23 @@ use dns_sectors::Sectors;
 use dns_zone::{Zone, ZoneIndex};
 use std::alloc::AllocError;
 
+// The zone that a change makes of another; an error other than `OutOfMemory` where it makes none.
+fn next_by<I: ZoneIndex>(zone: &Zone<I>, change: &Change) -> Result<Zone<I>, ChangeError>
+    ensures found { IfOk result (λ next. (applied change.now zone.now.records ≡ next.records)
+        × (next.apex ≡ zone.now.apex) × IsZone next) }
+    ensures only { (after : List Stated) → IsChange zone.now.records after change.now
+        → IsZone (record { apex = zone.now.apex; records = after })
+        → MatchResult result (λ next. next.records ≡ after) (λ e. e ≡ ChangeError.OutOfMemory) }
+{
+    let apex = zone.apex().clone()?;
+    let mut set = zone.index().fork()?;
+    change.apply(&mut set)?;
+    match next_zone(apex, set, change) {
+        Ok(next) => Ok(next),
+        Err(error) => Err(error),
+    }
+}
+
 // The change with these octets, and the zone that it makes of another; an error other than `OutOfMemory` where there is
 // no such change, or it makes no zone.
 fn take_step<I: ZoneIndex>(
@@ -36,10 +53,7 @@ fn take_step<I: ZoneIndex>(
         → MatchResult result (λ r. (r.0 ≡ c) × (r.1.records ≡ after)) (λ e. e ≡ ChangeError.OutOfMemory) }
 {
     let change = Change::decode(alloc, octets)?;
-    let apex = zone.apex().clone()?;
-    let mut set = zone.index().fork()?;
-    change.apply(&mut set)?;
-    match next_zone(apex, set, &change) {
+    match next_by(zone, &change) {
         Ok(next) => Ok((change, next)),
         Err(error) => Err(error),
     }

@@ -1,7 +1,7 @@
 //! Devices on which no store is made, or that hold none, or another one; and what memory is refused.
 use crate::stores::{
-    APEX, JOURNAL, SECTORS, SNAPSHOT, fresh, made, make, name, refusal, shared_plan, sized,
-    snapshot, stage, zone,
+    APEX, Device, JOURNAL, SECTORS, SNAPSHOT, enter, fresh, made, make, name, refusal, shared_plan,
+    sized, snapshot_len, stage, store_of, zone,
 };
 use dns_layout::{Apex, Bank, Root};
 use dns_memory::{Heap, heap};
@@ -10,25 +10,32 @@ use dns_store::{FormatError, KeptStore, OpenError, ZoneStore, format, open};
 use dns_zone::RecordList;
 use std::test::Fail;
 
-/// What is said to so many sectors, a zone with a text of that many octets, and these sizes; nothing is pending behind it.
+/// What is said to a device, a zone with a text of so many octets, and these sizes.
+fn told_to(
+    heap: Heap,
+    device: &mut Device,
+    text: usize,
+    parts: u32,
+    entries: u32,
+) -> Option<Result<(), FormatError>> {
+    let zone = zone(heap, text)?;
+    Some(format(heap, device, &zone, parts, entries))
+}
+
+/// The same of so many sectors, and how many writes are pending behind it.
 fn told(
     heap: Heap,
     size: usize,
     text: usize,
     parts: u32,
     entries: u32,
-) -> Option<Result<(), FormatError>> {
+) -> Option<(Option<Result<(), FormatError>>, usize)> {
     let mut device = sized(heap, size)?;
-    let zone = zone(heap, text)?;
-    let told = format(heap, &mut device, &zone, parts, entries);
-    if device.pending() == 0 {
-        Some(told)
-    } else {
-        None
-    }
+    let told = told_to(heap, &mut device, text, parts, entries);
+    Some((told, device.pending()))
 }
 
-/// A device that the sizes don't fit, sizes out of range, and a zone that is too large.
+/// A device that the sizes don't fit, sizes out of range, and a zone that is too large; nothing is pending behind it.
 #[test]
 fn sizes(rt: HostRuntime) -> Result<(), Fail> {
     let heap = heap(rt.alloc())?;
@@ -50,29 +57,36 @@ fn sizes(rt: HostRuntime) -> Result<(), Fail> {
     ] {
         assert_eq!(rt;
             told(heap, size, text, parts, entries),
-            Some(said),
+            Some((Some(said), 0)),
             "{size} sectors, {text} octets"
         );
     }
     Ok(())
 }
 
-/// What is said of a device on which a store was to be made while memory was refused.
-fn without_memory(heap: Heap) -> Option<(Result<(), FormatError>, Option<OpenError>)> {
-    let mut device = sized(heap, SECTORS)?;
+/// What is said where a store is to be made while memory is refused.
+fn told_without_memory(heap: Heap, device: &mut Device) -> Option<Result<(), FormatError>> {
     let zone = zone(heap, 0)?;
     heap.refuse(1);
-    let told = format(heap, &mut device, &zone, SNAPSHOT, JOURNAL);
+    let told = format(heap, device, &zone, SNAPSHOT, JOURNAL);
     heap.refuse(0);
+    Some(told)
+}
+
+/// The same, and what is said of that device.
+fn without_memory(heap: Heap) -> Option<(Option<Result<(), FormatError>>, Option<OpenError>)> {
+    let mut device = sized(heap, SECTORS)?;
+    let told = told_without_memory(heap, &mut device);
     Some((told, refusal(heap, device.crash(Keep::All))))
 }
 
 #[test]
 fn memory(rt: HostRuntime) -> Result<(), Fail> {
     let heap = heap(rt.alloc())?;
+    let refused = Some(Err(FormatError::OutOfMemory));
     assert_eq!(rt;
         without_memory(heap),
-        Some((Err(FormatError::OutOfMemory), Some(OpenError::Blank)))
+        Some((refused, Some(OpenError::Blank)))
     );
     Ok(())
 }
@@ -81,11 +95,9 @@ fn memory(rt: HostRuntime) -> Result<(), Fail> {
 fn left(heap: Heap, size: usize) -> Option<(usize, usize)> {
     let mut store = fresh(heap)?;
     let before = store.left();
-    let staged = stage(heap, &mut store, 1, size)?;
-    if staged {
-        Some((before, store.left()))
-    } else {
-        Some((before, before))
+    match stage(heap, &mut store, 1, size) {
+        Some(_) => Some((before, store.left())),
+        None => None,
     }
 }
 
@@ -99,31 +111,47 @@ fn entries(rt: HostRuntime) -> Result<(), Fail> {
     Ok(())
 }
 
-/// What is said of the store of version 0, as if it had been opened so often; where it is opened, of that device again.
-fn worn(heap: Heap, open_count: u64) -> Option<OpenError> {
-    let mut device = made(heap, shared_plan(heap)?)?;
-    let root = Root {
+/// The root of the store of version 0, as if it had been opened so often.
+fn root(heap: Heap, open_count: u64) -> Option<Root> {
+    Some(Root {
         open_count,
         base: 0,
         bank: Bank::Zero,
         bank_open: 0,
-        snapshot_length: u32::try_from(snapshot(heap)?.len()).ok()?,
+        snapshot_length: u32::try_from(snapshot_len(heap)?).ok()?,
         snapshot_room: SNAPSHOT,
         journal_room: JOURNAL,
         apex: Apex::new(APEX)?,
-    };
+    })
+}
+
+/// Puts that root on a device.
+fn write_root(heap: Heap, device: &mut Device, open_count: u64) -> Option<()> {
+    let root = root(heap, open_count)?;
     if device.len() == 0 {
         return None;
     }
-    device.write(0, &root.encode()).ok()?;
-    refusal(heap, device)
+    device.write(0, &root.encode()).ok()
+}
+
+/// What is said of the store of version 0, as if it had been opened so often.
+fn worn(heap: Heap, open_count: u64) -> Option<Option<OpenError>> {
+    let mut device = made(heap, shared_plan(heap)?)?;
+    match write_root(heap, &mut device, open_count) {
+        Some(()) => Some(refusal(heap, device)),
+        None => None,
+    }
 }
 
 #[test]
 fn opened_too_often(rt: HostRuntime) -> Result<(), Fail> {
     let heap = heap(rt.alloc())?;
-    assert_eq!(rt; worn(heap, u64::MAX - 1), None);
-    assert_eq!(rt; worn(heap, u64::MAX), Some(OpenError::Damaged(0)));
+    for (open_count, said) in [
+        (u64::MAX - 1, None),
+        (u64::MAX, Some(OpenError::Damaged(0))),
+    ] {
+        assert_eq!(rt; worn(heap, open_count), Some(said));
+    }
     Ok(())
 }
 
@@ -135,49 +163,73 @@ fn said_of_zeros(heap: Heap, sectors: usize) -> Option<OpenError> {
 #[test]
 fn no_store(rt: HostRuntime) -> Result<(), Fail> {
     let heap = heap(rt.alloc())?;
-    assert_eq!(rt; said_of_zeros(heap, 0), Some(OpenError::Geometry));
-    assert_eq!(rt; said_of_zeros(heap, 1), Some(OpenError::Blank));
-    assert_eq!(rt; said_of_zeros(heap, SECTORS), Some(OpenError::Blank));
+    for (sectors, said) in [
+        (0, OpenError::Geometry),
+        (1, OpenError::Blank),
+        (SECTORS, OpenError::Blank),
+    ] {
+        assert_eq!(rt;
+            said_of_zeros(heap, sectors),
+            Some(said),
+            "{sectors} sectors"
+        );
+    }
     Ok(())
 }
 
 /// What is said to another name or other sizes.
-fn asked(heap: Heap, octets: &[u8], parts: u32, entries: u32) -> Option<OpenError> {
-    let device = made(heap, shared_plan(heap)?)?;
+fn asked(heap: Heap, octets: &[u8], parts: u32, entries: u32) -> Option<Option<OpenError>> {
     let apex = name(heap, octets)?;
+    let device = made(heap, shared_plan(heap)?)?;
     let told: Result<(KeptStore<_, RecordList>, _), _> = open(heap, device, &apex, parts, entries);
-    Some(told.err()?.1)
+    match told {
+        Ok(_) => Some(None),
+        Err((_, error)) => Some(Some(error)),
+    }
 }
 
 #[test]
 fn another_store(rt: HostRuntime) -> Result<(), Fail> {
     let heap = heap(rt.alloc())?;
-    assert_eq!(rt; asked(heap, APEX, 2, 8), None);
     let other = Some(OpenError::Geometry);
-    assert_eq!(rt; asked(heap, b"\x04tint\0", 2, 8), other);
-    assert_eq!(rt; asked(heap, b"\0", 2, 8), other);
-    assert_eq!(rt; asked(heap, APEX, 1, 9), other);
-    assert_eq!(rt; asked(heap, APEX, 2, 9), other);
-    assert_eq!(rt; asked(heap, APEX, 65537, 8), other);
+    for (octets, parts, entries, said) in [
+        (APEX, 2, 8, None),
+        (b"\x04tint\0", 2, 8, other),
+        (b"\0", 2, 8, other),
+        (APEX, 1, 9, other),
+        (APEX, 2, 9, other),
+        (APEX, 65537, 8, other),
+    ] {
+        assert_eq!(rt;
+            asked(heap, octets, parts, entries),
+            Some(said),
+            "{parts} and {entries} sectors"
+        );
+    }
     Ok(())
 }
 
-/// A store that is made over another: its entries don't come back.
-fn made_again(heap: Heap) -> Option<Result<u64, OpenError>> {
+/// A device with a store that is made over another of version 1.
+fn made_again(heap: Heap) -> Option<Device> {
     let mut first = fresh(heap)?;
-    stage(heap, &mut first, 1, 20)?;
-    first.flush().ok()?;
+    let is_entered = enter(heap, &mut first, 1, 20);
     let mut device = first.into_device();
-    make(heap, &mut device)?.ok()?;
-    match crate::stores::opened(heap, device) {
-        Ok(found) => Some(Ok(found.store.newest())),
-        Err((_, error)) => Some(Err(error)),
+    if is_entered && make(heap, &mut device) == Some(Ok(())) {
+        Some(device)
+    } else {
+        None
     }
 }
 
+/// The newest version of that store.
+fn newest_again(heap: Heap) -> Option<u64> {
+    Some(store_of(heap, made_again(heap)?)?.newest())
+}
+
+/// A store that is made over another: its entries don't come back.
 #[test]
 fn made_over_another(rt: HostRuntime) -> Result<(), Fail> {
     let heap = heap(rt.alloc())?;
-    assert_eq!(rt; made_again(heap), Some(Ok(0)));
+    assert_eq!(rt; newest_again(heap), Some(0));
     Ok(())
 }

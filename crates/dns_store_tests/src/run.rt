@@ -1,13 +1,16 @@
 //! One run of a store, over another: it is made, opened, three updates are flushed, and a checkpoint is made; with the last
 //! operation, and what is kept of the pending writes, chosen.
-use crate::stores::{Device, OpenStore, Store, made, make, opened, shared_plan, stage};
+use crate::stores::{
+    Device, OpenStore, Store, enter, made, make, opened, shared_plan, stage, store_of,
+};
 use dns_memory::Heap;
 use dns_sectors::{Keep, Plan};
 use dns_store::{OpenError, ZoneStore};
+use dns_zone::ZoneIndex;
 use std::rc::Rc;
 
 /// What a device opens as: no store, or a version and its base.
-#[derive(Clone, Copy, Debug, PartialEq, Eq)]
+#[derive(Clone, Copy, PartialEq)]
 pub(crate) enum Found {
     Blank,
     Version(u64, u64),
@@ -15,34 +18,41 @@ pub(crate) enum Found {
 
 /// A device with the store of version 1, all of it durable.
 fn old(heap: Heap, plan: Rc<Plan, Heap>) -> Option<Device> {
-    let mut found = opened(heap, made(heap, plan)?).ok()?;
-    stage(heap, &mut found.store, 1, 20)?;
-    found.store.flush().ok()?;
-    Some(found.store.into_device().crash(Keep::These(&[])))
+    let mut store = store_of(heap, made(heap, plan)?)?;
+    let is_entered = enter(heap, &mut store, 1, 20);
+    let device = store.into_device().crash(Keep::These(&[]));
+    if is_entered { Some(device) } else { None }
 }
 
 /// Three updates with entries of one, three and one sectors are flushed, and a checkpoint keeps the newest two; up to the first
 /// that fails.
-fn update(heap: Heap, store: Store) -> Option<Device> {
-    let mut store = store;
-    stage(heap, &mut store, 1, 20)?;
-    stage(heap, &mut store, 2, 1300)?;
-    stage(heap, &mut store, 3, 30)?;
-    if store.flush().is_ok() {
-        let _told = store.checkpoint(2, 0);
+fn update(heap: Heap, store: &mut Store) -> Option<()> {
+    stage(heap, store, 1, 20)?;
+    stage(heap, store, 2, 1300)?;
+    stage(heap, store, 3, 30)?;
+    store.flush().ok()?;
+    store.checkpoint(2, 0).ok()
+}
+
+/// The store is opened and updated, up to the first operation that fails.
+fn open_and_update(heap: Heap, device: Device) -> Device {
+    match opened(heap, device) {
+        Ok(found) => {
+            let mut store = found.store;
+            let _told = update(heap, &mut store);
+            store.into_device()
+        }
+        Err((device, _)) => device,
     }
-    Some(store.into_device())
 }
 
 /// The run over the old store, up to the first operation that fails.
-fn steps(heap: Heap, device: Device) -> Option<Device> {
+fn steps(heap: Heap, device: Device) -> Device {
     let mut device = device;
-    if make(heap, &mut device)?.is_err() {
-        return Some(device);
-    }
-    match opened(heap, device) {
-        Ok(found) => update(heap, found.store),
-        Err((device, _)) => Some(device),
+    if make(heap, &mut device) == Some(Ok(())) {
+        open_and_update(heap, device)
+    } else {
+        device
     }
 }
 
@@ -52,7 +62,7 @@ fn stopped(heap: Heap, plan: &Rc<Plan, Heap>, n: u64) -> Option<Device> {
     plan.stop_at(n);
     let left = steps(heap, device);
     plan.reset();
-    left
+    Some(left)
 }
 
 /// How many ways of keeping pending writes are tried: every sublist of up to eight, above that none, all, each alone, and all
@@ -103,18 +113,26 @@ pub(crate) fn choices_at(heap: Heap, n: u64) -> Option<usize> {
 
 /// The device that the run leaves whose n-th operation is the last, where this choice is kept.
 fn left(heap: Heap, plan: &Rc<Plan, Heap>, n: u64, choice: usize) -> Option<Device> {
-    let device = stopped(heap, plan, n)?;
-    crashed(heap, device, choice)
+    crashed(heap, stopped(heap, plan, n)?, choice)
 }
 
 /// The version that was found and its base, where the two zones that are lent have as many records as those of these numbers.
 fn version_of(found: &OpenStore) -> Option<Found> {
     let newest = found.store.newest();
     let base = newest.checked_sub(found.store.changes().len() as u64)?;
-    let records = found.newest.records().count() as u64;
-    let records_before = found.store.base().records().count() as u64;
+    let records = found.records as u64;
+    let records_before = found.store.base().index().len() as u64;
     if records.checked_sub(2) == Some(newest) && records_before.checked_sub(2) == Some(base) {
         Some(Found::Version(newest, base))
+    } else {
+        None
+    }
+}
+
+/// What was found where no store was opened.
+fn refused(error: OpenError) -> Option<Found> {
+    if error == OpenError::Blank {
+        Some(Found::Blank)
     } else {
         None
     }
@@ -124,28 +142,31 @@ fn version_of(found: &OpenStore) -> Option<Found> {
 fn found_on(heap: Heap, device: Device) -> Option<Found> {
     match opened(heap, device) {
         Ok(found) => version_of(&found),
-        Err((_, error)) => if error == OpenError::Blank {
-            Some(Found::Blank)
-        } else {
-            None
-        },
+        Err((_, error)) => refused(error),
+    }
+}
+
+/// The version that is found behind one more update, which is flushed.
+fn next_version(heap: Heap, found: &mut OpenStore) -> Option<Found> {
+    let Found::Version(newest, base) = version_of(found)? else {
+        return None;
+    };
+    let serial = u8::try_from(newest).ok()?.checked_add(1)?;
+    if enter(heap, &mut found.store, serial, 25) {
+        Some(Found::Version(u64::from(serial), base))
+    } else {
+        None
     }
 }
 
 /// One more update is flushed behind what was found, and then it is what a crash leaves: what was lost doesn't come back.
 fn goes_on(heap: Heap, found: OpenStore) -> Option<Found> {
     let mut found = found;
-    let told = version_of(&found)?;
-    let Found::Version(newest, base) = told else {
-        return None;
-    };
-    let serial = u8::try_from(newest).ok()?.checked_add(1)?;
-    stage(heap, &mut found.store, serial, 25)?;
-    found.store.flush().ok()?;
+    let told = version_of(&found);
+    let next = next_version(heap, &mut found);
     let device = found.store.into_device().crash(Keep::These(&[]));
-    let again = found_on(heap, device)?;
-    if again == Found::Version(u64::from(serial), base) {
-        Some(told)
+    if next.is_some() && found_on(heap, device) == next {
+        told
     } else {
         None
     }
@@ -156,11 +177,7 @@ pub(crate) fn first_found(heap: Heap, n: u64, choice: usize) -> Option<Found> {
     let plan = shared_plan(heap)?;
     match opened(heap, left(heap, &plan, n, choice)?) {
         Ok(found) => goes_on(heap, found),
-        Err((_, error)) => if error == OpenError::Blank {
-            Some(Found::Blank)
-        } else {
-            None
-        },
+        Err((_, error)) => refused(error),
     }
 }
 
@@ -185,6 +202,5 @@ pub(crate) fn second_found(
 ) -> Option<Found> {
     let plan = shared_plan(heap)?;
     let device = stopped_opening(heap, &plan, left(heap, &plan, n, choice)?, m);
-    let device = crashed(heap, device, then)?;
-    found_on(heap, device)
+    found_on(heap, crashed(heap, device, then)?)
 }

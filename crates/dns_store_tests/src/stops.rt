@@ -4,11 +4,7 @@ use dns_memory::{Heap, heap};
 use std::test::Fail;
 
 /// The operation that was the last, and which of the pending writes were kept.
-#[derive(Clone, Copy, Debug, PartialEq, Eq)]
-struct Case {
-    operation: u64,
-    choice: usize,
-}
+type Case = (u64, usize);
 
 /// What may be found where the n-th operation is the last. The store is made by the blank root and a sync, the twenty sectors
 /// behind it and a sync, the root and a sync; opened by a sync, the root and a sync; flushed by two bodies and a sync, three
@@ -27,12 +23,13 @@ fn is_allowed(n: u64, found: Found) -> bool {
 
 /// Whether an opening that is stopped leaves what it found. Of no store it is a sync alone.
 fn stays(heap: Heap, case: Case, found: Found) -> bool {
+    let (operation, choice) = case;
     let stops = if found == Found::Blank { 1 } else { 6 };
     for (m, then) in [(1, 0), (2, 0), (2, 1), (3, 0), (3, 1), (4, 0)]
         .iter()
         .take(stops)
     {
-        if second_found(heap, case.operation, case.choice, *m, *then) != Some(found) {
+        if second_found(heap, operation, choice, *m, *then) != Some(found) {
             return false;
         }
     }
@@ -40,8 +37,9 @@ fn stays(heap: Heap, case: Case, found: Found) -> bool {
 }
 
 fn is_right(heap: Heap, case: Case) -> bool {
-    match first_found(heap, case.operation, case.choice) {
-        Some(found) => is_allowed(case.operation, found) && stays(heap, case, found),
+    let (operation, choice) = case;
+    match first_found(heap, operation, choice) {
+        Some(found) => is_allowed(operation, found) && stays(heap, case, found),
         None => false,
     }
 }
@@ -51,7 +49,7 @@ fn count(heap: Heap, from: u64, until: u64) -> Result<u32, Case> {
     let mut cases = 0u32;
     for operation in from..until {
         for choice in 0..choices_at(heap, operation).unwrap_or(1) {
-            let case = Case { operation, choice };
+            let case = (operation, choice);
             if !is_right(heap, case) {
                 return Err(case);
             }

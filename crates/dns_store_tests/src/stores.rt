@@ -5,7 +5,7 @@ use dns_names::Name;
 use dns_records::Record;
 use dns_sectors::{Keep, MemorySectors, Plan};
 use dns_store::{FormatError, KeptStore, OpenError, ZoneStore, format, open};
-use dns_zone::{RecordList, Zone};
+use dns_zone::{RecordList, Zone, ZoneIndex};
 use std::rc::Rc;
 
 pub(crate) const APEX: &[u8] = b"\x04tiny\0";
@@ -21,11 +21,11 @@ pub(crate) type Device = MemorySectors;
 
 pub(crate) type Store = KeptStore<MemorySectors, RecordList>;
 
-/// The store of a device, and the newest version.
+/// The store of a device, and how many records the newest version has.
 #[derive(Drop)]
 pub(crate) struct OpenStore {
     pub(crate) store: Store,
-    pub(crate) newest: Zone<RecordList>,
+    pub(crate) records: usize,
 }
 
 pub(crate) fn shared_plan(heap: Heap) -> Option<Rc<Plan, Heap>> {
@@ -42,18 +42,37 @@ pub(crate) fn name(heap: Heap, octets: &[u8]) -> Option<Name> {
     Some(name)
 }
 
-/// Puts a record in plain form at the end.
-pub(crate) fn push_record(
-    octets: &mut Vec<u8, Heap>,
-    owner: &[u8],
-    rtype: u8,
-    rdata: &[u8],
-) -> Option<()> {
-    let size = u16::try_from(rdata.len()).ok()?;
+/// Puts a record in plain form at the end, up to its data, which has that size.
+fn push_head(octets: &mut Vec<u8, Heap>, owner: &[u8], rtype: u8, size: usize) -> Option<()> {
+    let size = u16::try_from(size).ok()?;
     octets.extend_from_slice(owner).ok()?;
     octets.extend_from_slice(&[0, rtype, 0, 0, 14, 16]).ok()?;
-    octets.extend_from_slice(&size.to_be_bytes()).ok()?;
+    octets.extend_from_slice(&size.to_be_bytes()).ok()
+}
+
+/// Puts a record in plain form at the end.
+fn push_record(octets: &mut Vec<u8, Heap>, owner: &[u8], rtype: u8, rdata: &[u8]) -> Option<()> {
+    push_head(octets, owner, rtype, rdata.len())?;
     octets.extend_from_slice(rdata).ok()
+}
+
+/// Puts a TXT record in plain form at the end, with so many octets of data: strings of 255 octets, and one of what is left.
+pub(crate) fn push_text(
+    octets: &mut Vec<u8, Heap>,
+    owner: &[u8],
+    serial: u8,
+    size: usize,
+) -> Option<()> {
+    push_head(octets, owner, 16, size)?;
+    for at in 0..size {
+        let octet = if at % 256 == 0 {
+            ((size - at).min(256) - 1) as u8
+        } else {
+            b'a' + serial % 16
+        };
+        octets.push(octet).ok()?;
+    }
+    Some(())
 }
 
 /// The SOA with this serial.
@@ -65,42 +84,40 @@ fn push_soa(octets: &mut Vec<u8, Heap>, serial: u8) -> Option<()> {
 }
 
 /// The snapshot of version 0: an NS and a SOA.
-pub(crate) fn snapshot(heap: Heap) -> Option<Vec<u8, Heap>> {
-    let mut octets = Vec::new(heap);
-    push_record(&mut octets, APEX, 2, b"\x02ns\x04tiny\0")?;
-    push_soa(&mut octets, 0)?;
-    Some(octets)
+fn push_snapshot(octets: &mut Vec<u8, Heap>) -> Option<()> {
+    push_record(octets, APEX, 2, b"\x02ns\x04tiny\0")?;
+    push_soa(octets, 0)
 }
 
-/// TXT data of so many octets: strings of 255 octets, and one of what is left.
-pub(crate) fn text(heap: Heap, serial: u8, size: usize) -> Option<Vec<u8, Heap>> {
-    let mut rdata = Vec::new(heap);
-    for at in 0..size {
-        let octet = if at % 256 == 0 {
-            ((size - at).min(256) - 1) as u8
-        } else {
-            b'a' + serial % 16
-        };
-        rdata.push(octet).ok()?;
+/// How many octets that has.
+pub(crate) fn snapshot_len(heap: Heap) -> Option<usize> {
+    let mut octets = Vec::new(heap);
+    push_snapshot(&mut octets)?;
+    Some(octets.len())
+}
+
+/// The records of version 0, with a TXT record with so many octets of data, if any.
+fn push_zone(octets: &mut Vec<u8, Heap>, size: usize) -> Option<()> {
+    push_snapshot(octets)?;
+    if size > 0 {
+        push_text(octets, APEX, 0, size)?;
     }
-    Some(rdata)
+    Some(())
 }
 
 /// The entry of the change to the version with this serial, which adds a TXT record with so many octets of data. It has 124
 /// octets more.
-fn entry(heap: Heap, serial: u8, size: usize) -> Option<Vec<u8, Heap>> {
-    let rdata = text(heap, serial, size)?;
-    let mut octets = Vec::new(heap);
-    push_soa(&mut octets, serial.saturating_sub(1))?;
-    push_soa(&mut octets, serial)?;
+fn push_entry(octets: &mut Vec<u8, Heap>, serial: u8, size: usize) -> Option<()> {
+    push_soa(octets, serial.saturating_sub(1))?;
+    push_soa(octets, serial)?;
     octets.extend_from_slice(&[0, 0, 0, 0, 0, 0, 0, 1]).ok()?;
-    push_record(&mut octets, APEX, 16, &rdata)?;
-    Some(octets)
+    push_text(octets, APEX, serial, size)
 }
 
 /// That change.
-pub(crate) fn change(heap: Heap, serial: u8, size: usize) -> Option<Change> {
-    let octets = entry(heap, serial, size)?;
+fn change(heap: Heap, serial: u8, size: usize) -> Option<Change> {
+    let mut octets = Vec::new(heap);
+    push_entry(&mut octets, serial, size)?;
     Change::decode(heap, &octets).ok()
 }
 
@@ -110,24 +127,13 @@ pub(crate) fn stage(heap: Heap, store: &mut Store, serial: u8, size: usize) -> O
     Some(store.stage(change).is_ok())
 }
 
-/// Version 0, with a TXT record with so many octets of data, if any.
-pub(crate) fn zone(heap: Heap, size: usize) -> Option<Zone<RecordList>> {
-    let mut octets = snapshot(heap)?;
-    if size > 0 {
-        push_record(&mut octets, APEX, 16, &text(heap, 0, size)?)?;
-    }
-    zone_of(heap, APEX, &octets)
+/// Stages and flushes it, and says whether both were done.
+pub(crate) fn enter(heap: Heap, store: &mut Store, serial: u8, size: usize) -> bool {
+    stage(heap, store, serial, size) == Some(true) && store.flush().is_ok()
 }
 
-/// The zone whose records have these plain forms.
-pub(crate) fn zone_of(heap: Heap, apex: &[u8], octets: &[u8]) -> Option<Zone<RecordList>> {
-    let records = records(heap, octets)?;
-    Zone::from_records(heap, name(heap, apex)?, records).ok()
-}
-
-/// The records whose plain forms the octets are.
-fn records(heap: Heap, octets: &[u8]) -> Option<Vec<Record, Heap>> {
-    let mut records = Vec::new(heap);
+/// Puts the records behind others whose plain forms the octets are.
+fn push_records(heap: Heap, records: &mut Vec<Record, Heap>, octets: &[u8]) -> Option<()> {
     let mut rest = octets;
     for _i in 0..octets.len() {
         if rest.is_empty() {
@@ -137,7 +143,21 @@ fn records(heap: Heap, octets: &[u8]) -> Option<Vec<Record, Heap>> {
         records.push(record).ok()?;
         rest = behind;
     }
-    Some(records)
+    Some(())
+}
+
+/// The zone whose records have these plain forms.
+pub(crate) fn zone_of(heap: Heap, apex: &[u8], octets: &[u8]) -> Option<Zone<RecordList>> {
+    let mut records = Vec::new(heap);
+    push_records(heap, &mut records, octets)?;
+    Zone::from_records(heap, name(heap, apex)?, records).ok()
+}
+
+/// Version 0, with a TXT record with so many octets of data, if any.
+pub(crate) fn zone(heap: Heap, size: usize) -> Option<Zone<RecordList>> {
+    let mut octets = Vec::new(heap);
+    push_zone(&mut octets, size)?;
+    zone_of(heap, APEX, &octets)
 }
 
 /// Makes the store of version 0, and says what came of it.
@@ -149,26 +169,38 @@ pub(crate) fn make(heap: Heap, device: &mut Device) -> Option<Result<(), FormatE
 /// A device with the store of version 0, all of it durable.
 pub(crate) fn made(heap: Heap, plan: Rc<Plan, Heap>) -> Option<Device> {
     let mut device = MemorySectors::new(heap, SECTORS, 128, plan).ok()?;
-    make(heap, &mut device)?.ok()?;
-    Some(device.crash(Keep::These(&[])))
+    if matches!(make(heap, &mut device), Some(Ok(()))) {
+        Some(device.crash(Keep::These(&[])))
+    } else {
+        None
+    }
 }
 
 /// What the device with that apex and these sizes opens as.
 pub(crate) fn opened(heap: Heap, device: Device) -> Result<OpenStore, (Device, OpenError)> {
     match name(heap, APEX) {
         Some(apex) => {
-            let (store, newest) = open(heap, device, &apex, SNAPSHOT, JOURNAL)?;
-            Ok(OpenStore { store, newest })
+            let (store, newest): (Store, Zone<RecordList>) = open(
+                heap, device, &apex, SNAPSHOT, JOURNAL,
+            )?;
+            let records = newest.index().len();
+            Ok(OpenStore { store, records })
         }
         None => Err((device, OpenError::OutOfMemory)),
     }
 }
 
+/// The store of the device.
+pub(crate) fn store_of(heap: Heap, device: Device) -> Option<Store> {
+    match opened(heap, device) {
+        Ok(found) => Some(found.store),
+        Err(_) => None,
+    }
+}
+
 /// The store of version 0.
 pub(crate) fn fresh(heap: Heap) -> Option<Store> {
-    let device = made(heap, shared_plan(heap)?)?;
-    let found = opened(heap, device).ok()?;
-    Some(found.store)
+    store_of(heap, made(heap, shared_plan(heap)?)?)
 }
 
 /// What is said where the device isn't opened; nothing is pending on it then.

@@ -197,17 +197,20 @@ fn add<I: ZoneIndex>(set: &mut I, come: Record) -> Result<(), AllocError>
 {
     if come.rtype() == CNAME {
         if owns_other(set, &come.owner().lend(), CNAME) {
+            drop(come);
             return Ok(());
         }
         return replace(set, come);
     }
     if owns_type(set, &come.owner().lend(), CNAME) {
+        drop(come);
         return Ok(());
     }
     if come.rtype() == SOA {
         if succeeds_one(set, &come) {
             return replace(set, come);
         }
+        drop(come);
         return Ok(());
     }
     put_in(set, come)

@@ -1,48 +1,29 @@
-//! Records for tests.
+//! Names and records for tests, of which there are none where memory is refused.
 use dns_memory::Heap;
 use dns_names::Name;
-use dns_records::{RData, Record, Soa};
-use std::test::Fail;
+use dns_records::{RData, Record};
 
-/// The name of a text, under the root.
-pub(crate) fn name(heap: Heap, text: &[u8]) -> Result<Name, Fail> {
-    Ok(Name::from_text(heap, text, &Name::root(heap))?)
+/// The name of a plain form (RFC 1035 section 3.1).
+pub(crate) fn name(heap: Heap, octets: &[u8]) -> Option<Name> {
+    let (name, _) = Name::parse_wire(heap, octets).ok()?;
+    Some(name)
 }
 
-/// Data of a record, its names the root.
-#[derive(Clone, Copy)]
-pub(crate) enum Kind {
-    Soa(u32),
-    Ns,
-    Cname,
-    A(u8),
+fn data(heap: Heap, rtype: u16, octets: &[u8]) -> Option<RData> {
+    RData::new(heap, rtype, octets).ok()
 }
 
-fn soa(heap: Heap, serial: u32) -> Result<RData, Fail> {
-    let root = Name::root(heap);
-    let soa = Soa {
-        mname: root.lend(),
-        rname: root.lend(),
-        serial,
-        refresh: 1,
-        retry: 1,
-        expire: 1,
-        minimum: 1,
-    };
-    Ok(RData::soa(heap, &soa)?)
-}
-
-fn data(heap: Heap, kind: Kind) -> Result<RData, Fail> {
-    let root = Name::root(heap);
-    match kind {
-        Kind::Soa(serial) => soa(heap, serial),
-        Kind::Ns => Ok(RData::ns(heap, &root)?),
-        Kind::Cname => Ok(RData::cname(heap, &root)?),
-        Kind::A(last) => Ok(RData::a(heap, [192, 0, 2, last])),
+/// A record of an owner, a TTL, a type and data, the owner and the data in plain form.
+pub(crate) fn record(
+    heap: Heap,
+    owner: &[u8],
+    ttl: u32,
+    rtype: u16,
+    rdata: &[u8],
+) -> Option<Record> {
+    let data = data(heap, rtype, rdata)?;
+    match name(heap, owner) {
+        Some(owner) => Some(Record::new(owner, ttl, data)),
+        None => None,
     }
-}
-
-/// A record of an owner, a TTL and data.
-pub(crate) fn record(heap: Heap, owner: &[u8], ttl: u32, kind: Kind) -> Result<Record, Fail> {
-    Ok(Record::new(name(heap, owner)?, ttl, data(heap, kind)?))
 }

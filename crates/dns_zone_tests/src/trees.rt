@@ -1,141 +1,143 @@
 //! Shared trees: forks, refused memory, many names and many labels.
-use crate::given::{Kind, name, record};
+use crate::given::{name, record};
 use dns_memory::{Heap, heap};
 use dns_names::Name;
-use dns_records::{RData, Record};
-use dns_zone::laws::{Command, Reply, run_index};
+use dns_records::Record;
+use dns_records::types::A;
 use dns_zone::{Match, Records, ZoneIndex};
 use dns_zoneindex::SharedTree;
+use std::cmp::Ordering;
 use std::test::Fail;
+
+const APEX: &[u8] = b"\x07example\0";
 
 /// Owners of eleven records: an apex with three, wildcards, a host, services below names without records, and a delegation (RFC 4592
 /// section 2.2.1).
 const OWNERS: [&[u8]; 11] = [
-    b"example.",
-    b"example.",
-    b"example.",
-    b"*.example.",
-    b"*.example.",
-    b"sub.*.example.",
-    b"host1.example.",
-    b"_ssh._tcp.host1.example.",
-    b"_ssh._tcp.host2.example.",
-    b"subdel.example.",
-    b"subdel.example.",
+    APEX,
+    APEX,
+    APEX,
+    b"\x01*\x07example\0",
+    b"\x01*\x07example\0",
+    b"\x03sub\x01*\x07example\0",
+    b"\x05host1\x07example\0",
+    b"\x04_ssh\x04_tcp\x05host1\x07example\0",
+    SERVICE,
+    b"\x06subdel\x07example\0",
+    b"\x06subdel\x07example\0",
 ];
 
-fn example(heap: Heap) -> Result<SharedTree, Fail> {
-    let mut tree: SharedTree = ZoneIndex::empty(heap)?;
+/// An owner that has only names without records above it, up to the apex.
+const SERVICE: &[u8] = b"\x04_ssh\x04_tcp\x05host2\x07example\0";
+
+/// An address of an owner.
+fn address(heap: Heap, owner: &[u8], last: u8) -> Option<Record> {
+    record(heap, owner, 3600, A, &[192, 0, 2, last])
+}
+
+fn insert_all(heap: Heap, tree: &mut SharedTree) -> Option<()> {
     let mut last = 0u8;
     for owner in OWNERS {
         last = last.wrapping_add(1);
-        tree.insert(record(heap, owner, 3600, Kind::A(last))?)?;
+        tree.insert(address(heap, owner, last)?).ok()?;
     }
-    Ok(tree)
+    Some(())
 }
 
-/// Copies of the records, in order.
-fn walked(heap: Heap, tree: &SharedTree) -> Result<Vec<Record, Heap>, Fail> {
-    let mut records = Vec::new(heap);
+fn example(heap: Heap) -> Option<SharedTree> {
+    let mut tree: SharedTree = ZoneIndex::empty(heap).ok()?;
+    match insert_all(heap, &mut tree) {
+        Some(()) => Some(tree),
+        None => None,
+    }
+}
+
+/// Whether a walk of each has the same records.
+fn are_alike(tree: &SharedTree, other: &SharedTree) -> bool {
+    let mut others = Records::of(other);
     for record in Records::of(tree) {
-        records.push(record.clone()?)?;
-    }
-    Ok(records)
-}
-
-/// Whether a walk of each tree has these records.
-fn are_walked(heap: Heap, trees: &[&SharedTree; 2], records: &[Record]) -> Result<bool, Fail> {
-    Ok(
-        walked(heap, trees[0])?.as_slice() == records
-            && walked(heap, trees[1])?.as_slice() == records,
-    )
-}
-
-/// Whether a name of the text exists.
-fn has(heap: Heap, tree: &SharedTree, text: &[u8]) -> Result<bool, Fail> {
-    Ok(tree.exists(&name(heap, text)?.lend()))
-}
-
-/// Removes all records but the apex's. Answers whether each was there.
-fn remove_others(tree: &mut SharedTree, all: &[Record], apex: &Name) -> Result<bool, Fail> {
-    for record in all {
-        if *record.owner() != *apex && !tree.remove(record)? {
-            return Ok(false);
+        match others.next() {
+            Some(other) if record == other => {}
+            _ => return false,
         }
     }
-    Ok(true)
+    others.next().is_none()
 }
 
-/// Whether the fork has all records and the names above them, when all but the apex's are removed from its source.
-fn keeps(
+/// Whether the name exists.
+fn has(heap: Heap, tree: &SharedTree, octets: &[u8]) -> Option<bool> {
+    Some(tree.exists(&name(heap, octets)?.lend()))
+}
+
+/// How many records the name owns.
+fn owned(heap: Heap, tree: &SharedTree, octets: &[u8]) -> Option<usize> {
+    Some(tree.records_at(&name(heap, octets)?.lend()).len())
+}
+
+/// Takes the record out, and says whether it was there.
+fn remove(tree: &mut SharedTree, record: &Record) -> bool {
+    match tree.remove(record) {
+        Ok(found) => found,
+        Err(_) => false,
+    }
+}
+
+/// Removes all records of the other but the apex's, and says whether each was there.
+fn remove_others(tree: &mut SharedTree, other: &SharedTree) -> bool {
+    for record in Records::of(other) {
+        if record.owner().as_wire() != APEX && !remove(tree, record) {
+            return false;
+        }
+    }
+    true
+}
+
+/// A tree, a fork of it, and the same set made anew, which shares nothing with them.
+#[derive(Drop)]
+struct Forked {
+    source: SharedTree,
+    fork: SharedTree,
+    anew: SharedTree,
+}
+
+fn fork_example(heap: Heap) -> Option<Forked> {
+    let source = example(heap)?;
+    let fork = source.fork().ok()?;
+    let anew = example(heap)?;
+    Some(Forked { source, fork, anew })
+}
+
+/// Whether a service's name exists in the fork, whether in the source, and how many records the source has, and its apex.
+fn what_is_left(
     heap: Heap,
-    source: &mut SharedTree,
+    source: &SharedTree,
     fork: &SharedTree,
-    all: &[Record],
-    apex: &Name,
-) -> Result<bool, Fail> {
-    if !remove_others(source, all, apex)? || walked(heap, fork)?.as_slice() != all {
-        return Ok(false);
-    }
-    let service = b"_tcp.host1.example.";
-    if !has(heap, fork, service)? || has(heap, source, service)? {
-        return Ok(false);
-    }
-    let left = walked(heap, source)?;
-    Ok(left.as_slice() == source.records_at(&apex.lend()) && left.len() == 3)
+) -> Option<(bool, bool, usize, usize)> {
+    let service = name(heap, b"\x04_tcp\x05host1\x07example\0")?;
+    let in_fork = fork.exists(&service.lend());
+    let in_source = source.exists(&service.lend());
+    Some((in_fork, in_source, source.len(), owned(heap, source, APEX)?))
 }
 
-/// The same of a fork of a tree.
-fn forks(heap: Heap, source: &mut SharedTree) -> Result<bool, Fail> {
-    let apex = name(heap, b"example.")?;
-    let fork = source.fork()?;
-    let all = walked(heap, source)?;
-    keeps(heap, source, &fork, all.as_slice(), &apex)
+/// The same where all records but the apex's are removed from the source, and the fork keeps all.
+fn left_by_removals(heap: Heap) -> Option<(bool, bool, usize, usize)> {
+    let Forked {
+        mut source,
+        fork,
+        anew,
+    } = fork_example(heap)?;
+    if remove_others(&mut source, &anew) && are_alike(&fork, &anew) {
+        what_is_left(heap, &source, &fork)
+    } else {
+        None
+    }
 }
 
 // A fork keeps what its source loses: all records but the apex's are removed from the source.
 #[test]
 fn a_fork_keeps_what_its_source_loses(rt: HostRuntime) -> Result<(), Fail> {
     let heap = heap(rt.alloc())?;
-    let mut source = example(heap)?;
-    let kept = forks(heap, &mut source);
-    assert!(rt; kept? && source.len() == 3);
-    Ok(())
-}
-
-/// The removal of each record that is not of that name, as a call.
-fn removals(heap: Heap, tree: &SharedTree, apex: &Name) -> Result<Vec<Command, Heap>, Fail> {
-    let mut commands = Vec::new(heap);
-    for record in walked(heap, tree)? {
-        if *record.owner() != *apex {
-            commands.push(Command::Remove(record))?;
-        }
-    }
-    Ok(commands)
-}
-
-/// Whether each reply is that a record was found.
-fn are_found(replies: &[Reply]) -> bool {
-    replies.iter().all(|reply| match reply {
-        Reply::Found(found) => *found,
-        _ => false,
-    })
-}
-
-/// Whether the calls find what they remove, and leave three records and no host.
-fn are_removed(heap: Heap, tree: SharedTree, commands: &[Command]) -> Result<bool, Fail> {
-    let (left, replies) = run_index(heap, tree, commands)?;
-    Ok(are_found(&replies) && left.len() == 3 && !has(heap, &left, b"host1.example.")?)
-}
-
-// The same by calls: each removal is of a record that is there, and the set that is left has the apex's.
-#[test]
-fn removals_by_calls(rt: HostRuntime) -> Result<(), Fail> {
-    let heap = heap(rt.alloc())?;
-    let tree = example(heap)?;
-    let commands = removals(heap, &tree, &name(heap, b"example.")?)?;
-    assert!(rt; commands.len() == 8);
-    assert!(rt; are_removed(heap, tree.fork()?, &commands)? && tree.len() == 11);
+    assert_eq!(rt; left_by_removals(heap), Some((true, false, 3, 3)));
     Ok(())
 }
 
@@ -150,110 +152,113 @@ enum Write {
     Replacement,
 }
 
+fn insert_short(heap: Heap, tree: &mut SharedTree, n: u64) -> Option<bool> {
+    let added = address(heap, b"\x01a\x01b\x01c\x07example\0", 1)?;
+    heap.refuse(n);
+    Some(tree.insert(added).is_ok())
+}
+
+fn remove_short(heap: Heap, tree: &mut SharedTree, n: u64) -> Option<bool> {
+    let gone = address(heap, SERVICE, 9)?;
+    heap.refuse(n);
+    Some(remove(tree, &gone))
+}
+
+fn replace_short(heap: Heap, tree: &mut SharedTree, n: u64) -> Option<bool> {
+    let emptied = name(heap, b"\x05host1\x07example\0")?;
+    heap.refuse(n);
+    Some(tree.replace_at(&emptied.lend(), Vec::new(heap)).is_ok())
+}
+
 /// Makes the write where the allocation of that number is refused, and says whether it was made.
-fn write_short(heap: Heap, tree: &mut SharedTree, write: Write, n: u64) -> Result<bool, Fail> {
-    match write {
-        Write::Insertion => {
-            let added = record(heap, b"a.b.c.example.", 60, Kind::A(1))?;
-            heap.refuse(n);
-            Ok(tree.insert(added).is_ok())
-        }
-        Write::Removal => {
-            let gone = record(heap, b"_ssh._tcp.host2.example.", 3600, Kind::A(9))?;
-            heap.refuse(n);
-            Ok(tree.remove(&gone).is_ok_and(|found| found))
-        }
-        Write::Replacement => {
-            let emptied = name(heap, b"host1.example.")?;
-            heap.refuse(n);
-            Ok(tree.replace_at(&emptied.lend(), Vec::new(heap)).is_ok())
-        }
-    }
+fn write_short(heap: Heap, tree: &mut SharedTree, write: Write, n: u64) -> Option<bool> {
+    let is_made = match write {
+        Write::Insertion => insert_short(heap, tree, n),
+        Write::Removal => remove_short(heap, tree, n),
+        Write::Replacement => replace_short(heap, tree, n),
+    };
+    heap.refuse(0);
+    is_made
 }
 
-/// How many allocations of the write are refused, each in turn, and leave tree and fork as they were; none where one does not.
-fn refusals(
-    heap: Heap,
-    tree: &mut SharedTree,
-    fork: &SharedTree,
-    write: Write,
-    before: &[Record],
-) -> Result<Option<u64>, Fail> {
+/// How many allocations of the write are refused, each in turn, and leave tree and fork as they were; the fork stays so behind the
+/// write too.
+fn refusals(heap: Heap, trees: &mut Forked, write: Write) -> Option<u64> {
     for n in 1..200u64 {
-        let is_made = write_short(heap, tree, write, n);
-        heap.refuse(0);
-        if is_made? {
-            return Ok(Some(n - 1));
+        let is_made = write_short(heap, &mut trees.source, write, n)?;
+        if !are_alike(&trees.fork, &trees.anew) {
+            return None;
         }
-        if !are_walked(heap, &[tree, fork], before)? {
-            return Ok(None);
+        if is_made {
+            return Some(n - 1);
+        }
+        if !are_alike(&trees.source, &trees.anew) {
+            return None;
         }
     }
-    Ok(None)
+    None
 }
 
-/// The same of the example, where the fork stays as it was behind the write too, and how many records the tree has then.
-fn refused(heap: Heap, tree: &mut SharedTree, write: Write) -> Result<(u64, usize), Fail> {
-    let fork = tree.fork()?;
-    let before = walked(heap, tree)?;
-    match refusals(heap, tree, &fork, write, before.as_slice())? {
-        Some(count) if walked(heap, &fork)? == before => Ok((count, tree.len())),
-        _ => Err(Fail::from("a refused write left a change")),
+/// The same of the example, with how many records the tree has then, and whether a name exists.
+fn refused(heap: Heap, write: Write, octets: &[u8]) -> Option<(u64, usize, bool)> {
+    let mut trees = fork_example(heap)?;
+    let refusals = refusals(heap, &mut trees, write)?;
+    Some((
+        refusals,
+        trees.source.len(),
+        has(heap, &trees.source, octets)?,
+    ))
+}
+
+// Each allocation is refused in turn, of an insertion below names that don't exist, of a removal, and of a replacement of all that
+// a name owns: tree and fork stay as they are. Above the removed record no name is left, and below the replaced one is another.
+#[test]
+fn writes_that_are_refused_memory(rt: HostRuntime) -> Result<(), Fail> {
+    let heap = heap(rt.alloc())?;
+    for (write, fewest, octets, left, exists) in [
+        (
+            Write::Insertion,
+            5,
+            b"\x01b\x01c\x07example\0".as_slice(),
+            12,
+            true,
+        ),
+        (Write::Removal, 3, b"\x05host2\x07example\0", 10, false),
+        (Write::Replacement, 3, b"\x05host1\x07example\0", 10, true),
+    ] {
+        let (refusals, len, has) = refused(heap, write, octets).unwrap_or((0, 0, false));
+        assert!(rt;
+            refusals >= fewest && len == left && has == exists,
+            "{refusals} refusals"
+        );
     }
-}
-
-// Each allocation of an insertion below names that don't exist is refused in turn: tree and fork stay as they are.
-#[test]
-fn an_insertion_that_is_refused_memory(rt: HostRuntime) -> Result<(), Fail> {
-    let heap = heap(rt.alloc())?;
-    let mut tree = example(heap)?;
-    let (refusals, len) = refused(heap, &mut tree, Write::Insertion)?;
-    assert!(rt; refusals > 4 && len == 12, "{refusals} refusals");
     Ok(())
 }
 
-// Each allocation of a removal is refused in turn.
-#[test]
-fn a_removal_that_is_refused_memory(rt: HostRuntime) -> Result<(), Fail> {
-    let heap = heap(rt.alloc())?;
-    let mut tree = example(heap)?;
-    let (refusals, len) = refused(heap, &mut tree, Write::Removal)?;
-    assert!(rt; refusals > 2 && len == 10, "{refusals} refusals");
-    assert!(rt; !has(heap, &tree, b"host2.example.")?);
-    Ok(())
-}
-
-// Each allocation of a replacement of all that a name owns is refused in turn.
-#[test]
-fn a_replacement_that_is_refused_memory(rt: HostRuntime) -> Result<(), Fail> {
-    let heap = heap(rt.alloc())?;
-    let mut tree = example(heap)?;
-    let (refusals, len) = refused(heap, &mut tree, Write::Replacement)?;
-    assert!(rt; refusals > 2 && len == 10, "{refusals} refusals");
-    assert!(rt; has(heap, &tree, b"host1.example.")?);
-    Ok(())
-}
-
-/// The name of a number under the apex.
-fn host(heap: Heap, number: u32) -> Result<Name, Fail> {
-    let text = format!(in heap; "h{number}.example.")?;
-    name(heap, text.as_bytes())
+/// The plain form of the name of a number under the apex.
+fn host(number: u32) -> [u8; 14] {
+    let digits = b"0123456789abcdef";
+    let mut octets = *b"\x04----\x07example\0";
+    for i in 0..4usize {
+        octets[i + 1] = digits[(number >> (4 * i) & 15) as usize];
+    }
+    octets
 }
 
 /// Inserts 65,536 names under one apex, in an order that is none.
-fn insert_many(heap: Heap, tree: &mut SharedTree) -> Result<(), Fail> {
+fn insert_many(heap: Heap, tree: &mut SharedTree) -> Option<()> {
     for i in 0..65536u32 {
         let number = i.wrapping_mul(40503) & 65535;
-        let data = RData::a(heap, number.to_be_bytes());
-        tree.insert(Record::new(host(heap, number)?, 60, data))?;
+        let added = record(heap, &host(number), 60, A, &number.to_be_bytes())?;
+        tree.insert(added).ok()?;
     }
-    Ok(())
+    Some(())
 }
 
 /// Whether the name of a number is found, with its record.
-fn is_found(heap: Heap, tree: &SharedTree, apex: &Name, number: u32) -> Result<bool, Fail> {
-    let owner = host(heap, number)?;
-    Ok(match tree.find_node(&apex.lend(), &owner.lend()) {
+fn is_found(heap: Heap, tree: &SharedTree, apex: &Name, number: u32) -> Option<bool> {
+    let owner = name(heap, &host(number))?;
+    Some(match tree.find_node(&apex.lend(), &owner.lend()) {
         Match::Name(owned) => {
             owned.len() == 1 && owned[0].rdata() == number.to_be_bytes().as_slice()
         }
@@ -261,60 +266,70 @@ fn is_found(heap: Heap, tree: &SharedTree, apex: &Name, number: u32) -> Result<b
     })
 }
 
-/// The first number whose name is not found.
-fn first_lost(heap: Heap, tree: &SharedTree) -> Result<Option<u32>, Fail> {
-    let apex = name(heap, b"example.")?;
+/// How many names are found, up to the first that is not.
+fn found(heap: Heap, tree: &SharedTree) -> Option<u32> {
+    let apex = name(heap, APEX)?;
     for number in 0..65536u32 {
         if !is_found(heap, tree, &apex, number)? {
-            return Ok(Some(number));
+            return Some(number);
         }
     }
-    Ok(None)
+    Some(65536)
 }
 
-/// Whether the walk has all in order, and all but one can be removed.
-fn can_be_removed(heap: Heap, tree: &mut SharedTree) -> Result<bool, Fail> {
-    let all = walked(heap, tree)?;
-    if all.len() != 65536 || !all.as_slice().is_sorted_by(|a, b| a.compare(b).is_lt()) {
-        return Ok(false);
-    }
-    for record in &all[1..] {
-        if !tree.remove(record)? {
-            return Ok(false);
+/// Removes all but the first of the records of the fork, and says how many there are, where they rise and each was there.
+fn remove_all_but_one(tree: &mut SharedTree, fork: &SharedTree) -> Option<u32> {
+    let mut last: Option<&Record> = None;
+    let mut count = 0u32;
+    for record in Records::of(fork) {
+        if let Some(last) = last {
+            if last.compare(record) != Ordering::Less || !remove(tree, record) {
+                return None;
+            }
         }
+        last = Some(record);
+        count = count.wrapping_add(1);
     }
-    Ok(true)
+    Some(count)
 }
 
-/// The same where a fork keeps all.
-fn can_be_removed_beside(heap: Heap, tree: &mut SharedTree) -> Result<bool, Fail> {
-    let fork = tree.fork()?;
-    Ok(can_be_removed(heap, tree)? && fork.len() == 65536)
+/// How many names are found, how many are walked over, and how many the tree and a fork of it have behind the removals.
+fn counts(heap: Heap, tree: &mut SharedTree) -> Option<(u32, u32, usize, usize)> {
+    insert_many(heap, tree)?;
+    let found = found(heap, tree)?;
+    let fork = tree.fork().ok()?;
+    let walked = remove_all_but_one(tree, &fork)?;
+    Some((found, walked, tree.len(), fork.len()))
 }
 
-// 65,536 names under one apex: each is found, the walk has them all in order, and all but one can be removed.
+/// The same of a tree that is empty at first.
+fn counts_of_many(heap: Heap) -> Option<(u32, u32, usize, usize)> {
+    let mut tree: SharedTree = ZoneIndex::empty(heap).ok()?;
+    counts(heap, &mut tree)
+}
+
+// 65,536 names under one apex: each is found, the walk has them all in order, and all but one can be removed, beside a fork that
+// keeps all.
 #[test]
 fn many_names_under_one_apex(rt: HostRuntime) -> Result<(), Fail> {
     let heap = heap(rt.alloc())?;
-    let mut tree: SharedTree = ZoneIndex::empty(heap)?;
-    insert_many(heap, &mut tree)?;
-    let lost = first_lost(heap, &tree)?;
-    assert!(rt; lost.is_none(), "{lost:?} is not found");
-    assert!(rt; can_be_removed_beside(heap, &mut tree)? && tree.len() == 1);
+    assert_eq!(rt; counts_of_many(heap), Some((65536, 65536, 1, 65536)));
     Ok(())
 }
 
-/// The name of 127 labels.
-fn long_name(heap: Heap) -> Result<Name, Fail> {
-    let mut text: Vec<u8, Heap> = Vec::new(heap);
-    for _ in 0..127 {
-        text.extend_from_slice(b"a.")?;
+/// The plain form of the name of 127 labels.
+fn long_name() -> [u8; 255] {
+    let mut octets = [0; 255];
+    for i in 0..127usize {
+        octets[2 * i] = 1;
+        octets[2 * i + 1] = b'a';
     }
-    name(heap, text.as_slice())
+    octets
 }
 
 /// How many names exist, of a name and those above it but the root.
-fn existing(tree: &SharedTree, owner: &Name) -> u8 {
+fn existing(heap: Heap, tree: &SharedTree, octets: &[u8]) -> Option<u8> {
+    let owner = name(heap, octets)?;
     let mut here = owner.lend();
     let mut count = 0u8;
     for _ in 0..127u8 {
@@ -326,27 +341,40 @@ fn existing(tree: &SharedTree, owner: &Name) -> u8 {
             None => break,
         }
     }
-    count
+    Some(count)
 }
 
-/// Whether the record of a name is the only one, and leaves no name behind when it is removed.
-fn is_alone(heap: Heap, tree: &mut SharedTree, owner: &Name) -> Result<bool, Fail> {
-    let all = walked(heap, tree)?;
-    let is_one = all.as_slice() == tree.records_at(&owner.lend()) && all.len() == 1;
-    for record in &all {
-        tree.remove(record)?;
+fn insert_address(heap: Heap, tree: &mut SharedTree, octets: &[u8]) -> Option<()> {
+    tree.insert(address(heap, octets, 1)?).ok()
+}
+
+fn remove_address(heap: Heap, tree: &mut SharedTree, octets: &[u8]) -> Option<bool> {
+    Some(remove(tree, &address(heap, octets, 1)?))
+}
+
+/// How many names exist while the record is the only one, how many records its owner has then, and how many names exist, and
+/// records, when it is removed.
+fn existing_by(heap: Heap, tree: &mut SharedTree, octets: &[u8]) -> Option<(u8, usize, u8, usize)> {
+    insert_address(heap, tree, octets)?;
+    let before = existing(heap, tree, octets)?;
+    let owned = owned(heap, tree, octets)?;
+    if tree.len() == 1 && remove_address(heap, tree, octets) == Some(true) {
+        Some((before, owned, existing(heap, tree, octets)?, tree.len()))
+    } else {
+        None
     }
-    Ok(is_one && tree.len() == 0 && !has(heap, tree, b"a.")?)
+}
+
+/// The same of a name of 127 labels in a tree that is empty at first.
+fn existing_by_long_name(heap: Heap) -> Option<(u8, usize, u8, usize)> {
+    let mut tree: SharedTree = ZoneIndex::empty(heap).ok()?;
+    existing_by(heap, &mut tree, &long_name())
 }
 
 // A name of 127 labels: all names above it exist as long as it owns a record.
 #[test]
 fn a_chain_of_127_labels(rt: HostRuntime) -> Result<(), Fail> {
     let heap = heap(rt.alloc())?;
-    let owner = long_name(heap)?;
-    let mut tree: SharedTree = ZoneIndex::empty(heap)?;
-    tree.insert(Record::new(owner.clone()?, 60, RData::a(heap, [192, 0, 2, 1])))?;
-    assert!(rt; owner.lend().label_count() == 127 && existing(&tree, &owner) == 127);
-    assert!(rt; is_alone(heap, &mut tree, &owner)?);
+    assert_eq!(rt; existing_by_long_name(heap), Some((127, 1, 0, 0)));
     Ok(())
 }
