@@ -1,5 +1,5 @@
 """A plain and slow primary name server, for `run` to compare the program with: whole sets in place of trees, whole lists in place of
-cursors, each rule written from its RFC and from README.md, nothing taken from the crates. One `Machine` runs one script of `dnsprim replay`.
+cursors, written apart from the crates, and nothing taken from them. One `Machine` runs one script of `dnsprim replay`.
 """
 import struct
 
