@@ -1,5 +1,5 @@
-//! Tests of the lowest crates: names and records by the octets of the standards, every refusal, and memory refused at each call;
-//! streams that are cut; devices in memory, in files and of the system; and the forms of sectors.
+//! Tests of the lowest crates: names and records by the octets of the standards, and memory refused at each call; devices in memory,
+//! in files and of the system; and the forms of sectors.
 #![tactic(auto)]
 
 #[cfg(test)]

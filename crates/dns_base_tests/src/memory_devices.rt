@@ -1,7 +1,7 @@
 //! What a plan counts can be seen by no clause, and neither can it that a call succeeds.
 use crate::devices::{contents, fails_to_read, write};
 use dns_memory::{Heap, heap};
-use dns_sectors::{Keep, MemorySectors, Plan, SectorWrite, Sectors, write_all, write_phase};
+use dns_sectors::{Keep, MemorySectors, Plan, Sectors};
 use std::alloc::AllocError;
 use std::rc::Rc;
 use std::test::Fail;
@@ -14,74 +14,6 @@ fn device(
     plan: &Rc<Plan, Heap>,
 ) -> Result<MemorySectors, AllocError> {
     MemorySectors::new(alloc, len, calls, plan.clone()?)
-}
-
-/// A device of so many sectors whose calls all succeed.
-fn plain_device(alloc: Heap, len: usize) -> Result<MemorySectors, AllocError> {
-    device(alloc, len, 8, &Rc::new(alloc, Plan::new())?)
-}
-
-/// Sector and octet of the writes that are pending, some of them over one another.
-const WRITES: [(usize, u8); 4] = [(0, 1), (1, 2), (0, 3), (2, 4)];
-
-/// Makes so many of the writes, behind a write of the second sector that is durable, and says whether all succeed.
-fn write_some<D: Sectors>(device: &mut D, count: usize) -> bool {
-    let mut is_written = write(device, 1, 9) && device.sync().is_ok();
-    for (at, octet) in WRITES.iter().take(count) {
-        is_written &= write(device, *at, *octet);
-    }
-    is_written
-}
-
-/// Of so many of the writes: whether all succeed, how many are pending, how many still are behind a crash that keeps those
-/// with these numbers, and what that leaves.
-fn left(
-    alloc: Heap,
-    count: usize,
-    numbers: &[u64],
-) -> Result<(bool, [usize; 2], Option<[u8; 3]>), AllocError> {
-    let mut device = plain_device(alloc, 3)?;
-    let is_written = write_some(&mut device, count);
-    let pending = device.pending();
-    let mut left = device.crash(Keep::These(numbers));
-    Ok((is_written, [pending, left.pending()], contents(&mut left)))
-}
-
-/// How many writes there are at least, the numbers of those that a crash keeps, and what it leaves.
-const SUBLISTS: &[(usize, &[u64], [u8; 3])] = &[
-    (0, &[], [0, 9, 0]),
-    (1, &[1], [1, 9, 0]),
-    (2, &[2], [0, 2, 0]),
-    (2, &[1, 2], [1, 2, 0]),
-    (3, &[3], [3, 9, 0]),
-    (3, &[1, 3], [3, 9, 0]),
-    (3, &[2, 3], [3, 2, 0]),
-    (3, &[1, 2, 3], [3, 2, 0]),
-    (4, &[4], [0, 9, 4]),
-    (4, &[1, 4], [1, 9, 4]),
-    (4, &[2, 4], [0, 2, 4]),
-    (4, &[1, 2, 4], [1, 2, 4]),
-    (4, &[3, 4], [3, 9, 4]),
-    (4, &[1, 3, 4], [3, 9, 4]),
-    (4, &[2, 3, 4], [3, 2, 4]),
-    (4, &[1, 2, 3, 4], [3, 2, 4]),
-];
-
-// Each sublist of as many of the writes as have its last one.
-#[test]
-fn each_sublist(rt: HostRuntime) -> Result<(), Fail> {
-    let alloc = heap(rt.alloc())?;
-    for (least, numbers, plain) in SUBLISTS {
-        for count in *least..5 {
-            let wanted = (true, [count, 0], Some(*plain));
-            assert_eq!(rt;
-                left(alloc, count, numbers),
-                Ok(wanted),
-                "{numbers:?} of {count}"
-            );
-        }
-    }
-    Ok(())
 }
 
 /// A run over two devices: whether it is the second, which sector, and the octet; 0 stands for a sync.
@@ -229,90 +161,6 @@ fn stops(rt: HostRuntime) -> Result<(), Fail> {
         let wanted = ((done, [true, true]), behind);
         assert_eq!(rt; stopping(alloc, i as u64 + 1), Ok(wanted), "operation {i}");
     }
-    Ok(())
-}
-
-/// Which writes and syncs succeed on a device whose record has room for three calls, of which the second fails; the write that
-/// fails has its place in the record, so that there is no room for a fourth.
-fn fill<D: Sectors>(device: &mut D) -> [bool; 5] {
-    [
-        write(device, 0, 1),
-        write(device, 1, 2),
-        write(device, 1, 3),
-        device.sync().is_ok(),
-        write(device, 0, 4),
-    ]
-}
-
-/// What is left of such a device behind a crash that keeps the second write, and whether a sync succeeds then.
-fn left_full(device: MemorySectors) -> (Option<[u8; 2]>, bool) {
-    let mut left = device.crash(Keep::These(&[2, 3, 7]));
-    (contents(&mut left), left.sync().is_ok())
-}
-
-/// Which calls succeed, the pending writes, the failures, the sectors, and what is left.
-type Filled = (
-    [bool; 5],
-    usize,
-    u64,
-    Option<[u8; 2]>,
-    (Option<[u8; 2]>, bool),
-);
-
-fn filled(alloc: Heap) -> Result<Filled, AllocError> {
-    let plan = Rc::new(alloc, Plan::new())?;
-    let mut device = device(alloc, 2, 3, &plan)?;
-    plan.fail_at(2);
-    let done = fill(&mut device);
-    let (pending, failures) = (device.pending(), device.failures());
-    let plain = contents(&mut device);
-    Ok((done, pending, failures, plain, left_full(device)))
-}
-
-#[test]
-fn room(rt: HostRuntime) -> Result<(), Fail> {
-    let alloc = heap(rt.alloc())?;
-    let done = [true, false, true, false, false];
-    let left = (Some([0, 3]), true);
-    assert_eq!(rt; filled(alloc), Ok((done, 2, 3, Some([1, 3]), left)));
-    Ok(())
-}
-
-/// Two writes of one phase.
-const PHASE: [SectorWrite; 2] = [
-    SectorWrite {
-        at: 1,
-        octets: [5; 512],
-    },
-    SectorWrite {
-        at: 0,
-        octets: [6; 512],
-    },
-];
-
-/// Makes the writes, and then a phase of them: how many are pending in between, if all succeeds.
-fn write_twice(device: &mut MemorySectors) -> Option<usize> {
-    if device.len() != 2 {
-        return None;
-    }
-    write_all(device, &PHASE).ok()?;
-    let pending = device.pending();
-    write_phase(device, &PHASE).ok()?;
-    Some(pending)
-}
-
-/// What is pending between the two, and what a crash leaves that keeps nothing.
-fn phased(alloc: Heap) -> Result<(Option<usize>, Option<[u8; 2]>), AllocError> {
-    let mut device = plain_device(alloc, 2)?;
-    let pending = write_twice(&mut device);
-    let mut left = device.crash(Keep::These(&[]));
-    Ok((pending, contents(&mut left)))
-}
-
-#[test]
-fn phases(rt: HostRuntime) -> Result<(), Fail> {
-    let alloc = heap(rt.alloc())?;
-    assert_eq!(rt; phased(alloc), Ok((Some(2), Some([6, 5]))));
     Ok(())
 }
 

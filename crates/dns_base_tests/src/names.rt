@@ -1,7 +1,6 @@
 //! Names in octets and in text.
 use dns_memory::{Heap, heap};
 use dns_names::{Name, NameError};
-use std::alloc::AllocError;
 use std::test::Fail;
 
 /// A name of a text, the root being the origin.
@@ -118,77 +117,5 @@ fn names_in_order(rt: HostRuntime) -> Result<(), Fail> {
     for (first, second, is_under) in ORDER {
         assert_eq!(rt; compared(alloc, first, second), Some((true, *is_under)));
     }
-    Ok(())
-}
-
-/// Texts, and why they are no names.
-const TEXTS: &[(&[u8], Option<NameError>)] = &[
-    (b"a..b", Some(NameError::EmptyLabel)),
-    (b"", Some(NameError::EmptyLabel)),
-    (b"a\\256", Some(NameError::BadEscape)),
-    (b"a\\", Some(NameError::BadEscape)),
-    (&[b'a'; 64], Some(NameError::LabelTooLong)),
-    (&[b'a'; 63], None),
-];
-
-/// Octets, and why they are no names.
-const OCTETS: &[(&[u8], NameError)] = &[
-    (b"\x03ab", NameError::Cut),
-    (b"", NameError::Cut),
-    (b"\xc0\x0c", NameError::LabelTooLong),
-];
-
-#[test]
-fn refused_names(rt: HostRuntime) -> Result<(), Fail> {
-    let alloc = heap(rt.alloc())?;
-    for (text, error) in TEXTS {
-        assert_eq!(rt; name(alloc, text).err(), *error);
-    }
-    for (octets, error) in OCTETS {
-        assert_eq!(rt; Name::parse_wire(alloc, octets).err(), Some(*error));
-    }
-    Ok(())
-}
-
-/// Octets that are repeated behind others, and an octet behind them.
-fn repeated(
-    alloc: Heap,
-    first: &[u8],
-    octets: &[u8],
-    times: u8,
-    last: &[u8],
-) -> Result<Vec<u8, Heap>, AllocError> {
-    let mut all: Vec<u8, Heap> = Vec::new(alloc);
-    all.extend_from_slice(first)?;
-    for _ in 0..times {
-        all.extend_from_slice(octets)?;
-    }
-    all.extend_from_slice(last)?;
-    Ok(all)
-}
-
-/// How many octets a name of 127 labels has, how many are read, and whether it is that of a text of as many.
-fn longest(alloc: Heap) -> Option<(usize, usize, bool)> {
-    let octets = repeated(alloc, b"", b"\x01x", 127, b"\x00").ok()?;
-    let text = repeated(alloc, b"", b"x.", 127, b"").ok()?;
-    let (host, size) = Name::parse_wire(alloc, &octets).ok()?;
-    Some((octets.len(), size, is_named(alloc, &host, &text)?))
-}
-
-/// How many octets would be a name with one octet more, why they are none, and why a text of 128 labels is none.
-fn too_long(alloc: Heap) -> Option<(usize, [Option<NameError>; 2])> {
-    let octets = repeated(alloc, b"\x02xx", b"\x01x", 126, b"\x00").ok()?;
-    let fault = Name::parse_wire(alloc, &octets).err();
-    let text = repeated(alloc, b"", b"x.", 128, b"").ok()?;
-    Some((octets.len(), [fault, name(alloc, &text).err()]))
-}
-
-// A plain form of 255 octets is a name, and one of 256 is not (RFC 1035 section 2.3.4).
-#[test]
-fn the_longest_name(rt: HostRuntime) -> Result<(), Fail> {
-    let alloc = heap(rt.alloc())?;
-    assert_eq!(rt; longest(alloc), Some((255, 255, true)));
-    let errors = [Some(NameError::NameTooLong); 2];
-    assert_eq!(rt; too_long(alloc), Some((256, errors)));
     Ok(())
 }

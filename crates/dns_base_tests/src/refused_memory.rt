@@ -18,13 +18,20 @@ fn copy_step(alloc: Heap, host: &Name) -> Result<(), AllocError> {
     Ok(())
 }
 
+/// Steps with a name, each of which takes memory.
+fn steps_with(alloc: Heap, host: &Name) -> Result<(), NameError> {
+    Name::parse_wire(alloc, host.as_wire())?;
+    host.parent(alloc)?;
+    copy_step(alloc, host)?;
+    Ok(())
+}
+
 /// A name in several steps, each of which takes memory.
 fn name_steps(alloc: Heap) -> Result<(), NameError> {
     let host = name(alloc, LONG)?;
-    Name::parse_wire(alloc, host.as_wire())?;
-    host.parent(alloc)?;
-    copy_step(alloc, &host)?;
-    Ok(())
+    let done = steps_with(alloc, &host);
+    drop(host);
+    done
 }
 
 /// An exchange and a copy of it, and a service, of a name.
@@ -34,18 +41,45 @@ fn naming_steps(alloc: Heap, host: &Name) -> Result<(), AllocError> {
     Ok(())
 }
 
-/// A record of a name with the data of a SOA, in plain form.
-fn plain_record(alloc: Heap, host: Name) -> Result<Vec<u8, Heap>, AllocError> {
-    let rdata = start(alloc, &host, &host)?;
+/// A record of a name with the data of a SOA.
+fn start_at(alloc: Heap, host: Name) -> Result<Record, AllocError> {
+    match start(alloc, &host, &host) {
+        Ok(rdata) => Ok(Record::new(host, 3600, rdata)),
+        Err(error) => {
+            drop(host);
+            Err(error)
+        }
+    }
+}
+
+/// A record in plain form.
+fn plain(alloc: Heap, record: &Record) -> Result<Vec<u8, Heap>, AllocError> {
     let mut octets = Vec::new(alloc);
-    Record::new(host, 3600, rdata).to_wire_plain(&mut octets)?;
+    record.to_wire_plain(&mut octets)?;
     Ok(octets)
 }
 
 /// A record that is read, and a copy of it.
 fn reading_step(alloc: Heap, octets: &[u8]) -> Result<(), RecordError> {
     let (read, _) = Record::from_wire_plain(alloc, octets)?;
-    read.clone()?;
+    let copy: Result<_, _> = read.clone();
+    drop(read);
+    copy?;
+    Ok(())
+}
+
+/// A record of a name, written and read.
+fn plain_steps(alloc: Heap, host: Name) -> Result<(), RecordError> {
+    let record = start_at(alloc, host)?;
+    let octets = plain(alloc, &record);
+    drop(record);
+    reading_step(alloc, octets?.as_slice())
+}
+
+/// Data of a name.
+fn data_steps(alloc: Heap, host: &Name) -> Result<(), RecordError> {
+    naming_steps(alloc, host)?;
+    RData::txt(alloc, &[LONG, LONG])?;
     Ok(())
 }
 
@@ -54,10 +88,13 @@ fn record_steps(alloc: Heap) -> Result<(), RecordError> {
     let Ok(host) = name(alloc, LONG) else {
         return Err(RecordError::OutOfMemory);
     };
-    naming_steps(alloc, &host)?;
-    RData::txt(alloc, &[LONG, LONG])?;
-    let octets = plain_record(alloc, host)?;
-    reading_step(alloc, &octets)
+    match data_steps(alloc, &host) {
+        Ok(()) => plain_steps(alloc, host),
+        Err(error) => {
+            drop(host);
+            Err(error)
+        }
+    }
 }
 
 #[test]

@@ -2,4 +2,3 @@ pub mod Lists
 pub mod Counts
 pub mod Room
 pub mod Moved
-pub mod Left

@@ -1,9 +1,8 @@
 //! What stands behind a zone that is shown.
-ghost use Rattle.std.specs.Prelude.{◌≡◌, []};
+ghost use Rattle.std.specs.Prelude.{◌≡◌};
 ghost use Rattle.dns_store.specs.Versions.{Kept};
-ghost use Rattle.dns_held.specs.Held.{HasVersions, newer, newest_zone, shown_zone};
+ghost use Rattle.dns_held.specs.Held.{HasVersions, newer, newest_zone};
 
-use crate::octets::snapshot_len;
 use dns_store::ZoneStore;
 use dns_zone::{Zone, ZoneIndex};
 
@@ -22,29 +21,6 @@ pub struct Behind<I: ZoneIndex, S: ZoneStore> {
     pub snapshot: u32,
     /// How many sectors there are for a journal.
     pub journal: u32,
-}
-
-impl<I: ZoneIndex, S: ZoneStore> Behind<I, S> {
-    /// What stands behind a zone of which nothing is staged, with so many sectors for a snapshot and for a journal.
-    pub fn new(zone: &Zone<I>, store: S, snapshot: u32, journal: u32) -> Behind<I, S>
-        ensures { (k : Kept)
-            → zone.now ≡ shown_zone k
-            → k.staged ≡ []
-            → S.keeps store k
-            → k.shape.snapshot ≡ snapshot
-            → k.shape.journal ≡ journal
-            → HasVersions S.keeps zone.now result k }
-    {
-        let number = store.newest();
-        Behind {
-            tip: None,
-            store,
-            number,
-            octets: snapshot_len(zone),
-            snapshot,
-            journal,
-        }
-    }
 }
 
 /// The newest version of a zone: one that is staged, or the one that is shown.

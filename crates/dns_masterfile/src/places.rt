@@ -1,6 +1,6 @@
 //! Where the records of a file stand, and at which word a refused entry was refused: for one who mends the file.
 use crate::FileError;
-use crate::context::{at_start, take_said};
+use crate::context::{Context, at_start, take_said};
 use crate::pieces::Word;
 use crate::scanner::{Next, Scanner, Start};
 use dns_memory::Heap;
@@ -85,29 +85,24 @@ fn refused<'a>(
     }
 }
 
-/// Reads a file as `read_zone` does, and keeps where its records stand.
-pub fn find_places<'a>(
+/// Reads entries, and puts their records behind others, up to the first entry that is refused.
+fn take_places<'a>(
     alloc: Heap,
     octets: &'a [u8],
-    origin: &Name,
-) -> Result<Places<'a>, AllocError> {
+    context: &mut Context,
+    places: &mut Places<'a>,
+) -> Result<(), AllocError> {
     let (mut start, mut scanner) = Scanner::first(octets);
-    let mut context = at_start(origin)?;
-    let mut places = Places {
-        records: Vec::new(alloc),
-        lines: Vec::new(alloc),
-        refused: None,
-    };
     for _ in 0..=octets.len() {
         let before = scanner.reborrow();
-        let said = match scanner.take_entry(alloc, &context, start.blank) {
+        let said = match scanner.take_entry(alloc, context, start.blank) {
             Ok(said) => said,
             Err(error) => {
                 places.refused = Some(refused(start, before, &scanner, error));
-                return Ok(places);
+                return Ok(());
             }
         };
-        take_said(&mut context, said, &mut places.records)?;
+        take_said(context, said, &mut places.records)?;
         if places.lines.len() < places.records.len() {
             places.lines.push(start.line)?;
         }
@@ -116,8 +111,31 @@ pub fn find_places<'a>(
                 start = next;
                 scanner = behind;
             }
-            _ => return Ok(places),
+            _ => return Ok(()),
         }
     }
-    Ok(places)
+    Ok(())
+}
+
+/// Reads a file as `read_zone` does, and keeps where its records stand.
+pub fn find_places<'a>(
+    alloc: Heap,
+    octets: &'a [u8],
+    origin: &Name,
+) -> Result<Places<'a>, AllocError> {
+    let mut context = at_start(origin)?;
+    let mut places = Places {
+        records: Vec::new(alloc),
+        lines: Vec::new(alloc),
+        refused: None,
+    };
+    let taken = take_places(alloc, octets, &mut context, &mut places);
+    drop(context);
+    match taken {
+        Ok(()) => Ok(places),
+        Err(error) => {
+            drop(places);
+            Err(error)
+        }
+    }
 }

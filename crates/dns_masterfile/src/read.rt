@@ -28,9 +28,13 @@ fn read_records(
     'entries: loop {
         let said = match scanner.take_entry(alloc, &context, start.blank) {
             Ok(said) => said,
-            Err(fault) => return Err((start.line, fault)),
+            Err(fault) => {
+                drop((context, records));
+                return Err((start.line, fault));
+            }
         };
         let Ok(()) = take_said(&mut context, said, &mut records) else {
+            drop((context, records));
             return Err((start.line, FileError::OutOfMemory));
         };
         match scanner.next() {
@@ -38,7 +42,10 @@ fn read_records(
                 start = next;
                 scanner = behind;
             }
-            _ => return Ok(records),
+            _ => {
+                drop(context);
+                return Ok(records);
+            }
         }
     }
 }

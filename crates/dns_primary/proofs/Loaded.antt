@@ -1,23 +1,15 @@
--- Zones as they were loaded.
-use Rattle.std.proofs.Common.{◌≡◌, ◌<◌, ℕ, List, [], ◌∷◌, length, map, sym, ap, subst, ◌∙◌}
+-- What is shown of a zone.
+use Rattle.std.proofs.Common.{◌≡◌, ◌<◌, ℕ, List, length, map, sym, ap, subst, ◌∙◌}
 use Rattle.std.specs.Prelude.{Option, slice_get, slice_index_or}
 use Rattle.std.proofs.lemmas.List.{length-map}
 use Rattle.dns_zone.specs.Zone.{Zone}
-use Rattle.dns_store.specs.Versions.{Kept, newest_after}
+use Rattle.dns_store.specs.Versions.{Kept}
 use Rattle.dns_held.specs.declared.behind.Behind.{Behind}
-use Rattle.dns_held.specs.Held.{HasVersions, shown_zone}
-use Rattle.dns_primary.specs.declared.primary.ZoneSettings.{ZoneSettings}
-use Rattle.dns_primary.specs.Machine.{Made, ZoneState, kept_of, versions_of}
-use Rattle.dns_held.specs.Each.{Each2, Each3}
-use Rattle.dns_primary.specs.Keeps.{HaveVersions, IsSet}
-use Rattle.dns_primary.specs.Fresh.{IsLoaded, IsShown}
+use Rattle.dns_held.specs.Held.{HasVersions}
+use Rattle.dns_primary.specs.Machine.{Made, ZoneState, kept_of}
+use Rattle.dns_primary.specs.Keeps.{HaveVersions}
+use Rattle.dns_primary.specs.Fresh.{IsShown}
 use Rattle.dns_primary.proofs.Places.{at3, map_get, some_at}
-
-pub loaded_shown : (zone : Zone) (s : ZoneSettings) (z : ZoneState) → IsLoaded zone s z → zone ≡ shown_zone (kept_of z)
-loaded_shown zone s z l =
-    let apex : zone.apex ≡ z.setting.shape.apex = sym (ap (λ h. h.apex) l.shape) in
-    let records : zone.records ≡ newest_after z.loaded (versions_of z.shown) = sym l.loaded ∙ sym (ap (λ (ms : List Made). newest_after z.loaded (versions_of ms)) l.shown) in
-    λ i. record { apex = apex i; records = records i }
 
 -- what is shown at a place
 pub shown_at : {I S : Type 0} (keeps : S → Kept → Type 0) (zones : List Zone) (behind : List (Behind I S)) (states : List ZoneState) (place : ℕ) (zone : Zone) (b : Behind I S) → HaveVersions keeps zones behind states
@@ -27,8 +19,3 @@ shown_at {I} {S} keeps zones behind states place zone b held lt zone_is b_is =
     let h = at3 (λ (z : Zone) (b : Behind I S) (k : Kept). HasVersions keeps z b k) zones behind (map kept_of states) place zone b (kept_of z.0) held (map_get kept_of states place z.0 z.1) in
     let number : b.number ≡ length z.0.shown = ap (λ (x : Behind I S). x.number) b_is ∙ h.number_is ∙ length-map z.0.shown (λ (m : Made). m.records) in
     subst (λ (o : Option ZoneState). IsShown b.number zone o) (sym z.1) (number, zone_is ∙ h.zone_is)
-
-pub loaded_set : (zones : List Zone) (settings : List ZoneSettings) (states : List ZoneState) → Each3 IsLoaded zones settings states → Each2 IsSet settings states
-loaded_set [] [] [] each = tt
-loaded_set (z ∷ zones) (s ∷ settings) (k ∷ states) each = (each.0.set, loaded_set zones settings states each.1)
-loaded_set _ _ _ each = absurd each

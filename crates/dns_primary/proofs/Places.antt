@@ -1,5 +1,5 @@
 -- One place of lists that go together is changed, or one element more stands at their ends.
-use Rattle.std.proofs.Common.{◌≡◌, ◌<◌, ℕ, zero, suc, List, [], ◌∷◌, ◌++◌, length, arith, map, take, refl, ap, subst}
+use Rattle.std.proofs.Common.{◌≡◌, ◌<◌, ℕ, zero, suc, List, [], ◌∷◌, ◌++◌, length, arith, map, refl, ap, subst}
 use Rattle.std.specs.Prelude.{Some, slice_get, slice_set, slice_index_or}
 use Rattle.dns_held.specs.Each.{Each2, Each3}
 
@@ -59,23 +59,6 @@ pub some_at : {A : Type 0} (xs : List A) (i : ℕ) → i < length xs → (x : A)
 some_at [] i lt = absurd (omega arith)
 some_at (x ∷ xs) zero lt = (x, refl)
 some_at (x ∷ xs) (suc i) lt = some_at xs i (omega arith)
-
-pub at3_both : {A B C : Type 0} (R : A → B → C → Type 0) (xs : List A) (ys : List B) (zs : List C) (i : ℕ) (d : A) (e : B) → Each3 R xs ys zs → i < length xs
-    → (c : C) × R (slice_index_or xs i d) (slice_index_or ys i e) c × (take (suc i) zs ≡ take i zs ++ c ∷ [])
-at3_both R [] [] [] i d e each lt = absurd (omega arith)
-at3_both R (x ∷ xs) (y ∷ ys) (z ∷ zs) zero d e each lt = (z, each.0, refl)
-at3_both {C = C} R (x ∷ xs) (y ∷ ys) (z ∷ zs) (suc i) d e each lt = let rest = at3_both R xs ys zs i d e each.1 (omega arith) in (rest.0, rest.1, ap (λ (l : List C). z ∷ l) rest.2)
-at3_both R _ _ _ i d e each lt = absurd each
-
-pub push3 : {A B C : Type 0} (R : A → B → C → Type 0) (xs : List A) (ys : List B) (zs : List C) (a : A) (b : B) (c : C) → Each3 R xs ys zs → R a b c → Each3 R (xs ++ a ∷ []) (ys ++ b ∷ []) (zs ++ c ∷ [])
-push3 R [] [] [] a b c each r = (r, tt)
-push3 R (x ∷ xs) (y ∷ ys) (z ∷ zs) a b c each r = (each.0, push3 R xs ys zs a b c each.1 r)
-push3 R _ _ _ a b c each r = absurd each
-
-pub take_one : {A : Type 0} (xs : List A) (i : ℕ) (d : A) → i < length xs → take (suc i) xs ≡ take i xs ++ slice_index_or xs i d ∷ []
-take_one [] i d lt = absurd (omega arith)
-take_one (x ∷ xs) zero d lt = refl
-take_one {A} (x ∷ xs) (suc i) d lt = ap (λ (l : List A). x ∷ l) (take_one xs i d (omega arith))
 
 pub long3_first : {A B C : Type 0} (R : A → B → C → Type 0) (xs : List A) (ys : List B) (zs : List C) → Each3 R xs ys zs → length xs ≡ length zs
 long3_first R [] [] [] each = refl

@@ -1,9 +1,6 @@
 -- Primaries that were just made, and what is shown of a zone.
 use Rattle.std.specs.Prelude.{◌≡◌, ℕ, false, List, [], length, Option, Some, None}
 use Rattle.dns_zone.specs.Zone.{Zone}
-use Rattle.dns_store.specs.declared.unkept.Unkept.{Unkept}
-use Rattle.dns_store.specs.Unkept.{IsUnkept}
-use Rattle.dns_store.specs.Versions.{Kept}
 use Rattle.dns_held.specs.Each.{Each3}
 use Rattle.dns_held.specs.Held.{shown_zone}
 use Rattle.dns_primary.specs.declared.primary.ZoneSettings.{ZoneSettings}
@@ -20,10 +17,6 @@ pub record IsLoaded (zone : Zone) (settings : ZoneSettings) (z : ZoneState) : Ty
   pub base : z.base ≡ 0
   pub second : z.second ≡ None
   pub opened : z.closed ≡ false
-
--- What a store keeps that is in memory alone.
-abbrev pub keeps_unkept : Unkept → Kept → Type 0
-keeps_unkept s k = IsUnkept s k
 
 -- A machine of these zones to which nothing has happened.
 pub record IsFresh (zones : List Zone) (settings : List ZoneSettings) (m : Machine) : Type 0 where

@@ -14,7 +14,6 @@ mod queue;
 mod serve;
 mod step;
 mod transfers;
-mod unkept;
 mod update;
 mod waits;
 

@@ -10,4 +10,8 @@ mod given;
 #[cfg(test)]
 mod large;
 #[cfg(test)]
+mod letters;
+#[cfg(test)]
+mod made_up;
+#[cfg(test)]
 mod peers;

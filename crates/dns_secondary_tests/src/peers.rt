@@ -1,7 +1,7 @@
 //! Answers of two other servers, saved as octets on 2026-11-24: Knot DNS 3.2.6 and BIND 9.18.49. Each was asked for a zone of serial 7,
 //! for its changes after two updates, and for the zone then. BIND answers with all of the zone where the changes are not much shorter.
+use crate::exchanges::{asking_as, name};
 use dns_memory::{Heap, heap};
-use dns_names::Name;
 use dns_request::Transport;
 use dns_secondary::{Progress, Secondary};
 use dns_zone::{RecordList, Zone, ZoneIndex};
@@ -20,17 +20,22 @@ const BIND: [&str; 3] = [
     "000c84000001000900000000076578616d706c650000fc0001c00c0006000100000e100026026e73c00c0a686f73746d6173746572c00c0000000900001c2000000384001275000000012cc00c0002000100000e100002c02505686f737431c00c000100010000012c0004c0000201c059000100010000012c0004c0000209045f737368045f74637005686f737431076578616d706c65000021000100000e10001500000000001605686f737431076578616d706c6500036e6577c0ae001000010000003c00050463616d65c0250001000100000e100004c0000235012a0177076578616d706c65000010000100000e10000b0a612077696c6463617264c0ae0006000100000e100018c025c02a0000000900001c2000000384001275000000012c",
 ];
 
-/// One who holds a version, or nothing, and asks by TCP.
-fn asking(alloc: Heap, held: Option<Zone<RecordList>>) -> Option<Secondary<RecordList>> {
-    let apex = Name::from_text(alloc, b"example.", &Name::root(alloc)).ok()?;
-    Secondary::new(alloc, apex, held, 12, Transport::Tcp).ok()
+/// One who holds nothing and asks by TCP.
+fn asking(alloc: Heap) -> Option<Secondary<RecordList>> {
+    let apex = name(alloc, b"example.")?;
+    Secondary::new(alloc, apex, None, 12, Transport::Tcp).ok()
 }
 
 /// A zone again.
 fn copy_of(zone: &Zone<RecordList>) -> Option<Zone<RecordList>> {
-    let apex = zone.apex().clone().ok()?;
     let index = zone.index().fork().ok()?;
-    Zone::from_index(apex, index).ok()
+    match zone.apex().clone() {
+        Ok(apex) => Zone::from_index(apex, index).ok(),
+        Err(_) => {
+            drop(index);
+            None
+        }
+    }
 }
 
 /// The version that is held behind an answer.
@@ -46,42 +51,56 @@ fn behind(
     }
 }
 
-/// The version that an answer leads to, from one that is held.
-fn taken(alloc: Heap, held: Option<Zone<RecordList>>, answer: &str) -> Option<Zone<RecordList>> {
-    let mut secondary = asking(alloc, held)?;
-    behind(alloc, &mut secondary, answer)
+/// The version that an answer has.
+fn whole(alloc: Heap, answer: &str) -> Option<Zone<RecordList>> {
+    let mut secondary = asking(alloc)?;
+    let zone = behind(alloc, &mut secondary, answer);
+    drop(secondary);
+    zone
 }
 
-/// Its serial, and how many records it has.
+/// The version that an answer leads to, from one that is held.
+fn changed(alloc: Heap, held: Zone<RecordList>, answer: &str) -> Option<Zone<RecordList>> {
+    let mut secondary = asking_as(alloc, held, Transport::Tcp)?;
+    let zone = behind(alloc, &mut secondary, answer);
+    drop(secondary);
+    zone
+}
+
+/// The version that the first answer has, and behind it the changes of the second one.
+fn followed(alloc: Heap, answers: &[&str; 3]) -> Option<Zone<RecordList>> {
+    changed(alloc, whole(alloc, answers[0])?, answers[1])
+}
+
+/// A zone's serial, and how many records it has.
 fn size_of(zone: &Zone<RecordList>) -> (u32, usize) {
     (zone.soa().serial(), zone.records().count())
 }
 
-/// Whether the whole zone that an answer has is that one.
-fn is_whole(alloc: Heap, zone: &Zone<RecordList>, answer: &str) -> bool {
-    match taken(alloc, None, answer) {
-        Some(whole) => zone.records().eq(whole.records()),
-        None => false,
-    }
+/// The same of an answer, and whether that has a zone's records.
+fn compared(alloc: Heap, zone: &Zone<RecordList>, answer: &str) -> Option<((u32, usize), bool)> {
+    let other = whole(alloc, answer)?;
+    let told = (size_of(&other), zone.records().eq(other.records()));
+    drop(other);
+    Some(told)
 }
 
-/// The serials and the numbers of records before and behind the changes, where the changes lead to the zone that the server has then.
-fn followed(alloc: Heap, answers: &[&str; 3]) -> Option<((u32, usize), (u32, usize))> {
-    let before = taken(alloc, None, answers[0])?;
-    let size = size_of(&before);
-    let behind = taken(alloc, Some(before), answers[1])?;
-    if is_whole(alloc, &behind, answers[2]) {
-        Some((size, size_of(&behind)))
-    } else {
-        None
-    }
+/// The serials and the numbers of records before and behind the changes, and whether the changes lead to the zone that the server has
+/// then, and don't leave the one that it had before.
+fn told(alloc: Heap, answers: &[&str; 3]) -> Option<[((u32, usize), bool); 2]> {
+    let zone = followed(alloc, answers)?;
+    let before = compared(alloc, &zone, answers[0]);
+    let behind = compared(alloc, &zone, answers[2]);
+    drop(zone);
+    Some([before?, behind?])
 }
 
 // Both lead to the zone that the server has.
 #[test]
 fn answers_of_other_servers(rt: HostRuntime) -> Result<(), Fail> {
     let alloc = heap(rt.alloc())?;
-    assert!(rt; followed(alloc, &KNOT) == Some(((7, 9), (9, 8))));
-    assert!(rt; followed(alloc, &BIND) == Some(((7, 9), (9, 8))));
+    for answers in &[KNOT, BIND] {
+        assert!(rt; told(alloc, answers) == Some([((7, 9), false), ((9, 8), true)]));
+    }
     Ok(())
 }

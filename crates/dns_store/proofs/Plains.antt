@@ -1,5 +1,5 @@
 -- Records in plain form, one behind the other, are read in one way.
-use Rattle.std.proofs.Common.{◌≡◌, ◌<◌, ℕ, List, [], ◌∷◌, ◌++◌, length, refl, sym, ◌∙◌, ap, arith, append-nil, append_assoc, length-append, Bool, false}
+use Rattle.std.proofs.Common.{◌≡◌, ◌<◌, ℕ, List, [], ◌∷◌, ◌++◌, length, refl, sym, ◌∙◌, ap, arith, append_assoc, length-append, Bool, false}
 use Rattle.std.proofs.Math.Logic.{∥∥₁_elim}
 use Rattle.std.proofs.Props.{props}
 use Rattle.std.specs.Prelude.{◌==◌}
@@ -38,12 +38,6 @@ flat_same (r ∷ rs) (s ∷ ss) f g is =
     let first = plain_first r s (flat_map plain rs) (flat_map plain ss) f.0 g.0 is in
     let rest = flat_same rs ss f.1 g.1 first.1 in
     λ i. first.0 i ∷ rest i
-
-pub all_stored : (octets : List ℕ) (rs : List Record) (rest : List ℕ) → IsRead octets rs rest → rest ≡ [] → AreStored octets rs
-all_stored octets rs rest read none = record {
-  each = read.valid;
-  octets_are = sym read.stands ∙ ap (λ (l : List ℕ). flat_map plain rs ++ l) none ∙ append-nil (flat_map plain rs);
-}
 
 records_set : IsSet (List Record)
 records_set = hlevel props

@@ -9,7 +9,6 @@ mod recovery;
 mod root;
 mod snapshot;
 mod staying;
-mod unkept;
 mod versions;
 mod zone_store;
 
@@ -19,5 +18,4 @@ pub use formatting::{FEWEST_ENTRIES, FormatError, format};
 pub use kept_store::KeptStore;
 pub use recovery::{MOST_SECTORS, open};
 pub use root::OpenError;
-pub use unkept::Unkept;
 pub use zone_store::ZoneStore;

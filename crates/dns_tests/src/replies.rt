@@ -1,25 +1,13 @@
 //! Lookups and replies with each allocation refused in turn.
-use crate::given::{SMALL, name, zone_of};
+use crate::given::{name, zone_of};
 use dns_answer::reply;
 use dns_lookup::resolve;
 use dns_memory::{Heap, heap};
 use dns_names::Name;
-use dns_primary::{Event, Noted, Peer, Primary, ZoneSettings};
 use dns_records::types;
 use dns_request::{Request, RequestMessage, Transport, classify};
-use dns_store::Unkept;
 use dns_zone::{RecordList, Zone};
-use std::alloc::AllocError;
 use std::test::Fail;
-
-/// A question for the address of host1.example.
-const HOST1: &[u8] =
-    b"\x12\x34\x00\x00\x00\x01\x00\x00\x00\x00\x00\x00\x05host1\x07example\x00\x00\x01\x00\x01";
-
-/// The reply to that.
-const HOST1_REPLY: &[u8] =
-    b"\x12\x34\x84\x00\x00\x01\x00\x01\x00\x00\x00\x00\x05host1\x07example\x00\x00\x01\x00\x01\
-\xc0\x0c\x00\x01\x00\x01\x00\x00\x0e\x10\x00\x04\xc0\x00\x02\x01";
 
 /// A question for the MX of host3.example., and the zone of which it is answered, by way of a wildcard.
 const HOST3: &[u8] =
@@ -27,64 +15,6 @@ const HOST3: &[u8] =
 
 const WILDCARD: &str =
     "$TTL 3600\n@ SOA ns.example.com. hostmaster 7 7200 900 1209600 300\n NS ns.example.com.\n* MX 10 host1\nhost1 A 192.0.2.1\n";
-
-/// A primary of the zone of four records, which nobody may update, if memory is there.
-fn primary(heap: Heap) -> Option<Primary<RecordList, Unkept>> {
-    let (mut zones, mut settings) = (Vec::new(heap), Vec::new(heap));
-    zones.push(zone_of(heap, SMALL, "example.")?).ok()?;
-    settings
-        .push(ZoneSettings {
-            snapshot: 8,
-            journal: 8,
-            keep: 4,
-            update: Vec::new(heap),
-            transfer: Vec::new(heap),
-        })
-        .ok()?;
-    if zones.len() != settings.len() {
-        return None;
-    }
-    Primary::unkept(heap, zones, settings).ok()
-}
-
-/// Whether the reply to a datagram is this one; an error where memory is refused.
-fn answers(
-    heap: Heap,
-    primary: &mut Primary<RecordList, Unkept>,
-    request: &[u8],
-    expected: &[u8],
-) -> Result<bool, AllocError> {
-    let effects = primary.step(heap, Event::Datagram(Peer::default(), request));
-    if effects.noted == Noted::OutOfMemory {
-        return Err(AllocError);
-    }
-    match &effects.reply {
-        Some(reply) => Ok(reply.octets.as_slice() == expected),
-        None => Ok(false),
-    }
-}
-
-// The call says so, and the zones answer as before.
-#[test]
-fn a_reply_that_is_refused_memory(rt: HostRuntime) -> Result<(), Fail> {
-    let heap = heap(rt.alloc())?;
-    let mut primary = primary(heap).ok_or("a primary")?;
-    let mut refusals = 0u64;
-    for n in 1..50u64 {
-        heap.refuse(n);
-        let answers = answers(heap, &mut primary, HOST1, HOST1_REPLY);
-        heap.refuse(0);
-        match answers {
-            Err(_) => refusals = n,
-            Ok(answers) => {
-                assert!(rt; answers);
-                break;
-            }
-        }
-    }
-    assert!(rt; refusals > 0 && refusals < 20, "{refusals} allocations");
-    Ok(())
-}
 
 /// The octets of the reply to a query, if memory is there.
 fn octets(

@@ -7,20 +7,32 @@ use std::test::Fail;
 /// A request for the whole zone, as it is on a stream (RFC 5936 section 2.1).
 const AXFR: &str = "0019000c00000001000000000000076578616d706c650000fc0001";
 
-/// The zone with so many more addresses, as a master file.
-fn file(heap: Heap, hosts: u32) -> Result<Vec<u8, Heap>, Fail> {
-    let mut text = Vec::new(heap);
-    text.extend_from_slice(ZONE)?;
+/// Puts so many addresses behind a master file.
+fn add_hosts(text: &mut Vec<u8, Heap>, hosts: u32) -> Option<()> {
     for host in 0..hosts {
-        writeln!(text, "h{host:05} A 192.0.2.1")?;
+        writeln!(text, "h{host:05} A 192.0.2.1").ok()?;
     }
-    Ok(text)
+    Some(())
+}
+
+/// The zone with so many more addresses, as a master file.
+fn file(heap: Heap, hosts: u32) -> Option<Vec<u8, Heap>> {
+    let mut text = Vec::from_slice(heap, ZONE).ok()?;
+    match add_hosts(&mut text, hosts) {
+        Some(()) => Some(text),
+        None => {
+            drop(text);
+            None
+        }
+    }
 }
 
 /// A server of that zone.
-fn server(heap: Heap, hosts: u32) -> Result<Server, Fail> {
+fn server(heap: Heap, hosts: u32) -> Option<Server> {
     let file = file(heap, hosts)?;
-    Server::over(heap, &file)
+    let server = Server::over(heap, &file);
+    drop(file);
+    server
 }
 
 /// The first message on a stream, and what stands behind it (RFC 1035 section 4.2.2).
@@ -68,48 +80,58 @@ fn settle(server: &mut Server, most: usize) {
     }
 }
 
-/// After how many turns, of at most 64, the query on the second connection is answered.
-fn turns_until_answered(server: &mut Server) -> Result<Option<usize>, Fail> {
-    for turn in 1..65 {
+/// Whether the query on the second connection is answered in one of the next 64 turns.
+fn is_answered_soon(server: &mut Server) -> Option<bool> {
+    for _turn in 0..64 {
         server.turns(1);
         if server.has_sent(1, REPLY)? {
-            return Ok(Some(turn));
+            return Some(true);
         }
     }
-    Ok(None)
+    Some(false)
 }
 
-/// A transfer goes out on the first connection, and meanwhile the second asks: whether that is answered within 64 turns, how many
-/// messages of the transfer were out then, and how many messages and records are out in the end.
-fn beside_a_transfer(server: &mut Server) -> Result<(bool, u32, Option<(u32, u32)>), Fail> {
+/// How many messages and records are on the stream of a connection.
+fn counted_on(server: &mut Server, number: usize) -> Option<(u32, u32)> {
+    counted(server.stream(number)?.sent())
+}
+
+/// A transfer goes out on the first connection, and meanwhile the second asks: whether that is answered within 64 turns, what is out of
+/// the transfer then, and what in the end.
+fn beside_a_transfer(server: &mut Server) -> Option<(bool, (u32, u32), (u32, u32))> {
     server.connect()?;
     server.connect()?;
     server.give(0, AXFR)?;
     server.turns(5);
     server.give(1, QUERY)?;
-    let is_answered = turns_until_answered(server)?.is_some();
-    let early = counted(server.stream(0)?.sent()).map_or(0, |counts| counts.0);
+    let is_answered = is_answered_soon(server)?;
+    let early = counted_on(server, 0)?;
     settle(server, 1000);
-    Ok((is_answered, early, counted(server.stream(0)?.sent())))
+    Some((is_answered, early, counted_on(server, 0)?))
+}
+
+/// Whether the query is answered while one to four messages of a transfer of 4,000 addresses are out, and that is whole in the end, with
+/// more messages: all records, and the SOA with which it began once more.
+fn is_answered_meanwhile(heap: Heap) -> Option<bool> {
+    let mut server = server(heap, 4000)?;
+    let seen = beside_a_transfer(&mut server);
+    drop(server);
+    let (is_answered, early, late) = seen?;
+    Some(is_answered && early.0 > 0 && early.0 < 5 && late.0 > 4 && late.1 == 4005)
 }
 
 // While 4,000 addresses go out, a query on another connection is answered; the transfer is whole, and ends with the SOA with which it
 // began.
 #[test]
 fn a_transfer_beside_a_query(rt: HostRuntime) -> Result<(), Fail> {
-    let mut server = server(heap(rt.alloc())?, 4000)?;
-    let seen = beside_a_transfer(&mut server);
-    let (is_answered, early, late) = seen?;
-    assert!(rt; is_answered && early > 0 && early < 5);
-    assert!(rt;
-        late.is_some_and(|counts| counts.0 > 4 && counts.1 == 4005),
-        "{late:?}"
-    );
+    let heap = heap(rt.alloc())?;
+    assert!(rt; is_answered_meanwhile(heap) == Some(true));
     Ok(())
 }
 
-/// Two peers ask for the zone; the call `n` of the first one's stream fails, and both move some octets at a time.
-fn both_ask(server: &mut Server, n: u64) -> Result<(), Fail> {
+/// Two peers ask for the zone; the call `n` of the first one's stream fails, and both move some octets at a time. How many messages and
+/// records the second peer has then.
+fn second_has(server: &mut Server, n: u64) -> Option<(u32, u32)> {
     server.connect()?;
     server.connect()?;
     server.stream(0)?.fail_at(n);
@@ -118,58 +140,33 @@ fn both_ask(server: &mut Server, n: u64) -> Result<(), Fail> {
     server.give(0, AXFR)?;
     server.give(1, AXFR)?;
     settle(server, 1000);
-    Ok(())
+    counted_on(server, 1)
 }
 
-/// How many messages and records the second peer has then.
-fn second_has(heap: Heap, n: u64) -> Result<Option<(u32, u32)>, Fail> {
+/// Whether the second one's transfer is whole then.
+fn is_second_whole(heap: Heap, n: u64) -> Option<bool> {
     let mut server = server(heap, 800)?;
-    match both_ask(&mut server, n) {
-        Ok(()) => Ok(counted(server.stream(1)?.sent())),
-        Err(fail) => Err(fail),
-    }
+    let has = second_has(&mut server, n);
+    drop(server);
+    Some(has? == (2, 805))
 }
 
-/// The first of so many calls of the first one's stream whose failure changes what the second one has.
-fn first_noticed(heap: Heap, calls: u64) -> Result<Option<u64>, Fail> {
+/// How many of so many calls of the first one's stream fail in turn, and the second one notices nothing; or the first that it notices.
+fn unnoticed(heap: Heap, calls: u64) -> Result<u64, u64> {
     for n in 0..calls {
-        if second_has(heap, n)? != Some((2, 805)) {
-            return Ok(Some(n));
+        if is_second_whole(heap, n) != Some(true) {
+            return Err(n);
         }
     }
-    Ok(None)
+    Ok(calls)
 }
 
 // Each read and each write of a stream fails in turn in the middle of a transfer, and the transfer on the other connection is whole.
 #[test]
 fn a_transfer_whose_stream_fails(rt: HostRuntime) -> Result<(), Fail> {
-    let noticed = first_noticed(heap(rt.alloc())?, 12)?;
-    assert!(rt; noticed.is_none(), "{noticed:?} is noticed");
+    let heap = heap(rt.alloc())?;
+    assert_eq!(rt; unnoticed(heap, 12), Ok(12));
     Ok(())
-}
-
-/// Makes turns of a transfer in which the `n`th call for memory is refused, and those behind it.
-fn transfer_short(server: &mut Server, n: u64) -> Result<(), Fail> {
-    let heap = server.heap;
-    server.connect()?;
-    server.give(0, AXFR)?;
-    heap.refuse(n);
-    server.turns(40);
-    heap.refuse(0);
-    settle(server, 1000);
-    Ok(())
-}
-
-/// Whether the transfer is whole then, or its connection was closed.
-fn is_whole_or_closed(heap: Heap, n: u64) -> Result<bool, Fail> {
-    let mut server = server(heap, 800)?;
-    match transfer_short(&mut server, n) {
-        Ok(()) => match server.edge.connection_mut(0) {
-            Some(connection) => Ok(is_whole(connection.stream_mut().sent())),
-            None => Ok(true),
-        },
-        Err(fail) => Err(fail),
-    }
 }
 
 /// SERVFAIL, as a header alone, as it is on a stream.
@@ -180,20 +177,45 @@ fn is_whole(stream: &[u8]) -> bool {
     stream == SERVFAIL || counted(stream) == Some((2, 805))
 }
 
-/// The first of so many calls for memory whose refusal leaves a transfer that is neither whole nor closed.
-fn first_torn(heap: Heap, calls: u64) -> Result<Option<u64>, Fail> {
-    for n in 1..calls {
-        if !is_whole_or_closed(heap, n)? {
-            return Ok(Some(n));
+/// What turns of a transfer come to in which the `n`th call for memory is refused, and those behind it: whether it was refused, and the
+/// transfer is whole, SERVFAIL, or its connection was closed.
+fn transfer_short(server: &mut Server, n: u64) -> Option<(bool, bool)> {
+    let heap = server.heap;
+    server.connect()?;
+    server.give(0, AXFR)?;
+    heap.refuse(n);
+    server.turns(40);
+    let was_refused = heap.calls() < u64::MAX / 2;
+    heap.refuse(0);
+    settle(server, 1000);
+    match server.stream(0) {
+        Some(stream) => Some((was_refused, is_whole(stream.sent()))),
+        None => Some((was_refused, true)),
+    }
+}
+
+/// The same of a server of 800 addresses.
+fn outcome_short(heap: Heap, n: u64) -> Option<(bool, bool)> {
+    let mut server = server(heap, 800)?;
+    let told = transfer_short(&mut server, n);
+    drop(server);
+    told
+}
+
+/// How many calls for memory that a transfer makes are refused in turn, and tear none; or the first that does.
+fn untorn(heap: Heap) -> Result<u64, u64> {
+    for n in 1..24 {
+        if outcome_short(heap, n) != Some((true, true)) {
+            return Err(n);
         }
     }
-    Ok(None)
+    Ok(23)
 }
 
 // Each allocation of a transfer is refused in turn: it is whole all the same, or its connection was closed.
 #[test]
 fn a_transfer_short_of_memory(rt: HostRuntime) -> Result<(), Fail> {
-    let torn = first_torn(heap(rt.alloc())?, 24)?;
-    assert!(rt; torn.is_none(), "{torn:?} tears it");
+    let heap = heap(rt.alloc())?;
+    assert_eq!(rt; untorn(heap), Ok(23));
     Ok(())
 }

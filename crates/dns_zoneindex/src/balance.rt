@@ -61,6 +61,106 @@ pub(crate) fn balanced(
     fork(alloc, left, node, right)
 }
 
+/// The same, the child shared.
+fn fork_at(
+    alloc: Heap,
+    left: Children,
+    node: &Rc<Node, Heap>,
+    right: Children,
+) -> Result<Children, AllocError>
+    requires { AreChildren (items left ++ node.now.value ∷ items right) }
+    ensures made { IfOk result (λ children. items children ≡ items left ++ node.now.value ∷ items right) }
+    ensures kept { IfOk result (λ children. AreChildren (items children)) }
+{
+    match node.clone() {
+        Ok(node) => fork(alloc, left, node, right),
+        Err(error) => {
+            drop((left, right));
+            Err(error)
+        }
+    }
+}
+
+/// The same, the part before the child shared.
+fn fork_behind(
+    alloc: Heap,
+    left: &Children,
+    node: Rc<Node, Heap>,
+    right: Children,
+) -> Result<Children, AllocError>
+    requires { AreChildren (items left.now ++ node.value ∷ items right) }
+    ensures made { IfOk result (λ children. items children ≡ items left.now ++ node.entry.value ∷ items right) }
+    ensures kept { IfOk result (λ children. AreChildren (items children)) }
+{
+    match left.share() {
+        Ok(left) => fork(alloc, left, node, right),
+        Err(error) => {
+            drop((node, right));
+            Err(error)
+        }
+    }
+}
+
+/// The same, the part behind the child shared.
+fn fork_before(
+    alloc: Heap,
+    left: Children,
+    node: Rc<Node, Heap>,
+    right: &Children,
+) -> Result<Children, AllocError>
+    requires { AreChildren (items left ++ node.value ∷ items right.now) }
+    ensures made { IfOk result (λ children. items children ≡ items left ++ node.entry.value ∷ items right.now) }
+    ensures kept { IfOk result (λ children. AreChildren (items children)) }
+{
+    match right.share() {
+        Ok(right) => fork(alloc, left, node, right),
+        Err(error) => {
+            drop((left, node));
+            Err(error)
+        }
+    }
+}
+
+/// The same, all but the part behind the child shared.
+fn fork_up_to(
+    alloc: Heap,
+    left: &Children,
+    node: &Rc<Node, Heap>,
+    right: Children,
+) -> Result<Children, AllocError>
+    requires { AreChildren (items left.now ++ node.now.value ∷ items right) }
+    ensures made { IfOk result (λ children. items children ≡ items left.now ++ node.now.value ∷ items right) }
+    ensures kept { IfOk result (λ children. AreChildren (items children)) }
+{
+    match left.share() {
+        Ok(left) => fork_at(alloc, left, node, right),
+        Err(error) => {
+            drop(right);
+            Err(error)
+        }
+    }
+}
+
+/// The same, all but the part before the child shared.
+fn fork_from(
+    alloc: Heap,
+    left: Children,
+    node: &Rc<Node, Heap>,
+    right: &Children,
+) -> Result<Children, AllocError>
+    requires { AreChildren (items left ++ node.now.value ∷ items right.now) }
+    ensures made { IfOk result (λ children. items children ≡ items left ++ node.now.value ∷ items right.now) }
+    ensures kept { IfOk result (λ children. AreChildren (items children)) }
+{
+    match right.share() {
+        Ok(right) => fork_at(alloc, left, node, right),
+        Err(error) => {
+            drop(left);
+            Err(error)
+        }
+    }
+}
+
 /// The same, turned to the right where the left side is too high.
 fn lean_left(
     alloc: Heap,
@@ -87,13 +187,18 @@ fn lean_left(
             ..
         } = &**middle;
         if *height > first.height() {
-            let left = fork(alloc, first.share()?, head.clone()?, second.share()?)?;
-            let right = fork(alloc, third.share()?, node, right)?;
-            return fork(alloc, left, top.clone()?, right);
+            let right = fork_behind(alloc, third, node, right)?;
+            return match fork_from(alloc, first.share()?, head, second) {
+                Ok(left) => fork_at(alloc, left, top, right),
+                Err(error) => {
+                    drop(right);
+                    Err(error)
+                }
+            };
         }
     }
-    let right = fork(alloc, inner.share()?, node, right)?;
-    fork(alloc, first.share()?, head.clone()?, right)
+    let right = fork_behind(alloc, inner, node, right)?;
+    fork_up_to(alloc, first, head, right)
 }
 
 /// The same, turned to the left where the right side is too high.
@@ -122,13 +227,18 @@ fn lean_right(
             ..
         } = &**middle;
         if *height > last.height() {
-            let left = fork(alloc, left, node, second.share()?)?;
-            let right = fork(alloc, third.share()?, head.clone()?, last.share()?)?;
-            return fork(alloc, left, top.clone()?, right);
+            let left = fork_before(alloc, left, node, second)?;
+            return match fork_from(alloc, third.share()?, head, last) {
+                Ok(right) => fork_at(alloc, left, top, right),
+                Err(error) => {
+                    drop(left);
+                    Err(error)
+                }
+            };
         }
     }
-    let left = fork(alloc, left, node, inner.share()?)?;
-    fork(alloc, left, head.clone()?, last.share()?)
+    let left = fork_before(alloc, left, node, inner)?;
+    fork_from(alloc, left, head, last)
 }
 
 /// The children of both, where those of the first stand before those of the second.

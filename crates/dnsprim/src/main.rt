@@ -58,16 +58,12 @@ fn of_one_word<'a>(
     about: &'static str,
     first: Arg<'a>,
 ) -> Result<Command<'a>, Error> {
+    let command = Command::new(alloc, name).about(about).arg(first)?;
     let explain = Arg::new(alloc, "explain")
         .long("explain")
         .action(ArgAction::SetTrue)
         .help("Tells in a second line what is wrong with a file, and what is expected");
-    Ok(
-        Command::new(alloc, name)
-            .about(about)
-            .arg(first)?
-            .arg(explain)?,
-    )
+    Ok(command.arg(explain)?)
 }
 
 /// The word of a configuration.
@@ -84,33 +80,40 @@ fn origin<'a>(alloc: Global) -> Arg<'a> {
     word(alloc, "ORIGIN", "The name of the zone's apex, as example.")
 }
 
-/// The subcommands that read files alone.
-fn with_readers<'a>(alloc: Global, command: Command<'a>) -> Result<Command<'a>, Error> {
+fn check_command<'a>(alloc: Global) -> Result<Command<'a>, Error> {
     let file = word(alloc, "FILE", "A master file (RFC 1035 section 5)");
+    let about = "Reads a master file and tells what is wrong with it";
+    let command = of_one_word(alloc, "check", about, file)?;
+    Ok(command.arg(origin(alloc))?)
+}
+
+fn replay_command<'a>(alloc: Global) -> Result<Command<'a>, Error> {
+    let about = "Runs a script of requests over the zones of a configuration, kept in memory";
+    let command = of_one_word(alloc, "replay", about, config(alloc))?;
     let script = word(
         alloc,
         "SCRIPT",
         "A file of commands, one a line: udp ADDR HEX, flush, ..",
     );
-    let check = of_one_word(
-        alloc,
-        "check",
-        "Reads a master file and tells what is wrong with it",
-        file,
-    )?
-    .arg(origin(alloc))?;
-    let replay = of_one_word(
-        alloc,
-        "replay",
-        "Runs a script of requests over the zones of a configuration, kept in memory",
-        config(alloc),
-    )?
-    .arg(script)?;
-    Ok(command.subcommand(check)?.subcommand(replay)?)
+    Ok(command.arg(script)?)
 }
 
-/// The subcommands that have to do with devices.
-fn with_devices<'a>(alloc: Global, command: Command<'a>) -> Result<Command<'a>, Error> {
+fn init_command<'a>(alloc: Global) -> Result<Command<'a>, Error> {
+    let about =
+        "Makes the device of each zone from its master file; from then on the device is the zone";
+    of_one_word(alloc, "init", about, config(alloc))
+}
+
+fn dump_command<'a>(alloc: Global) -> Result<Command<'a>, Error> {
+    let about = "Prints the zone that a device keeps, as a master file; not while it is served";
+    let command = of_one_word(alloc, "dump", about, config(alloc))?;
+    Ok(command.arg(origin(alloc))?)
+}
+
+fn serve_command<'a>(alloc: Global) -> Result<Command<'a>, Error> {
+    let about =
+        "Answers queries and takes updates, by UDP and TCP; an update is durable before it is answered";
+    let command = of_one_word(alloc, "serve", about, config(alloc))?;
     let turns = Arg::new(alloc, "turns")
         .long("turns")
         .required(true)
@@ -118,32 +121,31 @@ fn with_devices<'a>(alloc: Global, command: Command<'a>) -> Result<Command<'a>, 
         .help(
             "The server ends after so many turns, at most 4294967295; waiting takes one a second",
         );
-    let init = of_one_word(
-        alloc,
-        "init",
-        "Makes the device of each zone from its master file; from then on the device is the zone",
-        config(alloc),
-    )?;
-    let dump = of_one_word(
-        alloc,
-        "dump",
-        "Prints the zone that a device keeps, as a master file; not while it is served",
-        config(alloc),
-    )?
-    .arg(origin(alloc))?;
-    let serve = of_one_word(
-        alloc,
-        "serve",
-        "Answers queries and takes updates, by UDP and TCP; an update is durable before it is answered",
-        config(alloc),
-    )?
-    .arg(turns)?;
-    Ok(
-        command
-            .subcommand(init)?
-            .subcommand(dump)?
-            .subcommand(serve)?,
-    )
+    Ok(command.arg(turns)?)
+}
+
+/// The command with one more subcommand, if that was made.
+fn with<'a>(
+    command: Command<'a>,
+    subcommand: Result<Command<'a>, Error>,
+) -> Result<Command<'a>, Error> {
+    match subcommand {
+        Ok(subcommand) => Ok(command.subcommand(subcommand)?),
+        Err(error) => {
+            drop(command);
+            Err(error)
+        }
+    }
+}
+
+/// The command with all its subcommands.
+fn whole_command<'a>(alloc: Global) -> Result<Command<'a>, Error> {
+    let command = Command::new(alloc, "dnsprim").about(ABOUT);
+    let command = with(command, check_command(alloc))?;
+    let command = with(command, replay_command(alloc))?;
+    let command = with(command, init_command(alloc))?;
+    let command = with(command, dump_command(alloc))?;
+    with(command, serve_command(alloc))
 }
 
 /// The task of a subcommand and its words. None where one is missing, or where a number is none.
@@ -163,9 +165,7 @@ fn task_of<'a>(name: &str, inner: &ArgMatches<'a>) -> Option<Task<'a>> {
 
 /// What the words ask for, if it is a task.
 fn read_words<'a>(alloc: Global, words: &'a [&'a str]) -> Result<Option<Asked<'a>>, Error> {
-    let command = Command::new(alloc, "dnsprim").about(ABOUT);
-    let command = with_devices(alloc, with_readers(alloc, command)?)?;
-    let matches = command.try_get_matches_from(words)?;
+    let matches = whole_command(alloc)?.try_get_matches_from(words)?;
     let Some((name, inner)) = matches.subcommand() else {
         return Ok(None);
     };
