@@ -19,7 +19,7 @@ use std::io::{self, Write};
 use std::net::{Net, SocketAddr};
 use std::time::{Clock, Instant};
 
-/// In which turns the clock is looked at, besides those behind a wait: each one of so many.
+/// In which turns the clock and the events of sockets are looked at, besides those behind a wait: each one of so many.
 const GLANCE: u32 = 64;
 
 /// Tells which version of a zone is shown.
@@ -70,6 +70,7 @@ fn run<R: Clock, I: ZoneIndex, S: ZoneStore, E: Write>(
     for turn in 0..turns {
         if turn % GLANCE == 0 {
             now = seconds(rt, &start, now);
+            sockets.look();
         }
         if !edge.turn(heap, sockets, primary, log, now) {
             sockets.wait();

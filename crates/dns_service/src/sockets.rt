@@ -16,8 +16,17 @@ use std::time::Duration;
 /// closed.
 const TRIES: usize = 16;
 
-/// How many events one wait takes up. What they say is not looked at.
+/// How many events are taken up at once.
 const EVENTS: usize = 64;
+
+/// The socket on which connections come, in events. What the events of other sockets say is not looked at: they end a wait.
+const LISTENER: Token = Token(0);
+
+/// The socket of datagrams, in events.
+const DATAGRAMS: Token = Token(1);
+
+/// All connections, in events.
+const CONNECTIONS: Token = Token(2);
 
 /// A socket on which a server listens for connections, and one for datagrams, both on one address.
 #[derive(Drop)]
@@ -26,6 +35,8 @@ pub(crate) struct Sockets {
     datagrams: UdpSocket,
     poll: Poll,
     events: Events<Heap>,
+    /// Whether a connection may be waiting. It is false only behind a call that found none, and up to the next event of the listener.
+    may_accept: bool,
 }
 
 /// The connection of a peer.
@@ -51,40 +62,64 @@ impl Sockets {
         let mut datagrams = UdpSocket::bind(rt, address)?;
         let poll = Poll::new(rt)?;
         let registry = poll.registry();
-        registry.register(&mut listener, Token(0), Interest::READABLE)?;
-        registry.register(&mut datagrams, Token(1), Interest::READABLE)?;
+        registry.register(&mut listener, LISTENER, Interest::READABLE)?;
+        registry.register(&mut datagrams, DATAGRAMS, Interest::READABLE)?;
         Ok(Sockets {
             listener,
             datagrams,
             poll,
             events: Events::with_capacity(heap, EVENTS)?,
+            may_accept: true,
         })
     }
 
     /// Waits until a socket is ready, or about a second has passed. It is called where each of them had nothing to do.
     pub(crate) fn wait(&mut self) {
-        let _waited = self
-            .poll
-            .poll(&mut self.events, Some(Duration::from_secs(1)));
+        self.take_events(Duration::from_secs(1));
+    }
+
+    /// Looks whether a connection may be waiting, and doesn't wait itself. A server that has something to do in every turn never waits, and
+    /// would see none.
+    pub(crate) fn look(&mut self) {
+        self.take_events(Duration::ZERO);
+    }
+
+    /// Waits at most so long for events, and takes up what they say. The system tells each change once, and keeps those for which there
+    /// was no room.
+    fn take_events(&mut self, timeout: Duration) {
+        let _polled = self.poll.poll(&mut self.events, Some(timeout));
+        for event in &self.events {
+            if event.token() == LISTENER {
+                self.may_accept = true;
+            }
+        }
     }
 
     /// The connection of a peer, made ready.
     fn ready(&self, mut stream: TcpStream) -> io::Result<Socket> {
         stream.set_nodelay(true)?;
         let both = Interest::READABLE | Interest::WRITABLE;
-        self.poll.registry().register(&mut stream, Token(2), both)?;
+        self.poll
+            .registry()
+            .register(&mut stream, CONNECTIONS, both)?;
         Ok(Socket { stream })
     }
 }
 
 impl Network<Socket> for Sockets {
     fn accept(&mut self) -> Option<(Socket, Peer)> {
-        let Ok((stream, address)) = self.listener.accept() else {
+        if !self.may_accept {
             return None;
-        };
-        match self.ready(stream) {
-            Ok(socket) => Some((socket, peer_of(address))),
-            Err(_) => None,
+        }
+        match self.listener.accept() {
+            Ok((stream, address)) => {
+                let socket = self.ready(stream).ok()?;
+                Some((socket, peer_of(address)))
+            }
+            Err(error) => {
+                self.may_accept = error.kind() != ErrorKind::WouldBlock;
+                None
+            }
         }
     }
 

@@ -1,0 +1,105 @@
+//! Runs of a server over loopback, each with its clients. The octets of replies are written out from RFC 1035, RFC 2136 and RFC 5936.
+use crate::clients::{Act, Clients, run};
+use dns_configuration::DONE;
+use dns_memory::heap;
+use std::test::Fail;
+
+/// A question for the address of host1.example., and its reply.
+const QUERY: &str = "12340000000100000000000005686f737431076578616d706c650000010001";
+
+const REPLY: &str =
+    "12348400000100010000000005686f737431076578616d706c650000010001c00c0001000100000e100004c0000201";
+
+/// The same on a stream, each behind its length.
+const FRAMED_QUERY: &str = "001f12340000000100000000000005686f737431076578616d706c650000010001";
+
+const FRAMED_REPLY: &str =
+    "002f12348400000100010000000005686f737431076578616d706c650000010001c00c0001000100000e100004c0000201";
+
+/// Four requests on one stream: the question; an update that adds an address to host2; a question for it; and a request for the whole
+/// zone.
+const SESSION: &str = concat!(
+    "001f12340000000100000000000005686f737431076578616d706c650000010001",
+    "002f000b28000001000000010000076578616d706c65000006000105686f737432c00c0001000100000e100004c0000202",
+    "001f000c0000000100000000000005686f737432076578616d706c650000010001",
+    "0019000d00000001000000000000076578616d706c650000fc0001"
+);
+
+/// What comes back on it. The last one is the zone, with the SOA at its front and at its end, and with both hosts between.
+const ANSWERS: &str = concat!(
+    "002f12348400000100010000000005686f737431076578616d706c650000010001c00c0001000100000e100004c0000201",
+    "000c000ba8000000000000000000",
+    "002f000c8400000100010000000005686f737432076578616d706c650000010001c00c0001000100000e100004c0000202",
+    "00b4000d84000001000500000000076578616d706c650000fc0001",
+    "c00c0006000100000e100031026e73076578616d706c6503636f6d000a686f73746d6173746572c00c",
+    "0000000800001c2000000384001275000000012c",
+    "c00c0002000100000e100002c025",
+    "05686f737431c00c0001000100000e100004c0000201",
+    "05686f737432c00c0001000100000e100004c0000202",
+    "c00c0006000100000e100018c025c0350000000800001c2000000384001275000000012c"
+);
+
+/// All at once: a datagram of one octet, one with the question, and two connections.
+const ON_EACH_SOCKET: &[Act] = &[Act {
+    line: "listening on ",
+    datagrams: &["00", QUERY],
+    streams: &[SESSION, FRAMED_QUERY],
+}];
+
+/// The log of the first run behind the address of the server.
+const LOG_BEHIND: &str =
+    "\nconn 0 open 127.0.0.1\nconn 1 open 127.0.0.1\nconn 1 closed\nconn 0 closed\n";
+
+// A datagram of one octet has no reply, and the question has its own. Of two connections that are opened at one moment each gets all its
+// replies: the update is answered before what is asked behind it, and seen there.
+#[test]
+fn answers_on_each_socket(rt: HostRuntime) -> Result<(), Fail> {
+    let heap = heap(rt.alloc())?;
+    let mut clients = Clients::new(&rt, heap, ON_EACH_SOCKET)?;
+    assert_eq!(rt; run(&rt, heap, &mut clients, 16)?, DONE);
+    assert!(rt; clients.has_received(REPLY)?);
+    assert!(rt; clients.has_no_more());
+    assert!(rt; clients.has_read(0, ANSWERS)?);
+    assert!(rt; clients.has_read(1, FRAMED_REPLY)?);
+    let server = clients.server();
+    let log = format!(in heap;
+        "zone example. version 0 serial 7\nlistening on {server}{LOG_BEHIND}"
+    )?;
+    assert_eq!(rt; clients.log(), log.as_bytes());
+    Ok(())
+}
+
+/// Two hundred datagrams of one octet and a connection; and when that is closed, a second one.
+const ONE_BEHIND_THE_OTHER: &[Act] = &[
+    Act {
+        line: "listening on ",
+        datagrams: &["00"; 200],
+        streams: &[FRAMED_QUERY],
+    },
+    Act {
+        line: "conn 0 closed",
+        datagrams: &[],
+        streams: &[FRAMED_QUERY],
+    },
+];
+
+/// The log of the second run behind the address of the server.
+const LOG_OF_TWO: &str =
+    "\nconn 0 open 127.0.0.1\nconn 0 closed\nconn 0 open 127.0.0.1\nconn 0 closed\n";
+
+// A server that reads a datagram in every turn, and so never waits, accepts a connection that is opened after it found that there was none.
+#[test]
+fn accepts_while_datagrams_come(rt: HostRuntime) -> Result<(), Fail> {
+    let heap = heap(rt.alloc())?;
+    let mut clients = Clients::new(&rt, heap, ONE_BEHIND_THE_OTHER)?;
+    assert_eq!(rt; run(&rt, heap, &mut clients, 190)?, DONE);
+    assert!(rt; clients.has_no_more());
+    assert!(rt; clients.has_read(0, FRAMED_REPLY)?);
+    assert!(rt; clients.has_read(1, FRAMED_REPLY)?);
+    let server = clients.server();
+    let log = format!(in heap;
+        "zone example. version 0 serial 7\nlistening on {server}{LOG_OF_TWO}"
+    )?;
+    assert_eq!(rt; clients.log(), log.as_bytes());
+    Ok(())
+}
