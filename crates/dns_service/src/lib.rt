@@ -3,6 +3,7 @@
 
 mod log;
 mod opening;
+mod readiness;
 mod server;
 mod sockets;
 

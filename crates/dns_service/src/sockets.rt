@@ -2,6 +2,7 @@
 ghost use Rattle.std.specs.Prelude.{◌≡◌, []};
 ghost use Rattle.dns_edge.specs.Stream.{moved};
 
+use crate::readiness::{Place, Readiness};
 use dns_edge::{Moved, Stream};
 use dns_memory::Heap;
 use dns_primary::Peer;
@@ -10,6 +11,7 @@ use mio::net::{TcpListener, TcpStream, UdpSocket};
 use mio::{Events, Interest, Poll, Token};
 use std::io::{self, ErrorKind, Read, Write};
 use std::net::{Net, SocketAddr};
+use std::rc::Rc;
 use std::time::Duration;
 
 /// How many datagrams are tried in a turn where the system reports an error in place of one, as after an answer to a port that is
@@ -19,14 +21,14 @@ const TRIES: usize = 16;
 /// How many events are taken up at once.
 const EVENTS: usize = 64;
 
-/// The socket on which connections come, in events. What the events of other sockets say is not looked at: they end a wait.
+/// The socket on which connections come, in events.
 const LISTENER: Token = Token(0);
 
-/// The socket of datagrams, in events.
+/// The socket of datagrams, in events. They only end a wait: a datagram is looked for in every turn.
 const DATAGRAMS: Token = Token(1);
 
-/// All connections, in events.
-const CONNECTIONS: Token = Token(2);
+/// The connection with the number 0, in events; the others follow by their numbers.
+const CONNECTIONS: usize = 2;
 
 /// A socket on which a server listens for connections, and one for datagrams, both on one address.
 #[derive(Drop)]
@@ -37,6 +39,8 @@ pub(crate) struct Sockets {
     events: Events<Heap>,
     /// Whether a connection may be waiting. It is false only behind a call that found none, and up to the next event of the listener.
     may_accept: bool,
+    /// The same of each connection: whether a read or a write may find something to do.
+    readiness: Rc<Readiness, Heap>,
 }
 
 /// The connection of a peer.
@@ -45,6 +49,8 @@ pub(crate) struct Sockets {
 #[derive(Drop)]
 pub(crate) struct Socket {
     stream: TcpStream,
+    // It stands behind the stream, which is let go first: its number is free only when the stream is closed.
+    place: Place,
 }
 
 /// The peer of an address.
@@ -70,6 +76,7 @@ impl Sockets {
             poll,
             events: Events::with_capacity(heap, EVENTS)?,
             may_accept: true,
+            readiness: Rc::new(heap, Readiness::new())?,
         })
     }
 
@@ -78,8 +85,8 @@ impl Sockets {
         self.take_events(Duration::from_secs(1));
     }
 
-    /// Looks whether a connection may be waiting, and doesn't wait itself. A server that has something to do in every turn never waits, and
-    /// would see none.
+    /// Looks which sockets may be ready, and doesn't wait itself. A server that has something to do in every turn never waits, and would
+    /// see neither a new connection nor what comes on one that was silent.
     pub(crate) fn look(&mut self) {
         self.take_events(Duration::ZERO);
     }
@@ -89,20 +96,26 @@ impl Sockets {
     fn take_events(&mut self, timeout: Duration) {
         let _polled = self.poll.poll(&mut self.events, Some(timeout));
         for event in &self.events {
-            if event.token() == LISTENER {
+            let token = event.token();
+            if token == LISTENER {
                 self.may_accept = true;
+            } else if let Some(number) = token.0.checked_sub(CONNECTIONS) {
+                self.readiness.wake(number);
             }
         }
     }
 
-    /// The connection of a peer, made ready.
-    fn ready(&self, mut stream: TcpStream) -> io::Result<Socket> {
-        stream.set_nodelay(true)?;
+    /// The connection of a peer, made ready. There is none where the system refuses that, or no number is free.
+    fn ready(&self, mut stream: TcpStream) -> Option<Socket> {
+        let place = Place::new(self.readiness.clone().ok()?)?;
+        stream.set_nodelay(true).ok()?;
+        let token = Token(CONNECTIONS + place.number());
         let both = Interest::READABLE | Interest::WRITABLE;
         self.poll
             .registry()
-            .register(&mut stream, CONNECTIONS, both)?;
-        Ok(Socket { stream })
+            .register(&mut stream, token, both)
+            .ok()?;
+        Some(Socket { stream, place })
     }
 }
 
@@ -113,7 +126,7 @@ impl Network<Socket> for Sockets {
         }
         match self.listener.accept() {
             Ok((stream, address)) => {
-                let socket = self.ready(stream).ok()?;
+                let socket = self.ready(stream)?;
                 Some((socket, peer_of(address)))
             }
             Err(error) => {
@@ -157,19 +170,37 @@ impl Stream for Socket {
 
     ghost is_faithful = { λ _. ⊥ };
 
+    /// Where the last read would have waited, and no event came since, the system isn't asked.
     fn read(&mut self, into: &mut [u8]) -> Moved {
+        if !self.place.may_read() {
+            return Moved::Later;
+        }
         match self.stream.read(into) {
             Ok(0) => Moved::Ended,
             Ok(count) => Moved::Octets(count),
-            Err(error) => after(&error),
+            Err(error) => {
+                if error.kind() == ErrorKind::WouldBlock {
+                    self.place.note_read_waits();
+                }
+                after(&error)
+            }
         }
     }
 
+    /// Where the last write would have waited, and no event came since, the system isn't asked.
     fn write(&mut self, octets: &[u8]) -> Moved {
+        if !self.place.may_write() {
+            return Moved::Later;
+        }
         match self.stream.write(octets) {
             Ok(0) => Moved::Ended,
             Ok(count) => Moved::Octets(count),
-            Err(error) => after(&error),
+            Err(error) => {
+                if error.kind() == ErrorKind::WouldBlock {
+                    self.place.note_write_waits();
+                }
+                after(&error)
+            }
         }
     }
 }

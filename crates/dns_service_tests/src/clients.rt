@@ -10,13 +10,15 @@ use std::io::{self, ErrorKind, Read, Write};
 use std::net::{Ipv4Addr, Shutdown, SocketAddr, TcpStream, UdpSocket};
 use std::time::Duration;
 
-/// What clients do once, behind a line of the log that begins so: datagrams are sent from one socket, and then connections opened, on
-/// each of which octets are written and no more than these. All octets are in hexadecimal.
+/// What clients do once, behind a line of the log that begins so: datagrams are sent from one socket, then so many connections are
+/// opened, and then on connections, by their numbers in the order in which they were opened, octets are written and no more than these.
+/// All octets are in hexadecimal.
 #[derive(Clone, Copy)]
 pub(crate) struct Act {
     pub(crate) line: &'static str,
     pub(crate) datagrams: &'static [&'static str],
-    pub(crate) streams: &'static [&'static str],
+    pub(crate) opened: usize,
+    pub(crate) written: &'static [(usize, &'static str)],
 }
 
 /// The clients, and the log.
@@ -67,14 +69,21 @@ impl<'a> Clients<'a> {
         Ok(())
     }
 
-    /// Opens a connection, and writes octets and an end on it. The system takes them before the server accepts it.
-    fn connect(&mut self, octets: &str) -> io::Result<()> {
-        let octets = decode(self.heap, octets)?;
-        let mut stream = TcpStream::connect(self.rt, self.server)?;
+    /// Opens a connection. The system does so before the server accepts it.
+    fn connect(&mut self) -> io::Result<()> {
+        let stream = TcpStream::connect(self.rt, self.server)?;
         stream.set_read_timeout(Some(Duration::from_secs(5)))?;
-        stream.write_all(&octets)?;
-        stream.shutdown(Shutdown::Write)?;
         self.streams.push(stream)?;
+        Ok(())
+    }
+
+    /// Writes octets and an end on the connection that was opened as the n-th from 0.
+    fn write_on(&mut self, number: usize, octets: &str) -> io::Result<()> {
+        let octets = decode(self.heap, octets)?;
+        if let Some(stream) = self.streams.get_mut(number) {
+            stream.write_all(&octets)?;
+            stream.shutdown(Shutdown::Write)?;
+        }
         Ok(())
     }
 
@@ -88,8 +97,11 @@ impl<'a> Clients<'a> {
             for octets in act.datagrams {
                 self.send(octets)?;
             }
-            for octets in act.streams {
-                self.connect(octets)?;
+            for _stream in 0..act.opened {
+                self.connect()?;
+            }
+            for &(number, octets) in act.written {
+                self.write_on(number, octets)?;
             }
         }
         Ok(())

@@ -43,7 +43,8 @@ const ANSWERS: &str = concat!(
 const ON_EACH_SOCKET: &[Act] = &[Act {
     line: "listening on ",
     datagrams: &["00", QUERY],
-    streams: &[SESSION, FRAMED_QUERY],
+    opened: 2,
+    written: &[(0, SESSION), (1, FRAMED_QUERY)],
 }];
 
 /// The log of the first run behind the address of the server.
@@ -74,12 +75,14 @@ const ONE_BEHIND_THE_OTHER: &[Act] = &[
     Act {
         line: "listening on ",
         datagrams: &["00"; 200],
-        streams: &[FRAMED_QUERY],
+        opened: 1,
+        written: &[(0, FRAMED_QUERY)],
     },
     Act {
         line: "conn 0 closed",
         datagrams: &[],
-        streams: &[FRAMED_QUERY],
+        opened: 1,
+        written: &[(1, FRAMED_QUERY)],
     },
 ];
 
@@ -99,6 +102,57 @@ fn accepts_while_datagrams_come(rt: HostRuntime) -> Result<(), Fail> {
     let server = clients.server();
     let log = format!(in heap;
         "zone example. version 0 serial 7\nlistening on {server}{LOG_OF_TWO}"
+    )?;
+    assert_eq!(rt; clients.log(), log.as_bytes());
+    Ok(())
+}
+
+/// Two hundred datagrams of one octet, and two connections, of which one is silent. When the other is closed, a third one; and when that
+/// is closed too, the silent one speaks.
+const ONE_IS_SILENT: &[Act] = &[
+    Act {
+        line: "listening on ",
+        datagrams: &["00"; 200],
+        opened: 2,
+        written: &[(1, FRAMED_QUERY)],
+    },
+    Act {
+        line: "conn 1 closed",
+        datagrams: &[],
+        opened: 1,
+        written: &[(2, FRAMED_QUERY)],
+    },
+    Act {
+        line: "conn 1 closed",
+        datagrams: &[],
+        opened: 0,
+        written: &[(0, FRAMED_QUERY)],
+    },
+];
+
+/// The log of the third run behind the address of the server.
+const LOG_OF_SILENT: &str = concat!(
+    "\nconn 0 open 127.0.0.1\nconn 1 open 127.0.0.1\nconn 1 closed",
+    "\nconn 1 open 127.0.0.1\nconn 1 closed\nconn 0 closed\n"
+);
+
+// A connection that was silent for many turns, in each of which a datagram came, so that the server never waited, is answered when it
+// speaks at last.
+#[test]
+fn hears_a_silent_connection_while_datagrams_come(rt: HostRuntime) -> Result<(), Fail> {
+    let heap = heap(rt.alloc())?;
+    let mut clients = Clients::new(&rt, heap, ONE_IS_SILENT)?;
+    assert_eq!(rt; run(&rt, heap, &mut clients, 190)?, DONE);
+    assert!(rt; clients.has_no_more());
+    for number in 0..3 {
+        assert!(rt;
+            clients.has_read(number, FRAMED_REPLY)?,
+            "connection {number}"
+        );
+    }
+    let server = clients.server();
+    let log = format!(in heap;
+        "zone example. version 0 serial 7\nlistening on {server}{LOG_OF_SILENT}"
     )?;
     assert_eq!(rt; clients.log(), log.as_bytes());
     Ok(())
