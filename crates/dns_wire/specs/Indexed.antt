@@ -1,5 +1,5 @@
 -- An index of a table of places: each stands in a bucket by a number of its suffix.
-use Rattle.std.specs.Prelude.{◌≡◌, ◌+◌, ◌*◌, ◌%◌, ℕ, List, [], Option, get_or, take}
+use Rattle.std.specs.Prelude.{◌≡◌, ◌+◌, ◌*◌, ◌%◌, ℕ, List, [], Option, get_or}
 use Rattle.std.specs.Option.{option_map}
 use Rattle.std.specs.List.{fold}
 use Rattle.dns_names.specs.Name.{Labels, labels_of}
@@ -14,9 +14,9 @@ offset_at places suffix = option_map (λ p. p.offset) (place_of places suffix)
 abbrev pub summed : ℕ → ℕ → ℕ
 summed sum octet = (sum * 31 + octet) % 65536
 
--- The number of the bucket of a suffix in plain form, by its first octets.
+-- The number of the bucket of a suffix in plain form.
 unfoldable pub bucket_of : List ℕ → ℕ
-bucket_of suffix = fold summed 0 (take 16 suffix) % 256
+bucket_of suffix = fold summed 0 suffix % 128
 
 -- Each suffix has in its bucket the least offset at which it stands.
 pub record IsIndexed (places : List Place) (buckets : List (List Place)) : Type 0 where

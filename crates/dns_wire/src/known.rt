@@ -1,13 +1,11 @@
 //! The places that pointers can name: where a suffix was written before (RFC 1035 section 4.1.4).
-ghost use Rattle.std.specs.Prelude.{◌≡◌, ◌<◌, List, [], ◌∷◌, ◌++◌, length, get_or, IfOk, IfSome, MatchOption, OnErr, OnOk};
+ghost use Rattle.std.specs.Prelude.{◌≡◌, ◌<◌, List, [], ◌∷◌, ◌++◌, length, get_or, IfOk, IfSome, OnErr, OnOk};
 ghost use Rattle.dns_names.specs.Name.{labels_of, names_eq};
 ghost use Rattle.dns_names.specs.Plain.{IsPlain};
 ghost use Rattle.dns_wire.specs.Compress.{Place};
 ghost use Rattle.dns_wire.specs.Indexed.{IsIndexed, bucket_of, offset_at};
-ghost use Rattle.dns_wire.specs.Puts.{noted};
 
 use dns_memory::Heap;
-use smallvec::SmallVec;
 use std::alloc::AllocError;
 use std::marker::Model;
 
@@ -29,16 +27,6 @@ impl<'a> Model for Target<'a> {
     ghost view = { λ m. record { offset = m.offset; suffix = labels_of m.suffix.now } };
 
     ghost invariant = { λ m. IsPlain m.suffix.now × (m.offset < 16384) };
-}
-
-impl<'a> Default for Target<'a> {
-    /// What fills a room in which no place is kept yet: the root, whose suffix is never looked for.
-    fn default() -> Target<'a> {
-        Target {
-            offset: 0,
-            suffix: &[0],
-        }
-    }
 }
 
 impl<'a> Target<'a> {
@@ -65,10 +53,13 @@ fn place_of(places: &[Target<'_>], suffix: &[u8]) -> Option<usize>
     None
 }
 
+/// How many places are looked through one by one: few messages have more.
+const LOOKED_THROUGH: usize = 12;
+
 /// The places behind them whose suffixes have one number, in the order of their offsets.
 #[derive(Drop)]
 struct Bucket<'a> {
-    places: SmallVec<Target<'a>, 4, Heap>,
+    places: Vec<Target<'a>, Heap>,
 }
 
 impl<'a> Model for Bucket<'a> {
@@ -86,7 +77,7 @@ impl<'a> Bucket<'a> {
         ensures { result ≡ [] }
     {
         Bucket {
-            places: SmallVec::new(alloc),
+            places: Vec::new(alloc),
         }
     }
 
@@ -103,19 +94,15 @@ impl<'a> Bucket<'a> {
     }
 }
 
-/// So many octets of a suffix count for its number.
-const COUNTED: usize = 16;
-
-/// The number of the bucket in which a suffix is looked for: of its first octets, so that most have one of their own.
+/// The number of the bucket in which a suffix is looked for: of its octets, so that most have one of their own.
 fn bucket_of(suffix: &[u8]) -> usize
     ensures { result ≡ bucket_of suffix.now }
 {
-    let front = &suffix[..COUNTED.min(suffix.len())];
     let mut sum = 0usize;
-    'octets: for octet in front {
+    'octets: for octet in suffix {
         sum = (sum * 31 + *octet as usize) % 65536;
     }
-    sum % 256
+    sum % 128
 }
 
 /// What stands in the bucket with a number.
@@ -124,7 +111,7 @@ fn places_in<'b, 'a>(buckets: &'b [Bucket<'a>], number: usize) -> &'b [Target<'a
 {
     if number < buckets.len() {
         let bucket = &buckets[number];
-        return bucket.places.as_slice();
+        return &bucket.places;
     }
     &[]
 }
@@ -140,15 +127,13 @@ fn reach(alloc: Heap, buckets: &mut Vec<Bucket<'_>, Heap>, number: usize) -> Res
     Ok(())
 }
 
-/// Keeps in the bucket with its number that a suffix stands at an offset.
+/// Keeps in its bucket that a suffix stands at an offset.
 fn keep_later<'a>(
     alloc: Heap,
     buckets: &mut Vec<Bucket<'a>, Heap>,
-    number: usize,
     offset: usize,
     suffix: &'a [u8],
 ) -> Result<(), AllocError>
-    requires number { number ≡ bucket_of suffix.now }
     requires plain { IsPlain suffix.now }
     requires low { offset < 16384 }
     ensures kept { OnOk result ((places : List Place) → IsIndexed places buckets.old.items
@@ -156,6 +141,7 @@ fn keep_later<'a>(
     ensures refused { OnErr result ((places : List Place) → IsIndexed places buckets.old.items
         → IsIndexed places buckets.new.items) }
 {
+    let number = bucket_of(suffix);
     reach(alloc, buckets, number)?;
     buckets[number].push(offset, suffix)
 }
@@ -164,9 +150,7 @@ fn keep_later<'a>(
 #[derive(Drop)]
 pub(crate) struct Places<'a> {
     all: Vec<Target<'a>, Heap>,
-    /// How many are looked through one by one.
-    looked_through: usize,
-    /// Those behind them, by the number of their suffix.
+    /// Those behind the places that are looked through, by the number of their suffix.
     later: Vec<Bucket<'a>, Heap>,
 }
 
@@ -179,19 +163,31 @@ impl<'a> Model for Places<'a> {
 
     ghost view = { λ p. p.all.items };
 
-    ghost invariant = { λ p. IsIndexed (drop p.looked_through p.all.items) p.later.items };
+    ghost invariant = { λ p. IsIndexed (drop 12 p.all.items) p.later.items };
 }
 
 impl<'a> Places<'a> {
-    /// No place. So many will be looked through one by one, and the others by a number of theirs: what is found is the same.
-    pub(crate) fn new(alloc: Heap, looked_through: usize) -> Result<Places<'a>, AllocError>
+    /// No place.
+    pub(crate) fn new(alloc: Heap) -> Result<Places<'a>, AllocError>
         ensures { IfOk result (λ places. places ≡ []) }
     {
         Ok(Places {
-            all: Vec::with_capacity(alloc, looked_through)?,
-            looked_through,
+            all: Vec::with_capacity(alloc, LOOKED_THROUGH)?,
             later: Vec::new(alloc),
         })
+    }
+
+    /// The least offset at which a suffix stands.
+    pub(crate) fn offset_of(&self, suffix: &'a [u8]) -> Option<usize>
+        requires { IsPlain suffix.now }
+        ensures place { result ≡ offset_at self.now (labels_of suffix.now) }
+        ensures low { IfSome result (λ offset. offset < 16384) }
+    {
+        let first = LOOKED_THROUGH.min(self.all.len());
+        if let Some(offset) = place_of(&self.all.as_slice()[..first], suffix) {
+            return Some(offset);
+        }
+        place_of(places_in(&self.later, bucket_of(suffix)), suffix)
     }
 
     /// Keeps that a suffix stands at an offset that a pointer can name.
@@ -203,50 +199,13 @@ impl<'a> Places<'a> {
         ensures refused { OnErr result (self.new ≡ self.old) }
     {
         self.all.reserve(1)?;
-        if self.all.len() < self.looked_through {
+        if self.all.len() < LOOKED_THROUGH {
             self.all.push_reserved(Target { offset, suffix });
             return Ok(());
         }
         let alloc = *self.all.allocator();
-        keep_later(alloc, &mut self.later, bucket_of(suffix), offset, suffix)?;
+        keep_later(alloc, &mut self.later, offset, suffix)?;
         self.all.push_reserved(Target { offset, suffix });
         Ok(())
-    }
-
-    /// The least offset at which a suffix stands. Where it stands nowhere, it is kept that it stands at this one, if a pointer can
-    /// name that.
-    pub(crate) fn find_or_keep(
-        &mut self,
-        offset: usize,
-        suffix: &'a [u8],
-    ) -> Result<Option<usize>, AllocError>
-        requires { IsPlain suffix.now }
-        ensures place { IfOk result (λ found. found ≡ offset_at self.old (labels_of suffix.now)) }
-        ensures low { IfOk result (λ found. IfSome found (λ place. place < 16384)) }
-        ensures kept { IfOk result (λ found. MatchOption found (self.new ≡ self.old ++ noted offset (labels_of suffix.now))
-            (λ _. self.new ≡ self.old)) }
-        ensures refused { OnErr result (self.new ≡ self.old) }
-    {
-        let first = self.looked_through.min(self.all.len());
-        if let Some(found) = place_of(&self.all.as_slice()[..first], suffix) {
-            return Ok(Some(found));
-        }
-        if self.all.len() < self.looked_through {
-            if offset < 16384 {
-                self.all.push(Target { offset, suffix })?;
-            }
-            return Ok(None);
-        }
-        let number = bucket_of(suffix);
-        if let Some(found) = place_of(places_in(&self.later, number), suffix) {
-            return Ok(Some(found));
-        }
-        if offset < 16384 {
-            self.all.reserve(1)?;
-            let alloc = *self.all.allocator();
-            keep_later(alloc, &mut self.later, number, offset, suffix)?;
-            self.all.push_reserved(Target { offset, suffix });
-        }
-        Ok(None)
     }
 }

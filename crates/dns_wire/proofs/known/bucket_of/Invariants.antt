@@ -4,4 +4,4 @@ use Rattle.dns_wire.specs.Indexed.{summed}
 use Rattle.dns_wire.proofs.known.bucket_of.Given as goal
 
 abbrev pub invariant-octets : goal.invariant-octets
-invariant-octets l = record { sum : l.sum ≡ fold summed 0 (take l.octet-index l.front); low : l.sum < 65536 }
+invariant-octets l = record { sum : l.sum ≡ fold summed 0 (take l.octet-index l.suffix); low : l.sum < 65536 }
