@@ -8,7 +8,7 @@ use std::test::Fail;
 
 /// A record of the owner that a text names, with a TTL of an hour.
 fn record_of(alloc: Heap, owner: &[u8], rdata: RData) -> Option<Record> {
-    Some(Record::new(name(alloc, owner).ok()?, 3600, rdata))
+    Record::new(alloc, name(alloc, owner).ok()?, 3600, rdata).ok()
 }
 
 /// The data of a SOA with the numbers of that of ISI.EDU.
@@ -72,18 +72,18 @@ fn serial_and_minimum(record: &Record) -> Option<(u32, u32)> {
 }
 
 /// What a SOA says with another serial number.
-fn with_serial(record: &Record, serial: u32) -> Option<(u32, u32)> {
+fn with_serial(alloc: Heap, record: &Record, serial: u32) -> Option<(u32, u32)> {
     if record.rtype() != types::SOA {
         return None;
     }
-    serial_and_minimum(&record.with_serial(serial).ok()?)
+    serial_and_minimum(&record.with_serial(alloc, serial).ok()?)
 }
 
 /// What the SOA of ISI.EDU says, and what it says with the next serial number.
 fn two_serials(alloc: Heap) -> Option<[Option<(u32, u32)>; 2]> {
     let rdata = RData::new(alloc, types::SOA, ISI_EDU).ok()?;
     let record = record_of(alloc, b".", rdata)?;
-    Some([serial_and_minimum(&record), with_serial(&record, 21)])
+    Some([serial_and_minimum(&record), with_serial(alloc, &record, 21)])
 }
 
 #[test]

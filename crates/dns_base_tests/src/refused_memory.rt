@@ -44,7 +44,7 @@ fn naming_steps(alloc: Heap, host: &Name) -> Result<(), AllocError> {
 /// A record of a name with the data of a SOA.
 fn start_at(alloc: Heap, host: Name) -> Result<Record, AllocError> {
     match start(alloc, &host, &host) {
-        Ok(rdata) => Ok(Record::new(host, 3600, rdata)),
+        Ok(rdata) => Record::new(alloc, host, 3600, rdata),
         Err(error) => {
             drop(host);
             Err(error)

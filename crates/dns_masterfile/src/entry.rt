@@ -63,7 +63,8 @@ impl<'a> Scanner<'a> {
         };
         let rdata = self.take_rdata(alloc, &context.origin, rtype)?;
         self.end()?;
-        Ok(Said::Item(Record::new(owner, ttl, rdata), written))
+        let record = Record::new(alloc, owner, ttl, rdata)?;
+        Ok(Said::Item(record, written))
     }
 
     /// Takes a directive, of which the first word is that.

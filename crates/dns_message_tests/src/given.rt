@@ -34,7 +34,7 @@ fn name(alloc: Heap, text: &[u8]) -> Option<Name> {
 /// A record of an owner with a TTL of an hour, a type and data.
 pub(crate) fn record(alloc: Heap, owner: &[u8], rtype: u16, octets: &[u8]) -> Option<Record> {
     let rdata = RData::new(alloc, rtype, octets).ok()?;
-    Some(Record::new(name(alloc, owner)?, 3600, rdata))
+    Record::new(alloc, name(alloc, owner)?, 3600, rdata).ok()
 }
 
 fn records(alloc: Heap) -> Option<Vec<Record, Heap>> {

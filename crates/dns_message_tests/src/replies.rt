@@ -9,7 +9,7 @@ use std::test::Fail;
 /// A record at the root with a TTL of a minute.
 fn at_root(alloc: Heap, rtype: u16, octets: &[u8]) -> Option<Record> {
     let rdata = RData::new(alloc, rtype, octets).ok()?;
-    Some(Record::new(Name::root(alloc), 60, rdata))
+    Record::new(alloc, Name::root(alloc), 60, rdata).ok()
 }
 
 /// A TXT at the root with so many strings of 255 octets, at most 15, and one of this length.

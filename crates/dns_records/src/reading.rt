@@ -90,9 +90,7 @@ impl Record {
         };
         let rdata = RData::new(alloc, frame.rtype, frame.rdata)?;
         let owner = frame.owner.to_name(alloc)?;
-        Ok((
-            Record::new(owner, frame.ttl, rdata),
-            octets.len() - frame.rest.len(),
-        ))
+        let record = Record::new(alloc, owner, frame.ttl, rdata)?;
+        Ok((record, octets.len() - frame.rest.len()))
     }
 }

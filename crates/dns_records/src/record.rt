@@ -1,5 +1,5 @@
 //! A record: owner, TTL and data, and its plain form.
-ghost use Rattle.std.specs.Prelude.{◌≡◌, ◌++◌, ◌↔◌, IsTrue, OnOk};
+ghost use Rattle.std.specs.Prelude.{◌≡◌, ◌++◌, ◌↔◌, IsTrue, IfOk, OnOk};
 ghost use Rattle.dns_records.specs.Compare.{same_record, same_record-per, same_record-equiv};
 ghost use Rattle.dns_records.specs.Record.{Record as Stated, plain, IsRecord, record_of, data_of, record_cmp};
 
@@ -8,7 +8,9 @@ use dns_memory::Heap;
 use dns_names::Name;
 use std::alloc::AllocError;
 use std::cmp::Ordering;
+use std::fmt;
 use std::marker::Model;
+use std::rc::Rc;
 use thiserror::Error;
 
 /// Why octets are no record.
@@ -38,12 +40,19 @@ impl From<AllocError> for RecordError {
     }
 }
 
-/// A record of class IN: an owner, a TTL in seconds, a type, and data (RFC 1035 section 3.2.1).
-#[derive(Debug, Drop)]
-pub struct Record {
+/// What a record says.
+#[derive(Drop)]
+struct Parts {
     owner: Name,
     ttl: u32,
     rdata: RData,
+}
+
+/// A record of class IN: an owner, a TTL in seconds, a type, and data (RFC 1035 section 3.2.1). It is one pointer, and its copies share
+/// what it says: to move a record and to copy it costs the same, however much that is.
+#[derive(Drop)]
+pub struct Record {
+    parts: Rc<Parts, Heap>,
 }
 
 impl Model for Record {
@@ -51,47 +60,50 @@ impl Model for Record {
 
     ghost Value = { Stated };
 
-    ghost view = { λ r. record_of r.owner r.ttl r.rdata };
+    ghost view = { λ r. record_of r.parts.value.owner r.parts.value.ttl r.parts.value.rdata };
 
-    ghost invariant = { λ r. IsRecord (record_of r.owner r.ttl r.rdata) };
+    ghost invariant = { λ r. IsRecord (record_of r.parts.value.owner r.parts.value.ttl r.parts.value.rdata) };
 }
 
 impl Record {
     /// The record of an owner, a TTL in seconds, and data.
-    pub fn new(owner: Name, ttl: u32, rdata: RData) -> Record
-        ensures { result ≡ record_of owner ttl rdata }
+    pub fn new(alloc: Heap, owner: Name, ttl: u32, rdata: RData) -> Result<Record, AllocError>
+        ensures { IfOk result (λ r. r ≡ record_of owner ttl rdata) }
     {
         let _owner = owner.as_wire();
         let _data = rdata.octets();
-        Record { owner, ttl, rdata }
+        let parts = Parts { owner, ttl, rdata };
+        Ok(Record {
+            parts: Rc::new(alloc, parts)?,
+        })
     }
 
     /// Whose record it is.
     pub fn owner(&self) -> &Name
         ensures { result.now ≡ self.now.owner }
     {
-        &self.owner
+        &self.parts.owner
     }
 
     /// The type (RFC 1035 section 3.2.2).
     pub fn rtype(&self) -> u16
         ensures { result ≡ self.now.rtype }
     {
-        self.rdata.rtype()
+        self.parts.rdata.rtype()
     }
 
     /// For how many seconds it may be kept.
     pub fn ttl(&self) -> u32
         ensures { result ≡ self.now.ttl }
     {
-        self.ttl
+        self.parts.ttl
     }
 
     /// The type and the data.
     pub fn data(&self) -> &RData
         ensures { result.now ≡ data_of self.now }
     {
-        &self.rdata
+        &self.parts.rdata
     }
 
     /// The data in plain form.
@@ -99,29 +111,39 @@ impl Record {
         ensures octets { result.now ≡ self.now.rdata }
         ensures valid { IsRecord self.now }
     {
-        self.rdata.octets()
+        self.parts.rdata.octets()
     }
 
     /// The order of records in a zone: by owner, type and data. The TTL does not count.
     pub fn compare(&self, other: &Record) -> Ordering
         ensures { result ≡ record_cmp self.now other.now }
     {
-        let owners = self.owner.cmp(&other.owner);
-        let types = self.rdata.rtype().cmp(&other.rdata.rtype());
-        owners.then(types.then(self.rdata.octets().cmp(other.rdata.octets())))
+        let parts = self.parts.as_ref();
+        let others = other.parts.as_ref();
+        let owners = parts.owner.cmp(&others.owner);
+        let types = parts.rdata.rtype().cmp(&others.rdata.rtype());
+        owners.then(types.then(parts.rdata.octets().cmp(others.rdata.octets())))
     }
 
     /// Writes the plain form at the end.
     pub fn to_wire_plain(&self, out: &mut Vec<u8, Heap>) -> Result<(), AllocError>
         ensures { OnOk result (out.new.items ≡ out.old.items ++ plain self.now) }
     {
-        let rdata = self.rdata.octets();
-        out.extend_from_slice(self.owner.as_wire())?;
-        out.extend_from_slice(&self.rdata.rtype().to_be_bytes())?;
-        out.extend_from_slice(&self.ttl.to_be_bytes())?;
+        let parts = self.parts.as_ref();
+        let rdata = parts.rdata.octets();
+        out.extend_from_slice(parts.owner.as_wire())?;
+        out.extend_from_slice(&parts.rdata.rtype().to_be_bytes())?;
+        out.extend_from_slice(&parts.ttl.to_be_bytes())?;
         out.extend_from_slice(&(rdata.len() as u16).to_be_bytes())?;
         out.extend_from_slice(rdata)?;
         Ok(())
+    }
+}
+
+impl fmt::Debug for Record {
+    fn fmt<W: fmt::Write>(&self, f: &mut fmt::Formatter<W>) -> fmt::Result {
+        let parts = self.parts.as_ref();
+        write!(f, "{} {} {:?}", parts.owner, parts.ttl, parts.rdata)
     }
 }
 
@@ -130,9 +152,7 @@ impl Clone for Record {
 
     fn clone(&self) -> Result<Self, AllocError> {
         Ok(Record {
-            owner: self.owner.clone()?,
-            ttl: self.ttl,
-            rdata: self.rdata.clone()?,
+            parts: self.parts.clone()?,
         })
     }
 }
@@ -147,7 +167,9 @@ impl PartialEq for Record {
         ensures value { result ≡ same_record self.now other.now }
         ensures same { IsTrue result ↔ (self.now ≡ other.now) }
     {
-        self.owner == other.owner && self.ttl == other.ttl && self.rdata == other.rdata
+        let parts = self.parts.as_ref();
+        let others = other.parts.as_ref();
+        parts.owner == others.owner && parts.ttl == others.ttl && parts.rdata == others.rdata
     }
 }
 

@@ -12,6 +12,7 @@ ghost use Rattle.dns_records.specs.Typed.{a_data, aaaa_data, name_data, mx_data,
 use crate::numbers::{five_u32, split_u16, u32_at};
 use crate::typed::{Mx, Soa, Srv};
 use crate::{RData, Record, types};
+use dns_memory::Heap;
 use dns_names::NameRef;
 use std::alloc::AllocError;
 
@@ -125,12 +126,12 @@ impl Record {
     }
 
     /// The SOA with another serial.
-    pub fn with_serial(&self, serial: u32) -> Result<Record, AllocError>
+    pub fn with_serial(&self, alloc: Heap, serial: u32) -> Result<Record, AllocError>
         requires { self.now.rtype ≡ type_soa }
         ensures { IfOk result (λ r. r ≡ with_serial self.now serial) }
     {
         let rdata = self.data().with_serial(serial)?;
-        Ok(Record::new(self.owner().clone()?, self.ttl(), rdata))
+        Record::new(alloc, self.owner().clone()?, self.ttl(), rdata)
     }
 }
 

@@ -18,7 +18,7 @@ fn host(alloc: Heap, number: u32) -> Option<Name> {
 /// The record of a host.
 fn address(alloc: Heap, number: u32, ttl: u32) -> Option<Record> {
     let data = RData::a(alloc, number.to_be_bytes());
-    Some(Record::new(host(alloc, number)?, ttl, data))
+    Record::new(alloc, host(alloc, number)?, ttl, data).ok()
 }
 
 /// An address for each of so many hosts.

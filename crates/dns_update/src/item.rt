@@ -128,7 +128,7 @@ impl ResourceRecord {
         ensures { IfOk result (λ r. r ≡ as_record self.now) }
     {
         let rdata = self.data(alloc)?;
-        Ok(Record::new(self.owner().clone()?, self.ttl(), rdata))
+        Record::new(alloc, self.owner().clone()?, self.ttl(), rdata)
     }
 
     /// The type and the data, where a zone can have them.

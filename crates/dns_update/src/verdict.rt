@@ -52,12 +52,12 @@ fn is_same_set<I: ZoneIndex>(a: &I, b: &I, names: &[Name]) -> bool
 }
 
 /// Advances the serial of a zone by one (RFC 2136 section 3.6).
-fn advance<I: ZoneIndex>(set: &mut I, soa: &Record) -> Result<(), AllocError>
+fn advance<I: ZoneIndex>(alloc: Heap, set: &mut I, soa: &Record) -> Result<(), AllocError>
     requires one { soas (I.records set.old) ≡ soa.now ∷ [] }
     requires soa { soa.now.rtype ≡ type_soa }
     ensures { OnOk result (I.records set.new ≡ with_next_serial (soas (I.records set.old)) (I.records set.old)) }
 {
-    let next = soa.with_serial(Serial(soa.serial()).next().0)?;
+    let next = soa.with_serial(alloc, Serial(soa.serial()).next().0)?;
     set.remove(soa)?;
     set.insert(next)
 }
@@ -95,7 +95,7 @@ fn advanced_change<I: ZoneIndex>(
 {
     let mut after = after;
     let soa = soa_of(&after, &zone.apex().lend()).clone()?;
-    advance(&mut after, &soa)?;
+    advance(alloc, &mut after, &soa)?;
     change_to(alloc, zone, after, names)
 }
 

@@ -1,6 +1,6 @@
 //! A message whose answer is filled record by record, as far as it goes: a transfer's (RFC 5936 section 2.2).
 ghost use Rattle.std.specs.Prelude.{◌≡◌, ◌≤◌, ◌++◌, length, drop, IfOk, IfErr, OnOk};
-ghost use Rattle.dns_wire.specs.Building.{HasNoRecord, IsBuilt};
+ghost use Rattle.dns_wire.specs.Building.{HasNoRecord, IsBuilt, StandsBuilt};
 ghost use Rattle.dns_wire.specs.Compress.{compressed_record};
 ghost use Rattle.dns_wire.specs.Pushed.{IsPushed};
 ghost use Rattle.dns_wire.specs.Puts.{RefusesUpTo, Wrote};
@@ -18,12 +18,22 @@ use std::marker::Model;
 /// The octets that a message and one record more have room in, whatever the record.
 const ROOM: usize = 65535;
 
-/// A message that takes records into its answer, one behind the other, while they fit.
+/// So many places are looked through one by one: the apex, under which most names of a transfer are, stands among the first.
+const FEW_PLACES: usize = 2;
+
+/// What a message says so far, and its octets.
 #[derive(Drop)]
-pub struct MessageBuilder<'a> {
+struct Contents<'a> {
     reply: Reply<'a>,
     compressor: Compressor<'a>,
     limit: usize,
+}
+
+/// A message that takes records into its answer, one behind the other, while they fit. It stands on the heap, so that it is handed
+/// on at the cost of a pointer.
+#[derive(Drop)]
+pub struct MessageBuilder<'a> {
+    contents: Box<Contents<'a>, Heap>,
 }
 
 impl<'a> Model for MessageBuilder<'a> {
@@ -33,11 +43,12 @@ impl<'a> Model for MessageBuilder<'a> {
 
     ghost Value = { Building };
 
-    ghost view = { λ b. record { reply = stated b.reply; limit = b.limit } };
+    ghost view = { λ b. record { reply = stated b.contents.value.reply; limit = b.contents.value.limit } };
 
     ghost invariant = { λ b.
-        StandsBuilt (record { reply = stated b.reply; limit = b.limit }) b.compressor.octets.items b.compressor.places
-        × (b.compressor.limit ≡ 65535) };
+        StandsBuilt (record { reply = stated b.contents.value.reply; limit = b.contents.value.limit })
+        b.contents.value.compressor.octets.items b.contents.value.compressor.places
+        × (b.contents.value.compressor.limit ≡ 65535) };
 }
 
 /// What became of a message to which a record was given.
@@ -86,7 +97,33 @@ fn finished(reply: &Reply<'_>, mut octets: Vec<u8, Heap>) -> Vec<u8, Heap>
     octets
 }
 
+/// The octets of a message with its header.
+fn octets_of(contents: Contents<'_>) -> Vec<u8, Heap>
+    requires { IsBuilt (stated contents.reply) contents.compressor.octets.items }
+    ensures { result.items ≡ text (stated contents.entry.reply) }
+{
+    let Contents {
+        reply,
+        compressor,
+        limit: _,
+    } = contents;
+    finished(&reply, compressor.octets)
+}
+
 impl<'a> MessageBuilder<'a> {
+    /// The message of these contents.
+    fn of(alloc: Heap, contents: Contents<'a>) -> Result<MessageBuilder<'a>, AllocError>
+        requires stands { StandsBuilt (record { reply = stated contents.reply; limit = contents.limit })
+            contents.compressor.octets.items contents.compressor.places }
+        requires room { contents.compressor.limit ≡ 65535 }
+        ensures { IfOk result
+            (λ b. b ≡ record { reply = stated contents.entry.reply; limit = contents.entry.limit }) }
+    {
+        Ok(MessageBuilder {
+            contents: Box::new(alloc, contents)?,
+        })
+    }
+
     /// A message with what the reply says but for records, of at most so many octets. It refuses with `DoesNotFit` where it is
     /// longer already, and with `OutOfMemory` where memory is wanting.
     pub fn new(
@@ -101,40 +138,34 @@ impl<'a> MessageBuilder<'a> {
     {
         let mut compressor = Compressor {
             octets: Vec::with_capacity(alloc, limit)?,
-            places: Places::new(alloc)?,
+            places: Places::new(alloc, FEW_PLACES)?,
             limit,
         };
         compressor.put(&header(&reply)?)?;
         compressor.put_question(&reply.question)?;
         compressor.limit = ROOM;
-        Ok(MessageBuilder {
+        let contents = Contents {
             reply,
             compressor,
             limit,
-        })
+        };
+        Ok(MessageBuilder::of(alloc, contents)?)
     }
 
     /// Puts a record behind the others, if the message fits its limit with it.
     pub fn push(self, one: ReplyRecord<'a>) -> Result<Pushed<'a>, AllocError>
         ensures { IfOk result (λ pushed. IsPushed self.entry one.entry pushed) }
     {
-        let MessageBuilder {
-            mut reply,
-            mut compressor,
-            limit,
-        } = self;
-        let end = compressor.octets.len();
-        put_any(&mut compressor, &one)?;
-        if compressor.octets.len() > limit {
-            compressor.octets.truncate(end);
-            return Ok(Pushed::Full(finished(&reply, compressor.octets)));
+        let MessageBuilder { mut contents } = self;
+        let so_far = &mut *contents;
+        let end = so_far.compressor.octets.len();
+        put_any(&mut so_far.compressor, &one)?;
+        if so_far.compressor.octets.len() > so_far.limit {
+            so_far.compressor.octets.truncate(end);
+            return Ok(Pushed::Full(octets_of(Box::into_inner(contents))));
         }
-        reply.answer.push(one)?;
-        Ok(Pushed::Open(MessageBuilder {
-            reply,
-            compressor,
-            limit,
-        }))
+        so_far.reply.answer.push(one)?;
+        Ok(Pushed::Open(MessageBuilder { contents }))
     }
 
     /// The octets of the message.
@@ -142,11 +173,6 @@ impl<'a> MessageBuilder<'a> {
         ensures text { result.items ≡ text self.entry.reply }
         ensures fits { length result.items ≤ self.entry.limit }
     {
-        let MessageBuilder {
-            reply,
-            compressor,
-            limit: _,
-        } = self;
-        finished(&reply, compressor.octets)
+        octets_of(Box::into_inner(self.contents))
     }
 }

@@ -83,11 +83,10 @@ impl<'a> Compressor<'a> {
     {
         let mut rest = name;
         'labels: while rest.len() > 1 {
-            if let Some(offset) = self.places.offset_of(rest) {
+            let at = self.octets.len();
+            if let Some(offset) = self.places.find_or_keep(at, rest)? {
                 return self.put(&pointer(offset));
             }
-            let at = self.octets.len();
-            self.note(at, rest)?;
             let (label, behind) = rest.split_at(1 + rest[0] as usize);
             self.put(label)?;
             rest = behind;

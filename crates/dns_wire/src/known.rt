@@ -1,9 +1,10 @@
 //! The places that pointers can name: where a suffix was written before (RFC 1035 section 4.1.4).
-ghost use Rattle.std.specs.Prelude.{◌≡◌, ◌<◌, List, [], ◌∷◌, ◌++◌, length, get_or, IfOk, IfSome, OnErr, OnOk};
+ghost use Rattle.std.specs.Prelude.{◌≡◌, ◌<◌, List, [], ◌∷◌, ◌++◌, length, get_or, IfOk, IfSome, MatchOption, OnErr, OnOk};
 ghost use Rattle.dns_names.specs.Name.{labels_of, names_eq};
 ghost use Rattle.dns_names.specs.Plain.{IsPlain};
 ghost use Rattle.dns_wire.specs.Compress.{Place};
 ghost use Rattle.dns_wire.specs.Indexed.{IsIndexed, bucket_of, offset_at};
+ghost use Rattle.dns_wire.specs.Puts.{noted};
 
 use dns_memory::Heap;
 use std::alloc::AllocError;
@@ -52,9 +53,6 @@ fn place_of(places: &[Target<'_>], suffix: &[u8]) -> Option<usize>
     }
     None
 }
-
-/// How many places are looked through one by one: few messages have more.
-const LOOKED_THROUGH: usize = 12;
 
 /// The places behind them whose suffixes have one number, in the order of their offsets.
 #[derive(Drop)]
@@ -127,13 +125,15 @@ fn reach(alloc: Heap, buckets: &mut Vec<Bucket<'_>, Heap>, number: usize) -> Res
     Ok(())
 }
 
-/// Keeps in its bucket that a suffix stands at an offset.
+/// Keeps in the bucket with its number that a suffix stands at an offset.
 fn keep_later<'a>(
     alloc: Heap,
     buckets: &mut Vec<Bucket<'a>, Heap>,
+    number: usize,
     offset: usize,
     suffix: &'a [u8],
 ) -> Result<(), AllocError>
+    requires number { number ≡ bucket_of suffix.now }
     requires plain { IsPlain suffix.now }
     requires low { offset < 16384 }
     ensures kept { OnOk result ((places : List Place) → IsIndexed places buckets.old.items
@@ -141,7 +141,6 @@ fn keep_later<'a>(
     ensures refused { OnErr result ((places : List Place) → IsIndexed places buckets.old.items
         → IsIndexed places buckets.new.items) }
 {
-    let number = bucket_of(suffix);
     reach(alloc, buckets, number)?;
     buckets[number].push(offset, suffix)
 }
@@ -150,7 +149,9 @@ fn keep_later<'a>(
 #[derive(Drop)]
 pub(crate) struct Places<'a> {
     all: Vec<Target<'a>, Heap>,
-    /// Those behind the places that are looked through, by the number of their suffix.
+    /// How many are looked through one by one.
+    looked_through: usize,
+    /// Those behind them, by the number of their suffix.
     later: Vec<Bucket<'a>, Heap>,
 }
 
@@ -163,31 +164,19 @@ impl<'a> Model for Places<'a> {
 
     ghost view = { λ p. p.all.items };
 
-    ghost invariant = { λ p. IsIndexed (drop 12 p.all.items) p.later.items };
+    ghost invariant = { λ p. IsIndexed (drop p.looked_through p.all.items) p.later.items };
 }
 
 impl<'a> Places<'a> {
-    /// No place.
-    pub(crate) fn new(alloc: Heap) -> Result<Places<'a>, AllocError>
+    /// No place. So many will be looked through one by one, and the others by a number of theirs: what is found is the same.
+    pub(crate) fn new(alloc: Heap, looked_through: usize) -> Result<Places<'a>, AllocError>
         ensures { IfOk result (λ places. places ≡ []) }
     {
         Ok(Places {
-            all: Vec::with_capacity(alloc, LOOKED_THROUGH)?,
+            all: Vec::with_capacity(alloc, looked_through)?,
+            looked_through,
             later: Vec::new(alloc),
         })
-    }
-
-    /// The least offset at which a suffix stands.
-    pub(crate) fn offset_of(&self, suffix: &'a [u8]) -> Option<usize>
-        requires { IsPlain suffix.now }
-        ensures place { result ≡ offset_at self.now (labels_of suffix.now) }
-        ensures low { IfSome result (λ offset. offset < 16384) }
-    {
-        let first = LOOKED_THROUGH.min(self.all.len());
-        if let Some(offset) = place_of(&self.all.as_slice()[..first], suffix) {
-            return Some(offset);
-        }
-        place_of(places_in(&self.later, bucket_of(suffix)), suffix)
     }
 
     /// Keeps that a suffix stands at an offset that a pointer can name.
@@ -199,13 +188,50 @@ impl<'a> Places<'a> {
         ensures refused { OnErr result (self.new ≡ self.old) }
     {
         self.all.reserve(1)?;
-        if self.all.len() < LOOKED_THROUGH {
+        if self.all.len() < self.looked_through {
             self.all.push_reserved(Target { offset, suffix });
             return Ok(());
         }
         let alloc = *self.all.allocator();
-        keep_later(alloc, &mut self.later, offset, suffix)?;
+        keep_later(alloc, &mut self.later, bucket_of(suffix), offset, suffix)?;
         self.all.push_reserved(Target { offset, suffix });
         Ok(())
+    }
+
+    /// The least offset at which a suffix stands. Where it stands nowhere, it is kept that it stands at this one, if a pointer can
+    /// name that.
+    pub(crate) fn find_or_keep(
+        &mut self,
+        offset: usize,
+        suffix: &'a [u8],
+    ) -> Result<Option<usize>, AllocError>
+        requires { IsPlain suffix.now }
+        ensures place { IfOk result (λ found. found ≡ offset_at self.old (labels_of suffix.now)) }
+        ensures low { IfOk result (λ found. IfSome found (λ place. place < 16384)) }
+        ensures kept { IfOk result (λ found. MatchOption found (self.new ≡ self.old ++ noted offset (labels_of suffix.now))
+            (λ _. self.new ≡ self.old)) }
+        ensures refused { OnErr result (self.new ≡ self.old) }
+    {
+        let first = self.looked_through.min(self.all.len());
+        if let Some(found) = place_of(&self.all.as_slice()[..first], suffix) {
+            return Ok(Some(found));
+        }
+        if self.all.len() < self.looked_through {
+            if offset < 16384 {
+                self.all.push(Target { offset, suffix })?;
+            }
+            return Ok(None);
+        }
+        let number = bucket_of(suffix);
+        if let Some(found) = place_of(places_in(&self.later, number), suffix) {
+            return Ok(Some(found));
+        }
+        if offset < 16384 {
+            self.all.reserve(1)?;
+            let alloc = *self.all.allocator();
+            keep_later(alloc, &mut self.later, number, offset, suffix)?;
+            self.all.push_reserved(Target { offset, suffix });
+        }
+        Ok(None)
     }
 }

@@ -86,7 +86,7 @@ impl<'a> RecordView<'a> {
         let owner = self.owner().to_name(alloc)?;
         let octets = self.rdata(alloc)?;
         let rdata = RData::new(alloc, self.rtype(), &octets)?;
-        Ok(Record::new(owner, self.ttl(), rdata))
+        Ok(Record::new(alloc, owner, self.ttl(), rdata)?)
     }
 }
 

@@ -15,6 +15,9 @@ use crate::known::Places;
 use crate::{EchoedQuestion, Reply, ReplyRecord, WriteError};
 use dns_memory::Heap;
 
+/// Few replies have more places that pointers can name.
+const FEW_PLACES: usize = 12;
+
 /// Writes messages.
 pub struct Writer;
 
@@ -97,7 +100,7 @@ impl Writer {
     {
         let mut compressor = Compressor {
             octets: Vec::with_capacity(alloc, 512)?,
-            places: Places::new(alloc)?,
+            places: Places::new(alloc, FEW_PLACES)?,
             limit,
         };
         compressor.put(&header(reply)?)?;

@@ -23,7 +23,7 @@ pub(crate) fn record(
 ) -> Option<Record> {
     let data = data(heap, rtype, rdata)?;
     match name(heap, owner) {
-        Some(owner) => Some(Record::new(owner, ttl, data)),
+        Some(owner) => Record::new(heap, owner, ttl, data).ok(),
         None => None,
     }
 }

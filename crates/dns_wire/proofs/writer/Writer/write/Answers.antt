@@ -1,10 +1,12 @@
-use Rattle.std.proofs.Common.{◌≡◌, ◌≤◌, ◌<◌, ◌+◌, ◌++◌, List, ℕ, length, sym, ap, subst, ◌∙◌, arith}
+use Rattle.std.proofs.Common.{◌≡◌, ◌≤◌, ◌<◌, ◌+◌, ◌++◌, List, ℕ, length, refl, sym, ap, subst, ◌∙◌, arith}
 use Rattle.dns_wire.specs.Compress.{Compressing}
-use Rattle.dns_wire.specs.Text.{text}
+use Rattle.std.proofs.lemmas.List.{length-append}
+use Rattle.dns_wire.specs.Text.{text, header_octets, question_octets}
 use Rattle.dns_wire.specs.Reply.{stated}
-use Rattle.dns_wire.specs.Puts.{RefusesUpTo, compressed_all}
+use Rattle.dns_wire.specs.Puts.{RefusesUpTo, asked, compressed_all}
 use Rattle.dns_wire.proofs.Exits.{err_exit}
-use Rattle.dns_wire.proofs.TextPut.{text_long, first_refused, second_refused, third_refused, Begun, begun, Answered, answered, Authorised, authorised, whole_text}
+use Rattle.dns_wire.proofs.Puts.{refuses_more}
+use Rattle.dns_wire.proofs.TextPut.{asked_octets, text_size, text_long, first_refused, second_refused, third_refused, Begun, begun, Answered, answered, Authorised, authorised, whole_text}
 use Rattle.dns_wire.proofs.writer.Writer.write.Goals as goal
 use Rattle.dns_wire.proofs.writer.Writer.write.Goals.{In_ok-put_question, In_ok-put_records, In_ok-put_records-2}
 
@@ -37,6 +39,25 @@ three c h =
     let w = c.in_ok-put_records-2.ensures.written in
     let same = ap (compressed_all q.places (length q.octets.items)) c.as_slice-2.ensures.value in
     authorised (stated c.args.reply.now) q.octets.items c.put_records-2.new.self.octets.items q.places c.put_records-2.new.self.places h (w.octets ∙ ap (λ (p : Compressing). q.octets.items ++ p.octets) same) (w.places ∙ ap (λ (p : Compressing). p.places) same)
+
+pub returns-in_err-put_question-clause-refused : goal.returns-in_err-put_question-clause-refused
+returns-in_err-put_question-clause-refused c =
+    let r = stated c.args.reply.now in
+    let w = c.in_ok-put.ensures.written in
+    let now = c.put.new.self in
+    let octets = now.octets.items in
+    let start = c.in_ok-with_capacity.field-0.items in
+    let more = (asked r.question).octets in
+    let e = c.in_err-put_question.field-0.0 in
+    let twelve : length (header_octets r) ≡ 12 = refl in
+    let none : length start ≡ 0 = ap length c.in_ok-with_capacity.ensures.items in
+    let front : octets ≡ start ++ header_octets r = w.octets ∙ ap (λ (xs : List ℕ). start ++ xs) c.in_ok-header.ensures.found in
+    let size : length octets ≡ 12 = omega (arith, ap length front, length-append start (header_octets r), none, twelve) in
+    let last : length more ≡ length (question_octets r) = ap length (asked_octets r) in
+    let short : length octets + length more ≤ length (text r) = omega (arith, size, last, text_size r) in
+    err_exit c.from_residual-in_err-put_question.result _ (RefusesUpTo c.args.limit (length (text r))) c.from_residual-in_err-put_question.ensures.1
+    (λ y same. subst (RefusesUpTo c.args.limit (length (text r))) (sym same)
+    (subst (λ (k : ℕ). RefusesUpTo k (length (text r)) e) w.same (refuses_more now.limit (length octets + length more) (length (text r)) e short c.in_err-put_question.ensures.refused)))
 
 pub returns-in_err-put_records-clause-refused : goal.returns-in_err-put_records-clause-refused
 returns-in_err-put_records-clause-refused c =
