@@ -148,8 +148,10 @@ fn counts(heap: Heap) -> Option<[u64; EVENTS]> {
     counts
 }
 
-/// How many there are, 175 in all: none in the two flushes, and none where a connection is closed.
-const ALLOCATIONS: [u64; EVENTS] = [1, 19, 16, 22, 4, 0, 4, 5, 4, 17, 17, 23, 5, 17, 17, 0, 0, 4];
+/// How many there are, 163 in all: none in the two flushes, and none where a connection is closed.
+const ALLOCATIONS: [u64; EVENTS] = [
+    1, 17, 14, 19, 4, 0, 4, 3, 16, 15, 14, 18, 5, 15, 14, 0, 0, 4,
+];
 
 /// Each allocation of the run is refused in turn.
 #[test]

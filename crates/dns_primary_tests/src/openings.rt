@@ -111,6 +111,6 @@ fn each_read_fails(rt: HostRuntime) -> Result<(), Fail> {
 #[test]
 fn each_allocation_refused(rt: HostRuntime) -> Result<(), Fail> {
     let heap = heap(rt.alloc())?;
-    assert_eq!(rt; count(heap, 2), Some(Ok(77)));
+    assert_eq!(rt; count(heap, 2), Some(Ok(76)));
     Ok(())
 }

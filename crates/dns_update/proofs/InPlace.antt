@@ -12,7 +12,7 @@ use Rattle.dns_zone.proofs.Replaced.{at_ordered, at_pass, replaced_kept, still_p
 use Rattle.dns_changes.proofs.Groups.{come_owned, put_is}
 
 -- what a test kept it keeps again
-twice : (p : Record → Bool) (xs : List Record) → filter p (filter p xs) ≡ filter p xs
+pub twice : (p : Record → Bool) (xs : List Record) → filter p (filter p xs) ≡ filter p xs
 twice p [] = refl
 twice p (x ∷ xs) = step (p x) refl (twice p xs)
   where

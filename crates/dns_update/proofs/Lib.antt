@@ -1,6 +1,7 @@
 pub mod Gone
 pub mod Found
 pub mod InPlace
+pub mod Ranges
 pub mod Forms
 pub mod ResourceRecords
 pub mod OneSoa

@@ -1,16 +1,17 @@
 //! What an update does to the records of a zone.
-ghost use Rattle.std.specs.Prelude.{◌≡◌, ◌≢◌, ◌||◌, ◌&&◌, ◌==◌, true, not, filter, Some, None, OnOk, IfOk};
+ghost use Rattle.std.specs.Prelude.{◌≡◌, ◌≢◌, ◌≤◌, ◌++◌, ◌||◌, ◌&&◌, ◌==◌, nat_lt, true, not, filter, length, take, drop, Some, None, OnOk, IfOk};
 ghost use Rattle.std.specs.List.{AllByRecursion, list_any, find};
 ghost use Rattle.std.specs.Option.{option_copied};
 ghost use Rattle.std.specs.Ordering.{is_eq};
 ghost use Rattle.dns_names.specs.Name.{names_eq};
 ghost use Rattle.dns_records.specs.Record.{record_cmp, serial_of};
-ghost use Rattle.dns_records.specs.Types.{type_soa};
+ghost use Rattle.dns_records.specs.Types.{type_any, type_soa};
 ghost use Rattle.dns_serial.specs.Serial.{greater};
-ghost use Rattle.dns_zone.specs.Records.{alike, is_ordered, put, without};
+ghost use Rattle.dns_zone.specs.Records.{alike, are_of, is_ordered, put, without};
 ghost use Rattle.dns_update.specs.ResourceRecord.{as_record, HasForm, first_fault};
 ghost use Rattle.dns_update.specs.Prescan.{prescan_fault};
-ghost use Rattle.dns_update.specs.Effect.{added, deleted, deleted_set, effect, effects, is_of, is_spared, is_vital, owns_other, replaced, succeeds};
+ghost use Rattle.dns_update.specs.Ranges.{is_outside};
+ghost use Rattle.dns_update.specs.Effect.{added, deleted, deleted_set, effect, effects, is_of, is_spared, owns_other, replaced, succeeds};
 
 use crate::item::{ResourceRecord, find_named};
 use dns_memory::Heap;
@@ -33,13 +34,6 @@ fn is_of(r: &Record, name: &NameRef<'_>, rtype: u16) -> bool
     ensures { result ≡ is_of name.now rtype r.now }
 {
     is_owned_by(r, name) && (rtype == ANY || r.rtype() == rtype)
-}
-
-/// Whether the record is the SOA or an NS of the apex.
-fn is_vital(r: &Record, apex: &NameRef<'_>) -> bool
-    ensures { result ≡ is_vital apex.now r.now }
-{
-    is_owned_by(r, apex) && (r.rtype() == SOA || r.rtype() == NS)
 }
 
 /// A copy of a record that was found.
@@ -216,47 +210,92 @@ fn add<I: ZoneIndex>(set: &mut I, come: Record) -> Result<(), AllocError>
     put_in(set, come)
 }
 
-/// Whether the record goes where an RRset is deleted, or all records of a name.
-fn is_deleted(r: &Record, apex: &NameRef<'_>, name: &NameRef<'_>, rtype: u16) -> bool
-    ensures { result ≡ (is_of name.now rtype r.now && not (is_vital apex.now r.now)) }
+/// Takes out those from a place on up to another. Those behind move at once.
+fn take_between(records: &mut Vec<Record, Heap>, begin: usize, end: usize) -> Result<(), AllocError>
+    requires order { begin ≤ end }
+    requires inside { end ≤ length records.old.items }
+    ensures { OnOk result (records.new.items ≡ take begin records.old.items ++ drop end records.old.items) }
 {
-    is_of(r, name, rtype) && !is_vital(r, apex)
+    let mut behind = records.split_off(end)?;
+    records.truncate(begin);
+    records.append(&mut behind)?;
+    Ok(())
 }
 
-/// The first of the records that goes where an RRset is deleted, or all records of a name.
-fn first_deleted<'r>(
-    records: &'r [Record],
+/// Takes those out of the records of a name whose types are from one on up to another.
+fn take_types(
+    records: &mut Vec<Record, Heap>,
+    name: &NameRef<'_>,
+    first: u16,
+    last: u16,
+) -> Result<(), AllocError>
+    requires rise { first ≤ last }
+    requires order { is_ordered records.old.items ≡ true }
+    requires owned { are_of name.now records.old.items ≡ true }
+    ensures { OnOk result (records.new.items ≡ filter (is_outside first last) records.old.items) }
+{
+    let _name = name;
+    let begin = records.partition_point(|r| r.rtype() < first);
+    let end = records.partition_point(|r| !(last < r.rtype()));
+    take_between(records, begin, end)
+}
+
+/// Takes those out of the records of a name whose types are behind one.
+fn take_types_behind(records: &mut Vec<Record, Heap>, name: &NameRef<'_>, last: u16)
+    requires order { is_ordered records.old.items ≡ true }
+    requires owned { are_of name.now records.old.items ≡ true }
+    ensures { records.new.items ≡ filter (λ r. not (nat_lt last r.rtype)) records.old.items }
+{
+    let _name = name;
+    let end = records.partition_point(|r| !(last < r.rtype()));
+    records.truncate(end);
+}
+
+/// Takes all out of the records of the apex but its SOA and its NS.
+fn take_but_vital(records: &mut Vec<Record, Heap>, apex: &NameRef<'_>) -> Result<(), AllocError>
+    requires order { is_ordered records.old.items ≡ true }
+    requires owned { are_of apex.now records.old.items ≡ true }
+    ensures { OnOk result (records.new.items ≡ deleted_set apex.now records.old.items apex.now type_any) }
+{
+    take_types_behind(records, apex, SOA);
+    take_types(records, apex, NS + 1, SOA - 1)?;
+    take_types(records, apex, 0, NS - 1)
+}
+
+/// Whether the two names are one.
+fn is_same(name: &NameRef<'_>, other: &NameRef<'_>) -> bool
+    ensures { result ≡ names_eq name.now other.now }
+{
+    name.is(other)
+}
+
+/// Takes those of a type out of the records of a name, or all where the type is ANY; but the SOA and the NS of the apex stay.
+fn take_deleted(
+    records: &mut Vec<Record, Heap>,
     apex: &NameRef<'_>,
     name: &NameRef<'_>,
     rtype: u16,
-) -> Option<&'r Record>
-    ensures { option_copied result ≡ find (λ r. is_of name.now rtype r && not (is_vital apex.now r)) records.now }
+) -> Result<(), AllocError>
+    requires order { is_ordered records.old.items ≡ true }
+    requires owned { are_of name.now records.old.items ≡ true }
+    ensures { OnOk result (records.new.items ≡ deleted_set apex.now records.old.items name.now rtype) }
 {
-    records.iter().find(|r| is_deleted(r, apex, name, rtype))
-}
-
-/// Copies of the records that stay where an RRset is deleted, or all records of a name.
-fn kept_of(
-    alloc: Heap,
-    records: &[Record],
-    apex: &NameRef<'_>,
-    name: &NameRef<'_>,
-    rtype: u16,
-) -> Result<Vec<Record, Heap>, AllocError>
-    ensures { IfOk result (λ kept. kept.items ≡ deleted_set apex.now records.now name.now rtype) }
-{
-    let mut kept = Vec::new(alloc);
-    for record in records {
-        if !is_deleted(record, apex, name, rtype) {
-            kept.push(record.clone()?)?;
+    let is_apex = is_same(name, apex);
+    if rtype == ANY {
+        if is_apex {
+            return take_but_vital(records, apex);
         }
+        records.clear();
+        return Ok(());
     }
-    Ok(kept)
+    if is_apex & ((rtype == SOA) | (rtype == NS)) {
+        return Ok(());
+    }
+    take_types(records, name, rtype, rtype)
 }
 
-/// Deletes an RRset, or all records of a name (RFC 2136 section 3.4.2.3). What the name owns is copied once.
+/// Deletes an RRset, or all records of a name (RFC 2136 section 3.4.2.3). None is copied but what another set shares.
 fn delete_set<I: ZoneIndex>(
-    alloc: Heap,
     set: &mut I,
     apex: &NameRef<'_>,
     name: &NameRef<'_>,
@@ -264,12 +303,12 @@ fn delete_set<I: ZoneIndex>(
 ) -> Result<(), AllocError>
     ensures { OnOk result (I.records set.new ≡ deleted_set apex.now (I.records set.old) name.now rtype) }
 {
-    let held = set.records_at(name);
-    if first_deleted(held, apex, name, rtype).is_none() {
+    if records_of(set, name, rtype).is_empty() {
         return Ok(());
     }
-    let kept = kept_of(alloc, held, apex, name, rtype)?;
-    set.replace_at(name, kept)
+    let mut held = set.take_at(name)?;
+    take_deleted(&mut held, apex, name, rtype)?;
+    set.replace_at(name, held)
 }
 
 /// Whether the item names a SOA, or the last NS of the apex.
@@ -317,7 +356,7 @@ fn take_effect<I: ZoneIndex>(
 {
     match item.class() {
         CLASS_IN => add(set, item.to_record(alloc)?),
-        CLASS_ANY => delete_set(alloc, set, apex, &item.owner().lend(), item.rtype()),
+        CLASS_ANY => delete_set(set, apex, &item.owner().lend(), item.rtype()),
         _ => delete(set, apex, item),
     }
 }

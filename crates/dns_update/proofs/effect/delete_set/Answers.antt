@@ -1,23 +1,34 @@
-use Rattle.std.proofs.Common.{◌≡◌, true, None, List, sym, ap, subst, ◌∙◌}
-use Rattle.std.specs.List.{find}
+use Rattle.std.proofs.Common.{◌≡◌, true, not, length, List, sym, ap, subst, ◌∙◌, arith}
+use Rattle.std.proofs.lemmas.Bool.Decides.{nat_tests}
+use Rattle.std.specs.Prelude.{ℕ, ◌==◌}
+use Rattle.dns_names.specs.Name.{names_eq}
 use Rattle.dns_records.specs.Record.{Record}
-use Rattle.dns_zone.specs.Records.{are_of, is_ordered, others, united}
+use Rattle.dns_zone.specs.Records.{are_of, is_ordered, others, records_at, united}
+use Rattle.dns_zone.proofs.Replaced.{at_ordered, at_pass}
 use Rattle.dns_update.specs.Effect.{deleted_set}
-use Rattle.dns_update.proofs.Found.{is_deleted, deleted_here, deleted_at, kept_ordered, kept_owned, none_copied, done_at}
-use Rattle.dns_update.proofs.Gone.{none_goes}
+use Rattle.dns_update.proofs.Found.{deleted_at, done_at, kept_ordered, kept_owned}
+use Rattle.dns_update.proofs.InPlace.{twice}
+use Rattle.dns_update.proofs.Ranges.{none_there}
 use Rattle.dns_update.proofs.effect.delete_set.Goals as goal
 
-pub returns-then-is_none : goal.returns-then-is_none
-returns-then-is_none g c =
+none : (n : ℕ) → (n == 0) ≡ true → n ≡ 0
+none n e = grind (arith, nat_tests)
+
+pub returns-then-is_empty : goal.returns-then-is_empty
+returns-then-is_empty g c =
     let xs = g.I.ZoneIndex.records c.args.set.now in
-    let apex = c.args.apex.now in
+    none_there c.args.apex.now c.args.name.now c.args.rtype xs
+    (sym (ap (λ (rs : List Record). length rs) c.records_of.ensures) ∙ none (length c.records_of.result.now) (sym c.is_empty.ensures ∙ c.if-is_empty.true))
+
+pub take_deleted-requires-clause-order : goal.take_deleted-requires-clause-order
+take_deleted-requires-clause-order g c =
+    let set = c.args.set.now in
+    subst (λ (xs : List Record). is_ordered xs ≡ true) (sym c.in_ok-held.ensures.taken) (at_ordered (g.I.ZoneIndex.records set) c.args.name.now (g.met.I.ZoneIndex.ordered set))
+
+pub take_deleted-requires-clause-owned : goal.take_deleted-requires-clause-owned
+take_deleted-requires-clause-owned g c =
     let name = c.args.name.now in
-    let t = c.args.rtype in
-    let p = is_deleted apex name t in
-    let none : find p xs ≡ None =
-    sym (ap (λ (rs : List Record). find p rs) c.records_at-held.ensures ∙ deleted_here apex name t xs)
-    ∙ none_copied c.first_deleted.result (find p c.records_at-held.result.now) c.if-is_none.ensures c.first_deleted.ensures in
-    sym (none_goes p xs none)
+    subst (λ (xs : List Record). are_of name xs ≡ true) (sym c.in_ok-held.ensures.taken) (at_pass name (g.I.ZoneIndex.records c.args.set.now))
 
 pub replace_at-requires-clause-order : goal.replace_at-requires-clause-order
 replace_at-requires-clause-order g c =
@@ -25,7 +36,7 @@ replace_at-requires-clause-order g c =
     let apex = c.args.apex.now in
     let name = c.args.name.now in
     let t = c.args.rtype in
-    let is = c.in_ok-kept.ensures ∙ ap (λ (rs : List Record). deleted_set apex rs name t) c.records_at-held.ensures in
+    let is = c.in_ok-take_deleted.ensures ∙ ap (λ (rs : List Record). deleted_set apex rs name t) c.in_ok-held.ensures.taken in
     subst (λ (rs : List Record). is_ordered rs ≡ true) (sym is) (kept_ordered apex name t xs (g.met.I.ZoneIndex.ordered c.args.set.now))
 
 pub replace_at-requires-clause-owned : goal.replace_at-requires-clause-owned
@@ -34,7 +45,7 @@ replace_at-requires-clause-owned g c =
     let apex = c.args.apex.now in
     let name = c.args.name.now in
     let t = c.args.rtype in
-    let is = c.in_ok-kept.ensures ∙ ap (λ (rs : List Record). deleted_set apex rs name t) c.records_at-held.ensures in
+    let is = c.in_ok-take_deleted.ensures ∙ ap (λ (rs : List Record). deleted_set apex rs name t) c.in_ok-held.ensures.taken in
     subst (λ (rs : List Record). are_of name rs ≡ true) (sym is) (kept_owned apex name t xs)
 
 pub returns : goal.returns
@@ -43,7 +54,10 @@ returns g c =
     let apex = c.args.apex.now in
     let name = c.args.name.now in
     let t = c.args.rtype in
-    let is = c.in_ok-kept.ensures ∙ ap (λ (rs : List Record). deleted_set apex rs name t) c.records_at-held.ensures in
-    let kept = c.in_ok-kept.kept.items in
-    done_at c.replace_at.result (g.I.ZoneIndex.records c.replace_at.new.self) (united (others xs name) kept) (deleted_set apex xs name t) c.replace_at.ensures.ok
-    (ap (λ (rs : List Record). united (others xs name) rs) is ∙ deleted_at apex name t xs (g.met.I.ZoneIndex.ordered c.args.set.now))
+    let is = c.in_ok-take_deleted.ensures ∙ ap (λ (rs : List Record). deleted_set apex rs name t) c.in_ok-held.ensures.taken in
+    let left = c.in_ok-held.ensures.left in
+    let kept = c.take_deleted.new.records.items in
+    done_at c.replace_at.result (g.I.ZoneIndex.records c.replace_at.new.self) (united (others (g.I.ZoneIndex.records c.take_at.new.self) name) kept) (deleted_set apex xs name t) c.replace_at.ensures.ok
+    ((λ i. united (others (left i) name) (is i))
+    ∙ ap (λ o. united o (deleted_set apex (records_at xs name) name t)) (twice (λ s. not (names_eq s.owner name)) xs)
+    ∙ deleted_at apex name t xs (g.met.I.ZoneIndex.ordered c.args.set.now))
