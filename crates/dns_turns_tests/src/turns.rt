@@ -1,6 +1,6 @@
 //! Turns over a network in memory.
 use crate::given::{QUERY, REPLY, Server, UPDATE, UPDATED, UPDATED_AND_REPLY, peer};
-use dns_edge::MemoryStream;
+use dns_edge::{MemoryStream, Octets};
 use dns_memory::{Heap, heap};
 use dns_turns::Note;
 use std::test::Fail;
@@ -10,6 +10,16 @@ const DATAGRAM: &str = "12340000000100000000000005686f737431076578616d706c650000
 
 const DATAGRAM_REPLY: &str =
     "12348400000100010000000005686f737431076578616d706c650000010001c00c0001000100000e100004c0000201";
+
+/// The front of an update of 512 octets: one record of type 65,280, whose data is what follows.
+const UPDATE_OF_512: &str =
+    "123428000001000000010000076578616d706c650000060001c00cff0000010000000001db";
+
+/// The header that answers an update that was done.
+const UPDATE_DONE: &str = "1234a8000000000000000000";
+
+/// The header that answers what is no message.
+const FORMERR: &str = "1234a8010000000000000000";
 
 /// Whether that is the last datagram that was sent, to the peer of all that comes.
 fn is_last(server: &Server, octets: &[u8]) -> bool {
@@ -47,6 +57,28 @@ fn are_answered(server: &mut Server) -> Option<[bool; 3]> {
     let second = is_answered(server)?;
     server.network.set_sends_fail(false);
     Some([first, second, is_answered(server)?])
+}
+
+/// The update of 512 octets, and one octet more.
+fn one_octet_too_many(heap: Heap) -> Option<Octets> {
+    let mut octets = hex::decode(heap, UPDATE_OF_512).ok()?;
+    octets.resize(513, 0).ok()?;
+    Some(octets)
+}
+
+/// Whether a datagram has these octets as its reply, within one turn.
+fn is_answered_by(server: &mut Server, datagram: &[u8], reply: &str) -> Option<bool> {
+    let reply = hex::decode(server.heap, reply).ok()?;
+    server.network.give(datagram, peer()).ok()?;
+    server.turn(0);
+    Some(is_last(server, reply.as_slice()))
+}
+
+/// Whether a datagram of 513 octets is no message, though the first 512 of them are an update.
+fn is_too_long(server: &mut Server) -> Option<bool> {
+    let octets = one_octet_too_many(server.heap)?;
+    let is_update = is_answered_by(server, &octets[..512], UPDATE_DONE)?;
+    Some(is_update && is_answered_by(server, octets.as_slice(), FORMERR)?)
 }
 
 /// Gives the octets on a connection that is new, in two parts, and says whether there is one reply.
@@ -174,6 +206,18 @@ fn answered(heap: Heap) -> Option<[bool; 3]> {
     let told = are_answered(&mut server);
     drop(server);
     told
+}
+
+/// The same of a datagram of 513 octets.
+fn too_long(heap: Heap) -> Option<bool> {
+    is_too_long(&mut Server::new(heap)?)
+}
+
+#[test]
+fn a_datagram_of_513_octets(rt: HostRuntime) -> Result<(), Fail> {
+    let heap = heap(rt.alloc())?;
+    assert!(rt; too_long(heap) == Some(true));
+    Ok(())
 }
 
 // A datagram is answered; where none can be sent, nothing else changes.
