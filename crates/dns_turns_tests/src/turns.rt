@@ -147,6 +147,16 @@ fn second_has_replies(server: &mut Server, n: u64) -> Option<bool> {
     Some(is_updated && server.has_sent(1, UPDATED_AND_REPLY)?)
 }
 
+/// Whether the last of three peers is answered where the one between closes its connection first.
+fn is_last_answered(server: &mut Server) -> Option<bool> {
+    connect_all(server, 3)?;
+    server.stream(1)?.close();
+    server.turns(1);
+    server.give(2, QUERY)?;
+    server.turns(3);
+    server.has_sent(2, REPLY)
+}
+
 /// Two peers are silent, one of which doesn't take what it is to receive: whether something was done in the turns after 29, 30 and 100
 /// seconds, in the last of which it takes that, and the counts before and behind the second.
 fn silence(server: &mut Server) -> Option<([bool; 3], [(u32, u32); 2])> {
@@ -310,6 +320,18 @@ fn silent_one_is_kept(heap: Heap) -> Option<bool> {
 fn silent_connections(rt: HostRuntime) -> Result<(), Fail> {
     let heap = heap(rt.alloc())?;
     assert!(rt; silent_one_is_kept(heap) == Some(true));
+    Ok(())
+}
+
+/// The same at a server of its own.
+fn last_answered(heap: Heap) -> Option<bool> {
+    is_last_answered(&mut Server::new(heap)?)
+}
+
+#[test]
+fn a_connection_behind_one_that_closed(rt: HostRuntime) -> Result<(), Fail> {
+    let heap = heap(rt.alloc())?;
+    assert!(rt; last_answered(heap) == Some(true));
     Ok(())
 }
 
