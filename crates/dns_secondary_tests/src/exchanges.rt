@@ -100,6 +100,6 @@ fn all_refused(alloc: Heap) -> Option<u64> {
 #[test]
 fn answers_that_are_refused_memory(rt: HostRuntime) -> Result<(), Fail> {
     let alloc = heap(rt.alloc())?;
-    assert_eq!(rt; all_refused(alloc), Some(21));
+    assert_eq!(rt; all_refused(alloc), Some(24));
     Ok(())
 }
