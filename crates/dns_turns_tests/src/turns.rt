@@ -59,10 +59,10 @@ fn are_answered(server: &mut Server) -> Option<[bool; 3]> {
     Some([first, second, is_answered(server)?])
 }
 
-/// The update of 512 octets, and one octet more.
-fn one_octet_too_many(heap: Heap) -> Option<Octets> {
+/// The update, cut or filled up with zeros to so many octets.
+fn update_of(heap: Heap, count: usize) -> Option<Octets> {
     let mut octets = hex::decode(heap, UPDATE_OF_512).ok()?;
-    octets.resize(513, 0).ok()?;
+    octets.resize(count, 0).ok()?;
     Some(octets)
 }
 
@@ -76,9 +76,10 @@ fn is_answered_by(server: &mut Server, datagram: &[u8], reply: &str) -> Option<b
 
 /// Whether a datagram of 513 octets is no message, though the first 512 of them are an update.
 fn is_too_long(server: &mut Server) -> Option<bool> {
-    let octets = one_octet_too_many(server.heap)?;
-    let is_update = is_answered_by(server, &octets[..512], UPDATE_DONE)?;
-    Some(is_update && is_answered_by(server, octets.as_slice(), FORMERR)?)
+    let update = update_of(server.heap, 512)?;
+    let is_update = is_answered_by(server, update.as_slice(), UPDATE_DONE)?;
+    let longer = update_of(server.heap, 513)?;
+    Some(is_update && is_answered_by(server, longer.as_slice(), FORMERR)?)
 }
 
 /// Gives the octets on a connection that is new, in two parts, and says whether there is one reply.
