@@ -70,6 +70,25 @@ fn answers_on_each_socket(rt: HostRuntime) -> Result<(), Fail> {
     Ok(())
 }
 
+/// Two datagrams with the question.
+const TWO_DATAGRAMS: &[Act] = &[Act {
+    line: "listening on ",
+    datagrams: &[QUERY, QUERY],
+    opened: 0,
+    written: &[],
+}];
+
+// One turn answers one of them.
+#[test]
+fn answers_one_datagram_a_turn(rt: HostRuntime) -> Result<(), Fail> {
+    let heap = heap(rt.alloc())?;
+    let mut clients = Clients::new(&rt, heap, TWO_DATAGRAMS)?;
+    assert_eq!(rt; run(&rt, heap, &mut clients, 1)?, DONE);
+    assert!(rt; clients.has_received(REPLY)?);
+    assert!(rt; clients.has_no_more());
+    Ok(())
+}
+
 /// Two hundred datagrams of one octet and a connection; and when that is closed, a second one.
 const ONE_BEHIND_THE_OTHER: &[Act] = &[
     Act {

@@ -211,33 +211,25 @@ fn add<I: ZoneIndex>(set: &mut I, come: Record) -> Result<(), AllocError>
 }
 
 /// Takes out those from a place on up to another. Those behind move at once.
-fn take_between(records: &mut Vec<Record, Heap>, begin: usize, end: usize) -> Result<(), AllocError>
+fn take_between(records: &mut Vec<Record, Heap>, begin: usize, end: usize)
     requires order { begin ≤ end }
     requires inside { end ≤ length records.old.items }
-    ensures { OnOk result (records.new.items ≡ take begin records.old.items ++ drop end records.old.items) }
+    ensures { records.new.items ≡ take begin records.old.items ++ drop end records.old.items }
 {
-    let mut behind = records.split_off(end)?;
-    records.truncate(begin);
-    records.append(&mut behind)?;
-    Ok(())
+    records.drain(begin..end);
 }
 
 /// Takes those out of the records of a name whose types are from one on up to another.
-fn take_types(
-    records: &mut Vec<Record, Heap>,
-    name: &NameRef<'_>,
-    first: u16,
-    last: u16,
-) -> Result<(), AllocError>
+fn take_types(records: &mut Vec<Record, Heap>, name: &NameRef<'_>, first: u16, last: u16)
     requires rise { first ≤ last }
     requires order { is_ordered records.old.items ≡ true }
     requires owned { are_of name.now records.old.items ≡ true }
-    ensures { OnOk result (records.new.items ≡ filter (is_outside first last) records.old.items) }
+    ensures { records.new.items ≡ filter (is_outside first last) records.old.items }
 {
     let _name = name;
     let begin = records.partition_point(|r| r.rtype() < first);
     let end = records.partition_point(|r| !(last < r.rtype()));
-    take_between(records, begin, end)
+    take_between(records, begin, end);
 }
 
 /// Takes those out of the records of a name whose types are behind one.
@@ -252,14 +244,14 @@ fn take_types_behind(records: &mut Vec<Record, Heap>, name: &NameRef<'_>, last: 
 }
 
 /// Takes all out of the records of the apex but its SOA and its NS.
-fn take_but_vital(records: &mut Vec<Record, Heap>, apex: &NameRef<'_>) -> Result<(), AllocError>
+fn take_but_vital(records: &mut Vec<Record, Heap>, apex: &NameRef<'_>)
     requires order { is_ordered records.old.items ≡ true }
     requires owned { are_of apex.now records.old.items ≡ true }
-    ensures { OnOk result (records.new.items ≡ deleted_set apex.now records.old.items apex.now type_any) }
+    ensures { records.new.items ≡ deleted_set apex.now records.old.items apex.now type_any }
 {
     take_types_behind(records, apex, SOA);
-    take_types(records, apex, NS + 1, SOA - 1)?;
-    take_types(records, apex, 0, NS - 1)
+    take_types(records, apex, NS + 1, SOA - 1);
+    take_types(records, apex, 0, NS - 1);
 }
 
 /// Whether the two names are one.
@@ -270,28 +262,24 @@ fn is_same(name: &NameRef<'_>, other: &NameRef<'_>) -> bool
 }
 
 /// Takes those of a type out of the records of a name, or all where the type is ANY; but the SOA and the NS of the apex stay.
-fn take_deleted(
-    records: &mut Vec<Record, Heap>,
-    apex: &NameRef<'_>,
-    name: &NameRef<'_>,
-    rtype: u16,
-) -> Result<(), AllocError>
+fn take_deleted(records: &mut Vec<Record, Heap>, apex: &NameRef<'_>, name: &NameRef<'_>, rtype: u16)
     requires order { is_ordered records.old.items ≡ true }
     requires owned { are_of name.now records.old.items ≡ true }
-    ensures { OnOk result (records.new.items ≡ deleted_set apex.now records.old.items name.now rtype) }
+    ensures { records.new.items ≡ deleted_set apex.now records.old.items name.now rtype }
 {
     let is_apex = is_same(name, apex);
     if rtype == ANY {
         if is_apex {
-            return take_but_vital(records, apex);
+            take_but_vital(records, apex);
+            return;
         }
         records.clear();
-        return Ok(());
+        return;
     }
     if is_apex & ((rtype == SOA) | (rtype == NS)) {
-        return Ok(());
+        return;
     }
-    take_types(records, name, rtype, rtype)
+    take_types(records, name, rtype, rtype);
 }
 
 /// Deletes an RRset, or all records of a name (RFC 2136 section 3.4.2.3). None is copied but what another set shares.
@@ -307,7 +295,7 @@ fn delete_set<I: ZoneIndex>(
         return Ok(());
     }
     let mut held = set.take_at(name)?;
-    take_deleted(&mut held, apex, name, rtype)?;
+    take_deleted(&mut held, apex, name, rtype);
     set.replace_at(name, held)
 }
 

@@ -3,6 +3,7 @@ ghost use Rattle.std.specs.Prelude.{◌≡◌, ◌<◌, ◌≤◌, true, false, 
 ghost use Rattle.std.specs.List.{AllWithin, find};
 ghost use Rattle.std.specs.Ordering.{is_lt, is_eq};
 ghost use Rattle.std.specs.Option.{option_copied};
+ghost use Rattle.dns_records.specs.Record.{record_cmp};
 ghost use Rattle.dns_zone.specs.Records.{alike, is_ordered, next_after};
 ghost use Rattle.dns_zone.specs.Place.{StandsAt, BelongsAt};
 ghost use Rattle.dns_zone.specs.Side.{side_of};
@@ -24,6 +25,18 @@ pub(crate) enum Key<'a> {
     Parts(NameRef<'a>, u16, &'a [u8]),
 }
 
+/// On which side of an owner, a type and data in plain form the record stands. Most records that a search looks at have the owner, so
+/// that the order of names is asked for only where the two differ.
+fn side_of_parts(r: &Record, owner: &NameRef<'_>, rtype: u16, rdata: &[u8]) -> Ordering
+    ensures { result ≡ record_cmp r.now (record { owner = owner.now; rtype = rtype; ttl = 0; rdata = rdata.now }) }
+{
+    let own = r.owner().lend();
+    if own.is(owner) {
+        return r.rtype().cmp(&rtype).then(r.rdata().cmp(rdata));
+    }
+    own.cmp(owner)
+}
+
 /// On which side of the key the record stands.
 fn side(key: &Key<'_>, r: &Record) -> Ordering
     ensures { result ≡ side_of key.now r.now }
@@ -31,14 +44,8 @@ fn side(key: &Key<'_>, r: &Record) -> Ordering
     match key {
         Key::Owner(name) => r.owner().lend().cmp(name),
         Key::Type(name, rtype) => r.owner().lend().cmp(name).then(r.rtype().cmp(rtype)),
-        Key::Data(other) => r.compare(other),
-        Key::Parts(name, rtype, rdata) => {
-            let types = r.rtype().cmp(rtype);
-            r.owner()
-                .lend()
-                .cmp(name)
-                .then(types.then(r.rdata().cmp(rdata)))
-        }
+        Key::Data(other) => side_of_parts(r, &other.owner().lend(), other.rtype(), other.rdata()),
+        Key::Parts(name, rtype, rdata) => side_of_parts(r, name, *rtype, rdata),
     }
 }
 

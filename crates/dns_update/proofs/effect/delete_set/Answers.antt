@@ -36,7 +36,7 @@ replace_at-requires-clause-order g c =
     let apex = c.args.apex.now in
     let name = c.args.name.now in
     let t = c.args.rtype in
-    let is = c.in_ok-take_deleted.ensures ∙ ap (λ (rs : List Record). deleted_set apex rs name t) c.in_ok-held.ensures.taken in
+    let is = c.take_deleted.ensures ∙ ap (λ (rs : List Record). deleted_set apex rs name t) c.in_ok-held.ensures.taken in
     subst (λ (rs : List Record). is_ordered rs ≡ true) (sym is) (kept_ordered apex name t xs (g.met.I.ZoneIndex.ordered c.args.set.now))
 
 pub replace_at-requires-clause-owned : goal.replace_at-requires-clause-owned
@@ -45,7 +45,7 @@ replace_at-requires-clause-owned g c =
     let apex = c.args.apex.now in
     let name = c.args.name.now in
     let t = c.args.rtype in
-    let is = c.in_ok-take_deleted.ensures ∙ ap (λ (rs : List Record). deleted_set apex rs name t) c.in_ok-held.ensures.taken in
+    let is = c.take_deleted.ensures ∙ ap (λ (rs : List Record). deleted_set apex rs name t) c.in_ok-held.ensures.taken in
     subst (λ (rs : List Record). are_of name rs ≡ true) (sym is) (kept_owned apex name t xs)
 
 pub returns : goal.returns
@@ -54,7 +54,7 @@ returns g c =
     let apex = c.args.apex.now in
     let name = c.args.name.now in
     let t = c.args.rtype in
-    let is = c.in_ok-take_deleted.ensures ∙ ap (λ (rs : List Record). deleted_set apex rs name t) c.in_ok-held.ensures.taken in
+    let is = c.take_deleted.ensures ∙ ap (λ (rs : List Record). deleted_set apex rs name t) c.in_ok-held.ensures.taken in
     let left = c.in_ok-held.ensures.left in
     let kept = c.take_deleted.new.records.items in
     done_at c.replace_at.result (g.I.ZoneIndex.records c.replace_at.new.self) (united (others (g.I.ZoneIndex.records c.take_at.new.self) name) kept) (deleted_set apex xs name t) c.replace_at.ensures.ok

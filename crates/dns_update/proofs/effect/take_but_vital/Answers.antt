@@ -1,12 +1,9 @@
 use Rattle.std.proofs.Common.{◌≡◌, true, not, List, sym, ap, subst, ◌∙◌}
 use Rattle.std.specs.Prelude.{Bool, nat_lt, filter}
-use Rattle.dns_records.specs.Types.{type_any}
 use Rattle.dns_records.specs.Record.{Record}
 use Rattle.dns_zone.specs.Order.{names_itself}
 use Rattle.dns_zone.specs.Records.{are_of, is_ordered}
-use Rattle.dns_update.specs.Effect.{deleted_set}
 use Rattle.dns_update.specs.Ranges.{is_outside}
-use Rattle.dns_update.proofs.Found.{done_at}
 use Rattle.dns_update.proofs.Ranges.{but_vital, left_ordered, left_owned}
 use Rattle.dns_update.proofs.effect.take_but_vital.Goals as goal
 
@@ -25,20 +22,19 @@ take_types-requires-clause-owned c =
 pub take_types-requires-2-clause-order : goal.take_types-requires-2-clause-order
 take_types-requires-2-clause-order c =
     let xs = c.args.records.now.items in
-    let is = c.in_ok-take_types.ensures ∙ ap (filter (is_outside 3 5)) c.take_types_behind.ensures in
+    let is = c.take_types.ensures ∙ ap (filter (is_outside 3 5)) c.take_types_behind.ensures in
     subst (λ (ys : List Record). is_ordered ys ≡ true) (sym is) (left_ordered (is_outside 3 5) (filter up_to_soa xs) (left_ordered up_to_soa xs c.requires.order))
 
 pub take_types-requires-2-clause-owned : goal.take_types-requires-2-clause-owned
 take_types-requires-2-clause-owned c =
     let xs = c.args.records.now.items in
     let apex = c.args.apex.now in
-    let is = c.in_ok-take_types.ensures ∙ ap (filter (is_outside 3 5)) c.take_types_behind.ensures in
+    let is = c.take_types.ensures ∙ ap (filter (is_outside 3 5)) c.take_types_behind.ensures in
     subst (λ (ys : List Record). are_of apex ys ≡ true) (sym is) (left_owned (is_outside 3 5) apex (filter up_to_soa xs) (left_owned up_to_soa apex xs c.requires.owned))
 
 pub returns : goal.returns
 returns c =
     let xs = c.args.records.now.items in
     let apex = c.args.apex.now in
-    let is = c.in_ok-take_types.ensures ∙ ap (filter (is_outside 3 5)) c.take_types_behind.ensures in
-    done_at c.take_types-2.result c.take_types-2.new.records.items (filter (is_outside 0 1) c.take_types.new.records.items) (deleted_set apex xs apex type_any) c.take_types-2.ensures
-    (ap (filter (is_outside 0 1)) is ∙ but_vital apex xs c.requires.owned (names_itself apex))
+    let is = c.take_types.ensures ∙ ap (filter (is_outside 3 5)) c.take_types_behind.ensures in
+    c.take_types-2.ensures ∙ ap (filter (is_outside 0 1)) is ∙ but_vital apex xs c.requires.owned (names_itself apex)

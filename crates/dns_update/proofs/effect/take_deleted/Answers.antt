@@ -1,12 +1,10 @@
 use Rattle.std.proofs.Common.{◌≡◌, true, ◌&&◌, ◌||◌, sym, ap, subst, ◌∙◌}
-use Rattle.std.specs.Prelude.{Bool, ◌==◌, filter}
+use Rattle.std.specs.Prelude.{Bool, ◌==◌}
 use Rattle.dns_names.specs.Name.{Labels}
-use Rattle.dns_records.specs.Types.{type_any, type_ns, type_soa}
+use Rattle.dns_records.specs.Types.{type_ns, type_soa}
 use Rattle.dns_zone.specs.Order.{names_same}
 use Rattle.dns_zone.specs.Records.{are_of}
 use Rattle.dns_update.specs.Effect.{deleted_set}
-use Rattle.dns_update.specs.Ranges.{is_outside}
-use Rattle.dns_update.proofs.Found.{done_at}
 use Rattle.dns_update.proofs.Ranges.{all_go, is_number, other_number, type_goes, vital_stays}
 use Rattle.dns_update.proofs.effect.take_deleted.Goals as goal
 
@@ -21,8 +19,7 @@ returns-then-is_apex c =
     let xs = c.args.records.now.items in
     let same = names_same c.args.name.now apex (sym c.is_same-is_apex.ensures ∙ c.if-is_apex.true) in
     let any = c.if-rtype-eq-ANY.true in
-    done_at c.take_but_vital.result c.take_but_vital.new.records.items (deleted_set apex xs apex type_any) (deleted_set apex xs c.args.name.now c.args.rtype) c.take_but_vital.ensures
-    (λ i. deleted_set apex xs (sym same i) (sym any i))
+    c.take_but_vital.ensures ∙ (λ i. deleted_set apex xs (sym same i) (sym any i))
 
 pub returns-then-rtype-eq-ANY : goal.returns-then-rtype-eq-ANY
 returns-then-rtype-eq-ANY c =
@@ -40,6 +37,6 @@ returns c =
     let apex = c.args.apex.now in
     let name = c.args.name.now in
     let xs = c.args.records.now.items in
-    done_at c.take_types.result c.take_types.new.records.items (filter (is_outside t t) xs) (deleted_set apex xs name t) c.take_types.ensures
-    (type_goes apex name t xs (other_number t 255 (λ e. c.if-rtype-eq-ANY.false (sym e)))
-    (ap (λ (b : Bool). b && (t == type_soa || t == type_ns)) (sym c.is_same-is_apex.ensures) ∙ c.if-is_apex-rtype.false) c.requires.owned)
+    c.take_types.ensures
+    ∙ type_goes apex name t xs (other_number t 255 (λ e. c.if-rtype-eq-ANY.false (sym e)))
+    (ap (λ (b : Bool). b && (t == type_soa || t == type_ns)) (sym c.is_same-is_apex.ensures) ∙ c.if-is_apex-rtype.false) c.requires.owned

@@ -1,11 +1,9 @@
 use Rattle.std.proofs.lemmas.Fn.{always_returns_same}
-use Rattle.std.proofs.Common.{◌≡◌, ◌≤◌, ◌++◌, true, false, not, length, take, drop, List, sym, subst, rules}
-use Rattle.std.specs.Prelude.{nat_lt, filter}
+use Rattle.std.proofs.Common.{◌≡◌, ◌≤◌, true, false, not, length, List, sym, subst, ◌∙◌, rules}
+use Rattle.std.specs.Prelude.{nat_lt}
 use Rattle.std.specs.List.Sorted.{IsPartitionPoint}
 use Rattle.dns_records.specs.Record.{Record}
 use Rattle.dns_zone.proofs.Typed.{Rises, below_first}
-use Rattle.dns_update.specs.Ranges.{is_outside}
-use Rattle.dns_update.proofs.Found.{done_at}
 use Rattle.dns_update.proofs.Ranges.{ends_later, outside_kept, rises_from, up_to_first}
 use Rattle.dns_update.proofs.effect.take_types.Goals as goal
 use Rattle.dns_update.proofs.effect.take_types.Goals.{After-partition_point-end}
@@ -39,5 +37,5 @@ returns c =
     let end = c.partition_point-end.result in
     let inside : end ≤ length xs = subst (λ (ys : List Record). end ≤ length ys) c.deref-2.ensures.value c.partition_point-end.ensures.bound in
     let rises = rises_from c.args.name.now xs c.requires.order c.requires.owned in
-    done_at c.take_between.result c.take_between.new.records.items (take begin xs ++ drop end xs) (filter (is_outside c.args.first c.args.last) xs) c.take_between.ensures
-    (outside_kept c.args.first c.args.last xs begin end c.requires.rise rises (order at) inside (begins at).0 (begins at).1 (ends at).0 (ends at).1)
+    c.take_between.ensures
+    ∙ outside_kept c.args.first c.args.last xs begin end c.requires.rise rises (order at) inside (begins at).0 (begins at).1 (ends at).0 (ends at).1
