@@ -3,6 +3,7 @@ use Rattle.std.proofs.Common.{◌≡◌, ℕ, zero, suc, ◌+◌, ◌<◌, lengt
 use Rattle.std.specs.Prelude.{cond, filter, ◌==◌, is_some, is_ok, Result, IfOk, IfErr, if◌then◌else◌}
 use Rattle.std.specs.List.{list_any, list_all}
 use Rattle.std.specs.Ordering.{is_eq}
+use Rattle.std.proofs.lemmas.List.Folds.{list_any_at}
 use Rattle.std.specs.Cmp.{both_ways, tied_itself}
 use Rattle.dns_records.specs.Record.{Record, record_cmp}
 use Rattle.dns_names.specs.Name.{names_eq}
@@ -199,6 +200,9 @@ among_found r a xs h e =
     let is : r ≡ a = cc in
     subst (λ (x : Record). same_record x r ≡ true) is (same_record-equiv.refl r)))
     (λ s. subst (λ (x : Record). contains xs x ≡ true) ((same_record-Decides a r).0 s) (found_contains r a xs e).1)
+
+pub among_here : (r there : Record) (xs : List Record) (at : ℕ) → at < length xs → there ≡ get_or xs at there → there ≡ r → contains xs r ≡ true
+among_here r there xs at inside is e = list_any_at (same r) xs at there inside (ap (same r) (sym is ∙ e) ∙ same_itself r)
 
 pub among_none : (r : Record) (xs : List Record) → Sorted xs → has r xs ≡ false → contains xs r ≡ false
 among_none r xs h e = elim (true_or_false (contains xs r)) [

@@ -142,15 +142,19 @@ impl Change {
     }
 }
 
-/// Whether the record is one of these, which stand in order, with its TTL. It is searched from a place on, and the place is moved
-/// to it, so that records that are looked for in order are found soon.
+/// Whether the record is one of these, which stand in order, with its TTL. It is looked for at a place first, and then from there on, and
+/// the place is moved behind it, so that records that are looked for in order are found soon.
 pub(crate) fn is_among(records: &[Record], wanted: &Record, near: &mut usize) -> bool
     requires { is_ordered records.now ≡ true }
     ensures { result ≡ contains records.now wanted.now }
 {
+    if *near < records.len() && records[*near] == *wanted {
+        *near += 1;
+        return true;
+    }
     match find_record(records, wanted, Some(*near)) {
         Ok(at) => {
-            *near = at;
+            *near = at + 1;
             records[at] == *wanted
         }
         Err(at) => {

@@ -1,7 +1,7 @@
 pub mod Gone
 pub mod Found
-pub mod InPlace
 pub mod Ranges
+pub mod Fronts
 pub mod Forms
 pub mod ResourceRecords
 pub mod OneSoa
@@ -11,6 +11,7 @@ pub mod SoundEffects
 pub mod Serials
 pub mod Versions
 pub mod Aside
+pub mod AtOwner
 pub mod Naming
 pub mod Listing
 pub mod Examples

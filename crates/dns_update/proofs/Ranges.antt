@@ -17,7 +17,7 @@ use Rattle.dns_update.specs.Effect.{deleted_set, is_of, is_vital}
 use Rattle.dns_update.specs.Ranges.{is_outside}
 
 -- what all pass a test keeps
-all_kept : (p : Record → Bool) (xs : List Record) → list_all p xs ≡ true → filter p xs ≡ xs
+pub all_kept : (p : Record → Bool) (xs : List Record) → list_all p xs ≡ true → filter p xs ≡ xs
 all_kept p [] h = refl
 all_kept p (x ∷ xs) h =
     let both = both_true (p x) (list_all p xs) h in
@@ -132,7 +132,7 @@ all_stay name p f (x ∷ xs) h =
     ap (λ b. cond b (x ∷ filter p xs) (filter p xs)) (f x both.0) ∙ ap (λ (ys : List Record). x ∷ ys) (all_stay name p f xs both.1)
 
 -- what two tests keep, one behind the other
-then_kept : (p q : Record → Bool) (xs : List Record) → filter q (filter p xs) ≡ filter (λ r. p r && q r) xs
+pub then_kept : (p q : Record → Bool) (xs : List Record) → filter q (filter p xs) ≡ filter (λ r. p r && q r) xs
 then_kept p q [] = refl
 then_kept p q (x ∷ xs) = step (p x) (then_kept p q xs)
   where
@@ -203,11 +203,10 @@ is_number m n e = grind (arith, nat_tests)
 pub other_number : (m n : ℕ) → (n ≡ m → ⊥) → (m == n) ≡ false
 other_number m n e = grind (arith, nat_tests)
 
--- where none is of the name and the type, none goes
-pub none_there : (apex name : Labels) (t : ℕ) (xs : List Record) → length (filter (is_of name t) xs) ≡ 0 → xs ≡ deleted_set apex xs name t
-none_there apex name t [] h = refl
-none_there apex name t (x ∷ xs) h = at (is_of name t x) refl h (none_there apex name t xs)
+-- the records of a type go, whatever the name
+pub one_type_goes : (name : Labels) (t : ℕ) (xs : List Record) → (t == type_any) ≡ false → are_of name xs ≡ true → filter (is_outside t t) xs ≡ filter (λ r. not (is_of name t r)) xs
+one_type_goes name t xs other own = same_of name (is_outside t t) (λ r. not (is_of name t r)) (λ r e. is r.rtype (r.rtype == t) refl ∙ sym (λ i. not (e i && (other i || r.rtype == t)))) xs own
   where
-    at : (b : Bool) → is_of name t x ≡ b → length (cond b (x ∷ filter (is_of name t) xs) (filter (is_of name t) xs)) ≡ 0 → (length (filter (is_of name t) xs) ≡ 0 → xs ≡ deleted_set apex xs name t) → x ∷ xs ≡ cond (not (is_of name t x && not (is_vital apex x))) (x ∷ deleted_set apex xs name t) (deleted_set apex xs name t)
-    at true e h rest = absurd (omega (arith, h))
-    at false e h rest = ap (λ (ys : List Record). x ∷ ys) (rest h) ∙ sym (ap (λ b. cond (not (b && not (is_vital apex x))) (x ∷ deleted_set apex xs name t) (deleted_set apex xs name t)) e)
+    is : (m : ℕ) (c : Bool) → (m == t) ≡ c → (nat_lt m t || nat_lt t m) ≡ not c
+    is m true e = grind (arith, nat_tests)
+    is m false e = grind (arith, nat_tests)

@@ -1,5 +1,5 @@
 -- Tests of items and records.
-use Rattle.std.proofs.Common.{◌≡◌, ℕ, zero, suc, ◌+◌, ◌<◌, true, false, ◌&&◌, List, [], ◌∷◌, Option, Some, None, length, drop, get_or, refl, subst, sym, ap, ◌∙◌, arith}
+use Rattle.std.proofs.Common.{◌≡◌, ℕ, zero, suc, ◌+◌, ◌<◌, true, false, ◌&&◌, List, [], ◌∷◌, ◌++◌, Option, Some, None, length, drop, get_or, refl, subst, sym, ap, ◌∙◌, arith}
 use Rattle.std.specs.Prelude.{is_some, ◌==◌}
 use Rattle.std.specs.List.{AllByRecursion, find}
 use Rattle.dns_names.specs.Name.{names_eq}
@@ -20,7 +20,7 @@ found_here r xs = find_kept (alike r) (λ s. names_eq s.owner r.owner && s.rtype
     (λ i. names_eq (sym owner i) r.owner && (sym rtype i == r.rtype)) ∙ (λ i. names_itself r.owner i && number_itself r.rtype i)))
 
 -- ---- the first fault of items
-next_at : (xs : List ResourceRecord) (i : ℕ) (r : ResourceRecord) → i < length xs → r ≡ get_or xs i r → drop i xs ≡ r ∷ drop (i + 1) xs
+pub next_at : (xs : List ResourceRecord) (i : ℕ) (r : ResourceRecord) → i < length xs → r ≡ get_or xs i r → drop i xs ≡ r ∷ drop (i + 1) xs
 next_at [] i r lt is = absurd (omega arith)
 next_at (x ∷ xs) zero r lt is = ap (λ (y : ResourceRecord). y ∷ xs) (sym is)
 next_at (x ∷ xs) (suc i) r lt is =
@@ -46,6 +46,13 @@ fault_stops fault xs i r o lt is e some h = sym (h ∙ fault_at fault xs i r lt 
 pub no_fault : (a b : Option Rcode) → otherwise a b ≡ None → (a ≡ None) × (b ≡ None)
 no_fault (Some rcode) b e = absurd cc
 no_fault None b e = (refl, e)
+
+pub fault_parts : (fault : ResourceRecord → Option Rcode) (run rest : List ResourceRecord) → first_fault fault (run ++ rest) ≡ None → (first_fault fault run ≡ None) × (first_fault fault rest ≡ None)
+fault_parts fault [] rest e = (refl, e)
+fault_parts fault (i ∷ run) rest e =
+    let both = no_fault (fault i) (first_fault fault (run ++ rest)) e in
+    let parts = fault_parts fault run rest both.1 in
+    (ap (λ (o : Option Rcode). otherwise o (first_fault fault run)) both.0 ∙ parts.0, parts.1)
 
 pub passes_at : (fault : ResourceRecord → Option Rcode) (xs : List ResourceRecord) (i : ℕ) (r : ResourceRecord) → first_fault fault xs ≡ None → i < length xs → r ≡ get_or xs i r → fault r ≡ None
 passes_at fault [] i r e lt is = absurd (omega arith)

@@ -7,7 +7,7 @@ use Rattle.std.specs.declared.cmp.Ordering.TheVariants.{Less, Equal, Greater}
 use Rattle.dns_names.specs.Name.{Labels, names_eq, under}
 use Rattle.dns_records.specs.Types.{type_ns, type_soa}
 use Rattle.dns_records.specs.Record.{Record, record_cmp}
-use Rattle.dns_zone.specs.Records.{put, contains, same, owns_type}
+use Rattle.dns_zone.specs.Records.{put, contains, owns_type}
 use Rattle.dns_zone.specs.Zone.{soas, zone_fault}
 use Rattle.dns_zone.specs.declared.ZoneError.TheVariants.{NoSoa, ManySoa, NoNs, OutOfZone, Duplicate, CnameAndOther, WildcardNs, TooMany}
 use Rattle.dns_zone.specs.Order.{names_same, names_itself, tied_key}

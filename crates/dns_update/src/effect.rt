@@ -1,40 +1,27 @@
-//! What an update does to the records of a zone.
-ghost use Rattle.std.specs.Prelude.{◌≡◌, ◌≢◌, ◌≤◌, ◌++◌, ◌||◌, ◌&&◌, ◌==◌, nat_lt, true, not, filter, length, take, drop, Some, None, OnOk, IfOk};
-ghost use Rattle.std.specs.List.{AllByRecursion, list_any, find};
+//! What an update does to the records of a zone. An item says something of what its owner owns, so that items of one name that follow
+//! each other are done to that, which is taken out of the zone once for all of them.
+ghost use Rattle.std.specs.Prelude.{◌≡◌, ◌≢◌, ◌≤◌, ◌++◌, ◌||◌, ◌&&◌, ◌==◌, nat_lt, true, false, not, filter, length, take, drop, Some, None, OnOk, IfOk};
+ghost use Rattle.std.specs.List.{AllByRecursion, list_any, list_all, find};
 ghost use Rattle.std.specs.Option.{option_copied};
-ghost use Rattle.std.specs.Ordering.{is_eq};
 ghost use Rattle.dns_names.specs.Name.{names_eq};
-ghost use Rattle.dns_records.specs.Record.{record_cmp, serial_of};
-ghost use Rattle.dns_records.specs.Types.{type_any, type_soa};
+ghost use Rattle.dns_records.specs.Record.{serial_of};
+ghost use Rattle.dns_records.specs.Types.{type_any, type_cname, type_soa};
 ghost use Rattle.dns_serial.specs.Serial.{greater};
-ghost use Rattle.dns_zone.specs.Records.{alike, are_of, is_ordered, put, without};
+ghost use Rattle.dns_zone.specs.Records.{alike, are_of, is_ordered, others, owns_type, put, records_at, united, without};
 ghost use Rattle.dns_update.specs.ResourceRecord.{as_record, HasForm, first_fault};
 ghost use Rattle.dns_update.specs.Prescan.{prescan_fault};
 ghost use Rattle.dns_update.specs.Ranges.{is_outside};
-ghost use Rattle.dns_update.specs.Effect.{added, deleted, deleted_set, effect, effects, is_of, is_spared, owns_other, replaced, succeeds};
+ghost use Rattle.dns_update.specs.Effect.{added, deleted, deleted_set, effect, effects, is_spared, owns_other, replaced, succeeds};
 
-use crate::item::{ResourceRecord, find_named};
+use crate::item::ResourceRecord;
+use crate::runs::first_run;
 use dns_memory::Heap;
-use dns_names::{Name, NameRef};
+use dns_names::NameRef;
 use dns_records::Record;
 use dns_records::types::{ANY, CLASS_ANY, CLASS_IN, CNAME, NS, SOA};
 use dns_serial::Serial;
-use dns_zone::{ZoneIndex, find_record, owns_type};
+use dns_zone::{ZoneIndex, find_parts, find_record, of_type};
 use std::alloc::AllocError;
-
-/// Whether the name owns the record.
-fn is_owned_by(r: &Record, name: &NameRef<'_>) -> bool
-    ensures { result ≡ names_eq r.now.owner name.now }
-{
-    r.owner().lend().is(name)
-}
-
-/// Whether the record is of the name, and of the type where that isn't ANY.
-fn is_of(r: &Record, name: &NameRef<'_>, rtype: u16) -> bool
-    ensures { result ≡ is_of name.now rtype r.now }
-{
-    is_owned_by(r, name) && (rtype == ANY || r.rtype() == rtype)
-}
 
 /// A copy of a record that was found.
 fn copy_of(found: Option<&Record>) -> Result<Option<Record>, AllocError>
@@ -45,37 +32,6 @@ fn copy_of(found: Option<&Record>) -> Result<Option<Record>, AllocError>
         Some(r) => Ok(Some(r.clone()?)),
     }
 }
-
-/// The first of the records that is of the name and the type.
-fn first_of<'r>(records: &'r [Record], name: &NameRef<'_>, rtype: u16) -> Option<&'r Record>
-    ensures { option_copied result ≡ find (is_of name.now rtype) records.now }
-{
-    records.iter().find(|r| is_of(r, name, rtype))
-}
-
-/// The records of a name, and of a type where that isn't ANY.
-fn records_of<'s, I: ZoneIndex>(set: &'s I, name: &NameRef<'_>, rtype: u16) -> &'s [Record]
-    ensures { result.now ≡ filter (is_of name.now rtype) (I.records set.now) }
-{
-    if rtype == ANY {
-        return set.records_at(name);
-    }
-    set.rrset(name, rtype)
-}
-
-/// A copy of the first record that goes where those of a name and a type go.
-fn next_replaced<I: ZoneIndex>(
-    set: &I,
-    name: &NameRef<'_>,
-    rtype: u16,
-) -> Result<Option<Record>, AllocError>
-    ensures { IfOk result (λ found. found ≡ find (is_of name.now rtype) (I.records set.now)) }
-{
-    copy_of(first_of(records_of(set, name, rtype), name, rtype))
-}
-
-/// A name that owns so many records gets one more, or loses one, where they stand: fewer are copied instead.
-const MANY: usize = 8;
 
 /// Puts a record among others in order, in place of one of equal owner, type and data.
 fn put_among(records: &mut Vec<Record, Heap>, come: Record) -> Result<(), AllocError>
@@ -89,20 +45,6 @@ fn put_among(records: &mut Vec<Record, Heap>, come: Record) -> Result<(), AllocE
     Ok(())
 }
 
-/// Puts a record in. Of a name that owns many, none is copied but what another set shares.
-fn put_in<I: ZoneIndex>(set: &mut I, come: Record) -> Result<(), AllocError>
-    ensures { OnOk result (I.records set.new ≡ put come (I.records set.old)) }
-{
-    let owner = come.owner().clone()?;
-    let name = owner.lend();
-    if set.records_at(&name).len() < MANY {
-        return set.insert(come);
-    }
-    let mut held = set.take_at(&name)?;
-    put_among(&mut held, come)?;
-    set.replace_at(&name, held)
-}
-
 /// Takes a record out of others in order.
 fn take_among(records: &mut Vec<Record, Heap>, gone: &Record)
     requires { is_ordered records.old.items ≡ true }
@@ -113,54 +55,11 @@ fn take_among(records: &mut Vec<Record, Heap>, gone: &Record)
     }
 }
 
-/// Takes a record out. Of a name that owns many, none is copied but what another set shares.
-fn take_out<I: ZoneIndex>(set: &mut I, gone: Record) -> Result<(), AllocError>
-    ensures { OnOk result (I.records set.new ≡ without gone (I.records set.old)) }
-{
-    let name = gone.owner().lend();
-    if set.records_at(&name).len() < MANY {
-        set.remove(&gone)?;
-        return Ok(());
-    }
-    let mut held = set.take_at(&name)?;
-    take_among(&mut held, &gone);
-    set.replace_at(&name, held)
-}
-
-/// Takes the records of a name and a type out.
-fn remove_replaced<I: ZoneIndex>(
-    set: &mut I,
-    name: &NameRef<'_>,
-    rtype: u16,
-) -> Result<(), AllocError>
-    ensures { OnOk result (I.records set.new ≡ filter (λ r. not (is_of name.now rtype r)) (I.records set.old)) }
-{
-    'records: while let Some(gone) = next_replaced(set, name, rtype)? {
-        take_out(set, gone)?;
-    }
-    Ok(())
-}
-
-/// Puts a record in, in place of all others of its owner and type.
-fn replace<I: ZoneIndex>(set: &mut I, come: Record) -> Result<(), AllocError>
-    ensures { OnOk result (I.records set.new ≡ replaced (I.records set.old) come) }
-{
-    remove_replaced(set, &come.owner().lend(), come.rtype())?;
-    set.insert(come)
-}
-
 /// Whether one of the records is of another type.
 fn has_other(records: &[Record], rtype: u16) -> bool
     ensures { result ≡ list_any (λ r. not (r.rtype == rtype)) records.now }
 {
     records.iter().any(|r| r.rtype() != rtype)
-}
-
-/// Whether the name owns a record of another type.
-fn owns_other<I: ZoneIndex>(set: &I, name: &NameRef<'_>, rtype: u16) -> bool
-    ensures { result ≡ owns_other (I.records set.now) name.now rtype }
-{
-    has_other(set.records_at(name), rtype)
 }
 
 /// Whether the record is a SOA with a serial less than that one.
@@ -175,39 +74,6 @@ fn has_older(records: &[Record], serial: Serial) -> bool
     ensures { result ≡ list_any (λ r. r.rtype == type_soa && greater serial.0 (serial_of r)) records.now }
 {
     records.iter().any(|r| is_older(r, serial))
-}
-
-/// Whether the SOA comes after one that stands at its owner (RFC 1982).
-fn succeeds_one<I: ZoneIndex>(set: &I, soa: &Record) -> bool
-    requires { soa.now.rtype ≡ type_soa }
-    ensures { result ≡ list_any (succeeds soa.now) (I.records set.now) }
-{
-    has_older(set.rrset(&soa.owner().lend(), SOA), Serial(soa.serial()))
-}
-
-/// Adds a record (RFC 2136 section 3.4.2.2).
-fn add<I: ZoneIndex>(set: &mut I, come: Record) -> Result<(), AllocError>
-    ensures { OnOk result (I.records set.new ≡ added (I.records set.old) come) }
-{
-    if come.rtype() == CNAME {
-        if owns_other(set, &come.owner().lend(), CNAME) {
-            drop(come);
-            return Ok(());
-        }
-        return replace(set, come);
-    }
-    if owns_type(set, &come.owner().lend(), CNAME) {
-        drop(come);
-        return Ok(());
-    }
-    if come.rtype() == SOA {
-        if succeeds_one(set, &come) {
-            return replace(set, come);
-        }
-        drop(come);
-        return Ok(());
-    }
-    put_in(set, come)
 }
 
 /// Takes out those from a place on up to another. Those behind move at once.
@@ -282,71 +148,209 @@ fn take_deleted(records: &mut Vec<Record, Heap>, apex: &NameRef<'_>, name: &Name
     take_types(records, name, rtype, rtype);
 }
 
-/// Deletes an RRset, or all records of a name (RFC 2136 section 3.4.2.3). None is copied but what another set shares.
-fn delete_set<I: ZoneIndex>(
-    set: &mut I,
-    apex: &NameRef<'_>,
-    name: &NameRef<'_>,
-    rtype: u16,
-) -> Result<(), AllocError>
-    ensures { OnOk result (I.records set.new ≡ deleted_set apex.now (I.records set.old) name.now rtype) }
+/// Puts a record among those of its owner, in place of all of its type.
+fn replace(records: &mut Vec<Record, Heap>, come: Record) -> Result<(), AllocError>
+    requires order { is_ordered records.old.items ≡ true }
+    requires owned { are_of come.owner records.old.items ≡ true }
+    requires rtype { (come.rtype == type_any) ≡ false }
+    ensures { OnOk result (records.new.items ≡ replaced records.old.items come) }
 {
-    if records_of(set, name, rtype).is_empty() {
-        return Ok(());
-    }
-    let mut held = set.take_at(name)?;
-    take_deleted(&mut held, apex, name, rtype);
-    set.replace_at(name, held)
+    take_types(records, &come.owner().lend(), come.rtype(), come.rtype());
+    put_among(records, come)
 }
 
-/// Whether the item names a SOA, or the last NS of the apex.
-fn is_spared<I: ZoneIndex>(set: &I, apex: &NameRef<'_>, item: &ResourceRecord) -> bool
-    ensures { result ≡ is_spared apex.now (I.records set.now) (as_record item.now) }
+/// Whether one of the records of the name is of another type than CNAME.
+fn owns_other(records: &[Record], name: &NameRef<'_>) -> bool
+    requires { are_of name.now records.now ≡ true }
+    ensures { result ≡ owns_other records.now name.now type_cname }
 {
-    let last = set.rrset(apex, NS).len() == 1;
+    let _name = name;
+    has_other(records, CNAME)
+}
+
+/// Whether one of the records of the name is a CNAME.
+fn owns_alias(records: &[Record], name: &NameRef<'_>) -> bool
+    requires order { is_ordered records.now ≡ true }
+    requires owned { are_of name.now records.now ≡ true }
+    ensures { result ≡ owns_type records.now name.now type_cname }
+{
+    let _name = name;
+    !of_type(records, CNAME).is_empty()
+}
+
+/// Whether the SOA comes after one of the records, which are its owner's (RFC 1982).
+fn succeeds_one(records: &[Record], soa: &Record) -> bool
+    requires soa { soa.now.rtype ≡ type_soa }
+    requires order { is_ordered records.now ≡ true }
+    requires owned { are_of soa.now.owner records.now ≡ true }
+    ensures { result ≡ list_any (succeeds soa.now) records.now }
+{
+    has_older(of_type(records, SOA), Serial(soa.serial()))
+}
+
+/// Adds a record to those of its owner (RFC 2136 section 3.4.2.2).
+fn add(records: &mut Vec<Record, Heap>, come: Record) -> Result<(), AllocError>
+    requires order { is_ordered records.old.items ≡ true }
+    requires owned { are_of come.owner records.old.items ≡ true }
+    ensures { OnOk result (records.new.items ≡ added records.old.items come) }
+{
+    if come.rtype() == CNAME {
+        if owns_other(records, &come.owner().lend()) {
+            drop(come);
+            return Ok(());
+        }
+        return replace(records, come);
+    }
+    if owns_alias(records, &come.owner().lend()) {
+        drop(come);
+        return Ok(());
+    }
+    if come.rtype() == SOA {
+        if succeeds_one(records, &come) {
+            return replace(records, come);
+        }
+        drop(come);
+        return Ok(());
+    }
+    put_among(records, come)
+}
+
+/// Whether the item names a SOA, or the last NS of the apex. The records are those of its owner.
+fn is_spared(records: &[Record], apex: &NameRef<'_>, item: &ResourceRecord) -> bool
+    requires order { is_ordered records.now ≡ true }
+    requires owned { are_of item.now.owner records.now ≡ true }
+    ensures { result ≡ is_spared apex.now records.now (as_record item.now) }
+{
+    let last = of_type(records, NS).len() == 1;
     (item.rtype() == SOA) | ((item.rtype() == NS) & item.is_owned_by(apex) & last)
 }
 
-/// A copy of the record that the item names, if it is there.
-fn named<I: ZoneIndex>(set: &I, item: &ResourceRecord) -> Result<Option<Record>, AllocError>
-    ensures { IfOk result (λ found. found ≡ find (alike (as_record item.now)) (I.records set.now)) }
+/// A copy of the record that the item names, if it is one of these.
+fn named(records: &[Record], item: &ResourceRecord) -> Result<Option<Record>, AllocError>
+    requires { is_ordered records.now ≡ true }
+    ensures { IfOk result (λ found. found ≡ find (alike (as_record item.now)) records.now) }
 {
-    copy_of(find_named(set, item))
+    copy_of(find_parts(records, &item.owner().lend(), item.rtype(), item.rdata()))
 }
 
-/// Deletes one record (RFC 2136 section 3.4.2.4).
-fn delete<I: ZoneIndex>(
-    set: &mut I,
+/// Deletes one record of those of its owner (RFC 2136 section 3.4.2.4).
+fn delete(
+    records: &mut Vec<Record, Heap>,
     apex: &NameRef<'_>,
     item: &ResourceRecord,
 ) -> Result<(), AllocError>
-    ensures { OnOk result (I.records set.new ≡ deleted apex.now (I.records set.old) (as_record item.now)) }
+    requires order { is_ordered records.old.items ≡ true }
+    requires owned { are_of item.now.owner records.old.items ≡ true }
+    ensures { OnOk result (records.new.items ≡ deleted apex.now records.old.items (as_record item.now)) }
 {
-    if is_spared(set, apex, item) {
+    if is_spared(records, apex, item) {
         return Ok(());
     }
-    if let Some(gone) = named(set, item)? {
-        take_out(set, gone)?;
+    if let Some(gone) = named(records, item)? {
+        take_among(records, &gone);
     }
     Ok(())
 }
 
-/// Does what one item says (RFC 2136 section 3.4.2).
-fn take_effect<I: ZoneIndex>(
+/// Does what one item says to the records of its owner (RFC 2136 section 3.4.2).
+fn take_effect(
     alloc: Heap,
-    set: &mut I,
+    records: &mut Vec<Record, Heap>,
     apex: &NameRef<'_>,
     item: &ResourceRecord,
 ) -> Result<(), AllocError>
     requires passes { prescan_fault apex.now item.now ≡ None }
     requires form { HasForm item.now }
-    ensures { OnOk result (I.records set.new ≡ effect apex.now (I.records set.old) item.now) }
+    requires order { is_ordered records.old.items ≡ true }
+    requires owned { are_of item.now.owner records.old.items ≡ true }
+    ensures { OnOk result (records.new.items ≡ effect apex.now records.old.items item.now) }
 {
     match item.class() {
-        CLASS_IN => add(set, item.to_record(alloc)?),
-        CLASS_ANY => delete_set(set, apex, &item.owner().lend(), item.rtype()),
-        _ => delete(set, apex, item),
+        CLASS_IN => add(records, item.to_record(alloc)?),
+        CLASS_ANY => {
+            take_deleted(records, apex, &item.owner().lend(), item.rtype());
+            Ok(())
+        }
+        _ => delete(records, apex, item),
     }
+}
+
+/// Does what items of one name say to the records of the name, in order.
+fn take_each(
+    alloc: Heap,
+    records: &mut Vec<Record, Heap>,
+    apex: &NameRef<'_>,
+    name: &NameRef<'_>,
+    items: &[ResourceRecord],
+) -> Result<(), AllocError>
+    requires pass { first_fault (prescan_fault apex.now) items.now ≡ None }
+    requires form { AllByRecursion HasForm items.now }
+    requires named { list_all (λ i. names_eq i.owner name.now) items.now ≡ true }
+    requires order { is_ordered records.old.items ≡ true }
+    requires owned { are_of name.now records.old.items ≡ true }
+    ensures done { OnOk result (records.new.items ≡ effects apex.now records.old.items items.now) }
+    ensures order { OnOk result (is_ordered records.new.items ≡ true) }
+    ensures owned { OnOk result (are_of name.now records.new.items ≡ true) }
+{
+    let _name = name;
+    for item in items {
+        take_effect(alloc, records, apex, item)?;
+    }
+    Ok(())
+}
+
+/// Of a name that owns fewer records, copies are changed, and not those that stand in the zone.
+const MANY: usize = 8;
+
+/// What a name owns, to be changed and put back. Many records are taken out, so that none is copied but what another set shares.
+fn hold<I: ZoneIndex>(
+    alloc: Heap,
+    set: &mut I,
+    name: &NameRef<'_>,
+) -> Result<Vec<Record, Heap>, AllocError>
+    ensures held { IfOk result (λ held. held.items ≡ records_at (I.records set.old) name.now) }
+    ensures others { OnOk result (others (I.records set.new) name.now ≡ others (I.records set.old) name.now) }
+{
+    let owned = set.records_at(name);
+    if owned.len() < MANY {
+        return owned.to_vec(alloc);
+    }
+    set.take_at(name)
+}
+
+/// Puts what a name is to own in place of what it owns, unless it owns that.
+fn put_back<I: ZoneIndex>(
+    set: &mut I,
+    name: &NameRef<'_>,
+    held: Vec<Record, Heap>,
+) -> Result<(), AllocError>
+    requires order { is_ordered held.items ≡ true }
+    requires owned { are_of name.now held.items ≡ true }
+    ensures { OnOk result (I.records set.new ≡ united (others (I.records set.old) name.now) held.entry.items) }
+{
+    if set.records_at(name) == held.as_slice() {
+        drop(held);
+        return Ok(());
+    }
+    set.replace_at(name, held)
+}
+
+/// Does what items of one name say, in order.
+fn take_run<I: ZoneIndex>(
+    alloc: Heap,
+    set: &mut I,
+    apex: &NameRef<'_>,
+    name: &NameRef<'_>,
+    items: &[ResourceRecord],
+) -> Result<(), AllocError>
+    requires pass { first_fault (prescan_fault apex.now) items.now ≡ None }
+    requires form { AllByRecursion HasForm items.now }
+    requires named { list_all (λ i. names_eq i.owner name.now) items.now ≡ true }
+    ensures { OnOk result (I.records set.new ≡ effects apex.now (I.records set.old) items.now) }
+{
+    let mut held = hold(alloc, set, name)?;
+    take_each(alloc, &mut held, apex, name, items)?;
+    put_back(set, name, held)
 }
 
 /// Does what the items say, in order. Where memory is refused the set is of no use.
@@ -360,8 +364,10 @@ pub(crate) fn take_effects<I: ZoneIndex>(
     requires form { AllByRecursion HasForm items.now }
     ensures { OnOk result (I.records set.new ≡ effects apex.now (I.records set.old) items.now) }
 {
-    for item in items {
-        take_effect(alloc, set, apex, item)?;
+    let mut rest = items;
+    'runs: while let Some((first, run, others)) = first_run(rest) {
+        take_run(alloc, set, apex, &first.owner().lend(), run)?;
+        rest = others;
     }
     Ok(())
 }

@@ -5,6 +5,7 @@ mod effect;
 mod item;
 mod prerequisites;
 mod prescan;
+mod runs;
 mod touched;
 mod verdict;
 

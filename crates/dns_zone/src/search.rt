@@ -56,7 +56,7 @@ fn is_match(key: &Key<'_>, r: &Record) -> bool
     match key {
         Key::Owner(name) => r.owner().lend().is(name),
         Key::Type(name, rtype) => r.owner().lend().is(name) & (r.rtype() == *rtype),
-        Key::Data(other) => r.compare(other).is_eq(),
+        Key::Data(_) => side(key, r).is_eq(),
         Key::Parts(_, _, _) => side(key, r).is_eq(),
     }
 }
@@ -150,8 +150,9 @@ pub fn find_record(records: &[Record], wanted: &Record, near: Option<usize>) -> 
     ensures found { IfOk result (StandsAt wanted.now records.now) }
     ensures absent { IfErr result (BelongsAt wanted.now records.now) }
 {
-    let at = count_before(records, &Key::Data(wanted), near);
-    if at < records.len() && records[at].compare(wanted).is_eq() {
+    let key = Key::Data(wanted);
+    let at = count_before(records, &key, near);
+    if at < records.len() && is_match(&key, &records[at]) {
         return Ok(at);
     }
     Err(at)

@@ -1,6 +1,7 @@
 //! The program: reads the words of its command line and the files that they name, and turns how a run ended into an exit status.
 #![tactic(auto)]
 
+use clap::error::ErrorKind;
 use clap::{Arg, ArgAction, ArgMatches, Command, Error};
 use dns_configuration::{Configuration, FAILED, File, REFUSED, USAGE};
 use dns_devices::{Disk, dump, init};
@@ -416,6 +417,9 @@ fn start(rt: &HostRuntime) -> io::Result<u8> {
             Ok(USAGE)
         }
         Err(error) => {
+            if error.kind() == ErrorKind::OutOfMemory {
+                return Err(io::ErrorKind::OutOfMemory.into());
+            }
             if error.use_stderr() {
                 eprintln!(rt; "{error}")?;
                 return Ok(USAGE);

@@ -1,0 +1,34 @@
+//! Items of an update that follow each other and have one owner.
+ghost use Rattle.std.specs.Prelude.{◌≡◌, ◌≤◌, true, length, MatchOption};
+ghost use Rattle.std.specs.List.{AllWithin};
+ghost use Rattle.dns_names.specs.Name.{names_eq};
+ghost use Rattle.dns_update.specs.Runs.{IsRun};
+
+use crate::item::ResourceRecord;
+use dns_names::NameRef;
+
+/// How many of the first items have that owner.
+fn count_named(items: &[ResourceRecord], name: &NameRef<'_>) -> usize
+    ensures bound { result ≤ length items.now }
+    ensures named { AllWithin (λ i. names_eq i.owner name.now ≡ true) items.now 0 result }
+{
+    let mut count = 0;
+    'named: while count < items.len() && items[count].is_owned_by(name) {
+        count += 1;
+    }
+    count
+}
+
+/// The first of the items, those at the front that have its owner, and the others.
+pub(crate) fn first_run(
+    items: &[ResourceRecord],
+) -> Option<(&ResourceRecord, &[ResourceRecord], &[ResourceRecord])>
+    ensures { MatchOption result
+        (length items.now ≡ 0)
+        (λ run. IsRun items.now run.0.now run.1.now run.2.now) }
+{
+    let (first, others) = items.split_first()?;
+    let count = count_named(others, &first.owner().lend());
+    let (run, rest) = items.split_at(1 + count);
+    Some((first, run, rest))
+}
