@@ -13,12 +13,24 @@ use std::marker::Model;
 
 /// A change from one version of a zone to another (RFC 1995 section 4): its SOA before and after, and the other records that
 /// go and come, each with its TTL.
-#[derive(Debug, Drop)]
+#[derive(Debug)]
 pub struct Change {
     old_soa: Record,
     removed: Vec<Record, Heap>,
     new_soa: Record,
     added: Vec<Record, Heap>,
+}
+
+impl Drop for Change {
+    fn drop(self) {
+        let Change {
+            old_soa,
+            removed,
+            new_soa,
+            added,
+        } = self;
+        drop((old_soa, removed, new_soa, added));
+    }
 }
 
 impl Model for Change {

@@ -13,13 +13,25 @@ const SILENCE: u64 = 30;
 
 /// A connection: its stream, the messages that came and weren't handled yet, what is left to write, and the second in which octets
 /// last moved.
-#[derive(Drop)]
 pub struct Connection<S: Stream> {
     stream: S,
     framing: Framing,
     messages: Vec<Octets, Heap>,
     outbox: Outbox,
     heard: u64,
+}
+
+impl<S: Stream + Drop> Drop for Connection<S> {
+    fn drop(self) {
+        let Connection {
+            stream,
+            framing,
+            messages,
+            outbox,
+            heard: _,
+        } = self;
+        drop((stream, framing, messages, outbox));
+    }
 }
 
 impl<S: Stream + Drop> Connection<S> {

@@ -29,6 +29,7 @@ impl<S: Stream + Drop> Connections<S> {
 
     /// Puts a connection under its number. One whose number is that of no place is handed back.
     pub fn insert(&mut self, number: usize, connection: Connection<S>) -> Result<(), Connection<S>>
+        ensures place { OnOk result (number < length (places_of self.old)) }
         ensures put { OnOk result (places_of self.new ≡ slice_set (places_of self.old) number (Some connection)) }
         ensures back { IfErr result (λ c. (c ≡ connection) × (length (places_of self.old) ≤ number)) }
         ensures still { OnErr result (places_of self.new ≡ places_of self.old) }

@@ -8,7 +8,6 @@ use std::alloc::AllocError;
 use std::cmp::min;
 
 /// A stream in memory, which is always faithful. It keeps a record of what was read from it and of what it took.
-#[derive(Drop)]
 pub struct MemoryStream {
     // what the peer wrote and nobody read yet
     waiting: Octets,
@@ -20,6 +19,20 @@ pub struct MemoryStream {
     fail_at: u64,
     // the peer writes no more
     is_closed: bool,
+}
+
+impl Drop for MemoryStream {
+    fn drop(self) {
+        let MemoryStream {
+            waiting,
+            received,
+            sent,
+            most: _,
+            fail_at: _,
+            is_closed: _,
+        } = self;
+        drop((waiting, received, sent));
+    }
 }
 
 impl MemoryStream {

@@ -9,12 +9,22 @@ use dns_sectors::{DeviceError, Sector, Sectors};
 /// A device in a file. It is honest where the file is, and then a crash leaves of it the sectors of what it leaves of
 /// the file; octets behind the file's end count as zeros there. A call of the file that fails, or that moves fewer octets
 /// than a sector has, is a failure of the device, and so a read behind the end is one.
-#[derive(Drop)]
 pub struct FileSectors<F: File> {
     file: F,
     len: usize,
     failures: u64,
     ghost reachable: { 512 * len < 2 ^ 64 },
+}
+
+impl<F: File + Drop> Drop for FileSectors<F> {
+    fn drop(self) {
+        let FileSectors {
+            file,
+            len: _,
+            failures: _,
+        } = self;
+        drop(file);
+    }
 }
 
 // Counts a failure, up to the last number.
@@ -88,7 +98,12 @@ impl<F: File + Drop> FileSectors<F> {
     pub fn into_file(self) -> F
         ensures { result ≡ file_of self }
     {
-        self.file
+        let FileSectors {
+            file,
+            len: _,
+            failures: _,
+        } = self;
+        file
     }
 }
 

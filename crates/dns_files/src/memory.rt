@@ -53,7 +53,6 @@ impl Faults {
 
 /// A file in memory, which is always honest. It keeps a record of the changes that were made, so that contracts can name
 /// what it held at each moment.
-#[derive(Drop)]
 pub struct MemoryFile {
     faults: Faults,
     // the octets when the record began
@@ -61,6 +60,18 @@ pub struct MemoryFile {
     octets: Vec<u8, Heap>,
     changes: Vec<Change, Heap>,
     ghost held: { octets.items ≡ after_all start.items changes.items },
+}
+
+impl Drop for MemoryFile {
+    fn drop(self) {
+        let MemoryFile {
+            faults: _,
+            start,
+            octets,
+            changes,
+        } = self;
+        drop((start, octets, changes));
+    }
 }
 
 // Puts octets in the place of those that stand at an offset.

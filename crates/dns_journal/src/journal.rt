@@ -55,7 +55,6 @@ pub enum FlushError {
 
 /// The journal of a bank, on the device of a store whose root was raised. Between two calls all but the staged entries is
 /// durable. Where the device fails it is closed for good.
-#[derive(Drop)]
 pub struct Journal<D: Sectors> {
     pub(crate) device: D,
     bodies: Vec<SectorWrite, Heap>,
@@ -72,6 +71,20 @@ pub struct Journal<D: Sectors> {
     ghost next_small: { next.until ≤ 2 ^ 20 },
     ghost banks_within: { 1 + 2 * (root.snapshot_room + root.journal_room) ≤ D.count device },
     ghost banks_small: { 1 + 2 * (root.snapshot_room + root.journal_room) ≤ 2 ^ 20 },
+}
+
+impl<D: Sectors + Drop> Drop for Journal<D> {
+    fn drop(self) {
+        let Journal {
+            device,
+            bodies,
+            heads,
+            is_closed: _,
+            next: _,
+            root: _,
+        } = self;
+        drop((device, bodies, heads));
+    }
 }
 
 impl<D: Sectors> Journal<D> {

@@ -19,9 +19,15 @@ use std::cmp::Ordering;
 use std::marker::Model;
 
 /// A name, kept as its plain form.
-#[derive(Drop)]
 pub struct Name {
     octets: SmallVec<u8, 32, Heap>,
+}
+
+impl Drop for Name {
+    fn drop(self) {
+        let Name { octets } = self;
+        drop(octets);
+    }
 }
 
 impl Model for Name {

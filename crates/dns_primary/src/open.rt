@@ -217,16 +217,7 @@ impl<D: Sectors + Drop, I: ZoneIndex> Primary<I, KeptStore<D, I>> {
         let Ok(mut devices) = Vec::with_capacity(*self.places.allocator(), self.behind.len()) else {
             return Err(self);
         };
-        let Primary {
-            zones: _,
-            behind,
-            settings: _,
-            waiting: _,
-            places: _,
-            connections: _,
-            transfers: _,
-        } = self;
-        take_back(&mut devices, behind);
+        take_back(&mut devices, self.into_behind());
         Ok(devices)
     }
 }

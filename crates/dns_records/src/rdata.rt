@@ -18,10 +18,17 @@ use std::marker::Model;
 
 /// The type and the data of a record, in plain form: names in full and in lower case, and octets as they are where the type has no
 /// form (RFC 3597).
-#[derive(Debug, Drop)]
+#[derive(Debug)]
 pub struct RData {
     rtype: u16,
     octets: SmallVec<u8, 24, Heap>,
+}
+
+impl Drop for RData {
+    fn drop(self) {
+        let RData { rtype: _, octets } = self;
+        drop(octets);
+    }
 }
 
 impl Model for RData {

@@ -27,7 +27,6 @@ pub enum Call {
 
 /// A device in memory, which is always honest. Contracts see it as the sectors that it began with, its record of
 /// the writes and syncs since, the room of that record, and the count of failures.
-#[derive(Drop)]
 pub struct MemorySectors {
     plan: Rc<Plan, Heap>,
     // the sectors when the record began
@@ -38,6 +37,21 @@ pub struct MemorySectors {
     pending: Vec<SectorWrite, Heap>,
     calls: Vec<Call, Heap>,
     failures: u64,
+}
+
+impl Drop for MemorySectors {
+    fn drop(self) {
+        let MemorySectors {
+            plan,
+            start,
+            current,
+            durable,
+            pending,
+            calls,
+            failures: _,
+        } = self;
+        drop((plan, start, current, durable, pending, calls));
+    }
 }
 
 impl Model for MemorySectors {

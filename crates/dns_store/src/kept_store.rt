@@ -13,7 +13,6 @@ use std::alloc::AllocError;
 
 /// The versions of a zone on a device. Its base and the changes since are its own, so that they are always those of what the
 /// device holds.
-#[derive(Drop)]
 pub struct KeptStore<D: Sectors, I: ZoneIndex> {
     pub(crate) alloc: Heap,
     pub(crate) journal: Journal<D>,
@@ -21,6 +20,18 @@ pub struct KeptStore<D: Sectors, I: ZoneIndex> {
     pub(crate) base: Zone<I>,
     // those from there to the newest version, staged ones among them
     pub(crate) changes: Vec<Change, Heap>,
+}
+
+impl<D: Sectors + Drop, I: ZoneIndex> Drop for KeptStore<D, I> {
+    fn drop(self) {
+        let KeptStore {
+            alloc: _,
+            journal,
+            base,
+            changes,
+        } = self;
+        drop((journal, base, changes));
+    }
 }
 
 impl<D: Sectors, I: ZoneIndex> KeptStore<D, I> {

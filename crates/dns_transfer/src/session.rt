@@ -66,7 +66,6 @@ impl<'v, I: ZoneIndex> Model for Version<'v, I> {
 
 /// A transfer under way. It holds the version that was shown when it was opened, shared with the zone, and copies of the changes that
 /// are sent, and makes a message when it is asked for one.
-#[derive(Drop)]
 pub struct Session<I: ZoneIndex> {
     pub(crate) transport: Transport,
     pub(crate) id: u16,
@@ -76,6 +75,22 @@ pub struct Session<I: ZoneIndex> {
     pub(crate) index: I,
     pub(crate) history: History,
     pub(crate) place: Place,
+}
+
+impl<I: ZoneIndex> Drop for Session<I> {
+    fn drop(self) {
+        let Session {
+            transport: _,
+            id: _,
+            rd: _,
+            question,
+            soa,
+            index,
+            history,
+            place,
+        } = self;
+        drop((question, soa, index, history, place));
+    }
 }
 
 impl<I: ZoneIndex> Model for Session<I> {

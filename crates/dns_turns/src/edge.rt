@@ -18,12 +18,22 @@ const PIECE: usize = 4096;
 const LONGEST: usize = 65535;
 
 /// The connections of a server, and a buffer for what is read.
-#[derive(Drop)]
 pub struct Edge<S: Stream> {
     connections: Connections<S>,
     // the numbers of all connections are below it
     end: usize,
     buffer: Vec<u8, Heap>,
+}
+
+impl<S: Stream + Drop> Drop for Edge<S> {
+    fn drop(self) {
+        let Edge {
+            connections,
+            end: _,
+            buffer,
+        } = self;
+        drop((connections, buffer));
+    }
 }
 
 impl<S: Stream + Drop> Edge<S> {

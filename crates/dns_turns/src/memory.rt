@@ -9,13 +9,25 @@ use std::alloc::AllocError;
 use std::cmp::min;
 
 /// A network in memory. What is sent by it is kept, and so is what is told of turns.
-#[derive(Drop)]
 pub struct MemoryNetwork {
     alloc: Heap,
     streams: Vec<(MemoryStream, Peer), Heap>,
     datagrams: Vec<(Octets, Peer), Heap>,
     sent: Vec<(Octets, Peer), Heap>,
     sends_fail: bool,
+}
+
+impl Drop for MemoryNetwork {
+    fn drop(self) {
+        let MemoryNetwork {
+            alloc: _,
+            streams,
+            datagrams,
+            sent,
+            sends_fail: _,
+        } = self;
+        drop((streams, datagrams, sent));
+    }
 }
 
 impl MemoryNetwork {
