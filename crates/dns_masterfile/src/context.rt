@@ -19,7 +19,6 @@ pub(crate) enum Said {
 }
 
 /// What the entries so far leave.
-#[derive(Drop)]
 pub(crate) struct Context {
     pub(crate) origin: Name,
     /// The number of `$TTL`.
@@ -28,6 +27,18 @@ pub(crate) struct Context {
     pub(crate) last: Option<u32>,
     /// The owner of the last record.
     pub(crate) owner: Option<Name>,
+}
+
+impl Drop for Context {
+    fn drop(self) {
+        let Context {
+            origin,
+            default: _,
+            last: _,
+            owner,
+        } = self;
+        drop((origin, owner));
+    }
 }
 
 /// What stands before the first entry.

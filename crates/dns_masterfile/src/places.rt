@@ -19,12 +19,22 @@ pub struct RefusedEntry<'a> {
 }
 
 /// The records of a file up to the first entry that is refused, in the file's order.
-#[derive(Drop)]
 pub struct Places<'a> {
     pub records: Vec<Record, Heap>,
     /// The line on which the entry of each record begins.
     pub lines: Vec<usize, Heap>,
     pub refused: Option<RefusedEntry<'a>>,
+}
+
+impl<'a> Drop for Places<'a> {
+    fn drop(self) {
+        let Places {
+            records,
+            lines,
+            refused: _,
+        } = self;
+        drop((records, lines));
+    }
 }
 
 /// A word as it is written, without its quotes.

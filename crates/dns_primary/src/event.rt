@@ -124,7 +124,6 @@ pub enum Noted {
 
 /// What an event does to the world: at most 32 replies that waited go out, each a header alone, and then at most one to the request
 /// that came.
-#[derive(Drop)]
 pub struct Effects {
     /// The replies that waited.
     pub headers: Vec<HeaderTo, Heap>,
@@ -135,6 +134,18 @@ pub struct Effects {
     /// What is to be known besides.
     pub noted: Noted,
     ghost few: { length headers.items ≤ 32 },
+}
+
+impl Drop for Effects {
+    fn drop(self) {
+        let Effects {
+            headers,
+            reply,
+            accepted: _,
+            noted,
+        } = self;
+        drop((headers, reply, noted));
+    }
 }
 
 impl Default for Peer {

@@ -30,13 +30,25 @@ use std::marker::Model;
 
 /// One who asked for a transfer of a zone: the version that is held, if one is, and how far the answer was read. The records of the
 /// answer are applied to a set of their own, beside the version that is held, and no message is kept.
-#[derive(Drop)]
 pub struct Secondary<I: ZoneIndex> {
     apex: Name,
     held: Option<Zone<I>>,
     id: u16,
     transport: Transport,
     reading: Option<Reading<I>>,
+}
+
+impl<I: ZoneIndex> Drop for Secondary<I> {
+    fn drop(self) {
+        let Secondary {
+            apex,
+            held,
+            id: _,
+            transport: _,
+            reading,
+        } = self;
+        drop((apex, held, reading));
+    }
 }
 
 impl<I: ZoneIndex> Model for Secondary<I> {

@@ -146,13 +146,23 @@ fn keep_later<'a>(
 }
 
 /// The places of a message, in the order of their offsets.
-#[derive(Drop)]
 pub(crate) struct Places<'a> {
     all: Vec<Target<'a>, Heap>,
     /// How many are looked through one by one.
     looked_through: usize,
     /// Those behind them, by the number of their suffix.
     later: Vec<Bucket<'a>, Heap>,
+}
+
+impl<'a> Drop for Places<'a> {
+    fn drop(self) {
+        let Places {
+            all,
+            looked_through: _,
+            later,
+        } = self;
+        drop((all, later));
+    }
 }
 
 impl<'a> Model for Places<'a> {

@@ -81,7 +81,6 @@ pub struct EchoedQuestion<'a> {
 }
 
 /// What is to be written: a response, without recursion (RFC 1035 section 4.1).
-#[derive(Drop)]
 pub struct Reply<'a> {
     /// The number of the request.
     pub id: u16,
@@ -99,4 +98,22 @@ pub struct Reply<'a> {
     pub answer: Vec<ReplyRecord<'a>, Heap>,
     pub authority: Vec<ReplyRecord<'a>, Heap>,
     pub additional: Vec<ReplyRecord<'a>, Heap>,
+}
+
+impl<'a> Drop for Reply<'a> {
+    fn drop(self) {
+        let Reply {
+            id: _,
+            opcode: _,
+            aa: _,
+            tc: _,
+            rd: _,
+            rcode: _,
+            question: _,
+            answer,
+            authority,
+            additional,
+        } = self;
+        drop((answer, authority, additional));
+    }
 }
