@@ -1,7 +1,9 @@
 //! The verdict on an update of a zone (RFC 2136 section 3): its prerequisites, what it would do, and the change that it is.
 #![tactic(auto)]
 
+mod among;
 mod effect;
+mod held;
 mod item;
 mod prerequisites;
 mod prescan;

@@ -8,14 +8,14 @@ use Rattle.dns_update.proofs.Found.{done_at}
 use Rattle.dns_update.proofs.Ranges.{left_ordered, one_type_goes}
 use Rattle.dns_update.proofs.effect.replace.Goals as goal
 
-pub put_among-requires : goal.put_among-requires
-put_among-requires c =
-    let xs = c.args.records.now.items in
+pub put-requires : goal.put-requires
+put-requires g c =
+    let xs = g.H.Held.records c.args.held.now in
     subst (λ (ys : List Record). is_ordered ys ≡ true) (sym c.take_types.ensures) (left_ordered (is_outside c.rtype.result c.rtype-2.result) xs c.requires.order)
 
 pub returns : goal.returns
-returns c =
-    let xs = c.args.records.now.items in
+returns g c =
+    let xs = g.H.Held.records c.args.held.now in
     let r = c.args.come in
-    done_at c.put_among.result c.put_among.new.records.items (put r c.take_types.new.records.items) (replaced xs r) c.put_among.ensures
+    done_at c.put.result (g.H.Held.records c.put.new.self) (put r (g.H.Held.records c.take_types.new.self)) (replaced xs r) c.put.ensures
     (ap (put r) (c.take_types.ensures ∙ (λ i. filter (is_outside (c.rtype.ensures i) (c.rtype-2.ensures i)) xs) ∙ one_type_goes r.owner r.rtype xs c.requires.rtype c.requires.owned))

@@ -9,34 +9,34 @@ use Rattle.dns_update.proofs.Ranges.{all_go, is_number, other_number, type_goes,
 use Rattle.dns_update.proofs.effect.take_deleted.Goals as goal
 
 pub take_but_vital-requires-clause-owned : goal.take_but_vital-requires-clause-owned
-take_but_vital-requires-clause-owned c =
+take_but_vital-requires-clause-owned g c =
     let same = names_same c.args.name.now c.args.apex.now (sym c.is_same-is_apex.ensures ∙ c.if-is_apex.true) in
-    subst (λ (n : Labels). are_of n c.args.records.now.items ≡ true) same c.requires.owned
+    subst (λ (n : Labels). are_of n (g.H.Held.records c.args.held.now) ≡ true) same c.requires.owned
 
 pub returns-then-is_apex : goal.returns-then-is_apex
-returns-then-is_apex c =
+returns-then-is_apex g c =
     let apex = c.args.apex.now in
-    let xs = c.args.records.now.items in
+    let xs = g.H.Held.records c.args.held.now in
     let same = names_same c.args.name.now apex (sym c.is_same-is_apex.ensures ∙ c.if-is_apex.true) in
     let any = c.if-rtype-eq-ANY.true in
     c.take_but_vital.ensures ∙ (λ i. deleted_set apex xs (sym same i) (sym any i))
 
 pub returns-then-rtype-eq-ANY : goal.returns-then-rtype-eq-ANY
-returns-then-rtype-eq-ANY c =
-    c.clear.ensures.items ∙ all_go c.args.apex.now c.args.name.now c.args.rtype c.args.records.now.items (is_number c.args.rtype 255 (sym c.if-rtype-eq-ANY.true)) (sym c.is_same-is_apex.ensures ∙ c.if-is_apex.false) c.requires.owned
+returns-then-rtype-eq-ANY g c =
+    c.take_all.ensures ∙ all_go c.args.apex.now c.args.name.now c.args.rtype (g.H.Held.records c.args.held.now) (is_number c.args.rtype 255 (sym c.if-rtype-eq-ANY.true)) (sym c.is_same-is_apex.ensures ∙ c.if-is_apex.false) c.requires.owned
 
 pub returns-then-is_apex-rtype : goal.returns-then-is_apex-rtype
-returns-then-is_apex-rtype c =
+returns-then-is_apex-rtype g c =
     let t = c.args.rtype in
-    vital_stays c.args.apex.now c.args.name.now t c.args.records.now.items (other_number t 255 (λ e. c.if-rtype-eq-ANY.false (sym e)))
+    vital_stays c.args.apex.now c.args.name.now t (g.H.Held.records c.args.held.now) (other_number t 255 (λ e. c.if-rtype-eq-ANY.false (sym e)))
     (ap (λ (b : Bool). b && (t == type_soa || t == type_ns)) (sym c.is_same-is_apex.ensures) ∙ c.if-is_apex-rtype.true) c.requires.owned
 
 pub returns : goal.returns
-returns c =
+returns g c =
     let t = c.args.rtype in
     let apex = c.args.apex.now in
     let name = c.args.name.now in
-    let xs = c.args.records.now.items in
+    let xs = g.H.Held.records c.args.held.now in
     c.take_types.ensures
     ∙ type_goes apex name t xs (other_number t 255 (λ e. c.if-rtype-eq-ANY.false (sym e)))
     (ap (λ (b : Bool). b && (t == type_soa || t == type_ns)) (sym c.is_same-is_apex.ensures) ∙ c.if-is_apex-rtype.false) c.requires.owned

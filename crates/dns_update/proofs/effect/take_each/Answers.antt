@@ -11,23 +11,23 @@ use Rattle.dns_update.proofs.Fronts.{named_at}
 use Rattle.dns_update.proofs.effect.take_each.Goals as goal
 
 pub take_effect-requires-clause-passes : goal.take_effect-requires-clause-passes
-take_effect-requires-clause-passes c = passes_at (prescan_fault c.args.apex.now) c.args.items.now c.loop-item.item-index c.item-item.result c.requires.pass c.loop-item-test.true c.item-item.is
+take_effect-requires-clause-passes g c = passes_at (prescan_fault c.args.apex.now) c.args.items.now c.loop-item.item-index c.item-item.result c.requires.pass c.loop-item-test.true c.item-item.is
 
 pub take_effect-requires-clause-owned : goal.take_effect-requires-clause-owned
-take_effect-requires-clause-owned c =
+take_effect-requires-clause-owned g c =
     let name = c.args.name.now in
     let item = c.item-item.result in
     let same = names_same item.owner name (named_at name c.args.items.now c.loop-item.item-index item c.requires.named c.loop-item-test.true c.item-item.is) in
-    subst (λ (n : Labels). are_of n c.loop-item.records.items ≡ true) (sym same) c.loop-item.invariant.owned
+    subst (λ (n : Labels). are_of n (g.H.Held.records c.loop-item.held) ≡ true) (sym same) c.loop-item.invariant.owned
 
 pub loop-item-preserved : goal.loop-item-preserved
-loop-item-preserved c =
+loop-item-preserved g c =
     let name = c.args.name.now in
     let apex = c.args.apex.now in
     let items = c.args.items.now in
     let k = c.loop-item.item-index in
     let item = c.item-item.result in
-    let xs = c.loop-item.records.items in
+    let xs = g.H.Held.records c.loop-item.held in
     let h = c.loop-item.invariant in
     let same : item.owner ≡ name = names_same item.owner name (named_at name items k item c.requires.named c.loop-item-test.true c.item-item.is) in
     let own : are_of item.owner xs ≡ true = subst (λ (n : Labels). are_of n xs ≡ true) (sym same) h.owned in

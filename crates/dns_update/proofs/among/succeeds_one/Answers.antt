@@ -6,7 +6,7 @@ use Rattle.dns_records.specs.Types.{type_soa}
 use Rattle.dns_serial.specs.Serial.{greater}
 use Rattle.dns_update.proofs.AtOwner.{owned_is}
 use Rattle.dns_update.proofs.Found.{older_here}
-use Rattle.dns_update.proofs.effect.succeeds_one.Goals as goal
+use Rattle.dns_update.proofs.among.succeeds_one.Goals as goal
 
 pub returns : goal.returns
 returns c =

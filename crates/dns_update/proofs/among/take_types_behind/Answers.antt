@@ -5,7 +5,7 @@ use Rattle.std.specs.List.Sorted.{IsPartitionPoint}
 use Rattle.dns_records.specs.Record.{Record}
 use Rattle.dns_zone.proofs.Typed.{Rises}
 use Rattle.dns_update.proofs.Ranges.{first_kept, rises_from, up_to_first}
-use Rattle.dns_update.proofs.effect.take_types_behind.Goals as goal
+use Rattle.dns_update.proofs.among.take_types_behind.Goals as goal
 
 pub returns : goal.returns
 returns c =

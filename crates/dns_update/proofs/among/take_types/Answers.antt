@@ -5,8 +5,8 @@ use Rattle.std.specs.List.Sorted.{IsPartitionPoint}
 use Rattle.dns_records.specs.Record.{Record}
 use Rattle.dns_zone.proofs.Typed.{Rises, below_first}
 use Rattle.dns_update.proofs.Ranges.{ends_later, outside_kept, rises_from, up_to_first}
-use Rattle.dns_update.proofs.effect.take_types.Goals as goal
-use Rattle.dns_update.proofs.effect.take_types.Goals.{After-partition_point-end}
+use Rattle.dns_update.proofs.among.take_types.Goals as goal
+use Rattle.dns_update.proofs.among.take_types.Goals.{After-partition_point-end}
 
 begins : (c : After-partition_point-end) → IsPartitionPoint (λ r. nat_lt r.rtype c.args.first ≡ true) (λ r. nat_lt r.rtype c.args.first ≡ false) c.args.records.now.items c.partition_point-begin.result
 begins c =

@@ -5,7 +5,7 @@ use Rattle.dns_records.specs.Record.{Record}
 use Rattle.dns_records.specs.Types.{type_cname}
 use Rattle.dns_update.proofs.AtOwner.{owned_is}
 use Rattle.dns_update.proofs.Found.{other_here}
-use Rattle.dns_update.proofs.effect.owns_other.Goals as goal
+use Rattle.dns_update.proofs.among.owns_other.Goals as goal
 
 pub returns : goal.returns
 returns c =

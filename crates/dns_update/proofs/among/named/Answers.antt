@@ -3,7 +3,7 @@ use Rattle.std.specs.List.{find}
 use Rattle.dns_zone.specs.Records.{alike}
 use Rattle.dns_update.specs.ResourceRecord.{as_record}
 use Rattle.dns_update.proofs.Found.{ok_at}
-use Rattle.dns_update.proofs.effect.named.Goals as goal
+use Rattle.dns_update.proofs.among.named.Goals as goal
 
 pub returns : goal.returns
 returns c =
