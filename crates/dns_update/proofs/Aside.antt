@@ -141,7 +141,7 @@ same_at xs ys (m ∷ names) n h o =
       | inr t ↦ same_at xs ys names n both.1 t
     ]
 
-found_at : (q : Record) (xs : List Record) → found q (records_at xs q.owner) ≡ found q xs
+pub found_at : (q : Record) (xs : List Record) → found q (records_at xs q.owner) ≡ found q xs
 found_at q xs = find_kept (ties q) (λ r. names_eq r.owner q.owner) xs
     (λ r t. ap (λ n. names_eq n q.owner) (sym (tied_key q r (equal_is (record_cmp q r) t)).owner) ∙ names_itself q.owner)
 

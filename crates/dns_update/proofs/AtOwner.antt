@@ -201,7 +201,7 @@ all_of name (i ∷ items) named =
 aside_is : (name : Labels) (xs : List Record) → records_aside (name ∷ []) xs ≡ others xs name
 aside_is name xs = filter_same (λ r. not (is_owned_by (name ∷ []) r)) (λ r. not (names_eq r.owner name)) (λ r. ap not (or_false (names_eq r.owner name))) xs
 
-effects_others : (apex name : Labels) (items : List ResourceRecord) (xs : List Record) → list_all (is_named name) items ≡ true → others (effects apex xs items) name ≡ others xs name
+pub effects_others : (apex name : Labels) (items : List ResourceRecord) (xs : List Record) → list_all (is_named name) items ≡ true → others (effects apex xs items) name ≡ others xs name
 effects_others apex name items xs named =
     sym (aside_is name (effects apex xs items)) ∙ effects_aside apex (name ∷ []) xs items (all_of name items named) ∙ aside_is name xs
 

@@ -12,6 +12,7 @@ pub mod Serials
 pub mod Versions
 pub mod Aside
 pub mod AtOwner
+pub mod ByName
 pub mod Halved
 pub mod Naming
 pub mod Listing

@@ -1,11 +1,25 @@
 //! Items of an update that follow each other and have one owner.
-ghost use Rattle.std.specs.Prelude.{◌≡◌, ◌≤◌, true, length, MatchOption};
+ghost use Rattle.std.specs.Prelude.{◌≡◌, ◌≤◌, true, filter, length, MatchOption, OnOk, IsPermutation};
 ghost use Rattle.std.specs.List.{AllWithin};
-ghost use Rattle.dns_names.specs.Name.{names_eq};
+ghost use Rattle.std.specs.List.Sorted.{IsSortedBy};
+ghost use Rattle.std.specs.Ordering.{is_lt};
+ghost use Rattle.dns_names.specs.Name.{Labels, name_cmp, names_eq};
 ghost use Rattle.dns_update.specs.Runs.{IsRun};
 
 use crate::item::ResourceRecord;
+use dns_memory::Heap;
 use dns_names::NameRef;
+use std::alloc::AllocError;
+
+/// Puts the items in order of their owners, so that each name has one run. Those of one name stay in the order that they have.
+pub(crate) fn sort_by_owner(items: &mut Vec<ResourceRecord, Heap>) -> Result<(), AllocError>
+    ensures moved { IsPermutation items.old.items items.new.items }
+    ensures stay { (n : Labels)
+        → filter (λ i. names_eq i.owner n) items.new.items ≡ filter (λ i. names_eq i.owner n) items.old.items }
+    ensures sorted { OnOk result (IsSortedBy (λ i j. is_lt (name_cmp i.owner j.owner)) items.new.items) }
+{
+    items.sort_by(|a, b| a.owner().cmp(b.owner()))
+}
 
 /// How many of the first items have that owner.
 fn count_named(items: &[ResourceRecord], name: &NameRef<'_>) -> usize

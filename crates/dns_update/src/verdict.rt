@@ -1,5 +1,5 @@
 //! The verdict on an update.
-ghost use Rattle.std.specs.Prelude.{◌≡◌, ◌<◌, ◌+◌, ◌^◌, true, [], ◌∷◌, length, IfOk, OnOk};
+ghost use Rattle.std.specs.Prelude.{◌≡◌, ◌<◌, ◌+◌, ◌^◌, true, [], ◌∷◌, length, None, IfOk, OnOk};
 ghost use Rattle.std.specs.List.{AllByRecursion, list_all, list_any};
 ghost use Rattle.dns_names.specs.Name.{names_eq};
 ghost use Rattle.dns_records.specs.Types.{type_soa};
@@ -10,6 +10,7 @@ ghost use Rattle.dns_changes.specs.Touched.{DifferAt};
 ghost use Rattle.dns_update.specs.ResourceRecord.{HasForm, first_fault, otherwise};
 ghost use Rattle.dns_update.specs.Prerequisites.{prerequisites_fault};
 ghost use Rattle.dns_update.specs.Prescan.{prescan_fault};
+ghost use Rattle.dns_update.specs.Effect.{effects};
 ghost use Rattle.dns_zone.specs.Soa.{HasSoa};
 ghost use Rattle.dns_changes.specs.Version.{IsNext};
 ghost use Rattle.dns_update.specs.Verdict.{IsVerdict, IsJudged, Leaves, same_set, versioned, with_next_serial};
@@ -19,6 +20,7 @@ use crate::effect::take_effects;
 use crate::item::{ResourceRecord, items_of};
 use crate::prerequisites::prerequisites_fault;
 use crate::prescan::prescan;
+use crate::runs::sort_by_owner;
 use crate::touched::touched_names;
 use dns_changes::Change;
 use dns_memory::Heap;
@@ -144,28 +146,52 @@ fn fault<I: ZoneIndex>(
     Ok(prescan(zone.apex(), items))
 }
 
-/// What becomes of an update of these prerequisites and items.
-fn judge_items<I: ZoneIndex>(
+/// What becomes of an update of items that all pass the scan.
+fn judge_passed<I: ZoneIndex>(
     alloc: Heap,
     zone: &Zone<I>,
-    prerequisites: &[ResourceRecord],
     items: &[ResourceRecord],
 ) -> Result<Judged<I>, AllocError>
     requires few { length items.now < 2 ^ 16 }
     requires form { AllByRecursion HasForm items.now }
-    ensures verdict { IfOk result (IsJudged I.records zone.now prerequisites.now items.now) }
+    requires pass { first_fault (prescan_fault zone.now.apex) items.now ≡ None }
+    ensures verdict { IfOk result
+        (IsVerdict I.records zone.now.records
+        (versioned zone.now.records (effects zone.now.apex zone.now.records items.now))) }
     ensures next { IfOk result
         (λ judged. (change : StatedChange) (next : I)
         → judged ≡ Judged.Accepted change next
         → IsNext zone.now change (I.records next)) }
 {
-    if let Some(rcode) = fault(alloc, zone, prerequisites, items)? {
-        return Ok(Judged::Refused(rcode));
-    }
     let mut after = zone.index().fork()?;
     take_effects(alloc, &mut after, &zone.apex().lend(), items)?;
     let names = touched_names(alloc, zone.apex(), items)?;
     versioned(alloc, zone, after, &names)
+}
+
+/// What becomes of an update of these prerequisites and items. The items are scanned in their order, and done name by name.
+fn judge_items<I: ZoneIndex>(
+    alloc: Heap,
+    zone: &Zone<I>,
+    prerequisites: &[ResourceRecord],
+    items: Vec<ResourceRecord, Heap>,
+) -> Result<Judged<I>, AllocError>
+    requires few { length items.items < 2 ^ 16 }
+    requires form { AllByRecursion HasForm items.items }
+    ensures verdict { IfOk result (IsJudged I.records zone.now prerequisites.now items.entry.items) }
+    ensures next { IfOk result
+        (λ judged. (change : StatedChange) (next : I)
+        → judged ≡ Judged.Accepted change next
+        → IsNext zone.now change (I.records next)) }
+{
+    if let Some(rcode) = fault(alloc, zone, prerequisites, &items)? {
+        drop(items);
+        return Ok(Judged::Refused(rcode));
+    }
+    let _valid = zone.apex();
+    let mut items = items;
+    sort_by_owner(&mut items)?;
+    judge_passed(alloc, zone, &items)
 }
 
 /// What becomes of an update of the zone, which stays as it is (RFC 2136 sections 3.2 to 3.6). What is accepted is the change and
@@ -185,5 +211,5 @@ pub fn judge<I: ZoneIndex>(
     let _reads = message.octets();
     let prerequisites = items_of(alloc, message.answers())?;
     let items = items_of(alloc, message.authorities())?;
-    judge_items(alloc, zone, &prerequisites, &items)
+    judge_items(alloc, zone, &prerequisites, items)
 }

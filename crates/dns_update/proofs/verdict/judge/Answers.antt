@@ -7,4 +7,4 @@ use Rattle.dns_update.proofs.verdict.judge.Goals as goal
 pub judge_items-requires-clause-form : goal.judge_items-requires-clause-form
 judge_items-requires-clause-form g c =
     let m = c.args.message.now in
-    subst (AllByRecursion HasForm) (sym (c.deref-2.ensures.value ∙ c.in_ok-items.ensures.all ∙ c.authorities.ensures)) (updates_formed m.octets m.message c.octets-reads.ensures.message)
+    subst (AllByRecursion HasForm) (sym (c.in_ok-items.ensures.all ∙ c.authorities.ensures)) (updates_formed m.octets m.message c.octets-reads.ensures.message)

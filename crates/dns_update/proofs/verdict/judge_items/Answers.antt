@@ -1,65 +1,43 @@
-use Rattle.std.proofs.Common.{◌≡◌, true, List, length, refl, sym, ap, subst, ◌∙◌, arith}
-use Rattle.std.specs.List.{list_any}
-use Rattle.dns_names.specs.Name.{Labels, names_eq}
+use Rattle.std.proofs.Common.{Option, List, length, sym, ap, subst, ◌∙◌, arith}
+use Rattle.std.specs.Prelude.{IfOk}
+use Rattle.std.specs.List.{AllByRecursion}
+use Rattle.std.proofs.lemmas.List.Sorted.{length_permutation}
+use Rattle.dns_wire.specs.declared.codes.Rcode.{Rcode}
+use Rattle.dns_wire.specs.Message.{ResourceRecord}
 use Rattle.dns_update.specs.Effect.{effects}
-use Rattle.dns_update.specs.ResourceRecord.{first_fault}
+use Rattle.dns_update.specs.ResourceRecord.{HasForm, first_fault, otherwise}
 use Rattle.dns_update.specs.Prerequisites.{prerequisites_fault}
 use Rattle.dns_update.specs.Prescan.{prescan_fault}
+use Rattle.dns_update.specs.Verdict.{Verdict, IsVerdict, unless, versioned}
+use Rattle.dns_update.proofs.ByName.{done_by_name, each_moved, passes_moved}
 use Rattle.dns_update.proofs.ResourceRecords.{no_fault}
-use Rattle.dns_zone.proofs.OneSoa.{zone_soa, zone_few, has_soa_at}
-use Rattle.dns_changes.specs.Touched.{records_aside, DifferAt}
-use Rattle.dns_update.specs.Touched.{AreTouched}
-use Rattle.dns_update.proofs.Aside.{effects_aside}
-use Rattle.dns_update.proofs.OneSoa.{soa_stays}
-use Rattle.dns_update.proofs.Sizes.{effects_more}
-use Rattle.dns_update.proofs.Sound.{IsSound}
-use Rattle.dns_update.proofs.Versions.{sound_after, next_told}
 use Rattle.dns_update.proofs.verdict.judge_items.Goals as goal
 
-pub versioned-requires-clause-one : goal.versioned-requires-clause-one
-versioned-requires-clause-one g c =
-    let zone = c.args.zone.now in
-    let items = c.args.items.now in
-    let left = c.in_ok-take_effects.ensures ∙ (λ i. effects ((c.lend.ensures ∙ c.apex.ensures.name) i) ((c.in_ok-after.ensures ∙ c.index.ensures) i) items) in
-    has_soa_at zone.apex zone.apex _ _ refl (sym left) (soa_stays zone.apex zone.records (zone_soa zone c.apex.ensures.valid) items)
+pub judge_passed-requires-clause-few : goal.judge_passed-requires-clause-few
+judge_passed-requires-clause-few g c =
+    omega (arith, ap length c.deref-2.ensures.value, length_permutation c.args.items.items c.sort_by_owner.new.items.items c.sort_by_owner.ensures.moved, c.requires.few)
 
-pub versioned-requires-clause-few : goal.versioned-requires-clause-few
-versioned-requires-clause-few g c =
-    let zone = c.args.zone.now in
-    let items = c.args.items.now in
-    let left = c.in_ok-take_effects.ensures ∙ (λ i. effects ((c.lend.ensures ∙ c.apex.ensures.name) i) ((c.in_ok-after.ensures ∙ c.index.ensures) i) items) in
-    omega (arith, ap length left, effects_more zone.apex zone.records items, zone_few zone c.apex.ensures.valid, c.requires.few)
+pub judge_passed-requires-clause-form : goal.judge_passed-requires-clause-form
+judge_passed-requires-clause-form g c =
+    subst (AllByRecursion HasForm) (sym c.deref-2.ensures.value) (each_moved HasForm c.args.items.items c.sort_by_owner.new.items.items c.sort_by_owner.ensures.moved c.requires.form)
 
-pub take_effects-requires-clause-pass : goal.take_effects-requires-clause-pass
-take_effects-requires-clause-pass g c =
-    ap (λ n. first_fault (prescan_fault n) c.args.items.now) (c.lend.ensures ∙ c.apex.ensures.name)
-    ∙ (no_fault (prerequisites_fault c.args.zone.now c.args.prerequisites.now) (first_fault (prescan_fault c.args.zone.now.apex) c.args.items.now) (sym c.in_ok-rcode.ensures ∙ c.in_default.is)).1
-
-pub returns-clause-next : goal.returns-clause-next
-returns-clause-next g c =
+pub judge_passed-requires-clause-pass : goal.judge_passed-requires-clause-pass
+judge_passed-requires-clause-pass g c =
     let zone = c.args.zone.now in
-    let items = c.args.items.now in
-    let valid = c.apex.ensures.valid in
-    let set = g.I.ZoneIndex.records c.take_effects.new.set in
-    let left = c.in_ok-take_effects.ensures ∙ (λ i. effects ((c.lend.ensures ∙ c.apex.ensures.name) i) ((c.in_ok-after.ensures ∙ c.index.ensures) i) items) in
-    let pass = (no_fault (prerequisites_fault zone c.args.prerequisites.now) (first_fault (prescan_fault zone.apex) items) (sym c.in_ok-rcode.ensures ∙ c.in_default.is)).1 in
-    let sound = subst (IsSound zone.apex) (sym left) (sound_after zone valid items pass c.requires.form) in
-    next_told g.I.ZoneIndex.records zone valid set sound (g.met.I.ZoneIndex.valid c.take_effects.new.set) c.versioned.result c.versioned.ensures
+    let items = c.args.items.items in
+    let fault = prescan_fault zone.apex in
+    let told = ap (λ (is : List ResourceRecord). otherwise (prerequisites_fault zone c.args.prerequisites.now) (first_fault fault is)) (sym c.deref.ensures.value) ∙ sym c.in_ok-rcode.ensures ∙ c.in_default.is in
+    let pass = (no_fault (prerequisites_fault zone c.args.prerequisites.now) (first_fault fault items) told).1 in
+    ap (first_fault fault) c.deref-2.ensures.value ∙ passes_moved fault items c.sort_by_owner.new.items.items c.sort_by_owner.ensures.moved pass
 
-pub versioned-requires-clause-touched : goal.versioned-requires-clause-touched
-versioned-requires-clause-touched g c =
+pub returns-clause-verdict : goal.returns-clause-verdict
+returns-clause-verdict g c =
     let zone = c.args.zone.now in
-    let items = c.args.items.now in
-    let names = c.in_ok-names.names.items in
-    let touched : AreTouched zone.apex items names = subst (λ (n : Labels). AreTouched n items names) c.apex-2.ensures.name c.in_ok-names.ensures in
-    let left = c.in_ok-take_effects.ensures ∙ (λ i. effects ((c.lend.ensures ∙ c.apex.ensures.name) i) ((c.in_ok-after.ensures ∙ c.index.ensures) i) items) in
-    let others = ap (records_aside names) left ∙ effects_aside zone.apex names zone.records items touched.owners in
-    subst (λ (ns : List Labels). DifferAt ns zone.records (g.I.ZoneIndex.records c.take_effects.new.set)) (sym c.deref.ensures.value) (record { rise = touched.rise; others = sym others })
-
-pub versioned-requires-clause-apex : goal.versioned-requires-clause-apex
-versioned-requires-clause-apex g c =
-    let zone = c.args.zone.now in
-    let items = c.args.items.now in
-    let names = c.in_ok-names.names.items in
-    let touched : AreTouched zone.apex items names = subst (λ (n : Labels). AreTouched n items names) c.apex-2.ensures.name c.in_ok-names.ensures in
-    subst (λ (ns : List Labels). list_any (names_eq zone.apex) ns ≡ true) (sym c.deref.ensures.value) touched.top
+    let items = c.args.items.items in
+    let apex = zone.apex in
+    let xs = zone.records in
+    let told = ap (λ (is : List ResourceRecord). otherwise (prerequisites_fault zone c.args.prerequisites.now) (first_fault (prescan_fault apex) is)) (sym c.deref.ensures.value) ∙ sym c.in_ok-rcode.ensures ∙ c.in_default.is in
+    let same = ap (effects apex xs) c.deref-2.ensures.value ∙ done_by_name apex c.sort_by_owner.new.items.items items xs c.apex-valid.ensures.valid.ordered c.sort_by_owner.ensures.stay in
+    subst (λ (v : Verdict). IfOk c.judge_passed.result (IsVerdict g.I.ZoneIndex.records xs v))
+    (ap (versioned xs) same ∙ ap (λ (o : Option Rcode). unless o (versioned xs (effects apex xs items))) (sym told))
+    c.judge_passed.ensures.verdict
