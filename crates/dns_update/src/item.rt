@@ -19,13 +19,26 @@ use std::alloc::AllocError;
 use std::marker::Model;
 
 /// A record of an update, of any class and type (RFC 2136 sections 2.4 and 2.5).
-#[derive(Debug, Drop)]
+#[derive(Debug)]
 pub(crate) struct ResourceRecord {
     owner: Name,
     rtype: u16,
     class: u16,
     ttl: u32,
     rdata: Vec<u8, Heap>,
+}
+
+impl Drop for ResourceRecord {
+    fn drop(self) {
+        let ResourceRecord {
+            owner,
+            rtype: _,
+            class: _,
+            ttl: _,
+            rdata,
+        } = self;
+        drop((owner, rdata));
+    }
 }
 
 impl Model for ResourceRecord {
