@@ -1,5 +1,5 @@
-//! What an update does to the records of a zone. An item says something of what its owner owns, so that items of one name that follow
-//! each other are done to that, which is taken out of the zone once for all of them.
+//! What an update does to the records of a zone. An item says something of what its owner owns, so that the items of one name are
+//! done to that, which is taken out of the zone once for all of them.
 ghost use Rattle.std.specs.Prelude.{◌≡◌, ◌==◌, true, false, None, OnOk, IfOk};
 ghost use Rattle.std.specs.List.{AllByRecursion, list_all};
 ghost use Rattle.dns_names.specs.Name.{names_eq};
