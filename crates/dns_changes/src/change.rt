@@ -21,6 +21,7 @@ pub struct Change {
     added: Vec<Record, Heap>,
 }
 
+// Written out, so that a proof lets one go by one call (docs/GATE.md).
 impl Drop for Change {
     fn drop(self) {
         let Change {

@@ -21,6 +21,7 @@ pub struct MemoryStream {
     is_closed: bool,
 }
 
+// Written out, so that a proof lets one go by one call (docs/GATE.md).
 impl Drop for MemoryStream {
     fn drop(self) {
         let MemoryStream {

@@ -16,6 +16,7 @@ pub struct FileSectors<F: File> {
     ghost reachable: { 512 * len < 2 ^ 64 },
 }
 
+// Written out, so that a proof lets one go by one call (docs/GATE.md).
 impl<F: File + Drop> Drop for FileSectors<F> {
     fn drop(self) {
         let FileSectors {

@@ -62,6 +62,7 @@ pub struct MemoryFile {
     ghost held: { octets.items ≡ after_all start.items changes.items },
 }
 
+// Written out, so that a proof lets one go by one call (docs/GATE.md).
 impl Drop for MemoryFile {
     fn drop(self) {
         let MemoryFile {

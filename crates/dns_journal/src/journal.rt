@@ -73,6 +73,7 @@ pub struct Journal<D: Sectors> {
     ghost banks_small: { 1 + 2 * (root.snapshot_room + root.journal_room) ≤ 2 ^ 20 },
 }
 
+// Written out, so that a proof lets one go by one call (docs/GATE.md).
 impl<D: Sectors + Drop> Drop for Journal<D> {
     fn drop(self) {
         let Journal {

@@ -29,6 +29,7 @@ pub(crate) struct Context {
     pub(crate) owner: Option<Name>,
 }
 
+// Written out, so that a proof lets one go by one call (docs/GATE.md).
 impl Drop for Context {
     fn drop(self) {
         let Context {

@@ -26,6 +26,7 @@ pub struct Places<'a> {
     pub refused: Option<RefusedEntry<'a>>,
 }
 
+// Written out, so that a proof lets one go by one call (docs/GATE.md).
 impl<'a> Drop for Places<'a> {
     fn drop(self) {
         let Places {

@@ -23,6 +23,7 @@ pub struct Name {
     octets: SmallVec<u8, 32, Heap>,
 }
 
+// Written out, so that a proof lets one go by one call (docs/GATE.md).
 impl Drop for Name {
     fn drop(self) {
         let Name { octets } = self;

@@ -136,6 +136,7 @@ pub struct Effects {
     ghost few: { length headers.items ≤ 32 },
 }
 
+// Written out, so that a proof lets one go by one call (docs/GATE.md).
 impl Drop for Effects {
     fn drop(self) {
         let Effects {

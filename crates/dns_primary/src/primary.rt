@@ -43,6 +43,7 @@ pub struct Primary<I: ZoneIndex, S: ZoneStore> {
     ghost reserved: { length waiting.items ≤ vec_capacity places },
 }
 
+// Written out, so that a proof lets one go by one call (docs/GATE.md).
 impl<I: ZoneIndex, S: ZoneStore> Drop for Primary<I, S> {
     fn drop(self) {
         let Primary {

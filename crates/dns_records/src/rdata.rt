@@ -24,6 +24,7 @@ pub struct RData {
     octets: SmallVec<u8, 24, Heap>,
 }
 
+// Written out, so that a proof lets one go by one call (docs/GATE.md).
 impl Drop for RData {
     fn drop(self) {
         let RData { rtype: _, octets } = self;

@@ -38,6 +38,7 @@ pub struct Secondary<I: ZoneIndex> {
     reading: Option<Reading<I>>,
 }
 
+// Written out, so that a proof lets one go by one call (docs/GATE.md).
 impl<I: ZoneIndex> Drop for Secondary<I> {
     fn drop(self) {
         let Secondary {

@@ -22,6 +22,7 @@ pub struct KeptStore<D: Sectors, I: ZoneIndex> {
     pub(crate) changes: Vec<Change, Heap>,
 }
 
+// Written out, so that a proof lets one go by one call (docs/GATE.md).
 impl<D: Sectors + Drop, I: ZoneIndex> Drop for KeptStore<D, I> {
     fn drop(self) {
         let KeptStore {

@@ -77,6 +77,7 @@ pub struct Session<I: ZoneIndex> {
     pub(crate) place: Place,
 }
 
+// Written out, so that a proof lets one go by one call (docs/GATE.md).
 impl<I: ZoneIndex> Drop for Session<I> {
     fn drop(self) {
         let Session {

@@ -25,6 +25,7 @@ pub struct Edge<S: Stream> {
     buffer: Vec<u8, Heap>,
 }
 
+// Written out, so that a proof lets one go by one call (docs/GATE.md).
 impl<S: Stream + Drop> Drop for Edge<S> {
     fn drop(self) {
         let Edge {

@@ -17,6 +17,7 @@ pub struct MemoryNetwork {
     sends_fail: bool,
 }
 
+// Written out, so that a proof lets one go by one call (docs/GATE.md).
 impl Drop for MemoryNetwork {
     fn drop(self) {
         let MemoryNetwork {

@@ -218,6 +218,7 @@ pub(crate) struct ServerOf<P: Drop> {
     pub(crate) notes: MemoryNotes,
 }
 
+// Written out, so that a proof lets one go by one call (docs/GATE.md).
 impl<P: Drop> Drop for ServerOf<P> {
     fn drop(self) {
         let ServerOf {

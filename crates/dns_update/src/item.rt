@@ -28,6 +28,7 @@ pub(crate) struct ResourceRecord {
     rdata: Vec<u8, Heap>,
 }
 
+// Written out, so that a proof lets one go by one call (docs/GATE.md).
 impl Drop for ResourceRecord {
     fn drop(self) {
         let ResourceRecord {

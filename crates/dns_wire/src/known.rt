@@ -154,6 +154,7 @@ pub(crate) struct Places<'a> {
     later: Vec<Bucket<'a>, Heap>,
 }
 
+// Written out, so that a proof lets one go by one call (docs/GATE.md).
 impl<'a> Drop for Places<'a> {
     fn drop(self) {
         let Places {

@@ -100,6 +100,7 @@ pub struct Reply<'a> {
     pub additional: Vec<ReplyRecord<'a>, Heap>,
 }
 
+// Written out, so that a proof lets one go by one call (docs/GATE.md).
 impl<'a> Drop for Reply<'a> {
     fn drop(self) {
         let Reply {
