@@ -217,7 +217,16 @@ impl<D: Sectors + Drop, I: ZoneIndex> Primary<I, KeptStore<D, I>> {
         let Ok(mut devices) = Vec::with_capacity(*self.places.allocator(), self.behind.len()) else {
             return Err(self);
         };
-        take_back(&mut devices, self.into_behind());
+        let Primary {
+            zones: _,
+            behind,
+            settings: _,
+            waiting: _,
+            places: _,
+            connections: _,
+            transfers: _,
+        } = self;
+        take_back(&mut devices, behind);
         Ok(devices)
     }
 }

@@ -28,6 +28,7 @@ pub struct ZoneSettings {
 
 /// All zones as they are shown, what stands behind each, the replies that wait, the connections, and the transfers that are open on
 /// them, at most one on each.
+#[derive(Drop)]
 pub struct Primary<I: ZoneIndex, S: ZoneStore> {
     pub(crate) zones: Vec<Zone<I>, Heap>,
     pub(crate) behind: Vec<Behind<I, S>, Heap>,
@@ -41,46 +42,4 @@ pub struct Primary<I: ZoneIndex, S: ZoneStore> {
     ghost settled: { length zones.items ≡ length settings.items },
     ghost unused: { places.items ≡ [] },
     ghost reserved: { length waiting.items ≤ vec_capacity places },
-}
-
-// Written out, so that a proof lets one go by one call (docs/GATE.md).
-impl<I: ZoneIndex, S: ZoneStore> Drop for Primary<I, S> {
-    fn drop(self) {
-        let Primary {
-            zones,
-            behind,
-            settings,
-            waiting,
-            places,
-            connections,
-            transfers,
-        } = self;
-        drop((
-            zones,
-            behind,
-            settings,
-            waiting,
-            places,
-            connections,
-            transfers,
-        ));
-    }
-}
-
-impl<I: ZoneIndex, S: ZoneStore> Primary<I, S> {
-    /// What stands behind each zone. All else is let go.
-    pub(crate) fn into_behind(self) -> Vec<Behind<I, S>, Heap>
-        ensures { result.items ≡ self.behind.items }
-    {
-        let Primary {
-            zones: _,
-            behind,
-            settings: _,
-            waiting: _,
-            places: _,
-            connections: _,
-            transfers: _,
-        } = self;
-        behind
-    }
 }
