@@ -1,24 +1,22 @@
 -- Records taken out of a set and put into it name by name.
-use Rattle.std.proofs.Common.{◌≡◌, ℕ, zero, suc, ◌+◌, ◌<◌, ◌≤◌, length, length-drop, get_or, take, drop, arith, Bool, true, false, not, ◌&&◌, ◌||◌, inl, inr, List, [], ◌∷◌, ◌++◌, Option, Some, None, refl, sym, ap, subst, ◌∙◌, cond, append_assoc}
+use Rattle.std.proofs.Common.{◌≡◌, ℕ, zero, suc, ◌+◌, ◌<◌, length, take, drop, arith, Bool, true, false, not, ◌&&◌, ◌||◌, inl, inr, List, [], ◌∷◌, ◌++◌, Option, Some, None, refl, sym, ap, subst, ◌∙◌, cond, append_assoc}
 use Rattle.std.specs.Prelude.{slice_set}
-use Rattle.std.specs.List.{list_any, list_all, AllWithin}
+use Rattle.std.specs.List.{list_any, list_all}
 use Rattle.std.specs.Ordering.{ordering_reverse}
 use Rattle.std.specs.FinMap.Entries.{by_order}
 use Rattle.std.specs.declared.cmp.Ordering.TheVariants.{Less, Equal, Greater}
-use Rattle.std.proofs.lemmas.List.{take-append-drop, get_or_default}
+use Rattle.std.proofs.lemmas.List.{take-append-drop}
 use Rattle.dns_names.specs.Name.{Labels, names_eq}
 use Rattle.dns_records.specs.Record.{Record, record_cmp}
 use Rattle.dns_zone.specs.Records.{is_ordered, are_of, has, put, without, others, united, contains, records_at}
 use Rattle.dns_zone.specs.Zone.{has_twice}
-use Rattle.dns_zone.specs.Order.{record_total, both_true, names_itself}
+use Rattle.dns_zone.specs.Order.{record_total, both_true}
 use Rattle.dns_zone.specs.Twice.{once, none_alike}
 use Rattle.dns_zone.specs.Sets.{Sorted, Below, true_or_false, sorted_from, sorted_filter, sorted_united, same_sets, found, found_filter, found_united, only, or_else}
 use Rattle.dns_zone.proofs.Alone.{of_all}
 use Rattle.dns_zone.proofs.Listed.{ordered_from, put_ordered, without_ordered}
 use Rattle.dns_zone.proofs.Parted.{AllOf, put_behind, has_parted}
 use Rattle.dns_zone.proofs.Replaced.{at_pass, still_pass, replaced_kept, all_from, AllAt}
-use Rattle.dns_zone.proofs.Searching.{told_nat}
-use Rattle.dns_changes.specs.Group.{IsGroup}
 use Rattle.dns_changes.specs.Change.{removed_from, are_present, are_new}
 use Rattle.dns_changes.proofs.Steps.{contains_kept, present_next, removed_next, removed_none, new_next, new_none, united_next, united_with}
 
@@ -91,34 +89,6 @@ pub ordered_parts : (xs a b : List Record) → xs ≡ a ++ b → is_ordered xs �
 ordered_parts xs a b e h =
     let both = sorted_parts a b (sorted_from (a ++ b) (subst (λ (ys : List Record). is_ordered ys ≡ true) e h)) in
     (ordered_from a both.0, ordered_from b both.1)
-
--- the first and those behind it that its owner owns
-pub owned_front : (name : Labels) (xs : List Record) (n : ℕ) → AllWithin (λ r. names_eq r.owner name ≡ true) xs 0 n → are_of name (take n xs) ≡ true
-owned_front name [] zero h = refl
-owned_front name [] (suc n) h = refl
-owned_front name (x ∷ xs) zero h = refl
-owned_front name (x ∷ xs) (suc n) h = λ i. h 0 x (omega arith) (omega arith) i && owned_front name xs n (λ k d from to. h (suc k) d (omega arith) (omega arith)) i
-
-pub owned_more : (name : Labels) (xs : List Record) (n : ℕ) (r : Record) → n < length xs → r ≡ get_or xs n r → names_eq r.owner name ≡ true → AllWithin (λ s. names_eq s.owner name ≡ true) xs 0 n → AllWithin (λ s. names_eq s.owner name ≡ true) xs 0 (n + 1)
-owned_more name xs n r lt is e h = λ k d from to. elim (told_nat k n) [
-  | inl less ↦ h k d from less
-  | inr more ↦ (let same : n ≡ k = omega arith in
-      let there : r ≡ get_or xs k d = is ∙ get_or_default xs n r d lt ∙ ap (λ (m : ℕ). get_or xs m d) same in
-      subst (λ (s : Record). names_eq s.owner name ≡ true) there e)
-]
-
-pub group_is : (first : Record) (others xs g rest : List Record) (n m : ℕ) → xs ≡ first ∷ others → m ≡ suc n → n ≤ length others → AllWithin (λ s. names_eq s.owner first.owner ≡ true) others 0 n → g ≡ take m xs → rest ≡ drop m xs → IsGroup xs first g rest
-group_is first others xs g rest n m e f bound h a b =
-    let size = length-drop n others in
-    let front : g ≡ first ∷ take n others = a ∙ (λ i. take (f i) (e i)) in
-    let back : rest ≡ drop n others = b ∙ (λ i. drop (f i) (e i)) in
-    let few : length rest ≡ length (drop n others) = ap length back in
-    let all : length xs ≡ suc (length others) = ap length e in
-    record {
-      whole = sym (take-append-drop m xs) ∙ (λ i. sym a i ++ sym b i);
-      owned = ap (are_of first.owner) front ∙ ap (λ c. c && are_of first.owner (take n others)) (names_itself first.owner) ∙ owned_front first.owner others n h;
-      fewer = omega (arith, size, few, all);
-    }
 
 -- ---- what the name tells of its own records
 and_true : (b c : Bool) → c ≡ true → (b && c) ≡ b

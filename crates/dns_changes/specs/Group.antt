@@ -1,10 +1,10 @@
--- The first of some records: those of one name.
+-- Of some things that have an owner each, the first: those of one owner.
 use Rattle.std.specs.Prelude.{◌≡◌, ◌<◌, true, List, ◌++◌, length}
-use Rattle.dns_records.specs.Record.{Record}
-use Rattle.dns_zone.specs.Records.{are_of}
+use Rattle.std.specs.List.{list_all}
+use Rattle.dns_names.specs.Name.{Labels, names_eq}
 
--- The records are those of the first's owner and the others behind them.
-pub record IsGroup (records : List Record) (first : Record) (group rest : List Record) : Type 0 where
-  pub whole : records ≡ group ++ rest
-  pub owned : are_of first.owner group ≡ true
-  pub fewer : length rest < length records
+-- They are those at the front that have the first's owner, and the others behind them.
+pub record IsGroup {X : Type 0} (owner : X → Labels) (all : List X) (first : X) (group rest : List X) : Type 0 where
+  pub whole : all ≡ group ++ rest
+  pub owned : list_all (λ x. names_eq (owner x) (owner first)) group ≡ true
+  pub fewer : length rest < length all

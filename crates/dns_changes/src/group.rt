@@ -29,7 +29,7 @@ fn count_owned(records: &[Record], name: &NameRef<'_>) -> usize
 fn first_group(records: &[Record]) -> Option<(&Record, &[Record], &[Record])>
     ensures { MatchOption result
         (length records.now ≡ 0)
-        (λ group. IsGroup records.now group.0.now group.1.now group.2.now) }
+        (λ group. IsGroup (λ r. r.owner) records.now group.0.now group.1.now group.2.now) }
 {
     let (first, others) = records.split_first()?;
     let count = count_owned(others, &first.owner().lend());

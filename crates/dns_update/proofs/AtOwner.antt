@@ -14,12 +14,13 @@ use Rattle.dns_zone.specs.Twice.{any_by}
 use Rattle.dns_zone.proofs.Kept.{any_kept}
 use Rattle.dns_zone.proofs.Listed.{filter_same, put_ordered, without_ordered}
 use Rattle.dns_zone.proofs.Replaced.{at_pass, replaced_kept}
+use Rattle.dns_zone.proofs.Typed.{kept_twice}
 use Rattle.dns_changes.specs.Touched.{is_owned_by, records_aside}
 use Rattle.dns_wire.specs.Message.{ResourceRecord}
 use Rattle.dns_update.specs.ResourceRecord.{as_record}
 use Rattle.dns_update.specs.Effect.{is_of, is_vital, replaced, owns_other, succeeds, added, deleted_set, is_spared, deleted, effect, effects}
 use Rattle.dns_update.proofs.Aside.{effects_aside}
-use Rattle.dns_update.proofs.Ranges.{all_kept, left_ordered, then_kept}
+use Rattle.dns_update.proofs.Ranges.{all_kept, left_ordered}
 
 abbrev pub at : Labels → Record → Bool
 at name r = names_eq r.owner name
@@ -50,7 +51,7 @@ older_at r xs =
 
 pub type_kept : (name : Labels) (t : ℕ) (xs : List Record) → rrset (records_at xs name) name t ≡ rrset xs name t
 type_kept name t xs =
-    then_kept (at name) (λ r. names_eq r.owner name && r.rtype == t) xs
+    kept_twice (at name) (λ r. names_eq r.owner name && r.rtype == t) xs
     ∙ filter_same (λ r. names_eq r.owner name && (names_eq r.owner name && r.rtype == t)) (λ r. names_eq r.owner name && r.rtype == t) (λ r. once (names_eq r.owner name) (r.rtype == t)) xs
 
 never : (a b : Bool) → ((a && false) && b) ≡ false
@@ -71,7 +72,7 @@ spared_at apex r xs = elim (true_or_false (names_eq r.owner apex)) [
 
 -- ---- what becomes of a name's records
 swapped : (p q : Record → Bool) (xs : List Record) → filter q (filter p xs) ≡ filter p (filter q xs)
-swapped p q xs = then_kept p q xs ∙ filter_same (λ r. p r && q r) (λ r. q r && p r) (λ r. flip (p r) (q r)) xs ∙ sym (then_kept q p xs)
+swapped p q xs = kept_twice p q xs ∙ filter_same (λ r. p r && q r) (λ r. q r && p r) (λ r. flip (p r) (q r)) xs ∙ sym (kept_twice q p xs)
   where
     flip : (a b : Bool) → (a && b) ≡ (b && a)
     flip true true = refl

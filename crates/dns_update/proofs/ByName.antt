@@ -15,20 +15,20 @@ use Rattle.dns_zone.specs.Records.{is_ordered, others, records_at}
 use Rattle.dns_zone.specs.Sets.{found, same_sets, sorted_from}
 use Rattle.dns_zone.proofs.Listed.{filter_same}
 use Rattle.dns_zone.proofs.Parted.{none_eq, tied_eq}
+use Rattle.dns_zone.proofs.Typed.{kept_twice}
 use Rattle.dns_wire.specs.Message.{ResourceRecord}
 use Rattle.dns_wire.specs.declared.codes.Rcode.{Rcode}
 use Rattle.dns_update.specs.ResourceRecord.{first_fault, otherwise}
 use Rattle.dns_update.specs.Effect.{effect, effects}
 use Rattle.dns_update.proofs.Aside.{found_at}
 use Rattle.dns_update.proofs.AtOwner.{effect_at, effect_ordered, effects_ordered, effects_others, is_named}
-use Rattle.dns_update.proofs.Ranges.{then_kept}
 use Rattle.dns_update.proofs.ResourceRecords.{no_fault}
 
 -- ---- what a name owns behind the items
 -- those of all names but one, of another
 at_others : (m n : Labels) (xs : List Record) → names_eq m n ≡ false → records_at (others xs m) n ≡ records_at xs n
 at_others m n xs e =
-    then_kept (λ r. not (names_eq r.owner m)) (λ r. names_eq r.owner n) xs
+    kept_twice (λ r. not (names_eq r.owner m)) (λ r. names_eq r.owner n) xs
     ∙ filter_same (λ r. not (names_eq r.owner m) && names_eq r.owner n) (λ r. names_eq r.owner n) (λ r. by r.owner (names_eq r.owner m) (names_eq r.owner n) refl refl) xs
   where
     by : (o : Labels) (a b : Bool) → names_eq o m ≡ a → names_eq o n ≡ b → (not a && b) ≡ b

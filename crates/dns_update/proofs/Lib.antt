@@ -1,7 +1,7 @@
 pub mod Gone
 pub mod Found
 pub mod Ranges
-pub mod Fronts
+pub mod Named
 pub mod Forms
 pub mod ResourceRecords
 pub mod OneSoa

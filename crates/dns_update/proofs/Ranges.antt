@@ -13,6 +13,7 @@ use Rattle.dns_zone.specs.Sets.{sorted_from, sorted_filter}
 use Rattle.dns_zone.proofs.Listed.{ordered_from}
 use Rattle.dns_zone.proofs.Replaced.{still_pass}
 use Rattle.dns_zone.proofs.Typed.{Rises, owned_rise}
+use Rattle.dns_zone.proofs.Typed.{kept_twice}
 use Rattle.dns_update.specs.Effect.{deleted_set, is_of, is_vital}
 use Rattle.dns_update.specs.Ranges.{is_outside}
 
@@ -131,15 +132,6 @@ all_stay name p f (x ∷ xs) h =
     let both = both_true (names_eq x.owner name) (are_of name xs) h in
     ap (λ b. cond b (x ∷ filter p xs) (filter p xs)) (f x both.0) ∙ ap (λ (ys : List Record). x ∷ ys) (all_stay name p f xs both.1)
 
--- what two tests keep, one behind the other
-pub then_kept : (p q : Record → Bool) (xs : List Record) → filter q (filter p xs) ≡ filter (λ r. p r && q r) xs
-then_kept p q [] = refl
-then_kept p q (x ∷ xs) = step (p x) (then_kept p q xs)
-  where
-    step : (b : Bool) → filter q (filter p xs) ≡ filter (λ r. p r && q r) xs → filter q (cond b (x ∷ filter p xs) (filter p xs)) ≡ cond (b && q x) (x ∷ filter (λ r. p r && q r) xs) (filter (λ r. p r && q r) xs)
-    step true e = ap (λ (ys : List Record). cond (q x) (x ∷ ys) ys) e
-    step false e = e
-
 -- whether a record of the name stays, by its type alone
 stays_by : (apex name : Labels) (t : ℕ) (r : Record) → names_eq r.owner name ≡ true → not (is_of name t r && not (is_vital apex r)) ≡ not ((t == type_any || r.rtype == t) && not (names_eq name apex && (r.rtype == type_soa || r.rtype == type_ns)))
 stays_by apex name t r e =
@@ -190,8 +182,8 @@ all_go apex name t xs any other own = sym (none_stays name (λ r. not (is_of nam
 -- of the apex the SOA and the NS stay, and no other type: none behind the SOA's, between the two, or below that of NS
 pub but_vital : (apex : Labels) (xs : List Record) → are_of apex xs ≡ true → names_eq apex apex ≡ true → filter (is_outside 0 1) (filter (is_outside 3 5) (filter (λ r. not (nat_lt 6 r.rtype)) xs)) ≡ deleted_set apex xs apex type_any
 but_vital apex xs own same =
-    ap (filter (is_outside 0 1)) (then_kept (λ r. not (nat_lt 6 r.rtype)) (is_outside 3 5) xs)
-    ∙ then_kept (λ r. not (nat_lt 6 r.rtype) && is_outside 3 5 r) (is_outside 0 1) xs
+    ap (filter (is_outside 0 1)) (kept_twice (λ r. not (nat_lt 6 r.rtype)) (is_outside 3 5) xs)
+    ∙ kept_twice (λ r. not (nat_lt 6 r.rtype) && is_outside 3 5 r) (is_outside 0 1) xs
     ∙ same_of apex (λ r. (not (nat_lt 6 r.rtype) && is_outside 3 5 r) && is_outside 0 1 r) (λ r. not (is_of apex type_any r && not (is_vital apex r))) (λ r e. by r.rtype ∙ sym (ap (λ b. not (not (b && (r.rtype == type_soa || r.rtype == type_ns)))) same) ∙ sym (stays_by apex apex type_any r e)) xs own
   where
     by : (m : ℕ) → ((not (nat_lt 6 m) && (nat_lt m 3 || nat_lt 5 m)) && (nat_lt m 0 || nat_lt 1 m)) ≡ not (not (m == type_soa || m == type_ns))

@@ -3,7 +3,6 @@ pub mod Prerequisites
 pub mod Listed
 pub mod Prescan
 pub mod Ranges
-pub mod Runs
 pub mod Effect
 pub mod Touched
 pub mod Verdict

@@ -29,7 +29,7 @@ kept p (x ∷ xs) k d lt = step (p x) refl k lt (λ j h. kept p xs j d h)
     step false e k lt inner = inner k lt
 
 -- what two tests keep, one behind the other
-kept_twice : (p q : Record → Bool) (xs : List Record) → filter q (filter p xs) ≡ filter (λ r. p r && q r) xs
+pub kept_twice : (p q : Record → Bool) (xs : List Record) → filter q (filter p xs) ≡ filter (λ r. p r && q r) xs
 kept_twice p q [] = refl
 kept_twice p q (x ∷ xs) = step (p x) (kept_twice p q xs)
   where

@@ -1,7 +1,8 @@
 use Rattle.std.proofs.Common.{◌≡◌, ℕ, ◌+◌, ◌<◌, ◌≤◌, true, sym, ◌∙◌, arith}
 use Rattle.dns_names.specs.Name.{names_eq}
 use Rattle.dns_zone.specs.Order.{names_itself}
-use Rattle.dns_changes.proofs.Groups.{owned_more}
+use Rattle.dns_records.specs.Record.{Record}
+use Rattle.dns_changes.proofs.Fronts.{owned_more}
 use Rattle.dns_changes.proofs.group.count_owned.Goals as goal
 
 more : {m n : ℕ} → m < n → m + 1 ≤ n
@@ -16,5 +17,5 @@ owned-preserved c =
     let is : names_eq r.owner name ≡ true = (λ i. names_eq (sym (c.lend.ensures ∙ c.owner.ensures) i) name) ∙ (λ i. names_eq (same i) name) ∙ names_itself name in
     record {
       inside = more c.owned-test.true;
-      owned = owned_more name xs c.owned.count r c.owned-test.true c.index-records-count.is is c.owned.invariant.owned;
+      owned = owned_more (λ (s : Record). s.owner) name xs c.owned.count r c.owned-test.true c.index-records-count.is is c.owned.invariant.owned;
     }

@@ -1,7 +1,8 @@
 use Rattle.std.proofs.Common.{◌≡◌, suc, ◌+◌, true, subst, ◌∙◌, arith}
 use Rattle.std.specs.List.{AllWithin}
 use Rattle.dns_names.specs.Name.{Labels, names_eq}
-use Rattle.dns_changes.proofs.Groups.{group_is}
+use Rattle.dns_records.specs.Record.{Record}
+use Rattle.dns_changes.proofs.Fronts.{group_is}
 use Rattle.dns_changes.proofs.group.first_group.Goals as goal
 
 pub returns : goal.returns
@@ -10,5 +11,5 @@ returns c =
     let first = c.in_ok-first.first.now in
     let others = c.in_ok-first.others.now in
     let one : 1 + n ≡ suc n = omega arith in
-    group_is first others c.args.records.now c.split_at.result.0.now c.split_at.result.1.now n (1 + n) c.in_ok-first.ensures.cases.0 one c.count_owned-count.ensures.bound
+    group_is (λ (r : Record). r.owner) first others c.args.records.now c.split_at.result.0.now c.split_at.result.1.now n (1 + n) c.in_ok-first.ensures.cases.0 one c.count_owned-count.ensures.bound
     (subst (λ (m : Labels). AllWithin (λ s. names_eq s.owner m ≡ true) others 0 n) (c.lend.ensures ∙ c.owner.ensures) c.count_owned-count.ensures.owned) c.split_at.ensures.front c.split_at.ensures.back

@@ -1,4 +1,4 @@
-use Rattle.std.proofs.Common.{true, List, sym, ap, ◌∙◌}
+use Rattle.std.proofs.Common.{List, sym, ap, ◌∙◌}
 use Rattle.dns_records.specs.Record.{Record}
 use Rattle.dns_zone.specs.Records.{united}
 use Rattle.dns_changes.specs.Change.{are_new}

@@ -7,7 +7,7 @@ use Rattle.dns_update.specs.Effect.{effect, effects}
 use Rattle.dns_update.specs.Prescan.{prescan_fault}
 use Rattle.dns_update.proofs.AtOwner.{effect_ordered, effect_owned}
 use Rattle.dns_update.proofs.ResourceRecords.{next_at, passes_at}
-use Rattle.dns_update.proofs.Fronts.{named_at}
+use Rattle.dns_update.proofs.Named.{named_at}
 use Rattle.dns_update.proofs.effect.take_each.Goals as goal
 
 pub take_effect-requires-clause-passes : goal.take_effect-requires-clause-passes

@@ -1,6 +1,7 @@
 use Rattle.std.proofs.Common.{◌+◌, ◌<◌, ◌≤◌, sym, ◌∙◌, arith}
 use Rattle.std.proofs.Common.{ℕ}
-use Rattle.dns_update.proofs.Fronts.{named_more}
+use Rattle.dns_wire.specs.Message.{ResourceRecord}
+use Rattle.dns_changes.proofs.Fronts.{owned_more}
 use Rattle.dns_update.proofs.runs.count_named.Goals as goal
 
 more : {m n : ℕ} → m < n → m + 1 ≤ n
@@ -12,5 +13,5 @@ named-preserved c =
     let i = c.index-items-count.result in
     record {
       inside = more c.named-test.true;
-      named = named_more c.args.name.now xs c.named.count i c.named-test.true c.index-items-count.is (sym c.is_owned_by.ensures ∙ c.if-is_owned_by.true) c.named.invariant.named;
+      named = owned_more (λ (i : ResourceRecord). i.owner) c.args.name.now xs c.named.count i c.named-test.true c.index-items-count.is (sym c.is_owned_by.ensures ∙ c.if-is_owned_by.true) c.named.invariant.named;
     }
