@@ -10,7 +10,7 @@ mod staging;
 
 pub use behind::{Behind, newest};
 pub use changes::shown_changes;
-pub use checkpoint::{checkpoint_zone, sectors_lacked};
+pub use checkpoint::sectors_lacked;
 pub use flush::{flush_all, flush_zone};
 pub use octets::snapshot_len;
 pub use staging::{MOST_RECORDS, StagingError, next_version, stage};
