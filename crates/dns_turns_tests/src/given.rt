@@ -210,26 +210,13 @@ fn make_turn<H, E, N, L, P: MakesTurns<H, E, N, L>>(
 }
 
 /// A server in memory. (What drops a store over a device has no proof but as a type parameter.)
+#[derive(Drop)]
 pub(crate) struct ServerOf<P: Drop> {
     pub(crate) heap: Heap,
     pub(crate) edge: Edge<MemoryStream>,
     pub(crate) network: MemoryNetwork,
     pub(crate) primary: P,
     pub(crate) notes: MemoryNotes,
-}
-
-// Written out, so that a proof lets one go by one call (docs/GATE.md).
-impl<P: Drop> Drop for ServerOf<P> {
-    fn drop(self) {
-        let ServerOf {
-            heap: _,
-            edge,
-            network,
-            primary,
-            notes,
-        } = self;
-        drop((edge, network, primary, notes));
-    }
 }
 
 /// A server of one zone.
