@@ -14,7 +14,7 @@ use Rattle.dns_zone.specs.Order.{record_total, both_true}
 use Rattle.dns_zone.specs.Twice.{once, none_alike}
 use Rattle.dns_zone.specs.Sets.{Sorted, Below, true_or_false, sorted_from, sorted_filter, sorted_united, same_sets, found, found_filter, found_united, only, or_else}
 use Rattle.dns_zone.proofs.Alone.{of_all}
-use Rattle.dns_zone.proofs.Listed.{ordered_from, put_ordered, without_ordered}
+use Rattle.dns_zone.proofs.Listed.{ordered_from, ordered_parts, sorted_parts, put_ordered, without_ordered}
 use Rattle.dns_zone.proofs.Parted.{AllOf, put_behind, has_parted}
 use Rattle.dns_zone.proofs.Replaced.{at_pass, still_pass, replaced_kept, all_from, AllAt}
 use Rattle.dns_changes.specs.Change.{removed_from, are_present, are_new}
@@ -75,20 +75,6 @@ united_group xs (r ∷ g) rest h e all =
     united_next xs r (g ++ rest) (sorted_from xs h) all
     ∙ united_group (put r xs) g rest (put_ordered r xs h) (sym (new_next xs r g absent) ∙ e) (sym (new_next xs r (g ++ rest) absent) ∙ all)
     ∙ ap (λ ys. united ys rest) (sym (united_next xs r g (sorted_from xs h) e))
-
--- ---- parts of records in order
-below_parts : (r : Record) (a b : List Record) → Below r (a ++ b) → Below r a
-below_parts r [] b h = tt
-below_parts r (x ∷ a) b h = (h.0, below_parts r a b h.1)
-
-sorted_parts : (a b : List Record) → Sorted (a ++ b) → Sorted a × Sorted b
-sorted_parts [] b h = (tt, h)
-sorted_parts (x ∷ a) b h = (let rest = sorted_parts a b h.1 in ((below_parts x a b h.0, rest.0), rest.1))
-
-pub ordered_parts : (xs a b : List Record) → xs ≡ a ++ b → is_ordered xs ≡ true → (is_ordered a ≡ true) × (is_ordered b ≡ true)
-ordered_parts xs a b e h =
-    let both = sorted_parts a b (sorted_from (a ++ b) (subst (λ (ys : List Record). is_ordered ys ≡ true) e h)) in
-    (ordered_from a both.0, ordered_from b both.1)
 
 -- ---- what the name tells of its own records
 and_true : (b c : Bool) → c ≡ true → (b && c) ≡ b

@@ -1,5 +1,5 @@
 -- Room for a zone's next version.
-use Rattle.std.specs.Prelude.{◌≡◌, ◌<◌, ◌≤◌, ◌+◌, ◌-◌, ◌^◌, Bool, true, false, ◌&&◌, nat_le, nat_lt, List, length, Result, Ok, Err}
+use Rattle.std.specs.Prelude.{◌≡◌, ◌<◌, ◌≤◌, ◌+◌, ◌-◌, ◌^◌, ℕ, Bool, true, false, ◌&&◌, nat_le, nat_lt, List, length, Option, Some, None, Result, Ok, Err, if◌then◌else◌}
 use Rattle.dns_records.specs.Record.{Record}
 use Rattle.dns_layout.specs.Sector.{snapshot_sectors}
 use Rattle.dns_journal.specs.declared.journal.StageError.{StageError}
@@ -30,3 +30,11 @@ HasRoomBy k after (Err upper.NoRoom) = has_room k after ≡ false
 HasRoomBy k after (Err upper.Full) = (has_room k after ≡ true) × (sectors_left k < entry_between (newest_of k) after)
 HasRoomBy k after (Err upper.Closed) = k.closed ≡ true
 HasRoomBy k after (Err upper.OutOfMemory) = Unit {0}
+
+-- There is room for the version, but not in what is left of the journal.
+abbrev pub lacks_room : Kept → List Record → Bool
+lacks_room k after = has_room k after && nat_lt (sectors_left k) (entry_between (newest_of k) after)
+
+-- Then it lacks as many sectors as its entry takes.
+abbrev pub sectors_lacked : Kept → List Record → Option ℕ
+sectors_lacked k after = if lacks_room k after then Some (entry_between (newest_of k) after) else None

@@ -1,4 +1,4 @@
-//! Changes that are put behind a zone's newest version, where there is room.
+//! Changes that are put behind a zone's newest version, where there is room, and what room they lack.
 ghost use Rattle.std.specs.Prelude.{◌≡◌, ◌≤◌, true, length, Some, None, IfOk, OnOk, OnErr};
 ghost use Rattle.dns_zone.specs.Zone.{Zone as Stated, IsZone, zone_fault};
 ghost use Rattle.dns_changes.specs.Change.{IsChange};
@@ -6,7 +6,7 @@ ghost use Rattle.dns_changes.specs.Version.{IsNext};
 ghost use Rattle.dns_store.specs.Versions.{Kept, StandsStill, newest_of, staged_with};
 ghost use Rattle.dns_held.specs.Held.{HasVersions, newer};
 ghost use Rattle.dns_held.specs.Plain.{octets_of};
-ghost use Rattle.dns_held.specs.Staging.{HasRoomBy, has_room};
+ghost use Rattle.dns_held.specs.Staging.{HasRoomBy, has_room, lacks_room, sectors_lacked};
 
 use crate::octets::octets_after;
 use crate::{Behind, newest};
@@ -80,6 +80,41 @@ pub(crate) fn has_room<I: ZoneIndex, S: ZoneStore>(
         && snapshot_sectors(octets) <= behind.snapshot as usize
         && entry_sectors(change.encoded_len()) <= behind.journal as usize
         && behind.store.newest() < u64::MAX
+}
+
+/// Whether there is room for the version that a change leads to, but not in what is left of the journal.
+fn lacks_room<I: ZoneIndex, S: ZoneStore>(
+    zone: &Zone<I>,
+    behind: &Behind<I, S>,
+    change: &Change,
+    records: &I,
+) -> bool
+    requires next { IsNext (newer zone.now behind.now.tip) change.now (I.records records.now) }
+    requires change { IsChange (newer zone.now behind.now.tip).records (I.records records.now) change.now }
+    ensures { (k : Kept) → HasVersions S.keeps zone.now behind.now k → result ≡ lacks_room k (I.records records.now) }
+{
+    let _valid = newest(zone, behind).apex();
+    let octets = octets_after(behind.octets, change);
+    let sectors = entry_sectors(change.encoded_len());
+    has_room(behind, change, records, octets) && behind.store.left() < sectors
+}
+
+/// How many sectors the entry of a change takes, where there is room for the version that it leads to, but not in what is left of
+/// the journal.
+pub fn sectors_lacked<I: ZoneIndex, S: ZoneStore>(
+    zone: &Zone<I>,
+    behind: &Behind<I, S>,
+    change: &Change,
+    records: &I,
+) -> Option<usize>
+    requires next { IsNext (newer zone.now behind.now.tip) change.now (I.records records.now) }
+    requires change { IsChange (newer zone.now behind.now.tip).records (I.records records.now) change.now }
+    ensures { (k : Kept) → HasVersions S.keeps zone.now behind.now k → result ≡ sectors_lacked k (I.records records.now) }
+{
+    if !lacks_room(zone, behind, change, records) {
+        return None;
+    }
+    Some(entry_sectors(change.encoded_len()))
 }
 
 /// The next version of a zone, of records that are known to be one.

@@ -13,8 +13,7 @@ use Rattle.dns_update.specs.Verdict.{Verdict, Refuses, Keeps, Leaves, verdict}
 use Rattle.dns_store.specs.Versions.{Kept, newest_of}
 use Rattle.dns_store.specs.Room.{entry_between, sectors_left}
 use Rattle.dns_held.specs.Held.{newest_zone}
-use Rattle.dns_held.specs.Staging.{has_room}
-use Rattle.dns_held.specs.Checkpoint.{sectors_lacked}
+use Rattle.dns_held.specs.Staging.{has_room, sectors_lacked}
 use Rattle.dns_primary.specs.declared.event.To.{To}
 use Rattle.dns_primary.specs.Machine.{Made, ZoneState, Machine, kept_of, updates_of}
 use Rattle.dns_primary.specs.Flush.{Sent, Replied, rcode_servfail, flushed, flush_sends}

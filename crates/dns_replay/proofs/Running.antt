@@ -30,18 +30,18 @@ last_joined start [] ys = refl
 last_joined start (x ∷ xs) ys = last_joined _ xs ys
 
 -- what is said leads by a run of the machine
-pub record IsRun (s : Standing) (led : Led) : Type 0 where
+pub record IsRunning (s : Standing) (led : Led) : Type 0 where
   pub run : Run (machine_of s) led.moments
   pub last : last_of (machine_of s) led.moments ≡ machine_of led.standing
 
-run_of : (s : Standing) (led is : Led) → led ≡ is → IsRun s is → IsRun s led
-run_of s led is e r = subst (λ (l : Led). IsRun s l) (sym e) r
+run_of : (s : Standing) (led is : Led) → led ≡ is → IsRunning s is → IsRunning s led
+run_of s led is e r = subst (λ (l : Led). IsRunning s l) (sym e) r
 
-recovers_runs : (names : List Labels) (s : Standing) (led : Led) → Recovers names s led → IsRun s led
+recovers_runs : (names : List Labels) (s : Standing) (led : Led) → Recovers names s led → IsRunning s led
 recovers_runs names (Takes m) led h = run_of (Takes m) led _ h.2 (record { run = ((tt, h.1), tt); last = refl })
 recovers_runs names (Stands m event) led h = run_of (Stands m event) led _ h.2 (record { run = ((tt, h.1), tt); last = refl })
 
-pub leads_runs : (names : List Labels) (s : Standing) (said : Said) (led : Led) → Leads names s said led → IsRun s led
+pub leads_runs : (names : List Labels) (s : Standing) (said : Said) (led : Led) → Leads names s said led → IsRunning s led
 leads_runs names s Nothing led h = run_of s led (idle s) h (record { run = tt; last = refl })
 leads_runs names (Takes m) (Happens event) led (inl h) = run_of (Takes m) led _ h.4 (record { run = (h.3, tt); last = refl })
 leads_runs names (Takes m) (Happens event) led (inr h) = run_of (Takes m) led _ h (record { run = tt; last = refl })

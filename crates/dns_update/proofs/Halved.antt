@@ -14,7 +14,7 @@ use Rattle.dns_zone.specs.Order.{record_total, both_true}
 use Rattle.dns_zone.specs.Owned.{none_passes}
 use Rattle.dns_zone.specs.Records.{are_of, is_ordered, put}
 use Rattle.dns_zone.specs.Sets.{Below, Sorted, below_less, less_is, sorted_from}
-use Rattle.dns_zone.proofs.Listed.{ordered_from}
+use Rattle.dns_zone.proofs.Listed.{below_parts}
 use Rattle.dns_zone.proofs.Parted.{AllOf, put_before, put_behind}
 
 -- each record is above one
@@ -43,20 +43,6 @@ none_above r [] e = refl
 none_above r (x ∷ xs) e = absurd cc
 
 -- ---- what holds of both parts
-below_parts : (x : Record) (xs ys : List Record) → Below x (xs ++ ys) → Below x xs × Below x ys
-below_parts x [] ys h = (tt, h)
-below_parts x (y ∷ xs) ys h = (let both = below_parts x xs ys h.1 in ((h.0, both.0), both.1))
-
-sorted_parts : (xs ys : List Record) → Sorted (xs ++ ys) → Sorted xs × Sorted ys
-sorted_parts [] ys h = (tt, h)
-sorted_parts (x ∷ xs) ys h = (let both = sorted_parts xs ys h.1 in (((below_parts x xs ys h.0).0, both.0), both.1))
-
-pub front_ordered : (xs ys : List Record) → is_ordered (xs ++ ys) ≡ true → is_ordered xs ≡ true
-front_ordered xs ys h = ordered_from xs (sorted_parts xs ys (sorted_from (xs ++ ys) h)).0
-
-pub back_ordered : (xs ys : List Record) → is_ordered (xs ++ ys) ≡ true → is_ordered ys ≡ true
-back_ordered xs ys h = ordered_from ys (sorted_parts xs ys (sorted_from (xs ++ ys) h)).1
-
 owned_parts : (name : Labels) (xs ys : List Record) → are_of name (xs ++ ys) ≡ true → (are_of name xs ≡ true) × (are_of name ys ≡ true)
 owned_parts name xs ys h = both_true (are_of name xs) (are_of name ys) (sym (list_all-append (λ r. names_eq r.owner name) xs ys) ∙ h)
 
@@ -94,9 +80,6 @@ pub put_back : (r : Record) (xs ys : List Record) → is_ordered (xs ++ ys) ≡ 
 put_back r xs ys h e = sym (put_behind r xs ys (all_reached r xs ys (sorted_from (xs ++ ys) h) e))
 
 -- ---- how many pass a test
-pub kept_both : (p : Record → Bool) (xs ys : List Record) → filter p xs ++ filter p ys ≡ filter p (xs ++ ys)
-kept_both p xs ys = sym (filter-append p xs ys)
-
 counted : (p : Record → Bool) (xs ys : List Record) → length (filter p (xs ++ ys)) ≡ length (filter p xs) + length (filter p ys)
 counted p xs ys = ap length (filter-append p xs ys) ∙ length-append (filter p xs) (filter p ys)
 

@@ -1,5 +1,5 @@
 -- What the sorted list answers, and that it stays in order.
-use Rattle.std.proofs.Common.{◌≡◌, ℕ, zero, suc, ◌+◌, ◌≤◌, Bool, true, false, List, [], ◌∷◌, length, refl, sym, ap, subst, ◌∙◌, arith, cond}
+use Rattle.std.proofs.Common.{◌≡◌, ℕ, zero, suc, ◌+◌, ◌≤◌, Bool, true, false, List, [], ◌∷◌, ◌++◌, length, refl, sym, ap, subst, ◌∙◌, arith, cond}
 use Rattle.std.specs.Prelude.{filter, ◌&&◌, ◌||◌, ◌==◌, not, nat_lt, Some, None, Option, slice_get, if◌then◌else◌}
 use Rattle.std.specs.List.{AllWithin, AllByRecursion, list_any, list_all, find}
 use Rattle.std.specs.Ordering.{is_lt, is_eq, is_gt, nat_cmp, ordering_then, ordering_reverse}
@@ -21,7 +21,7 @@ use Rattle.dns_zone.specs.declared.ZoneError.TheVariants.{NoSoa, ManySoa, NoNs, 
 use Rattle.dns_records.specs.Types.{type_soa, type_ns}
 use Rattle.dns_zone.specs.Order.{name_total, record_total, names_same, names_itself, number_itself}
 use Rattle.dns_zone.specs.Twice.{once}
-use Rattle.dns_zone.specs.Sets.{Sorted, sorted_from, sorted_put, sorted_filter, equal_is}
+use Rattle.dns_zone.specs.Sets.{Sorted, Below, sorted_from, sorted_put, sorted_filter, equal_is}
 
 pub filter_same : (p q : Record → Bool) → ((r : Record) → p r ≡ q r) → (xs : List Record) → filter p xs ≡ filter q xs
 filter_same p q h [] = refl
@@ -58,6 +58,20 @@ put_ordered r xs h = ordered_from (put r xs) (sorted_put r xs (sorted_from xs h)
 
 pub without_ordered : (r : Record) (xs : List Record) → is_ordered xs ≡ true → is_ordered (without r xs) ≡ true
 without_ordered r xs h = ordered_from (without r xs) (sorted_filter (λ s. not (is_eq (record_cmp r s))) xs (sorted_from xs h))
+
+-- records in order in two parts, one behind the other
+pub below_parts : (r : Record) (xs ys : List Record) → Below r (xs ++ ys) → Below r xs × Below r ys
+below_parts r [] ys h = (tt, h)
+below_parts r (x ∷ xs) ys h = (let rest = below_parts r xs ys h.1 in ((h.0, rest.0), rest.1))
+
+pub sorted_parts : (xs ys : List Record) → Sorted (xs ++ ys) → Sorted xs × Sorted ys
+sorted_parts [] ys h = (tt, h)
+sorted_parts (x ∷ xs) ys h = (let rest = sorted_parts xs ys h.1 in (((below_parts x xs ys h.0).0, rest.0), rest.1))
+
+pub ordered_parts : (all xs ys : List Record) → all ≡ xs ++ ys → is_ordered all ≡ true → (is_ordered xs ≡ true) × (is_ordered ys ≡ true)
+ordered_parts all xs ys e h =
+    let both = sorted_parts xs ys (sorted_from (xs ++ ys) (subst (λ (rs : List Record). is_ordered rs ≡ true) e h)) in
+    (ordered_from xs both.0, ordered_from ys both.1)
 
 pub put_valid : (r : Record) (xs : List Record) → IsRecord r → AllByRecursion IsRecord xs → AllByRecursion IsRecord (put r xs)
 put_valid r [] v h = (v, tt)

@@ -2,7 +2,8 @@ use Rattle.std.proofs.Common.{List, sym, ap, ◌∙◌}
 use Rattle.dns_records.specs.Record.{Record}
 use Rattle.dns_zone.specs.Records.{united}
 use Rattle.dns_changes.specs.Change.{are_new}
-use Rattle.dns_changes.proofs.Groups.{ordered_parts, new_group, old_group, united_group, none_left}
+use Rattle.dns_zone.proofs.Listed.{ordered_parts}
+use Rattle.dns_changes.proofs.Groups.{new_group, old_group, united_group, none_left}
 use Rattle.dns_changes.proofs.group.put_each.Goals as goal
 
 pub put_owned-requires-clause-order : goal.put_owned-requires-clause-order

@@ -2,7 +2,8 @@ use Rattle.std.proofs.Common.{List, sym, ap, ◌∙◌}
 use Rattle.dns_records.specs.Record.{Record}
 use Rattle.dns_changes.specs.Change.{are_present, removed_from}
 use Rattle.dns_changes.proofs.Steps.{removed_none}
-use Rattle.dns_changes.proofs.Groups.{ordered_parts, present_group, absent_group, removed_group, none_left}
+use Rattle.dns_zone.proofs.Listed.{ordered_parts}
+use Rattle.dns_changes.proofs.Groups.{present_group, absent_group, removed_group, none_left}
 use Rattle.dns_changes.proofs.group.take_each.Goals as goal
 
 pub take_owned-requires-clause-order : goal.take_owned-requires-clause-order

@@ -1,21 +1,21 @@
-use Rattle.std.proofs.Common.{◌&&◌, sym, ◌∙◌}
+use Rattle.std.proofs.Common.{◌&&◌, sym, ◌∙◌, ◌++◌, refl}
 use Rattle.std.proofs.lemmas.List.Folds.{list_all-append}
 use Rattle.std.specs.Ordering.{is_lt}
 use Rattle.dns_records.specs.Record.{record_cmp}
-use Rattle.dns_update.proofs.Halved.{front_ordered, back_ordered}
+use Rattle.dns_zone.proofs.Listed.{ordered_parts}
 use Rattle.dns_update.proofs.held.HalvesHeld.are_above.Goals as goal
 
 pub are_above-requires : goal.are_above-requires
 are_above-requires g c =
     let xs = g.H.Held.records c.args.self.now.front in
     let ys = g.H.Held.records c.args.self.now.back in
-    front_ordered xs ys c.requires
+    (ordered_parts (xs ++ ys) xs ys refl c.requires).0
 
 pub are_above-requires-2 : goal.are_above-requires-2
 are_above-requires-2 g c =
     let xs = g.H.Held.records c.args.self.now.front in
     let ys = g.H.Held.records c.args.self.now.back in
-    back_ordered xs ys c.requires
+    (ordered_parts (xs ++ ys) xs ys refl c.requires).1
 
 pub returns : goal.returns
 returns g c =

@@ -1,14 +1,15 @@
-use Rattle.std.proofs.Common.{not, ◌&&◌, sym, ◌∙◌}
+use Rattle.std.proofs.Common.{not, ◌&&◌, sym, ◌∙◌, ◌++◌, refl}
 use Rattle.std.specs.Prelude.{◌==◌}
 use Rattle.dns_names.specs.Name.{names_eq}
-use Rattle.dns_update.proofs.Halved.{front_ordered, back_ordered, front_owned, back_owned, one_front, one_back}
+use Rattle.dns_zone.proofs.Listed.{ordered_parts}
+use Rattle.dns_update.proofs.Halved.{front_owned, back_owned, one_front, one_back}
 use Rattle.dns_update.proofs.held.HalvesHeld.has_one.Goals as goal
 
 pub has_type-requires-clause-order : goal.has_type-requires-clause-order
 has_type-requires-clause-order g c =
     let xs = g.H.Held.records c.args.self.now.front in
     let ys = g.H.Held.records c.args.self.now.back in
-    front_ordered xs ys c.requires.order
+    (ordered_parts (xs ++ ys) xs ys refl c.requires.order).0
 
 pub has_type-requires-clause-owned : goal.has_type-requires-clause-owned
 has_type-requires-clause-owned g c =
@@ -20,7 +21,7 @@ pub has_one-requires-clause-order : goal.has_one-requires-clause-order
 has_one-requires-clause-order g c =
     let xs = g.H.Held.records c.args.self.now.front in
     let ys = g.H.Held.records c.args.self.now.back in
-    front_ordered xs ys c.requires.order
+    (ordered_parts (xs ++ ys) xs ys refl c.requires.order).0
 
 pub has_one-requires-clause-owned : goal.has_one-requires-clause-owned
 has_one-requires-clause-owned g c =
@@ -32,7 +33,7 @@ pub has_type-requires-then-has_type-clause-order : goal.has_type-requires-then-h
 has_type-requires-then-has_type-clause-order g c =
     let xs = g.H.Held.records c.args.self.now.front in
     let ys = g.H.Held.records c.args.self.now.back in
-    back_ordered xs ys c.requires.order
+    (ordered_parts (xs ++ ys) xs ys refl c.requires.order).1
 
 pub has_type-requires-then-has_type-clause-owned : goal.has_type-requires-then-has_type-clause-owned
 has_type-requires-then-has_type-clause-owned g c =
@@ -44,7 +45,7 @@ pub has_one-requires-2-clause-order : goal.has_one-requires-2-clause-order
 has_one-requires-2-clause-order g c =
     let xs = g.H.Held.records c.args.self.now.front in
     let ys = g.H.Held.records c.args.self.now.back in
-    back_ordered xs ys c.requires.order
+    (ordered_parts (xs ++ ys) xs ys refl c.requires.order).1
 
 pub has_one-requires-2-clause-owned : goal.has_one-requires-2-clause-owned
 has_one-requires-2-clause-owned g c =

@@ -1,27 +1,28 @@
-use Rattle.std.proofs.Common.{◌≡◌, ◌++◌, sym, ap, ◌∙◌, List}
+use Rattle.std.proofs.Common.{◌≡◌, ◌++◌, sym, ap, ◌∙◌, List, refl}
 use Rattle.dns_records.specs.Record.{Record}
 use Rattle.dns_zone.specs.Records.{put}
+use Rattle.dns_zone.proofs.Listed.{ordered_parts}
 use Rattle.dns_update.proofs.Found.{ok_by}
-use Rattle.dns_update.proofs.Halved.{front_ordered, back_ordered, put_front, put_back}
+use Rattle.dns_update.proofs.Halved.{put_front, put_back}
 use Rattle.dns_update.proofs.held.HalvesHeld.put.Goals as goal
 
 pub are_above-requires : goal.are_above-requires
 are_above-requires g c =
     let xs = g.H.Held.records c.args.self.now.front in
     let ys = g.H.Held.records c.args.self.now.back in
-    back_ordered xs ys c.requires
+    (ordered_parts (xs ++ ys) xs ys refl c.requires).1
 
 pub put-requires : goal.put-requires
 put-requires g c =
     let xs = g.H.Held.records c.args.self.now.front in
     let ys = g.H.Held.records c.args.self.now.back in
-    front_ordered xs ys c.requires
+    (ordered_parts (xs ++ ys) xs ys refl c.requires).0
 
 pub put-requires-2 : goal.put-requires-2
 put-requires-2 g c =
     let xs = g.H.Held.records c.args.self.now.front in
     let ys = g.H.Held.records c.args.self.now.back in
-    back_ordered xs ys c.requires
+    (ordered_parts (xs ++ ys) xs ys refl c.requires).1
 
 pub returns-then-are_above : goal.returns-then-are_above
 returns-then-are_above g c =

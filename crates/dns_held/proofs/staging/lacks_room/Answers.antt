@@ -9,7 +9,7 @@ use Rattle.dns_held.specs.Plain.{octets_of}
 use Rattle.dns_held.specs.Held.{newer, newest_zone}
 use Rattle.dns_held.specs.Staging.{has_room}
 use Rattle.dns_held.proofs.Room.{newer_is, counted}
-use Rattle.dns_held.proofs.checkpoint.lacks_room.Goals as goal
+use Rattle.dns_held.proofs.staging.lacks_room.Goals as goal
 
 pub returns-then-has_room : goal.returns-then-has_room
 returns-then-has_room g c k held =

@@ -7,9 +7,9 @@ use Rattle.dns_store.specs.Versions.{newest_of}
 use Rattle.dns_store.specs.Room.{entry_between}
 use Rattle.dns_store.specs.Staged.{entry_is}
 use Rattle.dns_held.specs.Held.{newer, newest_zone}
-use Rattle.dns_held.specs.Checkpoint.{lacks_room}
+use Rattle.dns_held.specs.Staging.{lacks_room}
 use Rattle.dns_held.proofs.Room.{newer_is}
-use Rattle.dns_held.proofs.checkpoint.sectors_lacked.Goals as goal
+use Rattle.dns_held.proofs.staging.sectors_lacked.Goals as goal
 
 pub returns-then-not-lacks_room : goal.returns-then-not-lacks_room
 returns-then-not-lacks_room g c k held =
