@@ -109,7 +109,7 @@ impl File for DiskFile {
     }
 
     fn sync(&mut self) -> Result<(), FileError> {
-        match self.file.sync_all() {
+        match self.file.sync_data() {
             Ok(()) => Ok(()),
             Err(_) => Err(FileError::Failed),
         }

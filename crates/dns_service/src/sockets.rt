@@ -85,12 +85,6 @@ impl Sockets {
         self.take_events(Duration::from_secs(1));
     }
 
-    /// Looks which sockets may be ready, and doesn't wait itself. A server that has something to do in every turn never waits, and would
-    /// see neither a new connection nor what comes on one that was silent.
-    pub(crate) fn look(&mut self) {
-        self.take_events(Duration::ZERO);
-    }
-
     /// Waits at most so long for events, and takes up what they say. The system tells each change once, and keeps those for which there
     /// was no room.
     fn take_events(&mut self, timeout: Duration) {
@@ -150,6 +144,12 @@ impl Network<Socket> for Sockets {
     fn send(&mut self, to: Peer, octets: &[u8]) {
         let address = SocketAddr::new(to.address, to.port);
         let _sent = self.datagrams.send_to(octets, address);
+    }
+
+    /// Looks which sockets may be ready, and doesn't wait itself. A server that has something to do in every turn never waits, and would
+    /// see neither a new connection nor what comes on one that was silent.
+    fn look(&mut self) {
+        self.take_events(Duration::ZERO);
     }
 }
 

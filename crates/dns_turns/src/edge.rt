@@ -292,6 +292,7 @@ impl<S: Stream + Drop> Edge<S> {
         if primary.has_waiting() {
             let effects = primary.step(alloc, Event::Flush);
             self.deliver(alloc, network, primary, notes, effects);
+            network.look();
             is_done = true;
         }
         is_done

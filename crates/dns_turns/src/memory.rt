@@ -97,6 +97,8 @@ impl Network<MemoryStream> for MemoryNetwork {
             let _kept = self.keep(octets, to);
         }
     }
+
+    fn look(&mut self) {}
 }
 
 /// Notes in memory, for tests: one that memory is refused for is dropped.

@@ -14,6 +14,9 @@ pub trait Network<S> {
 
     /// Sends a datagram. One that can't be sent is dropped.
     fn send(&mut self, to: Peer, octets: &[u8]);
+
+    /// Looks what came meanwhile. It is called behind a flush, which takes long.
+    fn look(&mut self);
 }
 
 /// What is to be known of a turn.

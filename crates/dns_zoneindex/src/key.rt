@@ -32,7 +32,8 @@ pub(crate) fn key_of(label: &[u8]) -> u64
     ])
 }
 
-/// The order of a label and that of a node: by their keys, and by all their octets only where these are equal.
+/// The order of a label and that of a node: by their keys, and only where these are equal by what they don't tell, which of labels
+/// of up to eight octets is their length.
 pub(crate) fn order(key: u64, label: &[u8], other: u64, node: &Node) -> Ordering
     requires key { IsKey key label.now }
     requires other { IsKey other node.now.label }
@@ -43,6 +44,9 @@ pub(crate) fn order(key: u64, label: &[u8], other: u64, node: &Node) -> Ordering
     }
     if key > other {
         return Ordering::Greater;
+    }
+    if label.len() <= 8 {
+        return label.len().cmp(&node.label().len());
     }
     label.cmp(node.label())
 }
