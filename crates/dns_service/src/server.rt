@@ -12,7 +12,7 @@ use dns_names::Name;
 use dns_primary::Primary;
 use dns_sectors::Sectors;
 use dns_store::ZoneStore;
-use dns_turns::Edge;
+use dns_turns::{Edge, Network};
 use dns_zone::{Zone, ZoneIndex};
 use std::alloc::Global;
 use std::io::{self, Write};
