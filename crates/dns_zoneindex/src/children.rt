@@ -59,20 +59,23 @@ impl Children {
         requires { IsKey key label.now }
         ensures { option_copied result ≡ child_of label.now (items self.now) }
     {
-        match self {
-            Children::Empty => None,
-            Children::Fork(branch) => {
-                let Branch {
-                    left,
-                    node,
-                    right,
-                    key: own,
-                    ..
-                } = &**branch;
-                match order(key, label, *own, node) {
-                    Ordering::Less => left.find_by(key, label),
-                    Ordering::Equal => Some(&**node),
-                    Ordering::Greater => right.find_by(key, label),
+        let mut here = self;
+        'down: loop {
+            match here {
+                Children::Empty => return None,
+                Children::Fork(branch) => {
+                    let Branch {
+                        left,
+                        node,
+                        right,
+                        key: own,
+                        ..
+                    } = &**branch;
+                    match order(key, label, *own, node) {
+                        Ordering::Less => here = left,
+                        Ordering::Equal => return Some(&**node),
+                        Ordering::Greater => here = right,
+                    }
                 }
             }
         }

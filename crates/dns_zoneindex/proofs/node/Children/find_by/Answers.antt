@@ -3,28 +3,29 @@ use Rattle.dns_zoneindex.specs.Children.{items}
 use Rattle.dns_zoneindex.specs.Assoc.{child_of}
 use Rattle.dns_zoneindex.proofs.Opened.{asked}
 use Rattle.dns_zoneindex.proofs.Sides.{child_left, child_middle, child_right}
-use Rattle.dns_zoneindex.proofs.node.Children.+find_by.Goals as goal
+use Rattle.dns_zoneindex.proofs.node.Children.find_by.Goals as goal
 
-pub returns-in-Less : goal.returns-in-Less
-returns-in-Less t c =
+pub down-preserved-in-Less : goal.down-preserved-in-Less
+down-preserved-in-Less c =
     let i = c.deref-in-Fork in
     let q = c.args.label.now in
     let is = ap items c.in-Fork.is ∙ sym c.deref.ensures ∙ sym i.view_is in
     let o = asked q i.inside.node.value c.order.ensures refl c.deref-in-Fork-2.ensures c.in-Less.is in
-    c.find_by.ensures ∙ sym (ap (child_of q) is ∙ child_left q (items i.inside.left) i.inside.node.value (items i.inside.right) o)
+    sym (ap (child_of q) is ∙ child_left q (items i.inside.left) i.inside.node.value (items i.inside.right) o) ∙ c.down.invariant
 
 pub returns-in-Equal : goal.returns-in-Equal
-returns-in-Equal t c =
+returns-in-Equal c =
     let i = c.deref-in-Fork in
     let q = c.args.label.now in
     let is = ap items c.in-Fork.is ∙ sym c.deref.ensures ∙ sym i.view_is in
     let o = asked q i.inside.node.value c.order.ensures refl c.deref-in-Fork-2.ensures c.in-Equal.is in
     ap Some c.deref-in-Equal.ensures ∙ sym (ap (child_of q) is ∙ child_middle q (items i.inside.left) i.inside.node.value (items i.inside.right) o i.invariant.0)
+    ∙ c.down.invariant
 
-pub returns-in-Greater : goal.returns-in-Greater
-returns-in-Greater t c =
+pub down-preserved : goal.down-preserved
+down-preserved c =
     let i = c.deref-in-Fork in
     let q = c.args.label.now in
     let is = ap items c.in-Fork.is ∙ sym c.deref.ensures ∙ sym i.view_is in
     let o = asked q i.inside.node.value c.order.ensures refl c.deref-in-Fork-2.ensures c.in-Greater.is in
-    c.find_by-in-Greater.ensures ∙ sym (ap (child_of q) is ∙ child_right q (items i.inside.left) i.inside.node.value (items i.inside.right) o i.invariant.0)
+    sym (ap (child_of q) is ∙ child_right q (items i.inside.left) i.inside.node.value (items i.inside.right) o i.invariant.0) ∙ c.down.invariant
