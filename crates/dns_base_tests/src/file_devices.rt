@@ -106,11 +106,10 @@ fn each_call_falls_short(rt: HostRuntime) -> Result<(), Fail> {
     Ok(())
 }
 
-/// How many sectors a device of two has, and why there is none where this call of its file fails and this one falls short.
-fn made(alloc: Heap, fails: u64, short: u64) -> Option<Result<usize, DeviceError>> {
+/// How many sectors a device of two has, and why there is none where this call of its file fails.
+fn made(alloc: Heap, fails: u64) -> Option<Result<usize, DeviceError>> {
     let mut file = MemoryFile::new(alloc, 8).ok()?;
     file.fail_at(fails);
-    file.short_at(short);
     match FileSectors::zeroed(file, 2) {
         Ok(device) => Some(Ok(device.len())),
         Err(error) => Some(Err(error)),
@@ -120,28 +119,13 @@ fn made(alloc: Heap, fails: u64, short: u64) -> Option<Result<usize, DeviceError
 #[test]
 fn each_call_of_making_fails(rt: HostRuntime) -> Result<(), Fail> {
     let alloc = heap(rt.alloc())?;
-    for n in 0..7u64 {
-        let wanted = if n == 0 || n == 6 {
+    for n in 0..5u64 {
+        let wanted = if n == 0 || n == 4 {
             Ok(2)
         } else {
             Err(DeviceError::Device)
         };
-        assert_eq!(rt; made(alloc, n, 0), Some(wanted), "call {n}");
-    }
-    Ok(())
-}
-
-// Of these only a write moves octets: the third call and the fourth.
-#[test]
-fn each_write_of_making_falls_short(rt: HostRuntime) -> Result<(), Fail> {
-    let alloc = heap(rt.alloc())?;
-    for n in 0..7u64 {
-        let wanted = if n == 3 || n == 4 {
-            Err(DeviceError::Device)
-        } else {
-            Ok(2)
-        };
-        assert_eq!(rt; made(alloc, 0, n), Some(wanted), "call {n}");
+        assert_eq!(rt; made(alloc, n), Some(wanted), "call {n}");
     }
     Ok(())
 }

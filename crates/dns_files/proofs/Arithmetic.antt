@@ -1,7 +1,7 @@
 -- The sectors of a file's octets, one of them read or written.
 use Rattle.std.proofs.Common.{◌≡◌, ℕ, zero, suc, ◌+◌, ◌*◌, ◌-◌, ◌≤◌, ◌<◌, List, [], ◌∷◌, ◌++◌, length, take, drop, replicate, refl, sym, ◌∙◌, ap, subst, arith, Some, inl, inr, Result, Ok, Err}
 use Rattle.std.specs.Prelude.{slice_set, slice_get, OnOk}
-use Rattle.std.proofs.lemmas.List.{drop-drop, drop-replicate, length-replicate, replicate-append-replicate, take_all}
+use Rattle.std.proofs.lemmas.List.{drop-drop, take_all}
 use Rattle.dns_sectors.specs.Device.{Content, MayWrite, Follows}
 use Rattle.dns_files.specs.Octets.{padded, written, sectors}
 use Rattle.dns_files.specs.File.{MayChange, FollowsBy}
@@ -128,39 +128,6 @@ pub on_ok : {T E P : Type 0} (r : Result T E) → P → OnOk r P
 on_ok (Ok x) p = p
 on_ok (Err e) p = tt
 
--- a file that was cut to nothing and made longer
-pub blanked : (m : ℕ) (o a b : List ℕ) → a ≡ padded 0 o → b ≡ padded m a → b ≡ replicate m 0
-blanked m o a b cut long = long ∙ ap (padded m) cut ∙ padded_zeros m
-
--- zeros that are written over zeros
-zeros_kept : (m n : ℕ) → m + 512 ≤ n → written m (replicate 512 0) (replicate n 0) ≡ replicate n 0
-zeros_kept m n inside =
-    (λ i. front i ++ (sector ++ behind i))
-    ∙ ap (λ (l : List ℕ). replicate m 0 ++ l) (replicate-append-replicate 512 left 0)
-    ∙ replicate-append-replicate m (512 + left) 0
-    ∙ ap (λ (k : ℕ). replicate k 0) (let e : m + (512 + left) ≡ n = omega (arith, inside, end) in e)
-  where
-    sector : List ℕ
-    sector = replicate 512 0
-
-    from : ℕ
-    from = m + length sector
-
-    left : ℕ
-    left = n - from
-
-    end : from ≡ m + 512
-    end = ap (λ (k : ℕ). m + k) (length-replicate {A = ℕ} 512 0)
-
-    all : List ℕ
-    all = replicate n 0
-
-    front : padded m all ≡ replicate m 0
-    front = ap (padded m) (sym (padded_zeros n)) ∙ padded_none m n
-
-    behind : drop from all ≡ replicate left 0
-    behind = drop-replicate from n 0
-
-pub overfilled : (m n : ℕ) (o o' : List ℕ) → m + 512 ≤ n → o ≡ replicate n 0 → MayChange (written m (replicate 512 0)) o o' → o' ≡ replicate n 0
-overfilled m n o o' inside zeros (inl same) = same ∙ zeros
-overfilled m n o o' inside zeros (inr is) = is ∙ ap (written m (replicate 512 0)) zeros ∙ zeros_kept m n inside
+-- a file that was cut to nothing, made longer and synced
+pub blanked : (m : ℕ) (o a b s : List ℕ) → a ≡ padded 0 o → b ≡ padded m a → s ≡ b → s ≡ replicate m 0
+blanked m o a b s cut long same = same ∙ long ∙ ap (padded m) cut ∙ padded_zeros m

@@ -37,32 +37,14 @@ fn fail(failures: &mut u64) -> DeviceError
     DeviceError::Device
 }
 
-// Writes zeros over so many sectors of zeros, so that the file has its room on the disk from the start, and no later write asks
-// for more. It fails at the first call that does, or that moves fewer octets.
-fn fill<F: File>(file: &mut F, count: usize) -> Result<(), FileError>
-    requires fits { 512 * count < 2 ^ 64 }
-    requires zeros { F.is_honest file.old → F.seen file.old ≡ replicate (512 * count) 0 }
-    ensures zeros { F.is_honest file.old → F.seen file.new ≡ replicate (512 * count) 0 }
-    ensures honest { F.is_honest file.new ↔ F.is_honest file.old }
-{
-    for place in 0..count {
-        if file.write_at(512 * place as u64, &[0; 512])? != 512 {
-            return Err(FileError::Failed);
-        }
-    }
-    Ok(())
-}
-
-// Makes a file so many sectors of zeros, whatever it held, and makes that durable. It fails at the first call of the file that does.
-fn blank<F: File>(file: &mut F, count: usize) -> Result<(), FileError>
-    requires { 512 * count < 2 ^ 64 }
-    ensures zeros { F.is_honest file.old → OnOk result (F.seen file.new ≡ replicate (512 * count) 0) }
+// Makes a file so many zeros, whatever it held, and makes that durable. It fails at the first call of the file that does.
+fn blank<F: File>(file: &mut F, len: u64) -> Result<(), FileError>
+    ensures zeros { F.is_honest file.old → OnOk result (F.seen file.new ≡ replicate len 0) }
     ensures durable { F.is_honest file.old → OnOk result (OnlyOctets (F.seen file.new) (F.may_leave file.new)) }
     ensures honest { F.is_honest file.new ↔ F.is_honest file.old }
 {
     file.set_len(0)?;
-    file.set_len(512 * count as u64)?;
-    fill(file, count)?;
+    file.set_len(len)?;
     file.sync()
 }
 
@@ -100,10 +82,10 @@ impl<F: File + Drop> FileSectors<F> {
         ensures failures { IfOk result (λ device. failures_of device ≡ 0) }
         ensures too_long { 2 ^ 64 ≤ 512 * len → result ≡ Err DeviceError.Device }
     {
-        if (len as u64).checked_mul(512).is_none() {
+        let Some(octets) = (len as u64).checked_mul(512) else {
             return Err(DeviceError::Device);
-        }
-        match blank(&mut file, len) {
+        };
+        match blank(&mut file, octets) {
             Ok(()) => Ok(FileSectors {
                 file,
                 len,

@@ -1,7 +1,6 @@
-use Rattle.std.proofs.Common.{◌*◌}
 use Rattle.dns_files.proofs.Arithmetic.{sectors_blank}
 use Rattle.dns_files.proofs.device.FileSectors.zeroed.Goals as goal
 
 pub returns-in-Ok-clause-sectors : goal.returns-in-Ok-clause-sectors
 returns-in-Ok-clause-sectors g c = λ honest.
-    sectors_blank c.args.len (512 * c.args.len) (g.F.File.seen c.blank.new.file) (c.in-Ok.ensures.zeros honest)
+    sectors_blank c.args.len c.in-Some.octets (g.F.File.seen c.blank.new.file) (c.in-Ok.ensures.zeros honest)
