@@ -43,7 +43,7 @@ one_front m n x y short short' e =
       back = sym (drop-append_seam m x) ∙ ap (drop (length m)) bodies ∙ ap (λ (k : ℕ). drop k (n ++ y)) size ∙ drop-append_seam n y;
     }
 
-apart : (m : List ℕ) (ms : List (List ℕ)) (rest : List ℕ) → joined (m ∷ ms) ++ rest ≡ behind_length m ++ (joined ms ++ rest)
+pub apart : (m : List ℕ) (ms : List (List ℕ)) (rest : List ℕ) → joined (m ∷ ms) ++ rest ≡ behind_length m ++ (joined ms ++ rest)
 apart m ms rest = ap (λ (xs : List ℕ). to_be_bytes w16 (length m) ++ xs) (append_assoc m (joined ms) rest)
 
 pub once : (stream : List ℕ) (messages messages' : List (List ℕ)) (rest rest' : List ℕ) → Short messages → Short messages' → BeginsWithNone rest → BeginsWithNone rest' → joined messages ++ rest ≡ joined messages' ++ rest' → (messages ≡ messages') × (rest ≡ rest')

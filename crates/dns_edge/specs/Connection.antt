@@ -1,7 +1,11 @@
 -- A connection, as its contracts see it.
-use Rattle.std.specs.Prelude.{◌≡◌, ◌++◌, ℕ, List, map}
+use Rattle.std.specs.Prelude.{◌≡◌, ◌↔◌, ◌++◌, ℕ, List, map}
+use Rattle.std.specs.List.{concat}
 use Rattle.dns_edge.specs.Framed.{behind_length}
 use Rattle.dns_edge.specs.declared.connection.Connection.{Connection}
+use Rattle.dns_edge.specs.declared.stream.Stream.{Ghosts}
+use Rattle.dns_edge.specs.declared.stream.Moved.{Moved}
+use Rattle.dns_edge.specs.declared.stream.Moved.TheVariants.{Octets, Later, Ended}
 
 module _ {S : Type 0} where
   abbrev pub stream_of : Connection S → S
@@ -24,3 +28,27 @@ module _ {S : Type 0} where
     pub stream : stream_of new ≡ stream_of old
     pub held : held_of new ≡ held_of old
     pub rest : rest_of new ≡ rest_of old
+
+  -- what came and was not handled yet
+  abbrev pub unhandled : Connection S → List ℕ
+  unhandled connection = concat (map behind_length (held_of connection)) ++ rest_of connection
+
+  -- Octets may have moved: what the stream took and what is left to write are what they were, in order, and what was read from it
+  -- stands behind what was not handled yet.
+  pub record HasMoved (s : Ghosts S) (old new : Connection S) : Type 0 where
+    pub faithful : s.is_faithful (stream_of new) ↔ s.is_faithful (stream_of old)
+    pub went : s.is_faithful (stream_of old) → s.sent (stream_of new) ++ left_of new ≡ s.sent (stream_of old) ++ left_of old
+    pub came : s.is_faithful (stream_of old)
+        → (piece : List ℕ) × (s.received (stream_of new) ≡ s.received (stream_of old) ++ piece) × (unhandled new ≡ unhandled old ++ piece)
+
+  -- So it is where the stream didn't end.
+  abbrev pub MovesOn : Ghosts S → Moved → Connection S → Connection S → Type 0
+  MovesOn s (Octets count) old new = HasMoved s old new
+  MovesOn s Later old new = HasMoved s old new
+  MovesOn s Ended old new = Unit {0}
+
+  -- The first message that came and was not handled yet was handed over, and nothing moved.
+  pub record HasHandedOver (message : List ℕ) (old new : Connection S) : Type 0 where
+    pub came : unhandled old ≡ behind_length message ++ unhandled new
+    pub left : left_of new ≡ left_of old
+    pub stream : stream_of new ≡ stream_of old

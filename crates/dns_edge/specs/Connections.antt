@@ -1,8 +1,10 @@
 -- All connections, as their contracts see them.
-use Rattle.std.specs.Prelude.{◌≡◌, ℕ, Bool, true, false, List, Option, Some, None, slice_get, slice_set}
+use Rattle.std.specs.Prelude.{◌≡◌, ◌⊎◌, ◌==◌, ℕ, Bool, true, false, not, List, [], length, Option, Some, None, slice_get, slice_set}
 use Rattle.dns_edge.specs.declared.connection.Connection.{Connection}
 use Rattle.dns_edge.specs.declared.connections.Connections.{Connections}
-use Rattle.dns_edge.specs.Connection.{IsQueued}
+use Rattle.dns_edge.specs.declared.stream.Stream.{Ghosts}
+use Rattle.dns_edge.specs.declared.stream.Moved.{Moved}
+use Rattle.dns_edge.specs.Connection.{IsQueued, MovesOn, HasHandedOver, held_of, left_of}
 
 module _ {S : Type 0} where
   -- what stands under each number, from 0 on
@@ -28,3 +30,24 @@ module _ {S : Type 0} where
 
   abbrev pub IsPushed : ℕ → List ℕ → List (Option (Connection S)) → List (Option (Connection S)) → Type 0
   IsPushed number reply old new = IsPushedTo number reply (slice_get old number) old new
+
+  -- octets are left to write on the connection with that number
+  abbrev pub has_left_at : Option (Option (Connection S)) → Bool
+  has_left_at None = false
+  has_left_at (Some None) = false
+  has_left_at (Some (Some c)) = not (length (left_of c) == 0)
+
+  -- Nothing is another than it was, or octets may have moved on the connection with that number, and on no other one.
+  abbrev pub HasMovedAt : Ghosts S → ℕ → Moved → List (Option (Connection S)) → List (Option (Connection S)) → Type 0
+  HasMovedAt s number moved old new =
+      (new ≡ old)
+      ⊎ ((c : Connection S) × (d : Connection S) × (slice_get old number ≡ Some (Some c)) × MovesOn s moved c d
+      × (new ≡ slice_set old number (Some d)))
+
+  -- The connection with that number handed over its first message, and no other one is another than it was; or it had none.
+  abbrev pub HandsOver : ℕ → Option (List ℕ) → List (Option (Connection S)) → List (Option (Connection S)) → Type 0
+  HandsOver number None old new =
+      (new ≡ old) × ((c : Connection S) → slice_get old number ≡ Some (Some c) → held_of c ≡ [])
+  HandsOver number (Some message) old new =
+      (c : Connection S) × (d : Connection S) × (slice_get old number ≡ Some (Some c)) × HasHandedOver message c d
+      × (new ≡ slice_set old number (Some d))

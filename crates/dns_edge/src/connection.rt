@@ -1,8 +1,8 @@
 //! A connection: its stream, what came on it and what is to go out.
-ghost use Rattle.std.specs.Prelude.{◌≡◌, ◌≢◌, ◌<◌, ◌==◌, ◌++◌, ◌∷◌, ℕ, List, [], not, false, length, drop, OnOk, OnErr, MatchOption};
+ghost use Rattle.std.specs.Prelude.{◌≡◌, ◌≢◌, ◌<◌, ◌==◌, ◌++◌, ◌∷◌, ℕ, List, [], not, false, length, drop, OnOk, OnErr, IfNone, MatchOption};
 ghost use Rattle.dns_edge.specs.Framed.{IsFramed};
 ghost use Rattle.dns_edge.specs.Stream.{IfOctets, moved};
-ghost use Rattle.dns_edge.specs.Connection.{IsQueued, held_of, left_of, rest_of, stream_of};
+ghost use Rattle.dns_edge.specs.Connection.{HasMoved, IsQueued, MovesOn, held_of, left_of, rest_of, stream_of};
 
 use crate::{Framing, Moved, Octets, Outbox, Stream};
 use dns_memory::Heap;
@@ -75,12 +75,12 @@ impl<S: Stream + Drop> Connection<S> {
 
     /// Writes what is left to write, as far as the stream takes it.
     pub fn write(&mut self, now: u64) -> Moved
-        ensures rest { left_of self.new ≡ drop (moved result) (left_of self.old) }
+        ensures left { left_of self.new ≡ drop (moved result) (left_of self.old) }
         // What the stream took and what is left are what they were, in order.
-        ensures went { S.is_faithful (stream_of self.old)
-            → S.sent (stream_of self.new) ++ left_of self.new ≡ S.sent (stream_of self.old) ++ left_of self.old }
+        ensures moved { HasMoved S.Stream self.old self.new }
         ensures still { S.is_faithful (stream_of self.old) → S.received (stream_of self.new) ≡ S.received (stream_of self.old) }
         ensures held { held_of self.new ≡ held_of self.old }
+        ensures rest { rest_of self.new ≡ rest_of self.old }
     {
         let moved = self.outbox.write(&mut self.stream);
         if let Moved::Octets(_) = moved {
@@ -98,6 +98,7 @@ impl<S: Stream + Drop> Connection<S> {
         ensures came { S.is_faithful (stream_of self.old) → IfOctets result
             ((piece : List ℕ) × (S.received (stream_of self.new) ≡ S.received (stream_of self.old) ++ piece)
             × IsFramed (rest_of self.old ++ piece) (held_of self.new) (rest_of self.new)) }
+        ensures moved { MovesOn S.Stream result self.old self.new }
         ensures still { S.is_faithful (stream_of self.old) → S.sent (stream_of self.new) ≡ S.sent (stream_of self.old) }
         ensures left { left_of self.new ≡ left_of self.old }
     {
@@ -124,6 +125,7 @@ impl<S: Stream + Drop> Connection<S> {
         ensures left { left_of self.new ≡ left_of self.old }
         ensures stream { stream_of self.new ≡ stream_of self.old }
         ensures rest { rest_of self.new ≡ rest_of self.old }
+        ensures none { IfNone result (self.new ≡ self.old) }
     {
         if self.messages.is_empty() {
             return None;

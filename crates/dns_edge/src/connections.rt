@@ -1,8 +1,9 @@
 //! All connections, by their numbers.
-ghost use Rattle.std.specs.Prelude.{◌≡◌, ◌≤◌, ◌<◌, length, replicate, slice_set, None, Some, IfErr, IfOk, OnOk, OnErr};
-ghost use Rattle.dns_edge.specs.Connections.{IsPushed, is_open, places_of};
+ghost use Rattle.std.specs.Prelude.{◌≡◌, ◌≤◌, ◌<◌, length, replicate, slice_get, slice_set, true, false, None, Some, IfErr, IfOk, OnOk, OnErr};
+ghost use Rattle.std.specs.Option.{option_map};
+ghost use Rattle.dns_edge.specs.Connections.{HandsOver, HasMovedAt, IsPushed, has_left_at, is_open, places_of};
 
-use crate::{Connection, Stream};
+use crate::{Connection, Moved, Octets, Stream};
 use dns_memory::Heap;
 use std::alloc::AllocError;
 
@@ -80,6 +81,65 @@ impl<S: Stream + Drop> Connections<S> {
         match &mut self.places[number] {
             Some(connection) => connection.push(reply),
             None => Ok(()),
+        }
+    }
+
+    /// Whether octets are left to write on the connection with that number.
+    pub fn has_left(&self, number: usize) -> bool
+        ensures { result ≡ has_left_at (slice_get (places_of self.now) number) }
+    {
+        match self.places.get(number) {
+            Some(Some(connection)) => connection.has_left(),
+            _ => false,
+        }
+    }
+
+    /// Writes what is left to write on the connection with that number, as far as its stream takes it.
+    pub fn write(&mut self, number: usize, now: u64) -> Moved
+        ensures { HasMovedAt S.Stream number result (places_of self.old) (places_of self.new) }
+    {
+        if number >= self.places.len() {
+            return Moved::Later;
+        }
+        match &mut self.places[number] {
+            Some(connection) => connection.write(now),
+            None => Moved::Later,
+        }
+    }
+
+    /// Reads one piece of the stream of the connection with that number, as `Connection::read` does.
+    pub fn read(&mut self, alloc: Heap, number: usize, buffer: &mut [u8], now: u64) -> Moved
+        ensures { HasMovedAt S.Stream number result (places_of self.old) (places_of self.new) }
+    {
+        if number >= self.places.len() {
+            return Moved::Later;
+        }
+        match &mut self.places[number] {
+            Some(connection) => connection.read(alloc, buffer, now),
+            None => Moved::Later,
+        }
+    }
+
+    /// The first of the messages that came on the connection with that number and weren't handled yet, which is handed over.
+    pub fn next_message(&mut self, number: usize) -> Option<Octets>
+        ensures { HandsOver number (option_map (λ m. m.items) result) (places_of self.old) (places_of self.new) }
+    {
+        if number >= self.places.len() {
+            return None;
+        }
+        match &mut self.places[number] {
+            Some(connection) => connection.next_message(),
+            None => None,
+        }
+    }
+
+    /// Whether nothing is left to write to the connection with that number, and for 30 seconds nothing came or went.
+    pub fn is_silent(&self, number: usize, now: u64) -> bool
+        ensures busy { has_left_at (slice_get (places_of self.now) number) ≡ true → result ≡ false }
+    {
+        match self.places.get(number) {
+            Some(Some(connection)) => connection.is_silent(now),
+            _ => false,
         }
     }
 }

@@ -1,1 +1,3 @@
+mod Leads
 mod Sent
+mod Taken

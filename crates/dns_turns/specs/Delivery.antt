@@ -1,25 +1,61 @@
--- Where the replies of the machine go.
-use Rattle.std.specs.Prelude.{◌≡◌, ◌⊎◌, ℕ, List, [], ◌∷◌, Option, None, slice_set}
+-- What a server by turns has, and where the replies of its machine go.
+use Rattle.std.specs.Prelude.{◌≡◌, ◌⊎◌, ◌++◌, ℕ, List, [], ◌∷◌, map, Option, None, slice_set}
 use Rattle.dns_edge.specs.declared.connection.Connection.{Connection}
 use Rattle.dns_edge.specs.Connections.{IsPushed, places_of}
+use Rattle.dns_zone.specs.declared.index.ZoneIndex as index
+use Rattle.dns_store.specs.declared.zone_store.ZoneStore as store
 use Rattle.dns_primary.specs.declared.event.To.{To}
 use Rattle.dns_primary.specs.declared.event.To.TheVariants as to
+use Rattle.dns_primary.specs.declared.event.Effects.{Effects}
+use Rattle.dns_primary.specs.declared.primary.Primary.{Primary}
+use Rattle.dns_primary.specs.Machine.{Machine}
+use Rattle.dns_primary.specs.Step.{Event, Closed}
+use Rattle.dns_primary.specs.Keeps.{IsKept, header_out, reply_out}
+use Rattle.dns_primary.specs.Steps.{SteppedBy}
 use Rattle.dns_turns.specs.declared.edge.Edge.{Edge}
+use Rattle.dns_turns.specs.declared.network.Network.{Ghosts}
 
-module _ {S : Type 0} where
-  -- what stands under each number, from 0 on
-  abbrev pub connections_of : Edge S → List (Option (Connection S))
-  connections_of edge = places_of edge.connections
+-- What goes out with the effects of an event, in its order.
+abbrev pub out_of : Effects → List (To × List ℕ)
+out_of effects = map header_out effects.headers.items ++ reply_out effects.reply
+
+-- A primary took the step of an event, whichever machine it kept.
+abbrev pub Takes : {I D : Type 0} {i : index.Ghosts I} {d : store.Ghosts D} → Primary I D i d → Event → Primary I D i d → Effects
+    → Type 0
+Takes old event new effects = (m : Machine) → IsKept old m → SteppedBy m event old new effects
+
+-- What stands under each number, from 0 on.
+abbrev pub connections_of : {S : Type 0} → Edge S → List (Option (Connection S))
+connections_of edge = places_of edge.connections
+
+-- A primary, connections by their numbers, and a network.
+pub record Served (I D S N : Type 0) (i : index.Ghosts I) (d : store.Ghosts D) : Type 0 where
+  pub primary : Primary I D i d
+  pub connections : List (Option (Connection S))
+  pub network : N
+
+module _ {I D S N : Type 0} {i : index.Ghosts I} {d : store.Ghosts D} where
+  abbrev pub served : Primary I D i d → Edge S → N → Served I D S N i d
+  served primary edge network = record { primary = primary; connections = connections_of edge; network = network }
+
+  -- A connection was closed: its stream was let go, and the primary told.
+  pub record IsClosed (number : ℕ) (old new : Served I D S N i d) : Type 0 where
+    pub effects : Effects
+    pub told : Takes old.primary (Closed number) new.primary effects
+    pub gone : new.connections ≡ slice_set old.connections number None
+    pub network : new.network ≡ old.network
 
   -- A reply to a connection is queued there behind all that was queued before, with its length before it, or that connection is
-  -- closed; no other one is touched. What goes to a peer in a datagram, or nowhere, touches none.
-  abbrev pub IsSent : To → List ℕ → List (Option (Connection S)) → List (Option (Connection S)) → Type 0
-  IsSent (to.Address peer) reply old new = new ≡ old
-  IsSent (to.Connection number) reply old new = IsPushed number reply old new ⊎ (new ≡ slice_set old number None)
-  IsSent to.Nowhere reply old new = new ≡ old
+  -- closed; no other one is touched. One to a peer is handed to the network, and one to nowhere goes nowhere.
+  abbrev pub IsSent : Ghosts N S → To → List ℕ → Served I D S N i d → Served I D S N i d → Type 0
+  IsSent n (to.Address peer) reply old new =
+      (new ≡ record old { network = new.network }) × n.sends old.network peer reply new.network
+  IsSent n (to.Connection number) reply old new =
+      ((new ≡ record old { connections = new.connections }) × IsPushed number reply old.connections new.connections)
+      ⊎ IsClosed number old new
+  IsSent n to.Nowhere reply old new = new ≡ old
 
   -- so does each of these replies, one after the other
-  abbrev pub AreSent : List (To × List ℕ) → List (Option (Connection S)) → List (Option (Connection S)) → Type 0
-  AreSent [] old new = new ≡ old
-  AreSent (one ∷ rest) old new =
-      (between : List (Option (Connection S))) × IsSent one.0 one.1 old between × AreSent rest between new
+  abbrev pub AreSent : Ghosts N S → List (To × List ℕ) → Served I D S N i d → Served I D S N i d → Type 0
+  AreSent n [] old new = new ≡ old
+  AreSent n (one ∷ rest) old new = (between : Served I D S N i d) × IsSent n one.0 one.1 old between × AreSent n rest between new

@@ -1,1 +1,3 @@
 pub mod Delivery
+pub mod Memory
+pub mod Turn

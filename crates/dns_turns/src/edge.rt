@@ -1,7 +1,10 @@
 //! Turns: what is done with the network, one turn after the other.
-ghost use Rattle.std.specs.Prelude.{◌≡◌, ◌++◌, map, None, slice_set};
+ghost use Rattle.std.specs.Prelude.{◌≡◌, map, replicate, false, None, slice_set, IfOk};
+ghost use Rattle.dns_primary.specs.declared.event.Effects.{Effects as StatedEffects};
 ghost use Rattle.dns_primary.specs.Keeps.{header_out, reply_out};
-ghost use Rattle.dns_turns.specs.Delivery.{AreSent, IsSent, connections_of};
+ghost use Rattle.dns_primary.specs.Step.{Closed};
+ghost use Rattle.dns_turns.specs.Delivery.{AreSent, IsSent, Takes, connections_of, out_of, served};
+ghost use Rattle.dns_turns.specs.Turn.{IsTurn, LeadsTo, NoneWaits};
 
 use crate::{Network, Note, Notes};
 use dns_edge::{Connection, Connections, Moved, Stream};
@@ -39,7 +42,9 @@ impl<S: Stream + Drop> Drop for Edge<S> {
 
 impl<S: Stream + Drop> Edge<S> {
     /// No connection. Refused where the memory for the buffer and for the places of connections is.
-    pub fn new(alloc: Heap) -> Result<Edge<S>, AllocError> {
+    pub fn new(alloc: Heap) -> Result<Edge<S>, AllocError>
+        ensures { IfOk result (λ edge. connections_of edge ≡ replicate 64 None) }
+    {
         let mut buffer = Vec::new(alloc);
         buffer.resize(PIECE, 0)?;
         Ok(Edge {
@@ -72,7 +77,8 @@ impl<S: Stream + Drop> Edge<S> {
         notes: &mut L,
         number: usize,
     )
-        ensures { connections_of self.new ≡ slice_set (connections_of self.old) number None }
+        ensures told { (effects : StatedEffects) × Takes primary.old (Closed number) primary.new effects }
+        ensures gone { connections_of self.new ≡ slice_set (connections_of self.old) number None }
     {
         let _nothing = primary.step(alloc, Event::Closed(number));
         self.connections.remove(number);
@@ -90,14 +96,15 @@ impl<S: Stream + Drop> Edge<S> {
         to: To,
         reply: &[u8],
     )
-        ensures { IsSent to reply.now (connections_of self.old) (connections_of self.new) }
+        ensures { IsSent N.Network to reply.now (served primary.old self.old network.old)
+            (served primary.new self.new network.new) }
     {
         match to {
             To::Address(peer) => network.send(peer, reply),
             To::Connection(number) => {
                 if reply.len() > LONGEST {
                     self.close(alloc, primary, notes, number);
-                } else if self.connections.push(number, reply).is_err() {
+                } else if let Err(_) = self.connections.push(number, reply) {
                     notes.note(Note::OutOfMemory);
                     self.close(alloc, primary, notes, number);
                 }
@@ -115,7 +122,8 @@ impl<S: Stream + Drop> Edge<S> {
         notes: &mut L,
         headers: &[HeaderTo],
     )
-        ensures { AreSent (map (λ h. header_out h) headers.now) (connections_of self.old) (connections_of self.new) }
+        ensures { AreSent N.Network (map (λ h. header_out h) headers.now) (served primary.old self.old network.old)
+            (served primary.new self.new network.new) }
     {
         for header in headers {
             self.send(alloc, network, primary, notes, header.to, &header.octets);
@@ -131,7 +139,8 @@ impl<S: Stream + Drop> Edge<S> {
         notes: &mut L,
         reply: &Option<Reply>,
     )
-        ensures { AreSent (reply_out reply.now) (connections_of self.old) (connections_of self.new) }
+        ensures { AreSent N.Network (reply_out reply.now) (served primary.old self.old network.old)
+            (served primary.new self.new network.new) }
     {
         if let Some(reply) = reply {
             let octets = reply.octets.as_slice();
@@ -148,8 +157,8 @@ impl<S: Stream + Drop> Edge<S> {
         notes: &mut L,
         effects: Effects,
     )
-        ensures { AreSent (map (λ h. header_out h) effects.headers.items ++ reply_out effects.reply) (connections_of self.old)
-            (connections_of self.new) }
+        ensures { AreSent N.Network (out_of effects) (served primary.old self.old network.old)
+            (served primary.new self.new network.new) }
     {
         self.send_headers(alloc, network, primary, notes, effects.headers.as_slice());
         self.send_reply(alloc, network, primary, notes, &effects.reply);
@@ -164,7 +173,10 @@ impl<S: Stream + Drop> Edge<S> {
         primary: &mut Primary<I, D>,
         notes: &mut L,
         now: u64,
-    ) -> bool {
+    ) -> bool
+        ensures { LeadsTo S.Stream N.Network (served primary.old self.old network.old)
+            (served primary.new self.new network.new) }
+    {
         let Some((stream, peer)) = network.accept() else {
             return false;
         };
@@ -175,10 +187,11 @@ impl<S: Stream + Drop> Edge<S> {
         };
         notes.note(Note::Opened(number, peer));
         let connection = Connection::new(alloc, stream, now);
-        match self.connections.insert(number, connection) {
-            Ok(()) => self.end = self.end.max(number.saturating_add(1)),
-            Err(_) => self.close(alloc, primary, notes, number),
+        if let Err(_) = self.connections.insert(number, connection) {
+            self.close(alloc, primary, notes, number);
+            return true;
         }
+        self.end = self.end.max(number.saturating_add(1));
         true
     }
 
@@ -189,7 +202,10 @@ impl<S: Stream + Drop> Edge<S> {
         network: &mut N,
         primary: &mut Primary<I, D>,
         notes: &mut L,
-    ) -> bool {
+    ) -> bool
+        ensures { LeadsTo S.Stream N.Network (served primary.old self.old network.old)
+            (served primary.new self.new network.new) }
+    {
         let Some((count, peer)) = network.receive(&mut self.buffer) else {
             return false;
         };
@@ -207,7 +223,10 @@ impl<S: Stream + Drop> Edge<S> {
         primary: &mut Primary<I, D>,
         notes: &mut L,
         number: usize,
-    ) -> bool {
+    ) -> bool
+        ensures { LeadsTo S.Stream N.Network (served primary.old self.old network.old)
+            (served primary.new self.new network.new) }
+    {
         let effects = primary.step(alloc, Event::Pump(number));
         let is_sent = effects.reply.is_some();
         self.deliver(alloc, network, primary, notes, effects);
@@ -223,19 +242,21 @@ impl<S: Stream + Drop> Edge<S> {
         notes: &mut L,
         number: usize,
         now: u64,
-    ) -> bool {
-        let Some(connection) = self.connections.get_mut(number) else {
-            return false;
-        };
-        let moved = connection.read(alloc, &mut self.buffer, now);
-        let message = connection.next_message();
-        let is_silent = connection.is_silent(now);
-        if let Some(message) = message {
+    ) -> bool
+        ensures { LeadsTo S.Stream N.Network (served primary.old self.old network.old)
+            (served primary.new self.new network.new) }
+    {
+        let moved = self.connections.read(alloc, number, &mut self.buffer, now);
+        if let Moved::Ended = moved {
+            self.close(alloc, primary, notes, number);
+            return true;
+        }
+        if let Some(message) = self.connections.next_message(number) {
             let effects = primary.step(alloc, Event::Message(number, &message));
             self.deliver(alloc, network, primary, notes, effects);
             return true;
         }
-        if moved == Moved::Ended || is_silent {
+        if self.connections.is_silent(number, now) {
             self.close(alloc, primary, notes, number);
             return true;
         }
@@ -252,14 +273,18 @@ impl<S: Stream + Drop> Edge<S> {
         notes: &mut L,
         number: usize,
         now: u64,
-    ) -> bool {
-        let Some(connection) = self.connections.get_mut(number) else {
+    ) -> bool
+        ensures { LeadsTo S.Stream N.Network (served primary.old self.old network.old)
+            (served primary.new self.new network.new) }
+    {
+        if !self.connections.is_open(number) {
             return false;
-        };
-        if connection.has_left() {
-            let moved = connection.write(now);
-            if moved == Moved::Ended {
+        }
+        if self.connections.has_left(number) {
+            let moved = self.connections.write(number, now);
+            if let Moved::Ended = moved {
                 self.close(alloc, primary, notes, number);
+                return true;
             }
             return moved != Moved::Later;
         }
@@ -280,7 +305,11 @@ impl<S: Stream + Drop> Edge<S> {
         primary: &mut Primary<I, D>,
         notes: &mut L,
         now: u64,
-    ) -> bool {
+    ) -> bool
+        ensures turn { IsTurn S.Stream N.Network (served primary.old self.old network.old)
+            (served primary.new self.new network.new) }
+        ensures idle { result ≡ false → NoneWaits primary.new }
+    {
         let accepted = self.accept(alloc, network, primary, notes, now);
         let received = self.receive(alloc, network, primary, notes);
         let mut is_done = accepted || received;

@@ -1,12 +1,13 @@
 //! A network in memory, for tests.
-ghost use Rattle.std.specs.Prelude.{◌≤◌, length, IfSome};
+ghost use Rattle.std.specs.Prelude.{◌≡◌, ◌≤◌, ◌++◌, ◌∷◌, [], length, map, IfSome, OnOk, OnErr};
+ghost use Rattle.std.specs.Option.{option_map};
+ghost use Rattle.dns_turns.specs.Memory.{Accepts, Receives, Sends, SendsNothing, datagrams_from};
 
 use crate::{Network, Note, Notes};
 use dns_edge::{MemoryStream, Octets};
 use dns_memory::Heap;
 use dns_primary::Peer;
 use std::alloc::AllocError;
-use std::cmp::min;
 
 /// A network in memory. What is sent by it is kept, and so is what is told of turns.
 pub struct MemoryNetwork {
@@ -57,7 +58,9 @@ impl MemoryNetwork {
     }
 
     /// The datagrams that were sent, in their order, each with its peer.
-    pub fn sent(&self) -> &[(Octets, Peer)] {
+    pub fn sent(&self) -> &[(Octets, Peer)]
+        ensures { map (λ d. (d.0.items, d.1)) result.now ≡ datagrams_from self.now }
+    {
         &self.sent
     }
 
@@ -67,7 +70,10 @@ impl MemoryNetwork {
     }
 
     // Keeps a datagram that is sent.
-    fn keep(&mut self, octets: &[u8], peer: Peer) -> Result<(), AllocError> {
+    fn keep(&mut self, octets: &[u8], peer: Peer) -> Result<(), AllocError>
+        ensures kept { OnOk result (datagrams_from self.new ≡ datagrams_from self.old ++ (octets.now, peer) ∷ []) }
+        ensures refused { OnErr result (datagrams_from self.new ≡ datagrams_from self.old) }
+    {
         let octets = Vec::from_slice(self.alloc, octets)?;
         self.sent.push((octets, peer))?;
         Ok(())
@@ -75,6 +81,14 @@ impl MemoryNetwork {
 }
 
 impl Network<MemoryStream> for MemoryNetwork {
+    ghost accepts = { Accepts };
+
+    ghost receives = { Receives };
+
+    ghost sends = { Sends };
+
+    ghost looks = { SendsNothing };
+
     fn accept(&mut self) -> Option<(MemoryStream, Peer)> {
         if self.streams.is_empty() {
             return None;
@@ -87,7 +101,7 @@ impl Network<MemoryStream> for MemoryNetwork {
             return None;
         }
         let (octets, peer) = self.datagrams.remove(0);
-        let count = min(octets.len(), into.len());
+        let count = octets.len().min(into.len());
         into[..count].copy_from_slice(&octets[..count]);
         Some((count, peer))
     }

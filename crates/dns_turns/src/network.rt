@@ -1,22 +1,40 @@
 //! The network as turns need it, and what they tell.
-ghost use Rattle.std.specs.Prelude.{◌≤◌, length, IfSome};
+ghost use Rattle.std.specs.Prelude.{◌≤◌, ℕ, List, Option, length, take, IfSome};
+ghost use Rattle.std.specs.Option.{option_map};
+ghost use Rattle.dns_primary.specs.declared.event.Peer.{Peer as StatedPeer};
 
 use dns_primary::Peer;
 
-/// A network of datagrams and streams, of which no call waits.
+/// A network of datagrams and streams, of which no call waits. Its calls are told by how it may go on behind each of them.
 pub trait Network<S> {
+    /// It may go on so where it was asked for a connection, and a peer had made this one, or none had;
+    ghost accepts: { Self → Option (S × StatedPeer) → Self → Type 0 };
+
+    /// where it was asked for a datagram, and this one had come, or none;
+    ghost receives: { Self → Option (List ℕ × StatedPeer) → Self → Type 0 };
+
+    /// where this datagram was handed to it for a peer;
+    ghost sends: { Self → StatedPeer → List ℕ → Self → Type 0 };
+
+    /// and where it looked what came meanwhile.
+    ghost looks: { Self → Self → Type 0 };
+
     /// The next connection that a peer made: its stream, and the peer.
-    fn accept(&mut self) -> Option<(S, Peer)>;
+    fn accept(&mut self) -> Option<(S, Peer)>
+        ensures { accepts self.old result self.new };
 
     /// The next datagram that came, read into a buffer: how many octets it has there, and its peer. What doesn't fit is cut off.
     fn receive(&mut self, into: &mut [u8]) -> Option<(usize, Peer)>
-        ensures { IfSome result (λ r. r.0 ≤ length into.new) };
+        ensures few { IfSome result (λ r. r.0 ≤ length into.new) }
+        ensures came { receives self.old (option_map (λ r. (take r.0 into.new, r.1)) result) self.new };
 
     /// Sends a datagram. One that can't be sent is dropped.
-    fn send(&mut self, to: Peer, octets: &[u8]);
+    fn send(&mut self, to: Peer, octets: &[u8])
+        ensures { sends self.old to octets.now self.new };
 
     /// Looks what came meanwhile. It is called behind a flush, which takes long.
-    fn look(&mut self);
+    fn look(&mut self)
+        ensures { looks self.old self.new };
 }
 
 /// What is to be known of a turn.

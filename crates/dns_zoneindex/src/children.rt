@@ -5,7 +5,6 @@ ghost use Rattle.dns_zoneindex.specs.Children.{items, AreChildren, MatchEmpty};
 ghost use Rattle.dns_zoneindex.specs.Entries.{pushed, flat, own_at};
 ghost use Rattle.dns_zoneindex.specs.Setting.{keep, before, behind};
 ghost use Rattle.dns_zoneindex.specs.Assoc.{child_of, put_child, without_child};
-ghost use Rattle.dns_zoneindex.specs.Keys.{IsKey};
 
 use crate::balance::{balanced, fork, joined};
 use crate::key::{key_of, order};
@@ -51,14 +50,7 @@ impl Children {
     pub(crate) fn find(&self, label: &[u8]) -> Option<&Node>
         ensures { option_copied result ≡ child_of label.now (items self.now) }
     {
-        self.find_by(key_of(label), label)
-    }
-
-    /// The child of a label, by its key.
-    fn find_by(&self, key: u64, label: &[u8]) -> Option<&Node>
-        requires { IsKey key label.now }
-        ensures { option_copied result ≡ child_of label.now (items self.now) }
-    {
+        let key = key_of(label);
         let mut here = self;
         'down: loop {
             match here {

@@ -7,11 +7,11 @@ returns-in-Some-clause-queued g c =
     let places = c.args.self.now.places in
     let within : c.args.number < vec_len places = omega arith in
     on_ok c.push.result
-    (λ queued. pushed_one c.args.number c.args.reply.now places.items (vec_len places) c.index_mut.result.now (omega (arith, places.ok)) within c.index_mut.ensures.value c.in-Some.connection c.push.new.self c.in-Some.is queued)
+    (λ queued. pushed_one c.args.number places.items (vec_len places) c.index_mut.result.now (omega (arith, places.ok)) within c.index_mut.ensures.value c.args.reply.now c.in-Some.connection c.push.new.self c.in-Some.is queued)
     c.push.ensures.queued
 
 pub returns-in-None-clause-queued : goal.returns-in-None-clause-queued
 returns-in-None-clause-queued g c =
     let places = c.args.self.now.places in
     let within : c.args.number < vec_len places = omega arith in
-    pushed_none c.args.number c.args.reply.now places.items (vec_len places) c.index_mut.result.now (omega (arith, places.ok)) within c.index_mut.ensures.value c.in-None.is
+    pushed_none c.args.number places.items (vec_len places) c.index_mut.result.now (omega (arith, places.ok)) within c.index_mut.ensures.value c.args.reply.now c.in-None.is

@@ -3,7 +3,7 @@ use Rattle.dns_zoneindex.specs.Children.{items}
 use Rattle.dns_zoneindex.specs.Assoc.{child_of}
 use Rattle.dns_zoneindex.proofs.Opened.{asked}
 use Rattle.dns_zoneindex.proofs.Sides.{child_left, child_middle, child_right}
-use Rattle.dns_zoneindex.proofs.node.Children.find_by.Goals as goal
+use Rattle.dns_zoneindex.proofs.node.Children.find.Goals as goal
 
 pub down-preserved-in-Less : goal.down-preserved-in-Less
 down-preserved-in-Less c =

@@ -1,0 +1,90 @@
+-- What is done one after the other.
+use Rattle.std.proofs.Common.{◌≡◌, ◌≢◌, inl, inr, ℕ, Bool, false, not, ◌==◌, List, [], ◌∷◌, ◌++◌, Option, Some, None, length, map, refl, ap, subst, ◌∙◌, slice_set, arith}
+use Rattle.std.specs.List.{concat}
+use Rattle.std.proofs.lemmas.List.{set-set}
+use Rattle.std.proofs.lemmas.Bool.Decides.{nat_tests}
+use Rattle.dns_edge.specs.Framed.{behind_length}
+use Rattle.dns_edge.specs.declared.connection.Connection.{Connection}
+use Rattle.dns_edge.specs.declared.stream.Moved.{Moved}
+use Rattle.dns_edge.specs.declared.stream.Moved.TheVariants.{Octets, Later, Ended}
+use Rattle.dns_edge.specs.declared.stream.Stream as stream
+use Rattle.dns_edge.specs.Connection.{HasMoved, MovesOn, held_of, rest_of, unhandled}
+use Rattle.dns_edge.specs.Connections.{HasMovedAt}
+use Rattle.dns_zone.specs.declared.index.ZoneIndex as index
+use Rattle.dns_store.specs.declared.zone_store.ZoneStore as store
+use Rattle.dns_held.specs.Each.{Each2}
+use Rattle.dns_primary.specs.declared.event.Effects.{Effects}
+use Rattle.dns_primary.specs.declared.event.Waiting.{Waiting}
+use Rattle.dns_primary.specs.declared.primary.Primary.{Primary}
+use Rattle.dns_primary.specs.Machine.{Waits}
+use Rattle.dns_primary.specs.Step.{Event}
+use Rattle.dns_primary.specs.Keeps.{IsWaiting}
+use Rattle.dns_turns.specs.declared.network.Network.{Ghosts}
+use Rattle.dns_turns.specs.Delivery.{Served, Takes, AreSent, out_of}
+use Rattle.dns_turns.specs.Turn.{Moment, Moves, Happens, IsGiven, IsMoment, AreMoments, LeadsTo, NoneWaits}
+
+-- a connection with no message and no rest has nothing to handle
+pub nothing_came : {S : Type 0} (c : Connection S) → held_of c ≡ [] → rest_of c ≡ [] → unhandled c ≡ []
+nothing_came c held rest = ap (λ (ms : List (List ℕ)). concat (map behind_length ms) ++ rest_of c) held ∙ rest
+
+-- a connection was closed, and nothing had changed before
+pub closed_still : {S : Type 0} (number : ℕ) (old mid new : List (Option (Connection S))) → mid ≡ old → new ≡ slice_set mid number None
+    → new ≡ slice_set old number None
+closed_still {S = S} number old mid new same gone = gone ∙ ap (λ (cs : List (Option (Connection S))). slice_set cs number None) same
+
+-- A server, its parts told one by one.
+abbrev pub standing : {I D S N : Type 0} {i : index.Ghosts I} {d : store.Ghosts D} → Primary I D i d → N → List (Option (Connection S))
+    → Served I D S N i d
+standing primary network connections = record { primary = primary; connections = connections; network = network }
+
+-- where nothing is kept of replies that wait, none waits
+none_of : (kept : List Waiting) (waiting : List Waits) → length kept ≡ 0 → Each2 IsWaiting kept waiting → waiting ≡ []
+none_of [] [] none h = refl
+none_of [] (w ∷ waiting) none h = absurd h
+none_of (k ∷ kept) waiting none h = absurd (omega (arith, none))
+
+pub none_waits : {I D : Type 0} {i : index.Ghosts I} {d : store.Ghosts D} (primary : Primary I D i d) (waits : Bool)
+    → waits ≡ not (length primary.waiting.items == 0) → waits ≡ false → NoneWaits primary
+none_waits primary waits is none = λ m kept. none_of primary.waiting.items m.waiting (grind (arith, nat_tests, is, none)) kept.waiting_are
+
+module _ {S : Type 0} (s : stream.Ghosts S) where
+  has_moved : (moved : Moved) (c e : Connection S) → moved ≢ Ended → MovesOn s moved c e → HasMoved s c e
+  has_moved (Octets count) c e lasts h = h
+  has_moved Later c e lasts h = h
+  has_moved Ended c e lasts h = absurd (lasts refl)
+
+  -- a connection on which octets moved was closed then
+  pub closed_then : (number : ℕ) (moved : Moved) (old mid new : List (Option (Connection S))) → HasMovedAt s number moved old mid
+      → new ≡ slice_set mid number None → new ≡ slice_set old number None
+  closed_then number moved old mid new (inl same) gone = closed_still number old mid new same gone
+  closed_then number moved old mid new (inr (c, e, there, on, is)) gone =
+      closed_still number (slice_set old number (Some e)) mid new is gone ∙ set-set old number (Some e) None
+
+module _ {I D S N : Type 0} {i : index.Ghosts I} {d : store.Ghosts D} (s : stream.Ghosts S) (n : Ghosts N S) where
+  pub nowhere : (a : Served I D S N i d) → LeadsTo s n a a
+  nowhere a = ([], refl)
+
+  pub by_one : (one : Moment) (a b : Served I D S N i d) → IsMoment s n one a b → LeadsTo s n a b
+  by_one one a b h = (one ∷ [], (b, h, refl))
+
+  behind : (first later : List Moment) (a b c : Served I D S N i d) → AreMoments s n first a b → AreMoments s n later b c
+      → AreMoments s n (first ++ later) a c
+  behind [] later a b c is h = subst (λ (x : Served I D S N i d). AreMoments s n later x c) is h
+  behind (one ∷ rest) later a b c (between, here, more) h = (between, here, behind rest later between b c more h)
+
+  pub and_on : (a b c : Served I D S N i d) → LeadsTo s n a b → LeadsTo s n b c → LeadsTo s n a c
+  and_on a b c (first, is) (later, more) = (first ++ later, behind first later a b c is more)
+
+  pub happens : (event : Event) (effects : Effects) (old given told new : Served I D S N i d) → IsGiven n event old given
+      → Takes given.primary event told.primary effects → told ≡ record given { primary = told.primary }
+      → AreSent n (out_of effects) told new → LeadsTo s n old new
+  happens event effects old given told new is_given takes rest sent =
+      by_one (Happens event) old new (record { given = given; is_given = is_given; told = told; effects = effects; takes = takes; rest = rest; sent = sent })
+
+  -- octets moved on a connection whose stream didn't end
+  pub moves : (number : ℕ) (moved : Moved) (primary : Primary I D i d) (network : N) (old new : List (Option (Connection S))) → moved ≢ Ended
+      → HasMovedAt s number moved old new → LeadsTo s n (standing primary network old) (standing primary network new)
+  moves number moved primary network old new lasts (inl same) = ([], ap (standing primary network) same)
+  moves number moved primary network old new lasts (inr (c, e, there, on, is)) =
+      by_one (Moves number) (standing primary network old) (standing primary network new)
+      (record { before = c; after = e; there = there; moved = has_moved s moved c e lasts on; rest = ap (standing primary network) is })

@@ -1,0 +1,12 @@
+use Rattle.std.proofs.Common.{ℕ, List, Option, refl, sym, subst}
+use Rattle.dns_primary.specs.declared.event.Reply.{Reply}
+use Rattle.dns_primary.specs.Keeps.{reply_out}
+use Rattle.dns_turns.specs.Delivery.{AreSent, IsSent, served}
+use Rattle.dns_turns.proofs.edge.Edge.send_reply.Goals as goal
+
+pub returns-in-Some : goal.returns-in-Some
+returns-in-Some g c =
+    let old = served c.args.primary.now c.args.self.now c.args.network.now in
+    let new = served c.send.new.primary c.send.new.self c.send.new.network in
+    subst (λ (reply : Option Reply). AreSent g.N.Network (reply_out reply) old new) (sym c.in-Some.is)
+    (new, subst (λ (octets : List ℕ). IsSent g.N.Network c.in-Some.reply.to octets old new) c.as_slice-octets.ensures c.send.ensures, refl)

@@ -1,0 +1,102 @@
+-- What is done in a turn.
+use Rattle.std.specs.Prelude.{◌≡◌, ◌⊎◌, ◌≤◌, ◌<◌, ℕ, List, [], ◌∷◌, length, Option, Some, None, slice_get, slice_set}
+use Rattle.dns_edge.specs.declared.connection.Connection.{Connection}
+use Rattle.dns_edge.specs.declared.stream.Stream as stream
+use Rattle.dns_edge.specs.Connection.{HasMoved, HasHandedOver, stream_of, left_of, unhandled}
+use Rattle.dns_zone.specs.declared.index.ZoneIndex as index
+use Rattle.dns_store.specs.declared.zone_store.ZoneStore as store
+use Rattle.dns_primary.specs.declared.event.Peer.{Peer}
+use Rattle.dns_primary.specs.declared.event.Effects.{Effects}
+use Rattle.dns_primary.specs.declared.primary.Primary.{Primary}
+use Rattle.dns_primary.specs.Machine.{Machine}
+use Rattle.dns_primary.specs.Keeps.{IsKept}
+use Rattle.dns_primary.specs.Step.{Event, Datagram, Connect, Arrives, Flush, Checkpoint, Pump, Closed}
+use Rattle.dns_turns.specs.declared.network.Network.{Ghosts}
+use Rattle.dns_turns.specs.Delivery.{Served, Takes, IsClosed, AreSent, out_of}
+
+-- One thing that is done: the network is asked, and nothing came; octets move on the connection with a number; a peer connects; an
+-- event happens, and its replies go out; the connection with a number is closed.
+pub data Moment : Type 0 where
+  Asks : Moment
+  Moves : ℕ → Moment
+  Connects : Peer → Moment
+  Happens : Event → Moment
+  Closes : ℕ → Moment
+
+module _ {S : Type 0} where
+  -- A connection on which nothing came and to which nothing goes yet is put in the place with the number that the peer got, if it got
+  -- one and there is such a place.
+  abbrev pub IsPlaced : S → Option ℕ → List (Option (Connection S)) → List (Option (Connection S)) → Type 0
+  IsPlaced stream None old new = new ≡ old
+  IsPlaced stream (Some number) old new =
+      ((length old ≤ number) × (new ≡ old))
+      ⊎ ((number < length old)
+      × ((c : Connection S) × (stream_of c ≡ stream) × (left_of c ≡ []) × (unhandled c ≡ []) × (new ≡ slice_set old number (Some c))))
+
+-- Whichever machine a primary kept, no reply waits for a flush.
+abbrev pub NoneWaits : {I D : Type 0} {i : index.Ghosts I} {d : store.Ghosts D} → Primary I D i d → Type 0
+NoneWaits primary = (m : Machine) → IsKept primary m → m.waiting ≡ []
+
+module _ {I D S N : Type 0} {i : index.Ghosts I} {d : store.Ghosts D} where
+  pub record HasAsked (n : Ghosts N S) (old new : Served I D S N i d) : Type 0 where
+    pub rest : new ≡ record old { network = new.network }
+    pub nothing : n.accepts old.network None new.network ⊎ (n.receives old.network None new.network ⊎ n.looks old.network new.network)
+
+  pub record MovedOn (s : stream.Ghosts S) (number : ℕ) (old new : Served I D S N i d) : Type 0 where
+    pub before : Connection S
+    pub after : Connection S
+    pub there : slice_get old.connections number ≡ Some (Some before)
+    pub moved : HasMoved s before after
+    pub rest : new ≡ record old { connections = slice_set old.connections number (Some after) }
+
+  pub record HasConnected (n : Ghosts N S) (peer : Peer) (old new : Served I D S N i d) : Type 0 where
+    pub stream : S
+    pub came : n.accepts old.network (Some (stream, peer)) new.network
+    pub effects : Effects
+    pub told : Takes old.primary (Connect peer) new.primary effects
+    pub placed : IsPlaced stream effects.accepted old.connections new.connections
+
+  -- How an event comes: a datagram from the network, a message from the connection with its number; a pump and a flush come of
+  -- themselves, and no others do.
+  abbrev pub IsGiven : Ghosts N S → Event → Served I D S N i d → Served I D S N i d → Type 0
+  IsGiven n (Datagram peer octets) old new =
+      (new ≡ record old { network = new.network }) × n.receives old.network (Some (octets, peer)) new.network
+  IsGiven n (Arrives number message) old new =
+      (c : Connection S) × (e : Connection S) × (slice_get old.connections number ≡ Some (Some c)) × HasHandedOver message c e
+      × (new ≡ record old { connections = slice_set old.connections number (Some e) })
+  IsGiven n (Pump number) old new = new ≡ old
+  IsGiven n Flush old new = new ≡ old
+  IsGiven n (Connect peer) old new = ⊥
+  IsGiven n (Checkpoint place) old new = ⊥
+  IsGiven n (Closed number) old new = ⊥
+
+  pub record HasHappened (n : Ghosts N S) (event : Event) (old new : Served I D S N i d) : Type 0 where
+    pub given : Served I D S N i d
+    pub is_given : IsGiven n event old given
+    pub told : Served I D S N i d
+    pub effects : Effects
+    pub takes : Takes given.primary event told.primary effects
+    pub rest : told ≡ record given { primary = told.primary }
+    pub sent : AreSent n (out_of effects) told new
+
+  abbrev pub IsMoment : stream.Ghosts S → Ghosts N S → Moment → Served I D S N i d → Served I D S N i d → Type 0
+  IsMoment s n Asks old new = HasAsked n old new
+  IsMoment s n (Moves number) old new = MovedOn s number old new
+  IsMoment s n (Connects peer) old new = HasConnected n peer old new
+  IsMoment s n (Happens event) old new = HasHappened n event old new
+  IsMoment s n (Closes number) old new = IsClosed number old new
+
+  abbrev pub AreMoments : stream.Ghosts S → Ghosts N S → List Moment → Served I D S N i d → Served I D S N i d → Type 0
+  AreMoments s n [] old new = new ≡ old
+  AreMoments s n (one ∷ rest) old new = (between : Served I D S N i d) × IsMoment s n one old between × AreMoments s n rest between new
+
+  -- Nothing else is done from here to there.
+  abbrev pub LeadsTo : stream.Ghosts S → Ghosts N S → Served I D S N i d → Served I D S N i d → Type 0
+  LeadsTo s n old new = (moments : List Moment) × AreMoments s n moments old new
+
+  -- A turn: what is done in it, and then, where a reply waits, a flush.
+  pub record IsTurn (s : stream.Ghosts S) (n : Ghosts N S) (old new : Served I D S N i d) : Type 0 where
+    pub done : Served I D S N i d
+    pub led : LeadsTo s n old done
+    pub flush : (NoneWaits done.primary × (new ≡ done))
+        ⊎ ((flushed : Served I D S N i d) × HasHappened n Flush done flushed × HasAsked n flushed new)
