@@ -1,2 +1,3 @@
 pub mod Known
 pub mod Served
+pub mod Turned

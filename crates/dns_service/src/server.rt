@@ -1,18 +1,20 @@
 //! A server over devices and sockets.
 ghost use Rattle.std.specs.Prelude.{◌≡◌, ◌⊎◌, IfOk};
 ghost use Rattle.dns_service.specs.Serving.{IsRefusalTold, ServingEnds};
+ghost use Rattle.dns_service.specs.Turns.{HasPaused, IsServedOn};
 
 use crate::log::Log;
 use crate::opening::{Refusal, open_primary};
-use crate::sockets::{Socket, Sockets};
+use crate::sockets::Sockets;
 use dns_configuration::{DONE, FAILED, File, ZoneSettings, origins_of, read_configuration, tell};
 use dns_devices::{Devices, tell_device};
+use dns_edge::Stream;
 use dns_memory::Heap;
 use dns_names::Name;
 use dns_primary::Primary;
 use dns_sectors::Sectors;
 use dns_store::ZoneStore;
-use dns_turns::{Edge, Network};
+use dns_turns::{Edge, Network, Notes};
 use dns_zone::{Zone, ZoneIndex};
 use std::alloc::Global;
 use std::io::{self, Write};
@@ -55,27 +57,58 @@ fn seconds<R: Clock>(rt: &R, start: &Instant, before: u64) -> u64 {
     }
 }
 
-/// Makes so many turns. After one in which nothing was done the server waits until a socket is ready.
-fn run<R: Clock, I: ZoneIndex, S: ZoneStore, E: Write>(
+/// Looks what came in each so-many-th turn, and gives the seconds since the start.
+fn glance<R: Clock, S, N: Network<S>>(
+    rt: &R,
+    start: &Instant,
+    network: &mut N,
+    turn: u32,
+    now: u64,
+) -> u64
+    ensures { HasPaused N.Network network.old network.new }
+{
+    if turn % GLANCE != 0 {
+        return now;
+    }
+    network.look();
+    seconds(rt, start, now)
+}
+
+/// Waits until something may have come, where nothing was done, and gives the seconds since the start.
+fn rest<R: Clock, S, N: Network<S>>(
+    rt: &R,
+    start: &Instant,
+    network: &mut N,
+    is_done: bool,
+    now: u64,
+) -> u64
+    ensures { HasPaused N.Network network.old network.new }
+{
+    if is_done {
+        return now;
+    }
+    network.wait();
+    seconds(rt, start, now)
+}
+
+/// Makes so many turns, and waits behind each one in which nothing was done.
+fn run<R: Clock, I: ZoneIndex, D: ZoneStore, S: Stream + Drop, N: Network<S>, L: Notes>(
     heap: Heap,
     rt: &R,
-    primary: &mut Primary<I, S>,
-    sockets: &mut Sockets,
-    log: &mut Log<'_, E>,
+    primary: &mut Primary<I, D>,
+    network: &mut N,
+    notes: &mut L,
     turns: u32,
-) -> io::Result<()> {
-    let mut edge: Edge<Socket> = Edge::new(heap)?;
+) -> io::Result<()>
+    ensures { IfOk result (λ _. IsServedOn S.Stream N.Network primary.old network.old primary.new network.new) }
+{
+    let mut edge: Edge<S> = Edge::new(heap)?;
     let start = Instant::now(rt)?;
     let mut now = 0;
     for turn in 0..turns {
-        if turn % GLANCE == 0 {
-            now = seconds(rt, &start, now);
-            sockets.look();
-        }
-        if !edge.turn(heap, sockets, primary, log, now) {
-            sockets.wait();
-            now = seconds(rt, &start, now);
-        }
+        now = glance(rt, &start, network, turn, now);
+        let is_done = edge.turn(heap, network, primary, notes, now);
+        now = rest(rt, &start, network, is_done, now);
     }
     Ok(())
 }

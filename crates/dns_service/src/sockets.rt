@@ -80,11 +80,6 @@ impl Sockets {
         })
     }
 
-    /// Waits until a socket is ready, or about a second has passed. It is called where each of them had nothing to do.
-    pub(crate) fn wait(&mut self) {
-        self.take_events(Duration::from_secs(1));
-    }
-
     /// Waits at most so long for events, and takes up what they say. The system tells each change once, and keeps those for which there
     /// was no room.
     fn take_events(&mut self, timeout: Duration) {
@@ -159,6 +154,11 @@ impl Network<Socket> for Sockets {
     /// see neither a new connection nor what comes on one that was silent.
     fn look(&mut self) {
         self.take_events(Duration::ZERO);
+    }
+
+    /// Waits until a socket is ready, or about a second has passed. Each of them had nothing to do.
+    fn wait(&mut self) {
+        self.take_events(Duration::from_secs(1));
     }
 }
 

@@ -113,6 +113,8 @@ impl Network<MemoryStream> for MemoryNetwork {
     }
 
     fn look(&mut self) {}
+
+    fn wait(&mut self) {}
 }
 
 /// Notes in memory, for tests: one that memory is refused for is dropped.

@@ -5,7 +5,7 @@ ghost use Rattle.dns_primary.specs.declared.event.Peer.{Peer as StatedPeer};
 
 use dns_primary::Peer;
 
-/// A network of datagrams and streams, of which no call waits. Its calls are told by how it may go on behind each of them.
+/// A network of datagrams and streams, of which no call waits but `wait`. Its calls are told by how it may go on behind each of them.
 pub trait Network<S> {
     /// It may go on so where it was asked for a connection, and a peer had made this one, or none had;
     ghost accepts: { Self → Option (S × StatedPeer) → Self → Type 0 };
@@ -16,7 +16,7 @@ pub trait Network<S> {
     /// where this datagram was handed to it for a peer;
     ghost sends: { Self → StatedPeer → List ℕ → Self → Type 0 };
 
-    /// and where it looked what came meanwhile.
+    /// and where it looked what came meanwhile, or waited for something.
     ghost looks: { Self → Self → Type 0 };
 
     /// The next connection that a peer made: its stream, and the peer.
@@ -34,6 +34,10 @@ pub trait Network<S> {
 
     /// Looks what came meanwhile. It is called behind a flush, which takes long.
     fn look(&mut self)
+        ensures { looks self.old self.new };
+
+    /// Waits until something may have come, or about a second has passed. It is called where nothing was to be done.
+    fn wait(&mut self)
         ensures { looks self.old self.new };
 }
 

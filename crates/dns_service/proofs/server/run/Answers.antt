@@ -1,0 +1,14 @@
+use Rattle.dns_turns.specs.Delivery.{connections_of, served}
+use Rattle.dns_service.specs.Turns.{begun}
+use Rattle.dns_service.proofs.Turned.{paused, turned}
+use Rattle.dns_service.proofs.server.run.Goals as goal
+
+pub loop-turn-preserved : goal.loop-turn-preserved
+loop-turn-preserved g c =
+    let s = g.S.Stream in
+    let n = g.N.Network in
+    let from = begun c.args.primary.now c.args.network.now in
+    let glanced = paused s n from c.loop-turn.primary (connections_of c.loop-turn.edge) c.loop-turn.network c.glance-now.new.network c.loop-turn.invariant c.glance-now.ensures in
+    let made = turned s n from (served c.loop-turn.primary c.loop-turn.edge c.glance-now.new.network)
+    (served c.turn-is_done.new.primary c.turn-is_done.new.self c.turn-is_done.new.network) glanced c.turn-is_done.ensures.turn in
+    paused s n from c.turn-is_done.new.primary (connections_of c.turn-is_done.new.self) c.turn-is_done.new.network c.rest-now.new.network made c.rest-now.ensures
