@@ -228,6 +228,22 @@ impl<'a> Sections<'a> {
         Ok(())
     }
 
+    /// Puts in the addresses that go with records of the zone, some of which have hosts, until there are more than so many. It is
+    /// compiled apart, so that records without a host cost their test alone.
+    #[inline(never)]
+    fn push_addresses_of_hosts<I: ZoneIndex>(
+        &mut self,
+        alloc: Heap,
+        zone: &'a Zone<I>,
+        records: &[Record],
+        most: u16,
+    ) -> Result<(), AllocError>
+        ensures { OnOk result (AddsUpTo most self.old self.new (flat_map addresses_for (from_zone zone.now records.now))) }
+    {
+        let owners = self.owners(alloc)?;
+        self.push_for_each(alloc, zone, records, &owners, most)
+    }
+
     /// Puts in the addresses that go with records of the zone, until there are more than so many.
     pub(crate) fn push_addresses<I: ZoneIndex>(
         &mut self,
@@ -241,7 +257,6 @@ impl<'a> Sections<'a> {
         if !have_host(records) {
             return Ok(());
         }
-        let owners = self.owners(alloc)?;
-        self.push_for_each(alloc, zone, records, &owners, most)
+        self.push_addresses_of_hosts(alloc, zone, records, most)
     }
 }

@@ -59,51 +59,51 @@ fn is_referral(reply: &Reply<'_>) -> bool
 }
 
 /// The header and the question of a reply, with TC (RFC 1035 section 4.1.1).
-fn truncated(alloc: Heap, mut reply: Reply<'_>) -> Result<Vec<u8, Heap>, AllocError>
-    requires { length (question_octets (stated reply)) < 65524 }
-    ensures { IfOk result (λ octets. octets.items ≡ truncated (stated reply.entry)) }
+fn truncated(alloc: Heap, reply: &mut Reply<'_>) -> Result<Vec<u8, Heap>, AllocError>
+    requires { length (question_octets (stated reply.old)) < 65524 }
+    ensures { IfOk result (λ octets. octets.items ≡ truncated (stated reply.old)) }
 {
     reply.tc = true;
     reply.answer.clear();
     reply.authority.clear();
     reply.additional.clear();
-    short_text(alloc, &reply)
+    short_text(alloc, reply)
 }
 
 /// SERVFAIL with the question of a reply.
-fn failed(alloc: Heap, mut reply: Reply<'_>) -> Result<Vec<u8, Heap>, AllocError>
-    requires { length (question_octets (stated reply)) < 65524 }
-    ensures { IfOk result (λ octets. octets.items ≡ failed (stated reply.entry)) }
+fn failed(alloc: Heap, reply: &mut Reply<'_>) -> Result<Vec<u8, Heap>, AllocError>
+    requires { length (question_octets (stated reply.old)) < 65524 }
+    ensures { IfOk result (λ octets. octets.items ≡ failed (stated reply.old)) }
 {
     reply.aa = false;
     reply.rcode = Rcode::ServFail;
     reply.answer.clear();
     reply.authority.clear();
     reply.additional.clear();
-    short_text(alloc, &reply)
+    short_text(alloc, reply)
 }
 
 /// A reply by UDP that doesn't fit whole: without its additional section, which is gone, unless it is a referral; else truncated.
-fn fit_without_additional(alloc: Heap, reply: Reply<'_>) -> Result<Vec<u8, Heap>, AllocError>
-    requires question { length (question_octets (stated reply)) < 65524 }
-    requires gone { reply.additional.items ≡ [] }
-    ensures { IfOk result (λ octets. octets.items ≡ by_udp_without_additional (stated reply.entry)) }
+fn fit_without_additional(alloc: Heap, reply: &mut Reply<'_>) -> Result<Vec<u8, Heap>, AllocError>
+    requires question { length (question_octets (stated reply.old)) < 65524 }
+    requires gone { reply.old.additional.items ≡ [] }
+    ensures { IfOk result (λ octets. octets.items ≡ by_udp_without_additional (stated reply.old)) }
 {
-    if is_referral(&reply) {
+    if is_referral(reply) {
         return truncated(alloc, reply);
     }
-    if let Some(less) = text_within(alloc, &reply, MOST_BY_UDP)? {
+    if let Some(less) = text_within(alloc, reply, MOST_BY_UDP)? {
         return Ok(less);
     }
     truncated(alloc, reply)
 }
 
 /// A reply by UDP: whole, else without its additional section unless it is a referral, else truncated.
-fn fit_to_udp(alloc: Heap, mut reply: Reply<'_>) -> Result<Vec<u8, Heap>, AllocError>
-    requires { length (question_octets (stated reply)) < 65524 }
-    ensures { IfOk result (λ octets. octets.items ≡ by_udp (stated reply.entry)) }
+fn fit_to_udp(alloc: Heap, reply: &mut Reply<'_>) -> Result<Vec<u8, Heap>, AllocError>
+    requires { length (question_octets (stated reply.old)) < 65524 }
+    ensures { IfOk result (λ octets. octets.items ≡ by_udp (stated reply.old)) }
 {
-    if let Some(whole) = text_within(alloc, &reply, MOST_BY_UDP)? {
+    if let Some(whole) = text_within(alloc, reply, MOST_BY_UDP)? {
         return Ok(whole);
     }
     reply.additional.clear();
@@ -111,24 +111,24 @@ fn fit_to_udp(alloc: Heap, mut reply: Reply<'_>) -> Result<Vec<u8, Heap>, AllocE
 }
 
 /// A reply by TCP: whole, else SERVFAIL with the question.
-fn fit_to_tcp(alloc: Heap, reply: Reply<'_>) -> Result<Vec<u8, Heap>, AllocError>
-    requires { length (question_octets (stated reply)) < 65524 }
-    ensures { IfOk result (λ octets. octets.items ≡ by_tcp (stated reply.entry)) }
+fn fit_to_tcp(alloc: Heap, reply: &mut Reply<'_>) -> Result<Vec<u8, Heap>, AllocError>
+    requires { length (question_octets (stated reply.old)) < 65524 }
+    ensures { IfOk result (λ octets. octets.items ≡ by_tcp (stated reply.old)) }
 {
-    if let Some(whole) = text_within(alloc, &reply, MOST_BY_TCP)? {
+    if let Some(whole) = text_within(alloc, reply, MOST_BY_TCP)? {
         return Ok(whole);
     }
     failed(alloc, reply)
 }
 
-/// The text of a reply that goes out by the transport.
+/// The text of a reply that goes out by the transport. What can't go out is taken from the reply.
 pub(crate) fn fit(
     alloc: Heap,
-    reply: Reply<'_>,
+    reply: &mut Reply<'_>,
     transport: Transport,
 ) -> Result<Vec<u8, Heap>, AllocError>
-    requires { length (question_octets (stated reply)) < 65524 }
-    ensures { IfOk result (λ octets. octets.items ≡ fitted transport (stated reply.entry)) }
+    requires { length (question_octets (stated reply.old)) < 65524 }
+    ensures { IfOk result (λ octets. octets.items ≡ fitted transport (stated reply.old)) }
 {
     match transport {
         Transport::Udp => fit_to_udp(alloc, reply),
@@ -149,14 +149,14 @@ pub(crate) fn most_records(transport: Transport) -> u16
 /// The text of a reply with too many records for the transport, of which the additional ones are left out here.
 pub(crate) fn fit_first_sections(
     alloc: Heap,
-    reply: Reply<'_>,
+    reply: &mut Reply<'_>,
     transport: Transport,
 ) -> Result<Vec<u8, Heap>, AllocError>
-    requires question { length (question_octets (stated reply)) < 65524 }
-    requires gone { reply.additional.items ≡ [] }
+    requires question { length (question_octets (stated reply.old)) < 65524 }
+    requires gone { reply.old.additional.items ≡ [] }
     ensures { IfOk result
         (λ octets. (whole : Stated)
-        → IsWithoutAdditional (stated reply.entry) whole
+        → IsWithoutAdditional (stated reply.old) whole
         → most_records transport < length whole.answer + length whole.authority + length whole.additional
         → octets.items ≡ fitted transport whole) }
 {
@@ -170,13 +170,13 @@ pub(crate) fn fit_first_sections(
 /// The text of a reply with too many records for the transport in its first two sections, all of which are left out here.
 pub(crate) fn fit_question(
     alloc: Heap,
-    reply: Reply<'_>,
+    reply: &mut Reply<'_>,
     transport: Transport,
 ) -> Result<Vec<u8, Heap>, AllocError>
-    requires { length (question_octets (stated reply)) < 65524 }
+    requires { length (question_octets (stated reply.old)) < 65524 }
     ensures { IfOk result
         (λ octets. (whole : Stated)
-        → IsWithoutRecords (stated reply.entry) whole
+        → IsWithoutRecords (stated reply.old) whole
         → most_records transport < length whole.answer + length whole.authority
         → octets.items ≡ fitted transport whole) }
 {

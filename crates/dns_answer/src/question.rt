@@ -84,20 +84,20 @@ fn reply_to<'a, I: ZoneIndex>(
     let mut reply = reply_with_question(alloc, message, question, rcode);
     reply.aa = aa;
     if answer_count(found) > most as usize {
-        return fit_question(alloc, reply, transport);
+        return fit_question(alloc, &mut reply, transport);
     }
     if server_count(found) > most as usize {
-        return fit_question(alloc, reply, transport);
+        return fit_question(alloc, &mut reply, transport);
     }
     let sections = Sections::new(alloc, zones, found, most)?;
     let is_over = sections.has_more(most);
     reply.answer = sections.answer;
     reply.authority = sections.authority;
     if is_over {
-        return fit_first_sections(alloc, reply, transport);
+        return fit_first_sections(alloc, &mut reply, transport);
     }
     reply.additional = sections.additional;
-    fit(alloc, reply, transport)
+    fit(alloc, &mut reply, transport)
 }
 
 /// The reply to a question: REFUSED where its name is under no held apex.
@@ -116,12 +116,13 @@ fn answer<'a, I: ZoneIndex>(
         → qtype ≡ q.qtype
         → octets.items ≡ fitted transport (answered zones.now message.now.octets message.now.message q)) }
 {
-    let found = resolve(alloc, zones, question.name.reborrow(), qtype)?;
+    let searched = resolve(alloc, zones, question.name.reborrow(), qtype)?;
+    let found = searched.as_slice();
     if found.is_empty() {
-        let reply = reply_with_question(alloc, message, question, Rcode::Refused);
-        return fit(alloc, reply, transport);
+        let mut reply = reply_with_question(alloc, message, question, Rcode::Refused);
+        return fit(alloc, &mut reply, transport);
     }
-    reply_to(alloc, zones, message, question, transport, found.as_slice())
+    reply_to(alloc, zones, message, question, transport, found)
 }
 
 /// The reply to a query, octet for octet as it is defined, with its question: what the lookup finds, or REFUSED where its name is
@@ -157,6 +158,6 @@ pub fn refuse(
 {
     let name = query.question.name().to_name(alloc)?;
     let octets = query.message.question_octets();
-    let reply = reply_with_question(alloc, &query.message, echoed(octets, &name), rcode);
-    fit(alloc, reply, transport)
+    let mut reply = reply_with_question(alloc, &query.message, echoed(octets, &name), rcode);
+    fit(alloc, &mut reply, transport)
 }

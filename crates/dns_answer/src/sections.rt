@@ -106,7 +106,7 @@ pub(crate) fn answer_section<'a>(
         → AllLend zones t found.now
         → shown.items ≡ records_of (answer_of t fs)) }
 {
-    let mut shown = Vec::new(alloc);
+    let mut shown = Vec::with_capacity(alloc, answer_count(found))?;
     for one in found {
         put_under(&mut shown, &one.name, answers(one))?;
     }
@@ -120,7 +120,7 @@ fn as_they_are<'a>(
 ) -> Result<Vec<ReplyRecord<'a>, Heap>, AllocError>
     ensures { IfOk result (λ shown. shown.items ≡ records.now) }
 {
-    let mut shown = Vec::new(alloc);
+    let mut shown = Vec::with_capacity(alloc, records.len())?;
     for record in records {
         shown.push(ReplyRecord::new(record.owner().lend(), record.ttl(), record))?;
     }

@@ -5,6 +5,8 @@ use Rattle.dns_zone.specs.Zone.{Zone}
 use Rattle.dns_lookup.specs.Lookup.{Outcome, Referral, Alias, Answers, NoData, NameError}
 use Rattle.dns_lookup.specs.Lookup as lookup
 use Rattle.dns_lookup.specs.declared.chain.Found.{Found}
+use Rattle.dns_lookup.specs.declared.chain.Outcome as returned
+use Rattle.dns_lookup.specs.declared.chain.Outcome.TheVariants.{Nothing, One, Chain}
 use Rattle.dns_lookup.specs.declared.outcome.Kind.{Kind}
 use Rattle.dns_lookup.specs.declared.outcome.Kind.TheVariants as kinds
 
@@ -32,3 +34,9 @@ RepresentAll zones (f ∷ fs) [] = ⊥
 -- The names that were searched.
 abbrev pub names_searched : List Found → List Labels
 names_searched returned = map (λ (f : Found). f.name) returned
+
+-- What is returned, as a list.
+abbrev pub all_searched : returned.Outcome → List Found
+all_searched Nothing = []
+all_searched (One found) = found ∷ []
+all_searched (Chain found) = found.items

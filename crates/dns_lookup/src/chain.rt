@@ -5,8 +5,8 @@ ghost use Rattle.dns_names.specs.Name.{Labels, names_eq};
 ghost use Rattle.dns_records.specs.Types.{type_cname};
 ghost use Rattle.dns_zone.specs.Zone.{Zone as Lent};
 ghost use Rattle.dns_zone.specs.Records.{rrset, owns_type};
-ghost use Rattle.dns_lookup.specs.Lookup.{Found as Stated, outcome, zone_of, alias_at, next_name, resolve};
-ghost use Rattle.dns_lookup.specs.Represented.{Represents, RepresentAll, names_searched};
+ghost use Rattle.dns_lookup.specs.Lookup.{Found as Stated, outcome, zone_of, alias_at, next_name, chain, resolve};
+ghost use Rattle.dns_lookup.specs.Represented.{Represents, RepresentAll, names_searched, all_searched};
 ghost use Rattle.dns_lookup.specs.Lent.{Lends, AllLend};
 
 use crate::node::Node;
@@ -17,6 +17,7 @@ use dns_names::NameRef;
 use dns_records::Record;
 use dns_zone::{Zone, ZoneIndex};
 use std::alloc::AllocError;
+use std::slice;
 
 /// One name that was searched.
 #[derive(Drop)]
@@ -33,8 +34,29 @@ pub struct Found<'a> {
     pub records: &'a [Record],
 }
 
-/// The names that were searched, one behind the other.
-pub type Outcome<'a> = Vec<Found<'a>, Heap>;
+/// The names that were searched, one behind the other. One alone stands in place, and takes no memory.
+#[derive(Drop)]
+pub enum Outcome<'a> {
+    /// None: the question's name is under no apex.
+    Nothing,
+    /// That of the question alone.
+    One(Found<'a>),
+    /// That of the question, which is an alias, and those behind it.
+    Chain(Vec<Found<'a>, Heap>),
+}
+
+impl<'a> Outcome<'a> {
+    /// The names in the order in which they were searched.
+    pub fn as_slice(&self) -> &[Found<'a>]
+        ensures { result.now ≡ all_searched self.now }
+    {
+        match self {
+            Outcome::Nothing => &[],
+            Outcome::One(found) => slice::from_ref(found),
+            Outcome::Chain(found) => found.as_slice(),
+        }
+    }
+}
 
 /// At most so many names are searched.
 const MOST: usize = 8;
@@ -105,21 +127,26 @@ fn next_name<'a>(last: &Found<'a>, before: &[Found<'a>]) -> Option<NameRef<'a>>
     Some(next)
 }
 
-/// What a question finds: the name, and then the target of each alias, each in the closest zone (RFC 1034 section
-/// 4.3.2). The list ends behind a name that is no alias, before a target that was searched already, before a name under no
-/// apex, and behind eight names; it is empty where the question's name is under no apex. Memory is taken for the list alone.
-pub fn resolve<'a, I: ZoneIndex>(
+/// What a question finds whose name is an alias: that name, and then the target of each alias from this one on. It is compiled
+/// apart, so that other names don't pay for it.
+#[inline(never)]
+fn follow<'a, I: ZoneIndex>(
     alloc: Heap,
     zones: &'a [Zone<I>],
-    name: NameRef<'a>,
+    first: Found<'a>,
+    target: NameRef<'a>,
     qtype: u16,
-) -> Result<Outcome<'a>, AllocError>
-    ensures represents { IfOk result (λ found. RepresentAll zones.now (resolve zones.now name.entry qtype) found.items) }
-    ensures lent { IfOk result (λ found. AllLend zones.now qtype found.items) }
+) -> Result<Vec<Found<'a>, Heap>, AllocError>
+    ensures represents { IfOk result
+        (λ found. (f : Stated)
+        → Represents zones.now f first.entry
+        → RepresentAll zones.now (f ∷ chain 7 zones.now (f.name ∷ []) target.entry qtype) found.items) }
+    ensures lent { IfOk result (λ found. Lends zones.now qtype first.entry → AllLend zones.now qtype found.items) }
     ensures most { IfOk result (λ found. vec_len found ≤ 8) }
 {
-    let mut found = Vec::new(alloc);
-    let mut here = name;
+    let mut found: Vec<Found<'a>, Heap> = Vec::new(alloc);
+    found.push(first)?;
+    let mut here = target;
     'names: while found.len() < MOST {
         let Some(one) = search(zones, here, qtype) else {
             return Ok(found);
@@ -132,4 +159,28 @@ pub fn resolve<'a, I: ZoneIndex>(
         }
     }
     Ok(found)
+}
+
+/// What a question finds: the name, and then the target of each alias, each in the closest zone (RFC 1034 section
+/// 4.3.2). The list ends behind a name that is no alias, before a target that was searched already, before a name under no
+/// apex, and behind eight names; it is empty where the question's name is under no apex. Memory is taken for the list alone, and
+/// only where the question's name is an alias.
+pub fn resolve<'a, I: ZoneIndex>(
+    alloc: Heap,
+    zones: &'a [Zone<I>],
+    name: NameRef<'a>,
+    qtype: u16,
+) -> Result<Outcome<'a>, AllocError>
+    ensures represents { IfOk result (λ found. RepresentAll zones.now (resolve zones.now name.entry qtype) (all_searched found)) }
+    ensures lent { IfOk result (λ found. AllLend zones.now qtype (all_searched found)) }
+    ensures most { IfOk result (λ found. length (all_searched found) ≤ 8) }
+{
+    let Some(first) = search(zones, name, qtype) else {
+        return Ok(Outcome::Nothing);
+    };
+    let Some(target) = next_name(&first, &[]) else {
+        return Ok(Outcome::One(first));
+    };
+    let found = follow(alloc, zones, first, target, qtype)?;
+    Ok(Outcome::Chain(found))
 }

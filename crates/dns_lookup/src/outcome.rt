@@ -43,6 +43,7 @@ fn asked(owned: &[Record], qtype: u16) -> &[Record]
 
 /// What becomes of a name for which a node answers that owns these records, and those that the name finds (RFC 1034 section
 /// 4.3.2, step 3a).
+#[inline(always)]
 fn kind_by(owned: &[Record], qtype: u16) -> (Kind, &[Record])
     ensures { (set : List Stated) (node name : Labels)
         → is_ordered set ≡ true

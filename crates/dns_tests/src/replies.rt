@@ -64,7 +64,12 @@ const COVERED: &str = "x.abcdefghijklmnopqrstuvwxyz.abcdefghijklmnopqrstuvwxyz.a
 
 /// How many names are found for the name servers of a name, if memory is there.
 fn count(heap: Heap, zones: &[Zone<RecordList>], asked: &Name) -> Option<usize> {
-    Some(resolve(heap, zones, asked.lend(), types::NS).ok()?.len())
+    Some(
+        resolve(heap, zones, asked.lend(), types::NS)
+            .ok()?
+            .as_slice()
+            .len(),
+    )
 }
 
 // The one allocation of a lookup.

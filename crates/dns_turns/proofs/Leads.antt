@@ -61,9 +61,6 @@ module _ {S : Type 0} (s : stream.Ghosts S) where
       closed_still number (slice_set old number (Some e)) mid new is gone ∙ set-set old number (Some e) None
 
 module _ {I D S N : Type 0} {i : index.Ghosts I} {d : store.Ghosts D} (s : stream.Ghosts S) (n : Ghosts N S) where
-  pub nowhere : (a : Served I D S N i d) → LeadsTo s n a a
-  nowhere a = ([], refl)
-
   pub by_one : (one : Moment) (a b : Served I D S N i d) → IsMoment s n one a b → LeadsTo s n a b
   by_one one a b h = (one ∷ [], (b, h, refl))
 

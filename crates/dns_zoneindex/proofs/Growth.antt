@@ -10,7 +10,7 @@ use Rattle.std.specs.Ordering.{is_gt, ordering_then, ordering_reverse}
 use Rattle.std.specs.Cmp.{tied_itself}
 use Rattle.std.specs.declared.cmp.Ordering.{Ordering}
 use Rattle.std.specs.declared.cmp.Ordering.TheVariants.{Less, Equal, Greater}
-use Rattle.std.proofs.lemmas.List.{append-nil, length-append, reverse-append, get_or-reverse, length-reverse, map-append}
+use Rattle.std.proofs.lemmas.List.{length-append, reverse-append, get_or-reverse, length-reverse, map-append}
 use Rattle.dns_names.specs.Name.{Labels}
 use Rattle.dns_records.specs.Record.{Record}
 use Rattle.dns_zone.specs.Order.{both_true}
@@ -23,7 +23,7 @@ use Rattle.dns_zoneindex.specs.Setting.{before}
 use Rattle.dns_zoneindex.specs.Size.{weight}
 use Rattle.dns_zoneindex.specs.Falls.{weight-append, weight-pushed}
 use Rattle.dns_zoneindex.specs.Growth.{entry_at, from_depth, path_cmp, NotBefore, Rising, HasLabel, EndsWithout, IsFront, IsTakenOff}
-use Rattle.dns_zoneindex.proofs.Sides.{label_total, all_map, children_front, children_back}
+use Rattle.dns_zoneindex.proofs.Sides.{label_total, all_map}
 use Rattle.dns_zoneindex.proofs.Under.{labels_same}
 use Rattle.dns_zoneindex.proofs.Owned.{AreOwned, owned_test, rising}
 use Rattle.dns_zoneindex.proofs.Paths.{head_not}
@@ -175,16 +175,6 @@ pub record IsFollowed (n : ℕ) (l : List ℕ) (records front : List Record) : T
   pub whole : records ≡ front ++ rest
   pub same : AllByRecursion (HasLabel n l) rest
 
-pub followed_none : (n : ℕ) (l : List ℕ) (rs : List Record) → IsFollowed n l rs rs
-followed_none n l rs = record { rest = []; whole = sym (append-nil rs); same = tt }
-
-pub followed_more : (n : ℕ) (l : List ℕ) (rs front others : List Record) (r : Record) → front ≡ others ++ r ∷ [] → HasLabel n l r → IsFollowed n l rs front → IsFollowed n l rs others
-followed_more n l rs front others r is has h = record {
-  rest = r ∷ h.rest;
-  whole = h.whole ∙ ap (λ z. z ++ h.rest) is ∙ append_assoc others (r ∷ []) h.rest;
-  same = (has, h.same);
-}
-
 pub front_is : (n : ℕ) (l : List ℕ) (rs front : List Record) → EndsWithout n l front → IsFollowed n l rs front → IsFront n l rs front
 front_is n l rs front ends h = record { rest = h.rest; whole = h.whole; same = h.same; ended = ends }
 
@@ -261,13 +251,6 @@ pub fewer : (n : ℕ) (l : List ℕ) (left front group : List Record) → IsTake
 fewer n l left front group taken = omega (arith, taken.some, ap length taken.whole, length-append front group)
 
 -- parts of what is in order
-pub front_kept : {A : Type 0} (xs front rest : List A) (f : A → Child) → xs ≡ front ++ rest → AreChildren (map f xs) → AreChildren (map f front)
-front_kept xs front rest f is h = children_front (map f front) (map f rest) (subst AreChildren (ap (map f) is ∙ map-append f front rest) h)
-
-pub back_kept : {A : Type 0} (xs front rest : List A) (m : A) (back : List A) (f : A → Child) → xs ≡ front ++ rest → rest ≡ m ∷ back → AreChildren (map f xs) → AreChildren (map f back)
-back_kept xs front rest m back f is cut h =
-    (children_back (map f front) (f m ∷ map f back) (subst AreChildren (ap (map f) (is ∙ ap (λ z. front ++ z) cut) ∙ map-append f front (m ∷ back)) h)).2
-
 -- the children that were made, the last one first
 pub stacked_more : {A : Type 0} (xs : List A) (x : A) (f : A → Child) → map f (reverse (xs ++ x ∷ [])) ≡ f x ∷ map f (reverse xs)
 stacked_more xs x f = ap (map f) (reverse-append xs (x ∷ []))

@@ -8,15 +8,11 @@ use Rattle.dns_records.specs.Record.{Record}
 use Rattle.dns_zone.specs.Records.{next_after}
 use Rattle.dns_zone.proofs.Searching.{told_nat}
 use Rattle.dns_zoneindex.specs.Entries.{Entry, Child, here, pushed, flat}
-use Rattle.dns_zoneindex.specs.Lent.{IsLent}
+use Rattle.dns_zoneindex.specs.Children.{joined}
+use Rattle.dns_zoneindex.specs.Lent.{IsLent, IsThere, IsBeyond}
+use Rattle.dns_zoneindex.proofs.Counts.{length-flat-append}
+use Rattle.dns_zoneindex.proofs.Slots.{joined-append}
 use Rattle.dns_zoneindex.specs.Owned.{records_of}
-
-drop_none : (n : ℕ) → drop {A = Record} n [] ≡ []
-drop_none zero = refl
-drop_none (suc n) = refl
-
-pub lent_none : (place : ℕ) → IsLent [] place []
-lent_none place = record { run = ([], drop_none place); some = λ h. absurd (omega (arith, h)) }
 
 pub lent_front : (rs more : List Record) (place : ℕ) → place < length rs → IsLent (rs ++ more) place (drop place rs)
 lent_front rs more place inside = record {
@@ -61,13 +57,13 @@ records_pushed l (e ∷ own) = ap (λ z. e.record_there ∷ z) (records_pushed l
 pub records_flat : (c : Child) (cs : List Child) → records_of (flat (c ∷ cs)) ≡ records_of c.own ++ records_of (flat cs)
 records_flat c cs = map-append (λ (e : Entry). e.record_there) (map (pushed c.label) c.own) (flat cs) ∙ ap (λ z. z ++ records_of (flat cs)) (records_pushed c.label c.own)
 
-pub records_around : (l : List Child) (c : Child) (r : List Child) → records_of (flat (l ++ c ∷ r)) ≡ records_of (flat l) ++ (records_of c.own ++ records_of (flat r))
-records_around [] c r = records_flat c r
-records_around (d ∷ l) c r =
-    records_flat d (l ++ c ∷ r)
-    ∙ ap (λ z. records_of d.own ++ z) (records_around l c r)
-    ∙ sym (append_assoc (records_of d.own) (records_of (flat l)) (records_of c.own ++ records_of (flat r)))
-    ∙ ap (λ z. z ++ (records_of c.own ++ records_of (flat r))) (sym (records_flat d l))
+pub records_joined : (a b : List Child) → records_of (flat (a ++ b)) ≡ records_of (flat a) ++ records_of (flat b)
+records_joined [] b = refl
+records_joined (c ∷ a) b =
+    records_flat c (a ++ b)
+    ∙ ap (λ z. records_of c.own ++ z) (records_joined a b)
+    ∙ sym (append_assoc (records_of c.own) (records_of (flat a)) (records_of (flat b)))
+    ∙ ap (λ z. z ++ records_of (flat b)) (sym (records_flat c a))
 
 pub records_own : (rs : List Record) (es : List Entry) → records_of (map here rs ++ es) ≡ rs ++ records_of es
 records_own [] es = refl
@@ -91,16 +87,49 @@ lent_first xs place [] h = elim (told_nat place (length xs)) [
 lent_first xs place (r ∷ rest) h = sym (front_of xs place ∙ ap (λ z. slice_get z 0) h.run.1)
 
 -- no record where none is left
-pub lent_nothing : (xs : List Record) (place : ℕ) (lent : List Record) → IsLent xs place lent → lent ≡ [] → drop place xs ≡ []
-lent_nothing xs place lent h e = elim (told_nat place (length xs)) [
-  | inl lt ↦ absurd (omega (arith, h.some lt, ap length e))
-  | inr ge ↦ drop_past xs place ge
-]
-  where
-    drop_past : (ys : List Record) (n : ℕ) → length ys ≤ n → drop n ys ≡ []
-    drop_past [] n le = drop_none n
-    drop_past (y ∷ ys) zero le = absurd (omega (arith, le))
-    drop_past (y ∷ ys) (suc n) le = drop_past ys n (omega (arith, le))
+-- a run within a slot
+pub there_first : (slots : List (List Child)) (slot : List Child) (rest : List (List Child)) (place : ℕ) → slots ≡ slot ∷ rest
+    → place < length (flat slot)
+    → IsThere slots place slot place
+there_first slots slot rest place is inside = record { front = []; back = rest; whole = is; before = omega arith; within = inside }
+
+pub there_later : (slots : List (List Child)) (first : List Child) (rest : List (List Child)) (place : ℕ) (slot : List Child) (left : ℕ)
+    → slots ≡ first ∷ rest
+    → length (flat first) ≤ place
+    → IsThere rest (place - length (flat first)) slot left
+    → IsThere slots place slot left
+there_later slots first rest place slot left is past h = record {
+  front = first ∷ h.front;
+  back = h.back;
+  whole = is ∙ ap (λ z. first ∷ z) h.whole;
+  before = omega (arith, past, h.before, length-flat-append first (joined h.front));
+  within = h.within;
+}
+
+pub beyond_later : (slots : List (List Child)) (first : List Child) (rest : List (List Child)) (place : ℕ) → slots ≡ first ∷ rest
+    → length (flat first) ≤ place
+    → IsBeyond rest (place - length (flat first))
+    → IsBeyond slots place
+beyond_later slots first rest place is past h =
+    omega (arith, past, h, length-flat-append first (joined rest), ap (λ x. length (flat (joined x))) is)
+
+pub lent_there : (slots : List (List Child)) (place : ℕ) (slot : List Child) (left : ℕ) (run : List Record) → IsThere slots place slot left
+    → IsLent (records_of (flat slot)) left run
+    → IsLent (records_of (flat (joined slots))) place run
+lent_there slots place slot left run h lent =
+    let a = records_of (flat (joined h.front)) in
+    let b = records_of (flat slot) in
+    let d = records_of (flat (joined h.back)) in
+    let before : length a ≡ length (flat (joined h.front)) = records_count (flat (joined h.front)) in
+    let inside : left < length b = omega (arith, h.within, records_count (flat slot)) in
+    let at : left ≡ place - length (flat (joined h.front)) = omega (arith, h.before) in
+    let is : records_of (flat (joined slots)) ≡ a ++ (b ++ d) =
+    ap (λ x. records_of (flat x)) (ap joined h.whole ∙ joined-append h.front (slot ∷ h.back))
+    ∙ records_joined (joined h.front) (slot ++ joined h.back)
+    ∙ ap (λ z. a ++ z) (records_joined slot (joined h.back)) in
+    subst (λ x. IsLent x place run) (sym is)
+    (lent_past a (b ++ d) place (length (flat (joined h.front))) run before (omega (arith, h.before))
+    (subst (λ n. IsLent (b ++ d) n run) at (lent_left b d left run inside lent)))
 
 pub first_record : (xs : List Record) → slice_get xs 0 ≡ next_after None xs
 first_record [] = refl

@@ -7,10 +7,11 @@ pub mod Keeping
 pub mod Keys
 pub mod Led
 pub mod Lent
-pub mod Opened
 pub mod Owned
 pub mod Paths
 pub mod Reaching
+pub mod Results
 pub mod Set
 pub mod Sides
+pub mod Slots
 pub mod Under

@@ -1,6 +1,6 @@
 -- A child put in or taken out, seen from its parent.
 use Rattle.std.proofs.Common.{◌≡◌, ℕ, Bool, true, false, cond, List, [], ◌∷◌, ◌++◌, map, refl, sym, ap, ◌∙◌, subst, append_assoc}
-use Rattle.std.proofs.Common.{◌<◌, length, arith, Option, Some, None, Bor}
+use Rattle.std.proofs.Common.{length, arith, Option, Some, None, Bor}
 use Rattle.std.specs.Prelude.{IfSome}
 use Rattle.std.specs.Ordering.{is_lt, is_gt}
 use Rattle.std.specs.FinMap.Entries.{by_order}
@@ -102,29 +102,7 @@ flat-deeper (c ∷ cs) = one-all deeper c cs (λ e. refl) (flat-deeper cs)
 pub own-deeper : (rs : List Record) (cs : List Child) → keep deeper (map here rs ++ flat cs) ≡ flat cs
 own-deeper rs cs = here-deeper rs (flat cs) ∙ flat-deeper cs
 
-pub own-put : (rs : List Record) (n : Child) (cs : List Child) → AreChildren cs → map here rs ++ flat (put_child n cs) ≡ keep (before n.label) (map here rs ++ flat cs) ++ (map (pushed n.label) n.own ++ keep (behind n.label) (map here rs ++ flat cs))
-own-put rs n cs h = ap (λ z. map here rs ++ z) (flat-put n cs h) ∙ sym (append_assoc (map here rs) (keep (before n.label) (flat cs)) (map (pushed n.label) n.own ++ keep (behind n.label) (flat cs))) ∙ (λ i. sym (here-before n.label rs (flat cs)) i ++ (map (pushed n.label) n.own ++ sym (here-behind n.label rs (flat cs)) i))
-
-pub own-without : (rs : List Record) (l : List ℕ) (cs : List Child) → AreChildren cs → map here rs ++ flat (without_child l cs) ≡ keep (before l) (map here rs ++ flat cs) ++ keep (behind l) (map here rs ++ flat cs)
-own-without rs l cs h = ap (λ z. map here rs ++ z) (flat-without l cs h) ∙ sym (append_assoc (map here rs) (keep (before l) (flat cs)) (keep (behind l) (flat cs))) ∙ (λ i. sym (here-before l rs (flat cs)) i ++ sym (here-behind l rs (flat cs)) i)
-
 -- where something stands, something stands above it
-some-map : (l : List ℕ) (own rest : List Entry) → 0 < length own → 0 < length (map (pushed l) own ++ rest)
-some-map l [] rest h = absurd (omega (arith, h))
-some-map l (e ∷ own) rest h = omega arith
-
-pub some-flat : (l : List Child) (c : Child) (r : List Child) → AreChildren (l ++ c ∷ r) → 0 < length (flat (l ++ c ∷ r))
-some-flat [] c r h = some-map c.label c.own (flat r) h.0
-some-flat (y ∷ l) c r h = some-map y.label y.own (flat (l ++ c ∷ r)) h.0
-
-pub some-below : (rs : List Record) (es : List Entry) → 0 < length es → 0 < length (map here rs ++ es)
-some-below [] es h = h
-some-below (r ∷ rs) es h = omega arith
-
-pub some-here : (rs : List Record) (es : List Entry) → 0 < length rs → 0 < length (map here rs ++ es)
-some-here [] es h = absurd (omega (arith, h))
-some-here (r ∷ rs) es h = omega arith
-
 pub replaced-some : (n d : Child) (l : List ℕ) (o : Option Child) (cs t : List Child) → AreChildren cs → n ≡ d → o ≡ Some d → IfSome o (λ c. c.label ≡ l) → t ≡ put_child n cs → flat t ≡ keep (before l) (flat cs) ++ (map (pushed l) (own_at o) ++ keep (behind l) (flat cs))
 replaced-some n d l o cs t h same is label e =
     let there : d.label ≡ l = subst (λ x. IfSome x (λ c. c.label ≡ l)) is label in

@@ -1,5 +1,5 @@
 -- Children in order, around one of them.
-use Rattle.std.proofs.Common.{◌≡◌, ℕ, ◌<◌, List, [], ◌∷◌, ◌++◌, length, Some, None, refl, ap, ◌∙◌, append_assoc}
+use Rattle.std.proofs.Common.{◌≡◌, ℕ, ◌<◌, List, [], ◌∷◌, ◌++◌, length, Some, None, refl, ap, ◌∙◌}
 use Rattle.std.specs.Ordering.{ordering_reverse}
 use Rattle.std.specs.Cmp.{IsTotalOrder}
 use Rattle.std.specs.Cmp.Lexicographic.{nat_list_cmp_total}
@@ -25,10 +25,6 @@ pub all_back : (P : Child → Type 0) (l m : List Child) → AllChildren P (l ++
 all_back P [] m a = a
 all_back P (x ∷ l) m a = all_back P l m a.1
 
-pub all_both : (P : Child → Type 0) (l m : List Child) → AllChildren P l → AllChildren P m → AllChildren P (l ++ m)
-all_both P [] m a b = b
-all_both P (x ∷ l) m a b = (a.0, all_both P l m a.1 b)
-
 pub children_front : (l m : List Child) → AreChildren (l ++ m) → AreChildren l
 children_front [] m s = tt
 children_front (x ∷ l) m s = (s.0, all_front _ l m s.1, children_front l m s.2)
@@ -50,66 +46,43 @@ pub past : (q : List ℕ) (l : List Child) (k : Child) (r : List Child) → AreC
 past q [] k r s nl = tt
 past q (y ∷ t) k r s nl = (greater q y.label k.label (all_back _ t (k ∷ r) s.1).0 nl, past q t k r s.2 nl)
 
-child_past : (q : List ℕ) (l m : List Child) → AllChildren (λ y. label_cmp q y.label ≡ Greater) l → child_of q (l ++ m) ≡ child_of q m
+pub child_past : (q : List ℕ) (l m : List Child) → AllChildren (λ y. label_cmp q y.label ≡ Greater) l → child_of q (l ++ m) ≡ child_of q m
 child_past q [] m a = refl
 child_past q (y ∷ t) m a = rw a.0 (child_past q t m a.1)
 
-put_past : (c : Child) (l m : List Child) → AllChildren (λ y. label_cmp c.label y.label ≡ Greater) l → put_child c (l ++ m) ≡ l ++ put_child c m
+pub put_past : (c : Child) (l m : List Child) → AllChildren (λ y. label_cmp c.label y.label ≡ Greater) l → put_child c (l ++ m) ≡ l ++ put_child c m
 put_past c [] m a = refl
 put_past c (y ∷ t) m a = rw a.0 (ap (λ z. y ∷ z) (put_past c t m a.1))
 
-without_past : (q : List ℕ) (l m : List Child) → AllChildren (λ y. label_cmp q y.label ≡ Greater) l → without_child q (l ++ m) ≡ l ++ without_child q m
+pub without_past : (q : List ℕ) (l m : List Child) → AllChildren (λ y. label_cmp q y.label ≡ Greater) l → without_child q (l ++ m) ≡ l ++ without_child q m
 without_past q [] m a = refl
 without_past q (y ∷ t) m a = rw a.0 (ap (λ z. y ∷ z) (without_past q t m a.1))
 
-equal_not_less : (o : Ordering) → o ≡ Equal → o ≡ Less → ⊥
-equal_not_less o e f = absurd cc
+-- what stands behind children that are greater is not touched
+pub child_before : (q : List ℕ) (l m : List Child) → AllChildren (λ y. label_cmp q y.label ≡ Less) m → child_of q (l ++ m) ≡ child_of q l
+child_before q [] [] a = refl
+child_before q [] (y ∷ m) a = rw a.0 refl
+child_before q (y ∷ t) m a = ap (λ z. by_order (label_cmp q y.label) None (Some y) z) (child_before q t m a)
 
-greater_not_less : (o : Ordering) → o ≡ Greater → o ≡ Less → ⊥
-greater_not_less o e f = absurd cc
-
--- found
-pub child_left : (q : List ℕ) (l : List Child) (k : Child) (r : List Child) → label_cmp q k.label ≡ Less → child_of q (l ++ k ∷ r) ≡ child_of q l
-child_left q [] k r h = rw h refl
-child_left q (y ∷ t) k r h = ap (λ z. by_order (label_cmp q y.label) None (Some y) z) (child_left q t k r h)
-
-pub child_middle : (q : List ℕ) (l : List Child) (k : Child) (r : List Child) → label_cmp q k.label ≡ Equal → AreChildren (l ++ k ∷ r) → child_of q (l ++ k ∷ r) ≡ Some k
-child_middle q l k r h s = child_past q l (k ∷ r) (past q l k r s (equal_not_less _ h)) ∙ ap (λ o. by_order o None (Some k) (child_of q r)) h
-
-pub child_right : (q : List ℕ) (l : List Child) (k : Child) (r : List Child) → label_cmp q k.label ≡ Greater → AreChildren (l ++ k ∷ r) → child_of q (l ++ k ∷ r) ≡ child_of q r
-child_right q l k r h s = child_past q l (k ∷ r) (past q l k r s (greater_not_less _ h)) ∙ ap (λ o. by_order o None (Some k) (child_of q r)) h
-
--- put in
 put_step : (o : Ordering) (c y : Child) (t m u v : List Child) → v ≡ u ++ m → by_order o (c ∷ y ∷ (t ++ m)) (c ∷ (t ++ m)) (y ∷ v) ≡ by_order o (c ∷ y ∷ t) (c ∷ t) (y ∷ u) ++ m
 put_step Less c y t m u v e = refl
 put_step Equal c y t m u v e = refl
 put_step Greater c y t m u v e = ap (λ z. y ∷ z) e
 
-pub put_left : (c : Child) (l : List Child) (k : Child) (r : List Child) → label_cmp c.label k.label ≡ Less → put_child c (l ++ k ∷ r) ≡ put_child c l ++ k ∷ r
-put_left c [] k r h = rw h refl
-put_left c (y ∷ t) k r h = put_step (label_cmp c.label y.label) c y t (k ∷ r) (put_child c t) _ (put_left c t k r h)
+pub put_before : (c : Child) (l m : List Child) → AllChildren (λ y. label_cmp c.label y.label ≡ Less) m → put_child c (l ++ m) ≡ put_child c l ++ m
+put_before c [] [] a = refl
+put_before c [] (y ∷ m) a = rw a.0 refl
+put_before c (y ∷ t) m a = put_step (label_cmp c.label y.label) c y t m (put_child c t) _ (put_before c t m a)
 
-pub put_middle : (c : Child) (l : List Child) (k : Child) (r : List Child) → label_cmp c.label k.label ≡ Equal → AreChildren (l ++ k ∷ r) → put_child c (l ++ k ∷ r) ≡ l ++ c ∷ r
-put_middle c l k r h s = put_past c l (k ∷ r) (past c.label l k r s (equal_not_less _ h)) ∙ ap (λ o. l ++ by_order o (c ∷ k ∷ r) (c ∷ r) (k ∷ put_child c r)) h
-
-pub put_right : (c : Child) (l : List Child) (k : Child) (r : List Child) → label_cmp c.label k.label ≡ Greater → AreChildren (l ++ k ∷ r) → put_child c (l ++ k ∷ r) ≡ l ++ k ∷ put_child c r
-put_right c l k r h s = put_past c l (k ∷ r) (past c.label l k r s (greater_not_less _ h)) ∙ ap (λ o. l ++ by_order o (c ∷ k ∷ r) (c ∷ r) (k ∷ put_child c r)) h
-
--- taken out
 without_step : (o : Ordering) (y : Child) (t m u v : List Child) → v ≡ u ++ m → by_order o (y ∷ (t ++ m)) (t ++ m) (y ∷ v) ≡ by_order o (y ∷ t) t (y ∷ u) ++ m
 without_step Less y t m u v e = refl
 without_step Equal y t m u v e = refl
 without_step Greater y t m u v e = ap (λ z. y ∷ z) e
 
-pub without_left : (q : List ℕ) (l : List Child) (k : Child) (r : List Child) → label_cmp q k.label ≡ Less → without_child q (l ++ k ∷ r) ≡ without_child q l ++ k ∷ r
-without_left q [] k r h = rw h refl
-without_left q (y ∷ t) k r h = without_step (label_cmp q y.label) y t (k ∷ r) (without_child q t) _ (without_left q t k r h)
-
-pub without_middle : (q : List ℕ) (l : List Child) (k : Child) (r : List Child) → label_cmp q k.label ≡ Equal → AreChildren (l ++ k ∷ r) → without_child q (l ++ k ∷ r) ≡ l ++ r
-without_middle q l k r h s = without_past q l (k ∷ r) (past q l k r s (equal_not_less _ h)) ∙ ap (λ o. l ++ by_order o (k ∷ r) r (k ∷ without_child q r)) h
-
-pub without_right : (q : List ℕ) (l : List Child) (k : Child) (r : List Child) → label_cmp q k.label ≡ Greater → AreChildren (l ++ k ∷ r) → without_child q (l ++ k ∷ r) ≡ l ++ k ∷ without_child q r
-without_right q l k r h s = without_past q l (k ∷ r) (past q l k r s (greater_not_less _ h)) ∙ ap (λ o. l ++ by_order o (k ∷ r) r (k ∷ without_child q r)) h
+pub without_before : (q : List ℕ) (l m : List Child) → AllChildren (λ y. label_cmp q y.label ≡ Less) m → without_child q (l ++ m) ≡ without_child q l ++ m
+without_before q [] [] a = refl
+without_before q [] (y ∷ m) a = rw a.0 refl
+without_before q (y ∷ t) m a = without_step (label_cmp q y.label) y t m (without_child q t) _ (without_before q t m a)
 
 -- in order still
 all_put : (P : Child → Type 0) (c : Child) (xs : List Child) → P c → AllChildren P xs → AllChildren P (put_child c xs)
@@ -143,7 +116,3 @@ children_without q (y ∷ t) s = elim (label_cmp q y.label) as (λ o. AreChildre
   | Equal ↦ s.2
   | Greater ↦ (s.0, all_without _ q t s.1, children_without q t s.2)
 ]
-
--- grouped the other way
-pub regroup : (x : List Child) (j : Child) (y : List Child) (k : Child) (z : List Child) → (x ++ j ∷ y) ++ k ∷ z ≡ x ++ j ∷ (y ++ k ∷ z)
-regroup x j y k z = append_assoc x (j ∷ y) (k ∷ z)

@@ -1,8 +1,5 @@
 -- What stands under the child of a label is what that child has.
 use Rattle.std.proofs.Common.{◌≡◌, ℕ, Bool, true, false, cond, inl, inr, List, [], ◌∷◌, ◌++◌, map, Some, None, refl, sym, ap, ◌∙◌, subst}
-use Rattle.std.proofs.Common.{Bor, suc, ◌<◌, length, drop}
-use Rattle.std.specs.Prelude.{get_or}
-use Rattle.std.proofs.Math.Seq.{drop-cons}
 use Rattle.std.specs.Str.{bytes_eq}
 use Rattle.std.specs.Cmp.{tied_itself}
 use Rattle.std.specs.FinMap.{nat_cmp-IsAntisymmetric, slice_cmp-IsAntisymmetric}
@@ -12,7 +9,7 @@ use Rattle.std.specs.declared.cmp.Ordering.TheVariants.{Less, Equal, Greater}
 use Rattle.dns_records.specs.Record.{Record}
 use Rattle.dns_zone.specs.Order.{bytes_same, bytes_itself}
 use Rattle.dns_zone.specs.Sets.{true_or_false}
-use Rattle.dns_zoneindex.specs.Entries.{Entry, Child, here, pushed, flat, step, below, here_of, own_at, labels_in}
+use Rattle.dns_zoneindex.specs.Entries.{Entry, Child, here, pushed, flat, step, below, here_of, own_at}
 use Rattle.dns_zoneindex.specs.Children.{label_cmp, AllChildren, AreChildren}
 use Rattle.dns_zoneindex.specs.Assoc.{child_of}
 use Rattle.dns_zoneindex.proofs.Sides.{label_total, all_map}
@@ -100,9 +97,6 @@ here_of-own rs cs = here_of-here rs (flat cs) ∙ ap (λ z. rs ++ z) (here_of-fl
     nothing (x ∷ xs) = ap (λ z. x ∷ z) (nothing xs)
 
 -- a label that leads to nothing
-pub missed : (path : List (Bor (List ℕ))) (i : ℕ) (d : Bor (List ℕ)) (es all : List Entry) → i < length path → [] ≡ step (get_or path i d).now es → below (labels_in (drop i path)) es ≡ all → [] ≡ all
-missed path i d es all inside none is = sym (below-none (labels_in (drop (suc i) path))) ∙ ap (below (labels_in (drop (suc i) path))) none ∙ sym (ap (λ z. below (labels_in z) es) (drop-cons path i d inside)) ∙ is
-
 -- the child that is found has the label
 pub found-label : (l : List ℕ) (cs : List Child) (d : Child) → child_of l cs ≡ Some d → d.label ≡ l
 found-label l [] d h = absurd cc

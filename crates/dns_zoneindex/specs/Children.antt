@@ -1,5 +1,5 @@
--- What the search tree of the children of a name is seen as.
-use Rattle.std.specs.Prelude.{Bool, true, false, ◌≡◌, ℕ, ◌<◌, ◌^◌, List, [], ◌∷◌, ◌++◌, length, map}
+-- What the children of a name are seen as.
+use Rattle.std.specs.Prelude.{Bool, true, false, ◌≡◌, ℕ, ◌<◌, List, [], ◌∷◌, ◌++◌, length, map}
 use Rattle.std.specs.Ordering.{nat_cmp}
 use Rattle.std.specs.Cmp.Lexicographic.{slice_cmp}
 use Rattle.std.specs.declared.cmp.Ordering.{Ordering}
@@ -8,11 +8,17 @@ use Rattle.dns_records.specs.Record.{Record}
 use Rattle.dns_zoneindex.specs.Entries.{Entry, Child, here, flat}
 use Rattle.dns_zoneindex.specs.Keys.{IsKey}
 use Rattle.dns_zoneindex.specs.declared.node.Children.{Children}
-use Rattle.dns_zoneindex.specs.declared.node.Children.TheVariants.{Empty, Fork}
+use Rattle.dns_zoneindex.specs.declared.node.Children.TheVariants.{Empty, One, Many}
 
 abbrev pub items : Children → List Child
 items Empty = []
-items (Fork k) = k.value
+items (One n) = n.value ∷ []
+items (Many g) = g.value
+
+-- The children of slots, one slot behind the other.
+abbrev pub joined : List (List Child) → List Child
+joined [] = []
+joined (s ∷ slots) = s ++ joined slots
 
 abbrev pub own_of : List Record → Children → List Entry
 own_of records children = map here records ++ flat (items children)
@@ -29,14 +35,28 @@ abbrev pub AreChildren : List Child → Type 0
 AreChildren [] = Unit {0}
 AreChildren (x ∷ xs) = (0 < length x.own) × AllChildren (λ y. label_cmp x.label y.label ≡ Less) xs × AreChildren xs
 
--- A node has a record at or under its name, its children are in order, and so few records that they can be counted.
-abbrev pub IsNode : List Record → Children → Type 0
-IsNode records children =
-    (0 < length (own_of records children)) × AreChildren (items children) × (length (own_of records children) < 2 ^ 64)
+-- A node has a record at or under its name, its children are in order, the number is that of its records, and the key that of its label.
+abbrev pub IsNode : ℕ → ℕ → List ℕ → List Record → Children → Type 0
+IsNode count key label records children =
+    (0 < length (own_of records children)) × AreChildren (items children) × (count ≡ length (own_of records children)) × IsKey key label
 
--- What holds of children, the number of their records, and the key of one of them.
-abbrev pub IsBranch : ℕ → ℕ → List ℕ → List Child → Type 0
-IsBranch count key label children = AreChildren children × (count ≡ length (flat children)) × IsKey key label
+-- No slot is empty.
+abbrev pub AllFull : List (List Child) → Type 0
+AllFull [] = Unit {0}
+AllFull (s ∷ slots) = (0 < length s) × AllFull slots
+
+-- What holds of the slots of a group, and of the number of their records.
+abbrev pub IsGroup : ℕ → List (List Child) → Type 0
+IsGroup count slots = AreChildren (joined slots) × AllFull slots × (1 < length slots) × (count ≡ length (flat (joined slots)))
+
+-- The key is the first child's.
+abbrev pub IsFirstKey : ℕ → List Child → Type 0
+IsFirstKey key [] = ⊥
+IsFirstKey key (c ∷ rest) = IsKey key c.label
+
+-- What holds of the children of a slot, the number of their records, and the key of the first.
+abbrev pub IsSlot : ℕ → ℕ → List Child → Type 0
+IsSlot count key children = (count ≡ length (flat children)) × IsFirstKey key children
 
 abbrev pub node_of : List ℕ → List Record → Children → Child
 node_of label records children = record { label = label; own = own_of records children }

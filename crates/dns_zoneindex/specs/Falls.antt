@@ -1,13 +1,14 @@
 -- The measure falls.
-use Rattle.std.proofs.Common.{◌≡◌, ℕ, suc, ◌+◌, ◌≤◌, List, [], ◌∷◌, ◌++◌, length, map, refl, arith}
+use Rattle.std.proofs.Common.{◌≡◌, ℕ, suc, ◌+◌, ◌<◌, ◌≤◌, List, [], ◌∷◌, ◌++◌, length, map, refl, arith}
 use Rattle.std.specs.Prelude.{max}
 use Rattle.dns_records.specs.Record.{Record}
 use Rattle.dns_zoneindex.specs.Entries.{Entry, Child, here, pushed, flat}
-use Rattle.dns_zoneindex.specs.Size.{weight, size_of, sizes_of}
-use Rattle.dns_zoneindex.specs.Children.{items, own_of, AreChildren}
+use Rattle.dns_zoneindex.specs.Size.{weight, sizes_of, slot_size}
+use Rattle.dns_zoneindex.specs.Children.{items, joined, own_of, AreChildren, IsGroup}
 use Rattle.dns_zoneindex.specs.declared.node.Children.{Children}
-use Rattle.dns_zoneindex.specs.declared.node.Children.TheVariants.{Empty, Fork}
-use Rattle.dns_zoneindex.specs.declared.node.Branch.TheDeep.{deep-Children}
+use Rattle.dns_zoneindex.specs.declared.node.Children.TheVariants.{Empty, One, Many}
+use Rattle.dns_zoneindex.specs.declared.node.Group.TheDeep.{deep-Children}
+use denote.Param.Weighed.{most}
 
 pub weight-append : (a b : List Entry) → weight (a ++ b) ≡ weight a + weight b
 weight-append [] b = omega arith
@@ -30,11 +31,33 @@ pub children_falls : (rs : List Record) (l : Children)
     → AreChildren (items l)
     → max (deep-Children l) 0 ≤ suc (weight (own_of rs l))
 children_falls rs Empty h = omega arith
-children_falls rs (Fork k) h = omega (arith, sizes_flat k.value h, weight-append (map here rs) (flat k.value))
+children_falls rs (One n) h = omega (arith, sizes_flat (n.value ∷ []) h, weight-append (map here rs) (flat (n.value ∷ [])))
+children_falls rs (Many g) h = omega (arith, sizes_flat g.value h, weight-append (map here rs) (flat g.value))
 
-pub branch_falls : (l r : Children) (c : Child)
-    → max (deep-Children l) (max (size_of c + 1) (max (deep-Children r) 0)) ≤ sizes_of (items l ++ c ∷ items r)
-branch_falls Empty Empty c = omega arith
-branch_falls Empty (Fork b) c = omega arith
-branch_falls (Fork a) Empty c = omega (arith, sizes-append a.value (c ∷ []))
-branch_falls (Fork a) (Fork b) c = omega (arith, sizes-append a.value (c ∷ b.value))
+pub slot_falls : (l : Children) → max (deep-Children l) 0 ≤ slot_size (items l)
+slot_falls Empty = omega arith
+slot_falls (One n) = omega arith
+slot_falls (Many g) = omega arith
+
+-- children that are there weigh something
+some_weighs : (s : List Child) → 0 < length s → 2 ≤ sizes_of s
+some_weighs [] p = absurd (omega (arith, p))
+some_weighs (c ∷ s) p = omega arith
+
+-- no slot weighs more than all together, nor as much where another is there
+most_of_all : (slots : List (List Child)) → most (λ s. slot_size s + 1) slots ≤ sizes_of (joined slots) + 2
+most_of_all [] = omega arith
+most_of_all (s ∷ slots) = omega (arith, most_of_all slots, sizes-append s (joined slots))
+
+pub group_falls : (count : ℕ) (slots : List (List Child)) → IsGroup count slots → max (most (λ s. slot_size s + 1) slots) 0 ≤ sizes_of (joined slots)
+group_falls count [] h = absurd (omega (arith, h.2))
+group_falls count (s ∷ []) h = absurd (omega (arith, h.2))
+group_falls count (s ∷ t ∷ slots) h =
+    omega (
+      arith,
+      most_of_all (t ∷ slots),
+      sizes-append s (joined (t ∷ slots)),
+      some_weighs s h.1.0,
+      some_weighs t h.1.1.0,
+      sizes-append t (joined slots),
+    )

@@ -1,9 +1,23 @@
 -- Records lent in one piece.
-use Rattle.std.specs.Prelude.{ℕ, ◌<◌, List, length}
+use Rattle.std.specs.Prelude.{◌≡◌, ℕ, ◌+◌, ◌<◌, ◌≤◌, List, ◌∷◌, ◌++◌, length}
 use Rattle.dns_records.specs.Record.{Record}
 use Rattle.dns_zone.specs.Places.{IsRun}
+use Rattle.dns_zoneindex.specs.Entries.{Child, flat}
+use Rattle.dns_zoneindex.specs.Children.{joined}
 
 -- The run stands from the place on, and has a record where one is left.
 pub record IsLent (records : List Record) (place : ℕ) (lent : List Record) : Type 0 where
   pub run : IsRun records place lent
   pub some : place < length records → 0 < length lent
+
+-- The place among the records of all slots is another among those of one of them.
+pub record IsThere (slots : List (List Child)) (place : ℕ) (slot : List Child) (left : ℕ) : Type 0 where
+  pub front : List (List Child)
+  pub back : List (List Child)
+  pub whole : slots ≡ front ++ slot ∷ back
+  pub before : place ≡ length (flat (joined front)) + left
+  pub within : left < length (flat slot)
+
+-- No slot has the place.
+abbrev pub IsBeyond : List (List Child) → ℕ → Type 0
+IsBeyond slots place = length (flat (joined slots)) ≤ place

@@ -3,6 +3,7 @@ pub mod Children
 pub mod Size
 pub mod Falls
 pub mod Keys
+pub mod Slots
 pub mod Assoc
 pub mod Setting
 pub mod Tree

@@ -1,14 +1,15 @@
-//! The children of one name: a search tree by label. A write makes the parts anew that lead to the child, and shares all others.
-ghost use Rattle.std.specs.Prelude.{◌≡◌, ◌++◌, ◌∷◌, ◌<◌, length, map, IfOk, IfSome};
+//! The children of one name, found by label. A write makes the groups anew that lead to the child, and shares all others.
+ghost use Rattle.std.specs.Prelude.{◌≡◌, ◌++◌, ◌∷◌, [], ◌<◌, length, map, IfOk, IfSome};
 ghost use Rattle.std.specs.Option.{option_copied};
-ghost use Rattle.dns_zoneindex.specs.Children.{items, AreChildren, MatchEmpty};
+ghost use Rattle.std.specs.List.{slice_get};
+ghost use Rattle.dns_zoneindex.specs.Children.{items, joined, AreChildren, AllFull, MatchEmpty};
 ghost use Rattle.dns_zoneindex.specs.Entries.{pushed, flat, own_at};
 ghost use Rattle.dns_zoneindex.specs.Setting.{keep, before, behind};
 ghost use Rattle.dns_zoneindex.specs.Assoc.{child_of, put_child, without_child};
 
-use crate::balance::{balanced, fork, joined};
+use crate::group::{children_in, gathered, one, place_of, replaced, two};
 use crate::key::{key_of, order};
-use crate::node::{Branch, Children, Node};
+use crate::node::{Children, Group, Node, Slot};
 use dns_memory::Heap;
 use std::alloc::AllocError;
 use std::cmp::Ordering;
@@ -21,8 +22,12 @@ impl Children {
     {
         match self {
             Children::Empty => true,
-            Children::Fork(branch) => {
-                let _branch = &branch.height;
+            Children::One(node) => {
+                let _some = node.records();
+                false
+            }
+            Children::Many(group) => {
+                let _some = &group.count;
                 false
             }
         }
@@ -34,15 +39,22 @@ impl Children {
     {
         match self {
             Children::Empty => 0,
-            Children::Fork(branch) => branch.count,
+            Children::One(node) => node.count(),
+            Children::Many(group) => group.count,
         }
     }
 
-    /// How many of them stand one above the other.
-    pub(crate) fn height(&self) -> u8 {
+    /// The first child.
+    pub(crate) fn first(&self) -> Option<&Node>
+        ensures { option_copied result ≡ slice_get (items self.now) 0 }
+    {
         match self {
-            Children::Empty => 0,
-            Children::Fork(branch) => branch.height,
+            Children::Empty => None,
+            Children::One(node) => Some(&**node),
+            Children::Many(group) => {
+                let Group { slots, .. } = &**group;
+                slots.first()?.children.first()
+            }
         }
     }
 
@@ -55,19 +67,15 @@ impl Children {
         'down: loop {
             match here {
                 Children::Empty => return None,
-                Children::Fork(branch) => {
-                    let Branch {
-                        left,
-                        node,
-                        right,
-                        key: own,
-                        ..
-                    } = &**branch;
-                    match order(key, label, *own, node) {
-                        Ordering::Less => here = left,
-                        Ordering::Equal => return Some(&**node),
-                        Ordering::Greater => here = right,
+                Children::One(node) => {
+                    if node.is_called(key, label) {
+                        return Some(&**node);
                     }
+                    return None;
+                }
+                Children::Many(group) => {
+                    let Group { slots, .. } = &**group;
+                    here = &slots[place_of(slots, key, label)].children;
                 }
             }
         }
@@ -79,40 +87,47 @@ impl Children {
     {
         match self {
             Children::Empty => Ok(Children::Empty),
-            Children::Fork(branch) => Ok(Children::Fork(branch.clone()?)),
+            Children::One(node) => Ok(Children::One(node.clone()?)),
+            Children::Many(group) => Ok(Children::Many(group.clone()?)),
         }
     }
 
-    /// The children with one put in. It replaces one of equal label.
-    pub(crate) fn put(&self, alloc: Heap, node: Rc<Node, Heap>) -> Result<Children, AllocError>
+    /// The children with one put in, which replaces one of equal label, in slots: few enough to stand in place of one.
+    fn put(&self, alloc: Heap, node: Rc<Node, Heap>) -> Result<Vec<Slot, Heap>, AllocError>
         requires some { 0 < length node.value.own }
-        ensures put { IfOk result (λ children. items children ≡ put_child node.entry.value (items self.now)) }
-        ensures kept { IfOk result (λ children. AreChildren (items children)) }
+        ensures put { IfOk result (λ slots. joined slots.items ≡ put_child node.entry.value (items self.now)) }
+        ensures full { IfOk result (λ slots. AllFull slots.items) }
     {
         match self {
-            Children::Empty => fork(alloc, Children::Empty, node, Children::Empty),
-            Children::Fork(branch) => {
-                let Branch {
-                    left,
-                    node: middle,
-                    right,
-                    ..
-                } = &**branch;
-                match node.label().cmp(middle.label()) {
-                    Ordering::Less => balanced(
-                        alloc,
-                        left.put(alloc, node)?,
-                        middle.clone()?,
-                        right.share()?,
-                    ),
-                    Ordering::Equal => fork(alloc, left.share()?, node, right.share()?),
-                    Ordering::Greater => balanced(
-                        alloc,
-                        left.share()?,
-                        middle.clone()?,
-                        right.put(alloc, node)?,
-                    ),
+            Children::Empty => one(alloc, Slot::one(node)),
+            Children::One(own) => beside(alloc, own, node),
+            Children::Many(group) => {
+                let Group { slots, .. } = &**group;
+                let place = place_of(slots, node.key(), node.label());
+                let come = slots[place].children.put(alloc, node)?;
+                gathered(alloc, replaced(alloc, slots, place, come)?)
+            }
+        }
+    }
+
+    /// The children but the one of a label, in slots: one, or none.
+    fn without(&self, alloc: Heap, label: &[u8]) -> Result<Vec<Slot, Heap>, AllocError>
+        ensures taken { IfOk result (λ slots. joined slots.items ≡ without_child label.now (items self.now)) }
+        ensures full { IfOk result (λ slots. AllFull slots.items) }
+    {
+        match self {
+            Children::Empty => Ok(Vec::new(alloc)),
+            Children::One(own) => {
+                if own.is_called(key_of(label), label) {
+                    return Ok(Vec::new(alloc));
                 }
+                one(alloc, Slot::one(own.clone()?))
+            }
+            Children::Many(group) => {
+                let Group { slots, .. } = &**group;
+                let place = place_of(slots, key_of(label), label);
+                let rest = slots[place].children.without(alloc, label)?;
+                gathered(alloc, replaced(alloc, slots, place, rest)?)
             }
         }
     }
@@ -132,63 +147,32 @@ impl Children {
         ensures kept { IfOk result (λ children. AreChildren (items children)) }
     {
         match child {
-            Some(child) => self.put(alloc, Node::shared(alloc, child)?),
-            None => self.without(alloc, label),
-        }
-    }
-
-    /// The children but the one of a label.
-    pub(crate) fn without(&self, alloc: Heap, label: &[u8]) -> Result<Children, AllocError>
-        ensures taken { IfOk result (λ children. items children ≡ without_child label.now (items self.now)) }
-        ensures kept { IfOk result (λ children. AreChildren (items children)) }
-    {
-        match self {
-            Children::Empty => Ok(Children::Empty),
-            Children::Fork(branch) => {
-                let Branch {
-                    left,
-                    node: middle,
-                    right,
-                    ..
-                } = &**branch;
-                match label.cmp(middle.label()) {
-                    Ordering::Less => balanced(
-                        alloc,
-                        left.without(alloc, label)?,
-                        middle.clone()?,
-                        right.share()?,
-                    ),
-                    Ordering::Equal => joined(alloc, left, right),
-                    Ordering::Greater => balanced(
-                        alloc,
-                        left.share()?,
-                        middle.clone()?,
-                        right.without(alloc, label)?,
-                    ),
-                }
+            Some(child) => {
+                let put = self.put(alloc, Node::shared(alloc, child)?)?;
+                children_in(alloc, put)
+            }
+            None => {
+                let rest = self.without(alloc, label)?;
+                children_in(alloc, rest)
             }
         }
     }
 }
 
-impl Branch {
-    /// The first child, and those behind it.
-    pub(crate) fn first(&self, alloc: Heap) -> Result<(Rc<Node, Heap>, Children), AllocError>
-        ensures { IfOk result (λ p. self.now ≡ p.0.value ∷ items p.1) }
-    {
-        let Branch {
-            left,
-            node,
-            right,
-            ..
-        } = self;
-        match left {
-            Children::Empty => Ok((node.clone()?, right.share()?)),
-            Children::Fork(branch) => {
-                let (first, rest) = branch.first(alloc)?;
-                let rest = balanced(alloc, rest, node.clone()?, right.share()?)?;
-                Ok((first, rest))
-            }
-        }
+/// A child and another one, which replaces it where their labels are equal.
+fn beside(
+    alloc: Heap,
+    own: &Rc<Node, Heap>,
+    node: Rc<Node, Heap>,
+) -> Result<Vec<Slot, Heap>, AllocError>
+    ensures put { IfOk result (λ slots. joined slots.items ≡ put_child node.entry.value (own.now.value ∷ [])) }
+    ensures full { IfOk result (λ slots. AllFull slots.items) }
+{
+    let order = node.label().cmp(own.label());
+    let slot = Slot::one(node);
+    match order {
+        Ordering::Less => two(alloc, slot, Slot::one(own.clone()?)),
+        Ordering::Equal => one(alloc, slot),
+        Ordering::Greater => two(alloc, Slot::one(own.clone()?), slot),
     }
 }

@@ -5,9 +5,9 @@ ghost use Rattle.std.specs.Option.{option_copied};
 ghost use Rattle.dns_zoneindex.specs.Children.{items, AreChildren};
 ghost use Rattle.dns_zoneindex.specs.Growth.{from_depth, AreOwn, HasLabel, IsFront, IsTakenOff, Rising};
 
-use crate::balance::fork;
 use crate::count::sum;
-use crate::node::{Children, Node};
+use crate::group::in_levels;
+use crate::node::{Children, Node, Slot};
 use crate::path::split;
 use dns_memory::Heap;
 use dns_names::NameRef;
@@ -103,22 +103,17 @@ fn trimmed(records: Vec<Record, Heap>) -> Result<Vec<Record, Heap>, AllocError>
     roomy.split_off(0)
 }
 
-/// Names in order as the children of one, made by halves.
+/// Names in order as the children of one.
 fn children_of(alloc: Heap, nodes: &[Rc<Node, Heap>]) -> Result<Children, AllocError>
     requires { AreChildren (map (λ n. n.value) nodes.now) }
     ensures made { IfOk result (λ children. items children ≡ map (λ n. n.value) nodes.now) }
     ensures kept { IfOk result (λ children. AreChildren (items children)) }
 {
-    let (front, rest) = nodes.split_at(nodes.len() / 2);
-    match rest.split_first() {
-        None => Ok(Children::Empty),
-        Some((middle, back)) => fork(
-            alloc,
-            children_of(alloc, front)?,
-            middle.clone()?,
-            children_of(alloc, back)?,
-        ),
+    let mut slots = Vec::with_capacity(alloc, nodes.len())?;
+    for node in nodes {
+        slots.push(Slot::one(node.clone()?))?;
     }
+    in_levels(alloc, slots)
 }
 
 /// What stands at and under a name, by its label and by the records, whose owners' labels down to the depth lead to it.

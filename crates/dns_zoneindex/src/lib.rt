@@ -1,11 +1,11 @@
 //! Sets of records as trees of names, of which forks share what neither changed.
 #![tactic(auto)]
 
-mod balance;
 mod children;
 mod count;
 mod descent;
 mod edit;
+mod group;
 mod grow;
 mod key;
 mod node;

@@ -4,9 +4,12 @@ ghost use Rattle.std.specs.Prelude.{◌≡◌, ◌<◌, [], length, reverse, IfO
 ghost use Rattle.std.specs.Option.{option_copied};
 ghost use Rattle.dns_zoneindex.specs.Children.{items, own_of, node_of, AreChildren};
 ghost use Rattle.dns_zoneindex.specs.Entries.{below, step, here_of, own_at, labels_in};
+ghost use Rattle.dns_zoneindex.specs.Keys.{IsKey};
 ghost use Rattle.dns_zoneindex.specs.Setting.{set_at};
+ghost use Rattle.std.specs.Str.{bytes_eq};
 
 use crate::count::sum;
+use crate::key::key_of;
 use crate::path::split;
 use dns_memory::Heap;
 use dns_names::NameRef;
@@ -16,27 +19,33 @@ use std::alloc::AllocError;
 use std::marker::Model;
 use std::rc::Rc;
 
-/// The children of a name, by label.
+/// Neighbouring children of a name, in the order of their labels: all that it has, or those of a slot.
 #[cycle(tree)]
 pub(crate) enum Children {
-    /// The name has none.
+    /// None.
     Empty,
-    /// A child, with those before it and those behind it.
-    Fork(Rc<Branch, Heap>),
+    /// One child.
+    One(Rc<Node, Heap>),
+    /// More than one.
+    Many(Rc<Group, Heap>),
 }
 
-/// A child, with those before it and those behind it.
+/// Neighbouring children in slots, of which none is empty. There are two at least.
 #[cycle(tree)]
-pub(crate) struct Branch {
-    pub(crate) left: Children,
-    pub(crate) node: Rc<Node, Heap>,
-    pub(crate) right: Children,
-    /// The first octets of its label, by which it is found.
+pub(crate) struct Group {
+    pub(crate) slots: Vec<Slot, Heap>,
+    /// How many records stand at and under all of them.
+    pub(crate) count: usize,
+}
+
+/// Neighbouring children in a group, at least one.
+#[cycle(tree)]
+pub(crate) struct Slot {
+    /// The first octets of the first one's label, by which the slot is found.
     pub(crate) key: u64,
     /// How many records stand at and under all of them.
     pub(crate) count: usize,
-    /// How many children stand one above the other, which no result rests upon.
-    pub(crate) height: u8,
+    pub(crate) children: Children,
 }
 
 /// What stands at and under a name, without the name above it.
@@ -44,8 +53,12 @@ pub(crate) struct Branch {
 #[derive(Drop)]
 pub(crate) struct Node {
     label: SmallVec<u8, 24, Heap>,
+    /// The first octets of the label, which decide most comparisons.
+    key: u64,
     pub(crate) records: Rc<Vec<Record, Heap>, Heap>,
     pub(crate) children: Children,
+    /// How many records stand at and under the name.
+    count: usize,
 }
 
 impl Model for Node {
@@ -59,7 +72,7 @@ impl Model for Node {
 
     ghost view = { λ n. node_of n.label.items n.records.value.items n.children };
 
-    ghost invariant = { λ n. IsNode n.records.value.items n.children };
+    ghost invariant = { λ n. IsNode n.count n.key n.label.items n.records.value.items n.children };
 
     ghost size = { size_of };
 
@@ -68,24 +81,44 @@ impl Model for Node {
     ghost size_decreases = { λ n h. children_falls n.records.value.items n.children h.1 };
 }
 
-impl Model for Branch {
-    ghost use Rattle.std.specs.Prelude.{List, ◌∷◌, ◌++◌};
+impl Model for Group {
+    ghost use Rattle.std.specs.Prelude.{List};
     ghost use Rattle.dns_zoneindex.specs.Entries.{Child};
 
     ghost Value = { List Child };
 
-    ghost use Rattle.dns_zoneindex.specs.Children.{items, IsBranch};
+    ghost use Rattle.dns_zoneindex.specs.Children.{joined, IsGroup};
     ghost use Rattle.dns_zoneindex.specs.Size.{sizes_of};
 
-    ghost view = { λ b. items b.left ++ b.node.value ∷ items b.right };
+    ghost view = { λ g. joined g.slots.items };
 
-    ghost invariant = { λ b. IsBranch b.count b.key b.node.value.label (items b.left ++ b.node.value ∷ items b.right) };
+    ghost invariant = { λ g. IsGroup g.count g.slots.items };
 
     ghost size = { sizes_of };
 
-    ghost use Rattle.dns_zoneindex.specs.Falls.{branch_falls};
+    ghost use Rattle.dns_zoneindex.specs.Falls.{group_falls};
 
-    ghost size_decreases = { λ b h. branch_falls b.left b.right b.node.value };
+    ghost size_decreases = { λ g h. group_falls g.count g.slots.items h };
+}
+
+impl Model for Slot {
+    ghost use Rattle.std.specs.Prelude.{List};
+    ghost use Rattle.dns_zoneindex.specs.Entries.{Child};
+
+    ghost Value = { List Child };
+
+    ghost use Rattle.dns_zoneindex.specs.Children.{items, IsSlot};
+    ghost use Rattle.dns_zoneindex.specs.Size.{slot_size};
+
+    ghost view = { λ s. items s.children };
+
+    ghost invariant = { λ s. IsSlot s.count s.key (items s.children) };
+
+    ghost size = { slot_size };
+
+    ghost use Rattle.dns_zoneindex.specs.Falls.{slot_falls};
+
+    ghost size_decreases = { λ s h. slot_falls s.children };
 }
 
 // A derived `drop` gets no proof where an `Rc` over a lent allocator leads back to its type.
@@ -94,25 +127,48 @@ impl Drop for Children {
     fn drop(self) {
         match self {
             Children::Empty => {}
-            Children::Fork(branch) => {
-                let _branch = Rc::into_inner(branch);
+            Children::One(node) => {
+                let _node = Rc::into_inner(node);
+            }
+            Children::Many(group) => {
+                let _group = Rc::into_inner(group);
             }
         }
     }
 }
 
-impl Drop for Branch {
+impl Drop for Group {
     #[cycle(gone)]
     fn drop(self) {
-        let Branch {
-            left: _left,
-            node,
-            right: _right,
+        let Group {
+            slots: _slots,
+            count: _,
+        } = self;
+    }
+}
+
+impl Drop for Slot {
+    #[cycle(gone)]
+    fn drop(self) {
+        let Slot {
             key: _,
             count: _,
-            height: _,
+            children: _children,
         } = self;
-        let _node = Rc::into_inner(node);
+    }
+}
+
+impl Slot {
+    /// The children alone.
+    pub(crate) fn into_children(self) -> Children
+        ensures { items result ≡ self }
+    {
+        let Slot {
+            key: _,
+            count: _,
+            children,
+        } = self;
+        children
     }
 }
 
@@ -129,11 +185,13 @@ impl Node {
         ensures made { IfOk result (λ node. node ≡ node_of label.now records.entry.value.items children) }
         ensures some { IfOk result (λ node. 0 < length node.own) }
     {
-        let _count = sum(records.len(), children.count())?;
+        let count = sum(records.len(), children.count())?;
         Ok(Node {
             label: SmallVec::from_slice(alloc, label)?,
+            key: key_of(label),
             records,
             children,
+            count,
         })
     }
 
@@ -157,7 +215,7 @@ impl Node {
         ensures own { result ≡ length self.now.own }
         ensures kept { 0 < result }
     {
-        self.records.len() + self.children.count()
+        self.count
     }
 
     /// The child of a label.
@@ -195,6 +253,7 @@ impl Node {
             label: own,
             records: held,
             children,
+            ..
         } = self;
         match path.split_first() {
             None => Node::kept(alloc, own.as_slice(), records, children.share()?),
@@ -232,7 +291,7 @@ impl Node {
             None => Node::kept(alloc, label, records, Children::Empty),
             Some((next, rest)) => {
                 let children = match Node::chain(alloc, next, rest, records)? {
-                    Some(child) => Children::Empty.put(alloc, Rc::new(alloc, child)?)?,
+                    Some(child) => Children::One(Rc::new(alloc, child)?),
                     None => Children::Empty,
                 };
                 let none = Rc::new(alloc, Vec::new(alloc))?;
@@ -263,5 +322,35 @@ impl Node {
         ensures { result.now ≡ self.now.label }
     {
         self.label.as_slice()
+    }
+
+    /// The first octets of the label.
+    pub(crate) fn key(&self) -> u64
+        ensures { IsKey result self.now.label }
+    {
+        self.key
+    }
+
+    /// Whether a label is that of the node. Of up to eight octets the key tells all but how many they are.
+    #[inline(always)]
+    pub(crate) fn is_called(&self, key: u64, label: &[u8]) -> bool
+        requires { IsKey key label.now }
+        ensures { result ≡ bytes_eq label.now self.now.label }
+    {
+        let Node {
+            label: own,
+            key: own_key,
+            ..
+        } = self;
+        if key != *own_key {
+            return false;
+        }
+        if label.len() != own.len() {
+            return false;
+        }
+        if label.len() <= 8 {
+            return true;
+        }
+        label == own.as_slice()
     }
 }

@@ -1,11 +1,24 @@
 //! Records by their places in order, a run of them in one piece.
+ghost use Rattle.std.specs.Prelude.{◌≡◌, IfSome, IfNone};
 ghost use Rattle.dns_zoneindex.specs.Children.{items};
 ghost use Rattle.dns_zoneindex.specs.Entries.{flat};
-ghost use Rattle.dns_zoneindex.specs.Lent.{IsLent};
+ghost use Rattle.dns_zoneindex.specs.Lent.{IsLent, IsThere, IsBeyond};
 ghost use Rattle.dns_zoneindex.specs.Owned.{records_of};
 
-use crate::node::{Branch, Children, Node};
+use crate::node::{Children, Group, Node, Slot};
 use dns_records::Record;
+
+/// The slot with the place-th of all records, and the record's place among those of the slot.
+fn slot_of(slots: &[Slot], place: usize) -> Option<(&Slot, usize)>
+    ensures found { IfSome result (λ p. IsThere slots.now place p.0.now p.1) }
+    ensures none { IfNone result (IsBeyond slots.now place) }
+{
+    let (slot, rest) = slots.split_first()?;
+    if place < slot.count {
+        return Some((slot, place));
+    }
+    slot_of(rest, place - slot.count)
+}
 
 impl Children {
     /// Records from the place-th on, of all that stand at and under the children.
@@ -15,22 +28,13 @@ impl Children {
     {
         match self {
             Children::Empty => &[],
-            Children::Fork(branch) => {
-                let Branch {
-                    left,
-                    node,
-                    right,
-                    ..
-                } = &**branch;
-                let before = left.count();
-                if place < before {
-                    return left.run_from(place);
+            Children::One(node) => node.run_from(place),
+            Children::Many(group) => {
+                let Group { slots, .. } = &**group;
+                match slot_of(slots, place) {
+                    Some((slot, left)) => slot.children.run_from(left),
+                    None => &[],
                 }
-                let place = place - before;
-                if place < node.count() {
-                    return node.run_from(place);
-                }
-                right.run_from(place - node.count())
             }
         }
     }

@@ -1,4 +1,4 @@
-use Rattle.std.proofs.Common.{◌≡◌, ℕ, true, false, List, length, vec_len, sym, ap, subst, ◌∙◌, arith}
+use Rattle.std.proofs.Common.{◌≡◌, ℕ, true, false, List, length, sym, ap, subst, ◌∙◌, arith}
 use Rattle.std.specs.Prelude.{◌==◌}
 use Rattle.std.proofs.lemmas.Bool.Decides.{nat_tests}
 use Rattle.std.proofs.lemmas.Result.{IfOk-weaker}
@@ -18,10 +18,10 @@ returns-then-is_empty g c = IfOk-weaker c.fit.result _ _ (λ out e q echoes type
     let t = c.args.qtype in
     let fs = resolve zones c.reborrow.result t in
     let same : fs ≡ resolve zones q.name q.qtype = λ i. resolve zones ((c.reborrow.ensures ∙ echoes.name_as) i) (typed i) in
-    let returned = represented_length zones fs c.in_ok-found.found.items c.in_ok-found.ensures.represents in
-    let empty : vec_len c.in_ok-found.found ≡ 0 = grind (arith, nat_tests, c.if-is_empty.ensures) in
-    let items : length fs ≡ 0 = omega (arith, returned, empty, c.in_ok-found.found.ok) in
-    let none : length (resolve zones q.name q.qtype) ≡ 0 = ap length (sym same) ∙ items in
+    let found = c.as_slice-found.result.now in
+    let are = subst (λ (ones : List Represented). RepresentAll zones fs ones) (sym c.as_slice-found.ensures) c.in_ok-searched.ensures.represents in
+    let empty : length found ≡ 0 = grind (arith, nat_tests, c.if-is_empty.ensures) in
+    let none : length (resolve zones q.name q.qtype) ≡ 0 = ap length (sym same) ∙ represented_length zones fs found are ∙ empty in
     e ∙ ap (fitted c.args.transport) (c.reply_with_question-reply.ensures.stated q echoes ∙ refused zones c.args.message.now.octets c.args.message.now.message q none)) c.fit.ensures
 
 pub returns : goal.returns
@@ -29,12 +29,11 @@ returns g c = IfOk-weaker c.reply_to.result _ _ (λ out e q echoes typed.
     let zones = c.args.zones.now in
     let t = c.args.qtype in
     let fs = resolve zones c.reborrow.result t in
-    let returned = c.in_ok-found.ensures.represents in
-    let are = subst (λ (ones : List Represented). RepresentAll zones fs ones) (sym c.as_slice.ensures.value) returned in
-    let stored = subst (λ (n : ℕ). AllLend zones n c.as_slice.result.now) typed (subst (λ (ones : List Represented). AllLend zones t ones) (sym c.as_slice.ensures.value) c.in_ok-found.ensures.lent) in
+    let found = c.as_slice-found.result.now in
+    let are = subst (λ (ones : List Represented). RepresentAll zones fs ones) (sym c.as_slice-found.ensures) c.in_ok-searched.ensures.represents in
+    let stored = subst (λ (n : ℕ). AllLend zones n found) typed (subst (λ (ones : List Represented). AllLend zones t ones) (sym c.as_slice-found.ensures) c.in_ok-searched.ensures.lent) in
     let same : fs ≡ resolve zones q.name q.qtype = λ i. resolve zones ((c.reborrow.ensures ∙ echoes.name_as) i) (typed i) in
-    let lengths = represented_length zones fs c.in_ok-found.found.items returned in
-    let some : length fs ≡ 0 → ⊥ = λ e. (let empty : vec_len c.in_ok-found.found ≡ 0 = omega (arith, lengths, e, c.in_ok-found.found.ok) in let not_empty = c.if-is_empty.ensures in let is : false ≡ true = not_empty ∙ ap (λ (n : ℕ). n == 0) empty in cc) in
+    let some : length fs ≡ 0 → ⊥ = λ e. (let empty : length found ≡ 0 = sym (represented_length zones fs found are) ∙ e in let not_empty = c.if-is_empty.ensures in let is : false ≡ true = not_empty ∙ ap (λ (n : ℕ). n == 0) empty in cc) in
     let octets = c.args.message.now.octets in
     let m = c.args.message.now.message in
     e q fs echoes are stored ∙ ap (λ (found : List lookup.Found). fitted c.args.transport (reply_for octets m q found)) same ∙ ap (fitted c.args.transport) (answered-is zones octets m q (λ e. some (ap length same ∙ e)))) c.reply_to.ensures

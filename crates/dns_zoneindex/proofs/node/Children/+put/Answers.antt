@@ -1,70 +1,36 @@
-use Rattle.std.proofs.Common.{ap, sym, ◌∙◌}
-use Rattle.dns_zoneindex.specs.Children.{items}
-use Rattle.dns_zoneindex.proofs.Opened.{asked_of, put_left_is, put_middle_is, put_right_is, kept_put, if_ok}
+use Rattle.std.proofs.Common.{sym, ap, ◌∙◌, subst}
+use Rattle.dns_zoneindex.specs.Children.{items, AreChildren}
+use Rattle.dns_zoneindex.proofs.Results.{if_ok}
+use Rattle.dns_zoneindex.proofs.Sides.{children_put}
+use Rattle.dns_zoneindex.proofs.Slots.{at_place, put_in, full_in}
 use Rattle.dns_zoneindex.proofs.node.Children.+put.Goals as goal
 
-pub balanced-requires : goal.balanced-requires
-balanced-requires t c =
-    let i = c.deref-in-Fork in
-    let l = items i.inside.left in
-    let k = i.inside.node.value in
-    let r = items i.inside.right in
-    let is = ap items c.in-Fork.is ∙ sym c.deref.ensures ∙ sym i.view_is in
-    let o = asked_of c.args.node.value.label k c.cmp.ensures (c.label.ensures ∙ ap (λ x. x.label) c.deref-in-Fork-2.ensures) c.label-in-Fork.ensures c.deref-in-Fork-3.ensures c.in-Less.is in
-    let e = put_left_is c.args.node.value l k r is o c.in_ok-put-in-Less.ensures.put c.in_ok-clone-in-Less.ensures.cases c.in_ok-share-in-Less.ensures in
-    kept_put c.args.node.value l k r (items c.args.self.now) is i.invariant.0 c.requires.some e
+pub gathered-requires-clause-full : goal.gathered-requires-clause-full
+gathered-requires-clause-full t c =
+    let g = c.deref-in-Many in
+    let slots = g.inside.slots.items in
+    let label = c.label.ensures ∙ ap (λ x. x.label) c.deref-in-Many-4.ensures in
+    let h = at_place c.args.node.value.label c.label.result.now slots c.deref-in-Many-2.result.now c.place_of-place.result c.index.result.now label c.deref-in-Many-2.ensures.value c.place_of-place.ensures c.index.ensures in
+    full_in slots c.deref-in-Many-5.result.now c.in_ok-come-in-Many.come.items c.in_ok-replaced-in-Many.field-0.items c.place_of-place.result c.index.result.now h.1 g.invariant.1 c.in_ok-come-in-Many.ensures.full c.deref-in-Many-5.ensures.value c.in_ok-replaced-in-Many.ensures
 
-pub returns-in_ok-share-in-Less-clause-put : goal.returns-in_ok-share-in-Less-clause-put
-returns-in_ok-share-in-Less-clause-put t c =
-    let i = c.deref-in-Fork in
-    let l = items i.inside.left in
-    let k = i.inside.node.value in
-    let r = items i.inside.right in
-    let is = ap items c.in-Fork.is ∙ sym c.deref.ensures ∙ sym i.view_is in
-    let o = asked_of c.args.node.value.label k c.cmp.ensures (c.label.ensures ∙ ap (λ x. x.label) c.deref-in-Fork-2.ensures) c.label-in-Fork.ensures c.deref-in-Fork-3.ensures c.in-Less.is in
-    let e = put_left_is c.args.node.value l k r is o c.in_ok-put-in-Less.ensures.put c.in_ok-clone-in-Less.ensures.cases c.in_ok-share-in-Less.ensures in
-    if_ok c.balanced.result (λ x m. m ∙ e) c.balanced.ensures.made
+pub gathered-requires-clause-kept : goal.gathered-requires-clause-kept
+gathered-requires-clause-kept t c =
+    let g = c.deref-in-Many in
+    let slots = g.inside.slots.items in
+    let node = c.args.node.value in
+    let label = c.label.ensures ∙ ap (λ x. x.label) c.deref-in-Many-4.ensures in
+    let h = at_place node.label c.label.result.now slots c.deref-in-Many-2.result.now c.place_of-place.result c.index.result.now label c.deref-in-Many-2.ensures.value c.place_of-place.ensures c.index.ensures in
+    let is = g.view_is ∙ c.deref.ensures ∙ sym (ap items c.in-Many.is) in
+    let put = put_in node (items c.args.self.now) slots c.deref-in-Many-5.result.now c.in_ok-come-in-Many.come.items c.in_ok-replaced-in-Many.field-0.items c.place_of-place.result c.index.result.now (items c.behind-slots.inside.children) is h c.behind-slots.view_is c.in_ok-come-in-Many.ensures.put c.deref-in-Many-5.ensures.value c.in_ok-replaced-in-Many.ensures in
+    subst AreChildren (sym put) (children_put node (items c.args.self.now) c.requires.some (subst AreChildren is g.invariant.0))
 
-pub fork-requires-in-Equal : goal.fork-requires-in-Equal
-fork-requires-in-Equal t c =
-    let i = c.deref-in-Fork in
-    let l = items i.inside.left in
-    let k = i.inside.node.value in
-    let r = items i.inside.right in
-    let is = ap items c.in-Fork.is ∙ sym c.deref.ensures ∙ sym i.view_is in
-    let o = asked_of c.args.node.value.label k c.cmp.ensures (c.label.ensures ∙ ap (λ x. x.label) c.deref-in-Fork-2.ensures) c.label-in-Fork.ensures c.deref-in-Fork-3.ensures c.in-Equal.is in
-    let e = put_middle_is c.args.node.value l k r is o i.invariant.0 c.in_ok-share-in-Equal.ensures c.in_ok-share-in-Equal-2.ensures in
-    kept_put c.args.node.value l k r (items c.args.self.now) is i.invariant.0 c.requires.some e
-
-pub returns-in_ok-share-in-Equal-2-clause-put : goal.returns-in_ok-share-in-Equal-2-clause-put
-returns-in_ok-share-in-Equal-2-clause-put t c =
-    let i = c.deref-in-Fork in
-    let l = items i.inside.left in
-    let k = i.inside.node.value in
-    let r = items i.inside.right in
-    let is = ap items c.in-Fork.is ∙ sym c.deref.ensures ∙ sym i.view_is in
-    let o = asked_of c.args.node.value.label k c.cmp.ensures (c.label.ensures ∙ ap (λ x. x.label) c.deref-in-Fork-2.ensures) c.label-in-Fork.ensures c.deref-in-Fork-3.ensures c.in-Equal.is in
-    let e = put_middle_is c.args.node.value l k r is o i.invariant.0 c.in_ok-share-in-Equal.ensures c.in_ok-share-in-Equal-2.ensures in
-    if_ok c.fork-in-Equal.result (λ x m. m ∙ e) c.fork-in-Equal.ensures.made
-
-pub balanced-requires-in-Greater : goal.balanced-requires-in-Greater
-balanced-requires-in-Greater t c =
-    let i = c.deref-in-Fork in
-    let l = items i.inside.left in
-    let k = i.inside.node.value in
-    let r = items i.inside.right in
-    let is = ap items c.in-Fork.is ∙ sym c.deref.ensures ∙ sym i.view_is in
-    let o = asked_of c.args.node.value.label k c.cmp.ensures (c.label.ensures ∙ ap (λ x. x.label) c.deref-in-Fork-2.ensures) c.label-in-Fork.ensures c.deref-in-Fork-3.ensures c.in-Greater.is in
-    let e = put_right_is c.args.node.value l k r is o i.invariant.0 c.in_ok-share-in-Greater.ensures c.in_ok-clone-in-Greater.ensures.cases c.in_ok-put-in-Greater.ensures.put in
-    kept_put c.args.node.value l k r (items c.args.self.now) is i.invariant.0 c.requires.some e
-
-pub returns-in_ok-put-in-Greater-clause-put : goal.returns-in_ok-put-in-Greater-clause-put
-returns-in_ok-put-in-Greater-clause-put t c =
-    let i = c.deref-in-Fork in
-    let l = items i.inside.left in
-    let k = i.inside.node.value in
-    let r = items i.inside.right in
-    let is = ap items c.in-Fork.is ∙ sym c.deref.ensures ∙ sym i.view_is in
-    let o = asked_of c.args.node.value.label k c.cmp.ensures (c.label.ensures ∙ ap (λ x. x.label) c.deref-in-Fork-2.ensures) c.label-in-Fork.ensures c.deref-in-Fork-3.ensures c.in-Greater.is in
-    let e = put_right_is c.args.node.value l k r is o i.invariant.0 c.in_ok-share-in-Greater.ensures c.in_ok-clone-in-Greater.ensures.cases c.in_ok-put-in-Greater.ensures.put in
-    if_ok c.balanced-in-Greater.result (λ x m. m ∙ e) c.balanced-in-Greater.ensures.made
+pub returns-in_ok-replaced-in-Many-clause-put : goal.returns-in_ok-replaced-in-Many-clause-put
+returns-in_ok-replaced-in-Many-clause-put t c =
+    let g = c.deref-in-Many in
+    let slots = g.inside.slots.items in
+    let node = c.args.node.value in
+    let label = c.label.ensures ∙ ap (λ x. x.label) c.deref-in-Many-4.ensures in
+    let h = at_place node.label c.label.result.now slots c.deref-in-Many-2.result.now c.place_of-place.result c.index.result.now label c.deref-in-Many-2.ensures.value c.place_of-place.ensures c.index.ensures in
+    let is = g.view_is ∙ c.deref.ensures ∙ sym (ap items c.in-Many.is) in
+    let put = put_in node (items c.args.self.now) slots c.deref-in-Many-5.result.now c.in_ok-come-in-Many.come.items c.in_ok-replaced-in-Many.field-0.items c.place_of-place.result c.index.result.now (items c.behind-slots.inside.children) is h c.behind-slots.view_is c.in_ok-come-in-Many.ensures.put c.deref-in-Many-5.ensures.value c.in_ok-replaced-in-Many.ensures in
+    if_ok c.gathered.result (λ made e. e ∙ put) c.gathered.ensures.made

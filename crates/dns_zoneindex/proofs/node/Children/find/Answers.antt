@@ -1,31 +1,31 @@
-use Rattle.std.proofs.Common.{ap, refl, sym, ◌∙◌, Some}
+use Rattle.std.proofs.Common.{Some, refl, sym, ap, ◌∙◌}
+use Rattle.std.specs.Str.{bytes_eq}
 use Rattle.dns_zoneindex.specs.Children.{items}
 use Rattle.dns_zoneindex.specs.Assoc.{child_of}
-use Rattle.dns_zoneindex.proofs.Opened.{asked}
-use Rattle.dns_zoneindex.proofs.Sides.{child_left, child_middle, child_right}
+use Rattle.dns_zoneindex.proofs.Slots.{at_place, child_at, child_one, child_other}
 use Rattle.dns_zoneindex.proofs.node.Children.find.Goals as goal
 
-pub down-preserved-in-Less : goal.down-preserved-in-Less
-down-preserved-in-Less c =
-    let i = c.deref-in-Fork in
+pub returns-then-is_called : goal.returns-then-is_called
+returns-then-is_called c =
     let q = c.args.label.now in
-    let is = ap items c.in-Fork.is ∙ sym c.deref.ensures ∙ sym i.view_is in
-    let o = asked q i.inside.node.value c.order.ensures refl c.deref-in-Fork-2.ensures c.in-Less.is in
-    sym (ap (child_of q) is ∙ child_left q (items i.inside.left) i.inside.node.value (items i.inside.right) o) ∙ c.down.invariant
+    let n = c.in-One.node.value in
+    let label = ap (λ x. bytes_eq q x.label) (sym c.deref.ensures) in
+    ap Some c.deref-then-is_called.ensures ∙ sym (child_one q n (label ∙ sym c.is_called.ensures ∙ c.if-is_called.true)) ∙ ap (child_of q) (sym (ap items c.in-One.is)) ∙ c.down.invariant
 
-pub returns-in-Equal : goal.returns-in-Equal
-returns-in-Equal c =
-    let i = c.deref-in-Fork in
+pub returns-in-One : goal.returns-in-One
+returns-in-One c =
     let q = c.args.label.now in
-    let is = ap items c.in-Fork.is ∙ sym c.deref.ensures ∙ sym i.view_is in
-    let o = asked q i.inside.node.value c.order.ensures refl c.deref-in-Fork-2.ensures c.in-Equal.is in
-    ap Some c.deref-in-Equal.ensures ∙ sym (ap (child_of q) is ∙ child_middle q (items i.inside.left) i.inside.node.value (items i.inside.right) o i.invariant.0)
-    ∙ c.down.invariant
+    let n = c.in-One.node.value in
+    let label = ap (λ x. bytes_eq q x.label) (sym c.deref.ensures) in
+    sym (child_other q n (label ∙ sym c.is_called.ensures ∙ c.if-is_called.false)) ∙ ap (child_of q) (sym (ap items c.in-One.is)) ∙ c.down.invariant
 
 pub down-preserved : goal.down-preserved
 down-preserved c =
-    let i = c.deref-in-Fork in
     let q = c.args.label.now in
-    let is = ap items c.in-Fork.is ∙ sym c.deref.ensures ∙ sym i.view_is in
-    let o = asked q i.inside.node.value c.order.ensures refl c.deref-in-Fork-2.ensures c.in-Greater.is in
-    sym (ap (child_of q) is ∙ child_right q (items i.inside.left) i.inside.node.value (items i.inside.right) o i.invariant.0) ∙ c.down.invariant
+    let g = c.deref-in-Many-2 in
+    let slots = g.inside.slots.items in
+    let h = at_place q q slots c.deref-in-Many-3.result.now c.place_of.result c.index.result.now refl c.deref-in-Many-3.ensures.value c.place_of.ensures c.index.ensures in
+    ap (child_of q) c.behind-slots.view_is
+    ∙ sym (child_at q slots c.place_of.result c.index.result.now h.1 h.0)
+    ∙ ap (child_of q) (g.view_is ∙ c.deref-in-Many.ensures ∙ sym (ap items c.in-Many.is))
+    ∙ c.down.invariant

@@ -1,10 +1,11 @@
-use Rattle.std.proofs.Common.{◌<◌, length, ap, sym, ◌∙◌, subst}
+use Rattle.std.proofs.Common.{◌<◌, length, sym, ap, ◌∙◌, subst}
 use Rattle.dns_zoneindex.specs.Entries.{flat}
 use Rattle.dns_zoneindex.specs.Children.{items}
-use Rattle.dns_zoneindex.proofs.Set.{some-flat}
+use Rattle.dns_zoneindex.proofs.Slots.{some_flat}
 use Rattle.dns_zoneindex.proofs.node.Children.is_empty.Goals as goal
 
-pub returns-in-Fork : goal.returns-in-Fork
-returns-in-Fork c =
-    let i = c.behind-branch in
-    subst (λ x. 0 < length (flat x)) (sym (ap items c.in-Fork.is ∙ sym c.deref.ensures ∙ sym i.view_is)) (some-flat (items i.inside.left) i.inside.node.value (items i.inside.right) i.invariant.0)
+pub returns-in-Many : goal.returns-in-Many
+returns-in-Many c =
+    let g = c.behind-group in
+    let is = g.view_is ∙ c.deref-in-Many.ensures ∙ sym (ap items c.in-Many.is) in
+    subst (λ x. 0 < length (flat x)) is (some_flat g.inside.slots.items g.invariant.0 g.invariant.1 g.invariant.2)

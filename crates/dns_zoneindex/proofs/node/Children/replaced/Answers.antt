@@ -1,10 +1,41 @@
-use Rattle.dns_zoneindex.specs.Children.{items}
-use Rattle.dns_zoneindex.proofs.Opened.{if_ok}
+use Rattle.std.proofs.Common.{sym, ◌∙◌, subst}
+use Rattle.dns_zoneindex.specs.Children.{items, AreChildren}
+use Rattle.dns_zoneindex.proofs.Results.{if_ok}
 use Rattle.dns_zoneindex.proofs.Set.{replaced-some, replaced-none}
+use Rattle.dns_zoneindex.proofs.Sides.{children_put, children_without}
 use Rattle.dns_zoneindex.proofs.node.Children.replaced.Goals as goal
 
-pub returns-in_ok-shared-in-Some-clause-set : goal.returns-in_ok-shared-in-Some-clause-set
-returns-in_ok-shared-in-Some-clause-set c = if_ok c.put.result (λ t m. replaced-some c.in_ok-shared-in-Some.field-0.value c.in-Some.child c.args.label.now c.args.child (items c.args.self.now) (items t) c.requires.kept c.in_ok-shared-in-Some.ensures.made c.in-Some.is c.requires.label m) c.put.ensures.put
+pub children_in-requires-clause-kept : goal.children_in-requires-clause-kept
+children_in-requires-clause-kept c =
+    let shared = c.in_ok-shared-in-Some in
+    subst AreChildren (sym c.in_ok-put-in-Some.ensures.put) (children_put shared.field-0.value (items c.args.self.now) shared.ensures.some c.requires.kept)
 
-pub returns-in-None-clause-set : goal.returns-in-None-clause-set
-returns-in-None-clause-set c = if_ok c.without.result (λ t m. replaced-none c.args.label.now c.args.child (items c.args.self.now) (items t) c.requires.kept c.in-None.is m) c.without.ensures.taken
+pub children_in-requires-in-None-clause-kept : goal.children_in-requires-in-None-clause-kept
+children_in-requires-in-None-clause-kept c =
+    subst AreChildren (sym c.in_ok-rest-in-None.ensures.taken) (children_without c.args.label.now (items c.args.self.now) c.requires.kept)
+
+pub returns-in_ok-put-in-Some-clause-set : goal.returns-in_ok-put-in-Some-clause-set
+returns-in_ok-put-in-Some-clause-set c =
+    let shared = c.in_ok-shared-in-Some in
+    if_ok c.children_in.result
+    (λ t m. replaced-some shared.field-0.value c.in-Some.child c.args.label.now c.args.child (items c.args.self.now) (items t) c.requires.kept shared.ensures.made c.in-Some.is c.requires.label (m ∙ c.in_ok-put-in-Some.ensures.put))
+    c.children_in.ensures
+
+pub returns-in_ok-put-in-Some-clause-kept : goal.returns-in_ok-put-in-Some-clause-kept
+returns-in_ok-put-in-Some-clause-kept c =
+    let shared = c.in_ok-shared-in-Some in
+    if_ok c.children_in.result
+    (λ t m. subst AreChildren (sym (m ∙ c.in_ok-put-in-Some.ensures.put)) (children_put shared.field-0.value (items c.args.self.now) shared.ensures.some c.requires.kept))
+    c.children_in.ensures
+
+pub returns-in_ok-rest-in-None-clause-set : goal.returns-in_ok-rest-in-None-clause-set
+returns-in_ok-rest-in-None-clause-set c =
+    if_ok c.children_in-in-None.result
+    (λ t m. replaced-none c.args.label.now c.args.child (items c.args.self.now) (items t) c.requires.kept c.in-None.is (m ∙ c.in_ok-rest-in-None.ensures.taken))
+    c.children_in-in-None.ensures
+
+pub returns-in_ok-rest-in-None-clause-kept : goal.returns-in_ok-rest-in-None-clause-kept
+returns-in_ok-rest-in-None-clause-kept c =
+    if_ok c.children_in-in-None.result
+    (λ t m. subst AreChildren (sym (m ∙ c.in_ok-rest-in-None.ensures.taken)) (children_without c.args.label.now (items c.args.self.now) c.requires.kept))
+    c.children_in-in-None.ensures

@@ -5,7 +5,7 @@ use Rattle.dns_zoneindex.specs.Entries.{here, flat, own_at, labels_in}
 use Rattle.dns_zoneindex.specs.Setting.{set_at}
 use Rattle.dns_zoneindex.specs.Children.{items}
 use Rattle.dns_zoneindex.specs.Assoc.{child_of}
-use Rattle.dns_zoneindex.proofs.Opened.{if_ok}
+use Rattle.dns_zoneindex.proofs.Results.{if_ok}
 use Rattle.dns_zoneindex.proofs.Under.{found-label}
 use Rattle.dns_zoneindex.proofs.Set.{set-here, set-below}
 use Rattle.dns_zoneindex.proofs.node.Node.+with_records.Goals as goal

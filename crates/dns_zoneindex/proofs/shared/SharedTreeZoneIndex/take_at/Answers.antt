@@ -1,6 +1,6 @@
 use Rattle.std.proofs.Common.{ap, ◌∙◌}
 use Rattle.dns_zoneindex.proofs.Led.{owned_at}
-use Rattle.dns_zoneindex.proofs.Opened.{if_ok}
+use Rattle.dns_zoneindex.proofs.Results.{if_ok}
 use Rattle.dns_zoneindex.proofs.Owned.{owned_from}
 use Rattle.dns_zoneindex.proofs.shared.SharedTreeZoneIndex.take_at.Goals as goal
 
