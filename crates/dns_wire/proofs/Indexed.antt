@@ -119,12 +119,9 @@ longer label rest name h = go (names_eq (label ∷ rest) name) refl
     go false e = refl
     go true e = let same : length (label ∷ rest) ≡ length name = ap length (names_same (label ∷ rest) name e) in absurd (omega (arith, same, h))
 
-not_noted : (at : ℕ) (label : List ℕ) (rest name : Labels) → length name ≤ length rest → offset_at (noted at (label ∷ rest)) name ≡ None
-not_noted at label rest name h = go (nat_lt at 16384) refl
+pub noted_other : (at : ℕ) (label : List ℕ) (rest name : Labels) → names_eq (label ∷ rest) name ≡ false → offset_at (noted at (label ∷ rest)) name ≡ None
+noted_other at label rest name other = go (nat_lt at 16384) refl
   where
-    other : names_eq (label ∷ rest) name ≡ false
-    other = longer label rest name h
-
     go : (b : Bool) → nat_lt at 16384 ≡ b → offset_at (noted at (label ∷ rest)) name ≡ None
     go true e = rw (e, other, noted) refl
     go false e = rw (e, noted) refl
@@ -133,6 +130,6 @@ pub still_next : (known places : List Place) (at : ℕ) (label : List ℕ) (rest
 still_next known places at label rest h =
     λ name short.
     (offset_at-append places (noted at (label ∷ rest)) name
-    ∙ ap (option_or (offset_at places name)) (not_noted at label rest name short)
+    ∙ ap (option_or (offset_at places name)) (noted_other at label rest name (longer label rest name short))
     ∙ sym (or_none (offset_at places name))
     ∙ h name (let s : length name ≤ length rest = short in omega (arith, s)))

@@ -18,7 +18,7 @@ use std::marker::Model;
 /// The octets that a message and one record more have room in, whatever the record.
 const ROOM: usize = 65535;
 
-/// So many places are looked through one by one: the apex, under which most names of a transfer are, stands among the first.
+/// So many places are looked through one by one, behind those of the apex, under which most names of a transfer are.
 const FEW_PLACES: usize = 2;
 
 /// What a message says so far, and its octets.
@@ -138,7 +138,7 @@ impl<'a> MessageBuilder<'a> {
     {
         let mut compressor = Compressor {
             octets: Vec::with_capacity(alloc, limit)?,
-            places: Places::new(alloc, FEW_PLACES)?,
+            places: Places::new(alloc, FEW_PLACES),
             limit,
         };
         compressor.put(&header(&reply)?)?;

@@ -1,14 +1,13 @@
 //! The compression of names: where a suffix was written before (RFC 1035 section 4.1.4).
-ghost use Rattle.std.specs.Prelude.{◌≡◌, ◌+◌, ◌<◌, ◌≤◌, [], ◌++◌, length, IfErr, IfSome, OnOk};
+ghost use Rattle.std.specs.Prelude.{◌≡◌, ◌+◌, ◌<◌, ◌≤◌, length, IfErr, OnOk};
 ghost use Rattle.dns_names.specs.Name.{labels_of};
 ghost use Rattle.dns_names.specs.Plain.{IsPlain};
-ghost use Rattle.dns_wire.specs.Compress.{new_places, compressed_name, pointer as stated_pointer};
-ghost use Rattle.dns_wire.specs.Puts.{Wrote, RefusesUpTo, plain_octets, noted};
+ghost use Rattle.dns_wire.specs.Compress.{compressed_name, pointer as stated_pointer};
+ghost use Rattle.dns_wire.specs.Puts.{Wrote, RefusesUpTo, plain_octets};
 
 use crate::WriteError;
 use crate::known::Places;
 use dns_memory::Heap;
-use std::alloc::AllocError;
 
 /// A message while it is written: its octets so far, and the places that pointers can name.
 #[derive(Drop)]
@@ -31,41 +30,6 @@ impl<'a> Compressor<'a> {
             return Err(WriteError::DoesNotFit);
         }
         self.octets.extend_from_slice(octets)?;
-        Ok(())
-    }
-
-    /// Keeps that a suffix begins at an offset, if a pointer can name it.
-    fn note(&mut self, offset: usize, suffix: &'a [u8]) -> Result<(), AllocError>
-        requires { IsPlain suffix.now }
-        ensures { OnOk result (
-            (self.new.octets ≡ self.old.octets)
-            × (self.new.limit ≡ self.old.limit)
-            × (self.new.places ≡ self.old.places ++ noted offset (labels_of suffix.now))) }
-    {
-        if offset < 16384 {
-            self.places.push(offset, suffix)?;
-        }
-        Ok(())
-    }
-
-    /// Keeps the places of a name that stands in full at an offset, where no place was kept before.
-    pub(crate) fn note_name(&mut self, offset: usize, name: &'a [u8]) -> Result<(), AllocError>
-        requires plain { IsPlain name.now }
-        requires low { offset < 65536 }
-        ensures { OnOk result (
-            (self.new.octets ≡ self.old.octets)
-            × (self.new.limit ≡ self.old.limit)
-            × (self.new.places ≡ self.old.places ++ new_places [] offset (labels_of name.now))) }
-    {
-        let mut at = offset;
-        let mut rest = name;
-        'labels: while rest.len() > 1 {
-            self.note(at, rest)?;
-            let size = 1 + rest[0] as usize;
-            let (_, behind) = rest.split_at(size);
-            at += size;
-            rest = behind;
-        }
         Ok(())
     }
 

@@ -2,7 +2,7 @@
 ghost use Rattle.std.specs.Prelude.{◌≡◌, ◌<◌, List, [], ◌∷◌, ◌++◌, length, get_or, IfOk, IfSome, MatchOption, OnErr, OnOk};
 ghost use Rattle.dns_names.specs.Name.{labels_of, names_eq};
 ghost use Rattle.dns_names.specs.Plain.{IsPlain};
-ghost use Rattle.dns_wire.specs.Compress.{Place};
+ghost use Rattle.dns_wire.specs.Compress.{Place, new_places};
 ghost use Rattle.dns_wire.specs.Indexed.{IsIndexed, bucket_of, offset_at};
 ghost use Rattle.dns_wire.specs.Puts.{noted};
 
@@ -50,6 +50,27 @@ fn place_of(places: &[Target<'_>], suffix: &[u8]) -> Option<usize>
         if place.is(suffix) {
             return Some(place.offset);
         }
+    }
+    None
+}
+
+/// Where a suffix of a name stands that is written in full behind the header.
+fn place_within(name: &[u8], suffix: &[u8]) -> Option<usize>
+    requires name { IsPlain name.now }
+    requires suffix { IsPlain suffix.now }
+    ensures place { result ≡ offset_at (new_places [] 12 (labels_of name.now)) (labels_of suffix.now) }
+    ensures low { IfSome result (λ offset. offset < 16384) }
+{
+    let mut at = 12;
+    let mut rest = name;
+    'labels: while rest.len() > suffix.len() {
+        let size = 1 + rest[0] as usize;
+        let (_, behind) = rest.split_at(size);
+        at += size;
+        rest = behind;
+    }
+    if rest.len() > 1 && rest == suffix {
+        return Some(at);
     }
     None
 }
@@ -145,8 +166,8 @@ fn keep_later<'a>(
     buckets[number].push(offset, suffix)
 }
 
-/// The places of a message, in the order of their offsets.
-pub(crate) struct Places<'a> {
+/// The places behind the first name's, in the order of their offsets.
+struct Listed<'a> {
     all: Vec<Target<'a>, Heap>,
     /// How many are looked through one by one.
     looked_through: usize,
@@ -155,9 +176,9 @@ pub(crate) struct Places<'a> {
 }
 
 // Written out, so that a proof lets one go by one call (docs/GATE.md).
-impl<'a> Drop for Places<'a> {
+impl<'a> Drop for Listed<'a> {
     fn drop(self) {
-        let Places {
+        let Listed {
             all,
             looked_through: _,
             later,
@@ -166,7 +187,7 @@ impl<'a> Drop for Places<'a> {
     }
 }
 
-impl<'a> Model for Places<'a> {
+impl<'a> Model for Listed<'a> {
     ghost use Rattle.std.specs.Prelude.{List, drop};
     ghost use Rattle.dns_wire.specs.Compress.{Place};
     ghost use Rattle.dns_wire.specs.Indexed.{IsIndexed};
@@ -178,44 +199,22 @@ impl<'a> Model for Places<'a> {
     ghost invariant = { λ p. IsIndexed (drop p.looked_through p.all.items) p.later.items };
 }
 
-impl<'a> Places<'a> {
+impl<'a> Listed<'a> {
     /// No place. So many will be looked through one by one, and the others by a number of theirs: what is found is the same.
-    pub(crate) fn new(alloc: Heap, looked_through: usize) -> Result<Places<'a>, AllocError>
-        ensures { IfOk result (λ places. places ≡ []) }
+    fn new(alloc: Heap, looked_through: usize) -> Listed<'a>
+        ensures { result ≡ [] }
     {
-        Ok(Places {
-            all: Vec::with_capacity(alloc, looked_through)?,
+        Listed {
+            all: Vec::new(alloc),
             looked_through,
             later: Vec::new(alloc),
-        })
-    }
-
-    /// Keeps that a suffix stands at an offset that a pointer can name.
-    pub(crate) fn push(&mut self, offset: usize, suffix: &'a [u8]) -> Result<(), AllocError>
-        requires plain { IsPlain suffix.now }
-        requires low { offset < 16384 }
-        ensures pushed { OnOk result
-            (self.new ≡ self.old ++ record { offset = offset; suffix = labels_of suffix.now } ∷ []) }
-        ensures refused { OnErr result (self.new ≡ self.old) }
-    {
-        self.all.reserve(1)?;
-        if self.all.len() < self.looked_through {
-            self.all.push_reserved(Target { offset, suffix });
-            return Ok(());
         }
-        let alloc = *self.all.allocator();
-        keep_later(alloc, &mut self.later, bucket_of(suffix), offset, suffix)?;
-        self.all.push_reserved(Target { offset, suffix });
-        Ok(())
     }
 
-    /// The least offset at which a suffix stands. Where it stands nowhere, it is kept that it stands at this one, if a pointer can
-    /// name that.
-    pub(crate) fn find_or_keep(
-        &mut self,
-        offset: usize,
-        suffix: &'a [u8],
-    ) -> Result<Option<usize>, AllocError>
+    /// The least offset at which a suffix stands here. Where it stands nowhere, it is kept that it stands at this one, if a pointer
+    /// can name that.
+    #[inline(never)]
+    fn find_or_keep(&mut self, offset: usize, suffix: &'a [u8]) -> Result<Option<usize>, AllocError>
         requires { IsPlain suffix.now }
         ensures place { IfOk result (λ found. found ≡ offset_at self.old (labels_of suffix.now)) }
         ensures low { IfOk result (λ found. IfSome found (λ place. place < 16384)) }
@@ -244,5 +243,69 @@ impl<'a> Places<'a> {
             self.all.push_reserved(Target { offset, suffix });
         }
         Ok(None)
+    }
+}
+
+/// The places of a message, in the order of their offsets: those of the name behind the header, and the others. Most replies have
+/// none but those of the question's name, and they take no memory.
+#[derive(Drop)]
+pub(crate) struct Places<'a> {
+    /// The name that stands in full behind the header: the root, where there is none.
+    first: &'a [u8],
+    listed: Listed<'a>,
+}
+
+impl<'a> Model for Places<'a> {
+    ghost use Rattle.std.specs.Prelude.{List, [], ◌++◌};
+    ghost use Rattle.dns_names.specs.Name.{labels_of};
+    ghost use Rattle.dns_names.specs.Plain.{IsPlain};
+    ghost use Rattle.dns_wire.specs.Compress.{Place, new_places};
+
+    ghost Value = { List Place };
+
+    ghost view = { λ p. new_places [] 12 (labels_of p.first.now) ++ p.listed };
+
+    ghost invariant = { λ p. IsPlain p.first.now };
+}
+
+impl<'a> Places<'a> {
+    /// No place. So many behind the first name's will be looked through one by one, and the others by a number of theirs: what is
+    /// found is the same.
+    pub(crate) fn new(alloc: Heap, looked_through: usize) -> Places<'a>
+        ensures { result ≡ [] }
+    {
+        Places {
+            first: &[0],
+            listed: Listed::new(alloc, looked_through),
+        }
+    }
+
+    /// Keeps the places of the first name, which stands in full behind the header.
+    pub(crate) fn begin(&mut self, name: &'a [u8])
+        requires plain { IsPlain name.now }
+        requires first { self.old ≡ [] }
+        ensures { self.new ≡ new_places [] 12 (labels_of name.now) }
+    {
+        self.first = name;
+    }
+
+    /// The least offset at which a suffix stands. Where it stands nowhere, it is kept that it stands at this one, if a pointer can
+    /// name that.
+    pub(crate) fn find_or_keep(
+        &mut self,
+        offset: usize,
+        suffix: &'a [u8],
+    ) -> Result<Option<usize>, AllocError>
+        requires { IsPlain suffix.now }
+        ensures place { IfOk result (λ found. found ≡ offset_at self.old (labels_of suffix.now)) }
+        ensures low { IfOk result (λ found. IfSome found (λ place. place < 16384)) }
+        ensures kept { IfOk result (λ found. MatchOption found (self.new ≡ self.old ++ noted offset (labels_of suffix.now))
+            (λ _. self.new ≡ self.old)) }
+        ensures refused { OnErr result (self.new ≡ self.old) }
+    {
+        if let Some(found) = place_within(self.first, suffix) {
+            return Ok(Some(found));
+        }
+        self.listed.find_or_keep(offset, suffix)
     }
 }

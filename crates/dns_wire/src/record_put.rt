@@ -106,6 +106,7 @@ impl<'a> Compressor<'a> {
     }
 
     /// Writes a record (RFC 1035 section 4.1.3).
+    #[inline(never)]
     pub(crate) fn put_record(&mut self, one: &ReplyRecord<'a>) -> Result<(), WriteError>
         requires room { length self.old.octets.items ≤ self.old.limit }
         requires small { self.old.limit < 65536 }
@@ -125,7 +126,8 @@ impl<'a> Compressor<'a> {
         Ok(())
     }
 
-    /// Writes records one behind the other.
+    /// Writes records one behind the other. Most sections have none, which costs no call.
+    #[inline(always)]
     pub(crate) fn put_records(&mut self, records: &[ReplyRecord<'a>]) -> Result<(), WriteError>
         requires room { length self.old.octets.items ≤ self.old.limit }
         requires small { self.old.limit < 65536 }

@@ -15,7 +15,7 @@ use crate::known::Places;
 use crate::{EchoedQuestion, Reply, ReplyRecord, WriteError};
 use dns_memory::Heap;
 
-/// Few replies have more places that pointers can name.
+/// Few replies have more places that pointers can name, behind those of the question.
 const FEW_PLACES: usize = 12;
 
 /// Writes messages.
@@ -83,7 +83,7 @@ impl<'a> Compressor<'a> {
         if let Some(echo) = question {
             let name = echo.name.as_wire();
             self.put(echo.octets)?;
-            self.note_name(12, name)?;
+            self.places.begin(name);
         }
         Ok(())
     }
@@ -100,7 +100,7 @@ impl Writer {
     {
         let mut compressor = Compressor {
             octets: Vec::with_capacity(alloc, 512)?,
-            places: Places::new(alloc, FEW_PLACES)?,
+            places: Places::new(alloc, FEW_PLACES),
             limit,
         };
         compressor.put(&header(reply)?)?;

@@ -31,7 +31,7 @@ pub(crate) enum Reached<'n, 's> {
 fn is_below(name: &NameRef<'_>, other: &NameRef<'_>) -> bool
     ensures { result ≡ (under name.now other.now && not (names_eq name.now other.now)) }
 {
-    name.is_under(other) & !name.is(other)
+    !name.is(other) && name.is_under(other)
 }
 
 /// Whether a name owns NS, by the records that it owns.
