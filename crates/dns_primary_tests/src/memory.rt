@@ -148,9 +148,9 @@ fn counts(heap: Heap) -> Option<[u64; EVENTS]> {
     counts
 }
 
-/// How many there are, 170 in all: none in the two flushes, and none where a connection is closed.
+/// How many there are, 160 in all: none in the two flushes, and none where a connection is closed.
 const ALLOCATIONS: [u64; EVENTS] = [
-    1, 18, 15, 20, 4, 0, 4, 3, 16, 16, 15, 18, 5, 16, 15, 0, 0, 4,
+    1, 18, 15, 20, 3, 0, 2, 3, 13, 16, 15, 18, 3, 16, 15, 0, 0, 2,
 ];
 
 /// Each allocation of the run is refused in turn.
