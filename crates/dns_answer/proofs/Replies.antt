@@ -1,8 +1,6 @@
 -- The reply to a query, put together.
-use Rattle.std.proofs.Common.{◌≡◌, ◌<◌, ◌≤◌, inl, inr, ℕ, Bool, true, false, List, [], ◌∷◌, ◌++◌, length, refl, sym, ap, ◌∙◌, arith}
-use Rattle.std.proofs.lemmas.Bool.Decides.{nat_tests}
-use Rattle.dns_zone.specs.Sets.{true_or_false}
-use Rattle.std.specs.Prelude.{nat_le, Option, Some, None, is_none, if◌then◌else◌}
+use Rattle.std.proofs.Common.{◌≡◌, ℕ, Bool, true, false, List, [], ◌∷◌, ◌++◌, length, refl, sym, ap, ◌∙◌}
+use Rattle.std.specs.Prelude.{Option, Some, None, is_none, if◌then◌else◌}
 use Rattle.dns_names.specs.Name.{Labels}
 use Rattle.dns_zone.specs.Zone.{Zone}
 use Rattle.dns_lookup.specs.Lookup.{Found, chain, next_name, outcome, resolve, zone_of}
@@ -10,7 +8,6 @@ use Rattle.dns_wire.specs.Message.{Message, Question}
 use Rattle.dns_wire.specs.Text.{Reply}
 use Rattle.dns_request.specs.Request.{rcode_refused}
 use Rattle.dns_records.specs.Record.{Record}
-use Rattle.dns_answer.specs.Added.{IsWithoutAdditional, IsWithoutRecords}
 use Rattle.dns_answer.specs.Sections.{additional_of, answer_of, authority_of, is_authoritative, is_name_error, records_of}
 use Rattle.dns_answer.specs.Answer.{with_question, reply_for, answered, rcode_nxdomain}
 
@@ -51,15 +48,5 @@ module _ (octets : List ℕ) (m : Message) (q : Question) (fs : List Found) (b :
   base : b ≡ with_question octets m q (if is_name_error fs then rcode_nxdomain else 0)
   base = bare ∙ ap (with_question octets m q) code
 
-  pub without_records : IsWithoutRecords (record b { aa = aa }) (reply_for octets m q fs)
-  without_records = λ i. record (base i) { aa = authority i }
-
-  pub without_additional : (answers authorities : List Record) → answers ≡ records_of (answer_of q.qtype fs) → authorities ≡ records_of (authority_of fs) → b.additional ≡ [] → IsWithoutAdditional (record b { aa = aa; answer = answers; authority = authorities }) (reply_for octets m q fs)
-  without_additional answers authorities first second none = λ i. record (base i) { aa = authority i; answer = first i; authority = second i }
-
   pub whole : (answers authorities additionals : List Record) → answers ≡ records_of (answer_of q.qtype fs) → authorities ≡ records_of (authority_of fs) → additionals ≡ additional_of (answer_of q.qtype fs ++ authority_of fs) → record b { aa = aa; answer = answers; authority = authorities; additional = additionals } ≡ reply_for octets m q fs
   whole answers authorities additionals first second third = λ i. record (base i) { aa = authority i; answer = first i; authority = second i; additional = third i }
-
--- what is not more
-pub at_most : (most count : ℕ) → (most < count → ⊥) → count ≤ most
-at_most most count h = elim (true_or_false (nat_le count most)) [ inl e ↦ grind (arith, nat_tests, e) | inr e ↦ absurd (let over : most < count = grind (arith, nat_tests, e) in h over) ]

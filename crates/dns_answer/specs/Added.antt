@@ -1,5 +1,5 @@
 -- The sections of a reply in the code.
-use Rattle.std.specs.Prelude.{◌≡◌, ◌⊎◌, ℕ, ◌+◌, ◌<◌, ◌≤◌, List, [], ◌++◌, length}
+use Rattle.std.specs.Prelude.{◌≡◌, ◌⊎◌, ℕ, ◌+◌, ◌<◌, ◌≤◌, List, [], ◌∷◌, ◌++◌, length}
 use Rattle.dns_wire.specs.Text.{Reply}
 use Rattle.dns_records.specs.Record.{Record}
 use Rattle.dns_lookup.specs.Lookup.{Found}
@@ -45,6 +45,12 @@ pub record AreSectionsUpTo (most t : ℕ) (found : List Found) (s : Sections) : 
   pub authority : s.authority.items ≡ records_of (authority_of found)
   pub whole : count_of s ≤ most → AreSections t found s
   pub more : most < count_of s → most < reply_count t found
+
+-- One record is all that the sections of that reply have.
+pub record IsAll (t : ℕ) (found : List Found) (r : Record) : Type 0 where
+  pub answer : records_of (answer_of t found) ≡ r ∷ []
+  pub authority : records_of (authority_of found) ≡ []
+  pub additional : additional_of (answer_of t found ++ authority_of found) ≡ []
 
 -- The reply is another without its additional section, or without any record.
 abbrev pub IsWithoutAdditional : Reply → Reply → Type 0

@@ -18,7 +18,7 @@ use std::alloc::AllocError;
 /// The text of the reply, if it has at most so many octets.
 fn text_within(
     alloc: Heap,
-    reply: &Reply<'_>,
+    reply: &Reply<'_, '_>,
     limit: usize,
 ) -> Result<Option<Vec<u8, Heap>>, AllocError>
     requires { limit < 65536 }
@@ -34,7 +34,7 @@ fn text_within(
 }
 
 /// The text of a reply that fits any transport.
-fn short_text(alloc: Heap, reply: &Reply<'_>) -> Result<Vec<u8, Heap>, AllocError>
+fn short_text(alloc: Heap, reply: &Reply<'_, '_>) -> Result<Vec<u8, Heap>, AllocError>
     requires { length (text (stated reply.now)) < 65536 }
     ensures { IfOk result (λ octets. octets.items ≡ text (stated reply.now)) }
 {
@@ -52,41 +52,44 @@ fn are_servers(records: &[ReplyRecord<'_>]) -> bool
 }
 
 /// Whether the authority section is name servers alone.
-fn is_referral(reply: &Reply<'_>) -> bool
+fn is_referral(reply: &Reply<'_, '_>) -> bool
     ensures { result ≡ is_referral (stated reply.now) }
 {
-    !reply.authority.is_empty() & are_servers(reply.authority.as_slice())
+    !reply.authority.is_empty() & are_servers(reply.authority)
 }
 
 /// The header and the question of a reply, with TC (RFC 1035 section 4.1.1).
-fn truncated(alloc: Heap, reply: &mut Reply<'_>) -> Result<Vec<u8, Heap>, AllocError>
+fn truncated(alloc: Heap, reply: &mut Reply<'_, '_>) -> Result<Vec<u8, Heap>, AllocError>
     requires { length (question_octets (stated reply.old)) < 65524 }
     ensures { IfOk result (λ octets. octets.items ≡ truncated (stated reply.old)) }
 {
     reply.tc = true;
-    reply.answer.clear();
-    reply.authority.clear();
-    reply.additional.clear();
+    reply.answer = &[];
+    reply.authority = &[];
+    reply.additional = &[];
     short_text(alloc, reply)
 }
 
 /// SERVFAIL with the question of a reply.
-fn failed(alloc: Heap, reply: &mut Reply<'_>) -> Result<Vec<u8, Heap>, AllocError>
+fn failed(alloc: Heap, reply: &mut Reply<'_, '_>) -> Result<Vec<u8, Heap>, AllocError>
     requires { length (question_octets (stated reply.old)) < 65524 }
     ensures { IfOk result (λ octets. octets.items ≡ failed (stated reply.old)) }
 {
     reply.aa = false;
     reply.rcode = Rcode::ServFail;
-    reply.answer.clear();
-    reply.authority.clear();
-    reply.additional.clear();
+    reply.answer = &[];
+    reply.authority = &[];
+    reply.additional = &[];
     short_text(alloc, reply)
 }
 
 /// A reply by UDP that doesn't fit whole: without its additional section, which is gone, unless it is a referral; else truncated.
-fn fit_without_additional(alloc: Heap, reply: &mut Reply<'_>) -> Result<Vec<u8, Heap>, AllocError>
+fn fit_without_additional(
+    alloc: Heap,
+    reply: &mut Reply<'_, '_>,
+) -> Result<Vec<u8, Heap>, AllocError>
     requires question { length (question_octets (stated reply.old)) < 65524 }
-    requires gone { reply.old.additional.items ≡ [] }
+    requires gone { reply.old.additional.now ≡ [] }
     ensures { IfOk result (λ octets. octets.items ≡ by_udp_without_additional (stated reply.old)) }
 {
     if is_referral(reply) {
@@ -98,20 +101,27 @@ fn fit_without_additional(alloc: Heap, reply: &mut Reply<'_>) -> Result<Vec<u8, 
     truncated(alloc, reply)
 }
 
+/// Takes the additional section from a reply.
+fn leave_additional_out(reply: &mut Reply<'_, '_>)
+    ensures { stated reply.new ≡ record (stated reply.old) { additional = [] } }
+{
+    reply.additional = &[];
+}
+
 /// A reply by UDP: whole, else without its additional section unless it is a referral, else truncated.
-fn fit_to_udp(alloc: Heap, reply: &mut Reply<'_>) -> Result<Vec<u8, Heap>, AllocError>
+fn fit_to_udp(alloc: Heap, reply: &mut Reply<'_, '_>) -> Result<Vec<u8, Heap>, AllocError>
     requires { length (question_octets (stated reply.old)) < 65524 }
     ensures { IfOk result (λ octets. octets.items ≡ by_udp (stated reply.old)) }
 {
     if let Some(whole) = text_within(alloc, reply, MOST_BY_UDP)? {
         return Ok(whole);
     }
-    reply.additional.clear();
+    leave_additional_out(reply);
     fit_without_additional(alloc, reply)
 }
 
 /// A reply by TCP: whole, else SERVFAIL with the question.
-fn fit_to_tcp(alloc: Heap, reply: &mut Reply<'_>) -> Result<Vec<u8, Heap>, AllocError>
+fn fit_to_tcp(alloc: Heap, reply: &mut Reply<'_, '_>) -> Result<Vec<u8, Heap>, AllocError>
     requires { length (question_octets (stated reply.old)) < 65524 }
     ensures { IfOk result (λ octets. octets.items ≡ by_tcp (stated reply.old)) }
 {
@@ -124,7 +134,7 @@ fn fit_to_tcp(alloc: Heap, reply: &mut Reply<'_>) -> Result<Vec<u8, Heap>, Alloc
 /// The text of a reply that goes out by the transport. What can't go out is taken from the reply.
 pub(crate) fn fit(
     alloc: Heap,
-    reply: &mut Reply<'_>,
+    reply: &mut Reply<'_, '_>,
     transport: Transport,
 ) -> Result<Vec<u8, Heap>, AllocError>
     requires { length (question_octets (stated reply.old)) < 65524 }
@@ -149,11 +159,11 @@ pub(crate) fn most_records(transport: Transport) -> u16
 /// The text of a reply with too many records for the transport, of which the additional ones are left out here.
 pub(crate) fn fit_first_sections(
     alloc: Heap,
-    reply: &mut Reply<'_>,
+    reply: &mut Reply<'_, '_>,
     transport: Transport,
 ) -> Result<Vec<u8, Heap>, AllocError>
     requires question { length (question_octets (stated reply.old)) < 65524 }
-    requires gone { reply.old.additional.items ≡ [] }
+    requires gone { reply.old.additional.now ≡ [] }
     ensures { IfOk result
         (λ octets. (whole : Stated)
         → IsWithoutAdditional (stated reply.old) whole
@@ -170,7 +180,7 @@ pub(crate) fn fit_first_sections(
 /// The text of a reply with too many records for the transport in its first two sections, all of which are left out here.
 pub(crate) fn fit_question(
     alloc: Heap,
-    reply: &mut Reply<'_>,
+    reply: &mut Reply<'_, '_>,
     transport: Transport,
 ) -> Result<Vec<u8, Heap>, AllocError>
     requires { length (question_octets (stated reply.old)) < 65524 }

@@ -1,10 +1,11 @@
 //! The answer section and the authority section of a reply.
-ghost use Rattle.std.specs.Prelude.{◌≡◌, ℕ, ◌<◌, ◌≤◌, ◌++◌, List, length, IfOk, OnOk};
+ghost use Rattle.std.specs.Prelude.{◌≡◌, ℕ, ◌<◌, ◌≤◌, ◌++◌, List, length, IfOk, IfSome, OnOk};
 ghost use Rattle.std.specs.List.{flat_map};
 ghost use Rattle.dns_zone.specs.Zone.{Zone as Lent};
 ghost use Rattle.dns_lookup.specs.Lookup.{Found as Stated};
 ghost use Rattle.dns_lookup.specs.Represented.{Represents, RepresentAll};
 ghost use Rattle.dns_lookup.specs.Lent.{Lends, AllLend};
+ghost use Rattle.dns_answer.specs.Added.{IsAll};
 ghost use Rattle.dns_answer.specs.Sections.{from_zone, as_owner, records_of, answers_of, answer_of, negative_soa, authority_at, authority_of, addresses_for};
 
 use dns_lookup::{Found, Kind};
@@ -52,6 +53,26 @@ pub(crate) fn servers<'a>(last: &Found<'a>) -> &'a [Record]
         Kind::Referral => last.records,
         _ => &[],
     }
+}
+
+/// The record that is all that goes out for what was found: that of one name, with no host whose addresses would go with it.
+pub(crate) fn only_record<'a>(found: &[Found<'a>]) -> Option<ReplyRecord<'a>>
+    ensures { IfSome result
+        (λ r. (zones : List Lent) (t : ℕ) (fs : List Stated)
+        → RepresentAll zones fs found.now
+        → AllLend zones t found.now
+        → IsAll t fs r) }
+{
+    let [one] = found else {
+        return None;
+    };
+    let [record] = answers(one) else {
+        return None;
+    };
+    if record.host().is_some() {
+        return None;
+    }
+    Some(ReplyRecord::new(one.name.reborrow(), record.ttl(), record))
 }
 
 /// How many records the answer section has.

@@ -62,6 +62,7 @@ impl<'a> Outcome<'a> {
 const MOST: usize = 8;
 
 /// What the name finds in the closest zone.
+#[inline(always)]
 fn search<'a, I: ZoneIndex>(
     zones: &'a [Zone<I>],
     name: NameRef<'a>,
@@ -165,6 +166,7 @@ fn follow<'a, I: ZoneIndex>(
 /// 4.3.2). The list ends behind a name that is no alias, before a target that was searched already, before a name under no
 /// apex, and behind eight names; it is empty where the question's name is under no apex. Memory is taken for the list alone, and
 /// only where the question's name is an alias.
+#[inline(always)]
 pub fn resolve<'a, I: ZoneIndex>(
     alloc: Heap,
     zones: &'a [Zone<I>],

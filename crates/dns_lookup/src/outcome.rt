@@ -63,6 +63,7 @@ fn kind_by(owned: &[Record], qtype: u16) -> (Kind, &[Record])
 
 /// What becomes of the name, the cut or the node that answers, and the records that the name finds there; of a name error, the
 /// name itself and none.
+#[inline(always)]
 pub(crate) fn outcome<'a, I: ZoneIndex>(
     zone: &'a Zone<I>,
     name: &NameRef<'a>,

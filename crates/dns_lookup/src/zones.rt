@@ -23,6 +23,7 @@ fn place_of<I: ZoneIndex>(zones: &[Zone<I>], apex: &NameRef<'_>) -> Option<usize
 }
 
 /// The place of the zone whose apex is the closest ancestor of the name (RFC 1034 section 4.3.2, step 2).
+#[inline(always)]
 pub fn closest_zone<I: ZoneIndex>(zones: &[Zone<I>], name: &NameRef<'_>) -> Option<usize>
     ensures found { IfSome result (λ i. slice_get zones.now i ≡ zone_of zones.now name.now) }
     ensures inside { IfSome result (λ i. i < length zones.now) }

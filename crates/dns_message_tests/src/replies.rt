@@ -50,7 +50,7 @@ fn answers<'a>(
 }
 
 /// A response with these answers and no question.
-fn response<'a>(alloc: Heap, answer: Vec<ReplyRecord<'a>, Heap>) -> Reply<'a> {
+fn response<'s, 'a>(answer: &'s [ReplyRecord<'a>]) -> Reply<'s, 'a> {
     Reply {
         id: 7,
         opcode: Opcode::Query,
@@ -60,8 +60,8 @@ fn response<'a>(alloc: Heap, answer: Vec<ReplyRecord<'a>, Heap>) -> Reply<'a> {
         rcode: Rcode::NoError,
         question: None,
         answer,
-        authority: Vec::new(alloc),
-        additional: Vec::new(alloc),
+        authority: &[],
+        additional: &[],
     }
 }
 
@@ -72,7 +72,8 @@ fn text(
     times: u8,
     limit: u16,
 ) -> Result<Vec<u8, Heap>, WriteError> {
-    let reply = response(alloc, answers(alloc, records, times)?);
+    let answers = answers(alloc, records, times)?;
+    let reply = response(&answers);
     Writer::write(alloc, &reply, usize::from(limit))
 }
 

@@ -29,16 +29,15 @@ impl<'a> Model for NameRef<'a> {
     ghost invariant = { λ n. IsPlain n.octets.now };
 }
 
-/// Whether no octet is a capital.
+/// Whether no octet is a capital. It looks at all of them, which costs less than to stop at the first.
 fn is_lower(octets: &[u8]) -> bool
     ensures { IsTrue result ↔ (map to_ascii_lowercase octets.now ≡ octets.now) }
 {
+    let mut is_lower = true;
     for octet in octets {
-        if octet.is_ascii_uppercase() {
-            return false;
-        }
+        is_lower &= !octet.is_ascii_uppercase();
     }
-    true
+    is_lower
 }
 
 impl<'a> NameRef<'a> {

@@ -84,14 +84,15 @@ impl Effects {
             result) }
     {
         match reply {
-            Ok(octets) => {
-                let mut effects = Effects::nothing(alloc);
-                effects.reply = Some(Reply {
+            Ok(octets) => Effects {
+                headers: Vec::new(alloc),
+                reply: Some(Reply {
                     to,
                     octets: ReplyOctets::Longer(octets),
-                });
-                effects
-            }
+                }),
+                accepted: None,
+                noted: Noted::Nothing,
+            },
             Err(_) => Effects::out_of_memory(alloc, to, header),
         }
     }

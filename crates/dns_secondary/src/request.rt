@@ -85,16 +85,15 @@ fn soas_held<I: ZoneIndex>(
 }
 
 /// What the request says, as a reply: its header has the bit QR.
-fn as_reply<'a>(
-    alloc: Heap,
+fn as_reply<'s, 'a>(
     id: u16,
     question: EchoedQuestion<'a>,
-    authority: Vec<ReplyRecord<'a>, Heap>,
-) -> Reply<'a>
+    authority: &'s [ReplyRecord<'a>],
+) -> Reply<'s, 'a>
     ensures { (q : Question)
         → question.entry.octets.now ≡ asked_octets q
         → question.entry.name ≡ q.name
-        → stated result ≡ as_reply q id authority.entry.items }
+        → stated result ≡ as_reply q id authority.now }
 {
     Reply {
         id,
@@ -104,9 +103,9 @@ fn as_reply<'a>(
         rd: false,
         rcode: Rcode::NoError,
         question: Some(question),
-        answer: Vec::new(alloc),
+        answer: &[],
         authority,
-        additional: Vec::new(alloc),
+        additional: &[],
     }
 }
 
@@ -131,7 +130,8 @@ pub(crate) fn request<I: ZoneIndex>(
         octets: octets.as_slice(),
         name: apex.lend(),
     };
-    let reply = as_reply(alloc, id, question, soas_held(alloc, held)?);
+    let soas = soas_held(alloc, held)?;
+    let reply = as_reply(id, question, &soas);
     let mut request = Writer::write(alloc, &reply, most_by(transport))?;
     let _apex = apex.as_wire();
     one_compressed_text();

@@ -213,7 +213,7 @@ impl<I: ZoneIndex> Session<I> {
     }
 
     /// A message of the transfer that has no record yet (RFC 5936 section 2.2.1).
-    fn empty(&self, alloc: Heap) -> Reply<'_>
+    fn empty(&self) -> Reply<'_, '_>
         ensures stated { stated result ≡ message_with self.now.heading self.now.question [] }
         ensures short { length (question_octets (stated result)) ≤ 259 }
     {
@@ -225,9 +225,9 @@ impl<I: ZoneIndex> Session<I> {
             rd: self.rd,
             rcode: Rcode::NoError,
             question: echoed(&self.question),
-            answer: Vec::new(alloc),
-            authority: Vec::new(alloc),
-            additional: Vec::new(alloc),
+            answer: &[],
+            authority: &[],
+            additional: &[],
         }
     }
 
@@ -238,7 +238,7 @@ impl<I: ZoneIndex> Session<I> {
         ensures { IfOk result
             (λ b. b ≡ record { reply = message_with self.now.heading self.now.question []; limit = limit }) }
     {
-        match MessageBuilder::new(alloc, self.empty(alloc), limit) {
+        match MessageBuilder::new(alloc, self.empty(), limit) {
             Ok(message) => Ok(message),
             Err(WriteError::OutOfMemory) => Err(AllocError),
             Err(WriteError::DoesNotFit) => unreachable!(),
@@ -250,7 +250,7 @@ impl<I: ZoneIndex> Session<I> {
         ensures { IfOk result
             (λ octets. octets.items ≡ text (record (message_with self.now.heading self.now.question []) { tc = true })) }
     {
-        let mut reply = self.empty(alloc);
+        let mut reply = self.empty();
         reply.tc = true;
         match Writer::write(alloc, &reply, MOST_BY_UDP) {
             Ok(octets) => Ok(octets),

@@ -369,6 +369,6 @@ fn made_good(heap: Heap) -> Option<Result<u64, u64>> {
 #[test]
 fn memory_that_is_refused(rt: HostRuntime) -> Result<(), Fail> {
     let heap = heap(rt.alloc())?;
-    assert_eq!(rt; made_good(heap), Some(Ok(14)));
+    assert_eq!(rt; made_good(heap), Some(Ok(13)));
     Ok(())
 }

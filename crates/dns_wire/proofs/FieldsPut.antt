@@ -1,11 +1,15 @@
 -- The data of a record, written part by part.
-use Rattle.std.proofs.Common.{◌≡◌, ℕ, ◌+◌, ◌≤◌, List, ◌∷◌, ◌++◌, length, take, drop, refl, sym, ap, subst, ◌∙◌, arith}
-use Rattle.std.proofs.lemmas.List.{length-append, length-take-le, drop_at}
+use Rattle.std.proofs.Common.{Option, Some, None, false, [], ◌≡◌, ℕ, ◌+◌, ◌≤◌, List, ◌∷◌, ◌++◌, length, take, drop, refl, sym, ap, subst, ◌∙◌, arith}
+use Rattle.std.specs.List.{list_any}
+use Rattle.std.proofs.lemmas.List.{take-append-drop, length-append, length-take-le, drop_at}
 use Rattle.dns_names.specs.Name.{Labels, wire, labels_of}
-use Rattle.dns_records.specs.Types.{Field, Value, Values, octet_count, Name}
-use Rattle.dns_records.specs.Record.{AreFields}
-use Rattle.dns_wire.specs.Compress.{Place, Compressing, compressed_name, compressed_fields}
-use Rattle.dns_wire.specs.Puts.{RefusesUpTo}
+use Rattle.dns_records.specs.Types.{Field, Value, Values, octet_count, Name, form}
+use Rattle.dns_records.specs.Record.{Record, AreFields}
+use Rattle.dns_records.specs.Fields.{stated_field, stated_fields, stated_values}
+use Rattle.dns_records.specs.declared.parts.Field.{Field as Part}
+use Rattle.dns_records.specs.declared.parts.Field.TheVariants as part
+use Rattle.dns_wire.specs.Compress.{Place, Compressing, compressed_name, compressed_fields, compressed_rdata}
+use Rattle.dns_wire.specs.Puts.{RefusesUpTo, is_name, plain_octets}
 use Rattle.dns_wire.specs.declared.WriteError.{WriteError}
 use Rattle.dns_wire.proofs.Puts.{Leaves, leaves_next, refuses_part}
 use Rattle.dns_wire.proofs.Fronts.{labels_of_front}
@@ -66,3 +70,28 @@ names_refused limit before whole octets places now fields rdata e same h r =
     let here = compressed_name places (length octets) (labels_of rdata) in
     let tail = compressed_fields here.places (length octets + length here.octets) fields (drop (length (wire (labels_of rdata))) rdata) in
     refuses_part limit before whole octets (here.octets ++ tail.octets) tail.places now here.octets tail.octets e refl same h r
+
+-- data without a name that is compressed
+pub nameless : (places : List Place) (at : ℕ) (parts : List Part) (rdata : List ℕ) → list_any (λ f. is_name (stated_field f)) parts ≡ false → compressed_fields places at (stated_fields parts) rdata ≡ plain_octets places rdata
+nameless places at [] rdata none = refl
+nameless places at (part.Values vs ∷ parts) rdata none =
+    let size = octet_count (stated_values vs.now) in
+    ap (λ (p : Compressing). record { octets = take size rdata ++ p.octets; places = p.places }) (nameless places (at + size) parts (drop size rdata) none)
+    ∙ ap (plain_octets places) (take-append-drop size rdata)
+nameless places at (part.Name ∷ parts) rdata none = absurd cc
+nameless places at (part.UncompressedName ∷ parts) rdata none = refl
+nameless places at (part.Strings ∷ parts) rdata none = refl
+
+abbrev by_form : Option (List Field) → List Place → ℕ → List ℕ → Compressing
+by_form None places at rdata = plain_octets places rdata
+by_form (Some fields) places at rdata = compressed_fields places at fields rdata
+
+rdata_by_form : (f : Option (List Field)) (places : List Place) (at : ℕ) (rdata : List ℕ) → elim f [ None ↦ plain_octets places rdata | Some fields ↦ compressed_fields places at fields rdata ] ≡ by_form f places at rdata
+rdata_by_form None places at rdata = refl
+rdata_by_form (Some fields) places at rdata = refl
+
+pub formless_rdata : (places : List Place) (at : ℕ) (r : Record) → form r.rtype ≡ None → compressed_rdata places at r ≡ plain_octets places r.rdata
+formless_rdata places at r is = rdata_by_form (form r.rtype) places at r.rdata ∙ ap (λ f. by_form f places at r.rdata) is
+
+pub nameless_rdata : (places : List Place) (at : ℕ) (r : Record) (parts : List Part) → form r.rtype ≡ Some (stated_fields parts) → list_any (λ f. is_name (stated_field f)) parts ≡ false → compressed_rdata places at r ≡ plain_octets places r.rdata
+nameless_rdata places at r parts is none = rdata_by_form (form r.rtype) places at r.rdata ∙ ap (λ f. by_form f places at r.rdata) is ∙ nameless places at parts r.rdata none

@@ -171,17 +171,17 @@ whole_text r four octets before h e =
     e ∙ ap (λ (p : Compressing). four ++ p.octets) h.next ∙ ap (λ (xs : List ℕ). xs ++ c) h.octets-are ∙ grouped ∙ sym (text_is r)
 
 -- a section is refused
-pub first_refused : (r : Reply) (octets : List ℕ) (places : List Place) (now limit : ℕ) (records : List Record) (e : WriteError) → Begun r octets places → records ≡ r.answer → now ≡ limit → RefusesUpTo now (length octets + length (compressed_all places (length octets) records).octets) e → RefusesUpTo limit (length (text r)) e
-first_refused r octets places now limit records e h same up f =
-    let size : length (compressed_all places (length octets) records).octets ≡ length (first_all r).octets = ap (λ (p : Compressing). length p.octets) (ap (compressed_all places (length octets)) same ∙ h.next) in
-    subst (λ (k : ℕ). RefusesUpTo k (length (text r)) e) up (refuses_more now (length octets + length (compressed_all places (length octets) records).octets) (length (text r)) e (omega (arith, size, h.size, text_size r)) f)
+pub first_refused : (r : Reply) (octets : List ℕ) (places : List Place) (now limit : ℕ) (e : WriteError) → Begun r octets places → now ≡ limit → RefusesUpTo now (length octets + length (compressed_all places (length octets) r.answer).octets) e → RefusesUpTo limit (length (text r)) e
+first_refused r octets places now limit e h up f =
+    let size : length (compressed_all places (length octets) r.answer).octets ≡ length (first_all r).octets = ap (λ (p : Compressing). length p.octets) h.next in
+    subst (λ (k : ℕ). RefusesUpTo k (length (text r)) e) up (refuses_more now (length octets + length (compressed_all places (length octets) r.answer).octets) (length (text r)) e (omega (arith, size, h.size, text_size r)) f)
 
-pub second_refused : (r : Reply) (octets : List ℕ) (places : List Place) (now limit : ℕ) (records : List Record) (e : WriteError) → Answered r octets places → records ≡ r.authority → now ≡ limit → RefusesUpTo now (length octets + length (compressed_all places (length octets) records).octets) e → RefusesUpTo limit (length (text r)) e
-second_refused r octets places now limit records e h same up f =
-    let size : length (compressed_all places (length octets) records).octets ≡ length (second_all r).octets = ap (λ (p : Compressing). length p.octets) (ap (compressed_all places (length octets)) same ∙ h.next) in
-    subst (λ (k : ℕ). RefusesUpTo k (length (text r)) e) up (refuses_more now (length octets + length (compressed_all places (length octets) records).octets) (length (text r)) e (omega (arith, size, h.size, text_size r)) f)
+pub second_refused : (r : Reply) (octets : List ℕ) (places : List Place) (now limit : ℕ) (e : WriteError) → Answered r octets places → now ≡ limit → RefusesUpTo now (length octets + length (compressed_all places (length octets) r.authority).octets) e → RefusesUpTo limit (length (text r)) e
+second_refused r octets places now limit e h up f =
+    let size : length (compressed_all places (length octets) r.authority).octets ≡ length (second_all r).octets = ap (λ (p : Compressing). length p.octets) h.next in
+    subst (λ (k : ℕ). RefusesUpTo k (length (text r)) e) up (refuses_more now (length octets + length (compressed_all places (length octets) r.authority).octets) (length (text r)) e (omega (arith, size, h.size, text_size r)) f)
 
-pub third_refused : (r : Reply) (octets : List ℕ) (places : List Place) (now limit : ℕ) (records : List Record) (e : WriteError) → Authorised r octets places → records ≡ r.additional → now ≡ limit → RefusesUpTo now (length octets + length (compressed_all places (length octets) records).octets) e → RefusesUpTo limit (length (text r)) e
-third_refused r octets places now limit records e h same up f =
-    let size : length (compressed_all places (length octets) records).octets ≡ length (third_all r).octets = ap (λ (p : Compressing). length p.octets) (ap (compressed_all places (length octets)) same ∙ h.next) in
-    subst (λ (k : ℕ). RefusesUpTo k (length (text r)) e) up (refuses_more now (length octets + length (compressed_all places (length octets) records).octets) (length (text r)) e (omega (arith, size, h.size, text_size r)) f)
+pub third_refused : (r : Reply) (octets : List ℕ) (places : List Place) (now limit : ℕ) (e : WriteError) → Authorised r octets places → now ≡ limit → RefusesUpTo now (length octets + length (compressed_all places (length octets) r.additional).octets) e → RefusesUpTo limit (length (text r)) e
+third_refused r octets places now limit e h up f =
+    let size : length (compressed_all places (length octets) r.additional).octets ≡ length (third_all r).octets = ap (λ (p : Compressing). length p.octets) h.next in
+    subst (λ (k : ℕ). RefusesUpTo k (length (text r)) e) up (refuses_more now (length octets + length (compressed_all places (length octets) r.additional).octets) (length (text r)) e (omega (arith, size, h.size, text_size r)) f)

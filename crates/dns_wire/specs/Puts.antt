@@ -1,7 +1,7 @@
 -- What an attempt to write more octets of a message does.
-use Rattle.std.specs.Prelude.{◌≡◌, ℕ, ◌+◌, ◌<◌, ◌≤◌, List, [], ◌∷◌, ◌++◌, length, nat_lt, if◌then◌else◌, Option, Some, None}
+use Rattle.std.specs.Prelude.{Bool, true, false, ◌≡◌, ℕ, ◌+◌, ◌<◌, ◌≤◌, List, [], ◌∷◌, ◌++◌, length, nat_lt, if◌then◌else◌, Option, Some, None}
 use Rattle.std.specs.Int.{w16, w32, to_be_bytes}
-use Rattle.dns_records.specs.Types.{class_in}
+use Rattle.dns_records.specs.Types.{Field, Values, Name, UncompressedName, Strings, class_in}
 use Rattle.dns_names.specs.Name.{Labels, IsName, wire}
 use Rattle.dns_records.specs.Record.{Record}
 use Rattle.dns_wire.specs.Compress.{Place, Compressing, new_places, compressed_record}
@@ -39,6 +39,13 @@ pub record BeginsWithName (octets : List ℕ) : Type 0 where
   pub rest : List ℕ
   pub valid : IsName name
   pub is : octets ≡ wire name ++ rest
+
+-- A part that a message may compress.
+abbrev pub is_name : Field → Bool
+is_name (Values vs) = false
+is_name Name = true
+is_name UncompressedName = false
+is_name Strings = false
 
 -- What stands between the owner and the data of a record, with no length of the data yet.
 abbrev pub fixed_octets : ℕ → ℕ → List ℕ

@@ -1,6 +1,7 @@
 //! A message whose answer is filled record by record, as far as it goes: a transfer's (RFC 5936 section 2.2).
 ghost use Rattle.std.specs.Prelude.{◌≡◌, ◌≤◌, ◌++◌, length, drop, IfOk, IfErr, OnOk};
 ghost use Rattle.dns_wire.specs.Building.{HasNoRecord, IsBuilt, StandsBuilt};
+ghost use Rattle.dns_wire.specs.Contents.{said};
 ghost use Rattle.dns_wire.specs.Compress.{compressed_record};
 ghost use Rattle.dns_wire.specs.Pushed.{IsPushed};
 ghost use Rattle.dns_wire.specs.Puts.{RefusesUpTo, Wrote};
@@ -24,7 +25,9 @@ const FEW_PLACES: usize = 2;
 /// What a message says so far, and its octets.
 #[derive(Drop)]
 struct Contents<'a> {
-    reply: Reply<'a>,
+    /// What it says but for its records.
+    head: Reply<'a, 'a>,
+    answer: Vec<ReplyRecord<'a>, Heap>,
     compressor: Compressor<'a>,
     limit: usize,
 }
@@ -38,15 +41,15 @@ pub struct MessageBuilder<'a> {
 
 impl<'a> Model for MessageBuilder<'a> {
     ghost use Rattle.std.specs.Prelude.{◌≡◌};
-    ghost use Rattle.dns_wire.specs.Reply.{stated};
     ghost use Rattle.dns_wire.specs.Building.{Building, StandsBuilt};
+    ghost use Rattle.dns_wire.specs.Contents.{said};
 
     ghost Value = { Building };
 
-    ghost view = { λ b. record { reply = stated b.contents.value.reply; limit = b.contents.value.limit } };
+    ghost view = { λ b. record { reply = said b.contents.value; limit = b.contents.value.limit } };
 
     ghost invariant = { λ b.
-        StandsBuilt (record { reply = stated b.contents.value.reply; limit = b.contents.value.limit })
+        StandsBuilt (record { reply = said b.contents.value; limit = b.contents.value.limit })
         b.contents.value.compressor.octets.items b.contents.value.compressor.places
         × (b.contents.value.compressor.limit ≡ 65535) };
 }
@@ -86,7 +89,7 @@ fn put_header(octets: &mut Vec<u8, Heap>, header: &[u8; 12])
 }
 
 /// The octets of a message with its header, in place of the twelve that stand there.
-fn finished(reply: &Reply<'_>, mut octets: Vec<u8, Heap>) -> Vec<u8, Heap>
+fn finished(reply: &Reply<'_, '_>, mut octets: Vec<u8, Heap>) -> Vec<u8, Heap>
     requires { IsBuilt (stated reply.now) octets.items }
     ensures { result.items ≡ text (stated reply.now) }
 {
@@ -99,25 +102,30 @@ fn finished(reply: &Reply<'_>, mut octets: Vec<u8, Heap>) -> Vec<u8, Heap>
 
 /// The octets of a message with its header.
 fn octets_of(contents: Contents<'_>) -> Vec<u8, Heap>
-    requires { IsBuilt (stated contents.reply) contents.compressor.octets.items }
-    ensures { result.items ≡ text (stated contents.entry.reply) }
+    requires { IsBuilt (said contents) contents.compressor.octets.items }
+    ensures { result.items ≡ text (said contents.entry) }
 {
     let Contents {
-        reply,
+        head,
+        answer,
         compressor,
         limit: _,
     } = contents;
+    let reply = Reply {
+        answer: &answer,
+        ..head
+    };
     finished(&reply, compressor.octets)
 }
 
 impl<'a> MessageBuilder<'a> {
     /// The message of these contents.
     fn of(alloc: Heap, contents: Contents<'a>) -> Result<MessageBuilder<'a>, AllocError>
-        requires stands { StandsBuilt (record { reply = stated contents.reply; limit = contents.limit })
+        requires stands { StandsBuilt (record { reply = said contents; limit = contents.limit })
             contents.compressor.octets.items contents.compressor.places }
         requires room { contents.compressor.limit ≡ 65535 }
         ensures { IfOk result
-            (λ b. b ≡ record { reply = stated contents.entry.reply; limit = contents.entry.limit }) }
+            (λ b. b ≡ record { reply = said contents.entry; limit = contents.entry.limit }) }
     {
         Ok(MessageBuilder {
             contents: Box::new(alloc, contents)?,
@@ -128,7 +136,7 @@ impl<'a> MessageBuilder<'a> {
     /// longer already, and with `OutOfMemory` where memory is wanting.
     pub fn new(
         alloc: Heap,
-        reply: Reply<'a>,
+        reply: Reply<'a, 'a>,
         limit: usize,
     ) -> Result<MessageBuilder<'a>, WriteError>
         requires empty { HasNoRecord (stated reply) }
@@ -145,7 +153,8 @@ impl<'a> MessageBuilder<'a> {
         compressor.put_question(&reply.question)?;
         compressor.limit = ROOM;
         let contents = Contents {
-            reply,
+            head: reply,
+            answer: Vec::new(alloc),
             compressor,
             limit,
         };
@@ -164,7 +173,7 @@ impl<'a> MessageBuilder<'a> {
             so_far.compressor.octets.truncate(end);
             return Ok(Pushed::Full(octets_of(Box::into_inner(contents))));
         }
-        so_far.reply.answer.push(one)?;
+        so_far.answer.push(one)?;
         Ok(Pushed::Open(MessageBuilder { contents }))
     }
 

@@ -34,6 +34,7 @@ impl<'a> Compressor<'a> {
     }
 
     /// Writes a name: the fewest labels, and a pointer to the rest where some rest stands earlier (RFC 1035 section 4.1.4).
+    #[inline(always)]
     pub(crate) fn put_name(&mut self, name: &'a [u8]) -> Result<(), WriteError>
         requires plain { IsPlain name.now }
         requires room { length self.old.octets.items ≤ self.old.limit }

@@ -4,9 +4,10 @@ ghost use Rattle.std.specs.Int.{w16, to_be_bytes as be_octets};
 ghost use Rattle.dns_names.specs.Name.{labels_of, wire};
 ghost use Rattle.dns_names.specs.Plain.{IsPlain};
 ghost use Rattle.dns_records.specs.Record.{AreFields};
-ghost use Rattle.dns_records.specs.Fields.{stated_fields};
+ghost use Rattle.std.specs.List.{list_any};
+ghost use Rattle.dns_records.specs.Fields.{stated_field, stated_fields};
 ghost use Rattle.dns_wire.specs.Compress.{compressed_fields, compressed_rdata, compressed_record};
-ghost use Rattle.dns_wire.specs.Puts.{Wrote, RefusesUpTo, BeginsWithName, fixed_octets, compressed_all};
+ghost use Rattle.dns_wire.specs.Puts.{Wrote, RefusesUpTo, BeginsWithName, fixed_octets, compressed_all, is_name};
 
 use crate::compressor::Compressor;
 use crate::{ReplyRecord, WriteError};
@@ -33,6 +34,13 @@ fn fixed(rtype: u16, ttl: u32) -> [u8; 10]
     let t = rtype.to_be_bytes();
     let l = ttl.to_be_bytes();
     [t[0], t[1], 0, 1, l[0], l[1], l[2], l[3], 0, 0]
+}
+
+/// Whether one of the parts is a name that a message may compress (RFC 1035 section 4.1.4).
+fn have_name(fields: &[Field]) -> bool
+    ensures { result ≡ list_any (λ f. is_name (stated_field f)) fields.now }
+{
+    fields.iter().any(|field| matches!(field, Field::Name))
 }
 
 impl<'a> Compressor<'a> {
@@ -87,7 +95,7 @@ impl<'a> Compressor<'a> {
         self.octets.as_mut_slice()[start - 2..start].copy_from_slice(&size.to_be_bytes());
     }
 
-    /// Writes the data of a record, by the form of its type.
+    /// Writes the data of a record, by the form of its type: in one piece, where there is no name to compress.
     fn put_rdata(&mut self, one: &ReplyRecord<'a>) -> Result<(), WriteError>
         requires room { length self.old.octets.items ≤ self.old.limit }
         ensures written { OnOk result
@@ -100,8 +108,8 @@ impl<'a> Compressor<'a> {
     {
         let rdata = one.rdata();
         match form(one.rtype()) {
-            Some(fields) => self.put_fields(fields, rdata),
-            None => self.put(rdata),
+            Some(fields) if have_name(fields) => self.put_fields(fields, rdata),
+            _ => self.put(rdata),
         }
     }
 

@@ -3,7 +3,6 @@ ghost use Rattle.std.specs.Prelude.{◌≡◌};
 ghost use Rattle.dns_records.specs.Record.{IsRecord};
 
 use crate::{Opcode, Rcode};
-use dns_memory::Heap;
 use dns_names::NameRef;
 use dns_records::Record;
 use std::marker::Model;
@@ -80,8 +79,9 @@ pub struct EchoedQuestion<'a> {
     pub name: NameRef<'a>,
 }
 
-/// What is to be written: a response, without recursion (RFC 1035 section 4.1).
-pub struct Reply<'a> {
+/// What is to be written: a response, without recursion (RFC 1035 section 4.1). Its sections are lent.
+#[derive(Drop)]
+pub struct Reply<'s, 'a> {
     /// The number of the request.
     pub id: u16,
     /// The kind of the request.
@@ -95,26 +95,7 @@ pub struct Reply<'a> {
     /// The response code.
     pub rcode: Rcode,
     pub question: Option<EchoedQuestion<'a>>,
-    pub answer: Vec<ReplyRecord<'a>, Heap>,
-    pub authority: Vec<ReplyRecord<'a>, Heap>,
-    pub additional: Vec<ReplyRecord<'a>, Heap>,
-}
-
-// Written out, so that a proof lets one go by one call (docs/GATE.md).
-impl<'a> Drop for Reply<'a> {
-    fn drop(self) {
-        let Reply {
-            id: _,
-            opcode: _,
-            aa: _,
-            tc: _,
-            rd: _,
-            rcode: _,
-            question: _,
-            answer,
-            authority,
-            additional,
-        } = self;
-        drop((answer, authority, additional));
-    }
+    pub answer: &'s [ReplyRecord<'a>],
+    pub authority: &'s [ReplyRecord<'a>],
+    pub additional: &'s [ReplyRecord<'a>],
 }

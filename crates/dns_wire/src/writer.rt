@@ -33,17 +33,17 @@ fn count(records: &[ReplyRecord<'_>]) -> Result<[u8; 2], WriteError>
 }
 
 /// The header of a reply (RFC 1035 section 4.1.1).
-pub(crate) fn header(reply: &Reply<'_>) -> Result<[u8; 12], WriteError>
+pub(crate) fn header(reply: &Reply<'_, '_>) -> Result<[u8; 12], WriteError>
     ensures found { IfOk result (λ octets. octets ≡ header_octets (stated reply.now)) }
     ensures refused { IfErr result
         (λ e. (e ≡ WriteError.DoesNotFit)
-        × (65535 < length reply.now.answer.items + length reply.now.authority.items + length reply.now.additional.items)) }
+        × (65535 < length reply.now.answer.now + length reply.now.authority.now + length reply.now.additional.now)) }
 {
     let id = reply.id.to_be_bytes();
     let questions = if reply.question.is_some() { 1 } else { 0 };
-    let answers = count(reply.answer.as_slice())?;
-    let authorities = count(reply.authority.as_slice())?;
-    let additionals = count(reply.additional.as_slice())?;
+    let answers = count(reply.answer)?;
+    let authorities = count(reply.authority)?;
+    let additionals = count(reply.additional)?;
     let flags = 128
         + 8 * reply.opcode.number()
         + 4 * reply.aa as u8
@@ -87,13 +87,35 @@ impl<'a> Compressor<'a> {
         }
         Ok(())
     }
+
+    /// Writes a reply: its header, its question and its records.
+    #[inline(always)]
+    fn put_reply(&mut self, reply: &Reply<'_, 'a>) -> Result<(), WriteError>
+        requires empty { self.old.octets.items ≡ [] }
+        requires first { self.old.places ≡ [] }
+        requires small { self.old.limit < 65536 }
+        ensures written { OnOk result
+            ((self.new.octets.items ≡ text (stated reply.now)) × (length self.new.octets.items ≤ self.old.limit)) }
+        ensures refused { IfErr result (RefusesUpTo self.old.limit (length (text (stated reply.now)))) }
+    {
+        self.put(&header(reply)?)?;
+        self.put_question(&reply.question)?;
+        self.put_records(reply.answer)?;
+        self.put_records(reply.authority)?;
+        self.put_records(reply.additional)?;
+        Ok(())
+    }
 }
 
 impl Writer {
     /// The one compressed text of a reply (RFC 1035 section 4.1), if it has at most so many octets: a datagram takes 512,
     /// and the length before a message on a stream tells at most 65,535 (RFC 1035 section 4.2). It refuses with `DoesNotFit`
     /// where the text is longer, and with `OutOfMemory` where memory is wanting.
-    pub fn write(alloc: Heap, reply: &Reply<'_>, limit: usize) -> Result<Vec<u8, Heap>, WriteError>
+    pub fn write(
+        alloc: Heap,
+        reply: &Reply<'_, '_>,
+        limit: usize,
+    ) -> Result<Vec<u8, Heap>, WriteError>
         requires { limit < 65536 }
         ensures found { IfOk result (λ octets. (octets.items ≡ text (stated reply.now)) × (length octets.items ≤ limit)) }
         ensures refused { IfErr result (RefusesUpTo limit (length (text (stated reply.now)))) }
@@ -103,17 +125,8 @@ impl Writer {
             places: Places::new(alloc, FEW_PLACES),
             limit,
         };
-        compressor.put(&header(reply)?)?;
-        compressor.put_question(&reply.question)?;
-        compressor.put_records(reply.answer.as_slice())?;
-        compressor.put_records(reply.authority.as_slice())?;
-        compressor.put_records(reply.additional.as_slice())?;
-        let Compressor {
-            octets,
-            places: _,
-            limit: _,
-        } = compressor;
-        Ok(octets)
+        compressor.put_reply(reply)?;
+        Ok(compressor.octets)
     }
 }
 

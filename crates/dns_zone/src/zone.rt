@@ -97,6 +97,7 @@ impl<I: ZoneIndex> Zone<I> {
 
     /// All that a lookup asks of a name: the cut above it, the name itself, or the wildcard for it (RFC 1034 section 4.3.2, step
     /// 3; RFC 4592 section 3.3).
+    #[inline(always)]
     pub fn find_node<'n>(&self, name: &NameRef<'n>) -> Match<'n, '_>
         ensures { IsMatch self.now name.now result }
     {

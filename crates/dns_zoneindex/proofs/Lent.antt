@@ -9,8 +9,7 @@ use Rattle.dns_zone.specs.Records.{next_after}
 use Rattle.dns_zone.proofs.Searching.{told_nat}
 use Rattle.dns_zoneindex.specs.Entries.{Entry, Child, here, pushed, flat}
 use Rattle.dns_zoneindex.specs.Children.{joined}
-use Rattle.dns_zoneindex.specs.Lent.{IsLent, IsThere, IsBeyond}
-use Rattle.dns_zoneindex.proofs.Counts.{length-flat-append}
+use Rattle.dns_zoneindex.specs.Lent.{IsLent, IsThere}
 use Rattle.dns_zoneindex.proofs.Slots.{joined-append}
 use Rattle.dns_zoneindex.specs.Owned.{records_of}
 
@@ -86,33 +85,7 @@ lent_first xs place [] h = elim (told_nat place (length xs)) [
 ]
 lent_first xs place (r ∷ rest) h = sym (front_of xs place ∙ ap (λ z. slice_get z 0) h.run.1)
 
--- no record where none is left
 -- a run within a slot
-pub there_first : (slots : List (List Child)) (slot : List Child) (rest : List (List Child)) (place : ℕ) → slots ≡ slot ∷ rest
-    → place < length (flat slot)
-    → IsThere slots place slot place
-there_first slots slot rest place is inside = record { front = []; back = rest; whole = is; before = omega arith; within = inside }
-
-pub there_later : (slots : List (List Child)) (first : List Child) (rest : List (List Child)) (place : ℕ) (slot : List Child) (left : ℕ)
-    → slots ≡ first ∷ rest
-    → length (flat first) ≤ place
-    → IsThere rest (place - length (flat first)) slot left
-    → IsThere slots place slot left
-there_later slots first rest place slot left is past h = record {
-  front = first ∷ h.front;
-  back = h.back;
-  whole = is ∙ ap (λ z. first ∷ z) h.whole;
-  before = omega (arith, past, h.before, length-flat-append first (joined h.front));
-  within = h.within;
-}
-
-pub beyond_later : (slots : List (List Child)) (first : List Child) (rest : List (List Child)) (place : ℕ) → slots ≡ first ∷ rest
-    → length (flat first) ≤ place
-    → IsBeyond rest (place - length (flat first))
-    → IsBeyond slots place
-beyond_later slots first rest place is past h =
-    omega (arith, past, h, length-flat-append first (joined rest), ap (λ x. length (flat (joined x))) is)
-
 pub lent_there : (slots : List (List Child)) (place : ℕ) (slot : List Child) (left : ℕ) (run : List Record) → IsThere slots place slot left
     → IsLent (records_of (flat slot)) left run
     → IsLent (records_of (flat (joined slots))) place run

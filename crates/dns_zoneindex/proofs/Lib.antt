@@ -7,6 +7,7 @@ pub mod Keeping
 pub mod Keys
 pub mod Led
 pub mod Lent
+pub mod Longer
 pub mod Owned
 pub mod Paths
 pub mod Reaching

@@ -8,7 +8,7 @@ ghost use Rattle.dns_zoneindex.specs.Setting.{keep, before, behind};
 ghost use Rattle.dns_zoneindex.specs.Assoc.{child_of, put_child, without_child};
 
 use crate::group::{children_in, gathered, one, place_of, replaced, two};
-use crate::key::{key_of, order};
+use crate::key::key_of;
 use crate::node::{Children, Group, Node, Slot};
 use dns_memory::Heap;
 use std::alloc::AllocError;

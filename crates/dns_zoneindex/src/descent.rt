@@ -1,7 +1,7 @@
 //! What a zone has for a name, by one walk along the name's labels from the root down (RFC 1034 section 4.3.2, step 3; RFC 4592
 //! section 3.3). It begins at `find_node`.
-ghost use Rattle.std.specs.Prelude.{◌≡◌, true, not, ◌&&◌, List, ◌∷◌};
-ghost use Rattle.dns_names.specs.Name.{Labels, under, names_eq};
+ghost use Rattle.std.specs.Prelude.{◌≡◌, true, List, ◌∷◌};
+ghost use Rattle.dns_names.specs.Name.{Labels};
 ghost use Rattle.dns_records.specs.Record.{Record as Stated};
 ghost use Rattle.dns_records.specs.Types.{type_ns};
 ghost use Rattle.dns_zone.specs.Node.{cuts_at, IsMatch};
@@ -27,13 +27,6 @@ pub(crate) enum Reached<'n, 's> {
     Above(NameRef<'n>, &'s Node),
 }
 
-/// Whether the name stands under the other and is not the other.
-fn is_below(name: &NameRef<'_>, other: &NameRef<'_>) -> bool
-    ensures { result ≡ (under name.now other.now && not (names_eq name.now other.now)) }
-{
-    !name.is(other) && name.is_under(other)
-}
-
 /// Whether a name owns NS, by the records that it owns.
 fn has_servers(owned: &[Record]) -> bool
     ensures { (set : List Stated) (name : Labels)
@@ -51,7 +44,10 @@ fn is_cut(apex: &NameRef<'_>, name: &NameRef<'_>, owned: &[Record]) -> bool
         → owned.now ≡ records_at set name.now
         → result ≡ cuts_at (record { apex = apex.now; records = set }) name.now }
 {
-    has_servers(owned) && is_below(name, apex)
+    if name.as_wire().len() <= apex.as_wire().len() {
+        return false;
+    }
+    has_servers(owned) && name.is_under(apex)
 }
 
 /// One label further from a name that exists.

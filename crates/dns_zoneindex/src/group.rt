@@ -80,7 +80,7 @@ impl Slot {
             return key < *own;
         }
         match children.first() {
-            Some(node) => order(key, label, *own, node).is_lt(),
+            Some(node) => order(label, node).is_lt(),
             None => false,
         }
     }

@@ -1,5 +1,5 @@
 //! Labels by their first octets as one number, which decides most comparisons of two labels in one step.
-ghost use Rattle.std.specs.Prelude.{◌≡◌, get_or};
+ghost use Rattle.std.specs.Prelude.{◌≡◌, ℕ, get_or};
 ghost use Rattle.dns_zoneindex.specs.Children.{label_cmp};
 ghost use Rattle.dns_zoneindex.specs.Keys.{IsKey};
 
@@ -32,19 +32,12 @@ pub(crate) fn key_of(label: &[u8]) -> u64
     ])
 }
 
-/// The order of a label and that of a node: by their keys, and only where these are equal by what they don't tell, which of labels
-/// of up to eight octets is their length.
-pub(crate) fn order(key: u64, label: &[u8], other: u64, node: &Node) -> Ordering
-    requires key { IsKey key label.now }
-    requires other { IsKey other node.now.label }
+/// The order of a label and that of a node with the same key: by what that doesn't tell, which of labels of up to eight octets is
+/// their length.
+pub(crate) fn order(label: &[u8], node: &Node) -> Ordering
+    requires { (key : ℕ) × IsKey key label.now × IsKey key node.now.label }
     ensures { result ≡ label_cmp label.now node.now.label }
 {
-    if key < other {
-        return Ordering::Less;
-    }
-    if key > other {
-        return Ordering::Greater;
-    }
     if label.len() <= 8 {
         return label.len().cmp(&node.label().len());
     }

@@ -13,11 +13,14 @@ fn slot_of(slots: &[Slot], place: usize) -> Option<(&Slot, usize)>
     ensures found { IfSome result (λ p. IsThere slots.now place p.0.now p.1) }
     ensures none { IfNone result (IsBeyond slots.now place) }
 {
-    let (slot, rest) = slots.split_first()?;
-    if place < slot.count {
-        return Some((slot, place));
+    let mut left = place;
+    for slot in slots {
+        if left < slot.count {
+            return Some((slot, left));
+        }
+        left -= slot.count;
     }
-    slot_of(rest, place - slot.count)
+    None
 }
 
 impl Children {

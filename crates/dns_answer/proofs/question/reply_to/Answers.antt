@@ -1,43 +1,27 @@
-use Rattle.std.proofs.Common.{◌+◌, ◌<◌, ◌≤◌, length, ap, ◌∙◌, arith}
+use Rattle.std.proofs.Common.{◌∷◌, ◌++◌, [], refl, sym, ap, ◌∙◌}
 use Rattle.std.proofs.lemmas.Result.{IfOk-weaker}
 use Rattle.dns_wire.specs.Codes.{number_of_rcode}
-use Rattle.dns_wire.specs.Reply.{stated}
-use Rattle.dns_answer.specs.Answer.{fitted, reply_for}
-use Rattle.dns_answer.specs.Added.{count_of}
-use Rattle.dns_answer.specs.Fit.{most_records}
-use Rattle.dns_answer.specs.Sections.{records_of, authority_of}
-use Rattle.dns_answer.proofs.Replies.{at_most, whole, without_additional, without_records}
+use Rattle.dns_wire.specs.Text.{Reply}
+use Rattle.dns_answer.specs.Answer.{fitted, with_question, with_sections}
+use Rattle.dns_answer.specs.Sections.{records_of, answer_of, authority_of, additional_of}
+use Rattle.dns_answer.specs.Added.{IsAll}
+use Rattle.dns_answer.proofs.Replies.{whole}
 use Rattle.dns_answer.proofs.question.reply_to.Goals as goal
 
-pub fit_first_sections-requires-clause-gone : goal.fit_first_sections-requires-clause-gone
-fit_first_sections-requires-clause-gone g c = c.reply_with_question-reply.ensures.bare
-
-pub returns-then-server_count-most : goal.returns-then-server_count-most
-returns-then-server_count-most g c = IfOk-weaker c.fit_question-then-server_count-most.result _ _ (λ out e q fs echoes are holds.
+pub returns-in-Some : goal.returns-in-Some
+returns-in-Some g c = IfOk-weaker c.fit.result _ _ (λ out e q fs echoes are holds.
     let octets = c.args.message.now.octets in
     let m = c.args.message.now.message in
     let zones = c.args.zones.now in
-    let few = c.server_count.ensures zones q.qtype fs are holds in
-    let most = c.most_records-most.ensures in
-    let over : most_records c.args.transport < length (reply_for octets m q fs).answer + length (records_of (authority_of fs)) = omega (arith, few, most, c.if-server_count-most.true) in
-    e (reply_for octets m q fs) (without_records octets m q fs (stated c.reply_with_question-reply.result) (number_of_rcode c.rcode_of-rcode.result) c.is_authoritative-aa.result (c.reply_with_question-reply.ensures.stated q echoes) (c.rcode_of-rcode.ensures zones fs are) (c.is_authoritative-aa.ensures zones fs are)) over) c.fit_question-then-server_count-most.ensures
+    let rcode = number_of_rcode c.rcode_of-rcode.result in
+    let all : IsAll q.qtype fs c.in-Some.one = (rw c.in-Some.is at c.only_record.ensures) zones q.qtype fs are holds in
+    e ∙ ap (fitted c.args.transport) (c.reply_with_question-reply.ensures.stated q echoes ∙ ap (λ xs. record (with_question octets m q rcode) { aa = c.is_authoritative-aa.result; answer = xs }) c.from_ref-answer.ensures.value ∙ whole octets m q fs (with_question octets m q rcode) rcode c.is_authoritative-aa.result refl (c.rcode_of-rcode.ensures zones fs are) (c.is_authoritative-aa.ensures zones fs are) (c.in-Some.one ∷ []) [] [] (sym all.answer) (sym all.authority) (sym all.additional))) c.fit.ensures
 
-pub returns-then-is_over : goal.returns-then-is_over
-returns-then-is_over g c = IfOk-weaker c.fit_first_sections.result _ _ (λ out e q fs echoes are holds.
+pub returns-in-None : goal.returns-in-None
+returns-in-None g c = IfOk-weaker c.reply_of_sections.result _ _ (λ out e q fs echoes are holds.
     let octets = c.args.message.now.octets in
     let m = c.args.message.now.message in
     let zones = c.args.zones.now in
-    let sections = c.in_ok-sections.ensures q.qtype fs are holds in
-    let most = c.most_records-most.ensures in
-    let over = sections.more (c.has_more-is_over.ensures.0 c.if-is_over.true) in
-    e (reply_for octets m q fs) (without_additional octets m q fs (stated c.reply_with_question-reply.result) (number_of_rcode c.rcode_of-rcode.result) c.is_authoritative-aa.result (c.reply_with_question-reply.ensures.stated q echoes) (c.rcode_of-rcode.ensures zones fs are) (c.is_authoritative-aa.ensures zones fs are) c.in_ok-sections.sections.answer.items c.in_ok-sections.sections.authority.items sections.answer sections.authority c.reply_with_question-reply.ensures.bare) (omega (arith, over, most))) c.fit_first_sections.ensures
-
-pub returns : goal.returns
-returns g c = IfOk-weaker c.fit.result _ _ (λ out e q fs echoes are holds.
-    let octets = c.args.message.now.octets in
-    let m = c.args.message.now.message in
-    let zones = c.args.zones.now in
-    let sections = c.in_ok-sections.ensures q.qtype fs are holds in
-    let few : count_of c.in_ok-sections.sections ≤ c.most_records-most.result = at_most c.most_records-most.result (count_of c.in_ok-sections.sections) (λ over. (let yes' = c.has_more-is_over.ensures.1 over in let no' = c.if-is_over.false in cc)) in
-    let exact = sections.whole few in
-    e ∙ ap (fitted c.args.transport) (whole octets m q fs (stated c.reply_with_question-reply.result) (number_of_rcode c.rcode_of-rcode.result) c.is_authoritative-aa.result (c.reply_with_question-reply.ensures.stated q echoes) (c.rcode_of-rcode.ensures zones fs are) (c.is_authoritative-aa.ensures zones fs are) c.in_ok-sections.sections.answer.items c.in_ok-sections.sections.authority.items c.in_ok-sections.sections.additional.items exact.answer exact.authority exact.additional)) c.fit.ensures
+    let rcode = number_of_rcode c.rcode_of-rcode.result in
+    e q.qtype fs are holds ∙ ap (fitted c.args.transport) (ap (λ (b : Reply). with_sections b q.qtype fs) (c.reply_with_question-bare.ensures.stated q echoes)
+    ∙ whole octets m q fs (with_question octets m q rcode) rcode c.is_authoritative-aa.result refl (c.rcode_of-rcode.ensures zones fs are) (c.is_authoritative-aa.ensures zones fs are) (records_of (answer_of q.qtype fs)) (records_of (authority_of fs)) (additional_of (answer_of q.qtype fs ++ authority_of fs)) refl refl refl)) c.reply_of_sections.ensures

@@ -15,7 +15,7 @@ pub returns-in_err-request-clause-refused : goal.returns-in_err-request-clause-r
 returns-in_err-request-clause-refused g c =
     let q = question_asked c.args.apex.now c.args.held.now in
     let octets = c.as_slice.ensures.value ∙ c.in_ok-octets.ensures ∙ ap (λ (t : ℕ). asked_octets (record { name = c.args.apex.now; qtype = t; qclass = class_in })) c.type_asked.ensures in
-    let is = c.as_reply-reply.ensures q octets c.lend.ensures ∙ ap (λ (rs : List Record). as_reply q c.args.id rs) c.in_ok-soas_held.ensures.stated in
+    let is = c.as_reply-reply.ensures q octets c.lend.ensures ∙ ap (λ (rs : List Record). as_reply q c.args.id rs) (c.deref.ensures.value ∙ c.in_ok-soas.ensures.stated) in
     let p = err_from_is_err_and c.from_residual-in_err-request.result c.from_residual-in_err-request.ensures.1 in
     rw (p.1, p.2) (refused_as q c.args.id (soas_held c.args.held.now) (stated c.as_reply-reply.result) c.most_by.result _ c.in_err-request.field-0.0 is c.most_by.ensures c.in_err-request.ensures.refused)
 
@@ -23,7 +23,7 @@ pub returns-clause-asked : goal.returns-clause-asked
 returns-clause-asked g c =
     let q = question_asked c.args.apex.now c.args.held.now in
     let octets = c.as_slice.ensures.value ∙ c.in_ok-octets.ensures ∙ ap (λ (t : ℕ). asked_octets (record { name = c.args.apex.now; qtype = t; qclass = class_in })) c.type_asked.ensures in
-    let is = c.as_reply-reply.ensures q octets c.lend.ensures ∙ ap (λ (rs : List Record). as_reply q c.args.id rs) c.in_ok-soas_held.ensures.stated in
+    let is = c.as_reply-reply.ensures q octets c.lend.ensures ∙ ap (λ (rs : List Record). as_reply q c.args.id rs) (c.deref.ensures.value ∙ c.in_ok-soas.ensures.stated) in
     cleared q c.args.id (soas_held c.args.held.now) (c.in_ok-request.request).items (c.in_ok-request.ensures.found.0 ∙ ap text is)
 
 pub returns-clause-read : goal.returns-clause-read
@@ -33,7 +33,7 @@ returns-clause-read g c =
     let fit : c.args.id < 2 ^ 16 = omega (arith, c.ranges.id.fits) in
     subst (λ (xs : List ℕ). Reads xs (request_message c.args.apex.now held c.args.id)) (sym {A = List ℕ} (returns-clause-asked g c))
     (asked_reads q c.args.id (soas_held held) c.one_compressed_text.ensures.reads_back c.as_wire-apex.ensures.valid (type_small held) (omega arith) fit
-    c.in_ok-soas_held.ensures.few c.in_ok-soas_held.ensures.valid c.in_ok-soas_held.ensures.soas)
+    c.in_ok-soas.ensures.few c.in_ok-soas.ensures.valid c.in_ok-soas.ensures.soas)
 
 pub returns-clause-door : goal.returns-clause-door
 returns-clause-door g c =
@@ -41,7 +41,7 @@ returns-clause-door g c =
     let apex = c.args.apex.now in
     let q = question_asked apex held in
     let octets = c.as_slice.ensures.value ∙ c.in_ok-octets.ensures ∙ ap (λ (t : ℕ). asked_octets (record { name = c.args.apex.now; qtype = t; qclass = class_in })) c.type_asked.ensures in
-    let is = c.as_reply-reply.ensures q octets c.lend.ensures ∙ ap (λ (rs : List Record). as_reply q c.args.id rs) c.in_ok-soas_held.ensures.stated in
+    let is = c.as_reply-reply.ensures q octets c.lend.ensures ∙ ap (λ (rs : List Record). as_reply q c.args.id rs) (c.deref.ensures.value ∙ c.in_ok-soas.ensures.stated) in
     let long : length (request_octets apex held c.args.id) ≡ length (c.in_ok-request.request).items =
     as_long q c.args.id (soas_held held) (c.in_ok-request.request).items (c.in_ok-request.ensures.found.0 ∙ ap text is) in
     let fits : length (c.in_ok-request.request).items ≤ c.most_by.result = c.in_ok-request.ensures.found.1 in

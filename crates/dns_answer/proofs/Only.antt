@@ -1,0 +1,44 @@
+-- One record that is all of a reply.
+use Rattle.std.proofs.Common.{◌≡◌, ℕ, false, ◌∷◌, [], ◌++◌, List, get_or, length, refl, sym, ap, ◌∙◌, arith}
+use Rattle.std.specs.Prelude.{Option, Some, None, is_some}
+use Rattle.std.proofs.lemmas.List.{append-nil}
+use Rattle.dns_names.specs.Name.{Labels}
+use Rattle.dns_zone.specs.Zone.{Zone}
+use Rattle.dns_records.specs.Record.{Record, host_of}
+use Rattle.dns_records.specs.Types.{type_a, type_aaaa}
+use Rattle.dns_zone.specs.Records.{rrset}
+use Rattle.dns_lookup.specs.Lookup.{Found, Outcome, Referral, Alias, Answers, NoData, NameError}
+use Rattle.dns_answer.specs.Added.{IsAll}
+use Rattle.dns_answer.specs.Sections.{Shown, from_zone, as_owner, records_of, answers_of, answer_of, authority_at, additional_of, addresses_for, unseen}
+use Rattle.dns_answer.proofs.Shown.{answers_at, authority_by}
+
+pub single : {A : Type 0} (xs : List A) (x d : A) → length xs ≡ 1 → x ≡ get_or xs 0 d → xs ≡ x ∷ []
+single [] x d size is = absurd (omega (arith, size))
+single (y ∷ []) x d size is = ap (λ z. z ∷ []) (sym is)
+single (y ∷ z ∷ rest) x d size is = absurd (omega (arith, size))
+
+hostless : {A : Type 0} (o : Option A) → is_some o ≡ false → o ≡ None
+hostless None h = refl
+hostless (Some a) h = absurd cc
+
+-- what answers adds nothing to the authority section
+no_authority : (z : Zone) (name : Labels) (t : ℕ) (o : Outcome) → (answers_at z name t o ≡ [] → ⊥) → authority_by z o ≡ []
+no_authority z name t (Referral c) h = absurd (h refl)
+no_authority z name t (Alias n) h = refl
+no_authority z name t (Answers n) h = refl
+no_authority z name t (NoData n) h = absurd (h refl)
+no_authority z name t NameError h = absurd (h refl)
+
+pub only_all : (t : ℕ) (f : Found) (stored r : Record) → answers_of t f ≡ from_zone f.zone (as_owner f.name (stored ∷ [])) → is_some (host_of stored) ≡ false → r ≡ record stored { owner = f.name } → IsAll t (f ∷ []) r
+only_all t f stored r is none same =
+    let shown : Shown = record { zone = f.zone; shown = record stored { owner = f.name } } in
+    let answer : answer_of t (f ∷ []) ≡ shown ∷ [] = append-nil (answers_of t f) ∙ is in
+    let some : answers_of t f ≡ [] → ⊥ = λ e. (let bad : length (shown ∷ []) ≡ length {A = Shown} [] = ap length (sym is ∙ e) in omega (arith, bad)) in
+    let authority : authority_at f ≡ [] = no_authority f.zone f.name t f.outcome some in
+    let alone : addresses_for shown ≡ [] = ap (λ (o : Option Labels). elim o [ None ↦ [] | Some host ↦ rrset f.zone.records host type_a ++ rrset f.zone.records host type_aaaa ]) (hostless (host_of stored) none) in
+    record {
+      answer = ap records_of answer ∙ ap (λ x. x ∷ []) (sym same);
+      authority = ap records_of authority;
+      additional = ap additional_of (ap (λ a. a ++ authority_at f) answer ∙ ap (λ a. (shown ∷ []) ++ a) authority)
+          ∙ ap (λ (xs : List Record). unseen (records_of (shown ∷ [])) (xs ++ [])) alone;
+    }
