@@ -37,6 +37,20 @@ module _ {S : Type 0} where
 abbrev pub NoneWaits : {I D : Type 0} {i : index.Ghosts I} {d : store.Ghosts D} → Primary I D i d → Type 0
 NoneWaits primary = (m : Machine) → IsKept primary m → m.waiting ≡ []
 
+module _ {I D S : Type 0} {i : index.Ghosts I} {d : store.Ghosts D} where
+  -- The connection of a peer is taken up: the primary is told of it, and it is put in its place.
+  pub record IsTakenUp (stream : S) (peer : Peer) (before after : Primary I D i d) (old new : List (Option (Connection S))) : Type 0 where
+    pub effects : Effects
+    pub told : Takes before (Connect peer) after effects
+    pub placed : IsPlaced stream effects.accepted old new
+
+  -- It is, or it is and then it is closed again.
+  abbrev pub IsWelcomed : S → Peer → Primary I D i d → Primary I D i d → List (Option (Connection S)) → List (Option (Connection S)) → Type 0
+  IsWelcomed stream peer before after old new =
+      IsTakenUp stream peer before after old new
+      ⊎ ((between : Primary I D i d) × (place : List (Option (Connection S))) × (number : ℕ) × (effects : Effects)
+      × IsTakenUp stream peer before between old place × Takes between (Closed number) after effects × (new ≡ slice_set place number None))
+
 module _ {I D S N : Type 0} {i : index.Ghosts I} {d : store.Ghosts D} where
   pub record HasAsked (n : Ghosts N S) (old new : Served I D S N i d) : Type 0 where
     pub rest : new ≡ record old { network = new.network }
@@ -52,9 +66,7 @@ module _ {I D S N : Type 0} {i : index.Ghosts I} {d : store.Ghosts D} where
   pub record HasConnected (n : Ghosts N S) (peer : Peer) (old new : Served I D S N i d) : Type 0 where
     pub stream : S
     pub came : n.accepts old.network (Some (stream, peer)) new.network
-    pub effects : Effects
-    pub told : Takes old.primary (Connect peer) new.primary effects
-    pub placed : IsPlaced stream effects.accepted old.connections new.connections
+    pub taken : IsTakenUp stream peer old.primary new.primary old.connections new.connections
 
   -- How an event comes: a datagram from the network, a message from the connection with its number; a pump and a flush come of
   -- themselves, and no others do.

@@ -4,12 +4,12 @@ ghost use Rattle.dns_primary.specs.declared.event.Effects.{Effects as StatedEffe
 ghost use Rattle.dns_primary.specs.Keeps.{header_out, reply_out};
 ghost use Rattle.dns_primary.specs.Step.{Closed};
 ghost use Rattle.dns_turns.specs.Delivery.{AreSent, IsSent, Takes, connections_of, out_of, served};
-ghost use Rattle.dns_turns.specs.Turn.{IsTurn, LeadsTo, NoneWaits};
+ghost use Rattle.dns_turns.specs.Turn.{IsTurn, IsWelcomed, LeadsTo, NoneWaits};
 
 use crate::{Network, Note, Notes};
 use dns_edge::{Connection, Connections, Moved, Stream};
 use dns_memory::Heap;
-use dns_primary::{Effects, Event, HeaderTo, Noted, Primary, Reply, To};
+use dns_primary::{Effects, Event, HeaderTo, Noted, Peer, Primary, Reply, To};
 use dns_store::ZoneStore;
 use dns_zone::ZoneIndex;
 use std::alloc::AllocError;
@@ -87,6 +87,7 @@ impl<S: Stream + Drop> Edge<S> {
     }
 
     /// Sends a reply to where it goes, or queues it there. A connection whose reply can't be queued is closed.
+    #[inline(always)]
     fn send<I: ZoneIndex, D: ZoneStore, N: Network<S>, L: Notes>(
         &mut self,
         alloc: Heap,
@@ -149,6 +150,7 @@ impl<S: Stream + Drop> Edge<S> {
     }
 
     /// Lets the effects of an event happen: the replies that waited in their order, then the one to what came; and tells the rest.
+    #[inline(always)]
     fn deliver<I: ZoneIndex, D: ZoneStore, N: Network<S>, L: Notes>(
         &mut self,
         alloc: Heap,
@@ -165,7 +167,35 @@ impl<S: Stream + Drop> Edge<S> {
         tell(notes, effects.noted);
     }
 
-    /// Accepts one connection, if a peer made one. One that gets no number is closed at once.
+    /// Takes up a connection that a peer made: the primary is told, and it gets its place. One that gets no number is closed at once. It
+    /// is compiled apart, so that a turn in which none comes doesn't pay for it.
+    #[inline(never)]
+    fn welcome<I: ZoneIndex, D: ZoneStore, L: Notes>(
+        &mut self,
+        alloc: Heap,
+        primary: &mut Primary<I, D>,
+        notes: &mut L,
+        stream: S,
+        peer: Peer,
+        now: u64,
+    )
+        ensures { IsWelcomed stream peer primary.old primary.new (connections_of self.old) (connections_of self.new) }
+    {
+        let effects = primary.step(alloc, Event::Connect(peer));
+        tell(notes, effects.noted);
+        let Some(number) = effects.accepted else {
+            return;
+        };
+        notes.note(Note::Opened(number, peer));
+        let connection = Connection::new(alloc, stream, now);
+        if let Err(_) = self.connections.insert(number, connection) {
+            self.close(alloc, primary, notes, number);
+            return;
+        }
+        self.end = self.end.max(number.saturating_add(1));
+    }
+
+    /// Accepts one connection, if a peer made one.
     fn accept<I: ZoneIndex, D: ZoneStore, N: Network<S>, L: Notes>(
         &mut self,
         alloc: Heap,
@@ -180,18 +210,7 @@ impl<S: Stream + Drop> Edge<S> {
         let Some((stream, peer)) = network.accept() else {
             return false;
         };
-        let effects = primary.step(alloc, Event::Connect(peer));
-        tell(notes, effects.noted);
-        let Some(number) = effects.accepted else {
-            return true;
-        };
-        notes.note(Note::Opened(number, peer));
-        let connection = Connection::new(alloc, stream, now);
-        if let Err(_) = self.connections.insert(number, connection) {
-            self.close(alloc, primary, notes, number);
-            return true;
-        }
-        self.end = self.end.max(number.saturating_add(1));
+        self.welcome(alloc, primary, notes, stream, peer, now);
         true
     }
 
