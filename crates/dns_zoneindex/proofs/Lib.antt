@@ -1,3 +1,4 @@
+pub mod Beside
 pub mod Counts
 pub mod Down
 pub mod Exists

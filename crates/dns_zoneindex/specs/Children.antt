@@ -45,14 +45,21 @@ abbrev pub AllFull : List (List Child) → Type 0
 AllFull [] = Unit {0}
 AllFull (s ∷ slots) = (0 < length s) × AllFull slots
 
--- What holds of the slots of a group, and of the number of their records.
-abbrev pub IsGroup : ℕ → List (List Child) → Type 0
-IsGroup count slots = AreChildren (joined slots) × AllFull slots × (1 < length slots) × (count ≡ length (flat (joined slots)))
-
 -- The key is the first child's.
 abbrev pub IsFirstKey : ℕ → List Child → Type 0
 IsFirstKey key [] = ⊥
 IsFirstKey key (c ∷ rest) = IsKey key c.label
+
+-- Each key is that of the first child of its slot, as far as there are keys.
+abbrev pub AreKeys : List ℕ → List (List Child) → Type 0
+AreKeys [] slots = Unit {0}
+AreKeys (k ∷ keys) [] = Unit {0}
+AreKeys (k ∷ keys) (s ∷ slots) = IsFirstKey k s × AreKeys keys slots
+
+-- What holds of the slots of a group, of the number of their records, and of their keys.
+abbrev pub IsGroup : ℕ → List (List Child) → List ℕ → Type 0
+IsGroup count slots keys =
+    AreChildren (joined slots) × AllFull slots × (1 < length slots) × (count ≡ length (flat (joined slots))) × AreKeys keys slots
 
 -- What holds of the children of a slot, the number of their records, and the key of the first.
 abbrev pub IsSlot : ℕ → ℕ → List Child → Type 0

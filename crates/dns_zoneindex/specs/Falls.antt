@@ -49,10 +49,10 @@ most_of_all : (slots : List (List Child)) → most (λ s. slot_size s + 1) slots
 most_of_all [] = omega arith
 most_of_all (s ∷ slots) = omega (arith, most_of_all slots, sizes-append s (joined slots))
 
-pub group_falls : (count : ℕ) (slots : List (List Child)) → IsGroup count slots → max (most (λ s. slot_size s + 1) slots) 0 ≤ sizes_of (joined slots)
-group_falls count [] h = absurd (omega (arith, h.2))
-group_falls count (s ∷ []) h = absurd (omega (arith, h.2))
-group_falls count (s ∷ t ∷ slots) h =
+pub group_falls : (count : ℕ) (slots : List (List Child)) (keys : List ℕ) → IsGroup count slots keys → max (most (λ s. slot_size s + 1) slots) 0 ≤ sizes_of (joined slots)
+group_falls count [] keys h = absurd (omega (arith, h.2))
+group_falls count (s ∷ []) keys h = absurd (omega (arith, h.2))
+group_falls count (s ∷ t ∷ slots) keys h =
     omega (
       arith,
       most_of_all (t ∷ slots),

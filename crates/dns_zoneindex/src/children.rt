@@ -74,8 +74,8 @@ impl Children {
                     return None;
                 }
                 Children::Many(group) => {
-                    let Group { slots, .. } = &**group;
-                    here = &slots[place_of(slots, key, label)].children;
+                    let Group { keys, slots, .. } = &**group;
+                    here = &slots[place_of(keys, slots, key, label)].children;
                 }
             }
         }
@@ -102,8 +102,8 @@ impl Children {
             Children::Empty => one(alloc, Slot::one(node)),
             Children::One(own) => beside(alloc, own, node),
             Children::Many(group) => {
-                let Group { slots, .. } = &**group;
-                let place = place_of(slots, node.key(), node.label());
+                let Group { keys, slots, .. } = &**group;
+                let place = place_of(keys, slots, node.key(), node.label());
                 let come = slots[place].children.put(alloc, node)?;
                 gathered(alloc, replaced(alloc, slots, place, come)?)
             }
@@ -124,8 +124,8 @@ impl Children {
                 one(alloc, Slot::one(own.clone()?))
             }
             Children::Many(group) => {
-                let Group { slots, .. } = &**group;
-                let place = place_of(slots, key_of(label), label);
+                let Group { keys, slots, .. } = &**group;
+                let place = place_of(keys, slots, key_of(label), label);
                 let rest = slots[place].children.without(alloc, label)?;
                 gathered(alloc, replaced(alloc, slots, place, rest)?)
             }

@@ -1,7 +1,7 @@
 //! Slots of neighbouring children, and the groups that they make: a tree of which each group has few slots, so that few of them are
 //! looked at where a child is looked for.
 ghost use Rattle.std.specs.Prelude.{◌≡◌, ◌++◌, ◌∷◌, [], ◌<◌, suc, take, drop, length, IfOk, OnOk};
-ghost use Rattle.dns_zoneindex.specs.Children.{items, joined, AreChildren, AllFull};
+ghost use Rattle.dns_zoneindex.specs.Children.{items, joined, AreChildren, AllFull, AreKeys};
 ghost use Rattle.dns_zoneindex.specs.Entries.{flat};
 ghost use Rattle.dns_zoneindex.specs.Keys.{IsKey};
 ghost use Rattle.dns_zoneindex.specs.Slots.{is_before, IsPlace};
@@ -14,7 +14,7 @@ use std::alloc::AllocError;
 use std::rc::Rc;
 
 /// At most so many slots stand in one group.
-const MOST: usize = 16;
+pub(crate) const MOST: usize = 16;
 
 /// So many slots stand in a group that is made of many, with room for more.
 const USUAL: usize = 14;
@@ -42,7 +42,8 @@ impl Slot {
     {
         let key = slots[0].key;
         let count = count_of(&slots)?;
-        let group = Rc::new(alloc, Group { slots, count })?;
+        let keys = keys_of(&slots);
+        let group = Rc::new(alloc, Group { keys, slots, count })?;
         Ok(Slot {
             key,
             count,
@@ -96,9 +97,33 @@ fn count_of(slots: &[Slot]) -> Result<usize, AllocError>
     }
 }
 
-/// The slot in which the child of a label stands, or would stand.
+/// The keys of slots side by side, of as many as a group has.
+fn keys_of(slots: &[Slot]) -> [u64; MOST]
+    ensures { AreKeys result slots.now }
+{
+    let mut keys = [u64::MAX; MOST];
+    'keys: for place in 0..MOST {
+        let Some(slot) = slots.get(place) else {
+            return keys;
+        };
+        keys[place] = slot.key;
+    }
+    keys
+}
+
+/// The last place whose key is at most this one, if there are such keys before all others. All are counted, so that no jump depends on one
+/// of them.
 #[inline(always)]
-pub(crate) fn place_of(slots: &[Slot], key: u64, label: &[u8]) -> usize
+fn last_up_to(keys: &[u64; MOST], key: u64) -> usize {
+    let mut count = 0usize;
+    for own in keys {
+        count = count.wrapping_add(usize::from(*own <= key));
+    }
+    count.saturating_sub(1)
+}
+
+/// The slot in which the child of a label stands, or would stand, by halves.
+fn place_by_halves(slots: &[Slot], key: u64, label: &[u8]) -> usize
     requires key { IsKey key label.now }
     requires some { 0 < length slots.now }
     requires full { AllFull slots.now }
@@ -116,6 +141,31 @@ pub(crate) fn place_of(slots: &[Slot], key: u64, label: &[u8]) -> usize
         }
     }
     place
+}
+
+/// The slot in which the child of a label stands, or would stand. The keys tell it, where the first octets of labels differ.
+#[inline(always)]
+pub(crate) fn place_of(keys: &[u64; MOST], slots: &[Slot], key: u64, label: &[u8]) -> usize
+    requires keys { AreKeys keys.now slots.now }
+    requires key { IsKey key label.now }
+    requires some { 0 < length slots.now }
+    requires full { AllFull slots.now }
+    requires kept { AreChildren (joined slots.now) }
+    ensures { IsPlace label.now slots.now result }
+{
+    let place = last_up_to(keys, key);
+    if place < slots.len() && !slots[place].is_behind(key, label) {
+        let next = place + 1;
+        if next == slots.len() {
+            return place;
+        }
+        if let Some(behind) = keys.get(next) {
+            if key < *behind {
+                return place;
+            }
+        }
+    }
+    place_by_halves(slots, key, label)
 }
 
 /// Puts slots behind others, shared.

@@ -9,6 +9,7 @@ ghost use Rattle.dns_zoneindex.specs.Setting.{set_at};
 ghost use Rattle.std.specs.Str.{bytes_eq};
 
 use crate::count::sum;
+use crate::group::MOST;
 use crate::key::key_of;
 use crate::path::split;
 use dns_memory::Heap;
@@ -33,6 +34,8 @@ pub(crate) enum Children {
 /// Neighbouring children in slots, of which none is empty. There are two at least.
 #[cycle(tree)]
 pub(crate) struct Group {
+    /// The keys of the slots, side by side.
+    pub(crate) keys: [u64; MOST],
     pub(crate) slots: Vec<Slot, Heap>,
     /// How many records stand at and under all of them.
     pub(crate) count: usize,
@@ -92,13 +95,13 @@ impl Model for Group {
 
     ghost view = { λ g. joined g.slots.items };
 
-    ghost invariant = { λ g. IsGroup g.count g.slots.items };
+    ghost invariant = { λ g. IsGroup g.count g.slots.items g.keys };
 
     ghost size = { sizes_of };
 
     ghost use Rattle.dns_zoneindex.specs.Falls.{group_falls};
 
-    ghost size_decreases = { λ g h. group_falls g.count g.slots.items h };
+    ghost size_decreases = { λ g h. group_falls g.count g.slots.items g.keys h };
 }
 
 impl Model for Slot {
@@ -141,6 +144,7 @@ impl Drop for Group {
     #[cycle(gone)]
     fn drop(self) {
         let Group {
+            keys: _,
             slots: _slots,
             count: _,
         } = self;

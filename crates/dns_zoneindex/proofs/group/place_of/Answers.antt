@@ -1,35 +1,41 @@
-use Rattle.std.proofs.Common.{◌≡◌, ◌+◌, ◌-◌, ◌/◌, suc, length, drop, Some, refl, sym, ◌∙◌, subst, arith}
-use Rattle.std.specs.List.{slice_get}
+use Rattle.std.proofs.Common.{◌≡◌, ◌+◌, suc, length, drop, Some, refl, sym, ◌∙◌, subst, arith}
 use Rattle.std.specs.declared.cmp.Ordering.TheVariants.{Less}
-use Rattle.std.proofs.lemmas.Option.{slice_get_read}
 use Rattle.dns_zoneindex.specs.Children.{label_cmp, joined, AllChildren}
-use Rattle.dns_zoneindex.proofs.Slots.{behind_from, ahead_to}
+use Rattle.std.specs.List.{slice_get}
+use Rattle.std.proofs.lemmas.Option.{slice_get_read}
+use Rattle.dns_zoneindex.proofs.Beside.{before_next, none_behind}
+use Rattle.dns_zoneindex.proofs.Slots.{ahead_to}
 use Rattle.dns_zoneindex.proofs.group.place_of.Goals as goal
 
-pub halves-preserved-then-is_behind : goal.halves-preserved-then-is_behind
-halves-preserved-then-is_behind c =
+pub returns-then-next-slots : goal.returns-then-next-slots
+returns-then-next-slots c =
     let slots = c.args.slots.now in
-    let s = c.index-slots-middle.result in
-    let middle = c.halves.place + (c.halves.end - c.halves.place) / 2 in
-    let i = c.halves.invariant in
-    let at : slice_get slots middle ≡ Some s = slice_get_read slots (length slots) middle s refl (omega (arith, i.1, c.halves-test.true)) c.index-slots-middle.is in
-    (omega (arith, c.halves-test.true), omega (arith, i.1, c.halves-test.true), i.2, behind_from c.args.label.now slots middle s at c.requires.kept (sym c.is_behind.ensures ∙ c.if-is_behind.true))
-
-pub halves-preserved : goal.halves-preserved
-halves-preserved c =
-    let slots = c.args.slots.now in
-    let s = c.index-slots-middle.result in
-    let middle = c.halves.place + (c.halves.end - c.halves.place) / 2 in
-    let i = c.halves.invariant in
-    let at : slice_get slots middle ≡ Some s = slice_get_read slots (length slots) middle s refl (omega (arith, i.1, c.halves-test.true)) c.index-slots-middle.is in
-    (omega (arith, c.halves-test.true), i.1, ahead_to c.args.label.now slots middle s at c.requires.kept c.requires.full (sym c.is_behind.ensures ∙ c.if-is_behind.false), i.3)
-
-pub returns : goal.returns
-returns c =
-    let i = c.halves.invariant in
-    let end : c.halves.end ≡ suc c.halves.place = omega (arith, i.0, c.halves-test.false) in
+    let q = c.args.label.now in
+    let place = c.last_up_to-place.result in
+    let s = c.index-slots-place.result in
+    let at : slice_get slots place ≡ Some s = slice_get_read slots (length slots) place s refl c.if-place-slots.true c.index-slots-place.is in
     record {
-      there = omega (arith, i.0, i.1);
-      ahead = i.2;
-      behind = subst (λ p. AllChildren (λ x. label_cmp c.args.label.now x.label ≡ Less) (joined (drop p c.args.slots.now))) end i.3;
+      there = c.if-place-slots.true;
+      ahead = ahead_to q slots place s at c.requires.kept c.requires.full (sym c.is_behind.ensures ∙ c.if-not-is_behind.true);
+      behind = none_behind q slots (suc place) (omega (arith, c.if-next-slots.true));
+    }
+
+pub returns-then-key-behind : goal.returns-then-key-behind
+returns-then-key-behind c =
+    let slots = c.args.slots.now in
+    let q = c.args.label.now in
+    let place = c.last_up_to-place.result in
+    let s = c.index-slots-place.result in
+    let at : slice_get slots place ≡ Some s = slice_get_read slots (length slots) place s refl c.if-place-slots.true c.index-slots-place.is in
+    let keys = c.args.keys.now in
+    let k = c.in-Some.behind.now in
+    let lookup = c.in-Some.ensures.lookup in
+    let beside : slice_get keys (place + 1) ≡ Some k = slice_get_read keys (length keys) (place + 1) k refl lookup.3.0 lookup.1 in
+    let next : place + 1 ≡ suc place = omega arith in
+    record {
+      there = c.if-place-slots.true;
+      ahead = ahead_to q slots place s at c.requires.kept c.requires.full (sym c.is_behind.ensures ∙ c.if-not-is_behind.true);
+      behind =
+          subst (λ n. AllChildren (λ x. label_cmp q x.label ≡ Less) (joined (drop n slots))) next
+          (before_next q c.args.key k keys slots (place + 1) c.requires.key c.requires.keys c.requires.kept beside c.if-key-behind.true);
     }

@@ -1,7 +1,7 @@
 use Rattle.std.proofs.Common.{◌≡◌, ◌-◌, ◌<◌, ◌≤◌, length, take, drop}
 use Rattle.std.specs.declared.cmp.Ordering.TheVariants.{Less, Greater}
 use Rattle.dns_zoneindex.specs.Children.{label_cmp, joined, AllChildren}
-use Rattle.dns_zoneindex.proofs.group.place_of.Given as goal
+use Rattle.dns_zoneindex.proofs.group.place_by_halves.Given as goal
 
 abbrev pub invariant-halves : goal.invariant-halves
 invariant-halves l =

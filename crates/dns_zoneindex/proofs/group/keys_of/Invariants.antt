@@ -1,0 +1,6 @@
+use Rattle.std.proofs.Common.{◌≡◌, length, take}
+use Rattle.dns_zoneindex.specs.Children.{AreKeys}
+use Rattle.dns_zoneindex.proofs.group.keys_of.Given as goal
+
+abbrev pub invariant-keys : goal.invariant-keys
+invariant-keys l = (length l.keys ≡ 16) × AreKeys (take l.place l.keys) l.slots
