@@ -1,4 +1,5 @@
 pub mod Entries
+pub mod Held
 pub mod Children
 pub mod Size
 pub mod Falls

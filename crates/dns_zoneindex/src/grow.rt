@@ -9,6 +9,7 @@ use crate::count::sum;
 use crate::group::in_levels;
 use crate::node::{Children, Node, Slot};
 use crate::path::split;
+use crate::records::Records;
 use dns_memory::Heap;
 use dns_names::NameRef;
 use dns_records::Record;
@@ -92,11 +93,11 @@ fn take_off(
     Ok(Some((label, group)))
 }
 
-/// The records in a list with room for no more.
+/// The records in a list with room for no more, if a list is to hold them.
 fn trimmed(records: Vec<Record, Heap>) -> Result<Vec<Record, Heap>, AllocError>
     ensures { IfOk result (λ exact. exact.items ≡ records.entry.items) }
 {
-    if records.len() == records.capacity() {
+    if records.len() < 2 || records.len() == records.capacity() {
         return Ok(records);
     }
     let mut roomy = records;
@@ -135,7 +136,7 @@ pub(crate) fn grow(
         let node = grow(alloc, label.as_slice(), below, group)?;
         nodes.push(Node::shared(alloc, node)?)?;
     }
-    let own = Rc::new(alloc, trimmed(own)?)?;
+    let own = Records::of(alloc, trimmed(own)?)?;
     nodes.reverse();
     let children = children_of(alloc, &nodes)?;
     Node::new(alloc, label, own, children)

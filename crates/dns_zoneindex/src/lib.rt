@@ -10,6 +10,7 @@ mod grow;
 mod key;
 mod node;
 mod path;
+mod records;
 mod run;
 mod shared;
 mod tree;

@@ -4,6 +4,7 @@ ghost use Rattle.std.specs.Prelude.{◌≡◌, ◌<◌, [], length, reverse, IfO
 ghost use Rattle.std.specs.Option.{option_copied};
 ghost use Rattle.dns_zoneindex.specs.Children.{items, own_of, node_of, AreChildren};
 ghost use Rattle.dns_zoneindex.specs.Entries.{below, step, here_of, own_at, labels_in};
+ghost use Rattle.dns_zoneindex.specs.Held.{held};
 ghost use Rattle.dns_zoneindex.specs.Keys.{IsKey};
 ghost use Rattle.dns_zoneindex.specs.Setting.{set_at};
 ghost use Rattle.std.specs.Str.{bytes_eq};
@@ -12,6 +13,7 @@ use crate::count::sum;
 use crate::group::MOST;
 use crate::key::key_of;
 use crate::path::split;
+use crate::records::Records;
 use dns_memory::Heap;
 use dns_names::NameRef;
 use dns_records::Record;
@@ -58,7 +60,7 @@ pub(crate) struct Node {
     label: SmallVec<u8, 24, Heap>,
     /// The first octets of the label, which decide most comparisons.
     key: u64,
-    pub(crate) records: Rc<Vec<Record, Heap>, Heap>,
+    pub(crate) records: Records,
     pub(crate) children: Children,
     /// How many records stand at and under the name.
     count: usize,
@@ -71,17 +73,18 @@ impl Model for Node {
     ghost Value = { Child };
 
     ghost use Rattle.dns_zoneindex.specs.Children.{node_of, IsNode};
+    ghost use Rattle.dns_zoneindex.specs.Held.{held};
     ghost use Rattle.dns_zoneindex.specs.Size.{size_of};
 
-    ghost view = { λ n. node_of n.label.items n.records.value.items n.children };
+    ghost view = { λ n. node_of n.label.items (held n.records) n.children };
 
-    ghost invariant = { λ n. IsNode n.count n.key n.label.items n.records.value.items n.children };
+    ghost invariant = { λ n. IsNode n.count n.key n.label.items (held n.records) n.children };
 
     ghost size = { size_of };
 
     ghost use Rattle.dns_zoneindex.specs.Falls.{children_falls};
 
-    ghost size_decreases = { λ n h. children_falls n.records.value.items n.children h.1 };
+    ghost size_decreases = { λ n h. children_falls (held n.records) n.children h.1 };
 }
 
 impl Model for Group {
@@ -181,15 +184,15 @@ impl Node {
     pub(crate) fn new(
         alloc: Heap,
         label: &[u8],
-        records: Rc<Vec<Record, Heap>, Heap>,
+        records: Records,
         children: Children,
     ) -> Result<Node, AllocError>
-        requires some { 0 < length (own_of records.value.items children) }
+        requires some { 0 < length (own_of (held records) children) }
         requires order { AreChildren (items children) }
-        ensures made { IfOk result (λ node. node ≡ node_of label.now records.entry.value.items children) }
+        ensures made { IfOk result (λ node. node ≡ node_of label.now (held records) children) }
         ensures some { IfOk result (λ node. 0 < length node.own) }
     {
-        let count = sum(records.len(), children.count())?;
+        let count = sum(records.as_slice().len(), children.count())?;
         Ok(Node {
             label: SmallVec::from_slice(alloc, label)?,
             key: key_of(label),
@@ -208,10 +211,10 @@ impl Node {
     }
 
     /// The records that the name owns, to be shared.
-    pub(crate) fn share_records(&self) -> Result<Rc<Vec<Record, Heap>, Heap>, AllocError>
-        ensures { IfOk result (λ shared. shared.value.items ≡ here_of self.now.own) }
+    pub(crate) fn share_records(&self) -> Result<Records, AllocError>
+        ensures { IfOk result (λ shared. held shared ≡ here_of self.now.own) }
     {
-        Ok(self.records.clone()?)
+        self.records.share()
     }
 
     /// How many records stand at and under the name: at least one, or the name would not be kept.
@@ -248,14 +251,14 @@ impl Node {
         &self,
         alloc: Heap,
         path: &[&[u8]],
-        records: Rc<Vec<Record, Heap>, Heap>,
+        records: Records,
     ) -> Result<Option<Node>, AllocError>
-        ensures set { IfOk result (λ node. own_at node ≡ set_at (labels_in path.now) records.entry.value.items self.now.own) }
+        ensures set { IfOk result (λ node. own_at node ≡ set_at (labels_in path.now) (held records) self.now.own) }
         ensures label { IfOk result (λ node. IfSome node (λ n. n.label ≡ self.now.label)) }
     {
         let Node {
             label: own,
-            records: held,
+            records: owned,
             children,
             ..
         } = self;
@@ -267,7 +270,7 @@ impl Node {
                     None => Node::chain(alloc, label, rest, records)?,
                 };
                 let children = children.replaced(alloc, label, child)?;
-                Node::kept(alloc, own.as_slice(), held.clone()?, children)
+                Node::kept(alloc, own.as_slice(), owned.share()?, children)
             }
         }
     }
@@ -286,9 +289,9 @@ impl Node {
         alloc: Heap,
         label: &[u8],
         path: &[&[u8]],
-        records: Rc<Vec<Record, Heap>, Heap>,
+        records: Records,
     ) -> Result<Option<Node>, AllocError>
-        ensures set { IfOk result (λ node. own_at node ≡ set_at (labels_in path.now) records.entry.value.items []) }
+        ensures set { IfOk result (λ node. own_at node ≡ set_at (labels_in path.now) (held records) []) }
         ensures label { IfOk result (λ node. IfSome node (λ n. n.label ≡ label.now)) }
     {
         match path.split_first() {
@@ -298,8 +301,7 @@ impl Node {
                     Some(child) => Children::One(Rc::new(alloc, child)?),
                     None => Children::Empty,
                 };
-                let none = Rc::new(alloc, Vec::new(alloc))?;
-                Node::kept(alloc, label, none, children)
+                Node::kept(alloc, label, Records::Empty, children)
             }
         }
     }
@@ -308,14 +310,14 @@ impl Node {
     fn kept(
         alloc: Heap,
         label: &[u8],
-        records: Rc<Vec<Record, Heap>, Heap>,
+        records: Records,
         children: Children,
     ) -> Result<Option<Node>, AllocError>
         requires { AreChildren (items children) }
-        ensures set { IfOk result (λ node. own_at node ≡ own_of records.entry.value.items children) }
+        ensures set { IfOk result (λ node. own_at node ≡ own_of (held records) children) }
         ensures label { IfOk result (λ node. IfSome node (λ n. n.label ≡ label.now)) }
     {
-        if records.is_empty() && children.is_empty() {
+        if records.as_slice().is_empty() && children.is_empty() {
             return Ok(None);
         }
         Ok(Some(Node::new(alloc, label, records, children)?))

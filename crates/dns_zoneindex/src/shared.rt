@@ -5,14 +5,13 @@ ghost use Rattle.dns_records.specs.Record.{IsRecord};
 ghost use Rattle.dns_zone.specs.Records.{is_ordered};
 ghost use Rattle.dns_zoneindex.specs.Owned.{records_of, are_owned};
 
-use crate::edit::{copies_of, with_record, without_record};
+use crate::edit::{with_record, without_record};
 use crate::tree::Tree;
 use dns_memory::Heap;
 use dns_names::NameRef;
 use dns_records::Record;
 use dns_zone::{Match, ZoneIndex, are_valid, of_type};
 use std::alloc::AllocError;
-use std::rc::Rc;
 
 /// A set of records as a tree of names. A fork of it takes no memory, and shares all that neither changes.
 #[derive(Drop)]
@@ -103,12 +102,9 @@ impl ZoneIndex for SharedTree {
     }
 
     fn take_at(&mut self, name: &NameRef<'_>) -> Result<Vec<Record, Heap>, AllocError> {
-        let taken = self.tree.share_at(self.alloc, name)?;
+        let taken = self.tree.share_at(name)?;
         self.replace_at(name, Vec::new(self.alloc))?;
-        match Rc::try_unwrap(taken) {
-            Ok(records) => Ok(records),
-            Err(shared) => copies_of(self.alloc, shared.as_slice()),
-        }
+        taken.into_vec(self.alloc)
     }
 
     fn len(&self) -> usize {

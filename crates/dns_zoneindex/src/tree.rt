@@ -3,6 +3,7 @@ ghost use Rattle.std.specs.Prelude.{◌≡◌, true, [], length, reverse, IfOk, 
 ghost use Rattle.std.specs.Option.{option_copied};
 ghost use Rattle.dns_zoneindex.specs.Entries.{below, here_of, own_at};
 ghost use Rattle.dns_zoneindex.specs.Growth.{from_depth};
+ghost use Rattle.dns_zoneindex.specs.Held.{held};
 ghost use Rattle.dns_zone.specs.Node.{IsMatch};
 ghost use Rattle.dns_zone.specs.Records.{is_ordered};
 ghost use Rattle.dns_zoneindex.specs.Lent.{IsLent};
@@ -14,6 +15,7 @@ use crate::descent::find_node;
 use crate::grow::grow;
 use crate::node::Node;
 use crate::path::path_of;
+use crate::records::Records;
 use dns_memory::Heap;
 use dns_names::NameRef;
 use dns_records::Record;
@@ -102,16 +104,12 @@ impl Tree {
     }
 
     /// The records of a name, to be shared.
-    pub(crate) fn share_at(
-        &self,
-        alloc: Heap,
-        name: &NameRef<'_>,
-    ) -> Result<Rc<Vec<Record, Heap>, Heap>, AllocError>
-        ensures { IfOk result (λ shared. shared.value.items ≡ here_of (below (reverse name.now) self.now)) }
+    pub(crate) fn share_at(&self, name: &NameRef<'_>) -> Result<Records, AllocError>
+        ensures { IfOk result (λ shared. held shared ≡ here_of (below (reverse name.now) self.now)) }
     {
         match self.at(name) {
-            Some(node) => Ok(node.share_records()?),
-            None => Ok(Rc::new(alloc, Vec::new(alloc))?),
+            Some(node) => node.share_records(),
+            None => Ok(Records::Empty),
         }
     }
 
@@ -148,7 +146,7 @@ impl Tree {
         ensures err { OnErr result (self.new ≡ self.old) }
     {
         let path = path_of(alloc, name)?;
-        let records = Rc::new(alloc, records)?;
+        let records = Records::of(alloc, records)?;
         let changed = match &self.root {
             Root::Empty => Node::chain(alloc, &[], &path, records)?,
             Root::Full(node) => node.with_records(alloc, &path, records)?,

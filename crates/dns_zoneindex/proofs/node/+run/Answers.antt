@@ -2,6 +2,7 @@ use Rattle.std.proofs.Common.{◌≡◌, ◌-◌, ◌++◌, [], length, take, dr
 use Rattle.std.proofs.lemmas.List.{append-nil}
 use Rattle.dns_zoneindex.specs.Children.{items, joined}
 use Rattle.dns_zoneindex.specs.Entries.{flat}
+use Rattle.dns_zoneindex.specs.Held.{held}
 use Rattle.dns_zoneindex.specs.Lent.{IsLent}
 use Rattle.dns_zoneindex.specs.Owned.{records_of}
 use Rattle.dns_zoneindex.proofs.Lent.{lent_past, lent_slice, lent_there, records_flat, records_own}
@@ -27,8 +28,8 @@ Node::run_from-returns-then-place-own t c =
     let more = records_of (flat (items i.children)) in
     let rs = c.as_slice-own.result.now in
     let place = c.args.place in
-    let held : rs ≡ i.records.value.items = c.as_slice-own.ensures.value ∙ ap (λ v. v.items) c.deref.ensures in
-    let is = ap (λ x. records_of x.own) (sym c.self.view_is) ∙ records_own i.records.value.items (flat (items i.children)) ∙ ap (λ z. z ++ more) (sym held) in
+    let own : rs ≡ held i.records = c.as_slice-own.ensures in
+    let is = ap (λ x. records_of x.own) (sym c.self.view_is) ∙ records_own (held i.records) (flat (items i.children)) ∙ ap (λ z. z ++ more) (sym own) in
     subst (λ x. IsLent x place (take (length rs - place) (drop place rs))) (sym is) (lent_slice rs more place c.if-place-own.true)
 
 pub Node::run_from-returns : goal.Node::run_from-returns
@@ -37,6 +38,6 @@ Node::run_from-returns t c =
     let more = records_of (flat (items i.children)) in
     let rs = c.as_slice-own.result.now in
     let place = c.args.place in
-    let held : rs ≡ i.records.value.items = c.as_slice-own.ensures.value ∙ ap (λ v. v.items) c.deref.ensures in
-    let is = ap (λ x. records_of x.own) (sym c.self.view_is) ∙ records_own i.records.value.items (flat (items i.children)) ∙ ap (λ z. z ++ more) (sym held) in
+    let own : rs ≡ held i.records = c.as_slice-own.ensures in
+    let is = ap (λ x. records_of x.own) (sym c.self.view_is) ∙ records_own (held i.records) (flat (items i.children)) ∙ ap (λ z. z ++ more) (sym own) in
     subst (λ x. IsLent x place c.run_from.result.now) (sym is) (lent_past rs more place (length rs) c.run_from.result.now refl c.if-place-own.false c.run_from.ensures)

@@ -4,6 +4,7 @@ use Rattle.std.specs.Option.{option_copied}
 use Rattle.dns_zoneindex.specs.Entries.{here, flat, own_at, labels_in}
 use Rattle.dns_zoneindex.specs.Setting.{set_at}
 use Rattle.dns_zoneindex.specs.Children.{items}
+use Rattle.dns_zoneindex.specs.Held.{held}
 use Rattle.dns_zoneindex.specs.Assoc.{child_of}
 use Rattle.dns_zoneindex.proofs.Results.{if_ok}
 use Rattle.dns_zoneindex.proofs.Under.{found-label}
@@ -14,8 +15,8 @@ use Rattle.dns_zoneindex.proofs.node.Node.+with_records.Goals.{in-Some-find+in_o
 pub returns-in_ok-share-in-None-clause-set : goal.returns-in_ok-share-in-None-clause-set
 returns-in_ok-share-in-None-clause-set t c =
     let i = c.self.inside in
-    let rs = c.args.records.value.items in
-    let e = set-here c.args.path.now i.records.value.items rs (items i.children) c.in-None.ensures.cases in
+    let rs = held c.args.records in
+    let e = set-here c.args.path.now (held i.records) rs (items i.children) c.in-None.ensures.cases in
     if_ok c.kept.result (λ o m. m ∙ ap (λ z. map here rs ++ flat z) c.in_ok-share-in-None.ensures ∙ e ∙ ap (λ x. set_at (labels_in c.args.path.now) rs x.own) c.self.view_is) c.kept.ensures.set
 
 pub replaced-requires-clause-label : goal.replaced-requires-clause-label
@@ -29,17 +30,17 @@ replaced-requires-clause-label t c =
       | in-None-find+in_ok-child-in-None-find w ↦ subst (λ o. IfSome o (λ x. x.label ≡ l)) (sym w.child-is) w.in_ok-child-in-None-find.ensures.label
     ]
 
-pub returns-in_ok-clone-in-Some-clause-set : goal.returns-in_ok-clone-in-Some-clause-set
-returns-in_ok-clone-in-Some-clause-set t c =
+pub returns-in_ok-share-in-Some-clause-set : goal.returns-in_ok-share-in-Some-clause-set
+returns-in_ok-share-in-Some-clause-set t c =
     let i = c.self.inside in
     let l = c.in-Some.label.now.now in
     let rest = c.in-Some.rest.now in
-    let rs = c.args.records.value.items in
+    let rs = held c.args.records in
     let cs = items i.children in
     let new = c.in_ok-children-in-Some.children in
     let own : own_at c.match-find.child ≡ set_at (labels_in rest) rs (own_at (child_of l cs)) = elim c.match-find.branch [
       | in-Some-find+in_ok-child-in-Some-find w ↦ ap own_at w.child-is ∙ w.in_ok-child-in-Some-find.ensures.set ∙ ap (λ x. set_at (labels_in rest) rs (own_at x)) (sym (ap option_copied w.in-Some-find.is) ∙ c.find.ensures)
       | in-None-find+in_ok-child-in-None-find w ↦ ap own_at w.child-is ∙ w.in_ok-child-in-None-find.ensures.set ∙ ap (λ x. set_at (labels_in rest) rs (own_at x)) (sym (ap option_copied w.in-None-find.is) ∙ c.find.ensures)
     ] in
-    let e = set-below c.args.path.now c.in-Some.label.now rest i.records.value.items rs cs (items new) c.match-find.child c.in-Some.ensures.cases.0 c.self.invariant.1 c.in_ok-children-in-Some.ensures.set own in
-    if_ok c.kept-in-Some.result (λ o m. m ∙ ap (λ z. map here z.items ++ flat (items new)) c.in_ok-clone-in-Some.ensures.cases ∙ e ∙ ap (λ x. set_at (labels_in c.args.path.now) rs x.own) c.self.view_is) c.kept-in-Some.ensures.set
+    let e = set-below c.args.path.now c.in-Some.label.now rest (held i.records) rs cs (items new) c.match-find.child c.in-Some.ensures.cases.0 c.self.invariant.1 c.in_ok-children-in-Some.ensures.set own in
+    if_ok c.kept-in-Some.result (λ o m. m ∙ ap (λ z. map here z ++ flat (items new)) c.in_ok-share-in-Some.ensures ∙ e ∙ ap (λ x. set_at (labels_in c.args.path.now) rs x.own) c.self.view_is) c.kept-in-Some.ensures.set

@@ -1,0 +1,79 @@
+//! The records that one name owns, shared by all trees in which they are the same. The only record of a name, which most names have,
+//! stands in its node.
+ghost use Rattle.std.specs.Prelude.{◌≡◌, IfOk};
+ghost use Rattle.dns_zoneindex.specs.Held.{held};
+
+use crate::edit::copies_of;
+use dns_memory::Heap;
+use dns_records::Record;
+use std::alloc::AllocError;
+use std::rc::Rc;
+use std::slice;
+
+/// The records of one name.
+#[derive(Drop)]
+pub(crate) enum Records {
+    /// None: names are below it.
+    Empty,
+    /// One.
+    One(Record),
+    /// More than one.
+    Many(Rc<Vec<Record, Heap>, Heap>),
+}
+
+impl Records {
+    /// Those of a list.
+    pub(crate) fn of(alloc: Heap, records: Vec<Record, Heap>) -> Result<Records, AllocError>
+        ensures { IfOk result (λ made. held made ≡ records.entry.items) }
+    {
+        if records.len() > 1 {
+            return Ok(Records::Many(Rc::new(alloc, records)?));
+        }
+        let mut records = records;
+        match records.pop() {
+            None => Ok(Records::Empty),
+            Some(record) => Ok(Records::One(record)),
+        }
+    }
+
+    /// The records in a row.
+    #[inline(always)]
+    pub(crate) fn as_slice(&self) -> &[Record]
+        ensures { result.now ≡ held self.now }
+    {
+        match self {
+            Records::Empty => &[],
+            Records::One(record) => slice::from_ref(record),
+            Records::Many(records) => records.as_slice(),
+        }
+    }
+
+    /// The same records, to be shared: no list is copied.
+    pub(crate) fn share(&self) -> Result<Records, AllocError>
+        ensures { IfOk result (λ shared. held shared ≡ held self.now) }
+    {
+        match self {
+            Records::Empty => Ok(Records::Empty),
+            Records::One(record) => Ok(Records::One(record.clone()?)),
+            Records::Many(records) => Ok(Records::Many(records.clone()?)),
+        }
+    }
+
+    /// The records as a list. One that nothing else shares is not copied.
+    pub(crate) fn into_vec(self, alloc: Heap) -> Result<Vec<Record, Heap>, AllocError>
+        ensures { IfOk result (λ list. list.items ≡ held self) }
+    {
+        match self {
+            Records::Empty => Ok(Vec::new(alloc)),
+            Records::One(record) => {
+                let mut list = Vec::with_capacity(alloc, 1)?;
+                list.push(record)?;
+                Ok(list)
+            }
+            Records::Many(records) => match Rc::try_unwrap(records) {
+                Ok(list) => Ok(list),
+                Err(shared) => copies_of(alloc, shared.as_slice()),
+            },
+        }
+    }
+}
