@@ -86,6 +86,7 @@ impl<I: ZoneIndex, S: ZoneStore> Primary<I, S> {
     ///
     /// Where memory is refused, a request is answered with SERVFAIL, and nothing has changed but by the flush and the checkpoint that
     /// came first.
+    #[inline(always)]
     pub fn step(&mut self, alloc: Heap, event: Event<'_>) -> Effects
         // Whatever older versions there were, it is the step of the machine, and a crash at any moment of it leaves each device so
         // that it opens as the versions shown and the first of those staged, and the zone of a checkpoint, also of one that comes

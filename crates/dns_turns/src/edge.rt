@@ -115,6 +115,7 @@ impl<S: Stream + Drop> Edge<S> {
     }
 
     /// Sends the replies that waited, in their order.
+    #[inline(always)]
     fn send_headers<I: ZoneIndex, D: ZoneStore, N: Network<S>, L: Notes>(
         &mut self,
         alloc: Heap,
@@ -132,6 +133,7 @@ impl<S: Stream + Drop> Edge<S> {
     }
 
     /// Sends the reply to what came, if there is one.
+    #[inline(always)]
     fn send_reply<I: ZoneIndex, D: ZoneStore, N: Network<S>, L: Notes>(
         &mut self,
         alloc: Heap,

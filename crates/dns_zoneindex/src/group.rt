@@ -111,15 +111,15 @@ fn keys_of(slots: &[Slot]) -> [u64; MOST]
     keys
 }
 
-/// The last place whose key is at most this one, if there are such keys before all others. All are counted, so that no jump depends on one
+/// The last place whose key is at most this one, or the first where there is none. All keys are looked at, so that no jump depends on one
 /// of them.
 #[inline(always)]
 fn last_up_to(keys: &[u64; MOST], key: u64) -> usize {
-    let mut count = 0usize;
+    let mut greater = 0usize;
     for own in keys {
-        count = count.wrapping_add(usize::from(*own <= key));
+        greater = greater.wrapping_add(usize::from(key < *own));
     }
-    count.saturating_sub(1)
+    (MOST - 1).saturating_sub(greater)
 }
 
 /// The slot in which the child of a label stands, or would stand, by halves.
