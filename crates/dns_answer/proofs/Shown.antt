@@ -237,8 +237,3 @@ no_error kinds.Alias at other = refl
 no_error kinds.Answers at other = refl
 no_error kinds.NoData at other = refl
 no_error kinds.NameError at other = absurd (other refl)
-
-pub none_first : (zones : List Zone) (fs : List Found) (returned : List Represented) → RepresentAll zones fs returned → None ≡ slice_get returned 0 → fs ≡ []
-none_first zones [] returned are e = refl
-none_first zones (f ∷ fs) [] are e = absurd are
-none_first zones (f ∷ fs) (one ∷ returned) are e = absurd cc

@@ -38,10 +38,6 @@ AreValid NoReply = Unit {0}
 AreValid (Update m q) = Unit {0}
 AreValid (Transfer octets m q) = Unit {0}
 
-first_part : (xs ys : List Record) → AllByRecursion IsRecord (xs ++ ys) → AllByRecursion IsRecord xs
-first_part [] ys h = tt
-first_part (x ∷ xs) ys h = (h.0, first_part xs ys h.1)
-
 module _ (long : (r : Reply) → 12 + 10 * (length r.answer + length r.authority + length r.additional) ≤ length (text r)) where
   short_is : (r : Reply) → IsSoundReply r → length (text r) ≤ 65535 → IsTextOf (text r)
   short_is r h short =

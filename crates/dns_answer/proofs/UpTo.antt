@@ -1,5 +1,5 @@
 -- Records put in until there are too many, and hosts whose addresses stand.
-use Rattle.std.proofs.Common.{◌≡◌, ◌⊎◌, inl, inr, ℕ, zero, suc, ◌<◌, ◌≤◌, Bool, true, false, ◌||◌, List, [], ◌∷◌, ◌++◌, length, get_or, take, drop, refl, sym, ap, subst, ◌∙◌, arith, append_assoc}
+use Rattle.std.proofs.Common.{◌≡◌, ◌⊎◌, inl, inr, ℕ, zero, suc, ◌<◌, ◌≤◌, Bool, true, false, ◌||◌, List, [], ◌∷◌, ◌++◌, length, take, drop, refl, sym, ap, subst, ◌∙◌, arith, append_assoc}
 use Rattle.std.specs.Prelude.{Option, Some, None, is_some, not, ◌&&◌, ◌==◌}
 use Rattle.std.proofs.lemmas.Bool.Decides.{nat_tests}
 use Rattle.std.specs.List.{list_any, flat_map}
@@ -9,14 +9,14 @@ use Rattle.std.proofs.lemmas.List.Folds.{list_any-append}
 use Rattle.dns_names.specs.Name.{Labels, names_eq}
 use Rattle.dns_records.specs.Record.{Record, host_of}
 use Rattle.dns_records.specs.Types.{type_a, type_aaaa}
-use Rattle.dns_zone.specs.Order.{both_true, names_itself, names_same, same_is, same_itself}
+use Rattle.dns_zone.specs.Order.{both_true, names_same, same_is, same_itself}
 use Rattle.dns_zone.specs.Sets.{contains_found, either_true, filter_contains, not_found, sorted_filter, sorted_from, Sorted}
 use Rattle.dns_zone.specs.Records.{is_ordered, same, rrset}
 use Rattle.dns_zone.specs.Zone.{Zone}
 use Rattle.dns_lookup.specs.Lookup.{Found}
 use Rattle.dns_answer.specs.Sections.{Shown, additional_of, addresses_for, answer_of, authority_of, from_zone, records_of, unseen}
 use Rattle.dns_answer.specs.Added.{AddsUnseen, AddsUpTo, AreSectionsUpTo, count_of}
-use Rattle.dns_answer.specs.Known.{all_stand, is_address, none_stands, stood, AreAmong, AreHosts, AreKnown, AreOwners, HasNoAddressOf}
+use Rattle.dns_answer.specs.Known.{all_stand, none_stands, stood, AreHosts, AreKnown, AreOwners, HasNoAddressOf}
 use Rattle.dns_answer.specs.declared.additional.Sections.{Sections}
 use Rattle.dns_answer.proofs.Adding.{adds_none, adds_then, chosen, gathered, moved, no_host, opened, unseen_append}
 
@@ -201,19 +201,6 @@ hosts_same most z owners known more host s among put are =
     absorbed other true e = sym (ap (λ (n : Labels). list_any (names_eq n) known) (names_same other host e) ∙ among)
     absorbed other false e = refl
 
--- none of a new host stands
-pub none_of_host : (most : ℕ) (z : Zone) (owners known : List Labels) (host : Labels) (s : Sections) → list_any (names_eq host) owners ≡ false → list_any (names_eq host) known ≡ false → AreHosts most z owners known s → HasNoAddressOf host s
-none_of_host most z owners known host s apart new are r address is = of_test (list_any (same r) (stood s)) refl
-  where
-    of_test : (b : Bool) → list_any (same r) (stood s) ≡ b → list_any (same r) (stood s) ≡ false
-    of_test false e = e
-    of_test true e =
-        let one : list_any (names_eq r.owner) owners ≡ false = ap (λ (n : Labels). list_any (names_eq n) owners) is ∙ apart in
-        let two : list_any (names_eq r.owner) known ≡ false = ap (λ (n : Labels). list_any (names_eq n) known) is ∙ new in
-        let three = are.alone r address e in
-        let four : (list_any (names_eq r.owner) owners || list_any (names_eq r.owner) known) ≡ false = λ i. one i || two i in
-        absurd cc
-
 -- records in order of which none stands
 pub none_stand_of : (s xs : List Record) → Sorted xs → ((q : Record) → list_any (same q) xs ≡ true → list_any (same q) s ≡ false) → none_stands s xs ≡ true
 none_stand_of s [] h f = refl
@@ -292,42 +279,6 @@ second_new most a b records host ordered none h = none_stand_of (stood b) (rrset
       | inr new ↦ (let a = (of_rrset records host type_a q new).1 in let b = of.1 in absurd (grind (arith, nat_tests, a, b)))
     ]
 
--- the owners of addresses, record by record
-or_none : (b : Bool) → (b || false) ≡ true → b ≡ true
-or_none true e = refl
-or_none false e = absurd cc
-
-pub owners_put : (old new : List Labels) (r : Record) (seen : List Record) → IsPutIn old r.owner new → AreOwners old seen → AreOwners new (seen ++ r ∷ [])
-owners_put old new r seen put h q address e = elim (either_true (list_any (same q) seen) (same q r || false) (sym (list_any-append (same q) seen (r ∷ [])) ∙ e)) [
-  | inl before ↦ put q.owner ∙ or_right (names_eq q.owner r.owner) (list_any (names_eq q.owner) old) (h q address before)
-  | inr here ↦
-      (let is = same_is q r (or_none (same q r) here) in
-      put q.owner
-      ∙ or_left (names_eq q.owner r.owner) (list_any (names_eq q.owner) old) (subst (λ (x : Record). names_eq q.owner x.owner ≡ true) is (names_itself q.owner)))
-]
-
-pub owners_skip : (owners : List Labels) (r : Record) (seen : List Record) → is_address r ≡ false → AreOwners owners seen → AreOwners owners (seen ++ r ∷ [])
-owners_skip owners r seen none h q address e = elim (either_true (list_any (same q) seen) (same q r || false) (sym (list_any-append (same q) seen (r ∷ [])) ∙ e)) [
-  | inl before ↦ h q address before
-  | inr here ↦
-      (let is = same_is q r (or_none (same q r) here) in
-      let gone : is_address q ≡ false = subst (λ (x : Record). is_address x ≡ false) (sym is) none in
-      absurd cc)
-]
-
-pub among_put : (first old new : List Labels) (name : Labels) → IsPutIn old name new → AreAmong first old → AreAmong first new
-among_put first old new name put h other e = put other ∙ or_right (names_eq other name) (list_any (names_eq other) old) (h other e)
-
-pub owners_all : (one two three : List Labels) (s : Sections) → AreOwners one s.answer.items → AreAmong one two → AreOwners two s.authority.items → AreAmong two three → AreOwners three s.additional.items → AreOwners three (stood s)
-owners_all one two three s answer first authority second additional q address e =
-    elim (either_true (list_any (same q) (s.answer.items ++ s.authority.items)) (list_any (same q) s.additional.items) (sym (list_any-append (same q) (s.answer.items ++ s.authority.items) s.additional.items) ∙ e)) [
-      | inr last ↦ additional q address last
-      | inl front ↦ elim (either_true (list_any (same q) s.answer.items) (list_any (same q) s.authority.items) (sym (list_any-append (same q) s.answer.items s.authority.items) ∙ front)) [
-        | inl here ↦ second q.owner (first q.owner (answer q address here))
-        | inr here ↦ second q.owner (authority q address here)
-      ]
-    ]
-
 -- no host is known yet
 pub hosts_none : (most : ℕ) (z : Zone) (owners : List Labels) (s : Sections) → AreOwners owners (stood s) → AreHosts most z owners [] s
 hosts_none most z owners s h = record {
@@ -348,12 +299,6 @@ no_hosts z (r ∷ rs) e =
     none_of : (o : Option Labels) → is_some o ≡ false → None ≡ o
     none_of None e = refl
     none_of (Some host) e = absurd cc
-
--- found at a place
-pub any_at : (q : Record) (xs : List Record) (i : ℕ) (d : Record) → i < length xs → same q (get_or xs i d) ≡ true → list_any (same q) xs ≡ true
-any_at q [] i d h e = absurd (omega (arith, h))
-any_at q (x ∷ xs) zero d h e = or_left (same q x) (list_any (same q) xs) e
-any_at q (x ∷ xs) (suc i) d h e = or_right (same q x) (list_any (same q) xs) (any_at q xs i d (omega (arith, h)) e)
 
 -- a known host adds nothing
 none_unseen : (s xs : List Record) → all_stand s xs ≡ true → unseen s xs ≡ []

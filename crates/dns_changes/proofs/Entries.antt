@@ -82,14 +82,6 @@ flat_more (r ∷ rs) (s ∷ ss) x y f g n e =
     let first = plain_first r s (flat_map plain rs ++ x) (flat_map plain ss ++ y) f.0 g.0 (sym (flat_parts r rs x) ∙ e ∙ flat_parts s ss y) in
     flat_more rs ss x y f.1 g.1 (omega arith) first.1
 
-all_push : (rs : List Record) (r : Record) → AllByRecursion IsRecord rs → IsRecord r → AllByRecursion IsRecord (rs ++ r ∷ [])
-all_push [] r f g = (g, tt)
-all_push (a ∷ rs) r f g = (f.0, all_push rs r f.1 g)
-
-pub flat_push : (rs : List Record) (r : Record) (rest x : List ℕ) → rest ≡ plain r ++ x → flat_map plain (rs ++ r ∷ []) ++ x ≡ flat_map plain rs ++ rest
-flat_push [] r rest x e = flat_parts r [] x ∙ sym e
-flat_push (a ∷ rs) r rest x e = flat_parts a (rs ++ r ∷ []) x ∙ ap (λ y. plain a ++ y) (flat_push rs r rest x e) ∙ sym (flat_parts a rs rest)
-
 -- records read so far, and what is left of the octets behind the count
 pub record IsRead (behind : List ℕ) (rs : List Record) (rest : List ℕ) : Type 0 where
   pub valid : AllByRecursion IsRecord rs

@@ -7,11 +7,6 @@ use Rattle.dns_files.specs.Octets.{padded, written, sectors}
 use Rattle.dns_files.specs.File.{MayChange, FollowsBy}
 use Rattle.dns_files.specs.Device.{SectorsOf}
 
-pub length-padded : (n : ℕ) (o : List ℕ) → length (padded n o) ≡ n
-length-padded zero o = refl
-length-padded (suc n) [] = omega (arith, length-padded n [])
-length-padded (suc n) (x ∷ o) = omega (arith, length-padded n o)
-
 drop_none : (j : ℕ) → drop {A = ℕ} j [] ≡ []
 drop_none zero = refl
 drop_none (suc j) = refl

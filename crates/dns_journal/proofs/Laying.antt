@@ -84,18 +84,6 @@ entry_pushed old new before middle after octets stages = record {
   opened_stays = stages.opened_stays;
 }
 
-pub entries_none : (next : Cursor) (before : List Write) → PushesEntries next next [] before before
-entries_none next before = record {
-  entries = [];
-  are = tt;
-  batch = tt;
-  written = sym (append-nil before);
-  place = refl;
-  until_stays = refl;
-  version_is = refl;
-  opened_stays = refl;
-}
-
 entries_push : (cs : List Change) (es : List Entry) (c : Change) (e : Entry) → AreEntries cs es → AreEntries (c ∷ []) (e ∷ []) → AreEntries (cs ++ c ∷ []) (es ++ e ∷ [])
 entries_push [] [] c e are last = last
 entries_push [] (f ∷ es) c e are last = absurd are

@@ -47,9 +47,6 @@ abbrev at_zone : ℕ → List Zone → List Labels → Labels → ℕ → Option
 at_zone more zones seen name t None = []
 at_zone more zones seen name t (Some z) = found_in z name t ∷ behind more zones (seen ++ name ∷ []) t (next_name (found_in z name t) (seen ++ name ∷ []))
 
-opened : (more : ℕ) (zones : List Zone) (seen : List Labels) (name : Labels) (t : ℕ) → chain (suc more) zones seen name t ≡ at_zone more zones seen name t (zone_of zones name)
-opened more zones seen name t = refl
-
 -- nothing was found yet
 pub begins : (zones : List Zone) (t : ℕ) (returned : List Found) (name : Labels) → returned ≡ [] → Chained zones t (resolve zones name t) 8 returned name
 begins zones t returned name none = record { before = []; are = subst (λ (ones : List Found). RepresentAll zones [] ones) (sym none) tt; rest = refl }

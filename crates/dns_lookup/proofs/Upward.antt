@@ -67,7 +67,3 @@ closest_step zones (l ∷ rest) above e none = let same : above ≡ rest = cc in
 pub closest_end : (zones : List Zone) (here : Labels) → None ≡ parent here → among zones here ≡ false → zone_of zones here ≡ None
 closest_end zones [] e none = closest_none zones none
 closest_end zones (l ∷ rest) e none = absurd cc
-
-pub shorter : (here above : Labels) → Some above ≡ parent here → length above < length here
-shorter [] above e = absurd cc
-shorter (l ∷ rest) above e = let same : above ≡ rest = cc in subst (λ (x : Labels). length x < suc (length rest)) (sym same) (omega arith)

@@ -95,11 +95,6 @@ pub strings_refused : (all : Outcome (List ℕ)) (size : ℕ) (front : List ℕ)
 strings_refused all size front w words e h read =
     h ∙ ap (strung front) (first_string size w words ∙ ap (λ (r : Outcome (List ℕ)). r >>= λ s. strung (string s) (take_strings (size + 1 + length s) words)) read)
 
--- the strings of words of which there is one
-pub strings_found : (words : List Word) (front : List ℕ) → 0 < length words → take_strings 0 words ≡ Ok front → strings_in words ≡ Ok (front, [])
-strings_found [] front some h = absurd (omega arith)
-strings_found (w ∷ words) front some h = ap (λ (r : Outcome (List ℕ)). r >>= λ octets. Ok (octets, [])) h
-
 pub strings_fault : (words : List Word) (e : FileError) → 0 < length words → take_strings 0 words ≡ Err e → strings_in words ≡ Err e
 strings_fault [] e some h = absurd (omega arith)
 strings_fault (w ∷ words) e some h = ap (λ (r : Outcome (List ℕ)). r >>= λ octets. Ok (octets, [])) h
@@ -147,12 +142,6 @@ refused_string all self words size front text w e some h at same (inr fault) =
     let here : take_strings 0 all ≡ strung front (take_strings size (w ∷ words)) = h ∙ ap (λ (ws : List Word). strung front (take_strings size ws)) at in
     let read : string_at size (text_of w) ≡ Err e = ap (string_at size) (sym same) ∙ fault in
     inr (strings_fault all e some (strings_refused (take_strings 0 all) size front w words e here read))
-
--- no string is left
-pub strings_end : (all self : List Word) (size : ℕ) (front : List ℕ) → 0 < length all → take_strings 0 all ≡ strung front (take_strings size self) → self ≡ [] → strings_in all ≡ Ok (front, self)
-strings_end all self size front some h none =
-    let read : take_strings 0 all ≡ Ok front = h ∙ ap (λ (ws : List Word). strung front (take_strings size ws)) none ∙ ap (λ (x : List ℕ). Ok x) (append-nil front) in
-    strings_found all front some read ∙ ap (λ (ws : List Word). Ok (front, ws)) (sym none)
 
 pub length_both : (front more : List ℕ) (size rest left total : ℕ) → length more ≡ size → length front + left ≡ total → left ≡ size + rest → length (front ++ more) + rest ≡ total
 length_both front more size rest left total p q r = omega (arith, length-append front more)

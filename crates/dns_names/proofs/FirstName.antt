@@ -1,8 +1,7 @@
 -- The name at the front of octets, in lower case.
-use Rattle.std.proofs.Common.{◌≡◌, ℕ, zero, suc, ◌+◌, ◌≤◌, true, inl, List, [], ◌∷◌, ◌++◌, length, map, take, drop, get_or, Some, refl, sym, ap, ◌∙◌, arith, take-append-drop}
+use Rattle.std.proofs.Common.{◌≡◌, ℕ, ◌+◌, ◌≤◌, inl, List, ◌++◌, length, map, take, drop, Some, refl, sym, ap, ◌∙◌, arith, take-append-drop}
 use Rattle.std.specs.Prelude.{slice_get}
-use Rattle.std.specs.Char.{to_ascii_lowercase, is_ascii_uppercase}
-use Rattle.std.proofs.lemmas.Bool.Decides.{nat_tests}
+use Rattle.std.specs.Char.{to_ascii_lowercase}
 use Rattle.std.proofs.lemmas.List.{length-append, take_at}
 use Rattle.dns_names.specs.Name.{Labels, IsName, wire, labels_of}
 use Rattle.dns_names.specs.Octets.{LabelsAt, Explains}
@@ -13,14 +12,6 @@ use Rattle.dns_names.specs.Runs.{run_unique}
 use Rattle.dns_names.specs.declared.NameError.{NameError}
 use Rattle.dns_names.specs.declared.NameError.TheVariants.{OutOfMemory}
 use Rattle.dns_names.proofs.Parsed.{parsed, refused_none}
-
-capital : (b : ℕ) → is_ascii_uppercase b ≡ true → to_ascii_lowercase b ≡ b → ⊥
-capital b h e = grind (arith, nat_tests)
-
-pub capital_stands : (xs : List ℕ) (i : ℕ) → is_ascii_uppercase (get_or xs i 0) ≡ true → map to_ascii_lowercase xs ≡ xs → ⊥
-capital_stands [] i h e = capital 0 h refl
-capital_stands (x ∷ xs) zero h e = (let head : to_ascii_lowercase x ≡ x = cc in capital x h head)
-capital_stands (x ∷ xs) (suc i) h e = (let tail : map to_ascii_lowercase xs ≡ xs = cc in capital_stands xs i h tail)
 
 read_of : (m : List ℕ) (name : Labels) (rest : List ℕ) → IsName name → m ≡ wire name ++ rest → map to_ascii_lowercase (take (length (wire name)) m) ≡ wire name
 read_of m name rest valid e = ap (λ (x : List ℕ). map to_ascii_lowercase (take (length (wire name)) x)) e ∙ ap (map to_ascii_lowercase) (take_at (wire name) rest (length (wire name)) refl) ∙ wire_lower name valid.labels

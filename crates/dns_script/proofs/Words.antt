@@ -26,9 +26,6 @@ cut_words text word behind h = go (nat_lt (position_or_len is_blank text) (lengt
     go true e is = (let inside : position_or_len is_blank text < length text = grind (arith, nat_tests, e) in rw (is.0, is.1) (ap (filter (λ w. nat_lt 0 (length w))) (slice_split_first is_blank text 0 inside)))
     go false e is = rw (is.0, is.1) (ap (filter (λ w. nat_lt 0 (length w))) (split_none is_blank text e))
 
-pub no_word : (text word behind : List ℕ) → words text ≡ kept word (words behind) → length word ≡ 0 → words text ≡ words behind
-no_word text word behind e none = e ∙ ap (λ n. cond (nat_lt 0 n) (word ∷ words behind) (words behind)) none
-
 pub one_word : (text word behind : List ℕ) → words text ≡ kept word (words behind) → 0 < length word → words text ≡ word ∷ words behind
 one_word text word behind e some = (let yes : nat_lt 0 (length word) ≡ true = grind (arith, nat_tests, some) in e ∙ ap (λ b. cond b (word ∷ words behind) (words behind)) yes)
 

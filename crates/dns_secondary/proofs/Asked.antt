@@ -81,9 +81,6 @@ text_flagged : (q : Question) (id : ℕ) (authority : List Record) → text (as_
 text_flagged q id authority =
     ap (λ (rs : List Record). to_be_bytes w16 id ++ 128 ∷ rest_with q (length authority) rs) (append-nil authority)
 
-octets_flagged : (q : Question) (id : ℕ) (authority : List Record) → octets_with q id authority ≡ flagged q id 0 authority
-octets_flagged q id authority = refl
-
 is_reply : (q : Question) (id : ℕ) (authority : List Record) → IsName q.name → id < 2 ^ 16 → length authority < 2 ^ 16 → AllByRecursion IsRecord authority → IsReply (as_reply q id authority)
 is_reply q id authority valid fit few records = record {
   id = fit;

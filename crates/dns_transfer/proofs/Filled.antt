@@ -22,23 +22,10 @@ pub record Filling (reply : Reply) (left sent rest : List Record) (now : Reply) 
   pub in_order : left ≡ sent ++ rest
   pub has : now ≡ with_answer reply sent
 
-pub filling_first : (reply : Reply) (left : List Record) → reply.answer ≡ [] → Filling reply left [] left reply
-filling_first reply left none = record { in_order = refl; has = ap (λ (rs : List Record). record reply { answer = rs }) none }
-
 pub filling_next : (reply : Reply) (left sent rest more : List Record) (now : Reply) (r : Record) → Filling reply left sent rest now → rest ≡ r ∷ more → Filling reply left (sent ++ r ∷ []) more (record now { answer = now.answer ++ r ∷ [] })
 filling_next reply left sent rest more now r h e = record {
   in_order = h.in_order ∙ ap (λ (rs : List Record). sent ++ rs) e ∙ sym (append_assoc sent (r ∷ []) more);
   has = ap (λ (n : Reply). record n { answer = n.answer ++ r ∷ [] }) h.has;
-}
-
--- nothing is left
-pub filled_whole : (reply now : Reply) (limit : ℕ) (left sent rest : List Record) (octets : List ℕ) → Filling reply left sent rest now → rest ≡ [] → octets ≡ text now → length octets ≤ limit → IsFilled reply limit left octets rest
-filled_whole reply now limit left sent rest octets h none is fits = record {
-  sent = sent;
-  in_order = h.in_order;
-  packed = is ∙ ap text h.has;
-  fits = fits;
-  most = λ r more e. (let no : [] ≡ r ∷ more = sym none ∙ e in absurd cc);
 }
 
 -- the next record does not fit

@@ -1,7 +1,6 @@
 mod Lists
 pub mod Since
 mod Sequences
-mod Shared
 mod Soa
 mod Told
 mod Examples

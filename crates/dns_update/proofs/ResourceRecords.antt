@@ -1,13 +1,13 @@
 -- Tests of items and records.
-use Rattle.std.proofs.Common.{◌≡◌, ℕ, zero, suc, ◌+◌, ◌<◌, true, false, ◌&&◌, List, [], ◌∷◌, ◌++◌, Option, Some, None, length, drop, get_or, refl, subst, sym, ap, ◌∙◌, arith}
+use Rattle.std.proofs.Common.{◌≡◌, ℕ, zero, suc, ◌+◌, ◌<◌, true, ◌&&◌, List, [], ◌∷◌, ◌++◌, Option, Some, None, length, drop, get_or, refl, sym, ap, ◌∙◌, arith}
 use Rattle.std.specs.Prelude.{is_some, ◌==◌}
-use Rattle.std.specs.List.{AllByRecursion, find}
+use Rattle.std.specs.List.{find}
 use Rattle.dns_names.specs.Name.{names_eq}
 use Rattle.dns_records.specs.Record.{Record}
 use Rattle.dns_zone.specs.Records.{alike, rrset}
 use Rattle.dns_zone.specs.Order.{both_true, names_same, names_itself, number_itself}
 use Rattle.dns_wire.specs.Message.{ResourceRecord}
-use Rattle.dns_update.specs.ResourceRecord.{HasForm, first_fault, otherwise}
+use Rattle.dns_update.specs.ResourceRecord.{first_fault, otherwise}
 use Rattle.dns_wire.specs.declared.codes.Rcode.{Rcode}
 use Rattle.dns_zone.proofs.Kept.{find_kept, numbers_same}
 
@@ -34,10 +34,6 @@ stops : (o x : Option Rcode) → is_some o ≡ true → otherwise o x ≡ o
 stops (Some rcode) x e = refl
 stops None x e = absurd cc
 
-goes_on : (o x : Option Rcode) → is_some o ≡ false → otherwise o x ≡ x
-goes_on (Some rcode) x e = absurd cc
-goes_on None x e = refl
-
 -- the item at a place fails, and none before it did
 pub fault_stops : (fault : ResourceRecord → Option Rcode) (xs : List ResourceRecord) (i : ℕ) (r : ResourceRecord) (o : Option Rcode) → i < length xs → r ≡ get_or xs i r → o ≡ fault r → is_some o ≡ true → first_fault fault xs ≡ first_fault fault (drop i xs) → o ≡ first_fault fault xs
 fault_stops fault xs i r o lt is e some h = sym (h ∙ fault_at fault xs i r lt is ∙ ap (λ (x : Option Rcode). otherwise x (first_fault fault (drop (i + 1) xs))) (sym e) ∙ stops o _ some)
@@ -58,8 +54,3 @@ pub passes_at : (fault : ResourceRecord → Option Rcode) (xs : List ResourceRec
 passes_at fault [] i r e lt is = absurd (omega arith)
 passes_at fault (x ∷ xs) zero r e lt is = ap fault is ∙ (no_fault (fault x) (first_fault fault xs) e).0
 passes_at fault (x ∷ xs) (suc i) r e lt is = passes_at fault xs i r (no_fault (fault x) (first_fault fault xs) e).1 (omega arith) is
-
-pub form_at : (xs : List ResourceRecord) (i : ℕ) (r : ResourceRecord) → AllByRecursion HasForm xs → i < length xs → r ≡ get_or xs i r → HasForm r
-form_at [] i r h lt is = absurd (omega arith)
-form_at (x ∷ xs) zero r h lt is = subst HasForm (sym is) h.0
-form_at (x ∷ xs) (suc i) r h lt is = form_at xs i r h.1 (omega arith) is

@@ -4,9 +4,9 @@ use Rattle.std.proofs.lemmas.List.{length-append, append-nil, drop_at}
 use Rattle.dns_records.specs.Record.{Record}
 use Rattle.dns_wire.specs.Compress.{Place, Compressing, compressed_record}
 use Rattle.dns_wire.specs.Text.{Reply, header_octets, question_octets, question_places, text}
-use Rattle.dns_wire.specs.Puts.{asked, compressed_all}
-use Rattle.dns_wire.specs.Building.{Building, with_record, compressed_answer, IsBuilt, StandsBuilt, HasNoRecord}
-use Rattle.dns_wire.proofs.TextPut.{all_append, text_is, text_long, asked_octets, asked_places, first_all, second_all, third_all}
+use Rattle.dns_wire.specs.Puts.{compressed_all}
+use Rattle.dns_wire.specs.Building.{Building, with_record, compressed_answer, IsBuilt, StandsBuilt}
+use Rattle.dns_wire.proofs.TextPut.{all_append, text_is, text_long, first_all, second_all, third_all}
 
 -- sections without records have no octets
 no_octets : (r : Reply) → r.authority ≡ [] → r.additional ≡ [] → ((first_all r).octets ++ (second_all r).octets) ++ (third_all r).octets ≡ (compressed_answer r).octets
@@ -94,23 +94,3 @@ longer_text r octets after places x h e grown =
     let whole : text (with_record r x) ≡ (header_octets (with_record r x) ++ q) ++ c = plain_text (with_record r x) h.authority h.additional in
     let size : length after ≡ length ((h.head ++ q) ++ c) = ap length (next_written r octets after places x h e grown) in
     omega (arith, ap length whole, size, h.header, length-append (header_octets (with_record r x) ++ q) c, length-append (header_octets (with_record r x)) q, length-append (h.head ++ q) c, length-append h.head q)
-
--- a message with no record
-pub built_first : (b : Building) (none one octets head : List ℕ) (places : List Place) → HasNoRecord b.reply → none ≡ [] → length head ≡ 12 → one ≡ none ++ head → octets ≡ one ++ (asked (b.reply).question).octets → places ≡ (asked (b.reply).question).places → b.limit ≤ 16384 → length octets ≤ b.limit → StandsBuilt b octets places
-built_first b none one octets head places empty e0 twelve e1 e2 e3 low fits =
-    let r = b.reply in
-    let first : compressed_answer r ≡ record { octets = []; places = question_places r } = ap (compressed_all (question_places r) (12 + length (question_octets r))) empty.answer in
-    let front : octets ≡ head ++ question_octets r = e2 ∙ ap (λ (xs : List ℕ). xs ++ (asked r.question).octets) (e1 ∙ ap (λ (xs : List ℕ). xs ++ head) e0) ∙ ap (λ (xs : List ℕ). head ++ xs) (asked_octets r) in
-    record {
-      built = record {
-        authority = empty.authority;
-        additional = empty.additional;
-        head = head;
-        header = twelve;
-        written = front ∙ sym (append-nil (head ++ question_octets r)) ∙ ap (λ (c : Compressing). (head ++ question_octets r) ++ c.octets) (sym first);
-        low = omega (arith, fits, low);
-      };
-      table = e3 ∙ asked_places r ∙ ap (λ (c : Compressing). c.places) (sym first);
-      low = low;
-      fits = fits;
-    }

@@ -1,5 +1,5 @@
 -- An index of a table of places grows with the table.
-use Rattle.std.proofs.Common.{min, ◌≡◌, ◌≢◌, ◌⊎◌, inl, inr, ◌≤◌, ◌<◌, ℕ, zero, suc, Bool, true, false, List, [], ◌∷◌, ◌++◌, length, take, drop, set, get_or, nat_eq, Option, Some, None, refl, sym, ap, subst, ◌∙◌, arith, if◌then◌else◌}
+use Rattle.std.proofs.Common.{min, ◌≡◌, ◌≢◌, ◌⊎◌, inl, inr, ◌≤◌, ◌<◌, ℕ, Bool, true, false, List, [], ◌∷◌, ◌++◌, length, take, drop, set, get_or, nat_eq, Option, Some, None, refl, sym, ap, subst, ◌∙◌, arith, if◌then◌else◌}
 use Rattle.std.specs.Prelude.{nat_lt}
 use Rattle.std.specs.Option.{option_map, option_or}
 use Rattle.std.specs.Str.{bytes_eq}
@@ -82,18 +82,6 @@ indexed_more places buckets offset octets bucket plain inside grown h = record {
         → offset_at (bucket_at (set buckets (bucket_of octets) bucket) (bucket_of suffix)) (labels_of suffix) ≡ offset_at (places ++ one offset octets) (labels_of suffix)
     by true suffix same k = subst (λ (s : List ℕ). offset_at (bucket_at (set buckets (bucket_of octets) bucket) (bucket_of s)) (labels_of s) ≡ offset_at (places ++ one offset octets) (labels_of s)) (bytes_same octets suffix same) own
     by false suffix other k = looked suffix (eqb_tells (bucket_of octets) (bucket_of suffix)) k other ∙ h.at suffix k ∙ still suffix k other
-
--- an empty bucket behind the others holds nothing
-empty_behind : (buckets : List (List Place)) (number : ℕ) → bucket_at (buckets ++ [] ∷ []) number ≡ bucket_at buckets number
-empty_behind [] zero = refl
-empty_behind [] (suc number) = refl
-empty_behind (b ∷ bs) zero = refl
-empty_behind (b ∷ bs) (suc number) = empty_behind bs number
-
-pub indexed_behind : (places : List Place) (buckets : List (List Place)) → IsIndexed places buckets → IsIndexed places (buckets ++ [] ∷ [])
-indexed_behind places buckets h = record {
-  at = λ suffix k. ap (λ (ps : List Place). offset_at ps (labels_of suffix)) (empty_behind buckets (bucket_of suffix)) ∙ h.at suffix k;
-}
 
 -- the first so many places, and the others
 parted : (k : ℕ) (places : List Place) (suffix : Labels) → offset_at places suffix ≡ option_or (offset_at (take (min k (length places)) places) suffix) (offset_at (drop k places) suffix)

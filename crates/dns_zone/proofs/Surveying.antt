@@ -1,6 +1,6 @@
 -- One pass over the records of a set.
 use Rattle.std.proofs.Common.{◌≡◌, ℕ, zero, suc, ◌+◌, ◌<◌, Bool, true, false, List, [], ◌∷◌, length, drop, refl, sym, ap, subst, ◌∙◌, arith, cond}
-use Rattle.std.specs.Prelude.{min, nat_lt, ◌&&◌, ◌||◌, Option, Some, None, if◌then◌else◌}
+use Rattle.std.specs.Prelude.{min, nat_lt, ◌&&◌, ◌||◌, Some, if◌then◌else◌}
 use Rattle.std.specs.List.{find}
 use Rattle.std.specs.Ordering.{is_lt, ordering_reverse}
 use Rattle.std.specs.Cmp.{both_ways, tied_itself}
@@ -8,7 +8,6 @@ use Rattle.std.specs.declared.cmp.Ordering.{Ordering}
 use Rattle.std.specs.declared.cmp.Ordering.TheVariants.{Less, Greater}
 use borrow.Author.Tests.{ltb-true, lt-ltb}
 use Rattle.dns_records.specs.Record.{Record, record_cmp}
-use Rattle.dns_zone.specs.Records.{next_after}
 use Rattle.dns_zone.specs.Order.{record_total}
 use Rattle.dns_zone.specs.Sets.{Sorted, Below}
 use Rattle.dns_zone.specs.Survey.{behind}
@@ -35,22 +34,6 @@ or_assoc false b c = refl
 found_head : (r x : Record) (xs : List Record) (b : Bool) (y : Record) → cond b (Some x) (find (λ s. is_lt (record_cmp r s)) xs) ≡ Some y → (find (λ s. is_lt (record_cmp r s)) xs ≡ Some y → (tail : List Record) × (behind (Some r) xs ≡ y ∷ tail)) → (tail : List Record) × (cond b (x ∷ xs) (behind (Some r) xs) ≡ y ∷ tail)
 found_head r x xs true y e inner = let same : x ≡ y = cc in (xs, ap (λ (s : Record). s ∷ xs) same)
 found_head r x xs false y e inner = inner e
-
-pub walk_some : (o : Option Record) (xs : List Record) (y : Record) → next_after o xs ≡ Some y → (tail : List Record) × (behind o xs ≡ y ∷ tail)
-walk_some None [] y e = absurd cc
-walk_some None (x ∷ xs) y e = let same : x ≡ y = cc in (xs, ap (λ (s : Record). s ∷ xs) same)
-walk_some (Some r) [] y e = absurd cc
-walk_some (Some r) (x ∷ xs) y e = found_head r x xs (is_lt (record_cmp r x)) y e (λ f. walk_some (Some r) xs y f)
-
-found_none : (r x : Record) (xs : List Record) (b : Bool) → cond b (Some x) (find (λ s. is_lt (record_cmp r s)) xs) ≡ None → (find (λ s. is_lt (record_cmp r s)) xs ≡ None → behind (Some r) xs ≡ []) → cond b (x ∷ xs) (behind (Some r) xs) ≡ []
-found_none r x xs true e inner = absurd cc
-found_none r x xs false e inner = inner e
-
-pub walk_none : (o : Option Record) (xs : List Record) → next_after o xs ≡ None → behind o xs ≡ []
-walk_none None [] e = refl
-walk_none None (x ∷ xs) e = absurd cc
-walk_none (Some r) [] e = refl
-walk_none (Some r) (x ∷ xs) e = found_none r x xs (is_lt (record_cmp r x)) e (λ f. walk_none (Some r) xs f)
 
 behind_below : (r : Record) (xs : List Record) → Below r xs → behind (Some r) xs ≡ xs
 behind_below r [] h = refl
