@@ -252,12 +252,12 @@ fewer n l left front group taken = omega (arith, taken.some, ap length taken.who
 
 -- parts of what is in order
 -- the children that were made, the last one first
-pub stacked_more : {A : Type 0} (xs : List A) (x : A) (f : A → Child) → map f (reverse (xs ++ x ∷ [])) ≡ f x ∷ map f (reverse xs)
-stacked_more xs x f = ap (map f) (reverse-append xs (x ∷ []))
+pub stacked_more : (xs : List Child) (x : Child) → reverse (xs ++ x ∷ []) ≡ x ∷ reverse xs
+stacked_more xs x = reverse-append xs (x ∷ [])
 
-pub turned_more : {A : Type 0} (n : ℕ) (all left front group : List Record) (l : List ℕ) (nodes new : List A) (x : A) (f : A → Child) → IsTakenOff n l left front group → (f x).label ≡ l → (f x).own ≡ from_depth (n + 1) group → 0 < length (f x).own → Holds n all left (map f (reverse nodes)) → new ≡ nodes ++ x ∷ [] → Holds n all front (map f (reverse new))
-turned_more n all left front group l nodes new x f taken label own some h is =
-    subst (Holds n all front) (sym (ap (λ z. map f (reverse z)) is ∙ stacked_more nodes x f)) (turned n all left front group l (f x) (map f (reverse nodes)) taken label own some h)
+pub turned_more : (n : ℕ) (all left front group : List Record) (l : List ℕ) (nodes new : List Child) (x : Child) → IsTakenOff n l left front group → x.label ≡ l → x.own ≡ from_depth (n + 1) group → 0 < length x.own → Holds n all left (reverse nodes) → new ≡ nodes ++ x ∷ [] → Holds n all front (reverse new)
+turned_more n all left front group l nodes new x taken label own some h is =
+    subst (Holds n all front) (sym (ap reverse is ∙ stacked_more nodes x)) (turned n all left front group l x (reverse nodes) taken label own some h)
 
 -- the whole list, from the root
 pub records_are : (n : ℕ) (rs : List Record) → records_of (from_depth n rs) ≡ rs

@@ -60,13 +60,13 @@ some_flat slots k f n = any (joined slots) k (some_joined slots f (omega (arith,
     any (c ∷ cs) k n = omega (arith, k.0, length-pushed c (flat cs))
 
 -- a slot for each child
-pub joined_ones : {X : Type 0} (v : X → Child) (xs : List X) → joined (map (λ x. v x ∷ []) xs) ≡ map v xs
-joined_ones v [] = refl
-joined_ones v (x ∷ xs) = ap (λ z. v x ∷ z) (joined_ones v xs)
+pub joined_ones : (xs : List Child) → joined (map (λ x. x ∷ []) xs) ≡ xs
+joined_ones [] = refl
+joined_ones (x ∷ xs) = ap (λ z. x ∷ z) (joined_ones xs)
 
-pub full_ones : {X : Type 0} (v : X → Child) (xs : List X) → AllFull (map (λ x. v x ∷ []) xs)
-full_ones v [] = tt
-full_ones v (x ∷ xs) = (omega arith, full_ones v xs)
+pub full_ones : (xs : List Child) → AllFull (map (λ x. x ∷ []) xs)
+full_ones [] = tt
+full_ones (x ∷ xs) = (omega arith, full_ones xs)
 
 -- a label of up to eight octets is told by its key and its length
 pub called : (k o : ℕ) (q m : List ℕ) → IsKey k q → IsKey o m → k ≡ o → length q ≡ length m → length q ≤ 8 → true ≡ bytes_eq q m

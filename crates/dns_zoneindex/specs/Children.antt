@@ -1,5 +1,5 @@
 -- What the children of a name are seen as.
-use Rattle.std.specs.Prelude.{Bool, true, false, ◌≡◌, ℕ, ◌<◌, List, [], ◌∷◌, ◌++◌, length, map}
+use Rattle.std.specs.Prelude.{Bool, true, false, ◌≡◌, ℕ, ◌<◌, List, [], ◌∷◌, ◌++◌, length, map, get_or}
 use Rattle.std.specs.Ordering.{nat_cmp}
 use Rattle.std.specs.Cmp.Lexicographic.{slice_cmp}
 use Rattle.std.specs.declared.cmp.Ordering.{Ordering}
@@ -9,10 +9,12 @@ use Rattle.dns_zoneindex.specs.Entries.{Entry, Child, here, flat}
 use Rattle.dns_zoneindex.specs.Keys.{IsKey}
 use Rattle.dns_zoneindex.specs.declared.node.Children.{Children}
 use Rattle.dns_zoneindex.specs.declared.node.Children.TheVariants.{Empty, One, Many}
+use Rattle.dns_zoneindex.specs.declared.node.Kind.{Kind}
+use Rattle.dns_zoneindex.specs.declared.node.Kind.TheVariants.{Leaf, Branch}
 
 abbrev pub items : Children → List Child
 items Empty = []
-items (One n) = n.value ∷ []
+items (One n) = n ∷ []
 items (Many g) = g.value
 
 -- The children of slots, one slot behind the other.
@@ -35,9 +37,9 @@ abbrev pub AreChildren : List Child → Type 0
 AreChildren [] = Unit {0}
 AreChildren (x ∷ xs) = (0 < length x.own) × AllChildren (λ y. label_cmp x.label y.label ≡ Less) xs × AreChildren xs
 
--- A node has a record at or under its name, its children are in order, the number is that of its records, and the key that of its label.
-abbrev pub IsNode : ℕ → ℕ → List ℕ → List Record → Children → Type 0
-IsNode count key label records children =
+-- A branch has a record at or under its name, its children are in order, the number is that of its records, and the key that of its label.
+abbrev pub IsBranch : ℕ → ℕ → List ℕ → List Record → Children → Type 0
+IsBranch count key label records children =
     (0 < length (own_of records children)) × AreChildren (items children) × (count ≡ length (own_of records children)) × IsKey key label
 
 -- No slot is empty.
@@ -67,6 +69,15 @@ IsSlot count key children = (count ≡ length (flat children)) × IsFirstKey key
 
 abbrev pub node_of : List ℕ → List Record → Children → Child
 node_of label records children = record { label = label; own = own_of records children }
+
+-- The label of a leaf is the first of its owner's.
+abbrev pub leaf_label : Record → List ℕ
+leaf_label r = get_or r.owner 0 []
+
+-- What stands at and under a name: of a leaf its only record.
+abbrev pub child_in : Kind → Child
+child_in (Leaf r) = record { label = leaf_label r; own = here r ∷ [] }
+child_in (Branch b) = b.value
 
 -- What the test for no child tells: none, or one that has a record.
 abbrev pub MatchEmpty : Bool → List Child → Type 0

@@ -3,18 +3,20 @@ use Rattle.std.proofs.Common.{◌≡◌, ℕ, suc, ◌+◌, ◌<◌, ◌≤◌, 
 use Rattle.std.specs.Prelude.{max}
 use Rattle.dns_records.specs.Record.{Record}
 use Rattle.dns_zoneindex.specs.Entries.{Entry, Child, here, pushed, flat}
-use Rattle.dns_zoneindex.specs.Size.{weight, sizes_of, slot_size}
-use Rattle.dns_zoneindex.specs.Children.{items, joined, own_of, AreChildren, IsGroup}
+use Rattle.dns_zoneindex.specs.Size.{weight, sizes_of, slot_size, node_size}
+use Rattle.dns_zoneindex.specs.Children.{items, joined, own_of, child_in, AreChildren, IsGroup}
 use Rattle.dns_zoneindex.specs.declared.node.Children.{Children}
 use Rattle.dns_zoneindex.specs.declared.node.Children.TheVariants.{Empty, One, Many}
-use Rattle.dns_zoneindex.specs.declared.node.Group.TheDeep.{deep-Children}
+use Rattle.dns_zoneindex.specs.declared.node.Branch.TheDeep.{deep-Children, deep-Kind}
+use Rattle.dns_zoneindex.specs.declared.node.Kind.{Kind}
+use Rattle.dns_zoneindex.specs.declared.node.Kind.TheVariants.{Leaf, Branch}
 use denote.Param.Weighed.{most}
 
 pub weight-append : (a b : List Entry) → weight (a ++ b) ≡ weight a + weight b
 weight-append [] b = omega arith
 weight-append (e ∷ a) b = omega (arith, weight-append a b)
 
-pub weight-pushed : (l : List ℕ) (a : List Entry) → weight (map (pushed l) a) ≡ weight a + length a + length a
+pub weight-pushed : (l : List ℕ) (a : List Entry) → weight (map (pushed l) a) ≡ weight a + length a + length a + length a
 weight-pushed l [] = refl
 weight-pushed l (e ∷ a) = omega (arith, weight-pushed l a)
 
@@ -31,8 +33,12 @@ pub children_falls : (rs : List Record) (l : Children)
     → AreChildren (items l)
     → max (deep-Children l) 0 ≤ suc (weight (own_of rs l))
 children_falls rs Empty h = omega arith
-children_falls rs (One n) h = omega (arith, sizes_flat (n.value ∷ []) h, weight-append (map here rs) (flat (n.value ∷ [])))
+children_falls rs (One n) h = omega (arith, sizes_flat (n ∷ []) h, weight-append (map here rs) (flat (n ∷ [])))
 children_falls rs (Many g) h = omega (arith, sizes_flat g.value h, weight-append (map here rs) (flat g.value))
+
+pub kind_falls : (k : Kind) → max (deep-Kind k) 0 ≤ node_size (child_in k)
+kind_falls (Leaf r) = omega arith
+kind_falls (Branch b) = omega arith
 
 pub slot_falls : (l : Children) → max (deep-Children l) 0 ≤ slot_size (items l)
 slot_falls Empty = omega arith

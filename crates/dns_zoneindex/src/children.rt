@@ -13,7 +13,6 @@ use crate::node::{Children, Group, Node, Slot};
 use dns_memory::Heap;
 use std::alloc::AllocError;
 use std::cmp::Ordering;
-use std::rc::Rc;
 
 impl Children {
     /// Whether there is no child.
@@ -50,7 +49,7 @@ impl Children {
     {
         match self {
             Children::Empty => None,
-            Children::One(node) => Some(&**node),
+            Children::One(node) => Some(node),
             Children::Many(group) => {
                 let Group { slots, .. } = &**group;
                 slots.first()?.children.first()
@@ -69,7 +68,7 @@ impl Children {
                 Children::Empty => return None,
                 Children::One(node) => {
                     if node.is_called(key, label) {
-                        return Some(&**node);
+                        return Some(node);
                     }
                     return None;
                 }
@@ -87,15 +86,15 @@ impl Children {
     {
         match self {
             Children::Empty => Ok(Children::Empty),
-            Children::One(node) => Ok(Children::One(node.clone()?)),
+            Children::One(node) => Ok(Children::One(node.share()?)),
             Children::Many(group) => Ok(Children::Many(group.clone()?)),
         }
     }
 
     /// The children with one put in, which replaces one of equal label, in slots: few enough to stand in place of one.
-    fn put(&self, alloc: Heap, node: Rc<Node, Heap>) -> Result<Vec<Slot, Heap>, AllocError>
-        requires some { 0 < length node.value.own }
-        ensures put { IfOk result (λ slots. joined slots.items ≡ put_child node.entry.value (items self.now)) }
+    fn put(&self, alloc: Heap, node: Node) -> Result<Vec<Slot, Heap>, AllocError>
+        requires some { 0 < length node.own }
+        ensures put { IfOk result (λ slots. joined slots.items ≡ put_child node (items self.now)) }
         ensures full { IfOk result (λ slots. AllFull slots.items) }
     {
         match self {
@@ -121,7 +120,7 @@ impl Children {
                 if own.is_called(key_of(label), label) {
                     return Ok(Vec::new(alloc));
                 }
-                one(alloc, Slot::one(own.clone()?))
+                one(alloc, Slot::one(own.share()?))
             }
             Children::Many(group) => {
                 let Group { keys, slots, .. } = &**group;
@@ -148,7 +147,8 @@ impl Children {
     {
         match child {
             Some(child) => {
-                let put = self.put(alloc, Node::shared(alloc, child)?)?;
+                let _some = child.records();
+                let put = self.put(alloc, child)?;
                 children_in(alloc, put)
             }
             None => {
@@ -160,19 +160,15 @@ impl Children {
 }
 
 /// A child and another one, which replaces it where their labels are equal.
-fn beside(
-    alloc: Heap,
-    own: &Rc<Node, Heap>,
-    node: Rc<Node, Heap>,
-) -> Result<Vec<Slot, Heap>, AllocError>
-    ensures put { IfOk result (λ slots. joined slots.items ≡ put_child node.entry.value (own.now.value ∷ [])) }
+fn beside(alloc: Heap, own: &Node, node: Node) -> Result<Vec<Slot, Heap>, AllocError>
+    ensures put { IfOk result (λ slots. joined slots.items ≡ put_child node (own.now ∷ [])) }
     ensures full { IfOk result (λ slots. AllFull slots.items) }
 {
     let order = node.label().cmp(own.label());
     let slot = Slot::one(node);
     match order {
-        Ordering::Less => two(alloc, slot, Slot::one(own.clone()?)),
+        Ordering::Less => two(alloc, slot, Slot::one(own.share()?)),
         Ordering::Equal => one(alloc, slot),
-        Ordering::Greater => two(alloc, Slot::one(own.clone()?), slot),
+        Ordering::Greater => two(alloc, Slot::one(own.share()?), slot),
     }
 }

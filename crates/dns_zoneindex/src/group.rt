@@ -21,8 +21,8 @@ const USUAL: usize = 14;
 
 impl Slot {
     /// One child.
-    pub(crate) fn one(node: Rc<Node, Heap>) -> Slot
-        ensures { result ≡ node.entry.value ∷ [] }
+    pub(crate) fn one(node: Node) -> Slot
+        ensures { result ≡ node ∷ [] }
     {
         let count = node.count();
         let key = node.key();

@@ -16,7 +16,6 @@ use dns_records::Record;
 use smallvec::SmallVec;
 use std::alloc::AllocError;
 use std::mem;
-use std::rc::Rc;
 
 /// The label with so many before it on the way up to the root.
 fn label_behind<'n>(name: &NameRef<'n>, skipped: usize) -> Option<&'n [u8]>
@@ -105,14 +104,14 @@ fn trimmed(records: Vec<Record, Heap>) -> Result<Vec<Record, Heap>, AllocError>
 }
 
 /// Names in order as the children of one.
-fn children_of(alloc: Heap, nodes: &[Rc<Node, Heap>]) -> Result<Children, AllocError>
-    requires { AreChildren (map (λ n. n.value) nodes.now) }
-    ensures made { IfOk result (λ children. items children ≡ map (λ n. n.value) nodes.now) }
+fn children_of(alloc: Heap, nodes: &[Node]) -> Result<Children, AllocError>
+    requires { AreChildren nodes.now }
+    ensures made { IfOk result (λ children. items children ≡ nodes.now) }
     ensures kept { IfOk result (λ children. AreChildren (items children)) }
 {
     let mut slots = Vec::with_capacity(alloc, nodes.len())?;
     for node in nodes {
-        slots.push(Slot::one(node.clone()?))?;
+        slots.push(Slot::one(node.share()?))?;
     }
     in_levels(alloc, slots)
 }
@@ -134,7 +133,8 @@ pub(crate) fn grow(
     let mut nodes = Vec::new(alloc);
     'groups: while let Some((label, group)) = take_off(alloc, &mut own, depth)? {
         let node = grow(alloc, label.as_slice(), below, group)?;
-        nodes.push(Node::shared(alloc, node)?)?;
+        let _some = node.records();
+        nodes.push(node)?;
     }
     let own = Records::of(alloc, trimmed(own)?)?;
     nodes.reverse();

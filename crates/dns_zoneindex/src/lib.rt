@@ -1,6 +1,7 @@
 //! Sets of records as trees of names, of which forks share what neither changed.
 #![tactic(auto)]
 
+mod branch;
 mod children;
 mod count;
 mod descent;

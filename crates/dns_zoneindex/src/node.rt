@@ -9,7 +9,7 @@ ghost use Rattle.dns_zoneindex.specs.Keys.{IsKey};
 ghost use Rattle.dns_zoneindex.specs.Setting.{set_at};
 ghost use Rattle.std.specs.Str.{bytes_eq};
 
-use crate::count::sum;
+use crate::branch::first_label;
 use crate::group::MOST;
 use crate::key::key_of;
 use crate::path::split;
@@ -21,6 +21,7 @@ use smallvec::SmallVec;
 use std::alloc::AllocError;
 use std::marker::Model;
 use std::rc::Rc;
+use std::slice;
 
 /// Neighbouring children of a name, in the order of their labels: all that it has, or those of a slot.
 #[cycle(tree)]
@@ -28,7 +29,7 @@ pub(crate) enum Children {
     /// None.
     Empty,
     /// One child.
-    One(Rc<Node, Heap>),
+    One(Node),
     /// More than one.
     Many(Rc<Group, Heap>),
 }
@@ -46,39 +47,71 @@ pub(crate) struct Group {
 /// Neighbouring children in a group, at least one.
 #[cycle(tree)]
 pub(crate) struct Slot {
-    /// The first octets of the first one's label, by which the slot is found.
-    pub(crate) key: u64,
     /// How many records stand at and under all of them.
     pub(crate) count: usize,
+    /// The first octets of the first one's label, by which the slot is found.
+    pub(crate) key: u64,
     pub(crate) children: Children,
 }
 
-/// What stands at and under a name, without the name above it.
+/// What stands at and under a name, without the name above it. It is moved and shared like one pointer.
+#[cycle(tree)]
+pub(crate) struct Node {
+    pub(crate) kind: Kind,
+}
+
+/// The two kinds of nodes. Most names are hosts with one record and no name below, and need no memory but the record's.
+#[cycle(tree)]
+pub(crate) enum Kind {
+    /// One record, and no name below: the label is the first of its owner's.
+    Leaf(Record),
+    /// Anything else.
+    Branch(Rc<Branch, Heap>),
+}
+
+/// What stands at and under a name, with memory for its label, its records and its children.
 #[cycle(tree)]
 #[derive(Drop)]
-pub(crate) struct Node {
-    label: SmallVec<u8, 24, Heap>,
+pub(crate) struct Branch {
+    pub(crate) label: SmallVec<u8, 24, Heap>,
     /// The first octets of the label, which decide most comparisons.
-    key: u64,
+    pub(crate) key: u64,
     pub(crate) records: Records,
     pub(crate) children: Children,
     /// How many records stand at and under the name.
-    count: usize,
+    pub(crate) count: usize,
 }
 
 impl Model for Node {
+    ghost use Rattle.dns_zoneindex.specs.Entries.{Child};
+
+    ghost Value = { Child };
+
+    ghost use Rattle.dns_zoneindex.specs.Children.{child_in};
+    ghost use Rattle.dns_zoneindex.specs.Size.{node_size};
+
+    ghost view = { λ n. child_in n.kind };
+
+    ghost size = { node_size };
+
+    ghost use Rattle.dns_zoneindex.specs.Falls.{kind_falls};
+
+    ghost size_decreases = { λ n h. kind_falls n.kind };
+}
+
+impl Model for Branch {
     ghost use Rattle.std.specs.Prelude.{ℕ, List};
     ghost use Rattle.dns_zoneindex.specs.Entries.{Child};
 
     ghost Value = { Child };
 
-    ghost use Rattle.dns_zoneindex.specs.Children.{node_of, IsNode};
+    ghost use Rattle.dns_zoneindex.specs.Children.{node_of, IsBranch};
     ghost use Rattle.dns_zoneindex.specs.Held.{held};
     ghost use Rattle.dns_zoneindex.specs.Size.{size_of};
 
     ghost view = { λ n. node_of n.label.items (held n.records) n.children };
 
-    ghost invariant = { λ n. IsNode n.count n.key n.label.items (held n.records) n.children };
+    ghost invariant = { λ n. IsBranch n.count n.key n.label.items (held n.records) n.children };
 
     ghost size = { size_of };
 
@@ -133,11 +166,28 @@ impl Drop for Children {
     fn drop(self) {
         match self {
             Children::Empty => {}
-            Children::One(node) => {
-                let _node = Rc::into_inner(node);
-            }
+            Children::One(_node) => {}
             Children::Many(group) => {
                 let _group = Rc::into_inner(group);
+            }
+        }
+    }
+}
+
+impl Drop for Node {
+    #[cycle(gone)]
+    fn drop(self) {
+        let Node { kind: _kind } = self;
+    }
+}
+
+impl Drop for Kind {
+    #[cycle(gone)]
+    fn drop(self) {
+        match self {
+            Kind::Leaf(_record) => {}
+            Kind::Branch(branch) => {
+                let _branch = Rc::into_inner(branch);
             }
         }
     }
@@ -180,7 +230,7 @@ impl Slot {
 }
 
 impl Node {
-    /// What stands at and under a name: its records, and what its children have.
+    /// What stands at and under a name: its records, and what its children have. It is a leaf where the label and what stands there allow it.
     pub(crate) fn new(
         alloc: Heap,
         label: &[u8],
@@ -192,29 +242,82 @@ impl Node {
         ensures made { IfOk result (λ node. node ≡ node_of label.now (held records) children) }
         ensures some { IfOk result (λ node. 0 < length node.own) }
     {
-        let count = sum(records.as_slice().len(), children.count())?;
+        if !children.is_empty() {
+            return Node::branch(alloc, label, records, children);
+        }
+        match records {
+            Records::One(record) => {
+                if first_label(&record) == label {
+                    return Ok(Node {
+                        kind: Kind::Leaf(record),
+                    });
+                }
+                Node::branch(alloc, label, Records::One(record), children)
+            }
+            other => Node::branch(alloc, label, other, children),
+        }
+    }
+
+    /// The same in memory of its own.
+    fn branch(
+        alloc: Heap,
+        label: &[u8],
+        records: Records,
+        children: Children,
+    ) -> Result<Node, AllocError>
+        requires some { 0 < length (own_of (held records) children) }
+        requires order { AreChildren (items children) }
+        ensures made { IfOk result (λ node. node ≡ node_of label.now (held records) children) }
+        ensures some { IfOk result (λ node. 0 < length node.own) }
+    {
+        let branch = Branch::new(alloc, label, records, children)?;
         Ok(Node {
-            label: SmallVec::from_slice(alloc, label)?,
-            key: key_of(label),
-            records,
-            children,
-            count,
+            kind: Kind::Branch(Rc::new(alloc, branch)?),
         })
     }
 
+    /// The same, shared.
+    pub(crate) fn share(&self) -> Result<Node, AllocError>
+        ensures { IfOk result (λ node. node ≡ self.now) }
+    {
+        let kind = match &self.kind {
+            Kind::Leaf(record) => Kind::Leaf(record.clone()?),
+            Kind::Branch(branch) => Kind::Branch(branch.clone()?),
+        };
+        Ok(Node { kind })
+    }
+
     /// The records that the name owns.
+    #[inline(always)]
     pub(crate) fn records(&self) -> &[Record]
         ensures own { result.now ≡ here_of self.now.own }
         ensures kept { 0 < length self.now.own }
     {
-        self.records.as_slice()
+        match &self.kind {
+            Kind::Leaf(record) => slice::from_ref(record),
+            Kind::Branch(branch) => branch.records(),
+        }
     }
 
     /// The records that the name owns, to be shared.
     pub(crate) fn share_records(&self) -> Result<Records, AllocError>
         ensures { IfOk result (λ shared. held shared ≡ here_of self.now.own) }
     {
-        self.records.share()
+        match &self.kind {
+            Kind::Leaf(record) => Ok(Records::One(record.clone()?)),
+            Kind::Branch(branch) => branch.share_records(),
+        }
+    }
+
+    /// The children of the name, shared.
+    fn share_children(&self) -> Result<Children, AllocError>
+        ensures own { IfOk result (λ children. self.now.own ≡ own_of (here_of self.now.own) children) }
+        ensures order { IfOk result (λ children. AreChildren (items children)) }
+    {
+        match &self.kind {
+            Kind::Leaf(_record) => Ok(Children::Empty),
+            Kind::Branch(branch) => branch.share_children(),
+        }
     }
 
     /// How many records stand at and under the name: at least one, or the name would not be kept.
@@ -222,7 +325,10 @@ impl Node {
         ensures own { result ≡ length self.now.own }
         ensures kept { 0 < result }
     {
-        self.count
+        match &self.kind {
+            Kind::Leaf(_record) => 1,
+            Kind::Branch(branch) => branch.count(),
+        }
     }
 
     /// The child of a label.
@@ -230,7 +336,10 @@ impl Node {
         ensures found { own_at (option_copied result) ≡ step label.now self.now.own }
         ensures kept { 0 < length self.now.own }
     {
-        self.children.find(label)
+        match &self.kind {
+            Kind::Leaf(_record) => None,
+            Kind::Branch(branch) => branch.child(label),
+        }
     }
 
     /// What stands at and under a name, whose labels lead to it from here.
@@ -256,32 +365,18 @@ impl Node {
         ensures set { IfOk result (λ node. own_at node ≡ set_at (labels_in path.now) (held records) self.now.own) }
         ensures label { IfOk result (λ node. IfSome node (λ n. n.label ≡ self.now.label)) }
     {
-        let Node {
-            label: own,
-            records: owned,
-            children,
-            ..
-        } = self;
+        let children = self.share_children()?;
         match path.split_first() {
-            None => Node::kept(alloc, own.as_slice(), records, children.share()?),
+            None => Node::kept(alloc, self.label(), records, children),
             Some((label, rest)) => {
                 let child = match children.find(label) {
                     Some(child) => child.with_records(alloc, rest, records)?,
                     None => Node::chain(alloc, label, rest, records)?,
                 };
-                let children = children.replaced(alloc, label, child)?;
-                Node::kept(alloc, own.as_slice(), owned.share()?, children)
+                let changed = children.replaced(alloc, label, child)?;
+                Node::kept(alloc, self.label(), self.share_records()?, changed)
             }
         }
-    }
-
-    /// The same, to be shared.
-    pub(crate) fn shared(alloc: Heap, node: Node) -> Result<Rc<Node, Heap>, AllocError>
-        ensures made { IfOk result (λ shared. shared.value ≡ node) }
-        ensures some { IfOk result (λ shared. 0 < length shared.value.own) }
-    {
-        let _records = &node.records;
-        Ok(Rc::new(alloc, node)?)
     }
 
     /// A name with no records, but at the name that labels lead to.
@@ -298,7 +393,10 @@ impl Node {
             None => Node::kept(alloc, label, records, Children::Empty),
             Some((next, rest)) => {
                 let children = match Node::chain(alloc, next, rest, records)? {
-                    Some(child) => Children::One(Rc::new(alloc, child)?),
+                    Some(child) => {
+                        let _some = child.records();
+                        Children::One(child)
+                    }
                     None => Children::Empty,
                 };
                 Node::kept(alloc, label, Records::Empty, children)
@@ -327,36 +425,31 @@ impl Node {
     pub(crate) fn label(&self) -> &[u8]
         ensures { result.now ≡ self.now.label }
     {
-        self.label.as_slice()
+        match &self.kind {
+            Kind::Leaf(record) => first_label(record),
+            Kind::Branch(branch) => branch.label(),
+        }
     }
 
     /// The first octets of the label.
     pub(crate) fn key(&self) -> u64
         ensures { IsKey result self.now.label }
     {
-        self.key
+        match &self.kind {
+            Kind::Leaf(record) => key_of(first_label(record)),
+            Kind::Branch(branch) => branch.key(),
+        }
     }
 
-    /// Whether a label is that of the node. Of up to eight octets the key tells all but how many they are.
+    /// Whether a label is that of the node.
     #[inline(always)]
     pub(crate) fn is_called(&self, key: u64, label: &[u8]) -> bool
         requires { IsKey key label.now }
         ensures { result ≡ bytes_eq label.now self.now.label }
     {
-        let Node {
-            label: own,
-            key: own_key,
-            ..
-        } = self;
-        if key != *own_key {
-            return false;
+        match &self.kind {
+            Kind::Leaf(record) => label == first_label(record),
+            Kind::Branch(branch) => branch.is_called(key, label),
         }
-        if label.len() != own.len() {
-            return false;
-        }
-        if label.len() <= 8 {
-            return true;
-        }
-        label == own.as_slice()
     }
 }

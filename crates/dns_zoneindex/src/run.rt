@@ -5,8 +5,9 @@ ghost use Rattle.dns_zoneindex.specs.Entries.{flat};
 ghost use Rattle.dns_zoneindex.specs.Lent.{IsLent, IsThere, IsBeyond};
 ghost use Rattle.dns_zoneindex.specs.Owned.{records_of};
 
-use crate::node::{Children, Group, Node, Slot};
+use crate::node::{Branch, Children, Group, Kind, Node, Slot};
 use dns_records::Record;
+use std::slice;
 
 /// The slot with the place-th of all records, and the record's place among those of the slot.
 fn slot_of(slots: &[Slot], place: usize) -> Option<(&Slot, usize)>
@@ -47,6 +48,24 @@ impl Node {
     /// Records from the place-th on, of all that stand at and under the name.
     #[cycle(run)]
     pub(crate) fn run_from(&self, place: usize) -> &[Record]
+        ensures { IsLent (records_of self.now.own) place result.now }
+    {
+        match &self.kind {
+            Kind::Leaf(record) => {
+                if place == 0 {
+                    return slice::from_ref(record);
+                }
+                &[]
+            }
+            Kind::Branch(branch) => branch.run_from(place),
+        }
+    }
+}
+
+impl Branch {
+    /// Records from the place-th on, of all that stand at and under the name.
+    #[cycle(run)]
+    fn run_from(&self, place: usize) -> &[Record]
         ensures { IsLent (records_of self.now.own) place result.now }
     {
         let own = self.records.as_slice();

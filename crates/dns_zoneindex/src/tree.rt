@@ -22,9 +22,8 @@ use dns_records::Record;
 use dns_zone::Match;
 use std::alloc::AllocError;
 use std::marker::Model;
-use std::rc::Rc;
 
-/// Records by the labels of their owners. A copy is one of the root's `Rc`.
+/// Records by the labels of their owners. A copy shares the root's node.
 #[derive(Drop)]
 pub(crate) struct Tree {
     root: Root,
@@ -36,7 +35,7 @@ enum Root {
     /// No record.
     Empty,
     /// Records.
-    Full(Rc<Node, Heap>),
+    Full(Node),
 }
 
 impl Model for Tree {
@@ -68,7 +67,7 @@ impl Tree {
         }
         let node = grow(alloc, &[], 0, sorted)?;
         Ok(Tree {
-            root: Root::Full(Node::shared(alloc, node)?),
+            root: Root::Full(node),
         })
     }
 
@@ -78,7 +77,7 @@ impl Tree {
     {
         let root = match &self.root {
             Root::Empty => Root::Empty,
-            Root::Full(node) => Root::Full(node.clone()?),
+            Root::Full(node) => Root::Full(node.share()?),
         };
         Ok(Tree { root })
     }
@@ -153,7 +152,7 @@ impl Tree {
         };
         let root = match changed {
             None => Root::Empty,
-            Some(node) => Root::Full(Rc::new(alloc, node)?),
+            Some(node) => Root::Full(node),
         };
         self.root = root;
         Ok(())

@@ -1,4 +1,4 @@
-use Rattle.std.proofs.Common.{◌<◌, map, reverse, ap, subst, sym, ◌∙◌, arith}
+use Rattle.std.proofs.Common.{◌<◌, reverse, ap, subst, sym, ◌∙◌, arith}
 use Rattle.std.specs.Prelude.{MatchOption}
 use Rattle.dns_zoneindex.specs.Growth.{from_depth, AreOwn, IsTakenOff, Rising}
 use Rattle.dns_zoneindex.specs.Size.{weight}
@@ -13,7 +13,7 @@ grow-requires t c =
     let label = c.in-Some.label.items in
     let group = c.in-Some.group.items in
     let taken = subst (λ o. MatchOption o (AreOwn n left front) (λ p. IsTakenOff n p.0.items left front p.1.items)) c.in-Some.is c.in_ok-label.ensures in
-    let falls = taken_falls n label c.args.records.items left front group (map (λ x. x.value) (reverse c.groups.nodes.items)) taken c.groups.invariant.whole in
+    let falls = taken_falls n label c.args.records.items left front group (reverse c.groups.nodes.items) taken c.groups.invariant.whole in
     let less : weight (from_depth c.in_ok-below.below group) < weight (from_depth n c.args.records.items) = subst (λ k. weight (from_depth k group) < weight (from_depth n c.args.records.items)) (sym c.in_ok-below.ensures) falls in
     let down : weight (from_depth c.in_ok-below.below group) < t = omega (arith, less, c.decreases) in
     (down, (taken.some, subst (λ k. Rising (from_depth k group)) (sym c.in_ok-below.ensures) (group_rising n label left front group taken c.groups.invariant.order)))
@@ -25,11 +25,10 @@ groups-preserved-in_ok-push t c =
     let front = c.take_off.new.records.items in
     let group = c.in-Some.group.items in
     let taken = subst (λ o. MatchOption o (AreOwn n left front) (λ p. IsTakenOff n p.0.items left front p.1.items)) c.in-Some.is c.in_ok-label.ensures in
-    let made = c.in_ok-shared.ensures.made in
-    let labelled = ap (λ x. x.label) made ∙ c.in_ok-node.ensures.label ∙ c.as_slice.ensures in
-    let owns = ap (λ x. x.own) made ∙ c.in_ok-node.ensures.own ∙ ap (λ k. from_depth k group) c.in_ok-below.ensures in
+    let labelled = c.in_ok-node.ensures.label ∙ c.as_slice.ensures in
+    let owns = c.in_ok-node.ensures.own ∙ ap (λ k. from_depth k group) c.in_ok-below.ensures in
     let i = c.groups.invariant in
-    let h = turned_more n c.args.records.items left front group c.in-Some.label.items c.groups.nodes.items c.push.new.self.items c.in_ok-shared.field-0 (λ x. x.value) taken labelled owns c.in_ok-shared.ensures.some (record { whole = i.whole; kept = i.kept; ahead = i.ahead; order = i.order }) c.in_ok-push.ensures.items in
+    let h = turned_more n c.args.records.items left front group c.in-Some.label.items c.groups.nodes.items c.push.new.self.items c.in_ok-node.node taken labelled owns c.records-some.ensures.kept (record { whole = i.whole; kept = i.kept; ahead = i.ahead; order = i.order }) c.in_ok-push.ensures.items in
     record { whole = h.whole; kept = h.kept; ahead = h.ahead; order = h.order }
 
 pub groups-preserved : goal.groups-preserved
@@ -39,9 +38,8 @@ groups-preserved t c =
     let front = c.take_off.new.records.items in
     let group = c.in-Some.group.items in
     let taken = subst (λ o. MatchOption o (AreOwn n left front) (λ p. IsTakenOff n p.0.items left front p.1.items)) c.in-Some.is c.in_ok-label.ensures in
-    let made = c.in_ok-shared.ensures.made in
-    let labelled = ap (λ x. x.label) made ∙ c.in_ok-node.ensures.label ∙ c.as_slice.ensures in
-    let owns = ap (λ x. x.own) made ∙ c.in_ok-node.ensures.own ∙ ap (λ k. from_depth k group) c.in_ok-below.ensures in
+    let labelled = c.in_ok-node.ensures.label ∙ c.as_slice.ensures in
+    let owns = c.in_ok-node.ensures.own ∙ ap (λ k. from_depth k group) c.in_ok-below.ensures in
     let i = c.groups.invariant in
-    let h = turned_more n c.args.records.items left front group c.in-Some.label.items c.groups.nodes.items c.push.new.self.items c.in_ok-shared.field-0 (λ x. x.value) taken labelled owns c.in_ok-shared.ensures.some (record { whole = i.whole; kept = i.kept; ahead = i.ahead; order = i.order }) c.in_ok-push.ensures.items in
+    let h = turned_more n c.args.records.items left front group c.in-Some.label.items c.groups.nodes.items c.push.new.self.items c.in_ok-node.node taken labelled owns c.records-some.ensures.kept (record { whole = i.whole; kept = i.kept; ahead = i.ahead; order = i.order }) c.in_ok-push.ensures.items in
     record { whole = h.whole; kept = h.kept; ahead = h.ahead; order = h.order }

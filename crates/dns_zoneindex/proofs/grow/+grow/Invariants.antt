@@ -1,4 +1,4 @@
-use Rattle.std.proofs.Common.{◌≡◌, ◌++◌, map, reverse, length}
+use Rattle.std.proofs.Common.{◌≡◌, ◌++◌, reverse, length}
 use Rattle.dns_zoneindex.specs.Entries.{flat}
 use Rattle.dns_zoneindex.specs.Children.{AreChildren}
 use Rattle.dns_zoneindex.specs.Growth.{from_depth, Rising}
@@ -11,9 +11,9 @@ decreases-grow l = weight (from_depth l.depth l.records.items)
 
 abbrev pub invariant-groups : goal.invariant-groups
 invariant-groups l = record {
-  whole : from_depth l.depth l.own.items ++ flat (map (λ n. n.value) (reverse l.nodes.items)) ≡ from_depth l.depth l.fn.records.items;
-  kept : AreChildren (map (λ n. n.value) (reverse l.nodes.items));
-  ahead : AheadOf (map (λ n. n.value) (reverse l.nodes.items)) (from_depth l.depth l.own.items);
+  whole : from_depth l.depth l.own.items ++ flat (reverse l.nodes.items) ≡ from_depth l.depth l.fn.records.items;
+  kept : AreChildren (reverse l.nodes.items);
+  ahead : AheadOf (reverse l.nodes.items) (from_depth l.depth l.own.items);
   order : Rising (from_depth l.depth l.own.items);
 }
 

@@ -4,7 +4,7 @@ use Rattle.dns_zoneindex.specs.Children.{items}
 use Rattle.dns_zoneindex.specs.Held.{held}
 use Rattle.dns_zoneindex.proofs.Results.{if_ok}
 use Rattle.dns_zoneindex.proofs.Under.{here_of-own}
-use Rattle.dns_zoneindex.proofs.node.Node.share_records.Goals as goal
+use Rattle.dns_zoneindex.proofs.node.Branch.share_records.Goals as goal
 
 pub returns : goal.returns
 returns c =

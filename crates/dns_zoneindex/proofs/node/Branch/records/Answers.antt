@@ -3,7 +3,7 @@ use Rattle.dns_zoneindex.specs.Entries.{here_of}
 use Rattle.dns_zoneindex.specs.Children.{items}
 use Rattle.dns_zoneindex.specs.Held.{held}
 use Rattle.dns_zoneindex.proofs.Under.{here_of-own}
-use Rattle.dns_zoneindex.proofs.node.Node.records.Goals as goal
+use Rattle.dns_zoneindex.proofs.node.Branch.records.Goals as goal
 
 pub returns-clause-own : goal.returns-clause-own
 returns-clause-own c =

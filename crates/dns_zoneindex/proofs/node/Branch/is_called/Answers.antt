@@ -1,7 +1,7 @@
 use Rattle.std.proofs.Common.{ap, ◌∙◌, arith}
 use Rattle.std.specs.Str.{bytes_eq}
 use Rattle.dns_zoneindex.proofs.Slots.{called}
-use Rattle.dns_zoneindex.proofs.node.Node.is_called.Goals as goal
+use Rattle.dns_zoneindex.proofs.node.Branch.is_called.Goals as goal
 
 pub returns-then-label-le8 : goal.returns-then-label-le8
 returns-then-label-le8 c =
