@@ -19,11 +19,6 @@ use Rattle.dns_secondary.proofs.Runs.{one_reached, rest_on, rest_of, fails_lost,
 abbrev told_of : Bool → Transport → Progress
 told_of b t = if b then UpToDate else elim t [ Udp ↦ RetryTcp | Tcp ↦ More ]
 
-led_done : (b : Bool) (t : Transport) → told_of b t ≡ Done → ⊥
-led_done true t e = absurd cc
-led_done false Udp e = absurd cc
-led_done false Tcp e = absurd cc
-
 led_more : (b : Bool) (t : Transport) → told_of b t ≡ More → (b ≡ false) × (t ≡ Tcp)
 led_more true t e = absurd cc
 led_more false Udp e = absurd cc
@@ -38,14 +33,6 @@ led_again : (b : Bool) (t : Transport) → told_of b t ≡ RetryTcp → (b ≡ f
 led_again true t e = absurd cc
 led_again false Udp e = (refl, refl)
 led_again false Tcp e = absurd cc
-
-pub done_ended : (s : Receiving) (at : State) → verdict s at ≡ Done → (set : List Record) × (at ≡ Ended set)
-done_ended s Begun e = absurd cc
-done_ended s (Led soa) e = absurd (led_done (is_current s.held soa) s.transport e)
-done_ended s (Whole soa set) e = absurd cc
-done_ended s (Removing soa set) e = absurd cc
-done_ended s (Adding soa set reached) e = absurd cc
-done_ended s (Ended set) e = (set, refl)
 
 more_open : (s : Receiving) (at : State) (set : List Record) → verdict s at ≡ More → Means s.apex s.held at set → ⊥
 more_open s Begun set e m = m
