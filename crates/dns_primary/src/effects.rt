@@ -50,7 +50,6 @@ impl Effects {
     }
 
     /// One reply alone, the header of a request with a response code.
-    #[inline(never)]
     pub(crate) fn refusal(alloc: Heap, to: To, header: &[u8; 12], rcode: Rcode) -> Effects
         requires { is_nowhere to ≡ false }
         ensures { AreEffects (one_reply (Replied to (text (bare_reply (header_of header.now) (number_of_rcode rcode))))) result }
@@ -59,7 +58,6 @@ impl Effects {
     }
 
     /// SERVFAIL for want of memory, the header of a request alone.
-    #[inline(never)]
     pub(crate) fn out_of_memory(alloc: Heap, to: To, header: &[u8; 12]) -> Effects
         requires { is_nowhere to ≡ false }
         ensures { AreEffects

@@ -137,9 +137,7 @@ impl<I: ZoneIndex, S: ZoneStore> Primary<I, S> {
     }
 
     /// Answers an update: its reply waits for the next flush, or goes out at once. Where as many wait as may, a flush comes first;
-    /// and where it is accepted and its zone's journal lacks room for it, a flush and a checkpoint. It is compiled apart, so that a query
-    /// doesn't pay for it.
-    #[inline(never)]
+    /// and where it is accepted and its zone's journal lacks room for it, a flush and a checkpoint.
     fn update(&mut self, alloc: Heap, update: &UpdateRequest<'_>) -> Effects
         requires somewhere { is_nowhere update.now.to ≡ false }
         requires header { header_of update.now.header.now ≡ update.now.request.message.message.header }

@@ -309,9 +309,7 @@ impl<I: ZoneIndex, S: ZoneStore> Primary<I, S> {
         }
     }
 
-    /// Answers a request for a transfer: by TCP it is open on its connection then, by UDP its one message goes out. It is compiled
-    /// apart, so that a query doesn't pay for it.
-    #[inline(never)]
+    /// Answers a request for a transfer: by TCP it is open on its connection then, by UDP its one message goes out.
     pub(crate) fn transfer(
         &mut self,
         alloc: Heap,

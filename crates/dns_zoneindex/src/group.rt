@@ -154,15 +154,19 @@ pub(crate) fn place_of(keys: &[u64; MOST], slots: &[Slot], key: u64, label: &[u8
     ensures { IsPlace label.now slots.now result }
 {
     let place = last_up_to(keys, key);
-    if place < slots.len() && !slots[place].is_behind(key, label) {
-        let next = place + 1;
-        if next == slots.len() {
-            return place;
-        }
-        if let Some(behind) = keys.get(next) {
-            if key < *behind {
+    if place < slots.len() {
+        if !slots[place].is_behind(key, label) {
+            let next = place + 1;
+            if next == slots.len() {
                 return place;
             }
+            if let Some(behind) = keys.get(next) {
+                if key < *behind {
+                    return place;
+                }
+            }
+        } else if place == 0 {
+            return place;
         }
     }
     place_by_halves(slots, key, label)
