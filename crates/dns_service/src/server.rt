@@ -22,7 +22,7 @@ use std::net::{Net, SocketAddr};
 use std::time::{Clock, Instant};
 
 /// In which turns the clock and the events of sockets are looked at, besides those behind a wait: each one of so many.
-const GLANCE: u32 = 16;
+const GLANCE: u32 = 32;
 
 /// Tells which version of a zone is shown.
 fn tell_zone<I: ZoneIndex, E: Write>(

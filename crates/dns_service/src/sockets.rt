@@ -6,7 +6,7 @@ use crate::readiness::{Place, Readiness};
 use dns_edge::{Moved, Stream};
 use dns_memory::Heap;
 use dns_primary::Peer;
-use dns_turns::Network;
+use dns_turns::{DatagramSocket, Datagrams, Network};
 use mio::net::{TcpListener, TcpStream, UdpSocket};
 use mio::{Events, Interest, Poll, Token};
 use std::io::{self, ErrorKind, Read, Write};
@@ -14,8 +14,7 @@ use std::net::{Net, SocketAddr};
 use std::rc::Rc;
 use std::time::Duration;
 
-/// How many datagrams are tried in a turn where the system reports an error in place of one, as after an answer to a port that is
-/// closed.
+/// How many datagrams are tried where the system reports an error in place of one, as after an answer to a port that is closed.
 const TRIES: usize = 16;
 
 /// How many events are taken up at once.
@@ -34,7 +33,7 @@ const CONNECTIONS: usize = 2;
 #[derive(Drop)]
 pub(crate) struct Sockets {
     listener: TcpListener,
-    datagrams: UdpSocket,
+    datagrams: Datagrams<Udp>,
     poll: Poll,
     events: Events<Heap>,
     /// Whether a connection may be waiting. It is false only behind a call that found none, and up to the next event of the listener.
@@ -42,6 +41,10 @@ pub(crate) struct Sockets {
     /// The same of each connection: whether a read or a write may find something to do.
     readiness: Rc<Readiness, Heap>,
 }
+
+/// The socket of datagrams.
+#[derive(Drop)]
+struct Udp(UdpSocket);
 
 /// The connection of a peer.
 ///
@@ -72,7 +75,7 @@ impl Sockets {
         registry.register(&mut datagrams, DATAGRAMS, Interest::READABLE)?;
         Ok(Sockets {
             listener,
-            datagrams,
+            datagrams: Datagrams::new(heap, Udp(datagrams))?,
             poll,
             events: Events::with_capacity(heap, EVENTS)?,
             may_accept: true,
@@ -135,8 +138,36 @@ impl Network<Socket> for Sockets {
     }
 
     fn receive(&mut self, into: &mut [u8]) -> Option<(usize, Peer)> {
+        self.datagrams.receive(into)
+    }
+
+    fn send(&mut self, to: Peer, octets: &[u8]) {
+        self.datagrams.send(to, octets);
+    }
+
+    /// Looks which sockets may be ready, and doesn't wait itself. A server that has something to do in every turn never waits, and would
+    /// see neither a new connection nor what comes on one that was silent.
+    fn look(&mut self) {
+        self.datagrams.send_all();
+        self.take_events(Duration::ZERO);
+    }
+
+    /// Waits until a socket is ready, or about a second has passed. Each of them had nothing to do.
+    fn wait(&mut self) {
+        self.datagrams.send_all();
+        self.take_events(Duration::from_secs(1));
+    }
+}
+
+/// Nothing that is proved says what the system does with it.
+impl DatagramSocket for Udp {
+    ghost receives = { λ _ _ _. Unit {0} };
+
+    ghost sends = { λ _ _ _. Unit {0} };
+
+    fn receive(&mut self, into: &mut [u8]) -> Option<(usize, Peer)> {
         for _try in 0..TRIES {
-            match self.datagrams.recv_from(into) {
+            match self.0.recv_from(into) {
                 Ok((count, address)) => return Some((count, peer_of(address))),
                 Err(error) if error.kind() == ErrorKind::WouldBlock => return None,
                 Err(_) => {}
@@ -147,18 +178,7 @@ impl Network<Socket> for Sockets {
 
     fn send(&mut self, to: Peer, octets: &[u8]) {
         let address = SocketAddr::new(to.address, to.port);
-        let _sent = self.datagrams.send_to(octets, address);
-    }
-
-    /// Looks which sockets may be ready, and doesn't wait itself. A server that has something to do in every turn never waits, and would
-    /// see neither a new connection nor what comes on one that was silent.
-    fn look(&mut self) {
-        self.take_events(Duration::ZERO);
-    }
-
-    /// Waits until a socket is ready, or about a second has passed. Each of them had nothing to do.
-    fn wait(&mut self) {
-        self.take_events(Duration::from_secs(1));
+        let _sent = self.0.send_to(octets, address);
     }
 }
 

@@ -10,7 +10,13 @@ const QUERY: &str = "12340000000100000000000005686f737431076578616d706c650000010
 const REPLY: &str =
     "12348400000100010000000005686f737431076578616d706c650000010001c00c0001000100000e100004c0000201";
 
-/// The same on a stream, each behind its length.
+/// The question with another number, and its reply.
+const OTHER_QUERY: &str = "12350000000100000000000005686f737431076578616d706c650000010001";
+
+const OTHER_REPLY: &str =
+    "12358400000100010000000005686f737431076578616d706c650000010001c00c0001000100000e100004c0000201";
+
+/// The first question and its reply on a stream, each behind its length.
 const FRAMED_QUERY: &str = "001f12340000000100000000000005686f737431076578616d706c650000010001";
 
 const FRAMED_REPLY: &str =
@@ -85,6 +91,73 @@ fn answers_one_datagram_a_turn(rt: HostRuntime) -> Result<(), Fail> {
     let mut clients = Clients::new(&rt, heap, TWO_DATAGRAMS)?;
     assert_eq!(rt; run(&rt, heap, &mut clients, 1)?, DONE);
     assert!(rt; clients.has_received(REPLY)?);
+    assert!(rt; clients.has_no_more());
+    Ok(())
+}
+
+/// Eight datagrams: the question with either number, and one of one octet.
+const EIGHT_DATAGRAMS: &[Act] = &[Act {
+    line: "listening on ",
+    datagrams: &[
+        QUERY,
+        OTHER_QUERY,
+        QUERY,
+        "00",
+        OTHER_QUERY,
+        QUERY,
+        OTHER_QUERY,
+        QUERY,
+    ],
+    opened: 0,
+    written: &[],
+}];
+
+// Six turns answer the first six, in their order, though the seventh is read before the fifth is answered: the replies to these two wait
+// for the one to that, and go out when the last turn has ended.
+#[test]
+fn answers_what_was_read_ahead(rt: HostRuntime) -> Result<(), Fail> {
+    let heap = heap(rt.alloc())?;
+    let mut clients = Clients::new(&rt, heap, EIGHT_DATAGRAMS)?;
+    assert_eq!(rt; run(&rt, heap, &mut clients, 6)?, DONE);
+    for reply in [REPLY, OTHER_REPLY, REPLY, OTHER_REPLY, REPLY] {
+        assert!(rt; clients.has_received(reply)?);
+    }
+    assert!(rt; clients.has_no_more());
+    Ok(())
+}
+
+/// An update of 512 octets, which adds a TXT of empty strings, with one octet behind it; and the reply, of its header alone.
+const LONGER: &str = concat!(
+    "000b28000001000000010000076578616d706c650000060001c00c0010000100000e1001db",
+    "000000000000000000000000000000000000000000000000000000000000000000000000000000000000000000000000",
+    "000000000000000000000000000000000000000000000000000000000000000000000000000000000000000000000000",
+    "000000000000000000000000000000000000000000000000000000000000000000000000000000000000000000000000",
+    "000000000000000000000000000000000000000000000000000000000000000000000000000000000000000000000000",
+    "000000000000000000000000000000000000000000000000000000000000000000000000000000000000000000000000",
+    "000000000000000000000000000000000000000000000000000000000000000000000000000000000000000000000000",
+    "000000000000000000000000000000000000000000000000000000000000000000000000000000000000000000000000",
+    "000000000000000000000000000000000000000000000000000000000000000000000000000000000000000000000000",
+    "000000000000000000000000000000000000000000000000000000000000000000000000000000000000000000000000",
+    "0000000000000000000000000000000000000000000000000000000000000000000000000000000000000000"
+);
+
+const FORMERR: &str = "000ba8010000000000000000";
+
+/// That alone.
+const ONE_LONGER: &[Act] = &[Act {
+    line: "listening on ",
+    datagrams: &[LONGER],
+    opened: 0,
+    written: &[],
+}];
+
+// A datagram of 513 octets is read so far that it is told from one of 512.
+#[test]
+fn refuses_a_datagram_of_513_octets(rt: HostRuntime) -> Result<(), Fail> {
+    let heap = heap(rt.alloc())?;
+    let mut clients = Clients::new(&rt, heap, ONE_LONGER)?;
+    assert_eq!(rt; run(&rt, heap, &mut clients, 1)?, DONE);
+    assert!(rt; clients.has_received(FORMERR)?);
     assert!(rt; clients.has_no_more());
     Ok(())
 }

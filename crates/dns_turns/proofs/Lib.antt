@@ -1,3 +1,4 @@
 mod Leads
 mod Sent
+mod Steps
 mod Taken

@@ -1,3 +1,4 @@
+pub mod Datagrams
 pub mod Delivery
 pub mod Memory
 pub mod Turn

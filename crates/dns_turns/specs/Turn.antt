@@ -106,9 +106,16 @@ module _ {I D S N : Type 0} {i : index.Ghosts I} {d : store.Ghosts D} where
   abbrev pub LeadsTo : stream.Ghosts S → Ghosts N S → Served I D S N i d → Served I D S N i d → Type 0
   LeadsTo s n old new = (moments : List Moment) × AreMoments s n moments old new
 
+  -- The network looks, there is a flush, and it looks again.
+  pub record IsFlushedBetween (n : Ghosts N S) (old new : Served I D S N i d) : Type 0 where
+    pub looked : Served I D S N i d
+    pub flushed : Served I D S N i d
+    pub before : HasAsked n old looked
+    pub flush : HasHappened n Flush looked flushed
+    pub behind : HasAsked n flushed new
+
   -- A turn: what is done in it, and then, where a reply waits, a flush.
   pub record IsTurn (s : stream.Ghosts S) (n : Ghosts N S) (old new : Served I D S N i d) : Type 0 where
     pub done : Served I D S N i d
     pub led : LeadsTo s n old done
-    pub flush : (NoneWaits done.primary × (new ≡ done))
-        ⊎ ((flushed : Served I D S N i d) × HasHappened n Flush done flushed × HasAsked n flushed new)
+    pub flush : (NoneWaits done.primary × (new ≡ done)) ⊎ IsFlushedBetween n done new

@@ -340,6 +340,7 @@ impl<S: Stream + Drop> Edge<S> {
             }
         }
         if primary.has_waiting() {
+            network.look();
             let effects = primary.step(alloc, Event::Flush);
             self.deliver(alloc, network, primary, notes, effects);
             network.look();

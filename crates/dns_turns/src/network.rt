@@ -28,11 +28,11 @@ pub trait Network<S> {
         ensures few { IfSome result (λ r. r.0 ≤ length into.new) }
         ensures came { receives self.old (option_map (λ r. (take r.0 into.new, r.1)) result) self.new };
 
-    /// Sends a datagram. One that can't be sent is dropped.
+    /// Sends a datagram, at once or when next it looks or waits. One that can't be sent is dropped.
     fn send(&mut self, to: Peer, octets: &[u8])
         ensures { sends self.old to octets.now self.new };
 
-    /// Looks what came meanwhile. It is called behind a flush, which takes long.
+    /// Looks what came meanwhile. It is called before a flush and behind it, since that takes long.
     fn look(&mut self)
         ensures { looks self.old self.new };
 

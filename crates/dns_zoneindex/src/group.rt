@@ -111,15 +111,18 @@ fn keys_of(slots: &[Slot]) -> [u64; MOST]
     keys
 }
 
-/// The last place whose key is at most this one, or the first where there is none. All keys are looked at, so that no jump depends on one
-/// of them.
+/// The last place whose key is at most this one, or the first where there is none. The keys rise. So three of them tell in which quarter
+/// it is, and three the place there; they are counted, so that no jump depends on one of them.
 #[inline(always)]
 fn last_up_to(keys: &[u64; MOST], key: u64) -> usize {
-    let mut greater = 0usize;
-    for own in keys {
-        greater = greater.wrapping_add(usize::from(key < *own));
-    }
-    (MOST - 1).saturating_sub(greater)
+    let quarters = usize::from(keys[4] <= key)
+        + usize::from(keys[8] <= key)
+        + usize::from(keys[12] <= key);
+    let first = 4 * quarters;
+    first
+        + usize::from(keys[first + 1] <= key)
+        + usize::from(keys[first + 2] <= key)
+        + usize::from(keys[first + 3] <= key)
 }
 
 /// The slot in which the child of a label stands, or would stand, by halves.

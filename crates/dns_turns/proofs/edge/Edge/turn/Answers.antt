@@ -29,21 +29,23 @@ returns-else-has_waiting-clause-idle g c = λ idle. none_waits c.loop-number.pri
 
 pub returns-then-has_waiting-clause-turn : goal.returns-then-has_waiting-clause-turn
 returns-then-has_waiting-clause-turn g c =
-    let visited = served c.loop-number.primary c.loop-number.self c.loop-number.network in
+    let looked = served c.loop-number.primary c.loop-number.self c.look.new.self in
     record {
-      done = visited;
+      done = served c.loop-number.primary c.loop-number.self c.loop-number.network;
       led = c.loop-number.invariant;
-      flush = inr (
-        served c.deliver.new.primary c.deliver.new.self c.deliver.new.network,
-        record {
-          given = visited;
-          is_given = refl;
-          told = served c.step-effects.new.self c.loop-number.self c.loop-number.network;
-          effects = c.step-effects.result;
-          takes = λ m kept. c.step-effects.ensures.step m kept;
-          rest = refl;
-          sent = c.deliver.ensures;
-        },
-        record { rest = refl; nothing = inr (inr c.look.ensures) },
-      );
+      flush = inr (record {
+          looked = looked;
+          flushed = served c.deliver.new.primary c.deliver.new.self c.deliver.new.network;
+          before = record { rest = refl; nothing = inr (inr c.look.ensures) };
+          flush = record {
+            given = looked;
+            is_given = refl;
+            told = served c.step-effects.new.self c.loop-number.self c.look.new.self;
+            effects = c.step-effects.result;
+            takes = λ m kept. c.step-effects.ensures.step m kept;
+            rest = refl;
+            sent = c.deliver.ensures;
+          };
+          behind = record { rest = refl; nothing = inr (inr c.look-then-has_waiting.ensures) };
+        });
     }
