@@ -60,6 +60,11 @@ impl Readiness {
         }
     }
 
+    /// Whether there are connections.
+    pub(crate) fn has_connections(&self) -> bool {
+        self.taken.0.get() != 0
+    }
+
     /// Takes up an event of the connection with this number: it may be ready for both.
     ///
     /// An event of an earlier connection with the same number does no harm: it only lets a call be tried that finds nothing. No event

@@ -141,8 +141,12 @@ impl Network<Socket> for Sockets {
         self.datagrams.receive(into)
     }
 
+    /// Sends a datagram. Where there are connections a turn may take long, so nothing is held back.
     fn send(&mut self, to: Peer, octets: &[u8]) {
         self.datagrams.send(to, octets);
+        if self.readiness.has_connections() {
+            self.datagrams.send_all();
+        }
     }
 
     /// Looks which sockets may be ready, and doesn't wait itself. A server that has something to do in every turn never waits, and would

@@ -5,6 +5,7 @@ ghost use Rattle.std.specs.List.{slice_get};
 ghost use Rattle.dns_zoneindex.specs.Children.{items, joined, AreChildren, AllFull, MatchEmpty};
 ghost use Rattle.dns_zoneindex.specs.Entries.{pushed, flat, own_at};
 ghost use Rattle.dns_zoneindex.specs.Setting.{keep, before, behind};
+ghost use Rattle.dns_zoneindex.specs.Keys.{IsKey};
 ghost use Rattle.dns_zoneindex.specs.Assoc.{child_of, put_child, without_child};
 
 use crate::group::{children_in, gathered, one, place_of, replaced, two};
@@ -57,11 +58,28 @@ impl Children {
         }
     }
 
-    /// The child of a label.
+    /// The child of a label. An only child is told by its label alone.
     pub(crate) fn find(&self, label: &[u8]) -> Option<&Node>
         ensures { option_copied result ≡ child_of label.now (items self.now) }
     {
-        let key = key_of(label);
+        match self {
+            Children::Empty => None,
+            Children::One(node) => {
+                if node.has_label(label) {
+                    return Some(node);
+                }
+                None
+            }
+            Children::Many(_) => self.find_by_key(key_of(label), label),
+        }
+    }
+
+    /// The child of a label with this key.
+    #[inline(always)]
+    fn find_by_key(&self, key: u64, label: &[u8]) -> Option<&Node>
+        requires { IsKey key label.now }
+        ensures { option_copied result ≡ child_of label.now (items self.now) }
+    {
         let mut here = self;
         'down: loop {
             match here {

@@ -443,6 +443,14 @@ impl Node {
 
     /// Whether a label is that of the node.
     #[inline(always)]
+    pub(crate) fn has_label(&self, label: &[u8]) -> bool
+        ensures { result ≡ bytes_eq label.now self.now.label }
+    {
+        label == self.label()
+    }
+
+    /// The same where the label's key is known, which tells most.
+    #[inline(always)]
     pub(crate) fn is_called(&self, key: u64, label: &[u8]) -> bool
         requires { IsKey key label.now }
         ensures { result ≡ bytes_eq label.now self.now.label }

@@ -7,7 +7,7 @@ pub loop-datagram-preserved : goal.loop-datagram-preserved
 loop-datagram-preserved g c =
     let came = c.read.ensures.came c.if-not-read.false in (
       and_one (λ old one new. g.S.DatagramSocket.receives old (Some one) new) (arrived_of c.loop-datagram.self) c.read.new.self
-      (socket_of c.args.self.now) (socket_of c.loop-datagram.self) c.read.new.socket c.loop-datagram.invariant.0 came,
+          (socket_of c.args.self.now) (socket_of c.loop-datagram.self) c.read.new.socket c.loop-datagram.invariant.0 came,
       more_than_none (arrived_of c.loop-datagram.self) c.read.new.self came.0 came.1,
       c.loop-datagram.invariant.2,
     )

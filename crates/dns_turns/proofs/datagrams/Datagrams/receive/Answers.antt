@@ -19,11 +19,11 @@ returns-clause-handed g c =
       octets,
       copied_least octets c.args.into.now c.copy_from_slice.new.self c.min-count.result c.min-count.ensures c.copy_from_slice.ensures.after,
       elim c.if-is_empty.branch [
-        then-is_empty w ↦ read_first g.S.DatagramSocket one c.args.self.now w.send_all.new.self after new w.send_all.ensures
-          (c.is_empty.ensures.none w.if-is_empty.true)
-          (subst (λ (d : D). AreRead g.S.DatagramSocket (arrived_of d) (socket_of w.send_all.new.self) (socket_of d)) (sym w.self-is) w.read_ahead.ensures.read)
-          (ap (λ (d : D). leaving_of d) w.self-is ∙ w.read_ahead.ensures.leaving) refl refl first
+        | then-is_empty w ↦ read_first g.S.DatagramSocket one c.args.self.now w.send_all.new.self after new w.send_all.ensures
+            (c.is_empty.ensures.none w.if-is_empty.true)
+            (subst (λ (d : D). AreRead g.S.DatagramSocket (arrived_of d) (socket_of w.send_all.new.self) (socket_of d)) (sym w.self-is) w.read_ahead.ensures.read)
+            (ap (λ (d : D). leaving_of d) w.self-is ∙ w.read_ahead.ensures.leaving) refl refl first
         | else-is_empty w ↦ still_there g.S.DatagramSocket one c.args.self.now new (ap (λ (d : D). socket_of d) w.self-is)
-          (ap (λ (d : D). leaving_of d) w.self-is) (sym (ap (λ (d : D). arrived_of d) w.self-is) ∙ first)
+            (ap (λ (d : D). leaving_of d) w.self-is) (sym (ap (λ (d : D). arrived_of d) w.self-is) ∙ first)
       ],
     )

@@ -20,7 +20,7 @@ returns-clause-sent g c =
     let at = c.loop-datagram.datagram-index in
     let all : map stands_in (take at places) ≡ c.args.self.now =
     ap (map stands_in) (take_all at places (omega (arith, c.loop-datagram-test.false)))
-        ∙ ap (λ (ps : List Place). map stands_in (take (c.self.inside.end - c.self.inside.done) (drop c.self.inside.done ps))) c.deref.ensures.value
-        ∙ between_places c.self.inside.places.items c.self.inside.done c.self.inside.end c.self.invariant.0
-        ∙ c.self.view_is in
+    ∙ ap (λ (ps : List Place). map stands_in (take (c.self.inside.end - c.self.inside.done) (drop c.self.inside.done ps))) c.deref.ensures.value
+    ∙ between_places c.self.inside.places.items c.self.inside.done c.self.inside.end c.self.invariant.0
+    ∙ c.self.view_is in
     subst (λ (l : List Datagram). HaveGone g.S.DatagramSocket l c.args.socket.now c.loop-datagram.socket) all c.loop-datagram.invariant

@@ -34,18 +34,18 @@ returns-then-has_waiting-clause-turn g c =
       done = served c.loop-number.primary c.loop-number.self c.loop-number.network;
       led = c.loop-number.invariant;
       flush = inr (record {
-          looked = looked;
-          flushed = served c.deliver.new.primary c.deliver.new.self c.deliver.new.network;
-          before = record { rest = refl; nothing = inr (inr c.look.ensures) };
-          flush = record {
-            given = looked;
-            is_given = refl;
-            told = served c.step-effects.new.self c.loop-number.self c.look.new.self;
-            effects = c.step-effects.result;
-            takes = λ m kept. c.step-effects.ensures.step m kept;
-            rest = refl;
-            sent = c.deliver.ensures;
-          };
-          behind = record { rest = refl; nothing = inr (inr c.look-then-has_waiting.ensures) };
-        });
+        looked = looked;
+        flushed = served c.deliver.new.primary c.deliver.new.self c.deliver.new.network;
+        before = record { rest = refl; nothing = inr (inr c.look.ensures) };
+        flush = record {
+          given = looked;
+          is_given = refl;
+          told = served c.step-effects.new.self c.loop-number.self c.look.new.self;
+          effects = c.step-effects.result;
+          takes = λ m kept. c.step-effects.ensures.step m kept;
+          rest = refl;
+          sent = c.deliver.ensures;
+        };
+        behind = record { rest = refl; nothing = inr (inr c.look-then-has_waiting.ensures) };
+      });
     }

@@ -1,7 +1,7 @@
 use Rattle.std.proofs.Common.{◌≡◌}
 use Rattle.dns_zoneindex.specs.Children.{items}
 use Rattle.dns_zoneindex.specs.Assoc.{child_of}
-use Rattle.dns_zoneindex.proofs.node.Children.find.Given as goal
+use Rattle.dns_zoneindex.proofs.node.Children.find_by_key.Given as goal
 
 abbrev pub invariant-down : goal.invariant-down
 invariant-down l = child_of l.label (items l.here) ≡ child_of l.label (items l.self)
