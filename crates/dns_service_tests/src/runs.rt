@@ -95,33 +95,39 @@ fn answers_one_datagram_a_turn(rt: HostRuntime) -> Result<(), Fail> {
     Ok(())
 }
 
-/// Eight datagrams: the question with either number, and one of one octet.
-const EIGHT_DATAGRAMS: &[Act] = &[Act {
+/// Twelve datagrams: the question with either number, and one of one octet.
+const TWELVE_DATAGRAMS: &[Act] = &[Act {
     line: "listening on ",
     datagrams: &[
+        QUERY,
+        QUERY,
+        QUERY,
+        QUERY,
+        QUERY,
+        QUERY,
+        QUERY,
         QUERY,
         OTHER_QUERY,
         QUERY,
         "00",
         OTHER_QUERY,
-        QUERY,
-        OTHER_QUERY,
-        QUERY,
     ],
     opened: 0,
     written: &[],
 }];
 
-// Six turns answer the first six, in their order, though the seventh is read before the fifth is answered: the replies to these two wait
-// for the one to that, and go out when the last turn has ended.
+// Ten turns answer the first ten, in their order, though the others are read before the ninth is answered: the last two replies wait for
+// those to the others, and go out when the last turn has ended.
 #[test]
 fn answers_what_was_read_ahead(rt: HostRuntime) -> Result<(), Fail> {
     let heap = heap(rt.alloc())?;
-    let mut clients = Clients::new(&rt, heap, EIGHT_DATAGRAMS)?;
-    assert_eq!(rt; run(&rt, heap, &mut clients, 6)?, DONE);
-    for reply in [REPLY, OTHER_REPLY, REPLY, OTHER_REPLY, REPLY] {
-        assert!(rt; clients.has_received(reply)?);
+    let mut clients = Clients::new(&rt, heap, TWELVE_DATAGRAMS)?;
+    assert_eq!(rt; run(&rt, heap, &mut clients, 10)?, DONE);
+    for _reply in 0..8 {
+        assert!(rt; clients.has_received(REPLY)?);
     }
+    assert!(rt; clients.has_received(OTHER_REPLY)?);
+    assert!(rt; clients.has_received(REPLY)?);
     assert!(rt; clients.has_no_more());
     Ok(())
 }

@@ -13,6 +13,9 @@ use std::net::{IpAddr, Ipv4Addr};
 /// How many datagrams are read before the first of them is handed over, and how many are held back, at most.
 const MOST: usize = 64;
 
+/// Behind how many that came one behind the other more are read ahead. So who asks one question after the other costs no call in vain.
+const FEW: usize = 8;
+
 /// How many octets of a datagram are read: as many as the longest message has (RFC 1035 section 2.3.4), and one that tells a longer one
 /// from it.
 const ROOM: usize = 513;
@@ -212,8 +215,8 @@ pub struct Datagrams<S: DatagramSocket> {
     socket: S,
     arrived: Queue,
     leaving: Queue,
-    /// How many are read the next time: twice as many as the last time where so many had come, and else one.
-    ahead: usize,
+    /// How often in a row all had come that were read.
+    full: usize,
 }
 
 // What is to be sent is sent before the socket is let go.
@@ -223,7 +226,7 @@ impl<S: DatagramSocket + Drop> Drop for Datagrams<S> {
             socket,
             arrived,
             leaving,
-            ahead: _,
+            full: _,
         } = self;
         let mut socket = socket;
         let mut leaving = leaving;
@@ -241,7 +244,7 @@ impl<S: DatagramSocket + Drop> Datagrams<S> {
             socket,
             arrived: Queue::new(heap)?,
             leaving: Queue::new(heap)?,
-            ahead: 1,
+            full: 0,
         })
     }
 
@@ -252,23 +255,24 @@ impl<S: DatagramSocket + Drop> Datagrams<S> {
         self.leaving.send(&mut self.socket);
     }
 
-    /// Reads so many as are to be read this time, in place of those that were read before.
+    /// Reads one datagram, or where many came as many as there are and there is room for, in place of those that were read before.
     fn read_ahead(&mut self)
         ensures read { AreRead S.DatagramSocket (arrived_of self.new) (socket_of self.old) (socket_of self.new) }
         ensures none { arrived_of self.new ≡ [] → S.receives (socket_of self.old) None (socket_of self.new) }
         ensures leaving { leaving_of self.new ≡ leaving_of self.old }
     {
+        let full = self.full;
+        self.full = 0;
         if !self.arrived.read_first(&mut self.socket) {
-            self.ahead = 1;
             return;
         }
-        for _datagram in 1..self.ahead {
+        let most = if full < FEW { 1 } else { MOST };
+        for _datagram in 1..most {
             if !self.arrived.read(&mut self.socket) {
-                self.ahead = 1;
                 return;
             }
         }
-        self.ahead = self.ahead.saturating_mul(2).min(MOST);
+        self.full = full.saturating_add(1);
     }
 
     /// The next datagram that came, put into a buffer: how many octets it has there, and its peer. What doesn't fit is cut off. Where
