@@ -90,6 +90,7 @@ fn by_message<'a>(message: Message<'a>, header: &'a [u8; 12]) -> Request<'a>
 /// - An update; a question of type IXFR or AXFR: as they are called.
 /// - A question of type MAILB or MAILA: NOTIMP. In another class than IN: REFUSED.
 /// - Else a query.
+#[inline(always)]
 pub fn classify(octets: &[u8], transport: Transport) -> Request<'_>
     ensures request { request_shown result ≡ request_of octets.now transport }
     ensures of { IsOf octets.now result }
