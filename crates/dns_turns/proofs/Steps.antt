@@ -1,6 +1,6 @@
 -- Steps that are taken for datagrams, one after the other.
 use Rattle.std.proofs.Common.{◌≡◌, ◌⊎◌, inl, inr, ℕ, ◌<◌, ◌≤◌, ◌+◌, ◌-◌, List, [], ◌∷◌, ◌++◌, length, map, take, drop, get_or, min, refl, ap, sym, subst, ◌∙◌, arith}
-use Rattle.std.proofs.lemmas.List.{map-append, take_more, drop-drop, drop-map, drop-take, take_all, take_at, length-take-le, length-drop, length-append}
+use Rattle.std.proofs.lemmas.List.{append-nil, map-append, take_more, drop-drop, drop-map, drop-take, take_all, take_at, length-take-le, length-drop, length-append, length_push}
 use Rattle.dns_turns.specs.declared.datagram_socket.DatagramSocket.{Ghosts}
 use Rattle.dns_turns.specs.declared.datagrams.Datagram.{Datagram as Place}
 use Rattle.dns_turns.specs.declared.datagrams.Datagrams.{Datagrams}
@@ -18,7 +18,7 @@ between_places places done end le =
     ap (map stands_in) (sym (drop-take done (end - done) places) ∙ ap (λ (n : ℕ). drop done (take n places)) sum)
 
 -- octets are copied to the front of a buffer, as many as there are and as there is room for
-pub copied : (octets into : List ℕ) (n : ℕ) → n ≤ length octets → n ≤ length into → (n ≡ length octets) ⊎ (n ≡ length into)
+copied : (octets into : List ℕ) (n : ℕ) → n ≤ length octets → n ≤ length into → (n ≡ length octets) ⊎ (n ≡ length into)
     → take n (take n octets ++ drop n into) ≡ take (length (take n octets ++ drop n into)) octets
 copied octets into n some room which =
     let long : length (take n octets) ≡ n = length-take-le n octets some in
@@ -46,14 +46,14 @@ first_of list left one (rest, is) gone = is ∙ ap (λ (l : List Datagram). one 
 
 -- where one stands behind others there is one
 pub more_than_none : (old new : List Datagram) (one : Datagram) → new ≡ old ++ one ∷ [] → 0 < length new
-more_than_none old new one is = omega (arith, ap length is, length-append old (one ∷ []))
+more_than_none old new one is = omega (arith, ap length is, length_push old one)
 
 module _ {S : Type 0} (step : S → Datagram → S → Type 0) where
-  pub steps_on : (first later : List Datagram) (a b c : S) → AreSteps step first a b → AreSteps step later b c → AreSteps step (first ++ later) a c
+  steps_on : (first later : List Datagram) (a b c : S) → AreSteps step first a b → AreSteps step later b c → AreSteps step (first ++ later) a c
   steps_on [] later a b c is more = subst (λ (x : S). AreSteps step later x c) is more
   steps_on (one ∷ rest) later a b c (between, here, behind) more = (between, here, steps_on rest later between b c behind more)
 
-  pub step_more : (first : List Datagram) (one : Datagram) (a b c : S) → AreSteps step first a b → step b one c → AreSteps step (first ++ one ∷ []) a c
+  step_more : (first : List Datagram) (one : Datagram) (a b c : S) → AreSteps step first a b → step b one c → AreSteps step (first ++ one ∷ []) a c
   step_more first one a b c is more = steps_on first (one ∷ []) a b c is (c, more, refl)
 
   -- the next of those that stand in places
@@ -82,13 +82,9 @@ module _ {S : Type 0} (s : Ghosts S) where
       record {
         gone = leaving_of old ++ one ∷ [];
         sent = step_more (λ a d b. s.sends a d b) (leaving_of old) one (socket_of old) (socket_of between) (socket_of new) gone.sent sent;
-        leaving = sym (all (leaving_of old ++ one ∷ [])) ∙ ap (λ (l : List Datagram). (leaving_of old ++ one ∷ []) ++ l) (sym none);
+        leaving = sym (append-nil (leaving_of old ++ one ∷ [])) ∙ ap (λ (l : List Datagram). (leaving_of old ++ one ∷ []) ++ l) (sym none);
         arrived = arrived ∙ gone.arrived;
       }
-    where
-      all : (l : List Datagram) → l ++ [] ≡ l
-      all [] = refl
-      all (d ∷ l) = ap (λ (r : List Datagram). d ∷ r) (all l)
 
   -- what was read ahead before is handed over, and nothing is read
   pub still_there : (one : Datagram) (old new : Datagrams S) → socket_of new ≡ socket_of old → leaving_of new ≡ leaving_of old
@@ -101,12 +97,8 @@ module _ {S : Type 0} (s : Ghosts S) where
     sent = refl;
     read = (socket_of old, refl, inl socket);
     leaving = sym leaving;
-    arrived = all (arrived_of old) ∙ arrived;
+    arrived = append-nil (arrived_of old) ∙ arrived;
   }
-    where
-      all : (l : List Datagram) → l ++ [] ≡ l
-      all [] = refl
-      all (d ∷ l) = ap (λ (r : List Datagram). d ∷ r) (all l)
 
   -- all that was to be sent is sent, and some are read, where nothing was left of those before
   pub read_first : (one : Datagram) (old between ahead new : Datagrams S) → AllHaveGone s old between
@@ -122,10 +114,6 @@ module _ {S : Type 0} (s : Ghosts S) where
         between = socket_of between;
         sent = gone.sent;
         read = subst (λ (x : S). AreRead s (arrived_of ahead) (socket_of between) x) (sym socket) read;
-        leaving = sym (all (leaving_of old)) ∙ ap (λ (l : List Datagram). leaving_of old ++ l) (sym left_none);
+        leaving = sym (append-nil (leaving_of old)) ∙ ap (λ (l : List Datagram). leaving_of old ++ l) (sym left_none);
         arrived = ap (λ (l : List Datagram). l ++ arrived_of ahead) none ∙ arrived;
       }
-    where
-      all : (l : List Datagram) → l ++ [] ≡ l
-      all [] = refl
-      all (d ∷ l) = ap (λ (r : List Datagram). d ∷ r) (all l)
