@@ -1,6 +1,6 @@
 //! Datagrams of a socket. Where many wait, some are read before the first of them is handed over, and replies are held back until the last
 //! of them is answered: a call of the system takes less time behind another of its kind, and a peer that waits is woken once for many.
-ghost use Rattle.std.specs.Prelude.{◌≡◌, ◌⊎◌, ◌≤◌, ◌<◌, ◌++◌, ◌∷◌, [], List, ℕ, length, take, drop, IfOk, IfSome, IfNone, MatchOption, Option, None, Some, true, false};
+ghost use Rattle.std.specs.Prelude.{◌≡◌, ◌≤◌, ◌<◌, ◌++◌, ◌∷◌, [], List, ℕ, length, take, drop, IfOk, IfSome, IfNone, MatchOption, None, Some, true, false};
 ghost use Rattle.dns_turns.specs.Datagrams.{Datagram as Stated, AllHaveGone, AreRead, HaveGone, HaveCome, IsHandedOver, HasNone, IsLeaving, arrived_of, leaving_of, socket_of, stands_in};
 
 use crate::DatagramSocket;

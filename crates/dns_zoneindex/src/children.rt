@@ -59,6 +59,7 @@ impl Children {
     }
 
     /// The child of a label. An only child is told by its label alone.
+    #[inline(always)]
     pub(crate) fn find(&self, label: &[u8]) -> Option<&Node>
         ensures { option_copied result ≡ child_of label.now (items self.now) }
     {
