@@ -1,5 +1,5 @@
 -- One record that is all of a reply.
-use Rattle.std.proofs.Common.{◌≡◌, ℕ, false, ◌∷◌, [], ◌++◌, List, get_or, length, refl, sym, ap, ◌∙◌, arith}
+use Rattle.std.proofs.Common.{◌≡◌, ℕ, false, ◌∷◌, [], ◌++◌, List, length, refl, sym, ap, ◌∙◌, arith}
 use Rattle.std.specs.Prelude.{Option, Some, None, is_some}
 use Rattle.std.proofs.lemmas.List.{append-nil}
 use Rattle.dns_names.specs.Name.{Labels}
@@ -11,11 +11,6 @@ use Rattle.dns_lookup.specs.Lookup.{Found, Outcome, Referral, Alias, Answers, No
 use Rattle.dns_answer.specs.Added.{IsAll}
 use Rattle.dns_answer.specs.Sections.{Shown, from_zone, as_owner, records_of, answers_of, answer_of, authority_at, additional_of, addresses_for, unseen}
 use Rattle.dns_answer.proofs.Shown.{answers_at, authority_by}
-
-pub single : {A : Type 0} (xs : List A) (x d : A) → length xs ≡ 1 → x ≡ get_or xs 0 d → xs ≡ x ∷ []
-single [] x d size is = absurd (omega (arith, size))
-single (y ∷ []) x d size is = ap (λ z. z ∷ []) (sym is)
-single (y ∷ z ∷ rest) x d size is = absurd (omega (arith, size))
 
 hostless : {A : Type 0} (o : Option A) → is_some o ≡ false → o ≡ None
 hostless None h = refl

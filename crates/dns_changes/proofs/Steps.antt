@@ -14,6 +14,7 @@ use Rattle.dns_zone.specs.Zone.{has_twice}
 use Rattle.dns_zone.specs.Order.{record_total, both_true, same_is, same_itself, names_itself, number_itself, tied_key}
 use Rattle.dns_zone.specs.Twice.{alike_is, alike_flips, any_by}
 use Rattle.dns_zone.specs.Sets.{ties, found, Sorted, true_or_false, sorted_from, equal_is, found_tied, same_sets, sorted_filter, only, found_filter, or_else, found_put, found_united, sorted_put, sorted_united, found_contains, contains_found, filter_contains, contains_filter}
+use Rattle.dns_zone.proofs.Kept.{any_kept}
 use Rattle.dns_changes.specs.Change.{Change, change_fault, removed_from, are_present, are_new}
 use Rattle.dns_changes.specs.declared.ChangeError.TheVariants.{WrongSoa, RemovesAbsent, AddsPresent}
 
@@ -174,14 +175,6 @@ united_next xs r rest h e = united_with xs r rest h (none_twice (list_any (alike
     none_twice false b f = refl
 
 -- ---- what is asked of the records of one owner and type
-any_kept : (p q : Record → Bool) (xs : List Record) → list_any p (filter q xs) ≡ list_any (λ x. q x && p x) xs
-any_kept p q [] = refl
-any_kept p q (x ∷ xs) = kept (q x) ∙ ap (λ b. (q x && p x) || b) (any_kept p q xs)
-  where
-    kept : (b : Bool) → list_any p (cond b (x ∷ filter q xs) (filter q xs)) ≡ ((b && p x) || list_any p (filter q xs))
-    kept true = refl
-    kept false = refl
-
 of_key : (r : Record) → (names_eq r.owner r.owner && r.rtype == r.rtype) ≡ true
 of_key r = λ i. names_itself r.owner i && number_itself r.rtype i
 

@@ -1,5 +1,5 @@
--- Tests over the elements that another test keeps.
-use Rattle.std.proofs.Common.{◌≡◌, ℕ, suc, ◌≤◌, length, Bool, true, false, not, ◌&&◌, ◌||◌, List, [], ◌∷◌, Some, refl, ap, arith, cond}
+-- Tests over the elements that another test keeps, and a list of one.
+use Rattle.std.proofs.Common.{◌≡◌, ℕ, suc, ◌≤◌, length, get_or, Bool, true, false, not, ◌&&◌, ◌||◌, List, [], ◌∷◌, Some, refl, sym, ap, arith, cond}
 use Rattle.std.specs.Prelude.{filter, ◌==◌}
 use Rattle.std.proofs.lemmas.Bool.Decides.{nat_tests}
 use Rattle.std.specs.List.{list_any, find}
@@ -36,3 +36,8 @@ kept_most p (x ∷ xs) = at (p x) (kept_most p xs)
     at : (b : Bool) → length (filter p xs) ≤ length xs → length (cond b (x ∷ filter p xs) (filter p xs)) ≤ suc (length xs)
     at true rest = omega arith
     at false rest = omega arith
+
+pub single : {A : Type 0} (xs : List A) (x d : A) → length xs ≡ 1 → x ≡ get_or xs 0 d → xs ≡ x ∷ []
+single [] x d size is = absurd (omega (arith, size))
+single (y ∷ []) x d size is = ap (λ z. z ∷ []) (sym is)
+single (y ∷ z ∷ rest) x d size is = absurd (omega (arith, size))

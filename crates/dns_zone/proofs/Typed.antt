@@ -16,6 +16,7 @@ use Rattle.dns_records.specs.Record.{Record, record_cmp}
 use Rattle.dns_zone.specs.Records.{is_ordered, records_at, rrset}
 use Rattle.dns_zone.specs.Order.{name_total, names_same}
 use Rattle.dns_zone.specs.Sets.{sorted_from, sorted_filter}
+use Rattle.dns_zone.proofs.Kept.{single}
 use Rattle.dns_zone.proofs.Searching.{in_order, then_less, told_nat, filter_range}
 
 -- what a test keeps passes it
@@ -112,3 +113,11 @@ typed set name t xs held at inside before n fits here past =
     moved P k d from h =
         let there : at + (k - at) ≡ k = omega arith in
         subst (λ (m : ℕ). P ((get_or xs m d).rtype == t)) there (rw get_or-drop at h)
+
+-- those of a type, where the name owns one record
+pub typed_one : (set : List Record) (name : Labels) (t : ℕ) (xs : List Record) (r : Record) → length xs ≡ 1 → r ≡ get_or xs 0 r
+    → xs ≡ records_at set name → cond (r.rtype == t) xs [] ≡ rrset set name t
+typed_one set name t xs r size first held =
+    let alone : xs ≡ r ∷ [] = single xs r r size first in
+    ap (λ (ys : List Record). cond (r.rtype == t) ys []) alone ∙ ap (filter (λ (r : Record). r.rtype == t)) (sym alone ∙ held)
+    ∙ kept_twice (λ r. names_eq r.owner name) (λ r. r.rtype == t) set

@@ -8,13 +8,17 @@ use crate::ZoneIndex;
 use dns_names::NameRef;
 use dns_records::Record;
 
-/// Those of a type among the records that a name owns, which stand in order of type (RFC 2181 section 5).
+/// Those of a type among the records that a name owns, which stand in order of type (RFC 2181 section 5). Most names own
+/// one record, which is asked at once.
 pub fn of_type(records: &[Record], rtype: u16) -> &[Record]
     ensures { (set : List Stated) (name : Labels)
         → is_ordered set ≡ true
         → records.now ≡ records_at set name
         → result.now ≡ rrset set name rtype }
 {
+    if let [only] = records {
+        return if only.rtype() == rtype { records } else { &[] };
+    }
     let from = &records[records.partition_point(|r| r.rtype() < rtype)..];
     &from[..from.partition_point(|r| r.rtype() == rtype)]
 }

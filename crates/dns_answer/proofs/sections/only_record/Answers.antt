@@ -6,7 +6,8 @@ use Rattle.dns_lookup.specs.Lookup.{Found as Stated}
 use Rattle.dns_lookup.specs.Lent.{AllLend}
 use Rattle.dns_answer.specs.Sections.{from_zone, as_owner}
 use Rattle.dns_answer.specs.Added.{IsAll}
-use Rattle.dns_answer.proofs.Only.{single, only_all}
+use Rattle.dns_zone.proofs.Kept.{single}
+use Rattle.dns_answer.proofs.Only.{only_all}
 use Rattle.dns_answer.proofs.sections.only_record.Goals as goal
 
 pub returns : goal.returns
