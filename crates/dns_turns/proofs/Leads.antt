@@ -1,5 +1,5 @@
 -- What is done one after the other.
-use Rattle.std.proofs.Common.{◌≡◌, ◌≢◌, inl, inr, ℕ, Bool, false, not, ◌==◌, List, [], ◌∷◌, ◌++◌, Option, Some, None, length, map, refl, ap, subst, ◌∙◌, slice_set, arith}
+use Rattle.std.proofs.Common.{◌≡◌, ◌≢◌, inl, inr, ℕ, Bool, false, not, ◌==◌, List, [], ◌∷◌, ◌++◌, Option, Some, None, length, map, refl, ap, ◌∙◌, slice_set, arith}
 use Rattle.std.specs.List.{concat}
 use Rattle.std.proofs.lemmas.List.{set-set}
 use Rattle.std.proofs.lemmas.Bool.Decides.{nat_tests}
@@ -21,7 +21,8 @@ use Rattle.dns_primary.specs.Step.{Event}
 use Rattle.dns_primary.specs.Keeps.{IsWaiting}
 use Rattle.dns_turns.specs.declared.network.Network.{Ghosts}
 use Rattle.dns_turns.specs.Delivery.{Served, Takes, AreSent, out_of}
-use Rattle.dns_turns.specs.Turn.{Moment, Moves, Happens, IsGiven, IsMoment, AreMoments, LeadsTo, NoneWaits}
+use Rattle.dns_turns.specs.Turn.{Moment, Moves, Happens, IsGiven, IsMoment, LeadsTo, NoneWaits}
+use Rattle.dns_turns.proofs.Steps.{steps_on}
 
 -- a connection with no message and no rest has nothing to handle
 pub nothing_came : {S : Type 0} (c : Connection S) → held_of c ≡ [] → rest_of c ≡ [] → unhandled c ≡ []
@@ -64,13 +65,8 @@ module _ {I D S N : Type 0} {i : index.Ghosts I} {d : store.Ghosts D} (s : strea
   pub by_one : (one : Moment) (a b : Served I D S N i d) → IsMoment s n one a b → LeadsTo s n a b
   by_one one a b h = (one ∷ [], (b, h, refl))
 
-  behind : (first later : List Moment) (a b c : Served I D S N i d) → AreMoments s n first a b → AreMoments s n later b c
-      → AreMoments s n (first ++ later) a c
-  behind [] later a b c is h = subst (λ (x : Served I D S N i d). AreMoments s n later x c) is h
-  behind (one ∷ rest) later a b c (between, here, more) h = (between, here, behind rest later between b c more h)
-
   pub and_on : (a b c : Served I D S N i d) → LeadsTo s n a b → LeadsTo s n b c → LeadsTo s n a c
-  and_on a b c (first, is) (later, more) = (first ++ later, behind first later a b c is more)
+  and_on a b c (first, is) (later, more) = (first ++ later, steps_on (λ old one new. IsMoment s n one old new) first later a b c is more)
 
   pub happens : (event : Event) (effects : Effects) (old given told new : Served I D S N i d) → IsGiven n event old given
       → Takes given.primary event told.primary effects → told ≡ record given { primary = told.primary }

@@ -1,4 +1,4 @@
 mod Leads
-mod Sent
+mod ReadAhead
 mod Steps
 mod Taken

@@ -1,119 +1,28 @@
--- Steps that are taken for datagrams, one after the other.
-use Rattle.std.proofs.Common.{◌≡◌, ◌⊎◌, inl, inr, ℕ, ◌<◌, ◌≤◌, ◌+◌, ◌-◌, List, [], ◌∷◌, ◌++◌, length, map, take, drop, get_or, min, refl, ap, sym, subst, ◌∙◌, arith}
-use Rattle.std.proofs.lemmas.List.{append-nil, map-append, take_more, drop-drop, drop-map, drop-take, take_all, take_at, length-take-le, length-drop, length-append, length_push}
-use Rattle.dns_turns.specs.declared.datagram_socket.DatagramSocket.{Ghosts}
-use Rattle.dns_turns.specs.declared.datagrams.Datagram.{Datagram as Place}
-use Rattle.dns_turns.specs.declared.datagrams.Datagrams.{Datagrams}
-use Rattle.dns_turns.specs.Datagrams.{Datagram, AllHaveGone, AreRead, AreSteps, IsHandedOver, IsLeaving, arrived_of, leaving_of, socket_of, stands_in}
+-- What is done one after the other.
+use Rattle.std.proofs.Common.{◌≡◌, ℕ, ◌+◌, ◌<◌, List, [], ◌∷◌, ◌++◌, length, map, take, get_or, refl, ap, sym, subst, ◌∙◌}
+use Rattle.std.proofs.lemmas.List.{map-append, take_more}
+use Rattle.dns_turns.specs.Steps.{AreSteps}
 
--- one is done with
-pub one_less : (places : List Place) (done : ℕ) → map stands_in (drop (done + 1) places) ≡ drop 1 (map stands_in (drop done places))
-one_less places done = ap (map stands_in) (sym (drop-drop 1 done places)) ∙ sym (drop-map stands_in 1 (drop done places))
-
--- the places from one to another
-pub between_places : (places : List Place) (done end : ℕ) → done ≤ end
-    → map stands_in (take (end - done) (drop done places)) ≡ map stands_in (drop done (take end places))
-between_places places done end le =
-    let sum : done + (end - done) ≡ end = omega (arith, le) in
-    ap (map stands_in) (sym (drop-take done (end - done) places) ∙ ap (λ (n : ℕ). drop done (take n places)) sum)
-
--- octets are copied to the front of a buffer, as many as there are and as there is room for
-copied : (octets into : List ℕ) (n : ℕ) → n ≤ length octets → n ≤ length into → (n ≡ length octets) ⊎ (n ≡ length into)
-    → take n (take n octets ++ drop n into) ≡ take (length (take n octets ++ drop n into)) octets
-copied octets into n some room which =
-    let long : length (take n octets) ≡ n = length-take-le n octets some in
-    let whole : length (take n octets ++ drop n into) ≡ length into =
-    omega (arith, length-append (take n octets) (drop n into), long, length-drop n into, room) in
-    take_at (take n octets) (drop n into) n long ∙ cut which ∙ ap (λ (k : ℕ). take k octets) (sym whole)
-  where
-    cut : (n ≡ length octets) ⊎ (n ≡ length into) → take n octets ≡ take (length into) octets
-    cut (inl all) = take_all n octets (omega (arith, all)) ∙ sym (take_all (length into) octets (omega (arith, all, room)))
-    cut (inr full) = ap (λ (k : ℕ). take k octets) full
-
--- so many that there is no more of either
-pub copied_least : (octets into made : List ℕ) (n : ℕ) → n ≡ min (length octets) (length into) → made ≡ take n octets
-    → take n (made ++ drop n into) ≡ take (length (made ++ drop n into)) octets
-copied_least octets into made n least is =
-    let some : n ≤ length octets = omega (arith, least) in
-    let room : n ≤ length into = omega (arith, least) in
-    let which : (n ≡ length octets) ⊎ (n ≡ length into) = grind (arith, least) in
-    ap (λ (m : List ℕ). take n (m ++ drop n into)) is ∙ copied octets into n some room which
-    ∙ ap (λ (m : List ℕ). take (length (m ++ drop n into)) octets) (sym is)
-
--- the first of some, and what is left when it is gone
-pub first_of : (list left : List Datagram) (one : Datagram) → (rest : List Datagram) × (list ≡ one ∷ rest) → left ≡ drop 1 list → list ≡ one ∷ left
-first_of list left one (rest, is) gone = is ∙ ap (λ (l : List Datagram). one ∷ l) (sym (gone ∙ ap (drop 1) is))
-
--- where one stands behind others there is one
-pub more_than_none : (old new : List Datagram) (one : Datagram) → new ≡ old ++ one ∷ [] → 0 < length new
-more_than_none old new one is = omega (arith, ap length is, length_push old one)
-
-module _ {S : Type 0} (step : S → Datagram → S → Type 0) where
-  steps_on : (first later : List Datagram) (a b c : S) → AreSteps step first a b → AreSteps step later b c → AreSteps step (first ++ later) a c
+module _ {S T : Type 0} (step : S → T → S → Type 0) where
+  pub steps_on : (first later : List T) (a b c : S) → AreSteps step first a b → AreSteps step later b c → AreSteps step (first ++ later) a c
   steps_on [] later a b c is more = subst (λ (x : S). AreSteps step later x c) is more
   steps_on (one ∷ rest) later a b c (between, here, behind) more = (between, here, steps_on rest later between b c behind more)
 
-  step_more : (first : List Datagram) (one : Datagram) (a b c : S) → AreSteps step first a b → step b one c → AreSteps step (first ++ one ∷ []) a c
+  pub step_more : (first : List T) (one : T) (a b c : S) → AreSteps step first a b → step b one c → AreSteps step (first ++ one ∷ []) a c
   step_more first one a b c is more = steps_on first (one ∷ []) a b c is (c, more, refl)
 
-  -- the next of those that stand in places
-  pub next_place : (places : List Place) (at : ℕ) (other : Place) (a b c : S) → at < length places
-      → AreSteps step (map stands_in (take at places)) a b → step b (stands_in (get_or places at other)) c
-      → AreSteps step (map stands_in (take (at + 1) places)) a c
-  next_place places at other a b c lt is more =
-      let here : Place = get_or places at other in
-      let next : map stands_in (take (at + 1) places) ≡ map stands_in (take at places) ++ stands_in here ∷ [] =
-      ap (map stands_in) (take_more places at other lt) ∙ map-append stands_in (take at places) (here ∷ []) in
-      subst (λ (l : List Datagram). AreSteps step l a c) (sym next) (step_more (map stands_in (take at places)) (stands_in here) a b c is more)
-
   -- one more, behind those of a list
-  pub and_one : (old new : List Datagram) (a b c : S) → AreSteps step old a b
-      → (one : Datagram) × (new ≡ old ++ one ∷ []) × AreSteps step (one ∷ []) b c
+  pub and_one : (old new : List T) (a b c : S) → AreSteps step old a b
+      → (one : T) × (new ≡ old ++ one ∷ []) × AreSteps step (one ∷ []) b c
       → AreSteps step new a c
-  and_one old new a b c is (one, e, more) = subst (λ (l : List Datagram). AreSteps step l a c) (sym e) (steps_on old (one ∷ []) a b c is more)
+  and_one old new a b c is (one, e, more) = subst (λ (l : List T). AreSteps step l a c) (sym e) (steps_on old (one ∷ []) a b c is more)
 
-module _ {S : Type 0} (s : Ghosts S) where
-  -- a datagram is sent behind all that were to be sent
-  pub leaves_last : (one : Datagram) (old between new : Datagrams S) → AllHaveGone s old between → s.sends (socket_of between) one (socket_of new)
-      → leaving_of new ≡ leaving_of between → arrived_of new ≡ arrived_of between
-      → IsLeaving s one old new
-  leaves_last one old between new gone sent leaving arrived =
-      let none : leaving_of new ≡ [] = leaving ∙ gone.leaving in
-      record {
-        gone = leaving_of old ++ one ∷ [];
-        sent = step_more (λ a d b. s.sends a d b) (leaving_of old) one (socket_of old) (socket_of between) (socket_of new) gone.sent sent;
-        leaving = sym (append-nil (leaving_of old ++ one ∷ [])) ∙ ap (λ (l : List Datagram). (leaving_of old ++ one ∷ []) ++ l) (sym none);
-        arrived = arrived ∙ gone.arrived;
-      }
-
-  -- what was read ahead before is handed over, and nothing is read
-  pub still_there : (one : Datagram) (old new : Datagrams S) → socket_of new ≡ socket_of old → leaving_of new ≡ leaving_of old
-      → arrived_of old ≡ one ∷ arrived_of new
-      → IsHandedOver s one old new
-  still_there one old new socket leaving arrived = record {
-    gone = [];
-    came = [];
-    between = socket_of old;
-    sent = refl;
-    read = (socket_of old, refl, inl socket);
-    leaving = sym leaving;
-    arrived = append-nil (arrived_of old) ∙ arrived;
-  }
-
-  -- all that was to be sent is sent, and some are read, where nothing was left of those before
-  pub read_first : (one : Datagram) (old between ahead new : Datagrams S) → AllHaveGone s old between
-      → arrived_of old ≡ []
-      → AreRead s (arrived_of ahead) (socket_of between) (socket_of ahead) → leaving_of ahead ≡ leaving_of between
-      → socket_of new ≡ socket_of ahead → leaving_of new ≡ leaving_of ahead → arrived_of ahead ≡ one ∷ arrived_of new
-      → IsHandedOver s one old new
-  read_first one old between ahead new gone none read left socket leaving arrived =
-      let left_none : leaving_of new ≡ [] = leaving ∙ left ∙ gone.leaving in
-      record {
-        gone = leaving_of old;
-        came = arrived_of ahead;
-        between = socket_of between;
-        sent = gone.sent;
-        read = subst (λ (x : S). AreRead s (arrived_of ahead) (socket_of between) x) (sym socket) read;
-        leaving = sym (append-nil (leaving_of old)) ∙ ap (λ (l : List Datagram). leaving_of old ++ l) (sym left_none);
-        arrived = ap (λ (l : List Datagram). l ++ arrived_of ahead) none ∙ arrived;
-      }
+  -- the next of those that items tell
+  pub next_step : {P : Type 0} (told : P → T) (items : List P) (at : ℕ) (other : P) (a b c : S) → at < length items
+      → AreSteps step (map told (take at items)) a b → step b (told (get_or items at other)) c
+      → AreSteps step (map told (take (at + 1) items)) a c
+  next_step told items at other a b c lt is more =
+      let here = get_or items at other in
+      let next : map told (take (at + 1) items) ≡ map told (take at items) ++ told here ∷ [] =
+      ap (map told) (take_more items at other lt) ∙ map-append told (take at items) (here ∷ []) in
+      subst (λ (l : List T). AreSteps step l a c) (sym next) (step_more (map told (take at items)) (told here) a b c is more)

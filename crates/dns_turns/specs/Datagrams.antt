@@ -4,6 +4,7 @@ use Rattle.dns_primary.specs.declared.event.Peer.{Peer}
 use Rattle.dns_turns.specs.declared.datagram_socket.DatagramSocket.{Ghosts}
 use Rattle.dns_turns.specs.declared.datagrams.Datagrams.{Datagrams}
 use Rattle.dns_turns.specs.declared.datagrams.Datagram.{Datagram as Place}
+use Rattle.dns_turns.specs.Steps.{AreSteps}
 
 -- Octets, and the peer from which they came or to which they go.
 abbrev pub Datagram : Type 0
@@ -24,11 +25,6 @@ module _ {S : Type 0} where
   -- those that are to be sent
   abbrev pub leaving_of : Datagrams S → List Datagram
   leaving_of d = d.leaving
-
-  -- A step is taken for each of these datagrams, one after the other.
-  abbrev pub AreSteps : (S → Datagram → S → Type 0) → List Datagram → S → S → Type 0
-  AreSteps step [] old new = new ≡ old
-  AreSteps step (one ∷ rest) old new = (between : S) × step old one between × AreSteps step rest between new
 
   -- these came by a socket, one after the other
   abbrev pub HaveCome : Ghosts S → List Datagram → S → S → Type 0

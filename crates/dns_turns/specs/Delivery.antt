@@ -1,5 +1,5 @@
 -- What a server by turns has, and where the replies of its machine go.
-use Rattle.std.specs.Prelude.{◌≡◌, ◌⊎◌, ◌++◌, ℕ, List, [], ◌∷◌, map, Option, None, slice_set}
+use Rattle.std.specs.Prelude.{◌≡◌, ◌⊎◌, ◌++◌, ℕ, List, map, Option, None, slice_set}
 use Rattle.dns_edge.specs.declared.connection.Connection.{Connection}
 use Rattle.dns_edge.specs.Connections.{IsPushed, places_of}
 use Rattle.dns_zone.specs.declared.index.ZoneIndex as index
@@ -14,6 +14,7 @@ use Rattle.dns_primary.specs.Keeps.{IsKept, header_out, reply_out}
 use Rattle.dns_primary.specs.Steps.{SteppedBy}
 use Rattle.dns_turns.specs.declared.edge.Edge.{Edge}
 use Rattle.dns_turns.specs.declared.network.Network.{Ghosts}
+use Rattle.dns_turns.specs.Steps.{AreSteps}
 
 -- What goes out with the effects of an event, in its order.
 abbrev pub out_of : Effects → List (To × List ℕ)
@@ -57,5 +58,4 @@ module _ {I D S N : Type 0} {i : index.Ghosts I} {d : store.Ghosts D} where
 
   -- so does each of these replies, one after the other
   abbrev pub AreSent : Ghosts N S → List (To × List ℕ) → Served I D S N i d → Served I D S N i d → Type 0
-  AreSent n [] old new = new ≡ old
-  AreSent n (one ∷ rest) old new = (between : Served I D S N i d) × IsSent n one.0 one.1 old between × AreSent n rest between new
+  AreSent n = AreSteps (λ old one new. IsSent n one.0 one.1 old new)

@@ -1,4 +1,5 @@
 pub mod Datagrams
 pub mod Delivery
 pub mod Memory
+pub mod Steps
 pub mod Turn

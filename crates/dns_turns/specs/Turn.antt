@@ -1,5 +1,5 @@
 -- What is done in a turn.
-use Rattle.std.specs.Prelude.{◌≡◌, ◌⊎◌, ◌≤◌, ◌<◌, ℕ, List, [], ◌∷◌, length, Option, Some, None, slice_get, slice_set}
+use Rattle.std.specs.Prelude.{◌≡◌, ◌⊎◌, ◌≤◌, ◌<◌, ℕ, List, [], length, Option, Some, None, slice_get, slice_set}
 use Rattle.dns_edge.specs.declared.connection.Connection.{Connection}
 use Rattle.dns_edge.specs.declared.stream.Stream as stream
 use Rattle.dns_edge.specs.Connection.{HasMoved, HasHandedOver, stream_of, left_of, unhandled}
@@ -13,6 +13,7 @@ use Rattle.dns_primary.specs.Keeps.{IsKept}
 use Rattle.dns_primary.specs.Step.{Event, Datagram, Connect, Arrives, Flush, Checkpoint, Pump, Closed}
 use Rattle.dns_turns.specs.declared.network.Network.{Ghosts}
 use Rattle.dns_turns.specs.Delivery.{Served, Takes, IsClosed, AreSent, out_of}
+use Rattle.dns_turns.specs.Steps.{AreSteps}
 
 -- One thing that is done: the network is asked, and nothing came; octets move on the connection with a number; a peer connects; an
 -- event happens, and its replies go out; the connection with a number is closed.
@@ -99,8 +100,7 @@ module _ {I D S N : Type 0} {i : index.Ghosts I} {d : store.Ghosts D} where
   IsMoment s n (Closes number) old new = IsClosed number old new
 
   abbrev pub AreMoments : stream.Ghosts S → Ghosts N S → List Moment → Served I D S N i d → Served I D S N i d → Type 0
-  AreMoments s n [] old new = new ≡ old
-  AreMoments s n (one ∷ rest) old new = (between : Served I D S N i d) × IsMoment s n one old between × AreMoments s n rest between new
+  AreMoments s n = AreSteps (λ old one new. IsMoment s n one old new)
 
   -- Nothing else is done from here to there.
   abbrev pub LeadsTo : stream.Ghosts S → Ghosts N S → Served I D S N i d → Served I D S N i d → Type 0

@@ -1,6 +1,7 @@
 use Rattle.std.proofs.Common.{arith, Some, ap, length}
 use Rattle.dns_turns.specs.Datagrams.{arrived_of, socket_of}
-use Rattle.dns_turns.proofs.Steps.{and_one, more_than_none}
+use Rattle.dns_turns.proofs.ReadAhead.{more_than_none}
+use Rattle.dns_turns.proofs.Steps.{and_one}
 use Rattle.dns_turns.proofs.datagrams.Datagrams.read_ahead.Goals as goal
 
 pub loop-datagram-preserved : goal.loop-datagram-preserved

@@ -1,7 +1,7 @@
 use Rattle.std.proofs.Common.{◌≡◌, List, ℕ, ◌∷◌, refl, ap, sym, subst, ◌∙◌}
 use Rattle.dns_turns.specs.declared.datagrams.Datagrams.{Datagrams}
 use Rattle.dns_turns.specs.Datagrams.{Datagram, AreRead, arrived_of, leaving_of, socket_of}
-use Rattle.dns_turns.proofs.Steps.{copied_least, first_of, read_first, still_there}
+use Rattle.dns_turns.proofs.ReadAhead.{copied_least, first_of, read_first, still_there}
 use Rattle.dns_turns.proofs.datagrams.Datagrams.receive.Goals as goal
 use Rattle.dns_turns.proofs.datagrams.Datagrams.receive.Goals.{then-is_empty, else-is_empty}
 

@@ -1,7 +1,7 @@
 use Rattle.std.proofs.Common.{◌≡◌, ◌∙◌, List, refl, subst, ap}
 use Rattle.dns_turns.specs.declared.datagrams.Datagrams.{Datagrams}
 use Rattle.dns_turns.specs.Datagrams.{Datagram, IsLeaving}
-use Rattle.dns_turns.proofs.Steps.{leaves_last}
+use Rattle.dns_turns.proofs.ReadAhead.{leaves_last}
 use Rattle.dns_turns.proofs.datagrams.Datagrams.send.Goals as goal
 use Rattle.dns_turns.proofs.datagrams.Datagrams.send.Goals.{then-is_empty-via-then-is_empty, then-is_empty-via-else-is_empty+then-not-push}
 

@@ -3,14 +3,15 @@ use Rattle.std.specs.declared.net.ip_addr.IpAddr.TheVariants.{V4}
 use Rattle.std.proofs.lemmas.List.{take_all}
 use Rattle.dns_turns.specs.declared.datagrams.Datagram.{Datagram as Place}
 use Rattle.dns_turns.specs.Datagrams.{Datagram, HaveGone, stands_in}
-use Rattle.dns_turns.proofs.Steps.{between_places, next_place}
+use Rattle.dns_turns.proofs.ReadAhead.{between_places}
+use Rattle.dns_turns.proofs.Steps.{next_step}
 use Rattle.dns_turns.proofs.datagrams.Queue.send.Goals as goal
 
 pub loop-datagram-preserved : goal.loop-datagram-preserved
 loop-datagram-preserved g c =
     let places : List Place = take (c.self.inside.end - c.self.inside.done) (drop c.self.inside.done c.deref.result.now) in
     let none : Place = record { octets = []; count = 0; peer = record { address = V4 (record { octets = [] }); port = 0 } } in
-    next_place (λ old one new. g.S.DatagramSocket.sends old one new) places c.loop-datagram.datagram-index none
+    next_step (λ old one new. g.S.DatagramSocket.sends old one new) stands_in places c.loop-datagram.datagram-index none
     c.args.socket.now c.loop-datagram.socket c.send.new.self c.loop-datagram-test.true c.loop-datagram.invariant
     (subst (λ (xs : List ℕ). g.S.DatagramSocket.sends c.loop-datagram.socket (xs, (get_or places c.loop-datagram.datagram-index none).peer) c.send.new.self) c.octets.ensures c.send.ensures)
 

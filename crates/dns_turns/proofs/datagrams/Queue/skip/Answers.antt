@@ -1,5 +1,5 @@
 use Rattle.std.proofs.Common.{take, drop, ap, ◌∙◌}
-use Rattle.dns_turns.proofs.Steps.{one_less}
+use Rattle.dns_turns.proofs.ReadAhead.{one_less}
 use Rattle.dns_turns.proofs.datagrams.Queue.skip.Goals as goal
 
 pub returns-then-self : goal.returns-then-self
