@@ -1,6 +1,7 @@
 """A plain and slow primary name server, for `run` to compare the program with: whole sets in place of trees, whole lists in place of
 cursors, written apart from the crates, and nothing taken from them. One `Machine` runs one script of `dnsprim replay`.
 """
+import hashlib
 import struct
 
 NINE = {1: "A", 2: "NS", 5: "CNAME", 6: "SOA", 12: "PTR", 15: "MX", 16: "TXT", 28: "AAAA", 33: "SRV"}
@@ -498,8 +499,19 @@ class Device:
         self.pending = []
 
 
-def sector(tag, opened, sequence, number, payload):
-    return (tag + struct.pack(">QQI", opened, sequence, number) + payload).ljust(512, b"\0")
+def digest(at, octets):
+    return hashlib.sha256(struct.pack(">Q", at) + octets).digest()[:8]
+
+
+def sector(at, tag, opened, sequence, number, payload):
+    """A sealed sector for this place."""
+    octets = (tag + struct.pack(">QQI", opened, sequence, number) + payload).ljust(504, b"\0")
+    assert len(octets) == 504
+    return octets + digest(at, octets)
+
+
+def is_own(at, octets):
+    return octets == bytes(512) or octets[504:] == digest(at, octets[:504])
 
 
 def entry_octets(change):
@@ -511,7 +523,7 @@ def entry_octets(change):
 
 
 def entry_sectors(length):
-    return 1 + max(0, -(-(length - 484) // 488))
+    return 1 + max(0, -(-(length - 476) // 480))
 
 
 def snapshot_octets(records):
@@ -519,7 +531,7 @@ def snapshot_octets(records):
 
 
 def snapshot_sectors(length):
-    return -(-length // 488)
+    return -(-length // 480)
 
 
 def split_record(octets, at):
@@ -529,7 +541,7 @@ def split_record(octets, at):
 
 
 class Store:
-    """What one device keeps: a base, the changes behind it, and where the next entry goes."""
+    """What one device keeps: a base, the changes after it, and where the next entry goes."""
 
     def __init__(self, device, apex, s, j):
         self.device, self.apex, self.s, self.j = device, apex, s, j
@@ -537,50 +549,56 @@ class Store:
 
     def root(self, bank_opened, length):
         apex = plain_name(self.apex)
-        payload = struct.pack(">QQII", bank_opened, length, self.s, self.j) + apex
-        return sector(b"DPR1", self.opened, self.base, self.bank, payload)
+        payload = struct.pack(">QQIIB", bank_opened, length, self.s, self.j, 1) + apex
+        return sector(0, b"DPR2", self.opened, self.base, self.bank, payload)
 
     def format(self, records):
         self.opened = self.base = self.bank = 0
         octets = snapshot_octets(records)
         self.device.write(0, bytes(512))
         self.device.sync()
-        parts = self.parts(octets, 0, 0)
+        parts = self.parts(0, octets, 0, 0)
         for at in range(1, 1 + 2 * (self.s + self.j)):
             self.device.write(at, parts[at - 1] if at - 1 < len(parts) else bytes(512))
         self.device.sync()
         self.device.write(0, self.root(0, len(octets)))
         self.device.sync()
 
-    def parts(self, octets, opened, base):
-        return [sector(b"DPS1", opened, base, at // 488, octets[at : at + 488]) for at in range(0, len(octets), 488)]
+    def parts(self, bank, octets, opened, base):
+        cut = [octets[at : at + 480] for at in range(0, len(octets), 480)]
+        return [sector(self.first(bank) + it, b"DPS2", opened, base, it, part) for it, part in enumerate(cut)]
 
     def first(self, bank):
         return 1 + bank * (self.s + self.j)
 
+    def read(self, at):
+        octets = self.device.read(at)
+        assert is_own(at, octets), "a sector that is not sealed"
+        return octets
+
     def open(self):
         """The number of the base, and the sets from the base on."""
         self.device.sync()
-        root = self.device.read(0)
-        assert root[:4] == b"DPR1"
+        root = self.read(0)
+        assert root[:4] == b"DPR2"
         self.opened, self.base, self.bank, bank_opened, length = struct.unpack(">QQIQQ", root[4:40])
-        octets = b"".join(self.device.read(self.first(self.bank) + it)[24:] for it in range(snapshot_sectors(length)))[:length]
+        octets = b"".join(self.read(self.first(self.bank) + it)[24:504] for it in range(snapshot_sectors(length)))[:length]
         records, at = {}, 0
         while at < length:
             (owner, rtype, ttl, data), at = split_record(octets, at)
             records[owner, rtype, data] = ttl
         sets, self.entries, place, opened = [records], [], 0, bank_opened
         while place < self.j:
-            head = self.device.read(self.first(self.bank) + self.s + place)
+            head = self.read(self.first(self.bank) + self.s + place)
             count, sequence, bodies, size = struct.unpack(">QQII", head[4:28])
             taken = entry_sectors(size)
-            if head[:4] != b"DPH1" or sequence != self.base + len(sets) or count < opened or bodies != taken - 1 or place + taken > self.j:
+            if head[:4] != b"DPH2" or sequence != self.base + len(sets) or count < opened or bodies != taken - 1 or place + taken > self.j:
                 break
-            octets, opened = head[28:], count
+            octets, opened = head[28:504], count
             for it in range(bodies):
-                body = self.device.read(self.first(self.bank) + self.s + place + 1 + it)
-                assert body[:24] == b"DPB1" + struct.pack(">QQI", count, sequence, it), "a body of another entry"
-                octets += body[24:]
+                body = self.read(self.first(self.bank) + self.s + place + 1 + it)
+                assert body[:24] == b"DPB2" + struct.pack(">QQI", count, sequence, it), "a body of another entry"
+                octets += body[24:504]
             sets.append(applied(sets[-1], octets[:size]))
             self.entries.append(octets[:size])
             place += taken
@@ -593,10 +611,11 @@ class Store:
     def left(self):
         return self.j - self.used - sum(entry_sectors(len(it)) for it in self.staged)
 
-    def entry(self, octets, sequence):
-        bodies = [octets[at : at + 488] for at in range(484, len(octets), 488)]
-        head = sector(b"DPH1", self.opened, sequence, len(bodies), struct.pack(">I", len(octets)) + octets[:484])
-        return head, [sector(b"DPB1", self.opened, sequence, it, body) for it, body in enumerate(bodies)]
+    def entry(self, at, octets, sequence):
+        """The head and the bodies of an entry whose first sector is this one."""
+        cut = [octets[it : it + 480] for it in range(476, len(octets), 480)]
+        head = sector(at, b"DPH2", self.opened, sequence, len(cut), struct.pack(">I", len(octets)) + octets[:476])
+        return head, [sector(at + 1 + it, b"DPB2", self.opened, sequence, it, body) for it, body in enumerate(cut)]
 
     def stage(self, octets):
         self.staged.append(octets)
@@ -609,7 +628,7 @@ class Store:
         try:
             has_bodies = False
             for number, octets in enumerate(self.staged, self.base + len(self.entries) + 1):
-                head, bodies = self.entry(octets, number)
+                head, bodies = self.entry(place, octets, number)
                 heads.append((place, head))
                 for it, body in enumerate(bodies):
                     self.device.write(place + 1 + it, body)
@@ -637,11 +656,11 @@ class Store:
         entries, bank = self.entries[len(self.entries) - kept :], 1 - self.bank
         octets = snapshot_octets(base_set(base))
         try:
-            for it, part in enumerate(self.parts(octets, self.opened, base)):
+            for it, part in enumerate(self.parts(bank, octets, self.opened, base)):
                 self.device.write(self.first(bank) + it, part)
             place = self.first(bank) + self.s
             for number, entry in enumerate(entries, base + 1):
-                head, bodies = self.entry(entry, number)
+                head, bodies = self.entry(place, entry, number)
                 for it in [head, *bodies]:
                     self.device.write(place, it)
                     place += 1

@@ -1,3 +1,5 @@
 pub mod Ended
 pub mod Made
+pub mod Migrated
+pub mod Refused
 pub mod Shown

@@ -1,14 +1,20 @@
 -- What is wrong with a device, and how it is told.
-use Rattle.std.specs.Prelude.{◌≡◌, ℕ, Bool, true, false, List, ◌++◌, Option, codes, decimal, if◌then◌else◌}
+use Rattle.std.specs.Prelude.{◌≡◌, ◌⊎◌, ℕ, Bool, true, false, List, ◌++◌, Option, codes, decimal, if◌then◌else◌}
 use Rattle.std.specs.Bool.{MatchBool}
 use Rattle.std.specs.Io.KnownBytes.{Appends}
+use Rattle.dns_sectors.specs.declared.device.Sectors.{Ghosts}
+use Rattle.dns_layout.specs.Sector.{sector_at, tag, root_tag_in}
+use Rattle.dns_layout.specs.declared.format.Format.TheVariants.{One}
+use Rattle.dns_journal.specs.Reads.{HasRisen}
 use Rattle.dns_store.specs.declared.formatting.FormatError.{FormatError}
 use Rattle.dns_store.specs.declared.formatting.FormatError.TheVariants as unmade
 use Rattle.dns_store.specs.declared.root.OpenError.{OpenError}
 use Rattle.dns_store.specs.declared.root.OpenError.TheVariants as refused
+use Rattle.dns_store.specs.declared.migrating.MigrateError.{MigrateError}
+use Rattle.dns_store.specs.declared.migrating.MigrateError.TheVariants as unmigrated
 use Rattle.dns_configuration.specs.Faults.{line, printed_word}
 use Rattle.dns_devices.specs.declared.faults.DeviceFault.{DeviceFault}
-use Rattle.dns_devices.specs.declared.faults.DeviceFault.TheVariants.{Exists, Device, Blank, Damaged, Geometry, ZoneTooLarge, OutOfMemory}
+use Rattle.dns_devices.specs.declared.faults.DeviceFault.TheVariants.{Exists, Device, Blank, Damaged, OldFormat, Geometry, ZoneTooLarge, OutOfMemory}
 
 -- A refusal of the store, as one of its device.
 abbrev pub fault_of_format : FormatError → DeviceFault
@@ -24,12 +30,34 @@ fault_of_open (refused.Damaged sector) = Damaged sector
 fault_of_open refused.Geometry = Geometry
 fault_of_open refused.OutOfMemory = OutOfMemory
 
+abbrev pub fault_of_migrate : MigrateError → DeviceFault
+fault_of_migrate unmigrated.Device = Device
+fault_of_migrate unmigrated.Blank = Blank
+fault_of_migrate (unmigrated.Damaged sector) = Damaged sector
+fault_of_migrate unmigrated.Geometry = Geometry
+fault_of_migrate unmigrated.ZoneTooLarge = ZoneTooLarge
+fault_of_migrate unmigrated.OutOfMemory = OutOfMemory
+
+-- The device's first sector has the tag of a root of format 1.
+abbrev pub HasOldRoot : {D : Type 0} → Ghosts D → D → Type 0
+HasOldRoot g device = tag (sector_at (g.seen device) 0) ≡ root_tag_in One
+
+-- The fault of a device that was handed back when its store was refused: that of the refusal; but where the store was refused for its
+-- first sector, `OldFormat` exactly if a root of format 1 is there, and `Device` where it failed when that was asked.
+abbrev pub IsFaultOf : {D : Type 0} → Ghosts D → OpenError → D → DeviceFault → Type 0
+IsFaultOf {D} g error device fault =
+    ((fault ≡ fault_of_open error) × (error ≡ refused.Damaged 0 → g.is_honest device → HasOldRoot g device → ⊥))
+    ⊎ ((error ≡ refused.Damaged 0)
+    × (((fault ≡ OldFormat) × (g.is_honest device → HasOldRoot g device))
+    ⊎ ((fault ≡ Device) × ((after : D) × HasRisen (g.failed device) (g.failed after)))))
+
 -- The name of each fault, and what can be done about it.
 abbrev pub device_word : DeviceFault → List ℕ
 device_word Exists = codes "Exists"
 device_word Device = codes "Device"
 device_word Blank = codes "Blank"
 device_word (Damaged sector) = codes "Damaged(" ++ decimal sector ++ codes ")"
+device_word OldFormat = codes "OldFormat"
 device_word Geometry = codes "Geometry"
 device_word ZoneTooLarge = codes "ZoneTooLarge"
 device_word OutOfMemory = codes "OutOfMemory"
@@ -39,10 +67,11 @@ advice Exists = codes "init makes new files alone; move the file away, or serve 
 advice Device = codes "the file is missing, may not be read and written, is held by another process, or failed"
 advice Blank = codes "no store was ever made in the file, or making it was stopped; move it away and run init"
 advice (Damaged sector) =
-    codes "that sector of 512 octets, the first being 0, is not what it should be; take the file from a backup"
+    codes "that sector is not what was written there; a copy of the file, or its master file and init, restores it"
+advice OldFormat = codes "the file was made in an older sector format; migrate makes it new"
 advice Geometry = codes "the file was made for another zone, or with other snapshot_sectors or journal_sectors"
 advice ZoneTooLarge =
-    codes "the zone takes more sectors than snapshot_sectors allows; a sector holds 488 octets of records"
+    codes "the zone takes more sectors than snapshot_sectors allows; a sector holds 480 octets of records"
 advice OutOfMemory = codes "memory was refused"
 
 -- Memory was refused, of which nothing is told.

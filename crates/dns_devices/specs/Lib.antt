@@ -1,3 +1,4 @@
 pub mod Faults
 pub mod Making
+pub mod Migrating
 pub mod Showing

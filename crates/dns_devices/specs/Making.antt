@@ -22,7 +22,7 @@ use Rattle.dns_configuration.specs.declared.files.Fault.{Fault}
 use Rattle.dns_configuration.specs.Faults.{line, fault_text}
 use Rattle.dns_configuration.specs.Files.{Holds, IsFirstFault, IsLoaded}
 use Rattle.dns_devices.specs.declared.faults.DeviceFault.{DeviceFault}
-use Rattle.dns_devices.specs.declared.faults.DeviceFault.TheVariants.{Exists, Device, Blank, Damaged, Geometry, ZoneTooLarge, OutOfMemory}
+use Rattle.dns_devices.specs.declared.faults.DeviceFault.TheVariants.{Exists, Device, Blank, Damaged, OldFormat, Geometry, ZoneTooLarge, OutOfMemory}
 use Rattle.dns_devices.specs.Faults.{device_text, status_of}
 
 -- What may be answered for a device that is to be made, of so many sectors; and where it is asked whether there is one.
@@ -68,6 +68,7 @@ IsNotMade g made own zone OutOfMemory = Unit {0}
 IsNotMade g made own zone Exists = ⊥
 IsNotMade g made own zone Blank = ⊥
 IsNotMade g made own zone (Damaged sector) = ⊥
+IsNotMade g made own zone OldFormat = ⊥
 
 -- Nothing is at the path of the zone's device.
 abbrev pub is_absent : Finds → ZoneSettings → Type 0

@@ -12,7 +12,9 @@ use Rattle.dns_sectors.specs.declared.device.DeviceError.{DeviceError}
 use Rattle.dns_sectors.specs.declared.device.Sectors.{Ghosts}
 use Rattle.dns_layout.specs.Sector.{sector_at}
 use Rattle.dns_masterfile.specs.Printed.{printed_zone}
+use Rattle.dns_journal.specs.Reads.{OnlyReads}
 use Rattle.dns_store.specs.declared.root.OpenError.{OpenError}
+use Rattle.dns_store.specs.declared.root.OpenError.TheVariants as told
 use Rattle.dns_store.specs.Damage.{NamesWrong}
 use Rattle.dns_store.specs.Opening.{IsInRange, IsStopped, MayOpen}
 use Rattle.dns_store.specs.Opens.{opens, sizes_of}
@@ -27,7 +29,7 @@ use Rattle.dns_configuration.specs.Faults.{fault_text, line}
 use Rattle.dns_configuration.specs.Files.{Holds}
 use Rattle.dns_devices.specs.declared.faults.DeviceFault.{DeviceFault}
 use Rattle.dns_devices.specs.declared.faults.DeviceFault.TheVariants.{Device}
-use Rattle.dns_devices.specs.Faults.{device_text, fault_of_open, status_of}
+use Rattle.dns_devices.specs.Faults.{IsFaultOf, device_text, status_of}
 
 -- What may be answered for a device that is to be opened.
 abbrev pub Gives : Type 0 → Type 1
@@ -50,12 +52,14 @@ pub record IsShown {D : Type 0} (g : Ghosts D) (opened : Gives D) (own : ZoneSet
       → zone ≡ record { apex = own.origin; records = newest_after o.loaded o.versions })
 
 -- Why the device shows none: where each crash leaves a store that opens, the device failed, memory was refused, or it was opened too
--- often; else by what stands on it.
+-- often; else by what stands on it. It was only read, unless it failed.
 pub record IsClosed {D : Type 0} (g : Ghosts D) (opened : Gives D) (own : ZoneSettings) (fault : DeviceFault) : Type 0 where
   pub device : D
   pub came : opened (string_bytes own.device) (Ok device)
+  pub back : D
   pub error : OpenError
-  pub named : fault ≡ fault_of_open error
+  pub named : IsFaultOf g error back fault
+  pub read_only : (error ≡ told.Device) ⊎ OnlyReads g device back
   pub stopped : g.is_honest device
       → IsInRange own.snapshot_sectors own.journal_sectors
       → MayOpen g (own_shape own) device

@@ -1,11 +1,12 @@
 //! What is wrong with a device, and how it is told.
 ghost use Rattle.std.specs.Prelude.{◌≡◌, Some, IfOk};
 ghost use Rattle.dns_devices.specs.Faults.{IsDeviceTold, advice, device_text, device_word, is_memory, status_of};
-ghost use Rattle.dns_devices.specs.Faults.{fault_of_format, fault_of_open};
+ghost use Rattle.dns_devices.specs.Faults.{IsFaultOf, fault_of_format, fault_of_migrate, fault_of_open};
+ghost use Rattle.dns_journal.specs.Reads.{OnlyReads};
 
 use dns_configuration::{FAILED, PrintedWord, REFUSED};
-use dns_sectors::DeviceError;
-use dns_store::{FormatError, OpenError};
+use dns_sectors::{DeviceError, Sectors};
+use dns_store::{DeviceFormat, FormatError, MigrateError, OpenError, format_of};
 use std::alloc::AllocError;
 use std::fmt;
 use std::io::{self, Write};
@@ -21,6 +22,8 @@ pub enum DeviceFault {
     Blank,
     /// This sector isn't what it should be.
     Damaged(usize),
+    /// Its store is of sector format 1, which has to be migrated before it is opened.
+    OldFormat,
     /// It has another number of sectors, or its store is of another zone or of other sizes.
     Geometry,
     /// The zone's records take more sectors than a snapshot may have.
@@ -56,6 +59,37 @@ impl From<OpenError> for DeviceFault {
     }
 }
 
+impl From<MigrateError> for DeviceFault {
+    ghost from_gives = { λ e f. f ≡ fault_of_migrate e };
+
+    fn from(error: MigrateError) -> DeviceFault {
+        match error {
+            MigrateError::Device => DeviceFault::Device,
+            MigrateError::Blank => DeviceFault::Blank,
+            MigrateError::Damaged(sector) => DeviceFault::Damaged(sector),
+            MigrateError::Geometry => DeviceFault::Geometry,
+            MigrateError::ZoneTooLarge => DeviceFault::ZoneTooLarge,
+            MigrateError::OutOfMemory => DeviceFault::OutOfMemory,
+        }
+    }
+}
+
+/// Why a device was refused whose store was not opened, for this; it was handed back. A root of format 1, which is no root of today's
+/// format, is told as what it is. It is only read, and only where sector 0 is said to be wrong. `Device` where it fails then.
+pub fn refusal<D: Sectors>(device: &mut D, error: OpenError) -> DeviceFault
+    ensures fault { IsFaultOf D.Sectors error device.old result }
+    ensures reads { OnlyReads D.Sectors device.old device.new }
+{
+    match error {
+        OpenError::Damaged(0) => match format_of(device) {
+            Ok(DeviceFormat::One) => DeviceFault::OldFormat,
+            Ok(_) => DeviceFault::from(error),
+            Err(_) => DeviceFault::Device,
+        },
+        _ => DeviceFault::from(error),
+    }
+}
+
 impl fmt::Display for DeviceFault {
     ghost output = { λ f. Some (device_word f) };
 
@@ -65,6 +99,7 @@ impl fmt::Display for DeviceFault {
             DeviceFault::Device => write!(f, "Device"),
             DeviceFault::Blank => write!(f, "Blank"),
             DeviceFault::Damaged(sector) => write!(f, "Damaged({sector})"),
+            DeviceFault::OldFormat => write!(f, "OldFormat"),
             DeviceFault::Geometry => write!(f, "Geometry"),
             DeviceFault::ZoneTooLarge => write!(f, "ZoneTooLarge"),
             DeviceFault::OutOfMemory => write!(f, "OutOfMemory"),
@@ -85,13 +120,15 @@ fn advice(fault: DeviceFault) -> &'static str
             "no store was ever made in the file, or making it was stopped; move it away and run init"
         }
         DeviceFault::Damaged(_) => {
-            "that sector of 512 octets, the first being 0, is not what it should be; take the file from a backup"
+            "that sector is not what was written there; a copy of the file, or its master file and init, restores it"
         }
+        DeviceFault::OldFormat =>
+            "the file was made in an older sector format; migrate makes it new",
         DeviceFault::Geometry => {
             "the file was made for another zone, or with other snapshot_sectors or journal_sectors"
         }
         DeviceFault::ZoneTooLarge => {
-            "the zone takes more sectors than snapshot_sectors allows; a sector holds 488 octets of records"
+            "the zone takes more sectors than snapshot_sectors allows; a sector holds 480 octets of records"
         }
         DeviceFault::OutOfMemory => "memory was refused",
     }

@@ -1,12 +1,15 @@
-//! Devices by their paths: a store is made in each for a zone, and the zone that one keeps is shown.
+//! Devices by their paths: a store is made in each for a zone, the zone that one keeps is shown, and one of an older sector format is
+//! made new.
 #![tactic(auto)]
 
 mod faults;
 mod folder;
 mod making;
+mod migration;
 mod showing;
 
-pub use faults::{DeviceFault, tell_device};
+pub use faults::{DeviceFault, refusal, tell_device};
 pub use folder::{Devices, Disk};
 pub use making::init;
+pub use migration::migrate;
 pub use showing::dump;

@@ -4,7 +4,7 @@ ghost use Rattle.std.specs.Option.{option_copied};
 ghost use Rattle.dns_names.specs.Name.{names_eq};
 ghost use Rattle.dns_devices.specs.Showing.{DumpEnds, IsNotShown, IsShown, ShowingEnds};
 
-use crate::faults::{DeviceFault, tell_device};
+use crate::faults::{DeviceFault, refusal, tell_device};
 use crate::folder::Devices;
 use dns_configuration::{DONE, FAILED, Fault, File, ZoneSettings, apex, read_configuration, tell};
 use dns_masterfile::print_zone;
@@ -38,7 +38,7 @@ fn open_zone<D: Sectors + Drop, F: Devices<D>, I: ZoneIndex>(
     );
     match opened {
         Ok((_store, zone)) => Ok(zone),
-        Err((_device, error)) => Err(DeviceFault::from(error)),
+        Err((mut device, error)) => Err(refusal(&mut device, error)),
     }
 }
 

@@ -1,6 +1,6 @@
 //! A configuration of two zones, their files, and what a run of one command over them wrote.
 use dns_configuration::File;
-use dns_devices::{Disk, dump, init};
+use dns_devices::{Disk, dump, init, migrate};
 use dns_files::{DiskFile, FileSectors};
 use dns_memory::heap;
 use dns_zone::RecordList;
@@ -100,6 +100,24 @@ pub(crate) fn run_dump(rt: &HostRuntime, origin: &str, explain: bool) -> Result<
         &config,
         origin,
         explain,
+        &mut out,
+        &mut err,
+    );
+    Ok(Ran { status, out, err })
+}
+
+/// Runs `migrate`.
+pub(crate) fn run_migrate(rt: &HostRuntime) -> Result<Ran, Fail> {
+    let heap = heap(rt.alloc())?;
+    let config = file("dnsprim.toml", CONFIG);
+    let (mut out, mut err) = (Vec::new(rt.alloc()), Vec::new(rt.alloc()));
+    let devices = Disk(rt);
+    let status = migrate::<Device, _, RecordList, _, _>(
+        rt.alloc(),
+        heap,
+        &devices,
+        &config,
+        false,
         &mut out,
         &mut err,
     );

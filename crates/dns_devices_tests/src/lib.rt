@@ -1,4 +1,4 @@
-//! Tests of devices in files: what `init` makes of master files and prints, what `dump` shows of it, and how each fault is told.
+//! Tests of devices in files: what `init` makes of master files and prints, what `dump` shows of it, what `migrate` does, and how each fault is told.
 #![tactic(auto)]
 
 #[cfg(test)]

@@ -1,5 +1,5 @@
-//! Runs of `init` and `dump`.
-use crate::given::{OTHER, PRINTED, ended, run_dump, run_init};
+//! Runs of `init`, `dump` and `migrate`.
+use crate::given::{OTHER, PRINTED, ended, run_dump, run_init, run_migrate};
 use dns_files::FileSectors;
 use std::fs;
 use std::test::Fail;
@@ -102,5 +102,33 @@ fn one_that_is_served_is_not_shown(rt: HostRuntime) -> Result<(), Fail> {
     assert!(rt; served.is_ok());
     let refused = "example.device: Device\n";
     ended(&rt, &run_dump(&rt, "example.", false)?, 3, "", refused);
+    Ok(())
+}
+
+/// A root of sector format 1, of the zone `example.` with 8 and 16 sectors, up to the last octet that is not 0.
+const OLD_ROOT: &[u8; 56] =
+    b"DPR1\0\0\0\0\0\0\0\0\0\0\0\0\0\0\0\0\0\0\0\0\0\0\0\0\0\0\0\0\0\0\0\0\0\0\
+\x01\xda\0\0\0\x08\0\0\0\x10\x07example";
+
+#[test]
+fn one_of_an_older_format_is_told(rt: HostRuntime) -> Result<(), Fail> {
+    clear(&rt);
+    let mut octets = [0u8; 512 * 49];
+    octets[..56].copy_from_slice(OLD_ROOT);
+    assert!(rt; fs::write(&rt, "example.device", octets).is_ok());
+    let old = "example.device: OldFormat\n";
+    ended(&rt, &run_dump(&rt, "example.", false)?, 1, "", old);
+    let wrong = "example.device: Damaged(1)\n";
+    ended(&rt, &run_migrate(&rt)?, 1, "", wrong);
+    Ok(())
+}
+
+#[test]
+fn one_of_todays_format_is_left_as_it_is(rt: HostRuntime) -> Result<(), Fail> {
+    clear(&rt);
+    assert_eq!(rt; run_init(&rt, OTHER, false)?.status, 0);
+    let already = "example. already\nother. already\n";
+    ended(&rt, &run_migrate(&rt)?, 0, already, "");
+    ended(&rt, &run_dump(&rt, "example.", false)?, 0, PRINTED, "");
     Ok(())
 }

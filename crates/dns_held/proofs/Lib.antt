@@ -1,4 +1,3 @@
 pub mod Lists
-pub mod Counts
 pub mod Room
 pub mod Moved

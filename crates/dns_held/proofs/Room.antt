@@ -2,17 +2,14 @@
 use Rattle.std.proofs.Common.{◌≡◌, ◌≤◌, ◌<◌, ◌+◌, ◌-◌, ◌*◌, ◌^◌, ℕ, Bool, true, List, [], ◌∷◌, ◌++◌, Option, Some, None, length, refl, sym, ap, subst, ◌∙◌, arith, append-nil, append_assoc}
 use Rattle.std.specs.Prelude.{nat_le, nat_lt, false, Result, Ok, Err, if◌then◌else◌}
 use Rattle.dns_zone.specs.declared.ZoneError.TheVariants.{TooMany}
-use Rattle.std.specs.List.{AllByRecursion}
 use Rattle.std.proofs.Math.Bool.{Bool-set}
 use Rattle.std.proofs.Math.Logic.{∥∥₁_elim}
 use Rattle.std.proofs.lemmas.Bool.Decides.{nat_tests}
-use Rattle.dns_names.specs.Name.{IsName}
-use Rattle.dns_records.specs.Record.{Record, IsRecord, plain}
+use Rattle.dns_records.specs.Record.{Record}
 use Rattle.dns_zone.specs.Zone.{Zone, IsZone}
 use Rattle.dns_zone.specs.Sets.{sorted_from}
 use Rattle.dns_changes.specs.Change.{Change, IsChange}
 use Rattle.dns_changes.specs.Version.{IsNext}
-use Rattle.dns_changes.proofs.Entries.{plain_length}
 use Rattle.dns_journal.specs.declared.journal.StageError.{StageError}
 use Rattle.dns_journal.specs.declared.journal.StageError.TheVariants as lower
 use Rattle.dns_store.specs.Versions.{Kept, Versions, newest_after, newest_of, staged_with}
@@ -21,10 +18,11 @@ use Rattle.dns_store.specs.Staged.{newest_append}
 use Rattle.dns_held.specs.Staging.{has_room, HasRoomBy, staging_error}
 use Rattle.std.specs.Result.{IsErrAnd}
 use Rattle.dns_held.specs.declared.staging.StagingError.{StagingError}
-use Rattle.dns_held.specs.Plain.{octets_of}
+use Rattle.dns_store.specs.Plain.{octets_of}
 use Rattle.dns_held.specs.Held.{HasVersions, IsTip, newer, newest_zone, shown_zone}
 use Rattle.dns_held.specs.declared.behind.Behind.{Behind}
-use Rattle.dns_held.proofs.Counts.{counts, octets_more}
+use Rattle.dns_store.proofs.Counts.{counts}
+use Rattle.dns_store.proofs.Chosen.{short_all}
 
 pub tip_newest : (zone : Zone) (o : Option Zone) (k : Kept) → zone ≡ shown_zone k → IsTip o k → newer zone o ≡ newest_zone k
 tip_newest zone None k is none = is ∙ λ i. record { apex = k.shape.apex; records = newest_after k.loaded ((sym (append-nil k.shown) ∙ sym (ap (λ (vs : Versions). k.shown ++ vs) none)) i) }
@@ -32,13 +30,6 @@ tip_newest zone (Some tip) k is none = none
 
 pub newer_is : {I S : Type 0} (keeps : S → Kept → Type 0) (zone : Zone) (b : Behind I S) (k : Kept) → HasVersions keeps zone b k → newer zone b.tip ≡ newest_zone k
 newer_is keeps zone b k held = tip_newest zone b.tip k held.zone_is held.tip_is
-
-short_one : (r : Record) → IsRecord r → length (plain r) ≤ 4359
-short_one r valid = let name : IsName r.owner = valid.owner in omega (arith, plain_length r, name.short, valid.short)
-
-short_all : (rs : List Record) → AllByRecursion IsRecord rs → octets_of rs ≤ 4359 * length rs
-short_all [] each = omega arith
-short_all (r ∷ rs) each = let one = short_one r each.0 in let rest = short_all rs each.1 in omega (arith, octets_more r rs, one, rest)
 
 -- what is counted beside a version are its octets, where it has so few records
 pub counted : (before : Zone) (octets n : ℕ) (after : List Record) (c : Change) → IsZone before → IsNext before c after → IsChange before.records after c → octets ≡ octets_of before.records

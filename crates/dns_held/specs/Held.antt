@@ -2,7 +2,7 @@
 use Rattle.std.specs.Prelude.{◌≡◌, List, [], ◌∷◌, length, Option, Some, None}
 use Rattle.dns_zone.specs.Zone.{Zone}
 use Rattle.dns_store.specs.Versions.{Kept, shown_of, newest_of}
-use Rattle.dns_held.specs.Plain.{octets_of}
+use Rattle.dns_store.specs.Plain.{octets_of}
 use Rattle.dns_held.specs.declared.behind.Behind.{Behind}
 
 abbrev pub shown_zone : Kept → Zone

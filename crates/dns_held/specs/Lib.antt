@@ -1,5 +1,4 @@
 pub mod Each
-pub mod Plain
 pub mod Held
 pub mod Flush
 pub mod Staging

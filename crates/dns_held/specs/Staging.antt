@@ -6,7 +6,7 @@ use Rattle.dns_journal.specs.declared.journal.StageError.{StageError}
 use Rattle.dns_journal.specs.declared.journal.StageError.TheVariants as lower
 use Rattle.dns_store.specs.Versions.{Kept, newest_of}
 use Rattle.dns_store.specs.Room.{entry_between, sectors_left}
-use Rattle.dns_held.specs.Plain.{octets_of}
+use Rattle.dns_store.specs.Plain.{octets_of}
 use Rattle.dns_held.specs.declared.staging.StagingError.{StagingError}
 use Rattle.dns_held.specs.declared.staging.StagingError.TheVariants as upper
 

@@ -4,11 +4,9 @@
 mod behind;
 mod changes;
 mod flush;
-mod octets;
 mod staging;
 
 pub use behind::{Behind, newest};
 pub use changes::shown_changes;
 pub use flush::{flush_all, flush_zone};
-pub use octets::snapshot_len;
 pub use staging::{MOST_RECORDS, StagingError, next_version, sectors_lacked, stage};

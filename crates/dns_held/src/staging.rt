@@ -5,14 +5,13 @@ ghost use Rattle.dns_changes.specs.Change.{IsChange};
 ghost use Rattle.dns_changes.specs.Version.{IsNext};
 ghost use Rattle.dns_store.specs.Versions.{Kept, StandsStill, newest_of, staged_with};
 ghost use Rattle.dns_held.specs.Held.{HasVersions, newer};
-ghost use Rattle.dns_held.specs.Plain.{octets_of};
+ghost use Rattle.dns_store.specs.Plain.{octets_of};
 ghost use Rattle.dns_held.specs.Staging.{HasRoomBy, has_room, lacks_room, sectors_lacked};
 
-use crate::octets::octets_after;
 use crate::{Behind, newest};
 use dns_changes::Change;
 use dns_layout::{entry_sectors, snapshot_sectors};
-use dns_store::{StageError, ZoneStore};
+use dns_store::{StageError, ZoneStore, octets_after};
 use dns_zone::{Zone, ZoneIndex};
 use std::alloc::AllocError;
 use thiserror::Error;

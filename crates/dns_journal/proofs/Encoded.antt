@@ -7,7 +7,8 @@ use Rattle.std.specs.Prelude.{min}
 use Rattle.std.specs.List.{flat_map}
 use Rattle.dns_sectors.specs.Phase.{pairs}
 use Rattle.dns_sectors.specs.declared.phase.SectorWrite.{SectorWrite}
-use Rattle.dns_layout.specs.Sector.{AreZeros, number, payload, entry_length, entry_sectors, first_octets, payload_room, head_room}
+use Rattle.dns_layout.specs.Sector.{AreZeros, number, payload, entry_length, entry_sectors, snapshot_sectors, first_octets, payload_room, head_room}
+use Rattle.dns_layout.specs.Own.{Own}
 use Rattle.dns_layout.specs.Forms.{SaysHead}
 use Rattle.dns_layout.specs.declared.head.Head.{Head}
 use Rattle.dns_journal.specs.declared.read.Cursor.{Cursor}
@@ -42,12 +43,12 @@ enough n octets rest is size = omega (arith, is, size)
 
 pub stages : (old new : Cursor) (h : Head) (x octets : List ℕ) (m n : ℕ) (bodies bodies' heads heads' : List SectorWrite)
     → SaysHead x h → h.open_count ≡ old.opened → h.version ≡ old.version + 1 → h.length ≡ length octets → m ≡ min (length octets) head_room
-    → h.first ≡ take m octets ++ replicate (head_room - length (take m octets)) 0
+    → first_octets x ≡ take m octets ++ replicate (head_room - length (take m octets)) 0 → Own old.at x
     → n + 1 ≡ entry_sectors (length octets) → PushesBodies (old.at + 1) h (drop m octets) n (pairs bodies) (pairs bodies')
     → pairs heads' ≡ pairs heads ++ (old.at, x) ∷ [] → old.at + entry_sectors (length octets) ≤ old.until
     → new.at ≡ old.at + (1 + n) → new.until ≡ old.until → new.version ≡ old.version + 1 → new.opened ≡ old.opened
     → Stages old new bodies bodies' heads heads' octets
-stages old new h x octets m n bodies bodies' heads heads' says opened version len m_is first_is n_is pushes heads_is room place until version_new opened_new =
+stages old new h x octets m n bodies bodies' heads heads' says opened version len m_is first_is head_own n_is pushes heads_is room place until version_new opened_new =
     let rest = drop m octets in
     let rest_size : length rest ≡ length octets - head_room = omega (arith, length-drop m octets, m_is) in
     let flat : flat_map payload pushes.sectors ≡ rest ++ replicate (payload_room * n - length rest) 0 =
@@ -58,7 +59,7 @@ stages old new h x octets m n bodies bodies' heads heads' says opened version le
       entry = record { head = x; bodies = pushes.sectors };
       holds =
           ap (λ k. take k (first_octets x ++ flat_map payload pushes.sectors)) length_is
-          ∙ ap (λ (l : List ℕ). take (length octets) (l ++ flat_map payload pushes.sectors)) (says.first_is ∙ first_is)
+          ∙ ap (λ (l : List ℕ). take (length octets) (l ++ flat_map payload pushes.sectors)) first_is
           ∙ ap (λ (l : List ℕ). take (length octets) ((take m octets ++ replicate (head_room - length (take m octets)) 0) ++ l)) flat
           ∙ octets_back octets (replicate (payload_room * n - length rest) 0) m m_is;
       next = record {
@@ -78,6 +79,8 @@ stages old new h x octets m n bodies bodies' heads heads' says opened version le
       };
       opened = says.opened_is ∙ opened;
       size = omega (arith, pushes.count_is, n_is);
+      bodies_own = pushes.own;
+      head_own = head_own;
       bodies_are = pushes.written;
       heads_are = heads_is;
       place = omega (arith, place, pushes.count_is);
@@ -89,3 +92,26 @@ stages old new h x octets m n bodies bodies' heads heads' says opened version le
 pub is_short : (octets until at : ℕ) → until ≤ 2 ^ 20 → entry_sectors octets ≤ until - at → octets < 2 ^ 32
 unfolding entry_sectors
 is_short octets until at small le = omega (arith, small, le)
+
+parts_whole : (octets : ℕ) → octets ≤ payload_room * snapshot_sectors octets
+unfolding snapshot_sectors
+parts_whole octets = omega arith
+
+-- parts that hold octets, with zeros behind them
+module _ (parts : List (List ℕ)) (octets : List ℕ) (len : ℕ) (len_is : len ≡ length octets)
+    (holds : flat_map payload parts ≡ take (payload_room * snapshot_sectors (length octets)) octets ++ replicate (payload_room * snapshot_sectors (length octets) - length octets) 0) where
+  flat : flat_map payload parts ≡ octets ++ replicate (payload_room * snapshot_sectors (length octets) - length octets) 0
+  flat =
+      holds
+      ∙ ap (λ (l : List ℕ). l ++ replicate (payload_room * snapshot_sectors (length octets) - length octets) 0) (take_all (payload_room * snapshot_sectors (length octets)) octets (parts_whole (length octets)))
+
+  pub held : take len (flat_map payload parts) ≡ octets
+  held =
+      ap (λ n. take n (flat_map payload parts)) len_is ∙ ap (λ (l : List ℕ). take (length octets) l) flat
+      ∙ take-append_seam octets (replicate (payload_room * snapshot_sectors (length octets) - length octets) 0)
+
+  pub zeros_held : AreZeros (drop len (flat_map payload parts))
+  zeros_held =
+      subst (λ (l : List ℕ). AreZeros l)
+      (sym (ap (λ n. drop n (flat_map payload parts)) len_is ∙ ap (λ (l : List ℕ). drop (length octets) l) flat ∙ drop-append_seam octets (replicate (payload_room * snapshot_sectors (length octets) - length octets) 0)))
+      (are_zeros (payload_room * snapshot_sectors (length octets) - length octets))

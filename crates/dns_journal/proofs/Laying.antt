@@ -1,5 +1,5 @@
 -- The sectors of a bank, pushed one after the other.
-use Rattle.std.proofs.Common.{◌≡◌, ℕ, zero, suc, ◌+◌, ◌^◌, ◌-◌, ◌*◌, ◌≤◌, ◌<◌, List, [], ◌∷◌, ◌++◌, length, take, drop, replicate, refl, sym, ◌∙◌, ap, subst, arith, append_assoc, length-append}
+use Rattle.std.proofs.Common.{◌≡◌, ℕ, zero, suc, ◌+◌, ◌-◌, ◌*◌, ◌≤◌, ◌<◌, List, [], ◌∷◌, ◌++◌, length, take, drop, replicate, refl, sym, ◌∙◌, ap, subst, arith, append_assoc, length-append}
 use Rattle.std.proofs.lemmas.List.{append-nil, take_more}
 use Rattle.std.proofs.lemmas.List.Sums.{sum_by-drop_more}
 use Rattle.std.specs.Prelude.{min, sum_by, get_or}
@@ -10,27 +10,24 @@ use Rattle.dns_sectors.specs.declared.phase.SectorWrite.{SectorWrite}
 use Rattle.dns_layout.specs.Sector.{payload, payload_room, snapshot_sectors}
 use Rattle.dns_layout.specs.Forms.{SaysPart}
 use Rattle.dns_layout.specs.Journal.{Entry, size_of, IsNextEntry, IsBatch, writes_from, place_behind, version_behind}
-use Rattle.dns_layout.specs.Store.{Shape, IsPart, AreParts, snapshot_place, journal_place, bank_end}
-use Rattle.dns_layout.specs.declared.part.SnapshotPart.{SnapshotPart}
+use Rattle.dns_layout.specs.Own.{Own, AreOwn}
+use Rattle.dns_layout.specs.Store.{Shape, IsPart, AreParts, snapshot_place, journal_place, bank_end, other_of}
+use Rattle.dns_layout.specs.declared.format.Format.TheVariants.{Two}
 use Rattle.dns_changes.specs.Change.{Change}
 use Rattle.dns_changes.specs.Entry.{entry}
 use Rattle.dns_journal.specs.declared.read.Cursor.{Cursor}
 use Rattle.dns_journal.specs.Staging.{Stages}
-use Rattle.dns_journal.specs.Bank.{piece, part_of, sectors_of, sectors_for, other_of, AreEntries, PushesParts, PushesEntry, PushesEntries, LaysBank}
+use Rattle.dns_journal.specs.Bank.{piece, part_of, Holds, sectors_of, sectors_for, AreEntries, PushesParts, PushesEntry, PushesEntries, LaysBank}
 use Rattle.dns_journal.proofs.Looking.{flat_more}
 use Rattle.dns_journal.proofs.Pushing.{writes_more, part_more, front_is}
 use Rattle.dns_journal.proofs.Staged.{batch_more}
 use Rattle.dns_journal.proofs.Bank.{place-more, version-more}
-use Rattle.dns_journal.proofs.Turning.{sectors_append, sectors_within}
+use Rattle.dns_journal.proofs.Altered.{own_append}
+use Rattle.dns_journal.proofs.Turning.{sectors_append}
+use Rattle.dns_journal.proofs.Standing.{sectors_within}
 
-abbrev part_with : ℕ → ℕ → ℕ → List ℕ → SnapshotPart
-part_with opened base index held = record { bank_open = opened; base = base; index = index; octets = held }
-
-pub part_is : (opened base index from size : ℕ) (octets left held : List ℕ) → from ≡ payload_room * index → left ≡ drop from octets → size ≡ min (length left) payload_room
-    → held ≡ take size left ++ replicate (payload_room - length (take size left)) 0 → part_with opened base index held ≡ part_of opened base octets index
-part_is opened base index from size octets left held from_is left_is size_is held_is =
-    let front : take size left ≡ piece octets index = ap (λ n. take n left) size_is ∙ front_is octets left index (left_is ∙ ap (λ n. drop n octets) from_is) in
-    ap (λ (l : List ℕ). part_with opened base index l) (held_is ∙ ap (λ (l : List ℕ). l ++ replicate (payload_room - length l) 0) front)
+pub part_is : (index from size : ℕ) (octets left : List ℕ) → from ≡ payload_room * index → left ≡ drop from octets → size ≡ min (length left) payload_room → take size left ≡ piece octets index
+part_is index from size octets left from_is left_is size_is = ap (λ n. take n left) size_is ∙ front_is octets left index (left_is ∙ ap (λ n. drop n octets) from_is)
 
 pub parts_push : (x : List ℕ) (i : ℕ) (xs : List (List ℕ)) (y : List ℕ) → AreParts x i xs → IsPart x (i + length xs) y → AreParts x i (xs ++ y ∷ [])
 parts_push x i [] y are is = (subst (λ n. IsPart x n y) (omega arith) is, tt)
@@ -46,13 +43,14 @@ parts_none at opened base octets old = record {
   count_is = refl;
   are = λ x opened base. tt;
   holds = let e : 0 ≡ payload_room * 0 - length octets = omega arith in ap (λ n. replicate {A = ℕ} n 0) e;
+  own = tt;
   written = sym (append-nil old);
 }
 
 -- one part more
-pub parts_more : (at opened base : ℕ) (octets : List ℕ) (i : ℕ) (old mid new : List Write) (y : List ℕ) → PushesParts at opened base octets i old mid → payload_room * i ≤ length octets → SaysPart y (part_of opened base octets i)
+pub parts_more : (at opened base : ℕ) (octets : List ℕ) (i : ℕ) (old mid new : List Write) (y : List ℕ) → PushesParts at opened base octets i old mid → payload_room * i ≤ length octets → SaysPart y (part_of opened base i) → Holds y (piece octets i) → Own (at + i) y
     → new ≡ mid ++ (at + i, y) ∷ [] → PushesParts at opened base octets (i + 1) old new
-parts_more at opened base octets i old mid new y pushes le says new_is = record {
+parts_more at opened base octets i old mid new y pushes le says held y_own new_is = record {
   sectors = pushes.sectors ++ y ∷ [];
   count_is = omega (arith, length-append pushes.sectors (y ∷ []), pushes.count_is);
   are = λ x same_open same_base. parts_push x 0 pushes.sectors y (pushes.are x same_open same_base) (record {
@@ -61,7 +59,9 @@ parts_more at opened base octets i old mid new y pushes le says new_is = record 
     base = says.version_is ∙ sym same_base;
     numbered = omega (arith, says.count_is, pushes.count_is);
   });
-  holds = flat_more pushes.sectors y ∙ ap (λ (l : List ℕ). flat_map payload pushes.sectors ++ l) says.payload_is ∙ part_more octets (flat_map payload pushes.sectors) (piece octets i) i le pushes.holds refl;
+  holds = flat_more Two pushes.sectors y ∙ ap (λ (l : List ℕ). flat_map payload pushes.sectors ++ l) held ∙ part_more octets (flat_map payload pushes.sectors) (piece octets i) i le pushes.holds refl;
+  own = subst (λ (ws : List Write). AreOwn ws) (sym (writes_more pushes.sectors y at))
+      (own_append (writes_from at pushes.sectors) ((at + length pushes.sectors, y) ∷ []) pushes.own ((λ _. subst (λ n. Own (at + n) y) (sym pushes.count_is) y_own), tt));
   written =
       new_is ∙ ap (λ (l : List Write). l ++ (at + i, y) ∷ []) pushes.written ∙ append_assoc old (writes_from at pushes.sectors) ((at + i, y) ∷ [])
       ∙ ap (λ n. old ++ (writes_from at pushes.sectors ++ (at + n, y) ∷ [])) (sym pushes.count_is) ∙ ap (λ (l : List Write). old ++ l) (sym (writes_more pushes.sectors y at));
@@ -75,6 +75,7 @@ entry_pushed old new before middle after octets stages = record {
   next = stages.next;
   opened = stages.opened;
   size = stages.size;
+  own = ((λ _. stages.head_own), stages.bodies_own);
   written =
       stages.bodies_are ∙ ap (λ (l : List Write). l ++ writes_from (old.at + 1) stages.entry.bodies) stages.heads_are
       ∙ append_assoc (pairs before) ((old.at, stages.entry.head) ∷ []) (writes_from (old.at + 1) stages.entry.bodies);
@@ -95,7 +96,7 @@ sectors_push [] e = ap (λ (l : List (List ℕ)). e.head ∷ l) (append-nil e.bo
 sectors_push (f ∷ es) e =
     ap (λ (l : List (List ℕ)). f.head ∷ (f.bodies ++ l)) (sectors_push es e) ∙ ap (λ (l : List (List ℕ)). f.head ∷ l) (sym (append_assoc f.bodies (sectors_of es) (e.head ∷ e.bodies)))
 
-sectors_place : (es : List Entry) (at : ℕ) → at + length (sectors_of es) ≡ place_behind at es
+pub sectors_place : (es : List Entry) (at : ℕ) → at + length (sectors_of es) ≡ place_behind at es
 sectors_place [] at = omega arith
 sectors_place (e ∷ es) at = omega (arith, length-append e.bodies (sectors_of es)) ∙ sectors_place es (at + size_of e)
 
@@ -111,6 +112,11 @@ entries_more old mid new changes c before middle after all one =
       entries = all.entries ++ e ∷ [];
       are = entries_push changes all.entries c e all.are (record { octets_are = one.holds; size_is = one.size }, tt);
       batch = batch_more all.entries e old.until old.at old.version old.opened all.batch next (one.opened ∙ all.opened_stays);
+      own =
+          subst (λ (xs : List (List ℕ)). AreOwn (writes_from old.at xs)) (sym (sectors_push all.entries e))
+          (subst (λ (ws : List Write). AreOwn ws) (sym (sectors_append (sectors_of all.entries) (e.head ∷ e.bodies) old.at))
+          (own_append (writes_from old.at (sectors_of all.entries)) (writes_from (old.at + length (sectors_of all.entries)) (e.head ∷ e.bodies)) all.own
+          (subst (λ n. AreOwn (writes_from n (e.head ∷ e.bodies))) (all.place ∙ sym (sectors_place all.entries old.at)) one.own)));
       written =
           one.written ∙ ap (λ (l : List Write). l ++ writes_from mid.at (e.head ∷ e.bodies)) all.written ∙ append_assoc before (writes_from old.at (sectors_of all.entries)) (writes_from mid.at (e.head ∷ e.bodies))
           ∙ ap (λ n. before ++ (writes_from old.at (sectors_of all.entries) ++ writes_from n (e.head ∷ e.bodies))) (all.place ∙ sym (sectors_place all.entries old.at))
@@ -145,6 +151,8 @@ lays s bank opened base first octets changes next new middle ws first_is at_is u
   batch =
       subst (λ u. IsBatch u (journal_place s bank) base opened entries.entries) until_is
       (subst (λ a. IsBatch next.until a base opened entries.entries) at_is (subst (λ v. IsBatch next.until next.at v opened entries.entries) version_is (subst (λ o. IsBatch next.until next.at next.version o entries.entries) opened_is entries.batch)));
+  own = subst (λ (l : List Write). AreOwn l) (sym (entries.written ∙ ap (λ (l : List Write). l ++ writes_from next.at (sectors_of entries.entries)) parts.written))
+      (own_append (writes_from first parts.sectors) (writes_from next.at (sectors_of entries.entries)) parts.own entries.own);
   written =
       entries.written ∙ ap (λ (l : List Write). l ++ writes_from next.at (sectors_of entries.entries)) parts.written ∙ ap (λ n. writes_from n parts.sectors ++ writes_from next.at (sectors_of entries.entries)) first_is
       ∙ ap (λ n. writes_from (snapshot_place s bank) parts.sectors ++ writes_from n (sectors_of entries.entries)) at_is;
@@ -173,7 +181,3 @@ bank_ends (suc (suc n)) snapshot journal le = absurd (omega (arith, le))
 pub other_small : (n : ℕ) → other_of n ≤ 1
 other_small zero = omega arith
 other_small (suc n) = omega arith
-
-pub snapshot_short : (octets room : ℕ) → room ≤ 2 ^ 20 → snapshot_sectors octets ≤ room → octets < 2 ^ 32
-unfolding snapshot_sectors
-snapshot_short octets room small le = omega (arith, small, le)

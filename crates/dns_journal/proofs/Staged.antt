@@ -1,11 +1,15 @@
 -- What a staged entry adds to what a journal keeps.
 use Rattle.std.proofs.Common.{◌≡◌, ℕ, ◌+◌, List, [], ◌∷◌, ◌++◌, refl, sym, ◌∙◌, ap, subst, append_assoc}
 use Rattle.std.proofs.lemmas.List.{append-nil}
+use Rattle.std.specs.Prelude.{Result, Ok, Err, OnErr}
 use Rattle.dns_sectors.specs.Crash.{Write}
 use Rattle.dns_sectors.specs.Phase.{pairs}
 use Rattle.dns_sectors.specs.declared.device.Sectors.{Ghosts}
 use Rattle.dns_layout.specs.Sector.{open_count, number}
 use Rattle.dns_layout.specs.Forms.{SaysRoot}
+use Rattle.dns_layout.specs.Own.{AreOwn}
+use Rattle.dns_layout.specs.declared.root.Root.{Root}
+use Rattle.dns_journal.proofs.Altered.{own_append}
 use Rattle.dns_layout.specs.Journal.{Entry, size_of, IsNextEntry, IsBatch, writes_from, body_writes, head_writes, place_behind, version_behind, AllBehind}
 use Rattle.dns_journal.specs.declared.read.Cursor.{Cursor}
 use Rattle.dns_layout.specs.Store.{Shape, Stored, OpensBy, journal_place, bank_end, version_of}
@@ -35,6 +39,10 @@ version_more : (es : List Entry) (e : Entry) (version : ℕ) → version_behind 
 version_more [] e version = refl
 version_more (f ∷ es) e version = version_more es e (version + 1)
 
+pub on_err : {T E P : Type 0} (r : Result T E) → P → OnErr r P
+on_err (Ok x) p = tt
+on_err (Err e) p = p
+
 module _ {D : Type 0} {g : Ghosts D} (shape : Shape) (old new : Journal D g) (k : Stored) (staged : List Entry) (keeps : Keeps shape old k staged) (device : new.device ≡ old.device) (closed : new.is_closed ≡ old.is_closed) (same_root : new.root ≡ old.root) where
   abbrev root : List ℕ
   root = keeps.0
@@ -58,6 +66,9 @@ module _ {D : Type 0} {g : Ghosts D} (shape : Shape) (old new : Journal D g) (k 
           durable = subst (λ d. (c : List (List ℕ)) → g.may_leave d c → c ≡ g.seen d) (sym device) keeps.2.durable;
           opens = subst (λ d. OpensBy shape (g.seen d) root keeps.1 k) (sym device) keeps.2.opens;
           says = subst (λ r. SaysRoot root r) (sym same_root) keeps.2.says;
+          cleared = ap (λ (r : Root). r.is_clear) same_root ∙ keeps.2.cleared;
+          bodies_own = subst (λ (ws : List Write). AreOwn ws) (sym stages.bodies_are) (own_append (pairs old.bodies.items) (writes_from (old.next.at + 1) e.bodies) keeps.2.bodies_own stages.bodies_own);
+          heads_own = subst (λ (ws : List Write). AreOwn ws) (sym stages.heads_are) (own_append (pairs old.heads.items) ((old.next.at, e.head) ∷ []) keeps.2.heads_own ((λ _. stages.head_own), tt));
           bank = keeps.2.bank;
           behind = subst (λ d. AllBehind (open_count root) (version_of k) (g.seen d)) (sym device) keeps.2.behind;
           batch = batch_more staged e (bank_end shape (number root)) first (version_of k) (open_count root) keeps.2.batch next (stages.opened ∙ keeps.2.opened_is);
@@ -81,6 +92,9 @@ module _ {D : Type 0} {g : Ghosts D} (shape : Shape) (old new : Journal D g) (k 
       durable = subst (λ d. (c : List (List ℕ)) → g.may_leave d c → c ≡ g.seen d) (sym device) keeps.2.durable;
       opens = subst (λ d. OpensBy shape (g.seen d) root keeps.1 k) (sym device) keeps.2.opens;
       says = subst (λ r. SaysRoot root r) (sym same_root) keeps.2.says;
+      cleared = ap (λ (r : Root). r.is_clear) same_root ∙ keeps.2.cleared;
+      bodies_own = subst (λ (ws : List Write). AreOwn ws) (sym (ap pairs bodies)) keeps.2.bodies_own;
+      heads_own = subst (λ (ws : List Write). AreOwn ws) (sym (ap pairs heads)) keeps.2.heads_own;
       bank = keeps.2.bank;
       behind = subst (λ d. AllBehind (open_count root) (version_of k) (g.seen d)) (sym device) keeps.2.behind;
       batch = keeps.2.batch;

@@ -5,16 +5,18 @@ use Rattle.dns_sectors.specs.Crash.{Write}
 use Rattle.dns_sectors.specs.Phase.{pairs}
 use Rattle.dns_sectors.specs.declared.device.Sectors.{Ghosts}
 use Rattle.dns_layout.specs.Sector.{open_count, number, snapshot_sectors}
-use Rattle.dns_layout.specs.Forms.{SaysRoot, bank_number}
+use Rattle.dns_layout.specs.Forms.{SaysRoot, bank_number, clear_number}
 use Rattle.dns_layout.specs.Journal.{IsBatch, writes_from, place_behind}
-use Rattle.dns_layout.specs.Store.{Shape, Stored, OpensAs, IsTidy, snapshot_place, journal_place, bank_end, version_of}
+use Rattle.dns_layout.specs.Store.{Shape, Stored, OpensAs, IsTidy, snapshot_place, journal_place, bank_end, version_of, other_of}
+use Rattle.dns_layout.specs.Own.{AreOwn}
 use Rattle.dns_layout.specs.declared.root.Root.{Root}
 use Rattle.dns_layout.specs.declared.root.Bank.{Bank}
 use Rattle.dns_changes.specs.Change.{Change}
 use Rattle.dns_journal.specs.declared.read.Cursor.{Cursor}
 use Rattle.dns_journal.specs.declared.journal.Journal.{Journal}
 use Rattle.dns_journal.specs.State.{Keeps}
-use Rattle.dns_journal.specs.Bank.{sectors_of, other_of, LaysBank, Turns, IsTurned, IsTurnedTo, LeavesEither}
+use Rattle.dns_journal.specs.Bank.{sectors_of, LaysBank, Turns, IsTurned, IsTurnedTo, LeavesEither}
+use Rattle.dns_journal.proofs.Bank.{tidy_from}
 use Rattle.dns_journal.proofs.Laying.{entries_count, versions_count}
 
 abbrev pub rooms_of : Root → Shape
@@ -22,6 +24,13 @@ rooms_of r = record { snapshot = r.snapshot_room; journal = r.journal_room; apex
 
 abbrev pub root_turned : Root → Bank → ℕ → ℕ → Root
 root_turned r bank base len = record r { bank = bank; bank_open = r.open_count; base = base; snapshot_length = len }
+
+-- nothing was done
+pub still_stored : {D : Type 0} {g : Ghosts D} (shape : Shape) (old : Journal D g) (k : Stored) (keeps : Keeps shape old k []) (octets : List ℕ) (changes : List Change) (c : Content)
+    → c ≡ g.seen old.device → LeavesEither shape k octets changes c
+still_stored {D} {g} shape old k keeps octets changes c is =
+    subst (λ (d : Content). LeavesEither shape k octets changes d) (sym is)
+    (inl (keeps.0, keeps.1, keeps.2.opens), tidy_from shape (g.seen old.device) keeps.0 (version_of k) keeps.2.opens.stands keeps.2.bank keeps.2.behind)
 
 -- the places of a bank depend on the two rooms alone
 module _ {D : Type 0} {g : Ghosts D} (shape : Shape) (old : Journal D g) (k : Stored) (keeps : Keeps shape old k []) (octets : List ℕ) (changes : List Change) (bank : Bank) (base : ℕ) (ws : List Write) (next : Cursor)
@@ -63,6 +72,8 @@ module _ {D : Type 0} {g : Ghosts D} (shape : Shape) (old : Journal D g) (k : St
   pub turns : Turns shape k stored keeps.0 (root_turned old.root bank base (length octets)) ws
   turns = record {
     opened = opened_is;
+    was_clear = keeps.2.says.clear_is ∙ ap clear_number keeps.2.cleared;
+    is_clear = keeps.2.cleared;
     bank = bank_is ∙ other_is;
     bank_open_is = opened_is;
     base = refl;
@@ -80,12 +91,13 @@ module _ {D : Type 0} {g : Ghosts D} (shape : Shape) (old : Journal D g) (k : St
         subst (λ u. IsBatch u (journal_place shape (other_of (number keeps.0))) base (open_count keeps.0) lays.entries) end_is
         (subst (λ a. IsBatch (bank_end (rooms_of old.root) (other_of (bank_number old.root.bank))) a base (open_count keeps.0) lays.entries) start_is
         (subst (λ o. IsBatch (bank_end (rooms_of old.root) (other_of (bank_number old.root.bank))) (journal_place (rooms_of old.root) (other_of (bank_number old.root.bank))) base o lays.entries) opened_is lays.batch));
+    own = lays.own;
     written =
         lays.written ∙ ap (λ n. writes_from n lays.parts ++ writes_from (journal_place (rooms_of old.root) (other_of (bank_number old.root.bank))) (sectors_of lays.entries)) first_is
         ∙ ap (λ n. writes_from (snapshot_place shape (other_of (number keeps.0))) lays.parts ++ writes_from n (sectors_of lays.entries)) start_is;
   }
 
-  pub leaves_either : (c : Content) → (OpensAs shape c k ⊎ OpensAs shape c stored) × IsTidy c → LeavesEither shape k octets changes c
+  pub leaves_either : (c : Content) → (OpensAs shape c k ⊎ OpensAs shape c stored) × IsTidy shape c → LeavesEither shape k octets changes c
   leaves_either c (inl before, tidy) = (inl before, tidy)
   leaves_either c (inr after, tidy) = (inr (stored, is_turned, after), tidy)
 
@@ -103,6 +115,9 @@ module _ {D : Type 0} {g : Ghosts D} (shape : Shape) (old : Journal D g) (k : St
           durable = durable;
           opens = turned.opens;
           says = subst (λ r. SaysRoot turned.root r) (sym root) turned.says;
+          cleared = ap (λ (r : Root). r.is_clear) root ∙ keeps.2.cleared;
+          bodies_own = subst (λ (ws : List Write). AreOwn ws) (sym bodies) keeps.2.bodies_own;
+          heads_own = subst (λ (ws : List Write). AreOwn ws) (sym heads) keeps.2.heads_own;
           bank = turned.bank;
           behind = turned.behind;
           batch = tt;

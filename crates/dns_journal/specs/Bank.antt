@@ -1,16 +1,17 @@
 -- A bank that is written whole, and a root that is turned to it.
-use Rattle.std.specs.Prelude.{◌≡◌, ◌⊎◌, ◌≤◌, ℕ, zero, suc, ◌+◌, ◌-◌, ◌*◌, List, [], ◌∷◌, ◌++◌, length, take, drop, replicate}
+use Rattle.std.specs.Prelude.{◌≡◌, ◌⊎◌, ◌≤◌, true, ℕ, ◌+◌, ◌-◌, ◌*◌, List, [], ◌∷◌, ◌++◌, length, take, drop, replicate}
 use Rattle.std.specs.List.{flat_map}
 use Rattle.dns_sectors.specs.Device.{Content}
 use Rattle.dns_sectors.specs.Crash.{Write}
 use Rattle.dns_layout.specs.Apex.{apex_octets}
-use Rattle.dns_layout.specs.Sector.{open_count, sequence, number, bank_open, snapshot_length, payload, payload_room}
+use Rattle.dns_layout.specs.Sector.{open_count, sequence, number, bank_open, payload, payload_room, clear}
 use Rattle.dns_layout.specs.Sector.{entry_sectors, snapshot_sectors}
+use Rattle.dns_layout.specs.Own.{AreOwn}
 use Rattle.dns_layout.specs.Forms.{SaysRoot, bank_number}
 use Rattle.dns_layout.specs.Journal.{Entry, size_of, octets_of, IsNextEntry, IsBatch, AllBehind, writes_from}
 use Rattle.dns_layout.specs.Journal.{place_behind, version_behind}
 use Rattle.dns_layout.specs.Store.{Shape, Stored, OpensBy, OpensAs, IsTidy, AreParts, version_of}
-use Rattle.dns_layout.specs.Store.{snapshot_place, journal_place, bank_end}
+use Rattle.dns_layout.specs.Store.{snapshot_place, journal_place, bank_end, other_of}
 use Rattle.dns_layout.specs.declared.root.Root.{Root}
 use Rattle.dns_layout.specs.declared.part.SnapshotPart.{SnapshotPart}
 use Rattle.dns_changes.specs.Change.{Change}
@@ -19,30 +20,17 @@ use Rattle.dns_journal.specs.declared.journal.Journal.{Journal}
 use Rattle.dns_journal.specs.declared.read.Cursor.{Cursor}
 use Rattle.dns_sectors.specs.declared.device.Sectors.{Ghosts}
 
--- the two roots name the same bank, with the same snapshot
-pub record NamesSameBank (old new : List ℕ) : Type 0 where
-  pub bank : number new ≡ number old
-  pub bank_open : bank_open new ≡ bank_open old
-  pub base : sequence new ≡ sequence old
-  pub length : snapshot_length new ≡ snapshot_length old
-
--- the bank that isn't in use
-abbrev pub other_of : ℕ → ℕ
-other_of zero = 1
-other_of (suc n) = 0
-
 -- the octets of a snapshot that its part with this index holds
 abbrev pub piece : List ℕ → ℕ → List ℕ
 piece octets index = take payload_room (drop (payload_room * index) octets)
 
--- the part with this index, with zeros behind the snapshot's end
-abbrev pub part_of : ℕ → ℕ → List ℕ → ℕ → SnapshotPart
-part_of opened base octets index = record {
-  bank_open = opened;
-  base = base;
-  index = index;
-  octets = piece octets index ++ replicate (payload_room - length (piece octets index)) 0;
-}
+-- the part with this index
+abbrev pub part_of : ℕ → ℕ → ℕ → SnapshotPart
+part_of opened base index = record { bank_open = opened; base = base; index = index }
+
+-- These octets, with zeros behind them, are a sector's payload.
+abbrev pub Holds : List ℕ → List ℕ → Type 0
+Holds x octets = payload x ≡ octets ++ replicate (payload_room - length octets) 0
 
 -- So many parts of a snapshot are put there from this place on: they hold its octets, and zeros behind them.
 pub record PushesParts (at opened base : ℕ) (octets : List ℕ) (count : ℕ) (old new : List Write) : Type 0 where
@@ -50,6 +38,7 @@ pub record PushesParts (at opened base : ℕ) (octets : List ℕ) (count : ℕ) 
   pub count_is : length sectors ≡ count
   pub are : (x : List ℕ) → bank_open x ≡ opened → sequence x ≡ base → AreParts x 0 sectors
   pub holds : flat_map payload sectors ≡ take (payload_room * count) octets ++ replicate (payload_room * count - length octets) 0
+  pub own : AreOwn (writes_from at sectors)
   pub written : new ≡ old ++ writes_from at sectors
 
 -- the sectors of entries, each head with its bodies behind it
@@ -68,6 +57,7 @@ pub record PushesEntry (old new : Cursor) (octets : List ℕ) (before after : Li
   pub next : IsNextEntry old.until old.at old.version old.opened entry
   pub opened : open_count entry.head ≡ old.opened
   pub size : size_of entry ≡ entry_sectors (length octets)
+  pub own : AreOwn (writes_from old.at (entry.head ∷ entry.bodies))
   pub written : after ≡ before ++ writes_from old.at (entry.head ∷ entry.bodies)
   pub place : new.at ≡ old.at + size_of entry
   pub until_stays : new.until ≡ old.until
@@ -91,6 +81,7 @@ pub record PushesEntries (old new : Cursor) (changes : List Change) (before afte
   pub entries : List Entry
   pub are : AreEntries changes entries
   pub batch : IsBatch old.until old.at old.version old.opened entries
+  pub own : AreOwn (writes_from old.at (sectors_of entries))
   pub written : after ≡ before ++ writes_from old.at (sectors_of entries)
   pub place : new.at ≡ place_behind old.at entries
   pub until_stays : new.until ≡ old.until
@@ -106,7 +97,7 @@ pub record IsTurned (k : Stored) (octets : List ℕ) (changes : List Change) (ne
 -- A crash left what was stored, or what is stored behind the turn.
 abbrev pub LeavesEither : Shape → Stored → List ℕ → List Change → Content → Type 0
 LeavesEither shape k octets changes c =
-    (OpensAs shape c k ⊎ ((new : Stored) × IsTurned k octets changes new × OpensAs shape c new)) × IsTidy c
+    (OpensAs shape c k ⊎ ((new : Stored) × IsTurned k octets changes new × OpensAs shape c new)) × IsTidy shape c
 
 -- how many sectors a bank has for its snapshot, and for its journal
 abbrev pub snapshot_room_of : {D : Type 0} {g : Ghosts D} → Journal D g → ℕ
@@ -126,15 +117,19 @@ pub record LaysBank (s : Shape) (bank opened base : ℕ) (octets : List ℕ) (ch
   pub entries : List Entry
   pub are : AreEntries changes entries
   pub batch : IsBatch (bank_end s bank) (journal_place s bank) base opened entries
+  pub own : AreOwn ws
   pub written : ws ≡ writes_from (snapshot_place s bank) parts ++ writes_from (journal_place s bank) (sectors_of entries)
   pub at_is : next.at ≡ place_behind (journal_place s bank) entries
   pub until_is : next.until ≡ bank_end s bank
   pub version_is : next.version ≡ version_behind base entries
   pub opened_is : next.opened ≡ opened
 
--- The writes put what is to be stored into the bank that the root x doesn't name, and r is the root that names it.
+-- The writes put what is to be stored into the bank that the root x doesn't name, and r is the root that names it. Both
+-- say that the bank that isn't in use is cleared.
 pub record Turns (s : Shape) (k new : Stored) (x : List ℕ) (r : Root) (ws : List Write) : Type 0 where
   pub opened : r.open_count ≡ open_count x
+  pub was_clear : clear x ≡ 1
+  pub is_clear : r.is_clear ≡ true
   pub bank : bank_number r.bank ≡ other_of (number x)
   pub bank_open_is : r.bank_open ≡ open_count x
   pub base : r.base ≡ new.base
@@ -150,6 +145,7 @@ pub record Turns (s : Shape) (k new : Stored) (x : List ℕ) (r : Root) (ws : Li
   pub holds : flat_map payload parts ≡ take (payload_room * snapshot_sectors (length new.snapshot)) new.snapshot ++ replicate
       (payload_room * snapshot_sectors (length new.snapshot) - length new.snapshot) 0
   pub batch : IsBatch (bank_end s (other_of (number x))) (journal_place s (other_of (number x))) new.base (open_count x) new.entries
+  pub own : AreOwn ws
   pub written : ws ≡ writes_from (snapshot_place s (other_of (number x))) parts ++ writes_from
       (journal_place s (other_of (number x))) (sectors_of new.entries)
 

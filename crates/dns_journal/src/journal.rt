@@ -12,7 +12,7 @@ ghost use Rattle.dns_journal.specs.Staging.{Stages, PushesBodies};
 
 use crate::Cursor;
 use dns_changes::Change;
-use dns_layout::{Body, HEAD_ROOM, Head, PAYLOAD_ROOM, Root, entry_sectors, first_padded, padded};
+use dns_layout::{Body, Format, HEAD_ROOM, Head, PAYLOAD_ROOM, Root, entry_sectors};
 use dns_memory::Heap;
 use dns_sectors::{DeviceError, SectorWrite, Sectors, write_phase};
 use std::alloc::AllocError;
@@ -104,6 +104,7 @@ impl<D: Sectors> Journal<D> {
         requires small { next.until ≤ 2 ^ 20 }
         requires banks_within { 1 + 2 * (root.snapshot_room + root.journal_room) ≤ D.count device }
         requires banks_small { 1 + 2 * (root.snapshot_room + root.journal_room) ≤ 2 ^ 20 }
+        requires clear { root.is_clear ≡ true }
         ensures keeps { (shape : Shape) (k : Stored) (x : List ℕ) (parts : List (List ℕ)) → D.is_honest device
             → Only (D.seen device) (D.may_leave device)
             → OpensBy shape (D.seen device) x parts k → SaysRoot x root → bank_open x ≤ open_count x
@@ -111,6 +112,7 @@ impl<D: Sectors> Journal<D> {
             → next.until ≡ bank_end shape (number x) → next.at ≡ place_behind (journal_place shape (number x)) k.entries
             → next.version ≡ version_of k → next.opened ≡ open_count x
             → Keeps shape result k [] }
+        ensures newest { newest_of result ≡ next.version }
         ensures device { device_of result ≡ device }
     {
         Journal {
@@ -267,21 +269,19 @@ fn stage_octets(
 {
     let len = octets.len();
     let in_head = len.min(HEAD_ROOM);
-    let first = first_padded(&octets[..in_head]);
     let head = Head {
         open_count: next.opened,
         version: next.version + 1,
         length: len as u32,
-        first,
     };
     heads.reserve(1)?;
     push_bodies(bodies, next.at + 1, &head, &octets[in_head..])?;
     let write = SectorWrite {
         at: next.at,
-        octets: head.encode(),
+        octets: head.encode(next.at, &octets[..in_head]),
     };
     heads.push_reserved(write);
-    next.at += 1 + head.bodies() as usize;
+    next.at += 1 + head.bodies(Format::Two) as usize;
     next.version += 1;
     Ok(())
 }
@@ -301,7 +301,7 @@ pub(crate) fn push_bodies(
     ensures within { (n : ℕ) → at + sectors_of_entry head.now.length ≤ n + 1 → AllWithin n bodies.old.items
         → AllWithin n bodies.new.items }
 {
-    let count = head.bodies();
+    let count = head.bodies(Format::Two);
     bodies.reserve(count as usize)?;
     let mut left = rest;
     for i in 0..count {
@@ -312,11 +312,11 @@ pub(crate) fn push_bodies(
             open_count: head.open_count,
             version: head.version,
             index: i,
-            octets: padded(part),
         };
+        let place = at + i as usize;
         let write = SectorWrite {
-            at: at + i as usize,
-            octets: body.encode(),
+            at: place,
+            octets: body.encode(place, part),
         };
         bodies.push_reserved(write);
     }

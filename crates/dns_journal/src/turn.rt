@@ -1,25 +1,26 @@
 //! A bank that is written whole: the parts of a snapshot and the entries behind them are written and made durable, and then the
 //! root is turned to it.
-ghost use Rattle.std.specs.Prelude.{◌≡◌, ◌⊎◌, ◌≤◌, ◌<◌, ◌↔◌, ◌+◌, ◌-◌, ◌*◌, ◌^◌, [], true, ℕ, List, length};
+ghost use Rattle.std.specs.Prelude.{◌≡◌, ◌≢◌, ◌⊎◌, ◌≤◌, ◌<◌, ◌↔◌, ◌+◌, ◌-◌, ◌*◌, ◌^◌, [], true, ℕ, List, length};
 ghost use Rattle.std.specs.Prelude.{IfOk, OnOk, OnErr, sum_by};
 ghost use Rattle.dns_sectors.specs.Device.{Only, LeavesOnly, CountsFailure};
 ghost use Rattle.dns_sectors.specs.Phase.{pairs, AllWithin};
-ghost use Rattle.dns_layout.specs.Sector.{payload_room, entry_sectors as sectors_of_entry, snapshot_sectors as sectors_of_snapshot};
-ghost use Rattle.dns_layout.specs.Sector.{open_count, bank_open};
-ghost use Rattle.dns_layout.specs.Forms.{bank_number};
+ghost use Rattle.dns_layout.specs.Sector.{entry_sectors as sectors_of_entry, snapshot_sectors as sectors_of_snapshot};
+ghost use Rattle.dns_layout.specs.Sector.{blank, payload_room, open_count, bank_open};
+ghost use Rattle.dns_layout.specs.Forms.{SaysPart, bank_number};
+ghost use Rattle.dns_layout.specs.Own.{Own};
 ghost use Rattle.dns_layout.specs.Journal.{AllBehind};
-ghost use Rattle.dns_layout.specs.Store.{Shape, Stored, OpensBy, OpensAs, IsTidy, version_of};
-ghost use Rattle.dns_journal.specs.Bank.{part_of, sectors_for, other_of, PushesParts, PushesEntry, PushesEntries, LaysBank, Turns};
-ghost use Rattle.dns_journal.specs.Bank.{IsTurnedTo};
+ghost use Rattle.dns_layout.specs.Store.{Shape, Stored, OpensBy, OpensAs, IsTidy, version_of, other_of};
+ghost use Rattle.dns_journal.specs.Bank.{part_of, piece, Holds, sectors_for, PushesParts, PushesEntry, PushesEntries};
+ghost use Rattle.dns_journal.specs.Bank.{LaysBank, Turns, IsTurnedTo};
 
 use crate::journal::push_bodies;
 use crate::{Cursor, Journal};
 use dns_changes::Change;
 use dns_layout::{
-    Bank, HEAD_ROOM, Head, PAYLOAD_ROOM, Root, SnapshotPart, first_padded, padded, snapshot_sectors,
+    Bank, Format, HEAD_ROOM, Head, PAYLOAD_ROOM, Root, SnapshotPart, snapshot_sectors,
 };
 use dns_memory::Heap;
-use dns_sectors::{DeviceError, SectorWrite, Sectors, write_phase};
+use dns_sectors::{DeviceError, Sector, SectorWrite, Sectors, write_phase};
 use std::alloc::AllocError;
 use thiserror::Error;
 
@@ -44,6 +45,16 @@ impl From<AllocError> for TurnError {
 
     fn from(_error: AllocError) -> TurnError {
         TurnError::OutOfMemory
+    }
+}
+
+impl From<DeviceError> for TurnError {
+    ghost use Rattle.dns_journal.specs.declared.turn.TurnError.TheVariants.{Device};
+
+    ghost from_gives = { λ _ e. e ≡ Device };
+
+    fn from(_error: DeviceError) -> TurnError {
+        TurnError::Device
     }
 }
 
@@ -79,7 +90,7 @@ impl<D: Sectors> Journal<D> {
         self.root.bank = other_bank(self.root.bank);
         self.root.bank_open = self.root.open_count;
         self.root.base = base;
-        self.root.snapshot_length = octets.len() as u32;
+        self.root.snapshot_length = octets.len() as u64;
         match turn_to(&mut self.device, &writes, &self.root) {
             Ok(()) => {
                 self.next = next;
@@ -93,19 +104,22 @@ impl<D: Sectors> Journal<D> {
     }
 }
 
-/// The part with this index of a snapshot, with zeros behind the snapshot's end.
-pub fn snapshot_part(bank_open: u64, base: u64, octets: &[u8], index: u32) -> SnapshotPart
+/// The sector at a place that holds the part with this index of a snapshot, with zeros behind the snapshot's end.
+pub fn snapshot_sector(at: usize, bank_open: u64, base: u64, octets: &[u8], index: u32) -> Sector
     requires { payload_room * index ≤ length octets.now }
-    ensures { result ≡ part_of bank_open base octets.now index }
+    ensures says { SaysPart result (part_of bank_open base index) }
+    ensures holds { Holds result (piece octets.now index) }
+    ensures own { Own at result }
+    ensures written { result ≢ blank }
 {
     let rest = &octets[index as usize * PAYLOAD_ROOM..];
     let size = rest.len().min(PAYLOAD_ROOM);
-    SnapshotPart {
+    let part = SnapshotPart {
         bank_open,
         base,
         index,
-        octets: padded(&rest[..size]),
-    }
+    };
+    part.encode(at, &rest[..size])
 }
 
 // Puts the parts of a snapshot, from this place on, behind the sectors that are to be written.
@@ -123,10 +137,10 @@ pub(crate) fn push_parts(
         → AllWithin n writes.new.items }
 {
     for index in 0..snapshot_sectors(octets.len()) {
-        let part = snapshot_part(bank_open, base, octets, index as u32);
+        let place = at + index;
         let write = SectorWrite {
-            at: at + index,
-            octets: part.encode(),
+            at: place,
+            octets: snapshot_sector(place, bank_open, base, octets, index as u32),
         };
         writes.push(write)?;
     }
@@ -153,15 +167,14 @@ fn push_entry(
         open_count: next.opened,
         version: next.version + 1,
         length: len as u32,
-        first: first_padded(&octets[..in_head]),
     };
     let write = SectorWrite {
         at: next.at,
-        octets: head.encode(),
+        octets: head.encode(next.at, &octets[..in_head]),
     };
     writes.push(write)?;
     push_bodies(writes, next.at + 1, &head, &octets[in_head..])?;
-    next.at += 1 + head.bodies() as usize;
+    next.at += 1 + head.bodies(Format::Two) as usize;
     next.version += 1;
     Ok(())
 }
@@ -243,7 +256,7 @@ pub(crate) fn turn_to<D: Sectors>(
         → Only (D.seen device.old) (D.may_leave device.old) → OpensBy s (D.seen device.old) x parts k
         → bank_open x ≤ open_count x → AllBehind (open_count x) (version_of k) (D.seen device.old)
         → Turns s k new x root.now (pairs writes.now)
-        → LeavesOnly D.moment D.left_since device.old device.new (λ c. (OpensAs s c k ⊎ OpensAs s c new) × IsTidy c) }
+        → LeavesOnly D.moment D.left_since device.old device.new (λ c. (OpensAs s c k ⊎ OpensAs s c new) × IsTidy s c) }
     ensures turned { (s : Shape) (k new : Stored) (x : List ℕ) (parts : List (List ℕ)) → D.is_honest device.old
         → Only (D.seen device.old) (D.may_leave device.old) → OpensBy s (D.seen device.old) x parts k
         → bank_open x ≤ open_count x → AllBehind (open_count x) (version_of k) (D.seen device.old)

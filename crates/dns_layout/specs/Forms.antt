@@ -1,10 +1,13 @@
--- What sectors say, each kind by the fields of its value, and the sector that says it.
-use Rattle.std.specs.Prelude.{◌≡◌, ◌≢◌, ◌≤◌, ◌⊎◌, ℕ, ◌+◌, ◌-◌, List, ◌++◌}
+-- What sectors say, each kind by the fields of its value.
+use Rattle.std.specs.Prelude.{◌≡◌, ◌≢◌, ◌≤◌, ◌⊎◌, ℕ, ◌+◌, List, [], ◌∷◌, ◌++◌, Bool, true, false}
 use Rattle.byteorder.specs.Endian.{big_bytes}
-use Rattle.dns_layout.specs.Sector.{tag, open_count, sequence, number, sector_of, HasFields, entry_length, first_octets, entry_sectors, bank_open, snapshot_length, snapshot_room, journal_room, apex_field, root_tag, head_tag, body_tag, snapshot_tag}
+use Rattle.dns_layout.specs.Sector.{tag, open_count, sequence, number, HasNumbers, entry_length, entry_sectors_in, bank_open, snapshot_length, snapshot_room, journal_room, clear_in, apex_field_in}
+use Rattle.dns_layout.specs.Sector.{root_tag_in, head_tag_in, body_tag_in, snapshot_tag_in}
 use Rattle.dns_layout.specs.Apex.{IsPlain, apex_octets}
 use Rattle.dns_layout.specs.declared.LayoutError.{LayoutError}
 use Rattle.dns_layout.specs.declared.LayoutError.TheVariants.{NotThisKind, BadField}
+use Rattle.dns_layout.specs.declared.format.Format.{Format}
+use Rattle.dns_layout.specs.declared.format.Format.TheVariants as formats
 use Rattle.dns_layout.specs.declared.root.Bank.{Bank}
 use Rattle.dns_layout.specs.declared.root.Bank.TheVariants.{Zero, One}
 use Rattle.dns_layout.specs.declared.root.Root.{Root}
@@ -13,43 +16,47 @@ use Rattle.dns_layout.specs.declared.head.Head.{Head}
 use Rattle.dns_layout.specs.declared.part.SnapshotPart.{SnapshotPart}
 
 -- an entry's body
-abbrev pub SaysBody : List ℕ → Body → Type 0
-SaysBody x b = HasFields x body_tag b.open_count b.version b.index b.octets
+abbrev pub SaysBodyIn : Format → List ℕ → Body → Type 0
+SaysBodyIn f x b = HasNumbers x (body_tag_in f) b.open_count b.version b.index
 
-abbrev pub body_octets : Body → List ℕ
-body_octets b = sector_of body_tag b.open_count b.version b.index b.octets
+abbrev pub SaysBody : List ℕ → Body → Type 0
+SaysBody x b = SaysBodyIn formats.Two x b
 
 -- a part of a snapshot
-abbrev pub SaysPart : List ℕ → SnapshotPart → Type 0
-SaysPart x p = HasFields x snapshot_tag p.bank_open p.base p.index p.octets
+abbrev pub SaysPartIn : Format → List ℕ → SnapshotPart → Type 0
+SaysPartIn f x p = HasNumbers x (snapshot_tag_in f) p.bank_open p.base p.index
 
-abbrev pub part_octets : SnapshotPart → List ℕ
-part_octets p = sector_of snapshot_tag p.bank_open p.base p.index p.octets
+abbrev pub SaysPart : List ℕ → SnapshotPart → Type 0
+SaysPart x p = SaysPartIn formats.Two x p
 
 -- an entry's head: its number is the count of the bodies that an entry of this length has
-pub record SaysHead (x : List ℕ) (h : Head) : Type 0 where
-  pub tagged : tag x ≡ head_tag
+pub record SaysHeadIn (f : Format) (x : List ℕ) (h : Head) : Type 0 where
+  pub tagged : tag x ≡ head_tag_in f
   pub opened_is : open_count x ≡ h.open_count
   pub version_is : sequence x ≡ h.version
-  pub bodies_is : number x + 1 ≡ entry_sectors h.length
+  pub bodies_is : number x + 1 ≡ entry_sectors_in f h.length
   pub length_is : entry_length x ≡ h.length
-  pub first_is : first_octets x ≡ h.first
 
-abbrev pub head_octets : Head → List ℕ
-head_octets h = sector_of head_tag h.open_count h.version (entry_sectors h.length - 1) (big_bytes 4 h.length ++ h.first)
+abbrev pub SaysHead : List ℕ → Head → Type 0
+SaysHead x h = SaysHeadIn formats.Two x h
 
 -- why a sector is refused as a head
-abbrev pub HeadRefused : List ℕ → LayoutError → Type 0
-HeadRefused x NotThisKind = tag x ≢ head_tag
-HeadRefused x BadField = (tag x ≡ head_tag) × (number x + 1 ≢ entry_sectors (entry_length x))
+abbrev pub HeadRefusedIn : Format → List ℕ → LayoutError → Type 0
+HeadRefusedIn f x NotThisKind = tag x ≢ head_tag_in f
+HeadRefusedIn f x BadField = (tag x ≡ head_tag_in f) × (number x + 1 ≢ entry_sectors_in f (entry_length x))
 
 abbrev pub bank_number : Bank → ℕ
 bank_number Zero = 0
 bank_number One = 1
 
+-- what a root says of the bank that isn't in use: 1 where it holds nothing of format 1
+abbrev pub clear_number : Bool → ℕ
+clear_number true = 1
+clear_number false = 0
+
 -- the root of a store
-pub record SaysRoot (x : List ℕ) (r : Root) : Type 0 where
-  pub tagged : tag x ≡ root_tag
+pub record SaysRootIn (f : Format) (x : List ℕ) (r : Root) : Type 0 where
+  pub tagged : tag x ≡ root_tag_in f
   pub opened_is : open_count x ≡ r.open_count
   pub base_is : sequence x ≡ r.base
   pub bank_is : number x ≡ bank_number r.bank
@@ -57,16 +64,21 @@ pub record SaysRoot (x : List ℕ) (r : Root) : Type 0 where
   pub snapshot_length_is : snapshot_length x ≡ r.snapshot_length
   pub snapshot_room_is : snapshot_room x ≡ r.snapshot_room
   pub journal_room_is : journal_room x ≡ r.journal_room
-  pub apex_is : apex_field x ≡ apex_octets r.apex
+  pub clear_is : clear_in f x ≡ clear_number r.is_clear
+  pub apex_is : apex_field_in f x ≡ apex_octets r.apex
   pub plain : IsPlain r.apex
 
-abbrev pub root_octets : Root → List ℕ
-root_octets r =
-    sector_of root_tag r.open_count r.base (bank_number r.bank)
-    (big_bytes 8 r.bank_open
-    ++ (big_bytes 4 r.snapshot_length ++ (big_bytes 4 r.snapshot_room ++ (big_bytes 4 r.journal_room ++ apex_octets r.apex))))
+abbrev pub SaysRoot : List ℕ → Root → Type 0
+SaysRoot x r = SaysRootIn formats.Two x r
 
--- why a sector is refused as a root: another tag, a bank above 1, or no name with nothing but zeros behind it
-abbrev pub RootRefused : List ℕ → LayoutError → Type 0
-RootRefused x NotThisKind = tag x ≢ root_tag
-RootRefused x BadField = (tag x ≡ root_tag) × ((2 ≤ number x) ⊎ ((apex : List ℕ) → IsPlain apex → apex_field x ≢ apex_octets apex))
+-- the octets of a root's payload before the zone's name
+abbrev pub root_front : Root → List ℕ
+root_front r = big_bytes 8 r.bank_open
+    ++ (big_bytes 8 r.snapshot_length ++ (big_bytes 4 r.snapshot_room ++ (big_bytes 4 r.journal_room ++ clear_number r.is_clear ∷ [])))
+
+-- why a sector is refused as a root: another tag; or a bank above 1, a word above 1 on the other bank, or no name with nothing but
+-- zeros behind it
+abbrev pub RootRefusedIn : Format → List ℕ → LayoutError → Type 0
+RootRefusedIn f x NotThisKind = tag x ≢ root_tag_in f
+RootRefusedIn f x BadField = (tag x ≡ root_tag_in f)
+    × ((2 ≤ number x) ⊎ (2 ≤ clear_in f x) ⊎ ((apex : List ℕ) → IsPlain apex → apex_field_in f x ≢ apex_octets apex))

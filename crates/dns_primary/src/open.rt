@@ -14,11 +14,11 @@ ghost use Rattle.dns_primary.specs.Open.{IsRecoveryStopped, LeaveRecovered, devi
 
 use crate::{Primary, ZoneSettings};
 use arrayvec::ArrayVec;
-use dns_held::{Behind, snapshot_len};
+use dns_held::Behind;
 use dns_memory::Heap;
 use dns_names::Name;
 use dns_sectors::Sectors;
-use dns_store::{KeptStore, OpenError, ZoneStore, open};
+use dns_store::{KeptStore, OpenError, ZoneStore, open, snapshot_len};
 use dns_zone::{Zone, ZoneIndex};
 use slab::Slab;
 

@@ -1,5 +1,5 @@
 -- The zones of a configuration over their devices.
-use Rattle.std.specs.Prelude.{◌≡◌, ◌⊎◌, ℕ, zero, suc, List, [], ◌∷◌, Ok, Err}
+use Rattle.std.specs.Prelude.{◌≡◌, ◌⊎◌, ℕ, zero, suc, List, [], ◌∷◌, Ok, Err, slice_get, MatchOption}
 use Rattle.std.specs.List.{AllZip}
 use Rattle.std.specs.String.{string_bytes}
 use Rattle.dns_sectors.specs.declared.device.DeviceError.{DeviceError}
@@ -12,7 +12,7 @@ use Rattle.dns_primary.specs.Stop.{IsStopped}
 use Rattle.dns_primary.specs.declared.primary.ZoneSettings as primary
 use Rattle.dns_configuration.specs.declared.configuration.ZoneSettings.{ZoneSettings}
 use Rattle.dns_configuration.specs.Known.{IsSettingOf, origins_of}
-use Rattle.dns_devices.specs.Faults.{fault_of_open}
+use Rattle.dns_devices.specs.Faults.{IsFaultOf, fault_of_open}
 use Rattle.dns_devices.specs.Showing.{Gives}
 use Rattle.dns_devices.specs.declared.faults.DeviceFault.{DeviceFault}
 use Rattle.dns_devices.specs.declared.faults.DeviceFault.TheVariants.{Device, OutOfMemory}
@@ -41,6 +41,11 @@ pub record IsServed {D : Type 0} (g : Ghosts D) (opened : Gives D) (zones : List
       → AreRecoverable g m event 0 m.zones (origins_of zones) known devices
       → (new : Machine) × IsStopped m event new × keeps new
 
+-- The fault of the device there among those that were handed back; where there is none, that of the refusal.
+abbrev pub IsFaultAt : {D : Type 0} → Ghosts D → OpenError → List D → ℕ → DeviceFault → Type 0
+IsFaultAt g error devices place fault =
+    MatchOption (slice_get devices place) (fault ≡ fault_of_open error) (λ device. IsFaultOf g error device fault)
+
 -- The devices were given, and that of the zone there was not opened, for this.
 pub record IsNotOpened {D : Type 0} (g : Ghosts D) (opened : Gives D) (zones : List ZoneSettings) (place : ℕ) (fault : DeviceFault)
     : Type 0 where
@@ -50,7 +55,7 @@ pub record IsNotOpened {D : Type 0} (g : Ghosts D) (opened : Gives D) (zones : L
   pub settings : AllZip IsSettingOf zones known
   pub back : List D
   pub error : OpenError
-  pub named : fault ≡ fault_of_open error
+  pub named : IsFaultAt g error back place fault
   pub refused : AreRefused g error place (origins_of zones) known devices back
 
 abbrev pub IsNotServed : {D : Type 0} → Ghosts D → Gives D → List ZoneSettings → ℕ → DeviceFault → Type 0

@@ -2,15 +2,15 @@
 ghost use Rattle.std.specs.Prelude.{◌≡◌, MatchResult};
 ghost use Rattle.dns_primary.specs.Keeps.{IsKept};
 ghost use Rattle.dns_configuration.specs.Known.{origins_of};
-ghost use Rattle.dns_service.specs.Opening.{AreGiven, IsNotGiven, IsNotServed, IsServed};
+ghost use Rattle.dns_service.specs.Opening.{AreGiven, IsFaultAt, IsNotGiven, IsNotServed, IsServed};
 
 use dns_configuration::{ZoneSettings, settings_of};
-use dns_devices::{DeviceFault, Devices};
+use dns_devices::{DeviceFault, Devices, refusal};
 use dns_memory::Heap;
 use dns_names::Name;
-use dns_primary::Primary;
+use dns_primary::{NotOpened, Primary};
 use dns_sectors::Sectors;
-use dns_store::KeptStore;
+use dns_store::{KeptStore, OpenError};
 use dns_zone::ZoneIndex;
 
 /// The device of a zone that is refused: the place of the zone, and why.
@@ -51,6 +51,16 @@ fn open_devices<D: Sectors + Drop, F: Devices<D>>(
     Ok(given)
 }
 
+/// The fault of the device there, which was handed back when its store was refused for this.
+fn fault_at<D: Sectors>(devices: &mut [D], place: usize, error: OpenError) -> DeviceFault
+    ensures { IsFaultAt D.Sectors error devices.old place result }
+{
+    match devices.get_mut(place) {
+        Some(device) => refusal(device, error),
+        None => DeviceFault::from(error),
+    }
+}
+
 /// The primary of zones over their devices, or the device that was refused.
 pub(crate) fn open_primary<D: Sectors + Drop, F: Devices<D>, I: ZoneIndex>(
     heap: Heap,
@@ -74,9 +84,14 @@ pub(crate) fn open_primary<D: Sectors + Drop, F: Devices<D>, I: ZoneIndex>(
     };
     match Primary::open(heap, given, origins, settings) {
         Ok(primary) => Ok(primary),
-        Err(refused) => Err(Refusal {
-            place: refused.place,
-            fault: DeviceFault::from(refused.error),
-        }),
+        Err(refused) => {
+            let NotOpened {
+                place,
+                error,
+                mut devices,
+            } = refused;
+            let fault = fault_at(&mut devices, place, error);
+            Err(Refusal { place, fault })
+        }
     }
 }

@@ -1,16 +1,23 @@
 -- What opening leaves of the device.
-use Rattle.std.proofs.Common.{◌≡◌, ℕ, List, sym, subst}
+use Rattle.std.proofs.Common.{◌≡◌, ◌⊎◌, inl, inr, ℕ, List, length, drop, refl, sym, subst, arith}
+use Rattle.std.proofs.lemmas.List.{length-drop}
+use Rattle.dns_names.specs.Name.{Labels}
 use Rattle.dns_sectors.specs.Device.{Content, LeavesOnly}
 use Rattle.dns_sectors.specs.declared.device.Sectors.{Ghosts}
 use Rattle.dns_sectors.proofs.Moments.{joined, weaker}
 use Rattle.dns_layout.specs.Sector.{sector_at}
 use Rattle.dns_layout.specs.Forms.{SaysRoot}
-use Rattle.dns_layout.specs.Store.{Stored, OpensBy, OpensAs, IsTidy}
+use Rattle.dns_layout.specs.Store.{Stored, OpensBy, OpensAs, IsTidy, version_of}
 use Rattle.dns_layout.specs.declared.root.Root.{Root}
+use Rattle.dns_layout.specs.declared.format.Format.TheVariants.{Two}
 use Rattle.dns_journal.specs.Reads.{OnlyReads}
 use Rattle.dns_store.specs.Versions.{Shape, Opened}
-use Rattle.dns_store.specs.Opens.{IsPartOf, sizes_of}
-use Rattle.dns_store.specs.Opening.{OpensAsPossible}
+use Rattle.dns_store.specs.Opens.{IsPartOf, base_of, sizes_of}
+use Rattle.dns_store.specs.Damage.{NamesAltered}
+use Rattle.dns_store.specs.declared.root.OpenError.{OpenError}
+use Rattle.dns_store.specs.declared.root.OpenError.TheVariants as errors
+use Rattle.dns_store.proofs.Places.{versions_behind}
+use Rattle.dns_store.specs.Opening.{OpensAsPossible, IsStopped}
 use Rattle.dns_store.specs.Turn.{StaysStored}
 use Rattle.dns_store.proofs.Opening.{stands_first}
 
@@ -18,12 +25,12 @@ use Rattle.dns_store.proofs.Opening.{stands_first}
 pub record Stands (shape : Shape) (old now : Content) (root : Root) (s : Stored) : Type 0 where
   pub parts : List (List ℕ)
   pub by : OpensBy (sizes_of shape) now (sector_at old 0) parts s
-  pub tidy : IsTidy now
+  pub tidy : IsTidy (sizes_of shape) now
 
-pub stands : (shape : Shape) (old now : Content) (root : Root) (s : Stored) → now ≡ old → OpensAs (sizes_of shape) old s → IsTidy old → Stands shape old now root s
+pub stands : (shape : Shape) (old now : Content) (root : Root) (s : Stored) → now ≡ old → OpensAs (sizes_of shape) old s → IsTidy (sizes_of shape) old → Stands shape old now root s
 stands shape old now root s same is tidy =
-    let there = stands_first (sizes_of shape) old s is in
-    record { parts = there.0; by = subst (λ (e : Content). OpensBy (sizes_of shape) e (sector_at old 0) there.0 s) (sym same) there.1; tidy = subst (λ (e : Content). IsTidy e) (sym same) tidy }
+    let there = stands_first Two (sizes_of shape) old s is in
+    record { parts = there.0; by = subst (λ (e : Content). OpensBy (sizes_of shape) e (sector_at old 0) there.0 s) (sym same) there.1; tidy = subst (λ (e : Content). IsTidy (sizes_of shape) e) (sym same) tidy }
 
 module _ {D : Type 0} {g : Ghosts D} (shape : Shape) (old mid : D) (honest : g.is_honest old) (reads : OnlyReads g old mid) where
   pub read_leaves : LeavesOnly g.moment g.left_since old mid (OpensAsPossible g shape old)
@@ -44,3 +51,17 @@ module _ {D : Type 0} {g : Ghosts D} (shape : Shape) (old mid : D) (honest : g.i
             let now = stays (sizes_of shape) is.0 (sector_at (g.seen old) 0) there.parts there.by there.tidy (says o is.0 is.1 is.3) in
             (is.0, now.0, now.1, is.3)),
       ))
+
+-- of a device that wasn't altered no altered sector is named
+pub none_altered : (c : Content) (e : OpenError) → IsStopped c e ⊎ NamesAltered c c e → IsStopped c e
+none_altered c e (inl stopped) = stopped
+none_altered c errors.Device (inr named) = absurd named
+none_altered c errors.Blank (inr named) = absurd named
+none_altered c (errors.Damaged place) (inr named) = absurd (named.other refl)
+none_altered c errors.Geometry (inr named) = absurd named
+none_altered c errors.OutOfMemory (inr named) = absurd named
+
+-- the number of the newest version
+pub newest_number : (apex : Labels) (o : Opened) (s : Stored) → IsPartOf apex o s → version_of s ≡ length o.versions
+newest_number apex o s part =
+    omega (arith, versions_behind Two apex s.base (base_of o) (drop o.base o.versions) s.entries part.changes, part.number, part.so_far, length-drop o.base o.versions)

@@ -19,7 +19,9 @@ use Rattle.dns_journal.specs.declared.journal.Journal.{Journal}
 use Rattle.dns_store.specs.Versions.{Versions, Kept, newest_after, OpensAsEither, version_at, moved_to}
 use Rattle.dns_store.specs.Room.{entry_between, entries_along}
 use Rattle.dns_store.specs.Staged.{entry_is, entries_length}
-use Rattle.dns_store.specs.Opens.{AreChanges, IsKeptBy, KeepsBy, opens}
+use Rattle.dns_layout.specs.declared.format.Format.{Format}
+use Rattle.dns_layout.specs.declared.format.Format.TheVariants.{Two}
+use Rattle.dns_store.specs.Opens.{AreChangesIn, IsKeptBy, KeepsBy, opens}
 use Rattle.dns_store.specs.Laws.{at_rest_of}
 use Rattle.dns_store.specs.Recovered.{AreLed}
 use Rattle.dns_store.specs.Checkpoint.{newest_sectors, IsMostKept, IsKeptNumber, IsLent, AllZones, IsBaseOf, IsNextBase, entries_of}
@@ -38,12 +40,12 @@ led_sums before (v ∷ vs) (c ∷ cs) zero led =
     sum_by-cons sectors_for c cs ∙ omega (arith, rest, here) ∙ sym (sum_by-cons (λ size. size) (entry_between before v) (entries_along v vs))
 led_sums before (v ∷ vs) (c ∷ cs) (suc i) led = led_sums v vs cs i led.1
 
-zones_of : (apex : Labels) (before : List Record) (vs : Versions) (es : List Entry) → AreChanges apex before vs es → AllZones apex vs
-zones_of apex before [] es are = tt
-zones_of apex before (v ∷ vs) [] are = absurd are
-zones_of apex before (v ∷ vs) (e ∷ es) are = (are.0.valid, zones_of apex v vs es are.1)
+pub zones_of : (f : Format) (apex : Labels) (before : List Record) (vs : Versions) (es : List Entry) → AreChangesIn f apex before vs es → AllZones apex vs
+zones_of f apex before [] es are = tt
+zones_of f apex before (v ∷ vs) [] are = absurd are
+zones_of f apex before (v ∷ vs) (e ∷ es) are = (are.0.valid, zones_of f apex v vs es are.1)
 
-zones_take : (apex : Labels) (n : ℕ) (vs : Versions) → AllZones apex vs → AllZones apex (take n vs)
+pub zones_take : (apex : Labels) (n : ℕ) (vs : Versions) → AllZones apex vs → AllZones apex (take n vs)
 zones_take apex zero vs zones = tt
 zones_take apex (suc n) [] zones = tt
 zones_take apex (suc n) (v ∷ vs) zones = (zones.0, zones_take apex n vs zones.1)
@@ -159,7 +161,7 @@ module _ {D : Type 0} {g : Ghosts D} (journal : Journal D g) (base : Zone) (chan
     pub gone_zones : AllZones base.apex (take (length changes - m) (drop k.base k.shown))
     gone_zones =
         subst (λ (a : Labels). AllZones a (take (length changes - m) (drop k.base k.shown))) (sym apex_is)
-        (zones_take k.shape.apex (length changes - m) (drop k.base k.shown) (zones_of k.shape.apex (version_at k k.base) (drop k.base k.shown) kept_as.0.entries kept.part.changes))
+        (zones_take k.shape.apex (length changes - m) (drop k.base k.shown) (zones_of Two k.shape.apex (version_at k k.base) (drop k.base k.shown) kept_as.0.entries kept.part.changes))
 
     pub next_records : newest_after base.records (take (length changes - m) (drop k.base k.shown)) ≡ version_at k (length k.shown - m)
     next_records = ap (λ (rs : List Record). newest_after rs (take (length changes - m) (drop k.base k.shown))) records_are ∙ next_is

@@ -1,5 +1,5 @@
 -- A store that is made: what the sectors behind its root say, and that it opens.
-use Rattle.std.proofs.Common.{◌≡◌, ◌⊎◌, inl, inr, ⊎_elim, ℕ, zero, suc, ◌+◌, ◌-◌, ◌*◌, ◌≤◌, ◌<◌, List, [], ◌∷◌, ◌++◌, length, take, drop, replicate, refl, sym, ◌∙◌, ap, subst, arith, add-one}
+use Rattle.std.proofs.Common.{◌≡◌, ◌⊎◌, inl, inr, ⊎_elim, ℕ, zero, suc, ◌+◌, ◌-◌, ◌*◌, ◌≤◌, ◌<◌, true, List, [], ◌∷◌, ◌++◌, length, take, drop, replicate, refl, sym, ◌∙◌, ap, subst, arith, add-one}
 use Rattle.std.specs.Prelude.{get_or, slice_set}
 use Rattle.std.proofs.Math.Seq.{take-append_seam, drop-append_seam}
 use Rattle.std.proofs.lemmas.Bool.{cases_lt}
@@ -12,14 +12,16 @@ use Rattle.dns_sectors.specs.declared.device.Sectors.{Ghosts}
 use Rattle.dns_sectors.specs.Crash.{CrashOf}
 use Rattle.dns_sectors.proofs.Moments.{joined, weaker}
 use Rattle.dns_layout.specs.Apex.{apex_octets}
-use Rattle.dns_layout.specs.Sector.{AreZeros, sector_at, tag, open_count, sequence, number, payload, bank_open, snapshot_length, payload_room, snapshot_sectors, blank, head_tag}
+use Rattle.dns_layout.specs.Sector.{AreZeros, sector_at, tag, open_count, sequence, number, payload, bank_open, snapshot_length, payload_room, snapshot_sectors, blank, clear, head_tag, head_tag_in}
+use Rattle.dns_layout.specs.Own.{Own, IsIntactIn}
+use Rattle.dns_layout.specs.declared.format.Format.TheVariants.{Two}
 use Rattle.dns_layout.specs.Forms.{SaysPart, SaysRoot}
 use Rattle.dns_layout.specs.Journal.{Stand}
 use Rattle.dns_layout.specs.Store.{Shape as Sizes, AreParts, OpensBy, IsTidy, all_sectors, snapshot_place, journal_place}
 use Rattle.dns_layout.specs.declared.root.Root.{Root}
 use Rattle.dns_layout.specs.declared.root.Bank.TheVariants.{Zero}
 use Rattle.dns_journal.specs.Reads.{sectors_from}
-use Rattle.dns_journal.specs.Bank.{piece, part_of}
+use Rattle.dns_journal.specs.Bank.{piece, part_of, Holds}
 use Rattle.dns_journal.proofs.Looking.{from_stands, length-from, flat_from}
 use Rattle.dns_journal.proofs.Places.{at_set-same, at_set-other}
 use Rattle.dns_journal.proofs.Pushing.{part_more}
@@ -31,15 +33,15 @@ use Rattle.dns_store.proofs.Parts.{are_from}
 
 -- Octets that are no head: zeros, and none.
 blank_no_head : tag blank ≡ head_tag → ⊥
-unfolding tag head_tag
+unfolding tag head_tag_in
 blank_no_head is =
-    let letters : get_or {A = ℕ} (68 ∷ 80 ∷ 72 ∷ 49 ∷ []) 0 0 ≡ get_or {A = ℕ} (take 4 (replicate 512 0)) 0 0 = ap (λ (l : List ℕ). get_or l 0 0) (sym is) in
+    let letters : get_or {A = ℕ} (68 ∷ 80 ∷ 72 ∷ 50 ∷ []) 0 0 ≡ get_or {A = ℕ} (take 4 (replicate 512 0)) 0 0 = ap (λ (l : List ℕ). get_or l 0 0) (sym is) in
     absurd (omega (arith, letters))
 
 none_no_head : tag [] ≡ head_tag → ⊥
-unfolding tag head_tag
+unfolding tag head_tag_in
 none_no_head is =
-    let letters : get_or {A = ℕ} (68 ∷ 80 ∷ 72 ∷ 49 ∷ []) 0 0 ≡ get_or {A = ℕ} (take 4 []) 0 0 = ap (λ (l : List ℕ). get_or l 0 0) (sym is) in
+    let letters : get_or {A = ℕ} (68 ∷ 80 ∷ 72 ∷ 50 ∷ []) 0 0 ≡ get_or {A = ℕ} (take 4 []) 0 0 = ap (λ (l : List ℕ). get_or l 0 0) (sym is) in
     absurd (omega (arith, letters))
 
 sector_past : (c : Content) (q : ℕ) → length c ≤ q → sector_at c q ≡ []
@@ -57,23 +59,23 @@ parts_hold octets = omega arith
 -- So many parts of a snapshot stand there, one behind the other.
 module _ (opened base : ℕ) (octets : List ℕ) (c : Content) (at : ℕ) where
   abbrev pub PartsStand : ℕ → Type 0
-  PartsStand n = (i : ℕ) → i < n → SaysPart (sector_at c (at + i)) (part_of opened base octets i)
+  PartsStand n = (i : ℕ) → i < n → SaysPart (sector_at c (at + i)) (part_of opened base i) × Holds (sector_at c (at + i)) (piece octets i)
 
   pub parts_are : (root : List ℕ) (n : ℕ) → bank_open root ≡ opened → sequence root ≡ base → PartsStand n → AreParts root 0 (sectors_from c at n)
   parts_are root zero bank version stand = tt
   parts_are root (suc n) bank version stand =
-      let says = stand n (omega arith) in
+      let says = (stand n (omega arith)).0 in
       subst (λ m. AreParts root 0 (sectors_from c at m)) (add-one n)
-      (are_from root c at n (parts_are root n bank version (λ i lt. stand i (omega (arith, lt))))
+      (are_from Two root c at n (parts_are root n bank version (λ i lt. stand i (omega (arith, lt))))
       (record { tagged = says.tagged; bank_open = says.opened_is ∙ sym bank; base = says.version_is ∙ sym version; numbered = says.count_is }))
 
   pub parts_flat : (n : ℕ) → n ≤ snapshot_sectors (length octets) → PartsStand n → flat_map payload (sectors_from c at n) ≡ take (payload_room * n) octets ++ replicate (payload_room * n - length octets) 0
   parts_flat zero le stand = let e : 0 ≡ payload_room * 0 - length octets = omega arith in ap (λ m. replicate {A = ℕ} m 0) e
   parts_flat (suc n) le stand =
       let before = parts_flat n (omega (arith, le)) (λ i lt. stand i (omega (arith, lt))) in
-      let says = stand n (omega arith) in
+      let holds = (stand n (omega arith)).1 in
       subst (λ m. flat_map payload (sectors_from c at m) ≡ take (payload_room * m) octets ++ replicate (payload_room * m - length octets) 0) (add-one n)
-      (flat_from c at n ∙ ap (λ (l : List ℕ). flat_map payload (sectors_from c at n) ++ l) says.payload_is
+      (flat_from Two c at n ∙ ap (λ (l : List ℕ). flat_map payload (sectors_from c at n) ++ l) holds
       ∙ part_more octets (flat_map payload (sectors_from c at n)) (piece octets n) n (parts_of (length octets) n (omega (arith, le))) before refl)
 
   -- All of them: the octets, and zeros behind.
@@ -103,6 +105,7 @@ pub record IsNewRoot (s : Sizes) (octets : List ℕ) (r : Root) : Type 0 where
   pub length : r.snapshot_length ≡ length octets
   pub snapshot : r.snapshot_room ≡ s.snapshot
   pub journal : r.journal_room ≡ s.journal
+  pub clear : r.is_clear ≡ true
   pub apex : r.apex ≡ s.apex
 
 module _ (s : Sizes) (octets : List ℕ) (r : Root) (new : IsNewRoot s octets r) (some : 8 ≤ s.journal) (fits : snapshot_sectors (length octets) ≤ s.snapshot) (c : Content) (made : IsMade r octets (all_sectors s) c) where
@@ -116,23 +119,35 @@ module _ (s : Sizes) (octets : List ℕ) (r : Root) (new : IsNewRoot s octets r)
   length_is = made.says.snapshot_length_is ∙ new.length
 
   stand : PartsStand 0 0 octets c 1 (snapshot_sectors (length octets))
-  stand i lt = subst (λ q. SaysPart (sector_at c q) (part_of 0 0 octets i)) (omega arith) ((made.laid i (omega (arith, lt, fits))).part lt)
+  stand i lt =
+      let part = (made.laid i (omega (arith, lt, fits))).part lt in
+      subst (λ q. SaysPart (sector_at c q) (part_of 0 0 i) × Holds (sector_at c q) (piece octets i)) (omega arith) (part.says, part.holds)
 
   none_at : (i : ℕ) → snapshot_sectors (length octets) ≤ i → i + 1 < all_sectors s → sector_at c (i + 1) ≡ blank
   none_at i le lt = (made.laid i lt).none le
+
+  is_clear : clear (sector_at c 0) ≡ 1
+  is_clear = made.says.clear_is ∙ ap Rattle.dns_layout.specs.Forms.clear_number new.clear
+
+  -- each sector is zeros or its own
+  intact : (q : ℕ) → q < all_sectors s → IsIntactIn Two q (sector_at c q)
+  intact zero lt = λ some. made.own
+  intact (suc i) lt =
+      let laid : IsLaid octets i (sector_at c (suc i)) = subst (λ q. IsLaid octets i (sector_at c q)) (add-one i) (made.laid i (omega (arith, lt))) in
+      ⊎_elim (λ part. λ some. subst (λ q. Own q (sector_at c (suc i))) (add-one i) (laid.part part).own) (λ none. λ some. absurd (some (laid.none none))) (cases_lt i (snapshot_sectors (length octets)))
 
   behind : (q : ℕ) → 0 < q → tag (sector_at c q) ≡ head_tag → open_count (sector_at c q) ≡ 0
   behind zero lt tagged = absurd (omega (arith, lt))
   behind (suc i) lt tagged = ⊎_elim
       (λ (inside : suc i < all_sectors s).
       let laid : IsLaid octets i (sector_at c (suc i)) = subst (λ q. IsLaid octets i (sector_at c q)) (add-one i) (made.laid i (omega (arith, inside))) in
-      ⊎_elim (λ part. (laid.part part).opened_is) (λ none. absurd (blank_no_head (ap (λ (x : List ℕ). tag x) (sym (laid.none none)) ∙ tagged))) (cases_lt i (snapshot_sectors (length octets))))
+      ⊎_elim (λ part. (laid.part part).says.opened_is) (λ none. absurd (blank_no_head (ap (λ (x : List ℕ). tag x) (sym (laid.none none)) ∙ tagged))) (cases_lt i (snapshot_sectors (length octets))))
       (λ outside. absurd (none_no_head (ap (λ (x : List ℕ). tag x) (sym (sector_past c (suc i) (omega (arith, outside, made.size)))) ∙ tagged)))
       (cases_lt (suc i) (all_sectors s))
 
-  pub made_tidy : IsTidy c
+  pub made_tidy : IsTidy s c
   made_tidy = record {
-    heads = each;
+    heads = λ q left tagged. each q tagged;
     bank = omega (arith, made.says.bank_open_is, made.says.opened_is, new.bank_open, new.opened);
   }
     where
@@ -150,6 +165,7 @@ module _ (s : Sizes) (octets : List ℕ) (r : Root) (new : IsNewRoot s octets r)
       fits = subst (λ n. snapshot_sectors n ≤ s.snapshot) (sym length_is) fits;
       snapshot = made.says.snapshot_room_is ∙ new.snapshot;
       journal = made.says.journal_room_is ∙ new.journal;
+      clear = omega (arith, is_clear);
       apex = made.says.apex_is ∙ ap apex_octets new.apex;
     };
     base = made.says.base_is ∙ new.base;
@@ -159,6 +175,7 @@ module _ (s : Sizes) (octets : List ℕ) (r : Root) (new : IsNewRoot s octets r)
     snapshot = ap (λ n. take n (flat_map payload (sectors_from c 1 (snapshot_sectors (length octets))))) length_is ∙ parts_taken 0 0 octets c 1 stand;
     zeros = subst (λ n. AreZeros (drop n (flat_map payload (sectors_from c 1 (snapshot_sectors (length octets)))))) (sym length_is) (parts_zeros 0 0 octets c 1 stand);
     journal = λ next. blank_no_head (ap (λ (x : List ℕ). tag x) (sym there) ∙ next.tagged);
+    own = λ q lt left. intact q lt;
   }
     where
       first_place : snapshot_place s 0 ≡ 1
@@ -208,11 +225,12 @@ pub blank_there : (d e : Content) (may_leave : Content → Type 0) → 0 < lengt
 blank_there d e may_leave some written only c left = ap (λ (y : Content). sector_at y 0) (only c left ∙ written) ∙ at_set-same d 0 blank some
 
 -- The root is written last.
-module _ (r : Root) (octets y : List ℕ) (d : Content) (says : SaysRoot y r) (some : 0 < length d) (laid : IsLaidTo octets (length d) d) where
+module _ (r : Root) (octets y : List ℕ) (d : Content) (says : SaysRoot y r) (own : Own 0 y) (some : 0 < length d) (laid : IsLaidTo octets (length d) d) where
   pub made_by : IsMade r octets (length d) (slice_set d 0 y)
   made_by = record {
     size = length-set d 0 y;
     says = subst (λ (x : List ℕ). SaysRoot x r) (sym (at_set-same d 0 y some)) says;
+    own = subst (λ (x : List ℕ). Own 0 x) (sym (at_set-same d 0 y some)) own;
     laid = λ index lt. subst (λ (x : List ℕ). IsLaid octets index x) (sym (at_set-other d 0 (index + 1) y (λ (same : index + 1 ≡ 0). absurd (omega (arith, same))))) (laid index lt);
   }
 
@@ -235,7 +253,7 @@ module _ {D : Type 0} (g : Ghosts D) (r : Root) (octets : List ℕ) (old mid : D
     pub second_run : LeavesOnly g.moment g.left_since old next (LeftByMaking g r octets count old)
     second_run = joined g.moment g.left_since old mid next Left HasBlankRoot first_run second (λ c none. inr (inl none))
 
-    module _ (y : List ℕ) (says : SaysRoot y r) (some : 0 < count) (size : length (g.seen next) ≡ count) (laid : IsLaidTo octets count (g.seen next)) (only : Only (g.seen next) (g.may_leave next)) where
+    module _ (y : List ℕ) (says : SaysRoot y r) (own : Own 0 y) (some : 0 < count) (size : length (g.seen next) ≡ count) (laid : IsLaidTo octets count (g.seen next)) (only : Only (g.seen next) (g.may_leave next)) where
       laid_all : IsLaidTo octets (length (g.seen next)) (g.seen next)
       laid_all = subst (λ n. IsLaidTo octets n (g.seen next)) (sym size) laid
 
@@ -245,10 +263,10 @@ module _ {D : Type 0} (g : Ghosts D) (r : Root) (octets : List ℕ) (old mid : D
       pub third_run : HasBlankRoot (g.seen next) → (new : D) → LeavesOnly g.moment g.left_since next new (CrashOf (g.may_leave next) ((0, y) ∷ [])) → LeavesOnly g.moment g.left_since old new (LeftByMaking g r octets count old)
       third_run none new third =
           joined g.moment g.left_since old next new Left (CrashOf (g.may_leave next) ((0, y) ∷ [])) second_run third
-          (λ c left. inr (subst (λ n. HasBlankRoot c ⊎ IsMade r octets n c) size (last_crash r octets y (g.seen next) says some_there laid_all (g.may_leave next) only none c left)))
+          (λ c left. inr (subst (λ n. HasBlankRoot c ⊎ IsMade r octets n c) size (last_crash r octets y (g.seen next) says own some_there laid_all (g.may_leave next) only none c left)))
 
       pub all_made : (new : D) → Only (g.seen new) (g.may_leave new) → g.seen new ≡ slice_set (g.seen next) 0 y → (c : Content) → g.may_leave new c → IsMade r octets count c
-      all_made new only_new written c left = subst (λ n. IsMade r octets n c) size (made_left r octets y (g.seen next) says some_there laid_all (g.may_leave new) (g.seen new) only_new written c left)
+      all_made new only_new written c left = subst (λ n. IsMade r octets n c) size (made_left r octets y (g.seen next) says own some_there laid_all (g.may_leave new) (g.seen new) only_new written c left)
 
 -- In versions, where the device has the sectors of the store.
 module _ (shape : Shape) (records : List Record) (octets lent : List ℕ) (r : Root) (count : ℕ) (valid : IsZone (record { apex = shape.apex; records = records })) (octets_are : octets ≡ flat_map plain records) (lent_is : lent ≡ octets)

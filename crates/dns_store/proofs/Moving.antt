@@ -17,35 +17,37 @@ use Rattle.dns_journal.specs.Bank.{AreEntries, IsTurned, LeavesEither}
 use Rattle.dns_journal.specs.State.{Keeps, is_closed, device_of, left_of, newest_of}
 use Rattle.dns_journal.specs.declared.journal.Journal.{Journal}
 use Rattle.dns_store.specs.Versions.{Versions, Kept, newest_after, OpensAsLeft, OpensAsEither, version_at, moved_to, closed_between}
-use Rattle.dns_store.specs.Opens.{AreChanges, IsPartOf, IsKeptBy, IsClosedBy, KeepsBy, opens, sizes_of, durable_part}
+use Rattle.dns_layout.specs.declared.format.Format.{Format}
+use Rattle.dns_layout.specs.declared.format.Format.TheVariants.{Two}
+use Rattle.dns_store.specs.Opens.{AreChangesIn, IsPartOfIn, AreChanges, IsPartOf, IsKeptBy, IsClosedBy, KeepsBy, opens, sizes_of, durable_part}
 use Rattle.dns_store.specs.Recovered.{AreLed}
 use Rattle.dns_store.specs.Checkpoint.{IsBaseOf}
 use Rattle.dns_store.proofs.Leaves.{newest_append}
 use Rattle.dns_store.proofs.Places.{versions_behind, left_kept, number_kept}
 
-changes_drop : (apex : Labels) (n : ℕ) (before : List Record) (vs : Versions) (es : List Entry) → AreChanges apex before vs es → AreChanges apex (newest_after before (take n vs)) (drop n vs) (drop n es)
-changes_drop apex zero before vs es are = are
-changes_drop apex (suc n) before [] [] are = tt
-changes_drop apex (suc n) before [] (e ∷ es) are = absurd are
-changes_drop apex (suc n) before (v ∷ vs) [] are = absurd are
-changes_drop apex (suc n) before (v ∷ vs) (e ∷ es) are = changes_drop apex n v vs es are.1
+changes_drop : (f : Format) (apex : Labels) (n : ℕ) (before : List Record) (vs : Versions) (es : List Entry) → AreChangesIn f apex before vs es → AreChangesIn f apex (newest_after before (take n vs)) (drop n vs) (drop n es)
+changes_drop f apex zero before vs es are = are
+changes_drop f apex (suc n) before [] [] are = tt
+changes_drop f apex (suc n) before [] (e ∷ es) are = absurd are
+changes_drop f apex (suc n) before (v ∷ vs) [] are = absurd are
+changes_drop f apex (suc n) before (v ∷ vs) (e ∷ es) are = changes_drop f apex n v vs es are.1
 
-changes_valid : (apex : Labels) (n : ℕ) (before : List Record) (vs : Versions) (es : List Entry) → IsZone (record { apex = apex; records = before }) → AreChanges apex before vs es → IsZone (record { apex = apex; records = newest_after before (take n vs) })
-changes_valid apex zero before vs es valid are = valid
-changes_valid apex (suc n) before [] es valid are = valid
-changes_valid apex (suc n) before (v ∷ vs) [] valid are = absurd are
-changes_valid apex (suc n) before (v ∷ vs) (e ∷ es) valid are = changes_valid apex n v vs es are.0.valid are.1
+changes_valid : (f : Format) (apex : Labels) (n : ℕ) (before : List Record) (vs : Versions) (es : List Entry) → IsZone (record { apex = apex; records = before }) → AreChangesIn f apex before vs es → IsZone (record { apex = apex; records = newest_after before (take n vs) })
+changes_valid f apex zero before vs es valid are = valid
+changes_valid f apex (suc n) before [] es valid are = valid
+changes_valid f apex (suc n) before (v ∷ vs) [] valid are = absurd are
+changes_valid f apex (suc n) before (v ∷ vs) (e ∷ es) valid are = changes_valid f apex n v vs es are.0.valid are.1
 
 -- The same changes, in entries that were written anew.
-changes_again : (apex : Labels) (before : List Record) (vs : Versions) (es fs : List Entry) (cs : List Change) → AreChanges apex before vs es → AreLed before vs cs → AreEntries cs fs → AreChanges apex before vs fs
-changes_again apex before [] [] [] [] are led entries = tt
-changes_again apex before [] [] (f ∷ fs) [] are led entries = absurd entries
-changes_again apex before [] [] fs (c ∷ cs) are led entries = absurd led
-changes_again apex before [] (e ∷ es) fs cs are led entries = absurd are
-changes_again apex before (v ∷ vs) [] fs cs are led entries = absurd are
-changes_again apex before (v ∷ vs) (e ∷ es) fs [] are led entries = absurd led
-changes_again apex before (v ∷ vs) (e ∷ es) [] (c ∷ cs) are led entries = absurd entries
-changes_again apex before (v ∷ vs) (e ∷ es) (f ∷ fs) (c ∷ cs) are led entries = (
+changes_again : (format : Format) (apex : Labels) (before : List Record) (vs : Versions) (es fs : List Entry) (cs : List Change) → AreChangesIn format apex before vs es → AreLed before vs cs → AreEntries cs fs → AreChanges apex before vs fs
+changes_again format apex before [] [] [] [] are led entries = tt
+changes_again format apex before [] [] (f ∷ fs) [] are led entries = absurd entries
+changes_again format apex before [] [] fs (c ∷ cs) are led entries = absurd led
+changes_again format apex before [] (e ∷ es) fs cs are led entries = absurd are
+changes_again format apex before (v ∷ vs) [] fs cs are led entries = absurd are
+changes_again format apex before (v ∷ vs) (e ∷ es) fs [] are led entries = absurd led
+changes_again format apex before (v ∷ vs) (e ∷ es) [] (c ∷ cs) are led entries = absurd entries
+changes_again format apex before (v ∷ vs) (e ∷ es) (f ∷ fs) (c ∷ cs) are led entries = (
   record {
     change = c;
     leads = led.0;
@@ -54,7 +56,7 @@ changes_again apex before (v ∷ vs) (e ∷ es) (f ∷ fs) (c ∷ cs) are led en
     size_is = entries.0.size_is;
     valid = are.0.valid;
   },
-  changes_again apex v vs es fs cs are.1 led.1 entries.1,
+  changes_again format apex v vs es fs cs are.1 led.1 entries.1,
 )
 
 pub led_count : (before : List Record) (vs : Versions) (cs : List Change) → AreLed before vs cs → length cs ≡ length vs
@@ -67,32 +69,32 @@ pub newest_on : (first : List Record) (n m : ℕ) (vs : Versions) → newest_aft
 newest_on first n m vs = sym (newest_append first (take n vs) (take m (drop n vs))) ∙ ap (λ (l : Versions). newest_after first l) (sym (take-add n m vs))
 
 -- What is stored behind a turn is the later base, and the changes from there.
-pub part_turned : (k : Kept) (s turned : Stored) (base : ℕ) (octets : List ℕ) (changes : List Change) → IsPartOf k.shape.apex (durable_part k) s → IsBaseOf k base octets changes → IsTurned s octets changes turned
+pub part_turned : (f : Format) (k : Kept) (s turned : Stored) (base : ℕ) (octets : List ℕ) (changes : List Change) → IsPartOfIn f k.shape.apex (durable_part k) s → IsBaseOf k base octets changes → IsTurned s octets changes turned
     → IsPartOf k.shape.apex (durable_part (moved_to base k)) turned
-part_turned k s turned base octets changes part is turn =
+part_turned f k s turned base octets changes part is turn =
     let gone = base - k.base in
     let old = newest_after k.loaded (take k.base k.shown) in
     let sum : k.base + (base - k.base) ≡ base = omega (arith, is.later) in
     let on : newest_after old (take gone (drop k.base k.shown)) ≡ version_at k base = newest_on k.loaded k.base gone k.shown ∙ ap (λ n. version_at k n) sum in
     let rest : drop gone (drop k.base k.shown) ≡ drop base k.shown = drop-drop gone k.base k.shown ∙ ap (λ n. drop n k.shown) sum in
-    let are : AreChanges k.shape.apex (version_at k base) (drop base k.shown) (drop gone s.entries) =
-    subst (λ (v : List Record). AreChanges k.shape.apex v (drop base k.shown) (drop gone s.entries)) on
-    (subst (λ (vs : Versions). AreChanges k.shape.apex (newest_after old (take gone (drop k.base k.shown))) vs (drop gone s.entries)) rest (changes_drop k.shape.apex gone old (drop k.base k.shown) s.entries part.changes)) in
+    let are : AreChangesIn f k.shape.apex (version_at k base) (drop base k.shown) (drop gone s.entries) =
+    subst (λ (v : List Record). AreChangesIn f k.shape.apex v (drop base k.shown) (drop gone s.entries)) on
+    (subst (λ (vs : Versions). AreChangesIn f k.shape.apex (newest_after old (take gone (drop k.base k.shown))) vs (drop gone s.entries)) rest (changes_drop f k.shape.apex gone old (drop k.base k.shown) s.entries part.changes)) in
     record {
-      number = omega (arith, turn.base, led_count (version_at k base) (drop base k.shown) changes is.led, length-drop base k.shown, is.so_far, versions_behind k.shape.apex s.base old (drop k.base k.shown) s.entries part.changes, length-drop k.base k.shown, part.number, part.so_far);
+      number = omega (arith, turn.base, led_count (version_at k base) (drop base k.shown) changes is.led, length-drop base k.shown, is.so_far, versions_behind f k.shape.apex s.base old (drop k.base k.shown) s.entries part.changes, length-drop k.base k.shown, part.number, part.so_far);
       so_far = is.so_far;
-      valid = subst (λ (v : List Record). IsZone (record { apex = k.shape.apex; records = v })) on (changes_valid k.shape.apex gone old (drop k.base k.shown) s.entries part.valid part.changes);
+      valid = subst (λ (v : List Record). IsZone (record { apex = k.shape.apex; records = v })) on (changes_valid f k.shape.apex gone old (drop k.base k.shown) s.entries part.valid part.changes);
       snapshot = turn.snapshot ∙ is.octets_are;
-      changes = changes_again k.shape.apex (version_at k base) (drop base k.shown) (drop gone s.entries) turned.entries changes are is.led turn.entries;
+      changes = changes_again f k.shape.apex (version_at k base) (drop base k.shown) (drop gone s.entries) turned.entries changes are is.led turn.entries;
     }
 
 -- what is stored is the durable version, and nothing is lost
-left_of_stored : (k : Kept) (s : Stored) (c : Content) → OpensAs (sizes_of k.shape) c s → IsTidy c → IsPartOf k.shape.apex (durable_part k) s → OpensAsLeft opens k c
+left_of_stored : (k : Kept) (s : Stored) (c : Content) → OpensAs (sizes_of k.shape) c s → IsTidy (sizes_of k.shape) c → IsPartOf k.shape.apex (durable_part k) s → OpensAsLeft opens k c
 left_of_stored k s c opens_by tidy part = (durable_part k, record { loaded = refl; kept = []; lost = k.staged; front = refl; versions = sym (append-nil k.shown); base = inl refl }, (s, opens_by, tidy, part))
 
 pub either_left : (k : Kept) (s : Stored) (base : ℕ) (octets : List ℕ) (changes : List Change) → IsPartOf k.shape.apex (durable_part k) s → IsBaseOf k base octets changes → (c : Content) → LeavesEither (sizes_of k.shape) s octets changes c → OpensAsEither opens k base c
 either_left k s base octets changes part is c (inl before, tidy) = inl (left_of_stored k s c before tidy part)
-either_left k s base octets changes part is c (inr (turned, turn, after), tidy) = inr (left_of_stored (moved_to base k) turned c after tidy (part_turned k s turned base octets changes part is turn))
+either_left k s base octets changes part is c (inr (turned, turn, after), tidy) = inr (left_of_stored (moved_to base k) turned c after tidy (part_turned Two k s turned base octets changes part is turn))
 
 -- ... for good, where the device failed
 pub between_left : (k : Kept) (s : Stored) (base : ℕ) (octets : List ℕ) (changes : List Change) → IsPartOf k.shape.apex (durable_part k) s → IsBaseOf k base octets changes → (c : Content) → LeavesEither (sizes_of k.shape) s octets changes c → OpensAsLeft opens (closed_between base k) c
@@ -101,7 +103,7 @@ between_left k s base octets changes part is c (inl before, tidy) =
 between_left k s base octets changes part is c (inr (turned, turn, after), tidy) = (
   durable_part (moved_to base k),
   record { loaded = refl; kept = []; lost = k.staged; front = refl; versions = sym (append-nil k.shown); base = inr refl },
-  (turned, after, tidy, part_turned k s turned base octets changes part is turn),
+  (turned, after, tidy, part_turned Two k s turned base octets changes part is turn),
 )
 
 nothing_staged : (apex : Labels) (before : List Record) (vs : Versions) (es : List Entry) → vs ≡ [] → AreChanges apex before vs es → es ≡ []
@@ -127,7 +129,7 @@ module _ {D : Type 0} {g : Ghosts D} (old new : Journal D g) (k : Kept) (none : 
   pub turn_keeps : ((shape : Shape) (s : Stored) → Keeps shape old s [] → (turned : Stored) × IsTurned s octets changes turned × Keeps shape new turned []) → (is_closed old ≡ true → ⊥) → (closed : Bool) → KeepsBy old k closed → KeepsBy new (moved_to base k) closed
   turn_keeps turn not false (s, staged, kept) =
       let after = turn (sizes_of k.shape) s (kept_bare s staged kept) in
-      (after.0, [], record { keeps = after.2; part = part_turned k s after.0 base octets changes kept.part is after.1; changes = subst (λ (vs : Versions). AreChanges k.shape.apex (newest_after k.loaded k.shown) vs []) (sym none) tt })
+      (after.0, [], record { keeps = after.2; part = part_turned Two k s after.0 base octets changes kept.part is after.1; changes = subst (λ (vs : Versions). AreChanges k.shape.apex (newest_after k.loaded k.shown) vs []) (sym none) tt })
   turn_keeps turn not true kept = absurd (not kept.closed)
 
   pub turn_closes : ((d : D) (t : ℕ) (c : Content) → g.is_honest d → t ≤ g.moment d → g.may_leave d c → g.left_since d t c)

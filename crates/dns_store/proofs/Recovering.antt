@@ -7,34 +7,36 @@ use Rattle.dns_changes.specs.Change.{Change, IsChange}
 use Rattle.dns_changes.specs.Entry.{HasEntry, entry}
 use Rattle.dns_sectors.specs.Device.{Content}
 use Rattle.dns_layout.specs.Sector.{open_count, number}
-use Rattle.dns_layout.specs.Journal.{Entry, size_of, octets_of, place_behind, version_behind, open_behind}
+use Rattle.dns_layout.specs.Journal.{Entry, size_of, octets_of_in, place_behind, version_behind, open_behind}
+use Rattle.dns_layout.specs.declared.format.Format.{Format}
 use Rattle.dns_journal.specs.declared.read.Cursor.{Cursor}
 use Rattle.dns_journal.specs.declared.read.ReadError.{ReadError}
-use Rattle.dns_journal.specs.Reads.{Ends, Finds, ReadsFrom, IsRefusal}
+use Rattle.dns_journal.specs.Reads.{Ends, Finds, ReadsFrom, IsRefusal, NamesSpoilt}
 use Rattle.dns_journal.proofs.Heads.{first_read, none_is_read, refused_read}
 use Rattle.dns_store.specs.declared.root.OpenError.{OpenError}
 use Rattle.dns_store.specs.Root.{open_error}
+use Rattle.dns_store.specs.Damage.{NamesSpoiltIn}
 use Rattle.dns_store.specs.Versions.{Versions, newest_after}
-use Rattle.dns_store.specs.Opens.{AreChanges}
+use Rattle.dns_store.specs.Opens.{AreChangesIn}
 use Rattle.dns_store.specs.Recovered.{AreLed, IsRecovered}
 use Rattle.dns_store.proofs.Leaves.{newest_append}
 
 -- The first versions were recovered; the others are still to be read.
-pub record Goes (old now : Cursor) (c : Content) (apex : Labels) (base : List Record) (vs : Versions) (es : List Entry) (newest : List Record) (changes : List Change) : Type 0 where
+pub record Goes (f : Format) (old now : Cursor) (c : Content) (apex : Labels) (base : List Record) (vs : Versions) (es : List Entry) (newest : List Record) (changes : List Change) : Type 0 where
   pub front : Versions
   pub rest : Versions
   pub left : List Entry
   pub versions : vs ≡ front ++ rest
   pub led : AreLed base front changes
   pub newest_is : newest ≡ newest_after base front
-  pub reads : ReadsFrom now c left
-  pub are : AreChanges apex newest rest left
+  pub reads : ReadsFrom f now c left
+  pub are : AreChangesIn f apex newest rest left
   pub place : place_behind now.at left ≡ place_behind old.at es
   pub version_is : version_behind now.version left ≡ version_behind old.version es
   pub opened_is : open_behind now.opened left ≡ open_behind old.opened es
 
-pub begins : (old : Cursor) (c : Content) (apex : Labels) (base : List Record) (vs : Versions) (es : List Entry) → ReadsFrom old c es → AreChanges apex base vs es → Goes old old c apex base vs es base []
-begins old c apex base vs es reads are = record { front = []; rest = vs; left = es; versions = refl; led = tt; newest_is = refl; reads = reads; are = are; place = refl; version_is = refl; opened_is = refl }
+pub begins : (f : Format) (old : Cursor) (c : Content) (apex : Labels) (base : List Record) (vs : Versions) (es : List Entry) → ReadsFrom f old c es → AreChangesIn f apex base vs es → Goes f old old c apex base vs es base []
+begins f old c apex base vs es reads are = record { front = []; rest = vs; left = es; versions = refl; led = tt; newest_is = refl; reads = reads; are = are; place = refl; version_is = refl; opened_is = refl }
 
 led_more : (base : List Record) (vs : Versions) (cs : List Change) (v : List Record) (c : Change) → AreLed base vs cs → IsChange (newest_after base vs) v c → AreLed base (vs ++ v ∷ []) (cs ++ c ∷ [])
 led_more base [] [] v c led next = (next, tt)
@@ -43,23 +45,23 @@ led_more base (w ∷ vs) [] v c led next = absurd led
 led_more base (w ∷ vs) (d ∷ cs) v c led next = (led.0, led_more w vs cs v c led.1 next)
 
 -- the next version, as the entries tell it
-pub record Next (old now next : Cursor) (c : Content) (apex : Labels) (base : List Record) (vs : Versions) (es : List Entry) (newest : List Record) (changes : List Change) (octets : List ℕ) : Type 0 where
+pub record Next (f : Format) (old now next : Cursor) (c : Content) (apex : Labels) (base : List Record) (vs : Versions) (es : List Entry) (newest : List Record) (changes : List Change) (octets : List ℕ) : Type 0 where
   pub after : List Record
   pub change : Change
   pub leads : IsChange newest after change
   pub written : HasEntry change
   pub octets_are : entry change ≡ octets
   pub valid : IsZone (record { apex = apex; records = after })
-  pub goes : Goes old next c apex base vs es after (changes ++ change ∷ [])
+  pub goes : Goes f old next c apex base vs es after (changes ++ change ∷ [])
 
-module _ (old now next : Cursor) (c : Content) (apex : Labels) (base : List Record) (vs : Versions) (es : List Entry) (newest : List Record) (changes : List Change) (octets : List ℕ) (finds : Finds now next c octets) where
-  with_first : (front rest : Versions) (left : List Entry) → vs ≡ front ++ rest → AreLed base front changes → newest ≡ newest_after base front → ReadsFrom now c left → AreChanges apex newest rest left
+module _ (f : Format) (old now next : Cursor) (c : Content) (apex : Labels) (base : List Record) (vs : Versions) (es : List Entry) (newest : List Record) (changes : List Change) (octets : List ℕ) (finds : Finds f now next c octets) where
+  with_first : (front rest : Versions) (left : List Entry) → vs ≡ front ++ rest → AreLed base front changes → newest ≡ newest_after base front → ReadsFrom f now c left → AreChangesIn f apex newest rest left
       → place_behind now.at left ≡ place_behind old.at es → version_behind now.version left ≡ version_behind old.version es → open_behind now.opened left ≡ open_behind old.opened es
-      → (e : Entry) (behind : List Entry) → left ≡ e ∷ behind → octets ≡ octets_of e → ReadsFrom next c behind → next.at ≡ now.at + size_of e → next.opened ≡ open_count e.head
-      → Next old now next c apex base vs es newest changes octets
-  with_first front [] left versions led newest_is reads are place version opened e behind is octets_are more at open_is = absurd (subst (λ (l : List Entry). AreChanges apex newest [] l) is are)
+      → (e : Entry) (behind : List Entry) → left ≡ e ∷ behind → octets ≡ octets_of_in f e → ReadsFrom f next c behind → next.at ≡ now.at + size_of e → next.opened ≡ open_count e.head
+      → Next f old now next c apex base vs es newest changes octets
+  with_first front [] left versions led newest_is reads are place version opened e behind is octets_are more at open_is = absurd (subst (λ (l : List Entry). AreChangesIn f apex newest [] l) is are)
   with_first front (v ∷ rest) left versions led newest_is reads are place version opened e behind is octets_are more at open_is =
-      let steps : AreChanges apex newest (v ∷ rest) (e ∷ behind) = subst (λ (l : List Entry). AreChanges apex newest (v ∷ rest) l) is are in
+      let steps : AreChangesIn f apex newest (v ∷ rest) (e ∷ behind) = subst (λ (l : List Entry). AreChangesIn f apex newest (v ∷ rest) l) is are in
       let leads = steps.0.leads in
       record {
         after = v;
@@ -83,19 +85,19 @@ module _ (old now next : Cursor) (c : Content) (apex : Labels) (base : List Reco
         };
       }
 
-  pub next_is : Goes old now c apex base vs es newest changes → Next old now next c apex base vs es newest changes octets
+  pub next_is : Goes f old now c apex base vs es newest changes → Next f old now next c apex base vs es newest changes octets
   next_is so =
-      let first = first_read now next c octets finds so.left so.reads in
-      let there : ReadsFrom now c (first.0 ∷ first.1) = subst (λ (l : List Entry). ReadsFrom now c l) first.2 so.reads in
+      let first = first_read f now next c octets finds so.left so.reads in
+      let there : ReadsFrom f now c (first.0 ∷ first.1) = subst (λ (l : List Entry). ReadsFrom f now c l) first.2 so.reads in
       let same : finds.entry.head ≡ first.0.head = sym finds.head ∙ there.1 in
       let count = ap (λ (y : List ℕ). number y) same in
       with_first so.front so.rest so.left so.versions so.led so.newest_is so.reads so.are so.place so.version_is so.opened_is first.0 first.1 first.2 first.3 first.4 (omega (arith, finds.place, finds.next.count, there.0.count, count)) (finds.opened_is ∙ ap (λ (y : List ℕ). open_count y) same)
 
 -- no entry is left
-pub all_recovered : (old now : Cursor) (c : Content) (apex : Labels) (base : List Record) (vs : Versions) (es : List Entry) (newest : List Record) (changes : List Change) → Ends now c → Goes old now c apex base vs es newest changes → IsRecovered old now base vs es newest changes
-all_recovered old now c apex base vs es newest changes ends so =
-    let none : so.left ≡ [] = none_is_read now c ends so.left so.reads in
-    let rest : so.rest ≡ [] = no_more so.rest (subst (λ (l : List Entry). AreChanges apex newest so.rest l) none so.are) in
+pub all_recovered : (f : Format) (old now : Cursor) (c : Content) (apex : Labels) (base : List Record) (vs : Versions) (es : List Entry) (newest : List Record) (changes : List Change) → Ends f now c → Goes f old now c apex base vs es newest changes → IsRecovered old now base vs es newest changes
+all_recovered f old now c apex base vs es newest changes ends so =
+    let none : so.left ≡ [] = none_is_read f now c ends so.left so.reads in
+    let rest : so.rest ≡ [] = no_more so.rest (subst (λ (l : List Entry). AreChangesIn f apex newest so.rest l) none so.are) in
     let whole : so.front ≡ vs = sym (so.versions ∙ ap (λ (l : Versions). so.front ++ l) rest ∙ append-nil so.front) in
     record {
       newest_is = so.newest_is ∙ ap (λ (l : Versions). newest_after base l) whole;
@@ -105,12 +107,14 @@ all_recovered old now c apex base vs es newest changes ends so =
       opened_is = ap (λ (l : List Entry). open_behind now.opened l) (sym none) ∙ so.opened_is;
     }
   where
-    no_more : (vs : Versions) → AreChanges apex newest vs [] → vs ≡ []
+    no_more : (vs : Versions) → AreChangesIn f apex newest vs [] → vs ≡ []
     no_more [] are = refl
     no_more (v ∷ vs) are = absurd are
 
 -- no sector is wrong where entries are read
-pub not_refused : (e : ReadError) (r : OpenError) → r ≡ open_error e → (cursor : Cursor) (c : Content) → IsRefusal cursor c e → (es : List Entry) → ReadsFrom cursor c es → (r ≡ OpenError.Device) ⊎ (r ≡ OpenError.OutOfMemory)
-not_refused ReadError.Device r is cursor c refusal es reads = inl is
-not_refused (ReadError.Damaged place) r is cursor c refusal es reads = absurd (refused_read cursor c place refusal es reads)
-not_refused ReadError.OutOfMemory r is cursor c refusal es reads = inr is
+pub not_refused : (f : Format) (e : ReadError) (r : OpenError) → r ≡ open_error e → (d : Content) (from until : ℕ) (cursor : Cursor) (c : Content) → NamesSpoilt f d from until e ⊎ IsRefusal f cursor c e → (es : List Entry) → ReadsFrom f cursor c es
+    → (r ≡ OpenError.Device) ⊎ (r ≡ OpenError.OutOfMemory) ⊎ NamesSpoiltIn f d from until r
+not_refused f ReadError.Device r is d from until cursor c refusal es reads = inl is
+not_refused f (ReadError.Damaged place) r is d from until cursor c (inl spoilt) es reads = inr (inr (subst (λ (q : OpenError). NamesSpoiltIn f d from until q) (sym is) spoilt))
+not_refused f (ReadError.Damaged place) r is d from until cursor c (inr refusal) es reads = absurd (refused_read f cursor c place refusal es reads)
+not_refused f ReadError.OutOfMemory r is d from until cursor c refusal es reads = inr (inl is)

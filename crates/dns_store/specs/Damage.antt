@@ -1,23 +1,56 @@
--- Which sector is wrong on a device that isn't opened.
-use Rattle.std.specs.Prelude.{◌≡◌, ◌⊎◌, ℕ, ◌+◌, ◌*◌, List, [], ◌∷◌}
+-- Which sector is wrong on a device that isn't opened, and which sectors reading reaches. Words without a format are of format 2, or
+-- of both.
+use Rattle.std.specs.Prelude.{◌≡◌, ◌≢◌, ◌⊎◌, ◌≤◌, ◌<◌, ℕ, ◌+◌, ◌*◌, List, [], ◌∷◌, None, length}
 use Rattle.std.specs.List.{flat_map}
 use Rattle.dns_names.specs.Name.{Labels}
 use Rattle.dns_records.specs.Record.{Record, plain}
 use Rattle.dns_zone.specs.Zone.{IsZone}
-use Rattle.dns_changes.specs.Change.{Change, IsChange, applied}
+use Rattle.dns_changes.specs.Change.{Change, IsChange, applied, change_fault}
 use Rattle.dns_changes.specs.Entry.{HasEntry, entry}
 use Rattle.dns_sectors.specs.Device.{Content}
 use Rattle.dns_layout.specs.Sector.{sector_at}
-use Rattle.dns_layout.specs.Forms.{SaysRoot, bank_number}
+use Rattle.dns_layout.specs.Own.{IsIntactIn}
+use Rattle.dns_layout.specs.Forms.{SaysRootIn, bank_number}
+use Rattle.dns_layout.specs.declared.format.Format.{Format}
+use Rattle.dns_layout.specs.declared.format.Format.TheVariants.{Two}
 use Rattle.dns_layout.specs.declared.root.Root.{Root}
-use Rattle.dns_journal.specs.Reads.{Finds, IsRefusal}
+use Rattle.dns_journal.specs.Reads.{Finds, IsRefusal, IsSpoilt, AreIntact, IsReached as IsReachedAt}
 use Rattle.dns_journal.specs.declared.read.Cursor.{Cursor}
 use Rattle.dns_journal.specs.declared.read.ReadError.{ReadError}
 use Rattle.dns_store.specs.declared.root.OpenError.{OpenError}
 use Rattle.dns_store.specs.declared.root.OpenError.TheVariants.{Device, Blank, Damaged, Geometry, OutOfMemory}
 use Rattle.dns_store.specs.Versions.{Shape}
-use Rattle.dns_store.specs.Root.{IsSound}
-use Rattle.dns_store.specs.Snapshot.{HoldsSnapshot, IsBadSnapshot, IsNoSnapshot}
+use Rattle.dns_store.specs.Opens.{sizes_of}
+use Rattle.dns_store.specs.Root.{IsSoundIn, IsFoundRootIn}
+use Rattle.dns_store.specs.Snapshot.{parts_in, HoldsSnapshotIn, IsBadSnapshotIn, IsNoSnapshot, IsReachedPartIn}
+
+-- This sector is named; or the device failed, or memory was refused.
+abbrev pub NamesSector : ℕ → OpenError → Type 0
+NamesSector place e = (e ≡ Device) ⊎ (e ≡ OutOfMemory) ⊎ (e ≡ Damaged place)
+
+-- A sector is named, from a place on and before another, that is neither zeros nor its own.
+abbrev pub NamesSpoiltIn : Format → Content → ℕ → ℕ → OpenError → Type 0
+NamesSpoiltIn f d from until Device = ⊥
+NamesSpoiltIn f d from until Blank = ⊥
+NamesSpoiltIn f d from until (Damaged place) = IsSpoilt f d from until place
+NamesSpoiltIn f d from until Geometry = ⊥
+NamesSpoiltIn f d from until OutOfMemory = ⊥
+
+-- The sector is neither zeros nor its own, and isn't the one that stood there before.
+pub record IsAlteredAt (f : Format) (before now : Content) (place : ℕ) : Type 0 where
+  pub spoilt : IsIntactIn f place (sector_at now place) → ⊥
+  pub other : sector_at now place ≢ sector_at before place
+
+-- Such a sector is named.
+abbrev pub NamesAlteredIn : Format → Content → Content → OpenError → Type 0
+NamesAlteredIn f before now Device = ⊥
+NamesAlteredIn f before now Blank = ⊥
+NamesAlteredIn f before now (Damaged place) = IsAlteredAt f before now place
+NamesAlteredIn f before now Geometry = ⊥
+NamesAlteredIn f before now OutOfMemory = ⊥
+
+abbrev pub NamesAltered : Content → Content → OpenError → Type 0
+NamesAltered before now e = NamesAlteredIn Two before now e
 
 -- A change that was read, the version that it makes, and the cursor behind its entry.
 pub record Step : Type 0 where
@@ -25,17 +58,19 @@ pub record Step : Type 0 where
   pub after : List Record
   pub behind : Cursor
 
--- The entry at the cursor holds the change, which makes a valid zone of the version before.
-pub record IsStepAt (apex : Labels) (c : Content) (at : Cursor) (before : List Record) (s : Step) : Type 0 where
-  pub found : Finds at s.behind c (entry s.change)
+-- The entry at the cursor holds the change, which can be made of the version before and makes a valid zone of it.
+pub record IsStepAtIn (f : Format) (apex : Labels) (c : Content) (at : Cursor) (before : List Record) (s : Step) : Type 0 where
+  pub found : Finds f at s.behind c (entry s.change)
   pub written : HasEntry s.change
+  pub fits : change_fault s.change before ≡ None
   pub makes : applied s.change before ≡ s.after
   pub valid : IsZone (record { apex = apex; records = s.after })
 
 -- Such entries stand one behind the other, up to that cursor and that version.
-abbrev pub AreSteps : Labels → Content → Cursor → List Record → List Step → Cursor → List Record → Type 0
-AreSteps apex c from base [] at newest = (at ≡ from) × (newest ≡ base)
-AreSteps apex c from base (s ∷ steps) at newest = IsStepAt apex c from base s × AreSteps apex c s.behind s.after steps at newest
+abbrev pub AreStepsIn : Format → Labels → Content → Cursor → List Record → List Step → Cursor → List Record → Type 0
+AreStepsIn f apex c from base [] at newest = (at ≡ from) × (newest ≡ base)
+AreStepsIn f apex c from base (s ∷ steps) at newest =
+    IsStepAtIn f apex c from base s × AreStepsIn f apex c s.behind s.after steps at newest
 
 -- The octets are the entry of no change to a valid zone.
 abbrev pub IsNoStep : Labels → List Record → List ℕ → Type 0
@@ -48,66 +83,111 @@ IsNoStep apex before octets =
     → ⊥
 
 -- The head at the cursor is named: its entry is that of no change to a valid zone.
-pub record IsNoStepAt (apex : Labels) (c : Content) (at : Cursor) (before : List Record) (place : ℕ) : Type 0 where
+pub record IsNoStepAtIn (f : Format) (apex : Labels) (c : Content) (at : Cursor) (before : List Record) (place : ℕ) : Type 0 where
   pub place_is : place ≡ at.at
   pub octets : List ℕ
   pub behind : Cursor
-  pub found : Finds at behind c octets
+  pub found : Finds f at behind c octets
   pub none : IsNoStep apex before octets
 
 -- Behind some entries that are right, the sector belongs to one that is wrong: a body, or the head of no such change.
-pub record IsWrongEntry (apex : Labels) (base : List Record) (from : Cursor) (c : Content) (place : ℕ) : Type 0 where
+pub record IsWrongEntryIn (f : Format) (apex : Labels) (base : List Record) (from : Cursor) (c : Content) (place : ℕ) : Type 0 where
   pub steps : List Step
   pub at : Cursor
   pub newest : List Record
-  pub read : AreSteps apex c from base steps at newest
-  pub wrong : IsRefusal at c (ReadError.Damaged place) ⊎ IsNoStepAt apex c at newest place
+  pub read : AreStepsIn f apex c from base steps at newest
+  pub wrong : IsRefusal f at c (ReadError.Damaged place) ⊎ IsNoStepAtIn f apex c at newest place
 
-abbrev pub NamesWrongEntry : Labels → List Record → Cursor → Content → OpenError → Type 0
-NamesWrongEntry apex base from c Device = Unit {0}
-NamesWrongEntry apex base from c Blank = Unit {0}
-NamesWrongEntry apex base from c (Damaged place) = IsWrongEntry apex base from c place
-NamesWrongEntry apex base from c Geometry = Unit {0}
-NamesWrongEntry apex base from c OutOfMemory = Unit {0}
+abbrev pub NamesWrongEntryIn : Format → Labels → List Record → Cursor → Content → OpenError → Type 0
+NamesWrongEntryIn f apex base from c Device = Unit {0}
+NamesWrongEntryIn f apex base from c Blank = Unit {0}
+NamesWrongEntryIn f apex base from c (Damaged place) = IsWrongEntryIn f apex base from c place
+NamesWrongEntryIn f apex base from c Geometry = Unit {0}
+NamesWrongEntryIn f apex base from c OutOfMemory = Unit {0}
 
--- where the bank begins that this root names, and where its journal is read from
+-- where the bank begins that this root names, where it ends, and where its journal is read from
 abbrev pub bank_at : Shape → Root → ℕ
 bank_at s r = 1 + bank_number r.bank * (s.snapshot + s.journal)
+
+abbrev pub bank_until : Shape → Root → ℕ
+bank_until s r = bank_at s r + s.snapshot + s.journal
 
 abbrev pub journal_from : Shape → Root → Cursor
 journal_from s r = record {
   at = bank_at s r + s.snapshot;
-  until = bank_at s r + s.snapshot + s.journal;
+  until = bank_until s r;
   version = r.base;
   opened = r.bank_open;
 }
 
 -- The snapshot's first sector is named: its octets are those of no zone.
-pub record IsNoZoneAt (s : Shape) (x : List ℕ) (r : Root) (c : Content) (place : ℕ) : Type 0 where
+pub record IsNoZoneAtIn (f : Format) (s : Shape) (x : List ℕ) (r : Root) (c : Content) (place : ℕ) : Type 0 where
   pub place_is : place ≡ bank_at s r
   pub octets : List ℕ
-  pub holds : HoldsSnapshot x (bank_at s r) c octets
+  pub holds : HoldsSnapshotIn f x (bank_at s r) c octets
   pub none : IsNoSnapshot s.apex octets
 
 -- The snapshot is a zone's, and the sector is wrong in the journal behind it.
-pub record IsWrongBehind (s : Shape) (x : List ℕ) (r : Root) (c : Content) (place : ℕ) : Type 0 where
+pub record IsWrongBehindIn (f : Format) (s : Shape) (x : List ℕ) (r : Root) (c : Content) (place : ℕ) : Type 0 where
   pub base : List Record
-  pub holds : HoldsSnapshot x (bank_at s r) c (flat_map plain base)
+  pub holds : HoldsSnapshotIn f x (bank_at s r) c (flat_map plain base)
   pub valid : IsZone (record { apex = s.apex; records = base })
-  pub wrong : IsWrongEntry s.apex base (journal_from s r) c place
+  pub wrong : IsWrongEntryIn f s.apex base (journal_from s r) c place
 
--- The sector is wrong in the bank that the root x names.
-abbrev pub IsWrongIn : Shape → List ℕ → Root → Content → ℕ → Type 0
-IsWrongIn s x r c place =
-    IsBadSnapshot x (bank_at s r) c (ReadError.Damaged place) ⊎ IsNoZoneAt s x r c place ⊎ IsWrongBehind s x r c place
+-- The sector is wrong in the bank that the root x names: it is neither zeros nor its own, or not what is due there.
+abbrev pub IsWrongBankIn : Format → Shape → List ℕ → Root → Content → ℕ → Type 0
+IsWrongBankIn f s x r c place =
+    IsSpoilt f c (bank_at s r) (bank_until s r) place
+    ⊎ IsBadSnapshotIn f x (bank_at s r) c (ReadError.Damaged place)
+    ⊎ IsNoZoneAtIn f s x r c place
+    ⊎ IsWrongBehindIn f s x r c place
 
 -- Damaged names the sector that is wrong: the first, which is no root that can be opened once more, or one of the bank that it
 -- names.
+abbrev pub NamesWrongIn : Format → Shape → Content → OpenError → Type 0
+NamesWrongIn f s c Device = Unit {0}
+NamesWrongIn f s c Blank = Unit {0}
+NamesWrongIn f s c (Damaged place) =
+    ((place ≡ 0) × (IsSoundIn f (sector_at c 0) → ⊥))
+    ⊎ ((r : Root) × SaysRootIn f (sector_at c 0) r × IsWrongBankIn f s (sector_at c 0) r c place)
+NamesWrongIn f s c Geometry = Unit {0}
+NamesWrongIn f s c OutOfMemory = Unit {0}
+
 abbrev pub NamesWrong : Shape → Content → OpenError → Type 0
-NamesWrong s c Device = Unit {0}
-NamesWrong s c Blank = Unit {0}
-NamesWrong s c (Damaged place) =
-    ((place ≡ 0) × (IsSound (sector_at c 0) → ⊥))
-    ⊎ ((r : Root) × SaysRoot (sector_at c 0) r × IsWrongIn s (sector_at c 0) r c place)
-NamesWrong s c Geometry = Unit {0}
-NamesWrong s c OutOfMemory = Unit {0}
+NamesWrong s c e = NamesWrongIn Two s c e
+
+-- Behind entries that are right, of which each sector is intact, reading reaches the sector: where the next head is due, or a body
+-- that the head there announces.
+pub record IsReachedEntryIn (f : Format) (apex : Labels) (base : List Record) (from : Cursor) (c : Content) (place : ℕ)
+    : Type 0 where
+  pub steps : List Step
+  pub at : Cursor
+  pub newest : List Record
+  pub read : AreStepsIn f apex c from base steps at newest
+  pub own : (q : ℕ) → from.at ≤ q → q < at.at → IsIntactIn f q (sector_at c q)
+  pub due : at.at < at.until
+  pub reached : IsReachedAt f at c place
+
+-- The snapshot is a zone's and each of its sectors is intact, and the sector is reached in the journal behind it.
+pub record IsReachedBehindIn (f : Format) (s : Shape) (x : List ℕ) (r : Root) (c : Content) (place : ℕ) : Type 0 where
+  pub base : List Record
+  pub holds : HoldsSnapshotIn f x (bank_at s r) c (flat_map plain base)
+  pub own : AreIntact f c (bank_at s r) (parts_in f x)
+  pub valid : IsZone (record { apex = s.apex; records = base })
+  pub reached : IsReachedEntryIn f s.apex base (journal_from s r) c place
+
+-- Reading reaches the sector in the bank that the root x names: it is a part of the snapshot, or of the journal behind that.
+abbrev pub IsReachedBankIn : Format → Shape → List ℕ → Root → Content → ℕ → Type 0
+IsReachedBankIn f s x r c place =
+    ((index : ℕ) × (place ≡ bank_at s r + index) × IsReachedPartIn f x (bank_at s r) c index)
+    ⊎ IsReachedBehindIn f s x r c place
+
+-- Reading a store of this shape reaches the sector: it is the first; or, behind the root of such a store, one of the bank that the
+-- root names.
+abbrev pub IsReachedIn : Format → Shape → Content → ℕ → Type 0
+IsReachedIn f s c place =
+    ((place ≡ 0) × (0 < length c))
+    ⊎ ((r : Root) × IsFoundRootIn f (sizes_of s) (length c) (sector_at c 0) r × IsReachedBankIn f s (sector_at c 0) r c place)
+
+abbrev pub IsReached : Shape → Content → ℕ → Type 0
+IsReached s c place = IsReachedIn Two s c place

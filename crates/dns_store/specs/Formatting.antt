@@ -6,7 +6,8 @@ use Rattle.dns_sectors.specs.declared.device.Sectors.{Ghosts}
 use Rattle.dns_layout.specs.Sector.{sector_at, blank, snapshot_sectors}
 use Rattle.dns_layout.specs.Forms.{SaysPart, SaysRoot}
 use Rattle.dns_layout.specs.declared.root.Root.{Root}
-use Rattle.dns_journal.specs.Bank.{part_of}
+use Rattle.dns_layout.specs.Own.{Own}
+use Rattle.dns_journal.specs.Bank.{piece, part_of, Holds}
 use Rattle.dns_store.specs.Versions.{Shape, Opened}
 use Rattle.dns_store.specs.Opens.{opens}
 
@@ -18,9 +19,15 @@ pub record IsGeometry (snapshot journal count : ℕ) : Type 0 where
   pub entries : journal ≤ 65536
   pub size : count ≡ 1 + 2 * (snapshot + journal)
 
+-- The part of a new store's snapshot with this index, its own sector there.
+pub record IsNewPart (octets : List ℕ) (index : ℕ) (x : List ℕ) : Type 0 where
+  pub says : SaysPart x (part_of 0 0 index)
+  pub holds : Holds x (piece octets index)
+  pub own : Own (index + 1) x
+
 -- The sector that stands at this index behind the root of a new store: a part of the snapshot, or zeros behind the last.
 pub record IsLaid (octets : List ℕ) (index : ℕ) (x : List ℕ) : Type 0 where
-  pub part : index < snapshot_sectors (length octets) → SaysPart x (part_of 0 0 octets index)
+  pub part : index < snapshot_sectors (length octets) → IsNewPart octets index x
   pub none : snapshot_sectors (length octets) ≤ index → x ≡ blank
 
 -- ... at each place behind the root, up to that one
@@ -35,6 +42,7 @@ HasBlankRoot c = sector_at c 0 ≡ blank
 pub record IsMade (root : Root) (octets : List ℕ) (count : ℕ) (c : Content) : Type 0 where
   pub size : length c ≡ count
   pub says : SaysRoot (sector_at c 0) root
+  pub own : Own 0 (sector_at c 0)
   pub laid : IsLaidTo octets count c
 
 -- what a new store opens as: its first version, whose number is 0

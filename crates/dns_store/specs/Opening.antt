@@ -1,19 +1,21 @@
 -- What opening a store finds, and what it leaves of the device.
-use Rattle.std.specs.Prelude.{◌≡◌, ◌⊎◌, ◌≤◌, ◌-◌, ◌^◌, ℕ, List, drop}
+use Rattle.std.specs.Prelude.{◌≡◌, ◌⊎◌, ◌≤◌, ◌-◌, ◌^◌, ℕ, List, drop, length}
 use Rattle.dns_records.specs.Record.{Record}
 use Rattle.dns_changes.specs.Change.{Change}
 use Rattle.dns_sectors.specs.Device.{Content}
 use Rattle.dns_layout.specs.Sector.{sector_at, open_count, number}
-use Rattle.dns_layout.specs.Forms.{SaysRoot}
+use Rattle.dns_layout.specs.Forms.{SaysRootIn}
 use Rattle.dns_layout.specs.Journal.{place_behind}
 use Rattle.dns_layout.specs.Store.{Shape as Sizes, Stored, journal_place, bank_end, version_of}
+use Rattle.dns_layout.specs.declared.format.Format.{Format}
+use Rattle.dns_layout.specs.declared.format.Format.TheVariants.{Two}
 use Rattle.dns_layout.specs.declared.root.Root.{Root}
 use Rattle.dns_journal.specs.declared.read.Cursor.{Cursor}
 use Rattle.dns_store.specs.declared.root.OpenError.{OpenError}
 use Rattle.dns_store.specs.declared.root.OpenError.TheVariants.{Device, Damaged, OutOfMemory}
 use Rattle.dns_store.specs.Versions.{Shape, Kept, Opened, newest_after}
 use Rattle.dns_sectors.specs.declared.device.Sectors.{Ghosts}
-use Rattle.dns_journal.specs.State.{device_of}
+use Rattle.dns_journal.specs.State.{device_of, newest_of}
 use Rattle.dns_zone.specs.Zone.{Zone}
 use Rattle.dns_store.specs.declared.kept_store.KeptStore.{KeptStore}
 use Rattle.dns_store.specs.Opens.{base_of, fresh, opens}
@@ -26,16 +28,19 @@ pub record IsInRange (snapshot journal : ℕ) : Type 0 where
   pub entries : journal ≤ 65536
 
 -- What was read is what is stored.
-pub record IsRead (sizes : Sizes) (c : Content) (o : Opened) (s : Stored) (root : Root) (end : Cursor) (base : List Record)
-    (changes : List Change) (newest : List Record)
+pub record IsReadIn (f : Format) (sizes : Sizes) (c : Content) (o : Opened) (s : Stored) (root : Root) (end : Cursor)
+    (base : List Record) (changes : List Change) (newest : List Record)
     : Type 0 where
-  pub says : SaysRoot (sector_at c 0) root
+  pub says : SaysRootIn f (sector_at c 0) root
   pub until_is : end.until ≡ bank_end sizes (number (sector_at c 0))
   pub at_is : end.at ≡ place_behind (journal_place sizes (number (sector_at c 0))) s.entries
   pub version_is : end.version ≡ version_of s
   pub base_is : base ≡ base_of o
   pub led : AreLed (base_of o) (drop o.base o.versions) changes
   pub newest_is : newest ≡ newest_after o.loaded o.versions
+
+abbrev pub IsRead : Sizes → Content → Opened → Stored → Root → Cursor → List Record → List Change → List Record → Type 0
+IsRead sizes c o s root end base changes newest = IsReadIn Two sizes c o s root end base changes newest
 
 -- Why a store that is there is not opened: the device failed, memory was refused, or it was opened too often.
 abbrev pub IsStopped : Content → OpenError → Type 0
@@ -68,3 +73,12 @@ pub record IsTaken {D I : Type 0} {g : Ghosts D} (shape : Shape) (o : Opened) (s
 abbrev pub TakesPossible : {D I : Type 0} {g : Ghosts D} → Shape → D → KeptStore D I g → Zone → Type 0
 TakesPossible {g} shape device store newest =
     (d : Content) × g.may_leave device d × ((o : Opened) → opens shape o d → IsTaken shape o store newest)
+
+-- The answer is that for what opens as these versions: the newest one and its number, the base, and the changes from there.
+pub record AnswersAs {D I : Type 0} {g : Ghosts D} (shape : Shape) (o : Opened) (store : KeptStore D I g)
+    (newest : Zone)
+    : Type 0 where
+  pub newest_is : newest ≡ record { apex = shape.apex; records = newest_after o.loaded o.versions }
+  pub number_is : newest_of store.journal ≡ length o.versions
+  pub base_is : store.base ≡ record { apex = shape.apex; records = base_of o }
+  pub led : AreLed (base_of o) (drop o.base o.versions) store.changes.items

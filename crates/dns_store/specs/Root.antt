@@ -1,48 +1,58 @@
--- What stands in a device's first sector.
+-- What stands in a device's first sector. Words without a format are of format 2, or of both.
 use Rattle.std.specs.Prelude.{◌≡◌, ◌≢◌, ◌⊎◌, ◌≤◌, ◌<◌, ◌-◌, ◌^◌, ℕ, List}
 use Rattle.dns_layout.specs.Apex.{IsPlain, apex_octets}
-use Rattle.dns_layout.specs.Sector.{blank, tag, open_count, number, snapshot_length, snapshot_room, apex_field}
-use Rattle.dns_layout.specs.Sector.{snapshot_sectors, root_tag}
-use Rattle.dns_layout.specs.Forms.{SaysRoot}
-use Rattle.dns_layout.specs.Store.{Shape, IsRoot, all_sectors}
+use Rattle.dns_layout.specs.Sector.{blank, tag, open_count, number, snapshot_length, snapshot_room, clear_in, apex_field_in}
+use Rattle.dns_layout.specs.Sector.{snapshot_sectors_in, root_tag_in}
+use Rattle.dns_layout.specs.Own.{IsIntactIn}
+use Rattle.dns_layout.specs.Forms.{SaysRootIn}
+use Rattle.dns_layout.specs.Store.{Shape, IsRootIn, all_sectors}
+use Rattle.dns_layout.specs.declared.format.Format.{Format}
+use Rattle.dns_layout.specs.declared.format.Format.TheVariants.{Two}
 use Rattle.dns_layout.specs.declared.root.Root.{Root}
 use Rattle.dns_journal.specs.declared.read.ReadError.{ReadError}
 use Rattle.dns_store.specs.declared.root.OpenError.{OpenError}
 use Rattle.dns_store.specs.declared.root.OpenError.TheVariants.{Device, Blank, Damaged, Geometry, OutOfMemory}
 
--- A root of some store, that can be opened once more.
-pub record IsSound (x : List ℕ) : Type 0 where
-  pub tagged : tag x ≡ root_tag
+-- A root of some store, that is intact and can be opened once more.
+pub record IsSoundIn (f : Format) (x : List ℕ) : Type 0 where
+  pub own : IsIntactIn f 0 x
+  pub tagged : tag x ≡ root_tag_in f
   pub bank : number x ≤ 1
+  pub clear : clear_in f x ≤ 1
   pub name : List ℕ
   pub plain : IsPlain name
-  pub apex : apex_field x ≡ apex_octets name
-  pub fits : snapshot_sectors (snapshot_length x) ≤ snapshot_room x
+  pub apex : apex_field_in f x ≡ apex_octets name
+  pub fits : snapshot_sectors_in f (snapshot_length x) ≤ snapshot_room x
   pub more : open_count x < 2 ^ 64 - 1
 
--- The root of a store of this shape, on a device of that many sectors.
-pub record IsFoundRoot (s : Shape) (count : ℕ) (x : List ℕ) (r : Root) : Type 0 where
-  pub says : SaysRoot x r
-  pub valid : IsRoot s x
+-- The root of a store of this shape, intact, on a device of that many sectors.
+pub record IsFoundRootIn (f : Format) (s : Shape) (count : ℕ) (x : List ℕ) (r : Root) : Type 0 where
+  pub own : IsIntactIn f 0 x
+  pub says : SaysRootIn f x r
+  pub valid : IsRootIn f s x
   pub more : open_count x < 2 ^ 64 - 1
   pub size : count ≡ all_sectors s
 
 -- Why there is none: it was never written; it is no sound root; or it is the root of another store.
-abbrev pub RootRefusal : Shape → ℕ → List ℕ → OpenError → Type 0
-RootRefusal s count x Device = ⊥
-RootRefusal s count x Blank = x ≡ blank
-RootRefusal s count x (Damaged place) = (place ≡ 0) × (x ≢ blank) × (IsSound x → ⊥)
-RootRefusal s count x Geometry = IsSound x × (IsRoot s x → count ≡ all_sectors s → ⊥)
-RootRefusal s count x OutOfMemory = ⊥
+abbrev pub RootRefusalIn : Format → Shape → ℕ → List ℕ → OpenError → Type 0
+RootRefusalIn f s count x Device = ⊥
+RootRefusalIn f s count x Blank = x ≡ blank
+RootRefusalIn f s count x (Damaged place) = (place ≡ 0) × (x ≢ blank) × (IsSoundIn f x → ⊥)
+RootRefusalIn f s count x Geometry = IsSoundIn f x × (IsRootIn f s x → count ≡ all_sectors s → ⊥)
+RootRefusalIn f s count x OutOfMemory = ⊥
 
 -- Why a device isn't opened as a store of this shape: sizes that no store has, what its first sector is; or another sector isn't
 -- what it should be, behind a root of that shape.
+abbrev pub OpenRefusalIn : Format → Shape → ℕ → List ℕ → OpenError → Type 0
+OpenRefusalIn f s count x Device = Unit {0}
+OpenRefusalIn f s count x Blank = x ≡ blank
+OpenRefusalIn f s count x (Damaged place) = RootRefusalIn f s count x (Damaged place) ⊎ (IsRootIn f s x × (count ≡ all_sectors s))
+OpenRefusalIn f s count x Geometry =
+    (count ≡ 0) ⊎ (65536 < s.snapshot) ⊎ (65536 < s.journal) ⊎ RootRefusalIn f s count x Geometry
+OpenRefusalIn f s count x OutOfMemory = Unit {0}
+
 abbrev pub OpenRefusal : Shape → ℕ → List ℕ → OpenError → Type 0
-OpenRefusal s count x Device = Unit {0}
-OpenRefusal s count x Blank = x ≡ blank
-OpenRefusal s count x (Damaged place) = RootRefusal s count x (Damaged place) ⊎ (IsRoot s x × (count ≡ all_sectors s))
-OpenRefusal s count x Geometry = (count ≡ 0) ⊎ (65536 < s.snapshot) ⊎ (65536 < s.journal) ⊎ RootRefusal s count x Geometry
-OpenRefusal s count x OutOfMemory = Unit {0}
+OpenRefusal s count x e = OpenRefusalIn Two s count x e
 
 -- what is said of a snapshot or a journal
 abbrev pub IsOfBank : OpenError → Type 0

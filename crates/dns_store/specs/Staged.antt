@@ -1,5 +1,5 @@
 -- What a staged version takes of the journal.
-use Rattle.std.proofs.Common.{◌≡◌, ◌+◌, ◌-◌, suc, List, [], ◌∷◌, ◌++◌, length, refl, sym, ◌∙◌, ap}
+use Rattle.std.proofs.Common.{◌≡◌, suc, List, [], ◌∷◌, ◌++◌, length, refl, sym, ◌∙◌, ap}
 use Rattle.dns_records.specs.Record.{Record}
 use Rattle.dns_changes.specs.Change.{Change, IsChange}
 use Rattle.dns_changes.specs.Entry.{entry}

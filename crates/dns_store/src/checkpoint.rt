@@ -14,7 +14,8 @@ ghost use Rattle.dns_store.specs.Opens.{IsClosedBy, opens, keeps as keeps_versio
 ghost use Rattle.dns_store.specs.Checkpoint.{AllZones, IsBaseOf, IsMostKept, IsNextBase, sectors_of_snapshot};
 
 use crate::KeptStore;
-use crate::formatting::{snapshot_len, snapshot_of};
+use crate::formatting::snapshot_of;
+use crate::octets::snapshot_len;
 use dns_changes::{Change, ChangeError};
 use dns_journal::{Journal, TurnError};
 use dns_layout::{entry_sectors, snapshot_sectors};
@@ -247,7 +248,7 @@ fn version_after<I: ZoneIndex>(
 }
 
 // The version that these changes lead to from a base, and its snapshot, which is to have at most so many sectors.
-fn next_base<I: ZoneIndex>(
+pub(crate) fn next_base<I: ZoneIndex>(
     alloc: Heap,
     base: &Zone<I>,
     changes: &[Change],

@@ -3,15 +3,15 @@ ghost use Rattle.std.specs.Prelude.{◌≡◌, ◌⊎◌, ◌≤◌, ◌<◌, �
 ghost use Rattle.std.specs.List.{flat_map};
 ghost use Rattle.dns_records.specs.Record.{plain};
 ghost use Rattle.dns_sectors.specs.Device.{Only, LeavesOnly, CountsFailure};
-ghost use Rattle.dns_layout.specs.Sector.{sector_at, snapshot_sectors as sectors_of_snapshot};
+ghost use Rattle.dns_layout.specs.Sector.{sector_at, open_count, snapshot_sectors as sectors_of_snapshot};
 ghost use Rattle.dns_journal.specs.Reads.{HasRisen};
 ghost use Rattle.dns_store.specs.Opens.{opens};
 ghost use Rattle.dns_store.specs.Formatting.{IsGeometry, IsLaid, IsLaidTo, HasBlankRoot, IsMade, first_of, LeftByFormat};
 ghost use Rattle.dns_store.specs.Formatting.{LeftByMaking};
 
+use crate::octets::snapshot_len;
 use crate::recovery::{MOST_SECTORS, apex_of};
-use dns_changes::plain_len;
-use dns_journal::snapshot_part;
+use dns_journal::snapshot_sector;
 use dns_layout::{Bank, PAYLOAD_ROOM, Root, snapshot_sectors};
 use dns_memory::Heap;
 use dns_sectors::{DeviceError, Sector, SectorWrite, Sectors, write_phase};
@@ -78,6 +78,9 @@ pub fn format<D: Sectors, I: ZoneIndex>(
         (record { apex = zone.now.apex; snapshot = snapshot; journal = journal }) zone.now.records device.old) }
     ensures made { D.is_honest device.old → OnOk result ((c : List (List ℕ)) → D.may_leave device.new c
         → opens (record { apex = zone.now.apex; snapshot = snapshot; journal = journal }) (first_of zone.now.records) c) }
+    // It was never opened.
+    ensures opened { D.is_honest device.old → OnOk result ((c : List (List ℕ)) → D.may_leave device.new c
+        → open_count (sector_at c 0) ≡ 0) }
     ensures geometry { result ≡ Err FormatError.Geometry ↔ (IsGeometry snapshot journal (D.count device.old) → ⊥) }
     ensures too_large { result ≡ Err FormatError.ZoneTooLarge
         ↔ (IsGeometry snapshot journal (D.count device.old)
@@ -102,9 +105,10 @@ pub fn format<D: Sectors, I: ZoneIndex>(
         base: 0,
         bank: Bank::Zero,
         bank_open: 0,
-        snapshot_length: len as u32,
+        snapshot_length: len as u64,
         snapshot_room: snapshot,
         journal_room: journal,
+        is_clear: true,
         apex,
     };
     make(device, &root, &octets)?;
@@ -118,18 +122,6 @@ fn is_geometry(snapshot: u32, journal: u32, count: usize) -> bool
     (1..=MOST_SECTORS).contains(&snapshot)
         && (FEWEST_ENTRIES..=MOST_SECTORS).contains(&journal)
         && count == 1 + 2 * (snapshot as usize + journal as usize)
-}
-
-// How many octets the zone's snapshot has.
-pub(crate) fn snapshot_len<I: ZoneIndex>(zone: &Zone<I>) -> usize
-    requires { length zone.now.records ≤ 65536 }
-    ensures { result ≡ length (flat_map plain zone.now.records) }
-{
-    let mut octets = 0;
-    for record in Records::of(zone.index()) {
-        octets += plain_len(record);
-    }
-    octets
 }
 
 // The zone's snapshot: its records in plain form, in order.
@@ -198,5 +190,5 @@ fn sector_behind(octets: &[u8], index: u32) -> Sector
     if from >= octets.len() {
         return [0; 512];
     }
-    snapshot_part(0, 0, octets, index).encode()
+    snapshot_sector(index as usize + 1, 0, 0, octets, index)
 }

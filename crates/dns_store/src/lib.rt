@@ -2,8 +2,13 @@
 #![tactic(auto)]
 
 mod checkpoint;
+mod choosing;
+mod device_format;
 mod formatting;
 mod kept_store;
+mod migrating;
+mod octets;
+mod raise;
 mod records;
 mod recovery;
 mod root;
@@ -13,9 +18,12 @@ mod versions;
 mod zone_store;
 
 pub use checkpoint::CheckpointError;
+pub use device_format::{DeviceFormat, format_of};
 pub use dns_journal::{FlushError, StageError};
 pub use formatting::{FEWEST_ENTRIES, FormatError, format};
 pub use kept_store::KeptStore;
+pub use migrating::{MigrateError, Migration, migrate};
+pub use octets::{octets_after, snapshot_len};
 pub use recovery::{MOST_SECTORS, open};
 pub use root::OpenError;
 pub use zone_store::ZoneStore;

@@ -1,18 +1,15 @@
-//! The first sector of a device: read when a store is opened, and written again with its open count raised.
-ghost use Rattle.std.specs.Prelude.{◌≡◌, ◌≤◌, ◌<◌, ◌+◌, ◌-◌, ◌*◌, ◌^◌, ◌⊎◌, ◌↔◌, List, ℕ, length, IsTrue, IfOk, IfErr, OnOk};
-ghost use Rattle.dns_sectors.specs.Device.{Only, LeavesOnly, CountsFailure};
+//! The first sector of a device, read when a store is opened.
+ghost use Rattle.std.specs.Prelude.{◌≡◌, ◌≤◌, ◌<◌, ◌+◌, ◌-◌, ◌*◌, ◌^◌, ◌⊎◌, ◌↔◌, List, ℕ, IsTrue, IfOk, IfErr, MatchResult};
 ghost use Rattle.dns_layout.specs.Apex.{apex_octets};
-ghost use Rattle.dns_layout.specs.Sector.{sector_at, open_count, bank_open, snapshot_sectors as sectors_of_snapshot};
-ghost use Rattle.dns_layout.specs.Forms.{SaysRoot};
-ghost use Rattle.dns_layout.specs.Journal.{AllBehind};
-ghost use Rattle.dns_layout.specs.Store.{Shape, Stored, IsRoot, OpensBy, IsTidy, all_sectors};
+ghost use Rattle.dns_layout.specs.Sector.{sector_at, snapshot_sectors_in as sectors_of_snapshot_in};
+ghost use Rattle.dns_layout.specs.Own.{IsIntactIn, IsAltered};
 ghost use Rattle.dns_journal.specs.Reads.{OnlyReads, HasRisen};
-ghost use Rattle.dns_store.specs.Root.{IsFoundRoot, RootRefusal};
-ghost use Rattle.dns_store.specs.Turn.{IsRaised, StaysStored};
+ghost use Rattle.dns_store.specs.Root.{IsFoundRootIn, RootRefusalIn};
+ghost use Rattle.dns_store.specs.Damage.{NamesSector, NamesSpoiltIn};
 
 use dns_journal::{ReadError, read_sector};
-use dns_layout::{Apex, Root, snapshot_sectors};
-use dns_sectors::{DeviceError, Sector, SectorWrite, Sectors, write_phase};
+use dns_layout::{Apex, Format, Root, snapshot_sectors_in};
+use dns_sectors::{DeviceError, Sector, Sectors};
 use std::alloc::AllocError;
 use thiserror::Error;
 
@@ -70,29 +67,35 @@ impl From<ReadError> for OpenError {
     }
 }
 
-// The root of the store of this zone and these sizes.
+// The root of the store of this zone and these sizes. What it finds and what it refuses is said of each content of which the
+// device's is an altered one.
 pub(crate) fn read_root<D: Sectors>(
     device: &mut D,
+    format: Format,
     apex: &Apex,
     snapshot: u32,
     journal: u32,
 ) -> Result<Root, OpenError>
     requires { 0 < D.count device.old }
-    ensures found { D.is_honest device.old → IfOk result (IsFoundRoot
-        (record { snapshot = snapshot; journal = journal; apex = apex.now }) (D.count device.old)
-        (sector_at (D.seen device.old) 0)) }
-    ensures fits { IfOk result (λ root. (sectors_of_snapshot root.snapshot_length ≤ snapshot)
+    ensures found { D.is_honest device.old → (c : List (List ℕ)) → IsAltered format c (D.seen device.old)
+        → IfOk result (IsFoundRootIn format
+        (record { snapshot = snapshot; journal = journal; apex = apex.now }) (D.count device.old) (sector_at c 0)) }
+    ensures fits { IfOk result (λ root. (sectors_of_snapshot_in format root.snapshot_length ≤ snapshot)
         × (D.count device.old ≡ 1 + 2 * (snapshot + journal)) × (root.open_count < 2 ^ 64 - 1)
         × (root.snapshot_room ≡ snapshot) × (root.journal_room ≡ journal)) }
-    ensures refused { D.is_honest device.old → IfErr result
-        (λ e. (e ≡ OpenError.Device) ⊎ RootRefusal (record { snapshot = snapshot; journal = journal; apex = apex.now })
-        (D.count device.old) (sector_at (D.seen device.old) 0) e) }
+    ensures refused { D.is_honest device.old → (c : List (List ℕ)) → IsAltered format c (D.seen device.old)
+        → IfErr result (λ e. (e ≡ OpenError.Device) ⊎ NamesSpoiltIn format (D.seen device.old) 0 1 e
+        ⊎ RootRefusalIn format (record { snapshot = snapshot; journal = journal; apex = apex.now })
+        (D.count device.old) (sector_at c 0) e) }
+    // Of a root that is neither zeros nor its own it says so.
+    ensures not_own { D.is_honest device.old → (IsIntactIn format 0 (sector_at (D.seen device.old) 0) → ⊥)
+        → MatchResult result (λ _. ⊥) (NamesSector 0) }
     ensures device { result ≡ Err OpenError.Device → HasRisen (D.failed device.old) (D.failed device.new) }
     ensures reads { OnlyReads D.Sectors device.old device.new }
 {
     let count = device.len();
-    let sector = read_sector(device, 0)?;
-    match root_of(&sector, apex, snapshot, journal, count) {
+    let sector = read_sector(device, format, 0)?;
+    match root_of(format, &sector, apex, snapshot, journal, count) {
         Ok(root) => Ok(root),
         Err(error) => Err(error),
     }
@@ -100,24 +103,26 @@ pub(crate) fn read_root<D: Sectors>(
 
 // The root that the first of so many sectors is.
 fn root_of(
+    format: Format,
     sector: &Sector,
     apex: &Apex,
     snapshot: u32,
     journal: u32,
     count: usize,
 ) -> Result<Root, OpenError>
-    ensures found { IfOk result
-        (IsFoundRoot (record { snapshot = snapshot; journal = journal; apex = apex.now }) count sector.now) }
-    ensures refused { IfErr result (RootRefusal (record { snapshot = snapshot; journal = journal; apex = apex.now }) count
-        sector.now) }
+    requires { IsIntactIn format 0 sector.now }
+    ensures found { IfOk result (IsFoundRootIn format
+        (record { snapshot = snapshot; journal = journal; apex = apex.now }) count sector.now) }
+    ensures refused { IfErr result (RootRefusalIn format
+        (record { snapshot = snapshot; journal = journal; apex = apex.now }) count sector.now) }
 {
     if *sector == [0; 512] {
         return Err(OpenError::Blank);
     }
-    let Ok(root) = Root::decode(sector) else {
+    let Ok(root) = Root::decode(format, sector) else {
         return Err(OpenError::Damaged(0));
     };
-    if !is_sound(&root) {
+    if !is_sound(format, &root) {
         return Err(OpenError::Damaged(0));
     }
     if count != 1 + 2 * (snapshot as usize + journal as usize) {
@@ -130,11 +135,12 @@ fn root_of(
 }
 
 // The snapshot fits, and the store can be opened once more.
-fn is_sound(root: &Root) -> bool
-    ensures { IsTrue result ↔ ((sectors_of_snapshot root.now.snapshot_length ≤ root.now.snapshot_room)
+fn is_sound(format: Format, root: &Root) -> bool
+    ensures { IsTrue result
+        ↔ ((sectors_of_snapshot_in format root.now.snapshot_length ≤ root.now.snapshot_room)
         × (root.now.open_count < 2 ^ 64 - 1)) }
 {
-    let sectors = snapshot_sectors(root.snapshot_length as usize);
+    let sectors = snapshot_sectors_in(format, root.snapshot_length as usize);
     sectors <= root.snapshot_room as usize && root.open_count < u64::MAX
 }
 
@@ -144,30 +150,4 @@ fn is_of_shape(root: &Root, apex: &Apex, snapshot: u32, journal: u32) -> bool
         × (apex_octets root.now.apex ≡ apex_octets apex.now)) }
 {
     root.snapshot_room == snapshot && root.journal_room == journal && root.apex.is(apex)
-}
-
-// Writes the root again with its open count raised by one. A crash leaves one of two roots, and the same is stored.
-pub(crate) fn raise_root<D: Sectors>(device: &mut D, root: &mut Root) -> Result<(), DeviceError>
-    requires count { 0 < D.count device.old }
-    requires more { root.old.open_count < 2 ^ 64 - 1 }
-    ensures any_moment { D.is_honest device.old → Only (D.seen device.old) (D.may_leave device.old)
-        → LeavesOnly D.moment D.left_since device.old device.new (StaysStored (D.seen device.old) root.old) }
-    ensures raised { (s : Shape) (k : Stored) (x : List ℕ) (parts : List (List ℕ)) → D.is_honest device.old
-        → Only (D.seen device.old) (D.may_leave device.old)
-        → OpensBy s (D.seen device.old) x parts k → IsTidy (D.seen device.old) → SaysRoot x root.old
-        → OnOk result ((y : List ℕ) × SaysRoot y root.new × IsRaised x y × OpensBy s (D.seen device.new) y parts k
-        × (bank_open y ≤ open_count y) × ((version : ℕ) → AllBehind (open_count y) version (D.seen device.new))) }
-    ensures durable { D.is_honest device.old → OnOk result (Only (D.seen device.new) (D.may_leave device.new)) }
-    ensures root { root.new ≡ record root.old { open_count = root.old.open_count + 1 } }
-    ensures failed { CountsFailure result (D.failed device.old) (D.failed device.new) }
-    ensures honest { D.is_honest device.new ↔ D.is_honest device.old }
-    ensures count { D.count device.new ≡ D.count device.old }
-{
-    root.open_count += 1;
-    let write = SectorWrite {
-        at: 0,
-        octets: root.encode(),
-    };
-    write_phase(device, &[write])?;
-    Ok(())
 }

@@ -1,40 +1,51 @@
 //! The snapshot that a root names, read from its sectors.
 ghost use Rattle.std.specs.Prelude.{◌≡◌, ◌⊎◌, ◌≤◌, ◌<◌, ◌+◌, ◌-◌, ◌*◌, ◌++◌, ◌^◌, ◌↔◌, List, ℕ, length, drop, IsTrue, IfOk, IfErr};
-ghost use Rattle.std.specs.Prelude.{OnOk, IfSome, MatchOption};
+ghost use Rattle.std.specs.Prelude.{OnOk, MatchResult};
 ghost use Rattle.std.specs.List.{flat_map};
-ghost use Rattle.dns_layout.specs.Sector.{AreZeros, payload, snapshot_length, snapshot_sectors as sectors_of_snapshot};
-ghost use Rattle.dns_layout.specs.Sector.{payload_room};
-ghost use Rattle.dns_layout.specs.Forms.{SaysRoot};
-ghost use Rattle.dns_layout.specs.Store.{IsPart, AreParts};
-ghost use Rattle.dns_journal.specs.Reads.{OnlyReads, HasRisen, sectors_from};
-ghost use Rattle.dns_store.specs.Snapshot.{HoldsSnapshot, IsBadPart, IsBadSnapshot};
+ghost use Rattle.dns_layout.specs.Sector.{AreZeros, sector_at, payload_in, payload_room_in};
+ghost use Rattle.dns_layout.specs.Sector.{snapshot_sectors_in as sectors_of_snapshot_in};
+ghost use Rattle.dns_layout.specs.Own.{IsIntactIn, IsAltered};
+ghost use Rattle.dns_layout.specs.Forms.{SaysRootIn};
+ghost use Rattle.dns_layout.specs.Store.{IsPartIn, ArePartsIn};
+ghost use Rattle.dns_journal.specs.Reads.{OnlyReads, HasRisen, NamesSpoilt, IsThat, sectors_from};
+ghost use Rattle.dns_store.specs.Snapshot.{HoldsSnapshotIn, IsBadPartIn, IsBadSnapshotIn, IsReachedPartIn};
 
 use dns_journal::{ReadError, read_sector};
-use dns_layout::{Payload, Root, SnapshotPart, are_zeros, snapshot_sectors};
+use dns_layout::{Format, Root, SnapshotPart, are_zeros, payload, snapshot_sectors_in};
 use dns_memory::Heap;
 use dns_sectors::{Sector, Sectors};
 
-// The octets of the snapshot that the root names, which stands from this place on.
+// The octets of the snapshot that the root names, which stands from this place on. What it finds and what it refuses is said
+// of each content of which the device's is an altered one.
 pub(crate) fn read_snapshot<D: Sectors>(
     alloc: Heap,
     device: &mut D,
+    format: Format,
     at: usize,
     root: &Root,
 ) -> Result<Vec<u8, Heap>, ReadError>
-    requires within { at + sectors_of_snapshot root.now.snapshot_length ≤ D.count device.old }
-    requires fits { at + sectors_of_snapshot root.now.snapshot_length < 2 ^ 64 }
-    ensures found { D.is_honest device.old → (x : List ℕ) → SaysRoot x root.now
-        → IfOk result (λ octets. HoldsSnapshot x at (D.seen device.old) octets.items) }
-    ensures damaged { D.is_honest device.old → (x : List ℕ) → SaysRoot x root.now
-        → IfErr result (λ e. IsBadSnapshot x at (D.seen device.old) e) }
+    requires within { at + sectors_of_snapshot_in format root.now.snapshot_length ≤ D.count device.old }
+    requires fits { at + sectors_of_snapshot_in format root.now.snapshot_length < 2 ^ 64 }
+    ensures found { D.is_honest device.old → (c : List (List ℕ)) → IsAltered format c (D.seen device.old)
+        → (x : List ℕ) → SaysRootIn format x root.now
+        → IfOk result (λ octets. HoldsSnapshotIn format x at c octets.items) }
+    ensures damaged { D.is_honest device.old → (c : List (List ℕ)) → IsAltered format c (D.seen device.old)
+        → (x : List ℕ) → SaysRootIn format x root.now
+        → IfErr result (λ e. NamesSpoilt format (D.seen device.old) at
+        (at + sectors_of_snapshot_in format root.now.snapshot_length) e ⊎ IsBadSnapshotIn format x at c e) }
+    // Of a part that is reached and is neither zeros nor its own it says so.
+    ensures not_own { D.is_honest device.old → (x : List ℕ) → SaysRootIn format x root.now → (index : ℕ)
+        → IsReachedPartIn format x at (D.seen device.old) index
+        → (IsIntactIn format (at + index) (sector_at (D.seen device.old) (at + index)) → ⊥)
+        → MatchResult result (λ _. ⊥) (IsThat (at + index)) }
     ensures device { result ≡ Err ReadError.Device → HasRisen (D.failed device.old) (D.failed device.new) }
     ensures reads { OnlyReads D.Sectors device.old device.new }
 {
     let mut octets = Vec::new(alloc);
-    read_parts(device, at, root, &mut octets)?;
+    read_parts(device, format, at, root, &mut octets)?;
     let len = root.snapshot_length as usize;
     if !has_end(&octets, len) {
-        return Err(ReadError::Damaged(at + snapshot_sectors(len) - 1));
+        return Err(ReadError::Damaged(at + snapshot_sectors_in(format, len) - 1));
     }
     octets.truncate(len);
     Ok(octets)
@@ -43,49 +54,51 @@ pub(crate) fn read_snapshot<D: Sectors>(
 // Reads the parts of the snapshot that the root names, from this place on, and puts their octets at the end.
 fn read_parts<D: Sectors>(
     device: &mut D,
+    format: Format,
     at: usize,
     root: &Root,
     octets: &mut Vec<u8, Heap>,
 ) -> Result<(), ReadError>
-    requires within { at + sectors_of_snapshot root.now.snapshot_length ≤ D.count device.old }
-    requires fits { at + sectors_of_snapshot root.now.snapshot_length < 2 ^ 64 }
-    ensures parts { D.is_honest device.old → (x : List ℕ) → SaysRoot x root.now
-        → OnOk result (AreParts x 0 (sectors_from (D.seen device.old) at (sectors_of_snapshot root.now.snapshot_length))) }
-    ensures size { OnOk result (length octets.new.items ≡ length octets.old.items + payload_room * sectors_of_snapshot
-        root.now.snapshot_length) }
-    ensures octets { D.is_honest device.old → OnOk result (octets.new.items
-        ≡ octets.old.items ++ flat_map payload (sectors_from (D.seen device.old) at
-        (sectors_of_snapshot root.now.snapshot_length))) }
-    ensures damaged { D.is_honest device.old → (x : List ℕ) → SaysRoot x root.now
-        → IfErr result (λ e. IsBadPart x at (D.seen device.old) e) }
+    requires within { at + sectors_of_snapshot_in format root.now.snapshot_length ≤ D.count device.old }
+    requires fits { at + sectors_of_snapshot_in format root.now.snapshot_length < 2 ^ 64 }
+    ensures parts { D.is_honest device.old → (c : List (List ℕ)) → IsAltered format c (D.seen device.old)
+        → (x : List ℕ) → SaysRootIn format x root.now → OnOk result (ArePartsIn format x 0
+        (sectors_from c at (sectors_of_snapshot_in format root.now.snapshot_length))) }
+    ensures size { OnOk result (length octets.new.items ≡ length octets.old.items + payload_room_in format
+        * sectors_of_snapshot_in format root.now.snapshot_length) }
+    ensures octets { D.is_honest device.old → (c : List (List ℕ)) → IsAltered format c (D.seen device.old)
+        → OnOk result (octets.new.items ≡ octets.old.items ++ flat_map (payload_in format) (sectors_from c at
+        (sectors_of_snapshot_in format root.now.snapshot_length))) }
+    ensures damaged { D.is_honest device.old → (c : List (List ℕ)) → IsAltered format c (D.seen device.old)
+        → (x : List ℕ) → SaysRootIn format x root.now
+        → IfErr result (λ e. NamesSpoilt format (D.seen device.old) at
+        (at + sectors_of_snapshot_in format root.now.snapshot_length) e ⊎ IsBadPartIn format x at c e) }
+    ensures not_own { D.is_honest device.old → (x : List ℕ) → SaysRootIn format x root.now → (index : ℕ)
+        → IsReachedPartIn format x at (D.seen device.old) index
+        → (IsIntactIn format (at + index) (sector_at (D.seen device.old) (at + index)) → ⊥)
+        → MatchResult result (λ _. ⊥) (IsThat (at + index)) }
     ensures device { result ≡ Err ReadError.Device → HasRisen (D.failed device.old) (D.failed device.new) }
     ensures reads { OnlyReads D.Sectors device.old device.new }
 {
-    for i in 0..snapshot_sectors(root.snapshot_length as usize) {
+    for i in 0..snapshot_sectors_in(format, root.snapshot_length as usize) {
         let place = at + i;
-        let sector = read_sector(device, place)?;
-        let Some(payload) = part_octets(root, i, &sector) else {
+        let sector = read_sector(device, format, place)?;
+        if !is_part(format, root, i, &sector) {
             return Err(ReadError::Damaged(place));
-        };
-        octets.extend_from_slice(&payload)?;
+        }
+        octets.extend_from_slice(payload(format, &sector))?;
     }
     Ok(())
 }
 
-// What the sector holds, where it is this part of the snapshot that the root names.
-fn part_octets(root: &Root, index: usize, sector: &Sector) -> Option<Payload>
-    ensures part { (x : List ℕ) → SaysRoot x root.now → MatchOption result (IsPart x index sector.now → ⊥)
-        (λ octets. IsPart x index sector.now × (octets ≡ payload sector.now)) }
-    ensures octets { IfSome result (λ octets. octets ≡ payload sector.now) }
+// Whether the sector is this part of the snapshot that the root names.
+fn is_part(format: Format, root: &Root, index: usize, sector: &Sector) -> bool
+    ensures { (x : List ℕ) → SaysRootIn format x root.now → IsTrue result ↔ IsPartIn format x index sector.now }
 {
-    let Ok(part) = SnapshotPart::decode(sector) else {
-        return None;
+    let Ok(part) = SnapshotPart::decode(format, sector) else {
+        return false;
     };
-    if part.bank_open == root.bank_open && part.base == root.base && part.index as usize == index {
-        Some(part.octets)
-    } else {
-        None
-    }
+    part.bank_open == root.bank_open && part.base == root.base && part.index as usize == index
 }
 
 // Nothing but zeros from a place on.

@@ -1,22 +1,25 @@
 //! The versions behind the base, read from the journal.
-ghost use Rattle.std.specs.Prelude.{◌≡◌, ◌⊎◌, ◌≤◌, ◌<◌, List, true, IfOk, IfErr, MatchResult};
+ghost use Rattle.std.specs.Prelude.{◌≡◌, ◌⊎◌, ◌≤◌, ◌<◌, List, ℕ, None, true, IfOk, IfErr, MatchResult};
 ghost use Rattle.std.specs.List.{AllByRecursion, flat_map};
 ghost use Rattle.dns_records.specs.Record.{Record as Stated};
 ghost use Rattle.dns_zone.specs.Zone.{Zone as StatedZone, IsZone};
+ghost use Rattle.dns_layout.specs.Sector.{sector_at};
+ghost use Rattle.dns_layout.specs.Own.{IsIntactIn, IsAltered};
 ghost use Rattle.dns_layout.specs.Journal.{Entry};
-ghost use Rattle.dns_changes.specs.Change.{Change as StatedChange, IsChange, applied};
+ghost use Rattle.dns_changes.specs.Change.{Change as StatedChange, IsChange, applied, change_fault};
 ghost use Rattle.dns_changes.specs.Entry.{HasEntry, entry};
 ghost use Rattle.dns_journal.specs.Reads.{OnlyReads, HasRisen, ReadsFrom};
 ghost use Rattle.dns_store.specs.Versions.{Versions};
-ghost use Rattle.dns_store.specs.Opens.{AreChanges};
+ghost use Rattle.dns_store.specs.Opens.{AreChangesIn};
 ghost use Rattle.dns_store.specs.Recovered.{IsRecovered};
 ghost use Rattle.dns_store.specs.Root.{IsOfBank};
-ghost use Rattle.dns_store.specs.Damage.{NamesWrongEntry};
+ghost use Rattle.dns_store.specs.Damage.{NamesSector, NamesSpoiltIn, NamesWrongEntryIn, IsReachedEntryIn};
 
 use crate::OpenError;
 use crate::staying::next_zone;
 use dns_changes::{Change, ChangeError};
 use dns_journal::{Cursor, ReadError, next_entry};
+use dns_layout::Format;
 use dns_memory::Heap;
 use dns_sectors::Sectors;
 use dns_zone::{Zone, ZoneIndex};
@@ -25,10 +28,13 @@ use std::alloc::AllocError;
 // The zone that a change makes of another; an error other than `OutOfMemory` where it makes none.
 fn next_by<I: ZoneIndex>(zone: &Zone<I>, change: &Change) -> Result<Zone<I>, ChangeError>
     ensures found { IfOk result (λ next. (applied change.now zone.now.records ≡ next.records)
-        × (next.apex ≡ zone.now.apex) × IsZone next) }
+        × (change_fault change.now zone.now.records ≡ None) × (next.apex ≡ zone.now.apex) × IsZone next) }
     ensures only { (after : List Stated) → IsChange zone.now.records after change.now
         → IsZone (record { apex = zone.now.apex; records = after })
         → MatchResult result (λ next. next.records ≡ after) (λ e. e ≡ ChangeError.OutOfMemory) }
+    ensures taken { change_fault change.now zone.now.records ≡ None
+        → IsZone (record { apex = zone.now.apex; records = applied change.now zone.now.records })
+        → IfErr result (λ e. e ≡ ChangeError.OutOfMemory) }
 {
     let apex = zone.apex().clone()?;
     let mut set = zone.index().fork()?;
@@ -46,11 +52,15 @@ fn take_step<I: ZoneIndex>(
     zone: &Zone<I>,
     octets: &[u8],
 ) -> Result<(Change, Zone<I>), ChangeError>
-    ensures found { IfOk result (λ r. HasEntry r.0 × (entry r.0 ≡ octets.now) × (applied r.0 zone.now.records ≡ r.1.records)
+    ensures found { IfOk result (λ r. HasEntry r.0 × (entry r.0 ≡ octets.now)
+        × (change_fault r.0 zone.now.records ≡ None) × (applied r.0 zone.now.records ≡ r.1.records)
         × (r.1.apex ≡ zone.now.apex) × IsZone r.1) }
     ensures only { (after : List Stated) (c : StatedChange) → IsChange zone.now.records after c → HasEntry c → entry c ≡ octets.now
         → IsZone (record { apex = zone.now.apex; records = after })
         → MatchResult result (λ r. (r.0 ≡ c) × (r.1.records ≡ after)) (λ e. e ≡ ChangeError.OutOfMemory) }
+    ensures taken { (c : StatedChange) → HasEntry c → entry c ≡ octets.now → change_fault c zone.now.records ≡ None
+        → IsZone (record { apex = zone.now.apex; records = applied c zone.now.records })
+        → MatchResult result (λ r. r.0 ≡ c) (λ e. e ≡ ChangeError.OutOfMemory) }
 {
     let change = Change::decode(alloc, octets)?;
     match next_by(zone, &change) {
@@ -60,10 +70,11 @@ fn take_step<I: ZoneIndex>(
 }
 
 // The newest version, and the changes that lead to it from the base, by the entries from the cursor on. The cursor goes
-// behind them.
+// behind them. What it reads is said of each content of which the device's is an altered one.
 pub(crate) fn read_versions<D: Sectors, I: ZoneIndex>(
     alloc: Heap,
     device: &mut D,
+    format: Format,
     cursor: &mut Cursor,
     base: Zone<I>,
 ) -> Result<(Zone<I>, Vec<Change, Heap>), OpenError>
@@ -71,21 +82,29 @@ pub(crate) fn read_versions<D: Sectors, I: ZoneIndex>(
     requires at { cursor.old.at ≤ cursor.old.until }
     ensures within { cursor.new.at ≤ cursor.new.until }
     ensures apex { IfOk result (λ r. r.0.apex ≡ base.apex) }
-    ensures reads_all { D.is_honest device.old → (vs : Versions) (es : List Entry) → ReadsFrom cursor.old (D.seen device.old) es
-        → AreChanges base.apex base.records vs es
+    ensures reads_all { D.is_honest device.old → (c : List (List ℕ)) → IsAltered format c (D.seen device.old)
+        → (vs : Versions) (es : List Entry) → ReadsFrom format cursor.old c es
+        → AreChangesIn format base.apex base.records vs es
         → MatchResult result (λ r. IsRecovered cursor.old cursor.new base.records vs es r.0.records r.1.items)
-        (λ e. (e ≡ OpenError.Device) ⊎ (e ≡ OpenError.OutOfMemory)) }
+        (λ e. (e ≡ OpenError.Device) ⊎ (e ≡ OpenError.OutOfMemory)
+        ⊎ NamesSpoiltIn format (D.seen device.old) cursor.old.at cursor.old.until e) }
     ensures until { cursor.new.until ≡ cursor.old.until }
     ensures refused { IfErr result IsOfBank }
-    // `Damaged` names the sector of the first entry that is wrong.
-    ensures damaged { D.is_honest device.old → IfErr result
-        (NamesWrongEntry base.apex base.records cursor.old (D.seen device.old)) }
+    // `Damaged` names a sector that is neither zeros nor its own, or that of the first entry that is wrong.
+    ensures damaged { D.is_honest device.old → IfErr result (λ e.
+        NamesSpoiltIn format (D.seen device.old) cursor.old.at cursor.old.until e
+        ⊎ NamesWrongEntryIn format base.apex base.records cursor.old (D.seen device.old) e) }
+    // Of a sector that is reached and is neither zeros nor its own it says so.
+    ensures not_own { D.is_honest device.old → (place : ℕ)
+        → IsReachedEntryIn format base.apex base.records cursor.old (D.seen device.old) place
+        → (IsIntactIn format place (sector_at (D.seen device.old) place) → ⊥)
+        → MatchResult result (λ _. ⊥) (NamesSector place) }
     ensures device { result ≡ Err OpenError.Device → HasRisen (D.failed device.old) (D.failed device.new) }
     ensures reads { OnlyReads D.Sectors device.old device.new }
 {
     let mut zone = base;
     let mut changes = Vec::new(alloc);
-    'entries: while let Some(found) = next_entry(alloc, device, cursor)? {
+    'entries: while let Some(found) = next_entry(alloc, device, format, cursor)? {
         let (change, next) = match take_step(alloc, &zone, &found.octets) {
             Ok(step) => step,
             Err(error) => return Err(fault_at(found.head, error)),

@@ -1,18 +1,23 @@
-//! A store with one entry of two sectors, of which one octet is another.
-use crate::stores::{Device, enter, fresh, refusal};
+//! A store with one entry of two sectors, of which one bit is turned: a sector that is read is named, and where none is, the store
+//! opens as before.
+use crate::stores::{Device, enter, fresh, opened, read, write};
 use dns_memory::{Heap, heap};
-use dns_sectors::Sectors;
-use dns_store::OpenError;
+use dns_sectors::{Keep, Sectors};
+use dns_store::{OpenError, ZoneStore};
 use std::test::Fail;
 
-/// Changes the octet in place.
-fn change(device: &mut Device, at: usize, octet: usize) -> Option<()> {
-    if at >= device.len() {
-        return None;
-    }
-    let mut sector = device.read(at).ok()?;
-    *sector.get_mut(octet)? ^= 1;
-    device.write(at, &sector).ok()?;
+/// What is said of a store: the sector that is damaged, or the newest version and how many records it has.
+#[derive(Clone, Copy, Debug, PartialEq)]
+enum Told {
+    Damaged(usize),
+    Opened(u64, usize),
+}
+
+/// Turns a bit of a sector.
+fn turn(device: &mut Device, at: usize, bit: usize) -> Option<()> {
+    let mut sector = read(device, at)?;
+    *sector.get_mut(bit / 8)? ^= 1 << (bit % 8);
+    write(device, at, &sector)?;
     device.sync().ok()
 }
 
@@ -24,79 +29,96 @@ fn entered(heap: Heap) -> Option<Device> {
     if is_entered { Some(device) } else { None }
 }
 
-/// What is said of the store with this octet changed.
-fn told(heap: Heap, at: usize, octet: usize) -> Option<Option<OpenError>> {
-    let mut device = entered(heap)?;
-    change(&mut device, at, octet)?;
-    Some(refusal(heap, device))
-}
-
-/// The first of these octets of a sector for which something else is said.
-fn first_other(heap: Heap, at: usize, octets: &[usize], said: Option<OpenError>) -> Option<usize> {
-    for octet in octets {
-        if told(heap, at, *octet) != Some(said) {
-            return Some(*octet);
-        }
+/// What is said where no store is opened.
+fn damage_of(error: OpenError) -> Option<Told> {
+    match error {
+        OpenError::Damaged(at) => Some(Told::Damaged(at)),
+        _ => None,
     }
-    None
 }
 
-/// Octets of a sector, and what is said where one of them is another.
-type Case = (usize, &'static [usize], Option<OpenError>);
+/// What is said of the store on the device, which is handed back.
+fn tell(heap: Heap, device: Device) -> (Device, Option<Told>) {
+    match opened(heap, device) {
+        Ok(found) => {
+            let told = Told::Opened(found.store.newest(), found.records);
+            (found.store.into_device(), Some(told))
+        }
+        Err((device, error)) => (device, damage_of(error)),
+    }
+}
 
-const CASES: [Case; 15] = [
-    // The root's tag, bank and zeros, and a snapshot longer than its sectors.
-    (
-        0,
-        &[0, 1, 2, 3, 20, 21, 22, 32, 50, 511],
-        Some(OpenError::Damaged(0)),
-    ),
-    // S, J and the name.
-    (
-        0,
-        &[36, 39, 40, 43, 44, 45, 48, 49],
-        Some(OpenError::Geometry),
-    ),
-    // The base, the bank's open count and the snapshot's length, by which the part isn't the expected one.
-    (0, &[12, 19, 24, 31, 35], Some(OpenError::Damaged(1))),
-    // The other bank, which was never written.
-    (0, &[23], Some(OpenError::Damaged(11))),
-    // The store's open count, which may be any.
-    (0, &[4, 10, 11], None),
-    // A part's tag, open count, base, index, the first octet of a record and the zeros.
-    (
-        1,
-        &[0, 3, 4, 11, 12, 19, 20, 23, 24, 98, 511],
-        Some(OpenError::Damaged(1)),
-    ),
-    // The last octet of the SOA, by which the change behind it doesn't fit.
-    (1, &[97], Some(OpenError::Damaged(3))),
-    // A sector behind the last part.
-    (2, &[0, 11, 19, 23, 24, 511], None),
-    // A head's tag, a version that isn't the next, and a number that doesn't agree with the length, which end the journal.
-    (3, &[0, 3, 12, 19, 20, 23, 24, 25], None),
-    // Behind a valid head a change that can't be read.
-    (3, &[26, 27, 28], Some(OpenError::Damaged(3))),
-    // A head's open count, which may be a greater one; then its body isn't the expected one.
-    (3, &[4, 10], Some(OpenError::Damaged(4))),
-    // A body's tag, open count, version, index and zeros.
-    (
-        4,
-        &[0, 3, 4, 11, 12, 19, 20, 23, 511],
-        Some(OpenError::Damaged(4)),
-    ),
-    // A sector behind the last entry.
-    (5, &[0, 11, 24], None),
-    // The other bank.
-    (11, &[0, 24], None),
-    (20, &[0, 511], None),
-];
+/// Turns in turn each bit of a sector that is so many bits from the one before, and turns it back; the first for which something
+/// else is said.
+fn first_other(heap: Heap, at: usize, apart: usize, said: Told) -> Option<Option<usize>> {
+    let mut device = entered(heap)?;
+    for i in 0..4096usize {
+        let bit = i.saturating_mul(apart);
+        if bit >= 4096 {
+            break;
+        }
+        turn(&mut device, at, bit)?;
+        let (left, told) = tell(heap, device);
+        device = left.crash(Keep::These(&[]));
+        if told != Some(said) {
+            return Some(Some(bit));
+        }
+        turn(&mut device, at, bit)?;
+    }
+    Some(None)
+}
+
+/// The first bit of a sector that is read for which something else is said than that it is damaged.
+fn first_missed(heap: Heap, at: usize) -> Option<Option<usize>> {
+    first_other(heap, at, 1, Told::Damaged(at))
+}
 
 #[test]
-fn changed_octets(rt: HostRuntime) -> Result<(), Fail> {
+fn the_root(rt: HostRuntime) -> Result<(), Fail> {
     let heap = heap(rt.alloc())?;
-    for (at, octets, said) in CASES {
-        assert_eq!(rt; first_other(heap, at, octets, said), None, "sector {at}");
+    assert_eq!(rt; first_missed(heap, 0), Some(None));
+    Ok(())
+}
+
+#[test]
+fn a_part(rt: HostRuntime) -> Result<(), Fail> {
+    let heap = heap(rt.alloc())?;
+    assert_eq!(rt; first_missed(heap, 1), Some(None));
+    Ok(())
+}
+
+#[test]
+fn a_head(rt: HostRuntime) -> Result<(), Fail> {
+    let heap = heap(rt.alloc())?;
+    assert_eq!(rt; first_missed(heap, 3), Some(None));
+    Ok(())
+}
+
+#[test]
+fn a_body(rt: HostRuntime) -> Result<(), Fail> {
+    let heap = heap(rt.alloc())?;
+    assert_eq!(rt; first_missed(heap, 4), Some(None));
+    Ok(())
+}
+
+/// The sector after the last entry, at which the journal ends.
+#[test]
+fn the_end(rt: HostRuntime) -> Result<(), Fail> {
+    let heap = heap(rt.alloc())?;
+    assert_eq!(rt; first_missed(heap, 5), Some(None));
+    Ok(())
+}
+
+/// A sector after the last part, two after the end of the journal, and two of the other bank: every 61st bit of each.
+#[test]
+fn sectors_that_are_not_read(rt: HostRuntime) -> Result<(), Fail> {
+    let heap = heap(rt.alloc())?;
+    for at in [2, 6, 10, 11, 20] {
+        assert_eq!(rt;
+            first_other(heap, at, 61, Told::Opened(1, 3)),
+            Some(None),
+            "sector {at}"
+        );
     }
     Ok(())
 }

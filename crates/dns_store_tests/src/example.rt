@@ -1,18 +1,18 @@
 //! The zone of RFC 4592 section 2.2.1 in a store with eight sectors for a snapshot and sixteen for a journal.
-use crate::stores::{Device, Store, name, push_text, sized, zone_of};
+use crate::stores::{Device, Store, name, push_text, read, sized, zone_of};
 use dns_changes::Change;
 use dns_memory::{Heap, heap};
-use dns_sectors::Sectors;
+use dns_sectors::{Sector, Sectors};
 use dns_store::{ZoneStore, format, open};
 use std::test::Fail;
 
-const APEX: &[u8] = b"\x07example\0";
+pub(crate) const APEX: &[u8] = b"\x07example\0";
 
-const SOA: &[u8] =
+pub(crate) const SOA: &[u8] =
     b"\x07example\0\0\x06\0\0\x0e\x10\0\x38\x02ns\x07example\x03com\0\x0ahostmaster\x07example\0\
     \0\0\0\x07\0\0\x1c\x20\0\0\x03\x84\0\x12\x75\0\0\0\x01\x2c";
 
-const REST: &[u8] = b"\x07example\0\0\x02\0\0\x0e\x10\0\x10\x02ns\x07example\x03com\0\
+pub(crate) const REST: &[u8] = b"\x07example\0\0\x02\0\0\x0e\x10\0\x10\x02ns\x07example\x03com\0\
     \x07example\0\0\x02\0\0\x0e\x10\0\x10\x02ns\x07example\x03net\0\
     \x01*\x07example\0\0\x0f\0\0\x0e\x10\0\x11\0\x0a\x05host1\x07example\0\
     \x01*\x07example\0\0\x10\0\0\x0e\x10\0\x13\x12this is a wildcard\
@@ -23,8 +23,71 @@ const REST: &[u8] = b"\x07example\0\0\x02\0\0\x0e\x10\0\x10\x02ns\x07example\x03
     \x06subdel\x07example\0\0\x02\0\0\x0e\x10\0\x10\x02ns\x07example\x03com\0\
     \x06subdel\x07example\0\0\x02\0\0\x0e\x10\0\x10\x02ns\x07example\x03net\0";
 
-const ROOT: &[u8] =
-    b"DPR1\0\0\0\0\0\0\0\0\0\0\0\0\0\0\0\0\0\0\0\0\0\0\0\0\0\0\0\0\0\0\x01\xda\0\0\0\x08\0\0\0\x10\x07example\0";
+/// A sector by what it begins with and its digest; between them are zeros.
+#[derive(Clone, Copy)]
+pub(crate) struct Sealed {
+    pub(crate) at: usize,
+    pub(crate) front: &'static [u8],
+    pub(crate) digest: [u8; 8],
+}
+
+/// The sectors of the new store that are not zeros, as another program writes them: the root and the one part.
+const FORMATTED: [Sealed; 2] = [
+    Sealed {
+        at: 0,
+        front: b"DPR2\0\0\0\0\0\0\0\0\0\0\0\0\0\0\0\0\0\0\0\0\0\0\0\0\0\0\0\0\
+\0\0\0\0\0\0\x01\xda\0\0\0\x08\0\0\0\x10\x01\x07example\0",
+        digest: [0x6d, 0x41, 0xa3, 0xd1, 0xce, 0xa8, 0x5b, 0x0f],
+    },
+    PART,
+];
+
+const PART: Sealed = Sealed {
+    at: 1,
+    front: b"DPS2\0\0\0\0\0\0\0\0\0\0\0\0\0\0\0\0\0\0\0\0\
+\x07example\0\0\x02\0\0\x0e\x10\0\x10\x02ns\x07example\x03com\0\
+\x07example\0\0\x02\0\0\x0e\x10\0\x10\x02ns\x07example\x03net\0\
+\x07example\0\0\x06\0\0\x0e\x10\0\x38\x02ns\x07example\x03com\0\x0ahostmaster\x07example\0\
+\0\0\0\x07\0\0\x1c\x20\0\0\x03\x84\0\x12\x75\0\0\0\x01\x2c\
+\x01*\x07example\0\0\x0f\0\0\x0e\x10\0\x11\0\x0a\x05host1\x07example\0\
+\x01*\x07example\0\0\x10\0\0\x0e\x10\0\x13\x12this is a wildcard\
+\x03sub\x01*\x07example\0\0\x10\0\0\x0e\x10\0\x17\x16this is not a wildcard\
+\x05host1\x07example\0\0\x01\0\0\x0e\x10\0\x04\xc0\0\x02\x01\
+\x04_ssh\x04_tcp\x05host1\x07example\0\0\x21\0\0\x0e\x10\0\x15\0\0\0\0\0\x16\x05host1\x07example\0\
+\x04_ssh\x04_tcp\x05host2\x07example\0\0\x21\0\0\x0e\x10\0\x15\0\0\0\0\0\x16\x05host2\x07example\0\
+\x06subdel\x07example\0\0\x02\0\0\x0e\x10\0\x10\x02ns\x07example\x03com\0\
+\x06subdel\x07example\0\0\x02\0\0\x0e\x10\0\x10\x02ns\x07example\x03net\0",
+    digest: [0x35, 0x3b, 0xeb, 0x8d, 0xe6, 0x8b, 0xd1, 0x55],
+};
+
+/// The entry of the change that adds a text of one octet at t.example: the serial goes from 7 to 8.
+pub(crate) const ENTRY: &[u8] =
+    b"\x07example\0\0\x06\0\0\x0e\x10\0\x38\x02ns\x07example\x03com\0\x0ahostmaster\x07example\0\
+\0\0\0\x07\0\0\x1c\x20\0\0\x03\x84\0\x12\x75\0\0\0\x01\x2c\
+\x07example\0\0\x06\0\0\x0e\x10\0\x38\x02ns\x07example\x03com\0\x0ahostmaster\x07example\0\
+\0\0\0\x08\0\0\x1c\x20\0\0\x03\x84\0\x12\x75\0\0\0\x01\x2c\
+\0\0\0\0\0\0\0\x01\x01t\x07example\0\0\x10\0\0\0\x3c\0\x02\x01x";
+
+/// The sectors of the store that are not zeros after it was opened and that change flushed, as another program writes them.
+const UPDATED: [Sealed; 3] = [
+    Sealed {
+        at: 0,
+        front: b"DPR2\0\0\0\0\0\0\0\x01\0\0\0\0\0\0\0\0\0\0\0\0\0\0\0\0\0\0\0\0\
+\0\0\0\0\0\0\x01\xda\0\0\0\x08\0\0\0\x10\x01\x07example\0",
+        digest: [0xbf, 0xa5, 0x98, 0x7b, 0xd5, 0x6a, 0x1f, 0x59],
+    },
+    PART,
+    Sealed {
+        at: 9,
+        front: b"DPH2\0\0\0\0\0\0\0\x01\0\0\0\0\0\0\0\x01\0\0\0\0\0\0\0\xaf\
+\x07example\0\0\x06\0\0\x0e\x10\0\x38\x02ns\x07example\x03com\0\x0ahostmaster\x07example\0\
+\0\0\0\x07\0\0\x1c\x20\0\0\x03\x84\0\x12\x75\0\0\0\x01\x2c\
+\x07example\0\0\x06\0\0\x0e\x10\0\x38\x02ns\x07example\x03com\0\x0ahostmaster\x07example\0\
+\0\0\0\x08\0\0\x1c\x20\0\0\x03\x84\0\x12\x75\0\0\0\x01\x2c\
+\0\0\0\0\0\0\0\x01\x01t\x07example\0\0\x10\0\0\0\x3c\0\x02\x01x",
+        digest: [0x4a, 0x3e, 0xb3, 0x0f, 0xa0, 0xfa, 0xc5, 0xf3],
+    },
+];
 
 /// The records of the zone.
 fn push_zone(octets: &mut Vec<u8, Heap>) -> Option<()> {
@@ -41,7 +104,7 @@ fn make(heap: Heap, device: &mut Device) -> Option<()> {
 }
 
 /// A device with that store.
-fn made(heap: Heap) -> Option<Device> {
+pub(crate) fn made(heap: Heap) -> Option<Device> {
     let mut device = sized(heap, 49)?;
     match make(heap, &mut device) {
         Some(()) => Some(device),
@@ -57,82 +120,54 @@ fn opened(heap: Heap) -> Option<Store> {
     }
 }
 
-/// What a sector begins with, and whether there is nothing but zeros behind it.
-#[derive(Clone, Copy)]
-struct Front {
-    at: usize,
-    octets: &'static [u8],
-    is_alone: bool,
-}
-
-/// Whether the octets from a place on are zeros.
-fn are_zeros(octets: &[u8], from: usize) -> bool {
-    for at in from..octets.len() {
-        if octets[at] != 0 {
-            return false;
+/// The sector that this describes.
+fn sector_of(sector: &Sealed) -> Sector {
+    let mut octets = [0; 512];
+    for (at, octet) in sector.front.iter().enumerate() {
+        if at < 504 {
+            octets[at] = *octet;
         }
     }
-    true
+    octets[504..].copy_from_slice(&sector.digest);
+    octets
 }
 
-/// Whether the sector begins so.
-fn is_there(device: &mut Device, front: Front) -> bool {
-    if front.at >= device.len() {
-        return false;
-    }
-    match device.read(front.at) {
-        Ok(sector) => {
-            let is_alone = are_zeros(&sector, front.octets.len());
-            sector.starts_with(front.octets) && (is_alone || !front.is_alone)
+/// The sector there: one of these, or zeros.
+fn expected(at: usize, sectors: &[Sealed]) -> Sector {
+    for sector in sectors {
+        if sector.at == at {
+            return sector_of(sector);
         }
-        Err(_) => false,
     }
+    [0; 512]
 }
 
-/// The first sector that does not begin so.
-fn first_other(device: &mut Device, fronts: &[Front]) -> Option<usize> {
-    for front in fronts {
-        if !is_there(device, *front) {
-            return Some(front.at);
+/// The first sector of the device that is another than one of these or zeros.
+pub(crate) fn first_other(device: &mut Device, sectors: &[Sealed]) -> Option<usize> {
+    for at in 0..device.len() {
+        if read(device, at) != Some(expected(at, sectors)) {
+            return Some(at);
         }
     }
     None
 }
 
-/// The root, the one part, which begins with the NS of the apex, and sectors that were never written.
-const LAID_OUT: [Front; 4] = [
-    Front {
-        at: 0,
-        octets: ROOT,
-        is_alone: true,
-    },
-    Front {
-        at: 1,
-        octets: b"DPS1\0\0\0\0\0\0\0\0\0\0\0\0\0\0\0\0\0\0\0\0\x07example\0\0\x02\0",
-        is_alone: false,
-    },
-    Front {
-        at: 2,
-        octets: b"",
-        is_alone: true,
-    },
-    Front {
-        at: 48,
-        octets: b"",
-        is_alone: true,
-    },
-];
-
-/// The first sector of the store that is another, if there is a store.
-fn first_other_made(heap: Heap) -> Option<Option<usize>> {
+/// Whether each sector is right of the store that was made, and of the one with the change.
+fn are_right(heap: Heap) -> Option<(Option<usize>, Option<usize>)> {
     let mut device = made(heap)?;
-    Some(first_other(&mut device, &LAID_OUT))
+    let formatted = first_other(&mut device, &FORMATTED);
+    let mut store = opened(heap)?;
+    let change = Change::decode(heap, ENTRY).ok()?;
+    store.stage(change).ok()?;
+    store.flush().ok()?;
+    let mut device = store.into_device();
+    Some((formatted, first_other(&mut device, &UPDATED)))
 }
 
 #[test]
 fn sectors(rt: HostRuntime) -> Result<(), Fail> {
     let heap = heap(rt.alloc())?;
-    assert_eq!(rt; first_other_made(heap), Some(None));
+    assert_eq!(rt; are_right(heap), Some((None, None)));
     Ok(())
 }
 
@@ -156,57 +191,24 @@ fn enter(heap: Heap, store: &mut Store, size: usize) -> Option<usize> {
     Some(octets.len())
 }
 
-/// How many octets the entry has, how many sectors are left behind it, and the first sector that is another.
-fn entered(
-    heap: Heap,
-    size: usize,
-    fronts: &[Front],
-) -> Option<(Option<usize>, usize, Option<usize>)> {
+/// How many octets the entry has, and how many sectors are left after it.
+fn entered(heap: Heap, size: usize) -> Option<(usize, usize)> {
     let mut store = opened(heap)?;
-    let len = enter(heap, &mut store, size);
-    let left = store.left();
-    let mut device = store.into_device();
-    Some((len, left, first_other(&mut device, fronts)))
+    let len = enter(heap, &mut store, size)?;
+    Some((len, store.left()))
 }
 
-/// A head, with nothing behind it.
-const ONE_SECTOR: [Front; 2] = [
-    Front {
-        at: 9,
-        octets: b"DPH1\0\0\0\0\0\0\0\x01\0\0\0\0\0\0\0\x01\0\0\0\0\0\0\x01\xe4\x07example\0",
-        is_alone: false,
-    },
-    Front {
-        at: 10,
-        octets: b"",
-        is_alone: true,
-    },
-];
-
-/// A head and a body of one octet.
-const TWO_SECTORS: [Front; 2] = [
-    Front {
-        at: 9,
-        octets: b"DPH1\0\0\0\0\0\0\0\x01\0\0\0\0\0\0\0\x01\0\0\0\x01\0\0\x01\xe5\x07example\0",
-        is_alone: false,
-    },
-    Front {
-        at: 10,
-        octets: b"DPB1\0\0\0\0\0\0\0\x01\0\0\0\0\0\0\0\x01\0\0\0\0a",
-        is_alone: true,
-    },
-];
-
-/// An entry of 484 octets is one sector, and one of 485 two.
+/// An entry of 476 octets is one sector, and one of 477 two; with 480 octets more it is three.
 #[test]
 fn entries(rt: HostRuntime) -> Result<(), Fail> {
     let heap = heap(rt.alloc())?;
-    for (size, fronts, len, left) in [(311, ONE_SECTOR, 484, 15), (312, TWO_SECTORS, 485, 14)] {
-        assert_eq!(rt;
-            entered(heap, size, &fronts),
-            Some((Some(len), left, None)),
-            "{size} octets"
-        );
+    for (size, len, left) in [
+        (303, 476, 15),
+        (304, 477, 14),
+        (783, 956, 14),
+        (784, 957, 13),
+    ] {
+        assert_eq!(rt; entered(heap, size), Some((len, left)), "{size} octets");
     }
     Ok(())
 }

@@ -67,7 +67,7 @@ fn stopped(heap: Heap, plan: &Rc<Plan, Heap>, n: u64) -> Option<Device> {
 
 /// How many ways of keeping pending writes are tried: every sublist of up to eight, above that none, all, each alone, and all
 /// but each.
-fn choices(pending: usize) -> usize {
+pub(crate) fn choices(pending: usize) -> usize {
     if pending <= 8 {
         1 << pending
     } else {
@@ -100,7 +100,7 @@ fn kept(heap: Heap, pending: usize, choice: usize) -> Option<Vec<u64, Heap>> {
 }
 
 /// The device as a crash leaves it that keeps this choice.
-fn crashed(heap: Heap, device: Device, choice: usize) -> Option<Device> {
+pub(crate) fn crashed(heap: Heap, device: Device, choice: usize) -> Option<Device> {
     let numbers = kept(heap, device.pending(), choice)?;
     Some(device.crash(Keep::These(&numbers)))
 }

@@ -3,7 +3,7 @@ use dns_changes::Change;
 use dns_memory::Heap;
 use dns_names::Name;
 use dns_records::Record;
-use dns_sectors::{Keep, MemorySectors, Plan};
+use dns_sectors::{Keep, MemorySectors, Plan, Sector, Sectors};
 use dns_store::{FormatError, KeptStore, OpenError, ZoneStore, format, open};
 use dns_zone::{RecordList, Zone, ZoneIndex};
 use std::rc::Rc;
@@ -35,6 +35,22 @@ pub(crate) fn shared_plan(heap: Heap) -> Option<Rc<Plan, Heap>> {
 /// A device of so many zeros, with room for the calls of any test between two crashes.
 pub(crate) fn sized(heap: Heap, sectors: usize) -> Option<Device> {
     MemorySectors::new(heap, sectors, 128, shared_plan(heap)?).ok()
+}
+
+/// A read of a place that may be beyond the device's end.
+pub(crate) fn read(device: &mut Device, at: usize) -> Option<Sector> {
+    if at >= device.len() {
+        return None;
+    }
+    device.read(at).ok()
+}
+
+/// A write to a place that may be beyond the device's end.
+pub(crate) fn write(device: &mut Device, at: usize, sector: &Sector) -> Option<()> {
+    if at >= device.len() {
+        return None;
+    }
+    device.write(at, sector).ok()
 }
 
 pub(crate) fn name(heap: Heap, octets: &[u8]) -> Option<Name> {
@@ -76,7 +92,7 @@ pub(crate) fn push_text(
 }
 
 /// The SOA with this serial.
-fn push_soa(octets: &mut Vec<u8, Heap>, serial: u8) -> Option<()> {
+pub(crate) fn push_soa(octets: &mut Vec<u8, Heap>, serial: u8) -> Option<()> {
     let mut rdata =
         *b"\x02ns\x04tiny\0\x01h\x04tiny\0\0\0\0\0\0\0\0\x01\0\0\0\x01\0\0\0\x01\0\0\0\x01";
     rdata[20] = serial;
@@ -97,7 +113,7 @@ pub(crate) fn snapshot_len(heap: Heap) -> Option<usize> {
 }
 
 /// The records of version 0, with a TXT record with so many octets of data, if any.
-fn push_zone(octets: &mut Vec<u8, Heap>, size: usize) -> Option<()> {
+pub(crate) fn push_zone(octets: &mut Vec<u8, Heap>, size: usize) -> Option<()> {
     push_snapshot(octets)?;
     if size > 0 {
         push_text(octets, APEX, 0, size)?;
@@ -107,7 +123,7 @@ fn push_zone(octets: &mut Vec<u8, Heap>, size: usize) -> Option<()> {
 
 /// The entry of the change to the version with this serial, which adds a TXT record with so many octets of data. It has 124
 /// octets more.
-fn push_entry(octets: &mut Vec<u8, Heap>, serial: u8, size: usize) -> Option<()> {
+pub(crate) fn push_entry(octets: &mut Vec<u8, Heap>, serial: u8, size: usize) -> Option<()> {
     push_soa(octets, serial.saturating_sub(1))?;
     push_soa(octets, serial)?;
     octets.extend_from_slice(&[0, 0, 0, 0, 0, 0, 0, 1]).ok()?;

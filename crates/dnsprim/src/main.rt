@@ -4,7 +4,7 @@
 use clap::error::ErrorKind;
 use clap::{Arg, ArgAction, ArgMatches, Command, Error};
 use dns_configuration::{Configuration, FAILED, File, REFUSED, USAGE};
-use dns_devices::{Disk, dump, init};
+use dns_devices::{Disk, dump, init, migrate};
 use dns_files::{DiskFile, FileSectors};
 use dns_memory::{Heap, heap};
 use dns_server::{Index, check, explain_check, explain_replay, explain_unreadable, replay};
@@ -28,6 +28,8 @@ enum Task<'a> {
     Init(&'a str),
     /// `dump CONFIG ORIGIN`
     Dump(&'a str, &'a str),
+    /// `migrate CONFIG`
+    Migrate(&'a str),
     /// `serve CONFIG --turns N`
     Serve(&'a str, u32),
 }
@@ -111,6 +113,11 @@ fn dump_command<'a>(alloc: Global) -> Result<Command<'a>, Error> {
     Ok(command.arg(origin(alloc))?)
 }
 
+fn migrate_command<'a>(alloc: Global) -> Result<Command<'a>, Error> {
+    let about = "Makes each device of sector format 1 new, in format 2; not while it is served";
+    of_one_word(alloc, "migrate", about, config(alloc))
+}
+
 fn serve_command<'a>(alloc: Global) -> Result<Command<'a>, Error> {
     let about =
         "Answers queries and takes updates, by UDP and TCP; an update is durable before it is answered";
@@ -146,6 +153,7 @@ fn whole_command<'a>(alloc: Global) -> Result<Command<'a>, Error> {
     let command = with(command, replay_command(alloc))?;
     let command = with(command, init_command(alloc))?;
     let command = with(command, dump_command(alloc))?;
+    let command = with(command, migrate_command(alloc))?;
     with(command, serve_command(alloc))
 }
 
@@ -156,6 +164,7 @@ fn task_of<'a>(name: &str, inner: &ArgMatches<'a>) -> Option<Task<'a>> {
         "replay" => Some(Task::Replay(inner.get_str("CONFIG")?, inner.get_str("SCRIPT")?)),
         "init" => Some(Task::Init(inner.get_str("CONFIG")?)),
         "dump" => Some(Task::Dump(inner.get_str("CONFIG")?, inner.get_str("ORIGIN")?)),
+        "migrate" => Some(Task::Migrate(inner.get_str("CONFIG")?)),
         "serve" => {
             let turns = inner.get_str("turns")?.parse().ok()?;
             Some(Task::Serve(inner.get_str("CONFIG")?, turns))
@@ -360,6 +369,26 @@ fn run_dump(
     Ok(status)
 }
 
+/// Migrates devices, and gives the exit status.
+fn run_migrate(rt: &HostRuntime, heap: Heap, config: &str, explain: bool) -> io::Result<u8> {
+    let text = octets(rt, config)?;
+    let config = file(config, &text);
+    let (mut out, mut err) = (io::writer(rt), rt.stderr());
+    let status = migrate::<Device, _, Index, _, _>(
+        rt.alloc(),
+        heap,
+        &Disk(rt),
+        &config,
+        explain,
+        &mut out,
+        &mut err,
+    );
+    if explain && status == REFUSED {
+        explain_files(rt, heap, &config, &[])?;
+    }
+    Ok(status)
+}
+
 /// Serves, and gives the exit status.
 fn run_serve(
     rt: &HostRuntime,
@@ -394,6 +423,7 @@ fn run(rt: &HostRuntime, asked: Asked<'_>) -> io::Result<u8> {
         Task::Replay(config, script) => run_replay(rt, heap, config, script, asked.explain),
         Task::Init(config) => run_init(rt, heap, config, asked.explain),
         Task::Dump(config, origin) => run_dump(rt, heap, config, origin, asked.explain),
+        Task::Migrate(config) => run_migrate(rt, heap, config, asked.explain),
         Task::Serve(config, turns) => run_serve(rt, heap, config, turns, asked.explain),
     }
 }
@@ -412,7 +442,7 @@ fn start(rt: &HostRuntime) -> io::Result<u8> {
         Ok(Some(asked)) => run(rt, asked),
         Ok(None) => {
             eprintln!(rt;
-                "usage: dnsprim check FILE ORIGIN | replay CONFIG SCRIPT | init CONFIG | dump CONFIG ORIGIN | serve CONFIG --turns N [--explain]"
+                "usage: dnsprim check FILE ORIGIN | replay CONFIG SCRIPT | init CONFIG | dump CONFIG ORIGIN | migrate CONFIG | serve CONFIG --turns N [--explain]"
             )?;
             Ok(USAGE)
         }

@@ -6,7 +6,7 @@ use Rattle.dns_store.specs.Versions.{newest_of}
 use Rattle.dns_store.specs.Room.{entry_between, sectors_left}
 use Rattle.dns_store.specs.Staged.{entry_is}
 use Rattle.dns_journal.specs.declared.journal.StageError.TheVariants as lower
-use Rattle.dns_held.specs.Plain.{octets_of}
+use Rattle.dns_store.specs.Plain.{octets_of}
 use Rattle.dns_held.specs.Held.{newer, newest_zone}
 use Rattle.dns_held.specs.Staging.{has_room}
 use Rattle.dns_held.proofs.Room.{newer_is, counted, next_valid, room_number, refused_by, staged_newest}

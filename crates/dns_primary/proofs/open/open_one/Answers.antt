@@ -2,7 +2,7 @@ use Rattle.std.proofs.Common.{arith, refl, sym, ap, ◌∙◌, append-nil}
 use Rattle.dns_zone.specs.Zone.{Zone}
 use Rattle.dns_store.specs.Versions.{Versions, newest_after}
 use Rattle.dns_store.specs.Opens.{fresh}
-use Rattle.dns_held.specs.Plain.{octets_of}
+use Rattle.dns_store.specs.Plain.{octets_of}
 use Rattle.dns_primary.specs.Open.{shape_of}
 use Rattle.dns_primary.proofs.open.open_one.Goals as goal
 

@@ -24,7 +24,7 @@ returns-in_err-write_phase-2-clause-any_moment g c honest =
     let size : length (g.D.Sectors.seen c.write_behind_root.new.device) ≡ g.D.Sectors.count c.args.device.now = g.met.D.Sectors.all_seen c.write_behind_root.new.device two ∙ c.write_behind_root.ensures.count ∙ c.write_phase.ensures.count in
     let laid = subst (λ n. IsLaidTo c.args.octets.now n (g.D.Sectors.seen c.write_behind_root.new.device)) c.write_phase.ensures.count (c.in_ok-write_behind_root.ensures.laid one) in
     third_run g.D.Sectors c.args.root.now c.args.octets.now c.args.device.now c.write_phase.new.device (g.D.Sectors.count c.args.device.now) (c.write_phase.ensures.any_moment honest) c.write_behind_root.new.device
-    (c.write_behind_root.ensures.any_moment one none) c.encode.result c.encode.ensures.says c.requires.some size laid (c.in_ok-write_behind_root.ensures.durable one) blank c.write_phase-2.new.device (c.write_phase-2.ensures.any_moment two)
+    (c.write_behind_root.ensures.any_moment one none) c.encode.result c.encode.ensures.says c.encode.ensures.own c.requires.some size laid (c.in_ok-write_behind_root.ensures.durable one) blank c.write_phase-2.new.device (c.write_phase-2.ensures.any_moment two)
 
 pub returns-clause-any_moment : goal.returns-clause-any_moment
 returns-clause-any_moment g c honest =
@@ -36,7 +36,7 @@ returns-clause-any_moment g c honest =
     let size : length (g.D.Sectors.seen c.write_behind_root.new.device) ≡ g.D.Sectors.count c.args.device.now = g.met.D.Sectors.all_seen c.write_behind_root.new.device two ∙ c.write_behind_root.ensures.count ∙ c.write_phase.ensures.count in
     let laid = subst (λ n. IsLaidTo c.args.octets.now n (g.D.Sectors.seen c.write_behind_root.new.device)) c.write_phase.ensures.count (c.in_ok-write_behind_root.ensures.laid one) in
     third_run g.D.Sectors c.args.root.now c.args.octets.now c.args.device.now c.write_phase.new.device (g.D.Sectors.count c.args.device.now) (c.write_phase.ensures.any_moment honest) c.write_behind_root.new.device
-    (c.write_behind_root.ensures.any_moment one none) c.encode.result c.encode.ensures.says c.requires.some size laid (c.in_ok-write_behind_root.ensures.durable one) blank c.write_phase-2.new.device (c.write_phase-2.ensures.any_moment two)
+    (c.write_behind_root.ensures.any_moment one none) c.encode.result c.encode.ensures.says c.encode.ensures.own c.requires.some size laid (c.in_ok-write_behind_root.ensures.durable one) blank c.write_phase-2.new.device (c.write_phase-2.ensures.any_moment two)
 
 pub returns-clause-made : goal.returns-clause-made
 returns-clause-made g c honest =
@@ -47,4 +47,4 @@ returns-clause-made g c honest =
     let size : length (g.D.Sectors.seen c.write_behind_root.new.device) ≡ g.D.Sectors.count c.args.device.now = g.met.D.Sectors.all_seen c.write_behind_root.new.device two ∙ c.write_behind_root.ensures.count ∙ c.write_phase.ensures.count in
     let laid = subst (λ n. IsLaidTo c.args.octets.now n (g.D.Sectors.seen c.write_behind_root.new.device)) c.write_phase.ensures.count (c.in_ok-write_behind_root.ensures.laid one) in
     all_made g.D.Sectors c.args.root.now c.args.octets.now c.args.device.now c.write_phase.new.device (g.D.Sectors.count c.args.device.now) (c.write_phase.ensures.any_moment honest) c.write_behind_root.new.device
-    (c.write_behind_root.ensures.any_moment one none) c.encode.result c.encode.ensures.says c.requires.some size laid (c.in_ok-write_behind_root.ensures.durable one) c.write_phase-2.new.device (c.in_ok-write_phase-2.ensures.durable two) (c.in_ok-write_phase-2.ensures.written two)
+    (c.write_behind_root.ensures.any_moment one none) c.encode.result c.encode.ensures.says c.encode.ensures.own c.requires.some size laid (c.in_ok-write_behind_root.ensures.durable one) c.write_phase-2.new.device (c.in_ok-write_phase-2.ensures.durable two) (c.in_ok-write_phase-2.ensures.written two)

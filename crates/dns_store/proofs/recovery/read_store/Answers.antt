@@ -1,127 +1,144 @@
-use Rattle.std.proofs.Common.{inl, inr, ⊎_elim, refl, ◌≡◌, ◌⊎◌, ◌+◌, ◌*◌, ℕ, List, sym, ◌∙◌, ap, subst}
+use Rattle.std.proofs.Common.{arith, inl, inr, ⊎_elim, refl, ◌≡◌, ◌⊎◌, ◌+◌, ◌*◌, ℕ, List, sym, ◌∙◌, ap, subst}
 use Rattle.std.specs.Prelude.{drop}
+use Rattle.std.specs.List.{flat_map}
 use Rattle.std.proofs.lemmas.Result.{err_from_is_err_and}
 use Rattle.dns_names.specs.Name.{wire}
-use Rattle.dns_records.specs.Record.{Record}
+use Rattle.dns_records.specs.Record.{Record, plain}
 use Rattle.dns_zone.specs.Zone.{IsZone}
-use Rattle.dns_layout.specs.Sector.{sector_at, number}
+use Rattle.dns_layout.specs.Sector.{sector_at, number, snapshot_sectors_in}
+use Rattle.dns_layout.specs.Own.{IsIntactIn, IsAltered}
 use Rattle.dns_layout.specs.Journal.{place_behind, version_behind}
-use Rattle.dns_layout.specs.Forms.{SaysRoot}
 use Rattle.dns_layout.specs.Store.{Shape as Sizes, snapshot_place}
 use Rattle.dns_journal.specs.declared.read.Cursor.{Cursor}
-use Rattle.dns_journal.specs.Reads.{ReadsFrom}
+use Rattle.dns_journal.specs.Reads.{NamesSpoilt}
 use Rattle.dns_journal.proofs.Looking.{reads_then}
+use Rattle.dns_journal.proofs.Altered.{altered_itself}
 use Rattle.dns_store.specs.declared.root.OpenError.{OpenError}
-use Rattle.dns_store.specs.Root.{RootRefusal}
-use Rattle.dns_store.specs.Snapshot.{IsBadSnapshot, HoldsSnapshot}
-use Rattle.dns_store.specs.Opens.{AreChanges, base_of, sizes_of}
+use Rattle.dns_store.specs.Root.{RootRefusalIn}
+use Rattle.dns_store.specs.Snapshot.{IsBadSnapshotIn, HoldsSnapshotIn, IsReachedPartIn}
+use Rattle.dns_store.specs.Opens.{AreChangesIn, base_of, sizes_of}
 use Rattle.dns_store.specs.Versions.{Shape, newest_after}
 use Rattle.dns_store.specs.Recovered.{AreLed}
-use Rattle.dns_store.specs.Damage.{NamesWrongEntry}
-use Rattle.dns_store.proofs.Damage.{root_named, snapshot_named, zone_named, journal_named}
+use Rattle.dns_store.specs.Damage.{NamesSpoiltIn, NamesWrongEntryIn, IsReachedEntryIn, NamesSector}
+use Rattle.dns_store.proofs.Damage.{root_named, snapshot_named, zone_named, journal_named, sector_named}
 use Rattle.dns_store.proofs.Leaves.{newest_split}
 use Rattle.dns_store.proofs.Plains.{zones_same}
 use Rattle.dns_store.proofs.Parts.{snapshot_is}
-use Rattle.dns_store.proofs.Opening.{stands_first, root_there, snapshot_there, journal_there, place_of, of_reading, of_fault, bank_refused, root_refused, found_there}
+use Rattle.dns_store.proofs.Opening.{stands_first, root_there, bank_altered, snapshot_there, journal_there, place_of, of_reading, of_fault, bank_refused, root_refused, found_there}
+use Rattle.dns_store.proofs.Reaching.{reaches, root_reached, snapshot_reached}
 use Rattle.dns_store.proofs.recovery.read_store.Goals as goal
 
 pub returns-in_err-root-clause-found : goal.returns-in_err-root-clause-found
-returns-in_err-root-clause-found g c honest range o s opens part =
+returns-in_err-root-clause-found g c honest range k altered o s opens part =
+    let f = c.args.format in
     let d = g.D.Sectors.seen c.args.device.now in
-    let sz = sizes_of (record { apex = c.args.apex.now; snapshot = c.args.snapshot; journal = c.args.journal }) in
-    let there = stands_first sz d s opens in
-    let first = c.settle.ensures.reads in
-    let honest' = first.honest.1 honest in
+    let shape : Shape = record { apex = c.args.apex.now; snapshot = c.args.snapshot; journal = c.args.journal } in
+    let sz = sizes_of shape in
+    let there = stands_first f sz k s opens in
     let count = sym (g.met.D.Sectors.all_seen c.args.device.now honest) in
-    let p = err_from_is_err_and c.from_residual-in_err-root.result c.from_residual-in_err-root.ensures.1 in
-    let refusal = c.in_err-root.ensures.refused honest' in
+    let p = err_from_is_err_and c.from_residual.result c.from_residual.ensures.1 in
+    let e = c.in_err-root.field-0.0 in
     rw (p.1, p.2)
-    (⊎_elim (λ failed. inl failed)
-    (λ is.
-    root_there sz d s there.0 there.1 c.apex_of.ensures.plain (g.D.Sectors.count c.settle.new.device) (first.count ∙ count) c.in_err-root.field-0.0
-    (subst (λ a. RootRefusal (record { snapshot = c.args.snapshot; journal = c.args.journal; apex = a }) (g.D.Sectors.count c.settle.new.device) (sector_at d 0) c.in_err-root.field-0.0) c.apex_of.ensures.octets
-    (subst (λ e. RootRefusal (record { snapshot = c.args.snapshot; journal = c.args.journal; apex = c.apex_of.result }) (g.D.Sectors.count c.settle.new.device) (sector_at e 0) c.in_err-root.field-0.0) (first.seen honest) is))) refusal)
+    (root_there f sz k s there.0 there.1 d c.apex_of.ensures.plain (g.D.Sectors.count c.args.device.now) (count ∙ altered.size) e
+    (subst (λ a. (e ≡ OpenError.Device) ⊎ NamesSpoiltIn f d 0 1 e ⊎ RootRefusalIn f (record { snapshot = c.args.snapshot; journal = c.args.journal; apex = a }) (g.D.Sectors.count c.args.device.now) (sector_at k 0) e) c.apex_of.ensures.octets
+    (c.in_err-root.ensures.refused honest k altered)))
 
 pub returns-in_err-octets-clause-found : goal.returns-in_err-octets-clause-found
-returns-in_err-octets-clause-found g c honest range o s opens part =
+returns-in_err-octets-clause-found g c honest range k altered o s opens part =
+    let f = c.args.format in
     let d = g.D.Sectors.seen c.args.device.now in
-    let sz = sizes_of (record { apex = c.args.apex.now; snapshot = c.args.snapshot; journal = c.args.journal }) in
-    let there = stands_first sz d s opens in
-    let one = c.settle.ensures.reads in
-    let two = reads_then _ _ _ one c.read_root.ensures.reads in
-    let says : SaysRoot (sector_at d 0) c.in_ok-root.root = subst (λ e. SaysRoot (sector_at e 0) c.in_ok-root.root) (one.seen honest) (c.in_ok-root.ensures.found (one.honest.1 honest)).says in
-    let place = place_of sz d c.in_ok-root.root c.number.result says c.number.ensures in
+    let shape : Shape = record { apex = c.args.apex.now; snapshot = c.args.snapshot; journal = c.args.journal } in
+    let sz = sizes_of shape in
+    let there = stands_first f sz k s opens in
+    let one = c.read_root.ensures.reads in
+    let found = c.in_ok-root.ensures.found honest k altered in
+    let says = found.says in
+    let at = 1 + c.number.result * (c.args.snapshot + c.args.journal) in
+    let still = subst (λ e. IsAltered f k e) (sym (one.seen honest)) altered in
+    let place = place_of f sz k c.in_ok-root.root c.number.result says c.number.ensures in
     let p = err_from_is_err_and c.from_residual-in_err-octets.result c.from_residual-in_err-octets.ensures.1 in
-    let bad = c.in_err-octets.ensures.damaged (two.honest.1 honest) (sector_at d 0) says in
-    rw p.1 (snapshot_there sz d s there.0 there.1 (1 + c.number.result * (c.args.snapshot + c.args.journal)) place c.in_err-octets.field-0.0 p.0 p.2 (subst (λ e. IsBadSnapshot (sector_at d 0) (1 + c.number.result * (c.args.snapshot + c.args.journal)) e c.in_err-octets.field-0.0) (two.seen honest) bad))
+    let e = c.in_err-octets.field-0.0 in
+    let size = snapshot_sectors_in f c.in_ok-root.root.snapshot_length in
+    let bad = subst (λ b. NamesSpoilt f b at (at + size) e ⊎ IsBadSnapshotIn f (sector_at k 0) at k e) (one.seen honest) (c.in_err-octets.ensures.damaged (one.honest.1 honest) k still (sector_at k 0) says) in
+    rw p.1 (snapshot_there f sz k s there.0 there.1 d at place size c.in_ok-root.ensures.fits.0 e p.0 p.2 bad)
 
 pub returns-in-Err-clause-found : goal.returns-in-Err-clause-found
-returns-in-Err-clause-found g c honest range o s opens part =
+returns-in-Err-clause-found g c honest range k altered o s opens part =
+    let f = c.args.format in
     let d = g.D.Sectors.seen c.args.device.now in
-    let sz = sizes_of (record { apex = c.args.apex.now; snapshot = c.args.snapshot; journal = c.args.journal }) in
-    let there = stands_first sz d s opens in
-    let one = c.settle.ensures.reads in
-    let two = reads_then _ _ _ one c.read_root.ensures.reads in
-    let says : SaysRoot (sector_at d 0) c.in_ok-root.root = subst (λ e. SaysRoot (sector_at e 0) c.in_ok-root.root) (one.seen honest) (c.in_ok-root.ensures.found (one.honest.1 honest)).says in
-    let place = place_of sz d c.in_ok-root.root c.number.result says c.number.ensures in
-    let holds = subst (λ e. HoldsSnapshot (sector_at d 0) (1 + c.number.result * (c.args.snapshot + c.args.journal)) e c.in_ok-octets.octets.items) (two.seen honest) (c.in_ok-octets.ensures.found (two.honest.1 honest) (sector_at d 0) says) in
-    let octets = snapshot_is sz d (sector_at d 0) there.0 s there.1 c.in_ok-octets.octets.items (subst (λ n. HoldsSnapshot (sector_at d 0) n d c.in_ok-octets.octets.items) place holds) in
-    ⊎_elim (λ memory. inr (inl (c.fault_at.ensures.memory memory))) (λ bad. absurd (bad.1 (base_of o) part.valid (c.deref.ensures.value ∙ octets ∙ part.snapshot))) c.in-Err.ensures.refused
+    let shape : Shape = record { apex = c.args.apex.now; snapshot = c.args.snapshot; journal = c.args.journal } in
+    let sz = sizes_of shape in
+    let there = stands_first f sz k s opens in
+    let one = c.read_root.ensures.reads in
+    let found = c.in_ok-root.ensures.found honest k altered in
+    let says = found.says in
+    let at = 1 + c.number.result * (c.args.snapshot + c.args.journal) in
+    let still = subst (λ e. IsAltered f k e) (sym (one.seen honest)) altered in
+    let place : at ≡ snapshot_place sz (number (sector_at k 0)) = place_of f sz k c.in_ok-root.root c.number.result says c.number.ensures in
+    let holds = c.in_ok-octets.ensures.found (one.honest.1 honest) k still (sector_at k 0) says in
+    let octets = snapshot_is f sz k (sector_at k 0) there.0 s there.1 c.in_ok-octets.octets.items (subst (λ n. HoldsSnapshotIn f (sector_at k 0) n k c.in_ok-octets.octets.items) place holds) in
+    ⊎_elim (λ memory. inl (inr (inl (c.fault_at.ensures.memory memory)))) (λ bad. absurd (bad.1 (base_of o) part.valid (c.deref.ensures.value ∙ octets ∙ part.snapshot))) c.in-Err.ensures.refused
 
 pub returns-in_err-newest-clause-found : goal.returns-in_err-newest-clause-found
-returns-in_err-newest-clause-found g c honest range o s opens part =
+returns-in_err-newest-clause-found g c honest range k altered o s opens part =
+    let f = c.args.format in
     let d = g.D.Sectors.seen c.args.device.now in
     let shape : Shape = record { apex = c.args.apex.now; snapshot = c.args.snapshot; journal = c.args.journal } in
     let sz = sizes_of shape in
-    let there = stands_first sz d s opens in
-    let one = c.settle.ensures.reads in
-    let two = reads_then _ _ _ one c.read_root.ensures.reads in
-    let three = reads_then _ _ _ two c.read_snapshot.ensures.reads in
-    let says : SaysRoot (sector_at d 0) c.in_ok-root.root = subst (λ e. SaysRoot (sector_at e 0) c.in_ok-root.root) (one.seen honest) (c.in_ok-root.ensures.found (one.honest.1 honest)).says in
+    let there = stands_first f sz k s opens in
+    let one = c.read_root.ensures.reads in
+    let found = c.in_ok-root.ensures.found honest k altered in
+    let says = found.says in
     let at = 1 + c.number.result * (c.args.snapshot + c.args.journal) in
-    let place : at ≡ snapshot_place sz (number (sector_at d 0)) = place_of sz d c.in_ok-root.root c.number.result says c.number.ensures in
-    let holds = subst (λ e. HoldsSnapshot (sector_at d 0) (1 + c.number.result * (c.args.snapshot + c.args.journal)) e c.in_ok-octets.octets.items) (two.seen honest) (c.in_ok-octets.ensures.found (two.honest.1 honest) (sector_at d 0) says) in
-    let octets = snapshot_is sz d (sector_at d 0) there.0 s there.1 c.in_ok-octets.octets.items (subst (λ n. HoldsSnapshot (sector_at d 0) n d c.in_ok-octets.octets.items) place holds) in
+    let still = subst (λ e. IsAltered f k e) (sym (one.seen honest)) altered in
+    let place : at ≡ snapshot_place sz (number (sector_at k 0)) = place_of f sz k c.in_ok-root.root c.number.result says c.number.ensures in
+    let holds = c.in_ok-octets.ensures.found (one.honest.1 honest) k still (sector_at k 0) says in
+    let octets = snapshot_is f sz k (sector_at k 0) there.0 s there.1 c.in_ok-octets.octets.items (subst (λ n. HoldsSnapshotIn f (sector_at k 0) n k c.in_ok-octets.octets.items) place holds) in
+    let two = reads_then _ _ _ one c.read_snapshot.ensures.reads in
     let mine = c.in-Ok.ensures.found in
     let base : c.in-Ok.base.records ≡ base_of o =
     zones_same c.args.apex.now c.in-Ok.base.records (base_of o) (subst (λ a. IsZone (record { apex = a; records = c.in-Ok.base.records })) mine.1 mine.0) part.valid (sym mine.2 ∙ c.deref.ensures.value ∙ octets ∙ part.snapshot) in
     let copied = c.in_ok-copy.ensures in
     let are =
-    subst (λ rs. AreChanges c.in_ok-copy.copy.apex rs (drop o.base o.versions) s.entries) (sym (copied.1 ∙ base))
-    (subst (λ a. AreChanges a (base_of o) (drop o.base o.versions) s.entries) (sym (copied.0 ∙ mine.1)) part.changes) in
+    subst (λ rs. AreChangesIn f c.in_ok-copy.copy.apex rs (drop o.base o.versions) s.entries) (sym (copied.1 ∙ base))
+    (subst (λ a. AreChangesIn f a (base_of o) (drop o.base o.versions) s.entries) (sym (copied.0 ∙ mine.1)) part.changes) in
     let cursor : Cursor = record { at = at + c.args.snapshot; until = at + c.args.snapshot + c.args.journal; version = c.in_ok-root.root.base; opened = c.in_ok-root.root.bank_open } in
-    let reads = journal_there sz d s there.0 there.1 c.in_ok-root.root says cursor (ap (λ n. n + c.args.snapshot) place) (ap (λ n. n + c.args.snapshot + c.args.journal) place) refl refl in
-    let all = c.in_err-newest.ensures.reads_all (three.honest.1 honest) (drop o.base o.versions) s.entries (subst (λ e. ReadsFrom cursor e s.entries) (sym (three.seen honest)) reads) are in
+    let reads = journal_there f sz k s there.0 there.1 d c.in_ok-root.root says cursor (ap (λ n. n + c.args.snapshot) place) (ap (λ n. n + c.args.snapshot + c.args.journal) place) refl refl in
+    let still' = subst (λ e. IsAltered f k e) (sym (two.seen honest)) altered in
+    let all = c.in_err-newest.ensures.reads_all (two.honest.1 honest) k still' (drop o.base o.versions) s.entries reads are in
     let p = err_from_is_err_and c.from_residual-in_err-newest.result c.from_residual-in_err-newest.ensures.1 in
-    rw (p.1, p.2) (⊎_elim (λ failed. inl failed) (λ memory. inr (inl memory)) all)
-
-pub returns-in_err-newest-clause-reads : goal.returns-in_err-newest-clause-reads
-returns-in_err-newest-clause-reads g c = reads_then _ _ _ (reads_then _ _ _ (reads_then _ _ _ c.settle.ensures.reads c.read_root.ensures.reads) c.read_snapshot.ensures.reads) c.read_versions.ensures.reads
+    let e = c.in_err-newest.field-0.0 in
+    rw (p.1, p.2)
+    (⊎_elim (λ failed. inl (inl failed)) (λ rest. ⊎_elim (λ memory. inl (inr (inl memory)))
+    (λ spoilt. inr (bank_altered f sz k s there.0 there.1 d cursor.at cursor.until (omega (arith, place)) (omega (arith, place)) e (subst (λ b. NamesSpoiltIn f b cursor.at cursor.until e) (two.seen honest) spoilt))) rest) all)
 
 pub returns-clause-found : goal.returns-clause-found
-returns-clause-found g c honest range o s opens part =
+returns-clause-found g c honest range k altered o s opens part =
+    let f = c.args.format in
     let d = g.D.Sectors.seen c.args.device.now in
     let shape : Shape = record { apex = c.args.apex.now; snapshot = c.args.snapshot; journal = c.args.journal } in
     let sz = sizes_of shape in
-    let there = stands_first sz d s opens in
-    let one = c.settle.ensures.reads in
-    let two = reads_then _ _ _ one c.read_root.ensures.reads in
-    let three = reads_then _ _ _ two c.read_snapshot.ensures.reads in
-    let says : SaysRoot (sector_at d 0) c.in_ok-root.root = subst (λ e. SaysRoot (sector_at e 0) c.in_ok-root.root) (one.seen honest) (c.in_ok-root.ensures.found (one.honest.1 honest)).says in
+    let there = stands_first f sz k s opens in
+    let one = c.read_root.ensures.reads in
+    let found = c.in_ok-root.ensures.found honest k altered in
+    let says = found.says in
     let at = 1 + c.number.result * (c.args.snapshot + c.args.journal) in
-    let place : at ≡ snapshot_place sz (number (sector_at d 0)) = place_of sz d c.in_ok-root.root c.number.result says c.number.ensures in
-    let holds = subst (λ e. HoldsSnapshot (sector_at d 0) (1 + c.number.result * (c.args.snapshot + c.args.journal)) e c.in_ok-octets.octets.items) (two.seen honest) (c.in_ok-octets.ensures.found (two.honest.1 honest) (sector_at d 0) says) in
-    let octets = snapshot_is sz d (sector_at d 0) there.0 s there.1 c.in_ok-octets.octets.items (subst (λ n. HoldsSnapshot (sector_at d 0) n d c.in_ok-octets.octets.items) place holds) in
+    let still = subst (λ e. IsAltered f k e) (sym (one.seen honest)) altered in
+    let place : at ≡ snapshot_place sz (number (sector_at k 0)) = place_of f sz k c.in_ok-root.root c.number.result says c.number.ensures in
+    let holds = c.in_ok-octets.ensures.found (one.honest.1 honest) k still (sector_at k 0) says in
+    let octets = snapshot_is f sz k (sector_at k 0) there.0 s there.1 c.in_ok-octets.octets.items (subst (λ n. HoldsSnapshotIn f (sector_at k 0) n k c.in_ok-octets.octets.items) place holds) in
+    let two = reads_then _ _ _ one c.read_snapshot.ensures.reads in
     let mine = c.in-Ok.ensures.found in
     let base : c.in-Ok.base.records ≡ base_of o =
     zones_same c.args.apex.now c.in-Ok.base.records (base_of o) (subst (λ a. IsZone (record { apex = a; records = c.in-Ok.base.records })) mine.1 mine.0) part.valid (sym mine.2 ∙ c.deref.ensures.value ∙ octets ∙ part.snapshot) in
     let copied = c.in_ok-copy.ensures in
     let are =
-    subst (λ rs. AreChanges c.in_ok-copy.copy.apex rs (drop o.base o.versions) s.entries) (sym (copied.1 ∙ base))
-    (subst (λ a. AreChanges a (base_of o) (drop o.base o.versions) s.entries) (sym (copied.0 ∙ mine.1)) part.changes) in
+    subst (λ rs. AreChangesIn f c.in_ok-copy.copy.apex rs (drop o.base o.versions) s.entries) (sym (copied.1 ∙ base))
+    (subst (λ a. AreChangesIn f a (base_of o) (drop o.base o.versions) s.entries) (sym (copied.0 ∙ mine.1)) part.changes) in
     let cursor : Cursor = record { at = at + c.args.snapshot; until = at + c.args.snapshot + c.args.journal; version = c.in_ok-root.root.base; opened = c.in_ok-root.root.bank_open } in
-    let reads = journal_there sz d s there.0 there.1 c.in_ok-root.root says cursor (ap (λ n. n + c.args.snapshot) place) (ap (λ n. n + c.args.snapshot + c.args.journal) place) refl refl in
-    let all = c.in_ok-newest.ensures.reads_all (three.honest.1 honest) (drop o.base o.versions) s.entries (subst (λ e. ReadsFrom cursor e s.entries) (sym (three.seen honest)) reads) are in
+    let reads = journal_there f sz k s there.0 there.1 d c.in_ok-root.root says cursor (ap (λ n. n + c.args.snapshot) place) (ap (λ n. n + c.args.snapshot + c.args.journal) place) refl refl in
+    let still' = subst (λ e. IsAltered f k e) (sym (two.seen honest)) altered in
+    let all = c.in_ok-newest.ensures.reads_all (two.honest.1 honest) k still' (drop o.base o.versions) s.entries reads are in
     let rs = copied.1 ∙ base in
     record {
       says = says;
@@ -133,119 +150,256 @@ returns-clause-found g c honest range o s opens part =
       newest_is = all.newest_is ∙ ap (λ (b : List Record). newest_after b (drop o.base o.versions)) rs ∙ newest_split o.loaded o.base o.versions;
     }
 
-pub returns-clause-durable : goal.returns-clause-durable
-returns-clause-durable g c honest x left =
-    let one = c.settle.ensures.reads in
-    let two = reads_then _ _ _ (reads_then _ _ _ c.read_root.ensures.reads c.read_snapshot.ensures.reads) c.read_versions.ensures.reads in
-    c.in_ok-settle.ensures.durable honest x (two.crash (one.honest.1 honest) x left)
+pub returns-in_err-newest-clause-reads : goal.returns-in_err-newest-clause-reads
+returns-in_err-newest-clause-reads g c = reads_then _ _ _ (reads_then _ _ _ c.read_root.ensures.reads c.read_snapshot.ensures.reads) c.read_versions.ensures.reads
 
 pub returns-clause-reads : goal.returns-clause-reads
-returns-clause-reads g c = reads_then _ _ _ (reads_then _ _ _ (reads_then _ _ _ c.settle.ensures.reads c.read_root.ensures.reads) c.read_snapshot.ensures.reads) c.read_versions.ensures.reads
+returns-clause-reads g c = reads_then _ _ _ (reads_then _ _ _ c.read_root.ensures.reads c.read_snapshot.ensures.reads) c.read_versions.ensures.reads
 
 pub returns-in_err-root-clause-refused : goal.returns-in_err-root-clause-refused
 returns-in_err-root-clause-refused g c honest =
-    let one = c.settle.ensures.reads in
-    let s : Sizes = record { snapshot = c.args.snapshot; journal = c.args.journal; apex = wire c.args.apex.now } in
-    let p = err_from_is_err_and c.from_residual-in_err-root.result c.from_residual-in_err-root.ensures.1 in
+    let f = c.args.format in
+    let d = g.D.Sectors.seen c.args.device.now in
+    let shape : Shape = record { apex = c.args.apex.now; snapshot = c.args.snapshot; journal = c.args.journal } in
+    let s = sizes_of shape in
+    let count = g.D.Sectors.count c.args.device.now in
+    let e = c.in_err-root.field-0.0 in
+    let p = err_from_is_err_and c.from_residual.result c.from_residual.ensures.1 in
     rw (p.1, p.2)
-    (root_refused s (g.D.Sectors.count c.args.device.now) (sector_at (g.D.Sectors.seen c.args.device.now) 0) c.in_err-root.field-0.0
-    (subst (λ a. (c.in_err-root.field-0.0 ≡ OpenError.Device) ⊎ RootRefusal (record { snapshot = c.args.snapshot; journal = c.args.journal; apex = a }) (g.D.Sectors.count c.args.device.now) (sector_at (g.D.Sectors.seen c.args.device.now) 0) c.in_err-root.field-0.0) c.apex_of.ensures.octets
-    (subst (λ n. (c.in_err-root.field-0.0 ≡ OpenError.Device) ⊎ RootRefusal (record { snapshot = c.args.snapshot; journal = c.args.journal; apex = c.apex_of.result }) n (sector_at (g.D.Sectors.seen c.args.device.now) 0) c.in_err-root.field-0.0) one.count
-    (subst (λ e. (c.in_err-root.field-0.0 ≡ OpenError.Device) ⊎ RootRefusal (record { snapshot = c.args.snapshot; journal = c.args.journal; apex = c.apex_of.result }) (g.D.Sectors.count c.settle.new.device) (sector_at e 0) c.in_err-root.field-0.0) (one.seen honest)
-    (c.in_err-root.ensures.refused (one.honest.1 honest))))))
+    (root_refused f s count d e
+    (subst (λ a. (e ≡ OpenError.Device) ⊎ NamesSpoiltIn f d 0 1 e ⊎ RootRefusalIn f (record { snapshot = c.args.snapshot; journal = c.args.journal; apex = a }) count (sector_at d 0) e) c.apex_of.ensures.octets
+    (c.in_err-root.ensures.refused honest d (altered_itself f d))))
 
 pub returns-in_err-octets-clause-refused : goal.returns-in_err-octets-clause-refused
 returns-in_err-octets-clause-refused g c honest =
-    let one = c.settle.ensures.reads in
+    let f = c.args.format in
+    let d = g.D.Sectors.seen c.args.device.now in
+    let shape : Shape = record { apex = c.args.apex.now; snapshot = c.args.snapshot; journal = c.args.journal } in
     let s : Sizes = record { snapshot = c.args.snapshot; journal = c.args.journal; apex = wire c.args.apex.now } in
-    let root = found_there c.args.snapshot c.args.journal c.apex_of.result (wire c.args.apex.now) (g.D.Sectors.count c.args.device.now) (g.D.Sectors.count c.settle.new.device) (g.D.Sectors.seen c.settle.new.device) (g.D.Sectors.seen c.args.device.now) c.in_ok-root.root
-    c.apex_of.ensures.octets one.count (one.seen honest) (c.in_ok-root.ensures.found (one.honest.1 honest)) in
+    let count = g.D.Sectors.count c.args.device.now in
+    let root = found_there f c.args.snapshot c.args.journal c.apex_of.result (wire c.args.apex.now) count d c.in_ok-root.root c.apex_of.ensures.octets (c.in_ok-root.ensures.found honest d (altered_itself f d)) in
     let p = err_from_is_err_and c.from_residual-in_err-octets.result c.from_residual-in_err-octets.ensures.1 in
-    rw p.1 (bank_refused s (g.D.Sectors.count c.args.device.now) (sector_at (g.D.Sectors.seen c.args.device.now) 0) root p.0 (of_reading c.in_err-octets.field-0.0 p.0 p.2))
+    rw p.1 (bank_refused f s count (sector_at d 0) root p.0 (of_reading c.in_err-octets.field-0.0 p.0 p.2))
 
 pub returns-in-Err-clause-refused : goal.returns-in-Err-clause-refused
 returns-in-Err-clause-refused g c honest =
-    let one = c.settle.ensures.reads in
+    let f = c.args.format in
+    let d = g.D.Sectors.seen c.args.device.now in
+    let shape : Shape = record { apex = c.args.apex.now; snapshot = c.args.snapshot; journal = c.args.journal } in
     let s : Sizes = record { snapshot = c.args.snapshot; journal = c.args.journal; apex = wire c.args.apex.now } in
-    let root = found_there c.args.snapshot c.args.journal c.apex_of.result (wire c.args.apex.now) (g.D.Sectors.count c.args.device.now) (g.D.Sectors.count c.settle.new.device) (g.D.Sectors.seen c.settle.new.device) (g.D.Sectors.seen c.args.device.now) c.in_ok-root.root
-    c.apex_of.ensures.octets one.count (one.seen honest) (c.in_ok-root.ensures.found (one.honest.1 honest)) in
-    bank_refused s (g.D.Sectors.count c.args.device.now) (sector_at (g.D.Sectors.seen c.args.device.now) 0) root c.fault_at.result (of_fault _ c.fault_at.result c.fault_at.ensures.other)
+    let count = g.D.Sectors.count c.args.device.now in
+    let root = found_there f c.args.snapshot c.args.journal c.apex_of.result (wire c.args.apex.now) count d c.in_ok-root.root c.apex_of.ensures.octets (c.in_ok-root.ensures.found honest d (altered_itself f d)) in
+    bank_refused f s count (sector_at d 0) root c.fault_at.result (of_fault _ c.fault_at.result c.fault_at.ensures.other)
 
 pub returns-in_err-newest-clause-refused : goal.returns-in_err-newest-clause-refused
 returns-in_err-newest-clause-refused g c honest =
-    let one = c.settle.ensures.reads in
+    let f = c.args.format in
+    let d = g.D.Sectors.seen c.args.device.now in
+    let shape : Shape = record { apex = c.args.apex.now; snapshot = c.args.snapshot; journal = c.args.journal } in
     let s : Sizes = record { snapshot = c.args.snapshot; journal = c.args.journal; apex = wire c.args.apex.now } in
-    let root = found_there c.args.snapshot c.args.journal c.apex_of.result (wire c.args.apex.now) (g.D.Sectors.count c.args.device.now) (g.D.Sectors.count c.settle.new.device) (g.D.Sectors.seen c.settle.new.device) (g.D.Sectors.seen c.args.device.now) c.in_ok-root.root
-    c.apex_of.ensures.octets one.count (one.seen honest) (c.in_ok-root.ensures.found (one.honest.1 honest)) in
+    let count = g.D.Sectors.count c.args.device.now in
+    let root = found_there f c.args.snapshot c.args.journal c.apex_of.result (wire c.args.apex.now) count d c.in_ok-root.root c.apex_of.ensures.octets (c.in_ok-root.ensures.found honest d (altered_itself f d)) in
     let p = err_from_is_err_and c.from_residual-in_err-newest.result c.from_residual-in_err-newest.ensures.1 in
-    rw (p.1, p.2) (bank_refused s (g.D.Sectors.count c.args.device.now) (sector_at (g.D.Sectors.seen c.args.device.now) 0) root c.in_err-newest.field-0.0 c.in_err-newest.ensures.refused)
+    rw (p.1, p.2) (bank_refused f s count (sector_at d 0) root c.in_err-newest.field-0.0 c.in_err-newest.ensures.refused)
 
 pub returns-clause-root : goal.returns-clause-root
 returns-clause-root g c honest =
-    let one = c.settle.ensures.reads in
+    let f = c.args.format in
+    let d = g.D.Sectors.seen c.args.device.now in
+    let shape : Shape = record { apex = c.args.apex.now; snapshot = c.args.snapshot; journal = c.args.journal } in
     let s : Sizes = record { snapshot = c.args.snapshot; journal = c.args.journal; apex = wire c.args.apex.now } in
-    let root = found_there c.args.snapshot c.args.journal c.apex_of.result (wire c.args.apex.now) (g.D.Sectors.count c.args.device.now) (g.D.Sectors.count c.settle.new.device) (g.D.Sectors.seen c.settle.new.device) (g.D.Sectors.seen c.args.device.now) c.in_ok-root.root
-    c.apex_of.ensures.octets one.count (one.seen honest) (c.in_ok-root.ensures.found (one.honest.1 honest)) in
+    let count = g.D.Sectors.count c.args.device.now in
+    let root = found_there f c.args.snapshot c.args.journal c.apex_of.result (wire c.args.apex.now) count d c.in_ok-root.root c.apex_of.ensures.octets (c.in_ok-root.ensures.found honest d (altered_itself f d)) in
     root
 
 pub returns-in_err-root-clause-damaged : goal.returns-in_err-root-clause-damaged
 returns-in_err-root-clause-damaged g c honest =
+    let f = c.args.format in
     let d = g.D.Sectors.seen c.args.device.now in
     let shape : Shape = record { apex = c.args.apex.now; snapshot = c.args.snapshot; journal = c.args.journal } in
-    let one = c.settle.ensures.reads in
-    let p = err_from_is_err_and c.from_residual-in_err-root.result c.from_residual-in_err-root.ensures.1 in
+    let p = err_from_is_err_and c.from_residual.result c.from_residual.ensures.1 in
     let sizes : Sizes = record { snapshot = c.args.snapshot; journal = c.args.journal; apex = c.apex_of.result } in
-    let count = g.D.Sectors.count c.settle.new.device in
-    rw (p.1, p.2)
-    (root_named shape d sizes count c.in_err-root.field-0.0
-    (subst (λ e. (c.in_err-root.field-0.0 ≡ OpenError.Device) ⊎ RootRefusal sizes count (sector_at e 0) c.in_err-root.field-0.0) (one.seen honest)
-    (c.in_err-root.ensures.refused (one.honest.1 honest))))
+    rw (p.1, p.2) (root_named f shape d sizes (g.D.Sectors.count c.args.device.now) c.in_err-root.field-0.0 (c.in_err-root.ensures.refused honest d (altered_itself f d)))
 
 pub returns-in_err-octets-clause-damaged : goal.returns-in_err-octets-clause-damaged
 returns-in_err-octets-clause-damaged g c honest =
+    let f = c.args.format in
     let d = g.D.Sectors.seen c.args.device.now in
     let shape : Shape = record { apex = c.args.apex.now; snapshot = c.args.snapshot; journal = c.args.journal } in
-    let one = c.settle.ensures.reads in
-    let two = reads_then _ _ _ one c.read_root.ensures.reads in
-    let says : SaysRoot (sector_at d 0) c.in_ok-root.root = subst (λ e. SaysRoot (sector_at e 0) c.in_ok-root.root) (one.seen honest) (c.in_ok-root.ensures.found (one.honest.1 honest)).says in
+    let one = c.read_root.ensures.reads in
+    let found = c.in_ok-root.ensures.found honest d (altered_itself f d) in
+    let says = found.says in
     let at = 1 + c.number.result * (c.args.snapshot + c.args.journal) in
     let at_is = ap (λ n. 1 + n * (c.args.snapshot + c.args.journal)) c.number.ensures in
+    let still = subst (λ e. IsAltered f d e) (sym (one.seen honest)) (altered_itself f d) in
     let p = err_from_is_err_and c.from_residual-in_err-octets.result c.from_residual-in_err-octets.ensures.1 in
-    let bad = c.in_err-octets.ensures.damaged (two.honest.1 honest) (sector_at d 0) says in
-    rw p.1 (snapshot_named shape d c.in_ok-root.root says at at_is c.in_err-octets.field-0.0 p.0 p.2 (subst (λ e. IsBadSnapshot (sector_at d 0) at e c.in_err-octets.field-0.0) (two.seen honest) bad))
+    let e = c.in_err-octets.field-0.0 in
+    let size = snapshot_sectors_in f c.in_ok-root.root.snapshot_length in
+    let bad = subst (λ b. NamesSpoilt f b at (at + size) e ⊎ IsBadSnapshotIn f (sector_at d 0) at d e) (one.seen honest) (c.in_err-octets.ensures.damaged (one.honest.1 honest) d still (sector_at d 0) says) in
+    rw p.1 (snapshot_named f shape d c.in_ok-root.root says at at_is size c.in_ok-root.ensures.fits.0 e p.0 p.2 bad)
 
 pub returns-in-Err-clause-damaged : goal.returns-in-Err-clause-damaged
 returns-in-Err-clause-damaged g c honest =
+    let f = c.args.format in
     let d = g.D.Sectors.seen c.args.device.now in
     let shape : Shape = record { apex = c.args.apex.now; snapshot = c.args.snapshot; journal = c.args.journal } in
-    let one = c.settle.ensures.reads in
-    let two = reads_then _ _ _ one c.read_root.ensures.reads in
-    let says : SaysRoot (sector_at d 0) c.in_ok-root.root = subst (λ e. SaysRoot (sector_at e 0) c.in_ok-root.root) (one.seen honest) (c.in_ok-root.ensures.found (one.honest.1 honest)).says in
+    let one = c.read_root.ensures.reads in
+    let found = c.in_ok-root.ensures.found honest d (altered_itself f d) in
+    let says = found.says in
     let at = 1 + c.number.result * (c.args.snapshot + c.args.journal) in
+    let still = subst (λ e. IsAltered f d e) (sym (one.seen honest)) (altered_itself f d) in
+    let holds = c.in_ok-octets.ensures.found (one.honest.1 honest) d still (sector_at d 0) says in
     let at_is = ap (λ n. 1 + n * (c.args.snapshot + c.args.journal)) c.number.ensures in
-    let holds = subst (λ e. HoldsSnapshot (sector_at d 0) at e c.in_ok-octets.octets.items) (two.seen honest) (c.in_ok-octets.ensures.found (two.honest.1 honest) (sector_at d 0) says) in
-    zone_named shape d c.in_ok-root.root says at at_is c.in_ok-octets.octets.items holds c.fault_at.result c.fault_at.ensures.other
+    zone_named f shape d c.in_ok-root.root says at at_is c.in_ok-octets.octets.items holds c.fault_at.result c.fault_at.ensures.other
     (⊎_elim (λ memory. inl (c.fault_at.ensures.memory memory)) (λ bad. inr (λ records valid is. bad.1 records valid (c.deref.ensures.value ∙ is))) c.in-Err.ensures.refused)
 
 pub returns-in_err-newest-clause-damaged : goal.returns-in_err-newest-clause-damaged
 returns-in_err-newest-clause-damaged g c honest =
+    let f = c.args.format in
     let d = g.D.Sectors.seen c.args.device.now in
     let shape : Shape = record { apex = c.args.apex.now; snapshot = c.args.snapshot; journal = c.args.journal } in
-    let one = c.settle.ensures.reads in
-    let two = reads_then _ _ _ one c.read_root.ensures.reads in
-    let says : SaysRoot (sector_at d 0) c.in_ok-root.root = subst (λ e. SaysRoot (sector_at e 0) c.in_ok-root.root) (one.seen honest) (c.in_ok-root.ensures.found (one.honest.1 honest)).says in
+    let one = c.read_root.ensures.reads in
+    let found = c.in_ok-root.ensures.found honest d (altered_itself f d) in
+    let says = found.says in
     let at = 1 + c.number.result * (c.args.snapshot + c.args.journal) in
+    let still = subst (λ e. IsAltered f d e) (sym (one.seen honest)) (altered_itself f d) in
+    let holds = c.in_ok-octets.ensures.found (one.honest.1 honest) d still (sector_at d 0) says in
     let at_is = ap (λ n. 1 + n * (c.args.snapshot + c.args.journal)) c.number.ensures in
-    let three = reads_then _ _ _ two c.read_snapshot.ensures.reads in
-    let holds = subst (λ e. HoldsSnapshot (sector_at d 0) at e c.in_ok-octets.octets.items) (two.seen honest) (c.in_ok-octets.ensures.found (two.honest.1 honest) (sector_at d 0) says) in
+    let two = reads_then _ _ _ one c.read_snapshot.ensures.reads in
     let mine = c.in-Ok.ensures.found in
     let base = c.in-Ok.base.records in
     let valid = subst (λ a. IsZone (record { apex = a; records = base })) mine.1 mine.0 in
-    let plains = subst (λ (xs : List ℕ). HoldsSnapshot (sector_at d 0) at d xs) (sym c.deref.ensures.value ∙ mine.2) holds in
+    let plains = subst (λ (xs : List ℕ). HoldsSnapshotIn f (sector_at d 0) at d xs) (sym c.deref.ensures.value ∙ mine.2) holds in
     let copied = c.in_ok-copy.ensures in
     let cursor : Cursor = record { at = at + c.args.snapshot; until = at + c.args.snapshot + c.args.journal; version = c.in_ok-root.root.base; opened = c.in_ok-root.root.bank_open } in
     let p = err_from_is_err_and c.from_residual-in_err-newest.result c.from_residual-in_err-newest.ensures.1 in
-    let wrong = c.in_err-newest.ensures.damaged (three.honest.1 honest) in
-    let here = subst (λ e. NamesWrongEntry c.in_ok-copy.copy.apex c.in_ok-copy.copy.records cursor e c.in_err-newest.field-0.0) (three.seen honest) wrong in
-    let mine' = subst (λ a. NamesWrongEntry a base cursor d c.in_err-newest.field-0.0) (copied.0 ∙ mine.1) (subst (λ (rs : List Record). NamesWrongEntry c.in_ok-copy.copy.apex rs cursor d c.in_err-newest.field-0.0) copied.1 here) in
-    rw (p.1, p.2) (journal_named shape d c.in_ok-root.root says at at_is base plains valid c.in_err-newest.field-0.0 mine')
+    let e = c.in_err-newest.field-0.0 in
+    let wrong = c.in_err-newest.ensures.damaged (two.honest.1 honest) in
+    let here = subst (λ b. NamesSpoiltIn f b cursor.at cursor.until e ⊎ NamesWrongEntryIn f c.in_ok-copy.copy.apex c.in_ok-copy.copy.records cursor b e) (two.seen honest) wrong in
+    let mine' = subst (λ a. NamesSpoiltIn f d cursor.at cursor.until e ⊎ NamesWrongEntryIn f a base cursor d e) (copied.0 ∙ mine.1) (subst (λ (rs : List Record). NamesSpoiltIn f d cursor.at cursor.until e ⊎ NamesWrongEntryIn f c.in_ok-copy.copy.apex rs cursor d e) copied.1 here) in
+    rw (p.1, p.2) (journal_named f shape d c.in_ok-root.root says at at_is base plains valid e mine')
+
+pub returns-in_err-root-clause-not_own : goal.returns-in_err-root-clause-not_own
+returns-in_err-root-clause-not_own g c honest range place reached not =
+    let f = c.args.format in
+    let d = g.D.Sectors.seen c.args.device.now in
+    let shape : Shape = record { apex = c.args.apex.now; snapshot = c.args.snapshot; journal = c.args.journal } in
+    let e = c.in_err-root.field-0.0 in
+    let p = err_from_is_err_and c.from_residual.result c.from_residual.ensures.1 in
+    let count = sym (g.met.D.Sectors.all_seen c.args.device.now honest) in
+    rw (p.1, p.2)
+    (⊎_elim
+    (λ first. subst (λ n. NamesSector n e) (sym first.0) (c.in_err-root.ensures.not_own honest (λ own. not (subst (λ n. IsIntactIn f n (sector_at d n)) (sym first.0) own))))
+    (λ bank. root_reached f shape d bank.0 bank.1 c.apex_of.ensures.plain place e
+    (subst (λ n. (e ≡ OpenError.Device) ⊎ NamesSpoiltIn f d 0 1 e ⊎ RootRefusalIn f (sizes_of shape) n (sector_at d 0) e) count
+    (subst (λ a. (e ≡ OpenError.Device) ⊎ NamesSpoiltIn f d 0 1 e ⊎ RootRefusalIn f (record { snapshot = c.args.snapshot; journal = c.args.journal; apex = a }) (g.D.Sectors.count c.args.device.now) (sector_at d 0) e) c.apex_of.ensures.octets
+    (c.in_err-root.ensures.refused honest d (altered_itself f d)))))
+    reached)
+
+pub returns-in_err-octets-clause-not_own : goal.returns-in_err-octets-clause-not_own
+returns-in_err-octets-clause-not_own g c honest range place reached not =
+    let f = c.args.format in
+    let d = g.D.Sectors.seen c.args.device.now in
+    let shape : Shape = record { apex = c.args.apex.now; snapshot = c.args.snapshot; journal = c.args.journal } in
+    let one = c.read_root.ensures.reads in
+    let found = c.in_ok-root.ensures.found honest d (altered_itself f d) in
+    let says = found.says in
+    let at = 1 + c.number.result * (c.args.snapshot + c.args.journal) in
+    let still = subst (λ e. IsAltered f d e) (sym (one.seen honest)) (altered_itself f d) in
+    let p = err_from_is_err_and c.from_residual-in_err-octets.result c.from_residual-in_err-octets.ensures.1 in
+    let e = c.in_err-octets.field-0.0 in
+    let size = snapshot_sectors_in f c.in_ok-root.root.snapshot_length in
+    let bad = subst (λ b. NamesSpoilt f b at (at + size) e ⊎ IsBadSnapshotIn f (sector_at d 0) at d e) (one.seen honest) (c.in_err-octets.ensures.damaged (one.honest.1 honest) d still (sector_at d 0) says) in
+    rw p.1
+    (⊎_elim
+    (λ first. absurd (c.in_ok-root.ensures.not_own honest (λ own. not (subst (λ n. IsIntactIn f n (sector_at d n)) (sym first.0) own))))
+    (λ bank. ⊎_elim
+    (λ part. subst (λ n. NamesSector n p.0) (sym part.1) (sector_named (at + part.0) e p.0 p.2
+    (c.in_err-octets.ensures.not_own (one.honest.1 honest) (sector_at d 0) says part.0 (subst (λ b. IsReachedPartIn f (sector_at d 0) at b part.0) (sym (one.seen honest)) part.2)
+    (λ own. not (subst (λ n. IsIntactIn f n (sector_at d n)) (sym part.1) (subst (λ b. IsIntactIn f (at + part.0) (sector_at b (at + part.0))) (one.seen honest) own))))))
+    (λ behind. snapshot_reached f d (sector_at d 0) at (flat_map plain behind.base) behind.holds behind.own size (ap (snapshot_sectors_in f) (sym says.snapshot_length_is)) place e p.0 p.2 bad)
+    (reaches f shape d bank.0 bank.1 c.in_ok-root.root says c.number.result c.number.ensures place bank.2))
+    reached)
+
+pub returns-in-Err-clause-not_own : goal.returns-in-Err-clause-not_own
+returns-in-Err-clause-not_own g c honest range place reached not =
+    let f = c.args.format in
+    let d = g.D.Sectors.seen c.args.device.now in
+    let shape : Shape = record { apex = c.args.apex.now; snapshot = c.args.snapshot; journal = c.args.journal } in
+    let one = c.read_root.ensures.reads in
+    let found = c.in_ok-root.ensures.found honest d (altered_itself f d) in
+    let says = found.says in
+    let at = 1 + c.number.result * (c.args.snapshot + c.args.journal) in
+    let still = subst (λ e. IsAltered f d e) (sym (one.seen honest)) (altered_itself f d) in
+    let holds = c.in_ok-octets.ensures.found (one.honest.1 honest) d still (sector_at d 0) says in
+    ⊎_elim
+    (λ first. absurd (c.in_ok-root.ensures.not_own honest (λ own. not (subst (λ n. IsIntactIn f n (sector_at d n)) (sym first.0) own))))
+    (λ bank. ⊎_elim
+    (λ part. absurd (c.in_ok-octets.ensures.not_own (one.honest.1 honest) (sector_at d 0) says part.0 (subst (λ b. IsReachedPartIn f (sector_at d 0) at b part.0) (sym (one.seen honest)) part.2)
+    (λ own. not (subst (λ n. IsIntactIn f n (sector_at d n)) (sym part.1) (subst (λ b. IsIntactIn f (at + part.0) (sector_at b (at + part.0))) (one.seen honest) own)))))
+    (λ behind. (let same = holds.octets_are ∙ sym behind.holds.octets_are in
+    ⊎_elim (λ memory. inr (inl (c.fault_at.ensures.memory memory))) (λ bad. absurd (bad.1 behind.base behind.valid (c.deref.ensures.value ∙ same))) c.in-Err.ensures.refused))
+    (reaches f shape d bank.0 bank.1 c.in_ok-root.root says c.number.result c.number.ensures place bank.2))
+    reached
+
+pub returns-in_err-newest-clause-not_own : goal.returns-in_err-newest-clause-not_own
+returns-in_err-newest-clause-not_own g c honest range place reached not =
+    let f = c.args.format in
+    let d = g.D.Sectors.seen c.args.device.now in
+    let shape : Shape = record { apex = c.args.apex.now; snapshot = c.args.snapshot; journal = c.args.journal } in
+    let one = c.read_root.ensures.reads in
+    let found = c.in_ok-root.ensures.found honest d (altered_itself f d) in
+    let says = found.says in
+    let at = 1 + c.number.result * (c.args.snapshot + c.args.journal) in
+    let still = subst (λ e. IsAltered f d e) (sym (one.seen honest)) (altered_itself f d) in
+    let holds = c.in_ok-octets.ensures.found (one.honest.1 honest) d still (sector_at d 0) says in
+    let two = reads_then _ _ _ one c.read_snapshot.ensures.reads in
+    let mine = c.in-Ok.ensures.found in
+    let copied = c.in_ok-copy.ensures in
+    let cursor : Cursor = record { at = at + c.args.snapshot; until = at + c.args.snapshot + c.args.journal; version = c.in_ok-root.root.base; opened = c.in_ok-root.root.bank_open } in
+    let p = err_from_is_err_and c.from_residual-in_err-newest.result c.from_residual-in_err-newest.ensures.1 in
+    rw (p.1, p.2)
+    (⊎_elim
+    (λ first. absurd (c.in_ok-root.ensures.not_own honest (λ own. not (subst (λ n. IsIntactIn f n (sector_at d n)) (sym first.0) own))))
+    (λ bank. ⊎_elim
+    (λ part. absurd (c.in_ok-octets.ensures.not_own (one.honest.1 honest) (sector_at d 0) says part.0 (subst (λ b. IsReachedPartIn f (sector_at d 0) at b part.0) (sym (one.seen honest)) part.2)
+    (λ own. not (subst (λ n. IsIntactIn f n (sector_at d n)) (sym part.1) (subst (λ b. IsIntactIn f (at + part.0) (sector_at b (at + part.0))) (one.seen honest) own)))))
+    (λ behind. (let same = holds.octets_are ∙ sym behind.holds.octets_are in
+    let base : c.in-Ok.base.records ≡ behind.base =
+    zones_same c.args.apex.now c.in-Ok.base.records behind.base (subst (λ a. IsZone (record { apex = a; records = c.in-Ok.base.records })) mine.1 mine.0) behind.valid (sym mine.2 ∙ c.deref.ensures.value ∙ same) in
+    let reach = subst (λ b. IsReachedEntryIn f c.in_ok-copy.copy.apex c.in_ok-copy.copy.records cursor b place) (sym (two.seen honest))
+    (subst (λ (rs : List Record). IsReachedEntryIn f c.in_ok-copy.copy.apex rs cursor d place) (sym (copied.1 ∙ base))
+    (subst (λ a. IsReachedEntryIn f a behind.base cursor d place) (sym (copied.0 ∙ mine.1)) behind.reached)) in
+    c.in_err-newest.ensures.not_own (two.honest.1 honest) place reach (subst (λ b. IsIntactIn f place (sector_at b place) → ⊥) (sym (two.seen honest)) not)))
+    (reaches f shape d bank.0 bank.1 c.in_ok-root.root says c.number.result c.number.ensures place bank.2))
+    reached)
+
+pub returns-clause-not_own : goal.returns-clause-not_own
+returns-clause-not_own g c honest range place reached not =
+    let f = c.args.format in
+    let d = g.D.Sectors.seen c.args.device.now in
+    let shape : Shape = record { apex = c.args.apex.now; snapshot = c.args.snapshot; journal = c.args.journal } in
+    let one = c.read_root.ensures.reads in
+    let found = c.in_ok-root.ensures.found honest d (altered_itself f d) in
+    let says = found.says in
+    let at = 1 + c.number.result * (c.args.snapshot + c.args.journal) in
+    let still = subst (λ e. IsAltered f d e) (sym (one.seen honest)) (altered_itself f d) in
+    let holds = c.in_ok-octets.ensures.found (one.honest.1 honest) d still (sector_at d 0) says in
+    let two = reads_then _ _ _ one c.read_snapshot.ensures.reads in
+    let mine = c.in-Ok.ensures.found in
+    let copied = c.in_ok-copy.ensures in
+    let cursor : Cursor = record { at = at + c.args.snapshot; until = at + c.args.snapshot + c.args.journal; version = c.in_ok-root.root.base; opened = c.in_ok-root.root.bank_open } in
+    ⊎_elim
+    (λ first. absurd (c.in_ok-root.ensures.not_own honest (λ own. not (subst (λ n. IsIntactIn f n (sector_at d n)) (sym first.0) own))))
+    (λ bank. ⊎_elim
+    (λ part. absurd (c.in_ok-octets.ensures.not_own (one.honest.1 honest) (sector_at d 0) says part.0 (subst (λ b. IsReachedPartIn f (sector_at d 0) at b part.0) (sym (one.seen honest)) part.2)
+    (λ own. not (subst (λ n. IsIntactIn f n (sector_at d n)) (sym part.1) (subst (λ b. IsIntactIn f (at + part.0) (sector_at b (at + part.0))) (one.seen honest) own)))))
+    (λ behind. (let same = holds.octets_are ∙ sym behind.holds.octets_are in
+    let base : c.in-Ok.base.records ≡ behind.base =
+    zones_same c.args.apex.now c.in-Ok.base.records behind.base (subst (λ a. IsZone (record { apex = a; records = c.in-Ok.base.records })) mine.1 mine.0) behind.valid (sym mine.2 ∙ c.deref.ensures.value ∙ same) in
+    let reach = subst (λ b. IsReachedEntryIn f c.in_ok-copy.copy.apex c.in_ok-copy.copy.records cursor b place) (sym (two.seen honest))
+    (subst (λ (rs : List Record). IsReachedEntryIn f c.in_ok-copy.copy.apex rs cursor d place) (sym (copied.1 ∙ base))
+    (subst (λ a. IsReachedEntryIn f a behind.base cursor d place) (sym (copied.0 ∙ mine.1)) behind.reached)) in
+    c.in_ok-newest.ensures.not_own (two.honest.1 honest) place reach (subst (λ b. IsIntactIn f place (sector_at b place) → ⊥) (sym (two.seen honest)) not)))
+    (reaches f shape d bank.0 bank.1 c.in_ok-root.root says c.number.result c.number.ensures place bank.2))
+    reached

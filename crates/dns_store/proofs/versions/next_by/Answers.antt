@@ -1,6 +1,6 @@
 use Rattle.std.proofs.Common.{◌≡◌, rules, ⊎_elim, Some, None, sym, ◌∙◌}
 use Rattle.std.proofs.lemmas.Result.{err_from_is_err_and}
-use Rattle.dns_zone.specs.Zone.{IsZone, zone_fault}
+use Rattle.dns_zone.specs.Zone.{zone_fault}
 use Rattle.dns_changes.specs.Change.{applied, change_fault}
 use Rattle.dns_changes.specs.Applied.{change_leads}
 use Rattle.dns_store.proofs.versions.next_by.Goals as goal

@@ -1,9 +1,11 @@
-use Rattle.std.proofs.Common.{◌≡◌, ◌≤◌, ◌-◌, List}
+use Rattle.std.proofs.Common.{◌≡◌, ◌≤◌, ◌-◌, ℕ, List}
+use Rattle.dns_layout.specs.Sector.{sector_at}
+use Rattle.dns_layout.specs.Own.{IsIntactIn, IsAltered}
 use Rattle.dns_layout.specs.Journal.{Entry}
 use Rattle.dns_journal.specs.Reads.{OnlyReads, ReadsFrom}
 use Rattle.dns_store.specs.Versions.{Versions}
-use Rattle.dns_store.specs.Opens.{AreChanges}
-use Rattle.dns_store.specs.Damage.{Step, AreSteps}
+use Rattle.dns_store.specs.Opens.{AreChangesIn}
+use Rattle.dns_store.specs.Damage.{Step, AreStepsIn, IsReachedEntryIn}
 use Rattle.dns_store.proofs.Recovering.{Goes}
 use Rattle.dns_store.proofs.versions.read_versions.Given as goal
 
@@ -12,10 +14,13 @@ invariant-entries g l = record {
   reads : OnlyReads g.D.Sectors l.fn.device l.device;
   until : l.cursor.until ≡ l.fn.cursor.until;
   within : l.cursor.at ≤ l.cursor.until;
+  rises : l.fn.cursor.at ≤ l.cursor.at;
   apex : l.zone.apex ≡ l.fn.base.apex;
-  steps : g.D.Sectors.is_honest l.fn.device → (ss : List Step) × AreSteps l.fn.base.apex (g.D.Sectors.seen l.fn.device) l.fn.cursor l.fn.base.records ss l.cursor l.zone.records;
-  goes : g.D.Sectors.is_honest l.fn.device → (vs : Versions) (es : List Entry) → ReadsFrom l.fn.cursor (g.D.Sectors.seen l.fn.device) es → AreChanges l.fn.base.apex l.fn.base.records vs es
-      → Goes l.fn.cursor l.cursor (g.D.Sectors.seen l.fn.device) l.fn.base.apex l.fn.base.records vs es l.zone.records l.changes.items;
+  steps : g.D.Sectors.is_honest l.fn.device → (ss : List Step) × AreStepsIn l.format l.fn.base.apex (g.D.Sectors.seen l.fn.device) l.fn.cursor l.fn.base.records ss l.cursor l.zone.records;
+  goes : g.D.Sectors.is_honest l.fn.device → (k : List (List ℕ)) → IsAltered l.format k (g.D.Sectors.seen l.fn.device) → (vs : Versions) (es : List Entry) → ReadsFrom l.format l.fn.cursor k es → AreChangesIn l.format l.fn.base.apex l.fn.base.records vs es
+      → Goes l.format l.fn.cursor l.cursor k l.fn.base.apex l.fn.base.records vs es l.zone.records l.changes.items;
+  reached : g.D.Sectors.is_honest l.fn.device → (place : ℕ) → IsReachedEntryIn l.format l.fn.base.apex l.fn.base.records l.fn.cursor (g.D.Sectors.seen l.fn.device) place → (IsIntactIn l.format place (sector_at (g.D.Sectors.seen l.fn.device) place) → ⊥)
+      → IsReachedEntryIn l.format l.fn.base.apex l.zone.records l.cursor (g.D.Sectors.seen l.fn.device) place;
 }
 
 abbrev pub decreases-entries : goal.decreases-entries

@@ -1,16 +1,17 @@
 use Rattle.std.proofs.Common.{◌≡◌, ◌⊎◌, ◌+◌, ◌-◌, List, refl, sym, length, subst, arith}
 use Rattle.dns_sectors.specs.Phase.{pairs}
 use Rattle.dns_sectors.specs.declared.phase.SectorWrite.{SectorWrite}
-use Rattle.dns_sectors.proofs.Moments.{weaker}
+use Rattle.dns_sectors.proofs.Moments.{started, weaker}
 use Rattle.dns_layout.specs.Forms.{bank_number}
-use Rattle.dns_layout.specs.Store.{OpensAs, IsTidy}
-use Rattle.dns_journal.specs.Bank.{other_of, LaysBank, LeavesEither}
-use Rattle.dns_journal.proofs.Laying.{snapshot_short}
-use Rattle.dns_journal.proofs.Turned.{rooms_of, stored, is_turned, turns, leaves_either, turned_keeps}
+use Rattle.dns_layout.specs.Store.{OpensAs, IsTidy, other_of}
+use Rattle.dns_journal.specs.Bank.{LaysBank, LeavesEither}
+use Rattle.dns_journal.proofs.Turned.{still_stored, rooms_of, stored, is_turned, turns, leaves_either, turned_keeps}
 use Rattle.dns_journal.proofs.journal.Journal.turn.Goals as goal
 
-pub overflow_cast-self : goal.overflow_cast-self
-overflow_cast-self g c = omega (arith, snapshot_short (length c.args.octets.now) c.args.self.now.root.snapshot_room (omega (arith, c.args.self.now.banks_small)) c.requires.fits)
+pub returns-in_err-writes-clause-any_moment : goal.returns-in_err-writes-clause-any_moment
+returns-in_err-writes-clause-any_moment g c shape k keeps =
+    started g.D.Sectors.moment g.D.Sectors.left_since c.args.self.now.device (LeavesEither shape k c.args.octets.now c.args.changes.now)
+    (λ d left. still_stored shape c.args.self.now k keeps c.args.octets.now c.args.changes.now d (keeps.2.durable d (g.met.D.Sectors.only_now c.args.self.now.device d keeps.2.honest left)))
 
 pub returns-in-Ok-clause-any_moment : goal.returns-in-Ok-clause-any_moment
 returns-in-Ok-clause-any_moment g c shape k keeps =
@@ -21,7 +22,7 @@ returns-in-Ok-clause-any_moment g c shape k keeps =
     let lays = subst (λ (l : List SectorWrite). LaysBank (rooms_of old.root) (other_of (bank_number old.root.bank)) old.root.open_count base c.args.octets.now c.args.changes.now (pairs l) c.in_ok-writes.next) (sym c.deref.ensures.value) c.in_ok-writes.ensures.laid in
     let new = stored shape old k keeps c.args.octets.now c.args.changes.now c.other_bank-self.result base ws c.in_ok-writes.next c.other_bank-self.ensures base_is c.requires.fits lays in
     let turn = turns shape old k keeps c.args.octets.now c.args.changes.now c.other_bank-self.result base ws c.in_ok-writes.next c.other_bank-self.ensures base_is c.requires.fits lays in
-    weaker g.D.Sectors.moment g.D.Sectors.left_since c.args.self.now.device c.turn_to.new.device (λ d. (OpensAs shape d k ⊎ OpensAs shape d new) × IsTidy d) (LeavesEither shape k c.args.octets.now c.args.changes.now)
+    weaker g.D.Sectors.moment g.D.Sectors.left_since c.args.self.now.device c.turn_to.new.device (λ d. (OpensAs shape d k ⊎ OpensAs shape d new) × IsTidy shape d) (LeavesEither shape k c.args.octets.now c.args.changes.now)
     (c.turn_to.ensures.any_moment shape k new keeps.0 keeps.1 keeps.2.honest keeps.2.durable keeps.2.opens keeps.2.bank keeps.2.behind turn)
     (λ d left. leaves_either shape old k keeps c.args.octets.now c.args.changes.now c.other_bank-self.result base ws c.in_ok-writes.next c.other_bank-self.ensures base_is c.requires.fits lays d left)
 
@@ -50,6 +51,6 @@ returns-clause-any_moment g c shape k keeps =
     let lays = subst (λ (l : List SectorWrite). LaysBank (rooms_of old.root) (other_of (bank_number old.root.bank)) old.root.open_count base c.args.octets.now c.args.changes.now (pairs l) c.in_ok-writes.next) (sym c.deref.ensures.value) c.in_ok-writes.ensures.laid in
     let new = stored shape old k keeps c.args.octets.now c.args.changes.now c.other_bank-self.result base ws c.in_ok-writes.next c.other_bank-self.ensures base_is c.requires.fits lays in
     let turn = turns shape old k keeps c.args.octets.now c.args.changes.now c.other_bank-self.result base ws c.in_ok-writes.next c.other_bank-self.ensures base_is c.requires.fits lays in
-    weaker g.D.Sectors.moment g.D.Sectors.left_since c.args.self.now.device c.turn_to.new.device (λ d. (OpensAs shape d k ⊎ OpensAs shape d new) × IsTidy d) (LeavesEither shape k c.args.octets.now c.args.changes.now)
+    weaker g.D.Sectors.moment g.D.Sectors.left_since c.args.self.now.device c.turn_to.new.device (λ d. (OpensAs shape d k ⊎ OpensAs shape d new) × IsTidy shape d) (LeavesEither shape k c.args.octets.now c.args.changes.now)
     (c.turn_to.ensures.any_moment shape k new keeps.0 keeps.1 keeps.2.honest keeps.2.durable keeps.2.opens keeps.2.bank keeps.2.behind turn)
     (λ d left. leaves_either shape old k keeps c.args.octets.now c.args.changes.now c.other_bank-self.result base ws c.in_ok-writes.next c.other_bank-self.ensures base_is c.requires.fits lays d left)

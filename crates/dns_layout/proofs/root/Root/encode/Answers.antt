@@ -1,30 +1,48 @@
-use Rattle.std.proofs.Common.{arith, ap, ◌∙◌, length, List, ℕ, ◌≡◌, subst}
-use Rattle.byteorder.specs.Numbers.{length-bytes_high_first}
-use Rattle.dns_layout.specs.Sector.{root_tag, HasFields, sector_of}
-use Rattle.dns_layout.proofs.Octets.{five_written}
-use Rattle.dns_layout.proofs.Roots.{root_said, root_payload, payload_encoded}
+use Rattle.std.proofs.Common.{◌≡◌, ◌++◌, ◌∙◌, arith, ap, sym, subst, length, take, replicate, List, ℕ}
+use Rattle.std.proofs.lemmas.List.{length-take-le}
+use Rattle.dns_layout.specs.Apex.{apex_octets}
+use Rattle.dns_layout.specs.Sector.{HasNumbers, root_tag, root_tag_in, sector_of}
+use Rattle.dns_layout.specs.Own.{digest, sealed}
+use Rattle.dns_layout.specs.Forms.{root_front, bank_number}
+use Rattle.dns_layout.proofs.Octets.{two_written}
+use Rattle.dns_layout.proofs.Roots.{root_said, field_front}
 use Rattle.dns_layout.proofs.root.Root.encode.Goals as goal
 
-payload_is : (c : goal.After-encode) → c.put-5.new.octets ≡ root_payload c.args.self.now
-payload_is c =
-    let opened = ap (λ (l : List ℕ). length l) c.u64_octets.ensures.octets ∙ length-bytes_high_first 8 c.args.self.now.bank_open in
-    let size = ap (λ (l : List ℕ). length l) c.u32_octets.ensures.octets ∙ length-bytes_high_first 4 c.args.self.now.snapshot_length in
-    let snapshot = ap (λ (l : List ℕ). length l) c.u32_octets-2.ensures.octets ∙ length-bytes_high_first 4 c.args.self.now.snapshot_room in
-    let journal = ap (λ (l : List ℕ). length l) c.u32_octets-3.ensures.octets ∙ length-bytes_high_first 4 c.args.self.now.journal_room in
-    payload_encoded c.args.self.now c.put-5.new.octets c.u64_octets.result c.u32_octets.result c.u32_octets-2.result c.u32_octets-3.result c.field.result
-    c.u64_octets.ensures.octets c.u32_octets.ensures.octets c.u32_octets-2.ensures.octets c.u32_octets-3.ensures.octets c.field.ensures.field
-    (five_written 8 12 16 20 c.u64_octets.result c.u32_octets.result c.u32_octets-2.result c.u32_octets-3.result c.field.result _ c.put.new.octets c.put-2.new.octets c.put-3.new.octets c.put-4.new.octets c.put-5.new.octets
-    opened (omega (arith, size)) (omega (arith, snapshot)) (omega (arith, journal)) (omega arith) c.put.ensures c.put-2.ensures c.put-3.ensures c.put-4.ensures c.put-5.ensures)
+size : (c : goal.After-encode) → length (take 455 c.field-field.result) ≡ 455
+size c = length-take-le 455 c.field-field.result (omega arith)
 
-pub returns-clause-form : goal.returns-clause-form
-unfolding root_tag
-returns-clause-form c =
+payload_is : (c : goal.After-encode) → c.put-2.new.octets ≡ root_front c.args.self.now ++ take 455 (apex_octets c.args.self.now.apex)
+payload_is c =
+    two_written 25 c.front-front.result _ _ c.put.new.octets c.put-2.new.octets (omega arith) (omega (arith, size c)) c.put.ensures c.put-2.ensures
+    ∙ ap (λ (y : List ℕ). y ++ take 455 c.field-field.result) c.front-front.ensures.octets
+    ∙ ap (λ (y : List ℕ). root_front c.args.self.now ++ take 455 y) c.field-field.ensures.field
+
+says : (c : goal.After-encode) → HasNumbers c.encode.result root_tag c.args.self.now.open_count c.args.self.now.base (bank_number c.args.self.now.bank)
+unfolding root_tag_in
+says c =
+    let x = c.encode.result in
     let r = c.args.self.now in
-    c.encode.ensures.form ∙ ap (λ (n : ℕ). sector_of root_tag r.open_count r.base n c.put-5.new.octets) c.number.ensures ∙ ap (sector_of root_tag r.open_count r.base _) (payload_is c)
+    subst (λ (k : List ℕ). HasNumbers x k r.open_count r.base (bank_number r.bank)) c.tag_of.ensures
+    (subst (λ (n : ℕ). HasNumbers x c.tag_of.result r.open_count r.base n) c.number.ensures c.encode.ensures.says)
+
+form : (c : goal.After-encode) → c.encode.result ≡ sealed 0 (sector_of root_tag c.args.self.now.open_count c.args.self.now.base (bank_number c.args.self.now.bank) (root_front c.args.self.now ++ take 455 (apex_octets c.args.self.now.apex)))
+unfolding root_tag_in
+form c =
+    let r = c.args.self.now in
+    c.encode.ensures.form
+    ∙ ap (λ (k : List ℕ). sealed 0 (sector_of k r.open_count r.base c.number.result c.put-2.new.octets)) c.tag_of.ensures
+    ∙ ap (λ (n : ℕ). sealed 0 (sector_of root_tag r.open_count r.base n c.put-2.new.octets)) c.number.ensures
+    ∙ ap (λ (p : List ℕ). sealed 0 (sector_of root_tag r.open_count r.base (bank_number r.bank) p)) (payload_is c)
 
 pub returns-clause-says : goal.returns-clause-says
-unfolding root_tag
 returns-clause-says c =
-    let P : ℕ → Type 0 = λ n. HasFields c.encode.result root_tag c.args.self.now.open_count c.args.self.now.base n c.put-5.new.octets in
-    root_said c.encode.result c.put-5.new.octets c.args.self.now (subst P c.number.ensures c.encode.ensures.says) c.u64_octets.ensures.fits c.u32_octets.ensures.fits c.u32_octets-2.ensures.fits c.u32_octets-3.ensures.fits
-    c.field.ensures.plain (payload_is c)
+    let r = c.args.self.now in
+    root_said r c.encode.result (take 455 (apex_octets r.apex)) _ (says c) c.front-front.ensures.bank_fits c.front-front.ensures.length_fits c.front-front.ensures.snapshot_fits c.front-front.ensures.journal_fits
+    (length-take-le 455 (apex_octets r.apex) (omega (arith, ap (λ (l : List ℕ). length l) c.field-field.ensures.field)))
+    (field_front r.apex c.field-field.ensures.plain) c.field-field.ensures.plain (form c)
+
+pub slice_bounds-put-end-4 : goal.slice_bounds-put-end-4
+slice_bounds-put-end-4 c = omega (arith, length-take-le 455 c.field-field.result (omega arith))
+
+pub put-requires-2 : goal.put-requires-2
+put-requires-2 c = omega (arith, length-take-le 455 c.field-field.result (omega arith))

@@ -1,9 +1,0 @@
-use Rattle.std.proofs.Common.{◌≡◌, ◌*◌, ◌≤◌, take}
-use Rattle.dns_held.specs.Plain.{octets_of}
-use Rattle.dns_held.proofs.octets.plain_lens.Given as goal
-
-abbrev pub invariant-loop-record : goal.invariant-loop-record
-invariant-loop-record l = record {
-  value : l.octets ≡ octets_of (take l.record-index l.records);
-  short : l.octets ≤ 4359 * l.record-index;
-}

@@ -1,0 +1,34 @@
+-- The bank that isn't in use is cleared, and a root of the same store is written.
+use Rattle.std.specs.Prelude.{◌≡◌, ◌≤◌, ℕ, List}
+use Rattle.dns_sectors.specs.Device.{Content}
+use Rattle.dns_layout.specs.Sector.{open_count, number, bank_open, sequence, snapshot_length, clear}
+use Rattle.dns_layout.specs.Own.{Own}
+use Rattle.dns_layout.specs.Store.{Shape, Stored, IsRoot, OpensBy, OpensAs, IsTidy, snapshot_place, bank_end, other_of}
+
+-- the two roots name the same bank, with the same snapshot
+pub record NamesSameBank (old new : List ℕ) : Type 0 where
+  pub bank : number new ≡ number old
+  pub bank_open : bank_open new ≡ bank_open old
+  pub base : sequence new ≡ sequence old
+  pub length : snapshot_length new ≡ snapshot_length old
+
+-- The sectors open by the root x, which says that the other bank isn't cleared. That bank goes from the one place to the
+-- other, and z is a root of the same bank with no lower open count.
+pub record IsToClear (s : Shape) (k : Stored) (x : List ℕ) (parts : List (List ℕ)) (from until : ℕ) (z : List ℕ)
+    (d : Content) : Type 0 where
+  pub opens : OpensBy s d x parts k
+  pub tidy : IsTidy s d
+  pub not_clear : clear x ≡ 0
+  pub from_is : from ≡ snapshot_place s (other_of (number x))
+  pub until_is : until ≡ bank_end s (other_of (number x))
+  pub valid : IsRoot s z
+  pub names : NamesSameBank x z
+  pub no_lower : open_count x ≤ open_count z
+  pub own : Own 0 z
+
+-- All that was stored before that bank is cleared is stored still.
+abbrev pub StaysUncleared : ℕ → ℕ → List ℕ → Content → Content → Type 0
+StaysUncleared from until z old new =
+    (s : Shape) (k : Stored) (x : List ℕ) (parts : List (List ℕ))
+    → IsToClear s k x parts from until z old
+    → OpensAs s new k × IsTidy s new

@@ -1,0 +1,45 @@
+-- What a store of format 1 held, in format 2.
+use Rattle.std.specs.Prelude.{◌≡◌, ◌⊎◌, ℕ, ◌+◌, ◌-◌, List, ◌++◌, length}
+use Rattle.dns_sectors.specs.Device.{Content}
+use Rattle.dns_sectors.specs.Crash.{Write}
+use Rattle.dns_sectors.specs.Phase.{pairs, zeros_from}
+use Rattle.dns_sectors.specs.declared.phase.SectorWrite.{SectorWrite}
+use Rattle.dns_layout.specs.Sector.{sector_at, open_count, clear}
+use Rattle.dns_layout.specs.Forms.{SaysRootIn}
+use Rattle.dns_layout.specs.Store.{Shape, Stored, OpensAs, OpensAsIn, OpensByIn, IsTidy, version_of}
+use Rattle.dns_layout.specs.declared.root.Root.{Root}
+use Rattle.dns_layout.specs.declared.format.Format.TheVariants.{One}
+use Rattle.dns_changes.specs.Change.{Change}
+use Rattle.dns_journal.specs.declared.conversion.Places.{Places}
+use Rattle.dns_journal.specs.Bank.{IsTurned}
+
+-- these writes, and zeros from a place up to another
+abbrev pub with_zeros : List SectorWrite → ℕ → ℕ → List Write
+with_zeros ws from until = pairs ws ++ zeros_from from (until - from)
+
+-- the writes to every sector of a bank: the parts of its snapshot, zeros up to its journal, the sectors of its entries,
+-- and zeros up to its end
+abbrev pub bank_writes : Places → List SectorWrite → List SectorWrite → List Write
+bank_writes p parts entries =
+    with_zeros parts (p.first + length parts) p.journal ++ with_zeros entries (p.journal + length entries) p.until
+
+-- A crash left what format 1 held, or in format 2 what is stored after the turn.
+abbrev pub LeavesConverted : Shape → Stored → List ℕ → List Change → Content → Type 0
+LeavesConverted s k octets changes c =
+    OpensAsIn One s c k ⊎ ((new : Stored) × IsTurned k octets changes new × OpensAs s c new × IsTidy s c)
+
+-- So it is of all that format 1 held there by this root, up to that version.
+abbrev pub StaysOrConverts : Root → ℕ → List ℕ → List Change → Content → Content → Type 0
+StaysOrConverts root base octets changes old new =
+    (s : Shape) (k : Stored) (x : List ℕ) (parts : List (List ℕ))
+    → OpensByIn One s old x parts k
+    → SaysRootIn One x root
+    → base + length changes ≡ version_of k
+    → LeavesConverted s k octets changes new
+
+-- It opens in format 2 as what is stored, its root has this open count, and says that the other bank is cleared.
+pub record OpensCleared (s : Shape) (k : Stored) (opened : ℕ) (c : Content) : Type 0 where
+  pub opens : OpensAs s c k
+  pub tidy : IsTidy s c
+  pub cleared : clear (sector_at c 0) ≡ 1
+  pub counted : open_count (sector_at c 0) ≡ opened

@@ -1,0 +1,44 @@
+//! The bank that isn't in use is cleared of what format 1 left there.
+ghost use Rattle.std.specs.Prelude.{◌≡◌, ◌≤◌, ◌<◌, ◌↔◌, ℕ, List, OnOk};
+ghost use Rattle.dns_sectors.specs.Device.{Only, LeavesOnly, CountsFailure};
+ghost use Rattle.dns_layout.specs.Sector.{open_count};
+ghost use Rattle.dns_layout.specs.Journal.{AllBehind};
+ghost use Rattle.dns_layout.specs.Store.{Shape, Stored, OpensBy, IsTidy};
+ghost use Rattle.dns_journal.specs.Clearing.{IsToClear, StaysUncleared};
+
+use dns_sectors::{DeviceError, Sector, SectorWrite, Sectors, write_phase, write_zeros};
+
+/// Writes zeros over a bank, makes them durable, and then this root.
+pub fn clear_bank<D: Sectors>(
+    device: &mut D,
+    from: usize,
+    until: usize,
+    root: &Sector,
+) -> Result<(), DeviceError>
+    requires range { from ≤ until }
+    requires within { until ≤ D.count device.old }
+    requires some { 0 < D.count device.old }
+    // A crash at any moment of it leaves what opens as before.
+    ensures any_moment { D.is_honest device.old → Only (D.seen device.old) (D.may_leave device.old)
+        → LeavesOnly D.moment D.left_since device.old device.new (StaysUncleared from until root.now (D.seen device.old)) }
+    ensures cleared { (s : Shape) (k : Stored) (x : List ℕ) (parts : List (List ℕ)) → D.is_honest device.old
+        → IsToClear s k x parts from until root.now (D.seen device.old)
+        → OnOk result (OpensBy s (D.seen device.new) root.now parts k × IsTidy s (D.seen device.new)) }
+    // Each head that is left has a lower open count than a root whose count was raised.
+    ensures behind { (s : Shape) (k : Stored) (x : List ℕ) (parts : List (List ℕ)) → D.is_honest device.old
+        → IsToClear s k x parts from until root.now (D.seen device.old) → open_count x < open_count root.now
+        → OnOk result ((version : ℕ) → AllBehind (open_count root.now) version (D.seen device.new)) }
+    ensures durable { D.is_honest device.old → OnOk result (Only (D.seen device.new) (D.may_leave device.new)) }
+    ensures failed { CountsFailure result (D.failed device.old) (D.failed device.new) }
+    ensures honest { D.is_honest device.new ↔ D.is_honest device.old }
+    ensures count { D.count device.new ≡ D.count device.old }
+{
+    write_zeros(device, from, until)?;
+    device.sync()?;
+    let write = SectorWrite {
+        at: 0,
+        octets: *root,
+    };
+    write_phase(device, &[write])?;
+    Ok(())
+}

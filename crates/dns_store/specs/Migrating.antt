@@ -1,0 +1,138 @@
+-- What migrating makes of a store of format 1, and what a stop at any moment of it leaves.
+use Rattle.std.specs.Prelude.{◌≡◌, ◌⊎◌, ◌≤◌, ◌+◌, ◌-◌, ◌^◌, ℕ, List, [], ◌∷◌, length, drop, Result, Ok, Err}
+use Rattle.dns_records.specs.Record.{Record, serial_of}
+use Rattle.dns_zone.specs.Zone.{Zone, soas}
+use Rattle.dns_changes.specs.Change.{Change}
+use Rattle.dns_sectors.specs.Device.{Content}
+use Rattle.dns_sectors.specs.declared.device.Sectors.{Ghosts}
+use Rattle.dns_layout.specs.Sector.{sector_at, open_count}
+use Rattle.dns_layout.specs.Forms.{SaysRootIn}
+use Rattle.dns_layout.specs.Store.{Stored, OpensAsIn, version_of}
+use Rattle.dns_layout.specs.declared.root.Root.{Root}
+use Rattle.dns_layout.specs.declared.format.Format.TheVariants.{One}
+use Rattle.dns_store.specs.declared.root.OpenError.{OpenError}
+use Rattle.dns_store.specs.declared.root.OpenError.TheVariants as refused
+use Rattle.dns_journal.specs.declared.turn.TurnError.{TurnError}
+use Rattle.dns_journal.specs.declared.turn.TurnError.TheVariants as written
+use Rattle.dns_store.specs.declared.checkpoint.CheckpointError.{CheckpointError}
+use Rattle.dns_store.specs.declared.checkpoint.CheckpointError.TheVariants as made
+use Rattle.dns_store.specs.declared.migrating.Migration.{Migration}
+use Rattle.dns_store.specs.declared.migrating.Migration.TheVariants.{Migrated, Already}
+use Rattle.dns_store.specs.declared.migrating.MigrateError.{MigrateError}
+use Rattle.dns_store.specs.declared.migrating.MigrateError.TheVariants.{Device, Blank, Damaged, Geometry, ZoneTooLarge, OutOfMemory}
+use Rattle.dns_store.specs.Versions.{Shape, Opened, newest_after}
+use Rattle.dns_store.specs.Choosing.{IsChosen}
+use Rattle.dns_store.specs.Recovered.{AreLed}
+use Rattle.dns_store.specs.Opens.{IsPartOfIn, base_of, opens, sizes_of}
+use Rattle.dns_store.specs.Root.{OpenRefusalIn}
+use Rattle.dns_store.specs.Damage.{NamesWrongIn}
+
+-- The same versions, beginning at the base that is chosen.
+pub record IsMigrated (shape : Shape) (before after : Opened) : Type 0 where
+  pub kept : ℕ
+  pub chosen : IsChosen shape.snapshot shape.journal (base_of before) (drop before.base before.versions) kept
+  pub loaded : after.loaded ≡ before.loaded
+  pub versions : after.versions ≡ before.versions
+  pub base : after.base + kept ≡ length before.versions
+
+-- What a device of format 1 holds, as versions. Nothing is asked of it for later writing.
+abbrev pub old_opens : Shape → Opened → Content → Type 0
+old_opens shape o c = (s : Stored) × OpensAsIn One (sizes_of shape) c s × IsPartOfIn One shape.apex o s
+
+-- `migrate` and then `open` open the content as these versions: what format 2 holds as it is, and what format 1 holds with the base
+-- that is chosen.
+abbrev pub opens_migrated : Shape → Opened → Content → Type 0
+opens_migrated shape o c = opens shape o c ⊎ ((before : Opened) × old_opens shape before c × IsMigrated shape before o)
+
+-- Each crash leaves a store, in one of the formats, that has room in format 2.
+abbrev pub MayMigrate : {D : Type 0} → Ghosts D → Shape → D → Type 0
+MayMigrate g shape device = (c : Content) → g.may_leave device c → (o : Opened) × opens_migrated shape o c
+
+-- `migrate` and then `open` open it as they would have opened a content that a crash might have left of the device before: its version
+-- and base were possible together. Which versions there were before that base stands on no device, so this holds whichever they were.
+abbrev pub MigratesAsPossible : {D : Type 0} → Ghosts D → Shape → D → Content → Type 0
+MigratesAsPossible g shape device c =
+    (d : Content) × g.may_leave device d × ((o : Opened) → opens_migrated shape o d → opens_migrated shape o c)
+
+-- What was read of a store of format 1 is what is stored: its root, the number of the newest version, the base, and the changes from
+-- there.
+pub record IsReadOld (shape : Shape) (o : Opened) (s : Stored) (c : Content) (root : Root) (version : ℕ) (base : Zone)
+    (changes : List Change)
+    : Type 0 where
+  pub opens : OpensAsIn One (sizes_of shape) c s
+  pub part : IsPartOfIn One shape.apex o s
+  pub says : SaysRootIn One (sector_at c 0) root
+  pub version_is : version ≡ version_of s
+  pub base_is : base ≡ record { apex = shape.apex; records = base_of o }
+  pub led : AreLed (base_of o) (drop o.base o.versions) changes
+
+-- What was read so is held still in format 1, or as it is migrated.
+abbrev pub StaysOrMigrates : Root → ℕ → Zone → List Change → Content → Content → Type 0
+StaysOrMigrates root version base changes old new =
+    (shape : Shape) (o : Opened) (s : Stored)
+    → IsReadOld shape o s old root version base changes
+    → old_opens shape o new ⊎ ((after : Opened) → IsMigrated shape o after → opens shape after new)
+
+-- the serial of the one SOA among these records
+pub record IsSerialOf (records : List Record) (serial : ℕ) : Type 0 where
+  pub soa : Record
+  pub one : soas records ≡ soa ∷ []
+  pub serial_is : serial ≡ serial_of soa
+
+-- the number and the serial of the newest version
+abbrev pub IsAnswer : Opened → Migration → Type 0
+IsAnswer o Already = Unit {0}
+IsAnswer o (Migrated version serial) = (version ≡ length o.versions) × IsSerialOf (newest_after o.loaded o.versions) serial
+
+-- From now on each crash leaves what `open` alone opens, as a content of the device before was opened by both; and the answer is of that.
+abbrev pub TakesMigrated : {D : Type 0} → Ghosts D → Shape → D → D → Migration → Type 0
+TakesMigrated g shape before after answer =
+    (d : Content) × g.may_leave before d
+    × ((o : Opened) → opens_migrated shape o d
+    → ((c : Content) → g.may_leave after c → opens shape o c) × IsAnswer o answer)
+
+-- Why a store that could be migrated is not: the device failed, memory was refused, or it was opened too often.
+abbrev pub IsMigrateStopped : Content → MigrateError → Type 0
+IsMigrateStopped c e = (e ≡ Device) ⊎ (e ≡ OutOfMemory) ⊎ ((e ≡ Damaged 0) × (2 ^ 64 - 1 ≤ open_count (sector_at c 0)))
+
+-- A refusal of reading, as one of migrating.
+abbrev pub migrate_error : OpenError → MigrateError
+migrate_error refused.Device = Device
+migrate_error refused.Blank = Blank
+migrate_error (refused.Damaged sector) = Damaged sector
+migrate_error refused.Geometry = Geometry
+migrate_error refused.OutOfMemory = OutOfMemory
+
+abbrev pub base_error : CheckpointError → MigrateError
+base_error made.Device = Device
+base_error made.Closed = Device
+base_error made.ZoneTooLarge = ZoneTooLarge
+base_error made.WrongChanges = ZoneTooLarge
+base_error made.OutOfMemory = OutOfMemory
+
+abbrev pub write_error : TurnError → MigrateError
+write_error written.Device = Device
+write_error written.Closed = Device
+write_error written.OutOfMemory = OutOfMemory
+
+-- Why a device isn't migrated: reading it by the rules of format 1 was refused, for what stands there; or the newest version takes more
+-- sectors of format 2 than a snapshot has.
+pub record IsUnread (shape : Shape) (count : ℕ) (c : Content) (e : MigrateError) : Type 0 where
+  pub error : OpenError
+  pub named : e ≡ migrate_error error
+  pub refused : OpenRefusalIn One (sizes_of shape) count (sector_at c 0) error
+  pub damaged : NamesWrongIn One shape c error
+
+abbrev pub MigrateRefusal : Shape → ℕ → Content → MigrateError → Type 0
+MigrateRefusal shape count c e = IsUnread shape count c e ⊎ (e ≡ ZoneTooLarge)
+
+-- A store that was migrated was opened once more.
+abbrev pub CountsOpening : Content → Content → Migration → Type 0
+CountsOpening old new Already = Unit {0}
+CountsOpening old new (Migrated version serial) = open_count (sector_at new 0) ≡ open_count (sector_at old 0) + 1
+
+-- The store was migrated.
+abbrev pub IsMigratedStore : {E : Type 0} → Result Migration E → Type 0
+IsMigratedStore (Ok Already) = ⊥
+IsMigratedStore (Ok (Migrated version serial)) = Unit {0}
+IsMigratedStore (Err e) = ⊥
