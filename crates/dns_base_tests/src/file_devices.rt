@@ -1,6 +1,6 @@
 //! That a call succeeds no contract says, and neither which call of a file fails.
 use crate::devices::{contents, full_of, read, write};
-use dns_files::{File, FileSectors, MemoryFile};
+use dns_files::{File, FileSectors, MemoryFile, OpenDeviceError};
 use dns_memory::{Heap, heap};
 use dns_sectors::{DeviceError, Sectors};
 use std::test::Fail;
@@ -131,7 +131,7 @@ fn each_call_of_making_fails(rt: HostRuntime) -> Result<(), Fail> {
 }
 
 /// How many sectors a device over a file of this length has and how often it failed; why there is none.
-fn measured(alloc: Heap, len: u64) -> Option<Result<(usize, u64), DeviceError>> {
+fn measured(alloc: Heap, len: u64) -> Option<Result<(usize, u64), OpenDeviceError>> {
     let mut file = MemoryFile::new(alloc, 8).ok()?;
     file.set_len(len).ok()?;
     match FileSectors::over(file) {
@@ -158,7 +158,7 @@ fn whole_sectors_alone(rt: HostRuntime) -> Result<(), Fail> {
     for (len, sectors) in LENGTHS {
         let wanted = match sectors {
             Some(sectors) => Ok((*sectors, 0)),
-            None => Err(DeviceError::Device),
+            None => Err(OpenDeviceError::Geometry),
         };
         assert_eq!(rt; measured(alloc, *len), Some(wanted), "{len}");
     }

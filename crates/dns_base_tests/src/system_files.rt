@@ -1,6 +1,6 @@
 //! A device in a file of the system.
 use crate::devices::{contents, fails_to_read, read, write};
-use dns_files::FileSectors;
+use dns_files::{FileSectors, OpenDeviceError};
 use dns_sectors::Sectors;
 use std::fs::{self, Files};
 use std::test::Fail;
@@ -31,8 +31,13 @@ fn made_and_opened(rt: HostRuntime) -> Result<(), Fail> {
     assert_eq!(rt; made(&rt), Some((used, true)));
     assert!(rt; FileSectors::make(&rt, "device", 3).is_err());
     assert_eq!(rt; opened(&rt), Some((Some([0, 0, 9]), 0)));
-    assert!(rt; FileSectors::open(&rt, "none").is_err());
+    assert_eq!(rt; refused(&rt, "none"), Some(OpenDeviceError::Device));
     Ok(())
+}
+
+/// Why the file at this path is no device.
+fn refused<R: Files<File = fs::File>>(files: &R, path: &str) -> Option<OpenDeviceError> {
+    FileSectors::open(files, path).err()
 }
 
 /// What a device of two sectors holds; whether its file is cut behind its back; what its first sector then holds, whether it
@@ -51,7 +56,7 @@ fn cut<R: Files<File = fs::File>>(
 #[test]
 fn files_that_others_made(rt: HostRuntime) -> Result<(), Fail> {
     assert!(rt; fs::write(&rt, "odd", [1u8; 513]).is_ok());
-    assert!(rt; FileSectors::open(&rt, "odd").is_err());
+    assert_eq!(rt; refused(&rt, "odd"), Some(OpenDeviceError::Geometry));
     assert!(rt; fs::write(&rt, "even", [1u8; 1024]).is_ok());
     let behind = (Some(1), true, 1);
     assert_eq!(rt; cut(&rt), Some((Some([1, 1]), true, behind)));

@@ -121,17 +121,19 @@ module _ (apex : Labels) (z : Zone) (base shown : List Record) (kept : List Chan
   changed_good : IsGood apex (Some z) (answer_of h.soa shown (Incremental (c ∷ rest))) shown
   changed_good = record {
     means = inr (inr (record {
-      soa = h.soa;
-      changes = c ∷ rest;
-      framed = refl;
-      at_apex = soa_at apex shown h;
-      from = z;
-      held_is = refl;
-      first = c.old_soa;
-      more = [];
-      first_is = first_soa apex z.records c rest shown from;
-      other_serial = other;
-      leads = leads apex z.records c rest shown h.soa from less h.one;
+      form = record {
+        soa = h.soa;
+        changes = c ∷ rest;
+        framed = refl;
+        at_apex = soa_at apex shown h;
+        from = z;
+        held_is = refl;
+        first = c.old_soa;
+        more = [];
+        first_is = first_soa apex z.records c rest shown from;
+        other_serial = other;
+        leads = leads apex z.records c rest shown h.soa from less h.one;
+      };
       valid = valid;
     }));
     newer = longer (Some z) h.soa (sequences (c ∷ rest) ++ h.soa ∷ []) is_behind;

@@ -1,36 +1,33 @@
 -- The session that is opened for a request sends the transfer for what is held.
-use Rattle.std.proofs.Common.{◌≡◌, ◌≢◌, ℕ, ◌+◌, ◌*◌, ◌-◌, ◌<◌, ◌≤◌, Bool, true, false, not, ◌&&◌, List, [], ◌∷◌, ◌++◌, length, map, take, drop, Option, Some, None, refl, sym, ap, subst, ◌∙◌, arith}
+use Rattle.std.proofs.Common.{◌≡◌, ℕ, ◌+◌, ◌-◌, ◌≤◌, true, false, not, ◌&&◌, List, [], ◌∷◌, ◌++◌, length, map, take, drop, Option, Some, None, refl, sym, ap, subst, ◌∙◌, arith}
 use Rattle.std.specs.Prelude.{◌==◌, slice_range, if◌then◌else◌}
-use Rattle.std.specs.Int.{w16, to_be_bytes}
-use Rattle.std.specs.List.{AllByRecursion}
 use Rattle.std.specs.Option.{option_map}
 use Rattle.std.proofs.Math.Bool.{Bool-set}
 use Rattle.std.proofs.Math.Logic.{∥∥₁_elim}
 use Rattle.std.proofs.lemmas.Bool.Decides.{nat_tests}
 use Rattle.std.proofs.lemmas.List.{drop_at, take_at, length-append}
 use Rattle.dns_names.specs.Name.{Labels, IsName, wire, names_eq}
-use Rattle.dns_records.specs.Types.{type_soa, type_ixfr, class_in}
-use Rattle.dns_records.specs.Record.{Record, IsRecord, serial_of}
+use Rattle.dns_records.specs.Types.{type_soa}
+use Rattle.dns_records.specs.Record.{Record, serial_of}
 use Rattle.dns_zone.specs.Order.{names_itself}
-use Rattle.dns_zone.specs.Soa.{HasSoa}
 use Rattle.dns_zone.specs.Zone.{Zone, IsZone, soas}
 use Rattle.dns_zone.proofs.OneSoa.{is_one, zone_soa}
 use Rattle.dns_changes.specs.Change.{Change, is_soa}
 use Rattle.dns_changes.specs.Version.{serial_in}
 use Rattle.dns_wire.specs.Compress.{new_places, compressed_records}
 use Rattle.dns_wire.specs.Echo.{echo_of}
-use Rattle.dns_wire.specs.Message.{Question, ResourceRecord, record_of_item}
+use Rattle.dns_wire.specs.Message.{ResourceRecord, record_of_item}
 use Rattle.dns_wire.specs.Text.{EchoedQuestion}
 use Rattle.dns_wire.specs.Valid.{item_of}
+use Rattle.dns_request.specs.declared.request.Transport.{Transport}
 use Rattle.dns_request.specs.declared.request.Transport.TheVariants.{Udp, Tcp}
-use Rattle.dns_transfer.specs.Messages.{Heading, IsNext, AreMessages}
+use Rattle.dns_transfer.specs.Messages.{Heading, IsNext, AreMessages, datagram_of}
 use Rattle.dns_transfer.specs.Records.{transfer_of}
-use Rattle.dns_transfer.specs.Refusal.{is_client_soa, client_soa, client_serial, serial_asked}
-use Rattle.dns_transfer.specs.Session.{Sending, SendsBy, Sends, IsOpened}
+use Rattle.dns_transfer.specs.Refusal.{is_client_soa, client_serial, serial_asked}
+use Rattle.dns_transfer.specs.Session.{Sending, SendsBy, IsOpened}
 use Rattle.dns_secondary.specs.Request.{question_asked, soas_held, heading_octets, asked_octets, request_octets, request_message}
 use Rattle.dns_secondary.proofs.Asked.{asked, four, octets_are}
 use Rattle.dns_update.proofs.Serials.{soa_long}
-use Rattle.dns_copies.specs.Versions.{LeadTo}
 use Rattle.dns_copies.specs.Copies.{IsFollowed, SendsAll, serial_held, answer_for}
 use Rattle.dns_copies.proofs.Chains.{first_zone}
 use Rattle.dns_copies.proofs.Serials.{kept_soa}
@@ -81,19 +78,21 @@ echo_is apex held id =
     ap (λ k. take k (drop 12 (request_octets apex held id))) span ∙ ap (take (n + 4)) behind ∙ take_at (asked_octets q) rest (n + 4) (sym size) in
     λ i. record { octets = octets i; name = q.name }
 
-pub record IsOpenedFor (apex : Labels) (held : Option Zone) (id : ℕ) (kept : List Change) (shown : List Record) (s : Sending) : Type 0 where
-  pub by : s.transport ≡ Tcp
+pub record IsOpenedFor (transport : Transport) (apex : Labels) (held : Option Zone) (id : ℕ) (kept : List Change) (shown : List Record) (s : Sending) : Type 0 where
+  pub by : s.transport ≡ transport
   pub heading : s.heading ≡ record { id = id; rd = false }
   pub question : s.question ≡ Some (asked (question_asked apex held))
+  pub soa : soas shown ≡ s.soa ∷ []
   pub left : s.left ≡ answer_for held kept shown
 
-pub opened_for : (apex : Labels) (held : Option Zone) (id : ℕ) (kept : List Change) (shown : List Record) (s : Sending) → IsName apex → IsFollowed apex held kept shown
-    → IsOpened Tcp (request_octets apex held id) (request_message apex held id) (question_asked apex held) (record { zone = record { apex = apex; records = shown }; changes = kept }) s
-    → IsOpenedFor apex held id kept shown s
-opened_for apex held id kept shown s named f opened = record {
+pub opened_for : (transport : Transport) (apex : Labels) (held : Option Zone) (id : ℕ) (kept : List Change) (shown : List Record) (s : Sending) → IsName apex → IsFollowed apex held kept shown
+    → IsOpened transport (request_octets apex held id) (request_message apex held id) (question_asked apex held) (record { zone = record { apex = apex; records = shown }; changes = kept }) s
+    → IsOpenedFor transport apex held id kept shown s
+opened_for transport apex held id kept shown s named f opened = record {
   by = opened.by;
   heading = opened.heading;
   question = opened.question ∙ ap (λ (e : EchoedQuestion). Some e) (echo_is apex held id);
+  soa = opened.soa;
   left = opened.left ∙ ap (transfer_of shown kept) (serial_is apex held kept shown f);
 }
 
@@ -115,10 +114,33 @@ sent_messages s (message ∷ messages) by all =
           (subst (λ (o : Option EchoedQuestion). AreMessages next.heading o next.left messages) question more),
     )
 
-pub as_messages : (apex : Labels) (held : Option Zone) (id : ℕ) (kept : List Change) (shown : List Record) (s : Sending) → IsOpenedFor apex held id kept shown s
+pub as_messages : (apex : Labels) (held : Option Zone) (id : ℕ) (kept : List Change) (shown : List Record) (s : Sending) → IsOpenedFor Tcp apex held id kept shown s
     → (messages : List (List ℕ)) → SendsAll s messages
     → AreMessages (record { id = id; rd = false }) (Some (asked (question_asked apex held))) (answer_for held kept shown) messages
 as_messages apex held id kept shown s o messages all =
     subst (λ (xs : List Record). AreMessages (record { id = id; rd = false }) (Some (asked (question_asked apex held))) xs messages) o.left
     (subst (λ (q : Option EchoedQuestion). AreMessages (record { id = id; rd = false }) q s.left messages) o.question
     (subst (λ (h : Heading). AreMessages h s.question s.left messages) o.heading (sent_messages s messages o.by all)))
+
+-- by UDP there is one message
+nothing_sent : (s : Sending) (messages : List (List ℕ)) → s.left ≡ [] → SendsAll s messages → messages ≡ []
+nothing_sent s [] none all = refl
+nothing_sent s (message ∷ messages) none all = absurd (all.0 none)
+
+pub record IsOneSent (s : Sending) (before : List (List ℕ)) (message : List ℕ) (behind : List (List ℕ)) : Type 0 where
+  pub first : before ≡ []
+  pub last : behind ≡ []
+  pub is : message ≡ datagram_of s.heading s.question s.left s.soa
+
+one_sent : (s : Sending) (message : List ℕ) (rest : List (List ℕ)) → s.transport ≡ Udp → SendsAll s (message ∷ rest)
+    → (rest ≡ []) × (message ≡ datagram_of s.heading s.question s.left s.soa)
+one_sent s message rest by all =
+    let sends : SendsBy Udp s message (all.1).left = subst (λ t. SendsBy t s message (all.1).left) by (all.2).1 in
+    (nothing_sent all.1 rest sends.1 all.3, sends.0)
+
+pub only_sent : (s : Sending) (before : List (List ℕ)) (message : List ℕ) (behind : List (List ℕ)) → s.transport ≡ Udp
+    → SendsAll s (before ++ message ∷ behind) → IsOneSent s before message behind
+only_sent s [] message behind by all = (let one = one_sent s message behind by all in record { first = refl; last = one.0; is = one.1 })
+only_sent s (first ∷ []) message behind by all = (let one = one_sent s first (message ∷ behind) by all in let none = one.0 in absurd cc)
+only_sent s (first ∷ second ∷ before) message behind by all =
+    let one = one_sent s first (second ∷ (before ++ message ∷ behind)) by all in let none = one.0 in absurd cc

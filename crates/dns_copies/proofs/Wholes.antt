@@ -106,11 +106,13 @@ soa_at apex xs h = λ i. is_one apex xs h i && owned i
 
 pub is_whole : (apex : Labels) (v : List Record) (h : HasSoa apex v) → IsZone (record { apex = apex; records = v }) → IsWhole apex (h.soa ∷ others v ++ h.soa ∷ []) v
 is_whole apex v h z = record {
-  soa = h.soa;
-  others = others v;
-  framed = refl;
-  at_apex = soa_at apex v h;
-  no_soas = others_only v;
-  all = whole v h.soa h.one (is_one apex v h) (sorted_from v z.ordered);
+  form = record {
+    soa = h.soa;
+    others = others v;
+    framed = refl;
+    at_apex = soa_at apex v h;
+    no_soas = others_only v;
+    all = whole v h.soa h.one (is_one apex v h) (sorted_from v z.ordered);
+  };
   valid = z;
 }

@@ -1,13 +1,14 @@
 -- What one who holds a version, or nothing, makes of a transfer.
-use Rattle.std.specs.Prelude.{◌≡◌, ⊤, ℕ, ◌<◌, ◌^◌, Bool, List, [], ◌∷◌, ◌++◌, map, Option, Some, None}
+use Rattle.std.specs.Prelude.{◌≡◌, ⊤, ℕ, ◌<◌, ◌^◌, false, List, [], ◌∷◌, ◌++◌, map, Option, Some, None}
 use Rattle.std.specs.List.{AllByRecursion}
 use Rattle.dns_names.specs.Name.{Labels, IsName}
 use Rattle.dns_records.specs.Record.{Record, IsRecord}
 use Rattle.dns_zone.specs.Zone.{Zone, soas}
 use Rattle.dns_changes.specs.Change.{Change}
 use Rattle.dns_changes.specs.Version.{serial_in}
+use Rattle.dns_wire.specs.Message.{header_of}
 use Rattle.dns_wire.specs.Valid.{item_of}
-use Rattle.dns_request.specs.declared.request.Transport.TheVariants.{Tcp}
+use Rattle.dns_request.specs.declared.request.Transport.TheVariants.{Udp}
 use Rattle.dns_transfer.specs.Form.{advances}
 use Rattle.dns_transfer.specs.Records.{transfer_of}
 use Rattle.dns_transfer.specs.Session.{Sending, Sends, IsOpened}
@@ -51,32 +52,36 @@ abbrev pub SendsAll : Sending → List (List ℕ) → Type 0
 SendsAll s [] = s.left ≡ []
 SendsAll s (message ∷ messages) = (s.left ≡ [] → ⊥) × (next : Sending) × Sends s message next × SendsAll next messages
 
--- The messages of the session that is opened for the request of one who asks by TCP, for the version that is shown.
+-- The messages of the session that is opened for a request, for the version that is shown. By UDP none is cut off, with the
+-- bit TC (RFC 1035 4.1.1).
 pub record AreAnswers (s : Receiving) (kept : List Change) (shown : List Record) (messages : List (List ℕ)) : Type 0 where
   pub named : IsName s.apex
   pub number : s.id < 2 ^ 16
-  pub by_tcp : s.transport ≡ Tcp
   pub sending : Sending
-  pub opened : IsOpened Tcp (request_octets s.apex s.held s.id) (request_message s.apex s.held s.id) (question_asked s.apex s.held)
-      (record { zone = record { apex = s.apex; records = shown }; changes = kept }) sending
+  pub opened : IsOpened s.transport (request_octets s.apex s.held s.id) (request_message s.apex s.held s.id)
+      (question_asked s.apex s.held) (record { zone = record { apex = s.apex; records = shown }; changes = kept }) sending
   pub each : AllByRecursion IsRecord sending.left
   pub all : SendsAll sending messages
+  pub not_cut : s.transport ≡ Udp → AllByRecursion (λ message. (header_of message).tc ≡ false) messages
 
 -- Messages are fed, of each of which it is told that more is to come.
 abbrev pub GoesOn : Receiving → List (List ℕ) → Receiving → Type 0
 GoesOn s [] now = now ≡ s
 GoesOn s (message ∷ rest) now = (next : Receiving) × Feeds s message More next × GoesOn next rest now
 
--- The next message of a transfer of the version that is shown is not refused. More is to come only where a message is left; behind
--- the last the version that is shown is held, anew or as before, and it is told behind no other.
+-- The next message of a transfer of the version that is shown is not refused. More is to come only where a message is
+-- left; after the last the version that is shown is held, anew or as before, and it is told after no other. By UDP there is
+-- one message, and it may be told to ask again by TCP.
 pub record Follows (s : Receiving) (message : List ℕ) (behind : List (List ℕ)) (shown : List Record) : Type 0 where
   pub refused : (fault : Fault) → RefusesFeed s message fault → ⊥
   pub more : (next : Receiving) → Feeds s message More next → behind ≡ [] → ⊥
   pub done : (next : Receiving) → Feeds s message Done next → (behind ≡ []) × (next ≡ holding s shown)
   pub current : (next : Receiving) → Feeds s message UpToDate next → (behind ≡ []) × AreHeld s.held shown
-  pub never_again : (next : Receiving) → Feeds s message RetryTcp next → ⊥
+  pub again : (next : Receiving) → Feeds s message RetryTcp next → s.transport ≡ Udp
+  pub alone : s.transport ≡ Udp → behind ≡ []
 
--- Who asks for a transfer of a version, and is fed its messages in order, holds that version behind the last.
+-- Who asks for a transfer of a version, and is fed its messages in order, holds that version after the last, or by UDP is
+-- told to ask again.
 abbrev pub TransferIsFollowed : Type 0
 TransferIsFollowed =
     (s : Receiving) (base : List Record) (kept : List Change) (shown : List Record) (before : List (List ℕ)) (message : List ℕ)

@@ -7,8 +7,9 @@ pub fn transfer_law()
     ensures { TransferIsTaken }
 {}
 
-/// Who asks for a transfer by TCP and is fed its messages in order is never refused one but for memory, and holds the version that was
-/// shown when it was opened, behind the last and behind no other.
+/// Who asks for a transfer and is fed its messages in order is never refused one but for memory, and holds the version
+/// that was shown when it was opened, after the last and after no other. By UDP the one message, where it was not cut
+/// off, gives that version, tells that it is held already, or tells to ask again by TCP (RFC 1995 section 2).
 pub fn copies_law()
     ensures { TransferIsFollowed }
 {}

@@ -3,6 +3,8 @@ use Rattle.std.specs.Prelude.{◌≡◌, ◌⊎◌, ℕ, Bool, true, false, List
 use Rattle.std.specs.Bool.{MatchBool}
 use Rattle.std.specs.Io.KnownBytes.{Appends}
 use Rattle.dns_sectors.specs.declared.device.Sectors.{Ghosts}
+use Rattle.dns_files.specs.declared.device.OpenDeviceError.{OpenDeviceError}
+use Rattle.dns_files.specs.declared.device.OpenDeviceError.TheVariants as unopened
 use Rattle.dns_layout.specs.Sector.{sector_at, tag, root_tag_in}
 use Rattle.dns_layout.specs.declared.format.Format.TheVariants.{One}
 use Rattle.dns_journal.specs.Reads.{HasRisen}
@@ -15,6 +17,11 @@ use Rattle.dns_store.specs.declared.migrating.MigrateError.TheVariants as unmigr
 use Rattle.dns_configuration.specs.Faults.{line, printed_word}
 use Rattle.dns_devices.specs.declared.faults.DeviceFault.{DeviceFault}
 use Rattle.dns_devices.specs.declared.faults.DeviceFault.TheVariants.{Exists, Device, Blank, Damaged, OldFormat, Geometry, ZoneTooLarge, OutOfMemory}
+
+-- Why the device is not opened.
+abbrev pub fault_of_device : OpenDeviceError → DeviceFault
+fault_of_device unopened.Device = Device
+fault_of_device unopened.Geometry = Geometry
 
 -- A refusal of the store, as one of its device.
 abbrev pub fault_of_format : FormatError → DeviceFault
@@ -43,13 +50,14 @@ abbrev pub HasOldRoot : {D : Type 0} → Ghosts D → D → Type 0
 HasOldRoot g device = tag (sector_at (g.seen device) 0) ≡ root_tag_in One
 
 -- The fault of a device that was handed back when its store was refused: that of the refusal; but where the store was refused for its
--- first sector, `OldFormat` exactly if a root of format 1 is there, and `Device` where it failed when that was asked.
-abbrev pub IsFaultOf : {D : Type 0} → Ghosts D → OpenError → D → DeviceFault → Type 0
-IsFaultOf {D} g error device fault =
+-- first sector, `OldFormat` exactly if a root of format 1 is there, and `Device` where the device failed when that was asked. The
+-- second device is the first one after that.
+abbrev pub IsFaultOf : {D : Type 0} → Ghosts D → OpenError → D → D → DeviceFault → Type 0
+IsFaultOf g error device after fault =
     ((fault ≡ fault_of_open error) × (error ≡ refused.Damaged 0 → g.is_honest device → HasOldRoot g device → ⊥))
     ⊎ ((error ≡ refused.Damaged 0)
     × (((fault ≡ OldFormat) × (g.is_honest device → HasOldRoot g device))
-    ⊎ ((fault ≡ Device) × ((after : D) × HasRisen (g.failed device) (g.failed after)))))
+    ⊎ ((fault ≡ Device) × HasRisen (g.failed device) (g.failed after))))
 
 -- The name of each fault, and what can be done about it.
 abbrev pub device_word : DeviceFault → List ℕ
@@ -69,7 +77,8 @@ advice Blank = codes "no store was ever made in the file, or making it was stopp
 advice (Damaged sector) =
     codes "that sector is not what was written there; a copy of the file, or its master file and init, restores it"
 advice OldFormat = codes "the file was made in an older sector format; migrate makes it new"
-advice Geometry = codes "the file was made for another zone, or with other snapshot_sectors or journal_sectors"
+advice Geometry =
+    codes "the file is cut, or was made for another zone or with other snapshot_sectors or journal_sectors"
 advice ZoneTooLarge =
     codes "the zone takes more sectors than snapshot_sectors allows; a sector holds 480 octets of records"
 advice OutOfMemory = codes "memory was refused"

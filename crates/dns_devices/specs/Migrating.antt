@@ -5,7 +5,6 @@ use Rattle.std.specs.String.{string_bytes}
 use Rattle.std.specs.Io.KnownBytes.{Appends, Keeps}
 use Rattle.dns_names.specs.Text.{printed_name}
 use Rattle.dns_sectors.specs.Device.{LeavesOnly}
-use Rattle.dns_sectors.specs.declared.device.DeviceError.{DeviceError}
 use Rattle.dns_sectors.specs.declared.device.Sectors.{Ghosts}
 use Rattle.dns_layout.specs.Sector.{root_tag, sector_at, tag}
 use Rattle.dns_journal.specs.Reads.{HasRisen, OnlyReads}
@@ -14,7 +13,7 @@ use Rattle.dns_store.specs.declared.migrating.MigrateError.TheVariants as told
 use Rattle.dns_store.specs.declared.migrating.Migration.{Migration}
 use Rattle.dns_store.specs.declared.migrating.Migration.TheVariants.{Already, Migrated}
 use Rattle.dns_store.specs.Checkpoint.{sectors_of_snapshot}
-use Rattle.dns_store.specs.Migrating.{CountsOpening, IsMigrateStopped, MayMigrate, MigrateRefusal, MigratesAsPossible, TakesMigrated, old_opens}
+use Rattle.dns_store.specs.Migrating.{MayMigrate, MigrateRefusal, StopsMigrating, MigratesAsPossible, TakesMigrated, old_opens}
 use Rattle.dns_store.specs.Opening.{IsInRange}
 use Rattle.dns_store.specs.Versions.{Opened, newest_after}
 use Rattle.dns_configuration.specs.declared.configuration.ZoneSettings.{ZoneSettings}
@@ -24,9 +23,8 @@ use Rattle.dns_configuration.specs.declared.files.Fault.{Fault}
 use Rattle.dns_configuration.specs.Faults.{fault_text, line}
 use Rattle.dns_configuration.specs.Files.{Holds}
 use Rattle.dns_devices.specs.declared.faults.DeviceFault.{DeviceFault}
-use Rattle.dns_devices.specs.declared.faults.DeviceFault.TheVariants.{Device}
 use Rattle.dns_devices.specs.Faults.{device_text, fault_of_migrate, status_of}
-use Rattle.dns_devices.specs.Showing.{Gives, own_shape}
+use Rattle.dns_devices.specs.Showing.{Gives, IsNotOpened, own_shape}
 
 -- A crash at any moment of it leaves what `migrate` and then `open` open as a crash might have left the device before.
 abbrev pub StaysMigratable : {D : Type 0} → Ghosts D → ZoneSettings → D → D → Type 0
@@ -49,10 +47,6 @@ pub record IsMigratedAs {D : Type 0} (g : Ghosts D) (opened : Gives D) (own : Zo
   pub any_moment : StaysMigratable g own device after
   pub already : g.is_honest device → answer ≡ Already → tag (sector_at (g.seen device) 0) ≡ root_tag
   pub read_only : answer ≡ Already → OnlyReads g device after
-  pub counts : g.is_honest device
-      → IsInRange own.snapshot_sectors own.journal_sectors
-      → (o : Opened) → old_opens (own_shape own) o (g.seen device)
-      → CountsOpening (g.seen device) (g.seen after) answer
 
 -- Why the device was not migrated: where each crash leaves a store with room in format 2, the device failed, memory was refused, or it
 -- was opened too often; else by what stands on it. It was only read, unless it failed.
@@ -65,7 +59,7 @@ pub record IsRefused {D : Type 0} (g : Ghosts D) (opened : Gives D) (own : ZoneS
   pub stopped : g.is_honest device
       → IsInRange own.snapshot_sectors own.journal_sectors
       → MayMigrate g (own_shape own) device
-      → IsMigrateStopped (g.seen device) error
+      → StopsMigrating g (own_shape own) device error
   pub refused : g.is_honest device → MigrateRefusal (own_shape own) (g.count device) (g.seen device) error
   pub too_large : g.is_honest device
       → (o : Opened) → old_opens (own_shape own) o (g.seen device)
@@ -78,8 +72,7 @@ pub record IsRefused {D : Type 0} (g : Ghosts D) (opened : Gives D) (own : ZoneS
 
 -- ... or none was given.
 abbrev pub IsNotMigrated : {D : Type 0} → Ghosts D → Gives D → ZoneSettings → DeviceFault → Type 0
-IsNotMigrated g opened own fault =
-    ((fault ≡ Device) × ((e : DeviceError) × opened (string_bytes own.device) (Err e))) ⊎ IsRefused g opened own fault
+IsNotMigrated g opened own fault = IsNotOpened opened own fault ⊎ IsRefused g opened own fault
 
 -- What is printed of a zone: the number and the serial of the newest version that its device keeps; or that it was of format 2.
 abbrev pub migrated_text : List ℕ → Migration → List ℕ

@@ -8,15 +8,15 @@ use Rattle.dns_names.specs.Text.{name_of_text}
 use Rattle.dns_names.specs.declared.NameError.{NameError}
 use Rattle.dns_zone.specs.Zone.{Zone}
 use Rattle.dns_sectors.specs.Device.{Content}
-use Rattle.dns_sectors.specs.declared.device.DeviceError.{DeviceError}
 use Rattle.dns_sectors.specs.declared.device.Sectors.{Ghosts}
+use Rattle.dns_files.specs.declared.device.OpenDeviceError.{OpenDeviceError}
 use Rattle.dns_layout.specs.Sector.{sector_at}
 use Rattle.dns_masterfile.specs.Printed.{printed_zone}
 use Rattle.dns_journal.specs.Reads.{OnlyReads}
 use Rattle.dns_store.specs.declared.root.OpenError.{OpenError}
 use Rattle.dns_store.specs.declared.root.OpenError.TheVariants as told
 use Rattle.dns_store.specs.Damage.{NamesWrong}
-use Rattle.dns_store.specs.Opening.{IsInRange, IsStopped, MayOpen}
+use Rattle.dns_store.specs.Opening.{IsInRange, MayOpen, StopsPossible}
 use Rattle.dns_store.specs.Opens.{opens, sizes_of}
 use Rattle.dns_store.specs.Root.{OpenRefusal}
 use Rattle.dns_store.specs.Versions.{Opened, Shape, newest_after}
@@ -28,12 +28,16 @@ use Rattle.dns_configuration.specs.declared.files.Fault.TheVariants.{BadOrigin}
 use Rattle.dns_configuration.specs.Faults.{fault_text, line}
 use Rattle.dns_configuration.specs.Files.{Holds}
 use Rattle.dns_devices.specs.declared.faults.DeviceFault.{DeviceFault}
-use Rattle.dns_devices.specs.declared.faults.DeviceFault.TheVariants.{Device}
-use Rattle.dns_devices.specs.Faults.{IsFaultOf, device_text, status_of}
+use Rattle.dns_devices.specs.Faults.{IsFaultOf, device_text, fault_of_device, status_of}
 
 -- What may be answered for a device that is to be opened.
 abbrev pub Gives : Type 0 → Type 1
-Gives D = List ℕ → Result D DeviceError → Type 0
+Gives D = List ℕ → Result D OpenDeviceError → Type 0
+
+-- None was given for the zone's path, for this.
+abbrev pub IsNotOpened : {D : Type 0} → Gives D → ZoneSettings → DeviceFault → Type 0
+IsNotOpened opened own fault =
+    (e : OpenDeviceError) × opened (string_bytes own.device) (Err e) × (fault ≡ fault_of_device e)
 
 abbrev pub own_shape : ZoneSettings → Shape
 own_shape own = record { apex = own.origin; snapshot = own.snapshot_sectors; journal = own.journal_sectors }
@@ -58,19 +62,20 @@ pub record IsClosed {D : Type 0} (g : Ghosts D) (opened : Gives D) (own : ZoneSe
   pub came : opened (string_bytes own.device) (Ok device)
   pub back : D
   pub error : OpenError
-  pub named : IsFaultOf g error back fault
   pub read_only : (error ≡ told.Device) ⊎ OnlyReads g device back
+  pub after : D
+  pub asked : OnlyReads g back after
+  pub named : IsFaultOf g error back after fault
   pub stopped : g.is_honest device
       → IsInRange own.snapshot_sectors own.journal_sectors
       → MayOpen g (own_shape own) device
-      → IsStopped (g.seen device) error
+      → StopsPossible g (own_shape own) device error
   pub refused : g.is_honest device → OpenRefusal (sizes_of (own_shape own)) (g.count device) (sector_at (g.seen device) 0) error
   pub damaged : g.is_honest device → NamesWrong (own_shape own) (g.seen device) error
 
 -- ... or none was given.
 abbrev pub IsNotShown : {D : Type 0} → Ghosts D → Gives D → ZoneSettings → DeviceFault → Type 0
-IsNotShown g opened own fault =
-    ((fault ≡ Device) × ((e : DeviceError) × opened (string_bytes own.device) (Err e))) ⊎ IsClosed g opened own fault
+IsNotShown g opened own fault = IsNotOpened opened own fault ⊎ IsClosed g opened own fault
 
 -- How the showing of a device ends: its zone is printed, or its fault is told. With status 3 the device can't be had, a writer failed
 -- or memory was refused.

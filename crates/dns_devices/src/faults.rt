@@ -1,10 +1,11 @@
 //! What is wrong with a device, and how it is told.
 ghost use Rattle.std.specs.Prelude.{◌≡◌, Some, IfOk};
 ghost use Rattle.dns_devices.specs.Faults.{IsDeviceTold, advice, device_text, device_word, is_memory, status_of};
-ghost use Rattle.dns_devices.specs.Faults.{IsFaultOf, fault_of_format, fault_of_migrate, fault_of_open};
+ghost use Rattle.dns_devices.specs.Faults.{IsFaultOf, fault_of_device, fault_of_format, fault_of_migrate, fault_of_open};
 ghost use Rattle.dns_journal.specs.Reads.{OnlyReads};
 
 use dns_configuration::{FAILED, PrintedWord, REFUSED};
+use dns_files::OpenDeviceError;
 use dns_sectors::{DeviceError, Sectors};
 use dns_store::{DeviceFormat, FormatError, MigrateError, OpenError, format_of};
 use std::alloc::AllocError;
@@ -24,12 +25,23 @@ pub enum DeviceFault {
     Damaged(usize),
     /// Its store is of sector format 1, which has to be migrated before it is opened.
     OldFormat,
-    /// It has another number of sectors, or its store is of another zone or of other sizes.
+    /// It is no whole number of sectors, or has another number of them; or its store is of another zone or of other sizes.
     Geometry,
     /// The zone's records take more sectors than a snapshot may have.
     ZoneTooLarge,
     /// Memory was refused.
     OutOfMemory,
+}
+
+impl From<OpenDeviceError> for DeviceFault {
+    ghost from_gives = { λ e f. f ≡ fault_of_device e };
+
+    fn from(error: OpenDeviceError) -> DeviceFault {
+        match error {
+            OpenDeviceError::Device => DeviceFault::Device,
+            OpenDeviceError::Geometry => DeviceFault::Geometry,
+        }
+    }
 }
 
 impl From<FormatError> for DeviceFault {
@@ -77,7 +89,7 @@ impl From<MigrateError> for DeviceFault {
 /// Why a device was refused whose store was not opened, for this; it was handed back. A root of format 1, which is no root of today's
 /// format, is told as what it is. It is only read, and only where sector 0 is said to be wrong. `Device` where it fails then.
 pub fn refusal<D: Sectors>(device: &mut D, error: OpenError) -> DeviceFault
-    ensures fault { IsFaultOf D.Sectors error device.old result }
+    ensures fault { IsFaultOf D.Sectors error device.old device.new result }
     ensures reads { OnlyReads D.Sectors device.old device.new }
 {
     match error {
@@ -125,7 +137,7 @@ fn advice(fault: DeviceFault) -> &'static str
         DeviceFault::OldFormat =>
             "the file was made in an older sector format; migrate makes it new",
         DeviceFault::Geometry => {
-            "the file was made for another zone, or with other snapshot_sectors or journal_sectors"
+            "the file is cut, or was made for another zone or with other snapshot_sectors or journal_sectors"
         }
         DeviceFault::ZoneTooLarge => {
             "the zone takes more sectors than snapshot_sectors allows; a sector holds 480 octets of records"

@@ -1,8 +1,9 @@
 //! Where devices are: files of the operating system, by their paths, or whatever else has devices by paths.
 ghost use Rattle.std.specs.Prelude.{ℕ, List, Bool, Result};
 ghost use Rattle.dns_sectors.specs.declared.device.DeviceError.{DeviceError as StatedError};
+ghost use Rattle.dns_files.specs.declared.device.OpenDeviceError.{OpenDeviceError as StatedOpenError};
 
-use dns_files::{DiskFile, FileSectors};
+use dns_files::{DiskFile, FileSectors, OpenDeviceError};
 use dns_sectors::DeviceError;
 use std::fs::{self, Files};
 
@@ -15,7 +16,7 @@ pub trait Devices<D> {
     ghost made: { Self → List ℕ → ℕ → Result D StatedError → Type 0 };
 
     /// and where the one there is to be opened.
-    ghost opened: { Self → List ℕ → Result D StatedError → Type 0 };
+    ghost opened: { Self → List ℕ → Result D StatedOpenError → Type 0 };
 
     /// Whether there is anything at a path. `Device` where that can't be told.
     fn has(&self, path: &str) -> Result<bool, DeviceError>
@@ -25,8 +26,9 @@ pub trait Devices<D> {
     fn make(&self, path: &str, len: usize) -> Result<D, DeviceError>
         ensures { made self.now path.now len result };
 
-    /// The device at a path, which is another's by no call until it is let go. `Device` where it can't be had.
-    fn open(&self, path: &str) -> Result<D, DeviceError>
+    /// The device at a path, which is another's by no call until it is let go. `Device` where it can't be had, `Geometry`
+    /// where it is no whole number of sectors.
+    fn open(&self, path: &str) -> Result<D, OpenDeviceError>
         ensures { opened self.now path.now result };
 
     /// Takes away what is at a path, if that can be.
@@ -55,7 +57,7 @@ impl<R: Files<File = fs::File>> Devices<FileSectors<DiskFile>> for Disk<'_, R> {
         FileSectors::make(self.0, path, len)
     }
 
-    fn open(&self, path: &str) -> Result<FileSectors<DiskFile>, DeviceError> {
+    fn open(&self, path: &str) -> Result<FileSectors<DiskFile>, OpenDeviceError> {
         FileSectors::open(self.0, path)
     }
 

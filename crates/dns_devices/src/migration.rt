@@ -22,9 +22,7 @@ fn migrate_one<D: Sectors + Drop, F: Devices<D>, I: ZoneIndex>(
     ensures { MatchResult result (IsMigratedAs D.Sectors (F.opened devices.now) own.now)
         (IsNotMigrated D.Sectors (F.opened devices.now) own.now) }
 {
-    let Ok(mut device) = devices.open(&own.device) else {
-        return Err(DeviceFault::Device);
-    };
+    let mut device = devices.open(&own.device)?;
     let (snapshot, journal) = (own.snapshot_sectors, own.journal_sectors);
     let migrated = migrate_store::<D, I>(heap, &mut device, &own.origin, snapshot, journal);
     match migrated {

@@ -25,9 +25,7 @@ fn open_zone<D: Sectors + Drop, F: Devices<D>, I: ZoneIndex>(
     ensures { MatchResult result (IsShown D.Sectors (F.opened devices.now) own.now)
         (IsNotShown D.Sectors (F.opened devices.now) own.now) }
 {
-    let Ok(device) = devices.open(&own.device) else {
-        return Err(DeviceFault::Device);
-    };
+    let device = devices.open(&own.device)?;
     let (snapshot, journal) = (own.snapshot_sectors, own.journal_sectors);
     let opened: Result<(KeptStore<D, I>, Zone<I>), (D, OpenError)> = open(
         heap,

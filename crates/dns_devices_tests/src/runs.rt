@@ -105,6 +105,16 @@ fn one_that_is_served_is_not_shown(rt: HostRuntime) -> Result<(), Fail> {
     Ok(())
 }
 
+#[test]
+fn one_that_is_no_whole_number_of_sectors_is_told(rt: HostRuntime) -> Result<(), Fail> {
+    clear(&rt);
+    assert!(rt; fs::write(&rt, "example.device", [0u8; 512 * 49 + 1]).is_ok());
+    let refused = "example.device: Geometry\n";
+    ended(&rt, &run_dump(&rt, "example.", false)?, 1, "", refused);
+    ended(&rt, &run_migrate(&rt)?, 1, "", refused);
+    Ok(())
+}
+
 /// A root of sector format 1, of the zone `example.` with 8 and 16 sectors, up to the last octet that is not 0.
 const OLD_ROOT: &[u8; 56] =
     b"DPR1\0\0\0\0\0\0\0\0\0\0\0\0\0\0\0\0\0\0\0\0\0\0\0\0\0\0\0\0\0\0\0\0\0\0\

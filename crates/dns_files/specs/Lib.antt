@@ -4,3 +4,4 @@ pub mod Device
 pub mod Laws
 pub mod Memory
 pub mod Held
+pub mod Opening

@@ -1,31 +1,32 @@
 //! A device whose sector i is the 512 octets of a file from the offset 512 * i on.
-ghost use Rattle.std.specs.Prelude.{◌≡◌, ◌≢◌, ◌%◌, ◌≤◌, ◌<◌, ◌+◌, ◌-◌, ◌*◌, ◌^◌, ◌↔◌, min, refl, length, replicate, IfOk, OnOk};
+ghost use Rattle.std.specs.Prelude.{◌≡◌, ◌≢◌, ◌%◌, ◌≤◌, ◌<◌, ◌+◌, ◌-◌, ◌*◌, ◌^◌, ◌↔◌, min, refl, length, replicate, Ok, Err, IsErr, IfOk, OnOk, MatchResult};
 ghost use Rattle.dns_files.specs.File.{OnlyOctets};
 ghost use Rattle.dns_files.specs.Octets.{sectors};
 
 use crate::{File, FileError};
 use dns_sectors::{DeviceError, Sector, Sectors};
+use thiserror::Error;
+
+/// Why there is no device where one was to be opened.
+#[derive(Clone, Copy, Debug, Error, PartialEq, Eq)]
+pub enum OpenDeviceError {
+    /// What is to be the device can't be had, or doesn't tell its length.
+    #[error("the device can't be had")]
+    Device,
+    /// It is no whole number of sectors.
+    #[error("the device is no whole number of sectors")]
+    Geometry,
+}
 
 /// A device in a file. It is honest where the file is, and then a crash leaves of it the sectors of what it leaves of
 /// the file; octets behind the file's end count as zeros there. A call of the file that fails, or that moves fewer octets
 /// than a sector has, is a failure of the device, and so a read behind the end is one.
+#[derive(Drop)]
 pub struct FileSectors<F: File> {
     file: F,
     len: usize,
     failures: u64,
     ghost reachable: { 512 * len < 2 ^ 64 },
-}
-
-// Written out, so that a proof lets one go by one call (docs/GATE.md).
-impl<F: File + Drop> Drop for FileSectors<F> {
-    fn drop(self) {
-        let FileSectors {
-            file,
-            len: _,
-            failures: _,
-        } = self;
-        drop(file);
-    }
 }
 
 // Counts a failure, up to the last number.
@@ -50,22 +51,37 @@ fn blank<F: File>(file: &mut F, len: u64) -> Result<(), FileError>
 
 impl<F: File + Drop> FileSectors<F> {
     ghost use Rattle.dns_files.specs.Device.{file_of, count_of, failures_of};
+    ghost use Rattle.dns_files.specs.Opening.{IsNoDevice};
 
-    /// The device that a file holds. Nothing is written. `Device` where the file doesn't tell its length, or where that
-    /// is no multiple of 512.
-    pub fn over(file: F) -> Result<FileSectors<F>, DeviceError>
+    // A device of so many sectors, no call of which has failed.
+    fn fresh(file: F, len: usize) -> FileSectors<F>
+        requires { 512 * len < 2 ^ 64 }
+        ensures file { file_of result ≡ file }
+        ensures count { count_of result ≡ len }
+        ensures failures { failures_of result ≡ 0 }
+    {
+        FileSectors {
+            file,
+            len,
+            failures: 0,
+        }
+    }
+
+    /// The device that a file holds. Nothing is written. `Device` where the file doesn't tell its length, `Geometry` where
+    /// that is no multiple of 512.
+    pub fn over(file: F) -> Result<FileSectors<F>, OpenDeviceError>
         ensures file { IfOk result (λ device. file_of device ≡ file) }
+        ensures measured { MatchResult result (λ device. F.measured file (Ok (512 * count_of device)))
+            (IsNoDevice (F.measured file)) }
         ensures count { F.is_honest file → IfOk result (λ device. 512 * count_of device ≡ length (F.seen file)) }
-        ensures partial { F.is_honest file → length (F.seen file) % 512 ≢ 0 → result ≡ Err DeviceError.Device }
+        ensures partial { F.is_honest file → length (F.seen file) % 512 ≢ 0 → IsErr result }
+        ensures geometry { F.is_honest file → result ≡ Err OpenDeviceError.Geometry → length (F.seen file) % 512 ≢ 0 }
         ensures failures { IfOk result (λ device. failures_of device ≡ 0) }
     {
         match file.len() {
-            Ok(len) if len % 512 == 0 => Ok(FileSectors {
-                file,
-                len: (len / 512) as usize,
-                failures: 0,
-            }),
-            _ => Err(DeviceError::Device),
+            Ok(len) if len % 512 == 0 => Ok(FileSectors::fresh(file, (len / 512) as usize)),
+            Ok(_) => Err(OpenDeviceError::Geometry),
+            Err(_) => Err(OpenDeviceError::Device),
         }
     }
 
@@ -86,11 +102,7 @@ impl<F: File + Drop> FileSectors<F> {
             return Err(DeviceError::Device);
         };
         match blank(&mut file, octets) {
-            Ok(()) => Ok(FileSectors {
-                file,
-                len,
-                failures: 0,
-            }),
+            Ok(()) => Ok(FileSectors::fresh(file, len)),
             Err(_) => Err(DeviceError::Device),
         }
     }

@@ -1,7 +1,7 @@
 //! A file of the operating system, locked for as long as it is open.
-ghost use Rattle.std.specs.Prelude.{[]};
+ghost use Rattle.std.specs.Prelude.{◌≡◌, ◌≤◌, ◌^◌, ◌*◌, [], Err, IfOk};
 
-use crate::{File, FileError, FileSectors};
+use crate::{File, FileError, FileSectors, OpenDeviceError};
 use dns_sectors::{DeviceError, Sector};
 use std::fs::{self, Files, OpenOptions};
 use std::os::unix::fs::FileExt;
@@ -74,6 +74,8 @@ impl File for DiskFile {
 
     ghost is_honest = { λ _. ⊥ };
 
+    ghost measured = { λ _ _. Unit {0} };
+
     ghost seen_may_stay = { λ _ honest. honest };
 
     ghost counts_now = { λ _ _ _ honest _ _. honest };
@@ -117,13 +119,19 @@ impl File for DiskFile {
 }
 
 impl FileSectors<DiskFile> {
-    /// Makes a file at this path that is a device of so many sectors of zeros. `Device` where there is a file, and where
-    /// the system refuses one or a call on it; a file may then be left that isn't so long.
+    ghost use Rattle.dns_files.specs.Device.{count_of, failures_of};
+
+    /// Makes a file at this path that is a device of so many sectors of zeros. `Device` where there is a file, where the
+    /// system refuses one or a call on it, and where a file can't be so long; a file may then be left that isn't so long.
     pub fn make<R: Files<File = fs::File>>(
         files: &R,
         path: &str,
         len: usize,
-    ) -> Result<FileSectors<DiskFile>, DeviceError> {
+    ) -> Result<FileSectors<DiskFile>, DeviceError>
+        ensures count { IfOk result (λ device. count_of device ≡ len) }
+        ensures failures { IfOk result (λ device. failures_of device ≡ 0) }
+        ensures too_long { 2 ^ 64 ≤ 512 * len → result ≡ Err DeviceError.Device }
+    {
         match DiskFile::create(files, path) {
             Ok(file) => FileSectors::zeroed(file, len),
             Err(_) => Err(DeviceError::Device),
@@ -131,14 +139,16 @@ impl FileSectors<DiskFile> {
     }
 
     /// The device that the file at this path is. `Device` where the file can't be had, where another process holds it,
-    /// and where its length is no multiple of 512.
+    /// and where it doesn't tell its length; `Geometry` where that is no multiple of 512.
     pub fn open<R: Files<File = fs::File>>(
         files: &R,
         path: &str,
-    ) -> Result<FileSectors<DiskFile>, DeviceError> {
+    ) -> Result<FileSectors<DiskFile>, OpenDeviceError>
+        ensures failures { IfOk result (λ device. failures_of device ≡ 0) }
+    {
         match DiskFile::open(files, path) {
             Ok(file) => FileSectors::over(file),
-            Err(_) => Err(DeviceError::Device),
+            Err(_) => Err(OpenDeviceError::Device),
         }
     }
 }

@@ -1,7 +1,8 @@
 //! A file as a device needs it: its length, a read and a write at an offset, and a sync.
-ghost use Rattle.std.specs.Prelude.{◌≡◌, ◌≤◌, ◌↔◌, ◌*◌, List, ℕ, take, drop, length, IfOk, OnOk, OnErr};
+ghost use Rattle.std.specs.Prelude.{◌≡◌, ◌≤◌, ◌↔◌, ◌*◌, List, ℕ, Result, take, drop, length, IfOk, OnOk, OnErr};
 ghost use Rattle.dns_files.specs.Octets.{padded, written};
 ghost use Rattle.dns_files.specs.File.{MayChange, FollowsBy, NoMoreOctets, OnlyOctets, Passes};
+ghost use Rattle.dns_files.specs.declared.file.FileError.{FileError as StatedError};
 
 use dns_sectors::Sector;
 use thiserror::Error;
@@ -38,9 +39,13 @@ pub trait File {
     /// The file behaves as its model says.
     ghost is_honest: { Self → Type 0 };
 
+    /// It may answer so where it is asked how many octets there are.
+    ghost measured: { Self → Result ℕ StatedError → Type 0 };
+
     /// How many octets there are.
     fn len(&self) -> Result<u64, FileError>
-        ensures { is_honest self.now → IfOk result (λ len. len ≡ length (seen self.now)) };
+        ensures answer { measured self.now result }
+        ensures octets { is_honest self.now → IfOk result (λ len. len ≡ length (seen self.now)) };
 
     /// Cuts the octets behind this length off, or adds zeros up to it. Where it fails the length may be changed or not.
     fn set_len(&mut self, len: u64) -> Result<(), FileError>

@@ -6,7 +6,7 @@ mod disk;
 mod file;
 mod memory;
 
-pub use device::FileSectors;
+pub use device::{FileSectors, OpenDeviceError};
 pub use disk::DiskFile;
 pub use file::{File, FileError};
 pub use memory::{Change, MemoryFile};

@@ -1,5 +1,5 @@
 //! A file in memory, for tests: a list of octets, each change of which is durable at once.
-ghost use Rattle.std.specs.Prelude.{◌≡◌, ◌≤◌, ◌+◌, refl, length, take, drop, [], ◌++◌, IfOk};
+ghost use Rattle.std.specs.Prelude.{◌≡◌, ◌≤◌, ◌+◌, refl, length, take, drop, [], ◌++◌, Ok, IfOk};
 ghost use Rattle.dns_files.specs.Memory.{after_all};
 
 use crate::{File, FileError};
@@ -139,6 +139,8 @@ impl File for MemoryFile {
     ghost left_since = { λ file. HeldSince (start_of file) (changes_of file) };
 
     ghost is_honest = { λ _. Unit {0} };
+
+    ghost measured = { λ file answer. answer ≡ Ok (length (octets_of file)) };
 
     ghost seen_may_stay = { λ file _. refl };
 

@@ -6,7 +6,7 @@ use Rattle.dns_zone.specs.Zone.{Zone}
 use Rattle.dns_held.specs.declared.behind.Behind.{Behind}
 use Rattle.dns_held.specs.Held.{newer, newest_each}
 use Rattle.dns_held.specs.Each.{Each3}
-use Rattle.dns_held.specs.Flush.{flushed, flushed_to, first_true, FailedWhere, HasFailed}
+use Rattle.dns_held.specs.Flush.{flushed, flushed_to, first_true, FailedWhere, IsCounted}
 
 pub get3 : {A B C : Type 0} (R : A → B → C → Type 0) (xs : List A) (ys : List B) (zs : List C) (i : ℕ) (d : A) (e : B) → Each3 R xs ys zs → i < length ys
     → (c : C) × (slice_get zs i ≡ Some c) × R (slice_index_or xs i d) (slice_index_or ys i e) c
@@ -79,7 +79,7 @@ first_fails fails f e = first_more fails f ∙ ap (λ (o : Option ℕ). or_more 
 
 -- one place more
 pub fails_more : {A : Type 0} (failed : A → ℕ) (fails : List Bool) (olds news : List A) (i : ℕ) (f : Bool) (b d : A) → length fails ≡ i → FailedWhere failed fails olds news → i < length olds → i < length news
-    → (f ≡ true → HasFailed (failed (slice_index_or olds i d)) (failed b)) → FailedWhere failed (fails ++ f ∷ []) olds (slice_set news i b)
+    → IsCounted f (failed (slice_index_or olds i d)) (failed b) → FailedWhere failed (fails ++ f ∷ []) olds (slice_set news i b)
 fails_more failed [] [] news i f b d e was lo ln now = absurd (omega arith)
 fails_more failed [] (a ∷ olds) [] i f b d e was lo ln now = absurd (omega arith)
 fails_more failed [] (a ∷ olds) (n ∷ news) zero f b d e was lo ln now = (now, tt)

@@ -1,5 +1,5 @@
 -- What a flush makes of zones.
-use Rattle.std.specs.Prelude.{◌≡◌, ◌⊎◌, ◌<◌, ◌-◌, ◌^◌, ℕ, suc, Bool, true, false, ◌||◌, List, [], ◌∷◌, Option, Some, None, option_map, if◌then◌else◌}
+use Rattle.std.specs.Prelude.{◌≡◌, ◌⊎◌, ◌<◌, ◌≤◌, ◌-◌, ◌^◌, ℕ, suc, Bool, true, false, ◌||◌, List, [], ◌∷◌, Option, Some, None, option_map, if◌then◌else◌}
 use Rattle.dns_store.specs.Versions.{Kept, made_durable, closed_by_failure}
 
 abbrev pub is_none_staged : Kept → Bool
@@ -24,9 +24,14 @@ first_true (false ∷ rest) = option_map suc (first_true rest)
 abbrev pub HasFailed : ℕ → ℕ → Type 0
 HasFailed before after = (before < after) ⊎ (before ≡ 2 ^ 64 - 1)
 
--- Each device of which it is said has failed; behind the end of the list nothing is said.
+-- The count of a device's failures doesn't fall, and where the device is said to have failed, it has.
+pub record IsCounted (fails : Bool) (before after : ℕ) : Type 0 where
+  pub grows : before ≤ after
+  pub rises : fails ≡ true → HasFailed before after
+
+-- So it is of each device; after the end of the list nothing is said.
 abbrev pub FailedWhere : {A : Type 0} → (A → ℕ) → List Bool → List A → List A → Type 0
 FailedWhere failed [] olds news = Unit {0}
 FailedWhere failed (f ∷ fails) (a ∷ olds) (b ∷ news) =
-    (f ≡ true → HasFailed (failed a) (failed b)) × FailedWhere failed fails olds news
+    IsCounted f (failed a) (failed b) × FailedWhere failed fails olds news
 FailedWhere failed (f ∷ fails) _ _ = ⊥

@@ -4,7 +4,7 @@ ghost use Rattle.dns_sectors.specs.Device.{LeavesOnly};
 ghost use Rattle.dns_store.specs.Versions.{Kept, OpensAsLeft};
 ghost use Rattle.dns_held.specs.Each.{Each3};
 ghost use Rattle.dns_held.specs.Held.{HasVersions, newer, newest_each};
-ghost use Rattle.dns_held.specs.Flush.{HasFailed, FailedWhere, flushed, flushed_to, first_true};
+ghost use Rattle.dns_held.specs.Flush.{IsCounted, FailedWhere, flushed, flushed_to, first_true};
 
 use crate::Behind;
 use dns_store::{FlushError, ZoneStore};
@@ -19,7 +19,7 @@ pub fn flush_zone<I: ZoneIndex, S: ZoneStore>(zone: &mut Zone<I>, behind: &mut B
     ensures any_moment { (k : Kept)
         → S.keeps behind.old.store k
         → LeavesOnly S.moment S.left_since behind.old.store behind.new.store (OpensAsLeft S.opens k) }
-    ensures failed { result ≡ true → HasFailed (S.failed behind.old.store) (S.failed behind.new.store) }
+    ensures failed { IsCounted result (S.failed behind.old.store) (S.failed behind.new.store) }
     ensures open { (k : Kept) → HasVersions S.keeps zone.old behind.old k → result ≡ true → k.closed ≡ false }
     ensures newest { newer zone.new behind.new.tip ≡ newer zone.old behind.old.tip }
 {

@@ -155,11 +155,11 @@ pub record Steps (s : Shape) (k : Stored) (octets : List ℕ) (changes : List Ch
   pub new : Stored
   pub parts : List (List ℕ)
   pub turned : IsTurned k octets changes new
-  pub first : (may_leave : Content → Type 0) → Only d may_leave → (c : Content) → CrashOf may_leave all c → LeavesConverted s k octets changes c
-  pub second : (mid : Content) (may_leave : Content → Type 0) → mid ≡ applied all d → Only mid may_leave → (c : Content) → CrashOf may_leave ((0, y) ∷ []) c → LeavesConverted s k octets changes c
+  pub first : (may_leave : Content → Type 0) → Only d may_leave → (c : Content) → CrashOf may_leave all c → LeavesConverted s k octets changes opened c
+  pub second : (mid : Content) (may_leave : Content → Type 0) → mid ≡ applied all d → Only mid may_leave → (c : Content) → CrashOf may_leave ((0, y) ∷ []) c → LeavesConverted s k octets changes opened c
   pub to_clear : (mid after : Content) → mid ≡ applied all d → after ≡ slice_set mid 0 y → IsToClear s new y parts from until z after
   pub cleared : clear z ≡ 1
-  pub counted : open_count z ≡ opened
+  pub counted : open_count z ≡ opened + 1
 
 module _ (s : Shape) (k : Stored) (d : Content) (x : List ℕ) (parts : List (List ℕ)) (opens : OpensByIn One s d x parts k) (r : Root) (says : SaysRootIn One x r)
     (base : ℕ) (octets : List ℕ) (changes : List Change) (base_is : base + length changes ≡ version_of k) (fits : snapshot_sectors (length octets) ≤ r.snapshot_room)
@@ -248,6 +248,10 @@ module _ (s : Shape) (k : Stored) (d : Content) (x : List ℕ) (parts : List (Li
 
   before : (c : Content) → SomeApplied whole d c → OpensByIn One s c x parts k
   before c some = old_stays s k d x parts opens whole between c some
+
+  -- format 1 holds what it held
+  still : (c : Content) → OpensByIn One s c x parts k → LeavesConverted s k octets changes r.open_count c
+  still c there = inl ((x, parts, there), ap open_count there.stands ∙ says.opened_is)
 
   abbrev after : Content
   after = applied whole d
@@ -372,21 +376,21 @@ module _ (s : Shape) (k : Stored) (d : Content) (x : List ℕ) (parts : List (Li
         }
 
         pub steps : (new : Places) → ArePlaces r (other_of (bank_number r.bank)) new → (front back : List SectorWrite) → front ≡ take (snapshot_sectors (length octets)) ws → back ≡ drop (snapshot_sectors (length octets)) ws
-            → Steps s k octets changes (r.open_count + 1) d (bank_writes new front back) y z old.first old.until
+            → Steps s k octets changes r.open_count d (bank_writes new front back) y z old.first old.until
         steps new places front back front_is back_is =
             let all_is : bank_writes new front back ≡ whole = (λ i. bank_writes new (front_is i) (back_is i)) ∙ writes_are new places in
             record {
               new = stored;
               parts = xs;
               turned = is_turned;
-              first = λ may_leave only c left. inl (x, parts, before c (subst (λ (l : List Write). SomeApplied l d c) all_is (subst (λ (e : Content). SomeApplied (bank_writes new front back) e c) (only left.0 left.1) left.2)));
+              first = λ may_leave only c left. still c (before c (subst (λ (l : List Write). SomeApplied l d c) all_is (subst (λ (e : Content). SomeApplied (bank_writes new front back) e c) (only left.0 left.1) left.2)));
               second = λ mid may_leave written only c left.
                   let is : mid ≡ after = written ∙ ap (λ (l : List Write). applied l d) all_is in
                   ⊎_elim
-                  (λ not. inl (x, parts, subst (λ (b : Content). OpensByIn One s b x parts k) (sym (not ∙ only left.0 left.1 ∙ is)) (before after (all_are_some whole d))))
+                  (λ not. still c (subst (λ (b : Content). OpensByIn One s b x parts k) (sym (not ∙ only left.0 left.1 ∙ is)) (before after (all_are_some whole d))))
                   (λ now.
                   let there = sym (now ∙ ap (λ (b : Content). slice_set b 0 y) (only left.0 left.1 ∙ is)) in
-                  inr (stored, is_turned, subst (λ (b : Content). OpensAs s b stored) there (y, xs, opens_now), subst (λ (b : Content). IsTidy s b) there tidy_now))
+                  inr (stored, is_turned, subst (λ (b : Content). OpensAs s b stored) there (y, xs, opens_now), subst (λ (b : Content). IsTidy s b) there tidy_now, ap (λ (b : Content). open_count (sector_at b 0)) (sym there) ∙ (ap open_count opens_now.stands ∙ y_says.opened_is)))
                   left.2;
               to_clear = λ mid now written is. subst (λ (b : Content). IsToClear s stored y xs old.first old.until z b) (sym (is ∙ ap (λ (b : Content). slice_set b 0 y) (written ∙ ap (λ (l : List Write). applied l d) all_is))) to_clear;
               cleared = z_says.clear_is;

@@ -14,7 +14,7 @@ use Rattle.dns_layout.specs.declared.root.Bank.{Bank}
 use Rattle.dns_changes.specs.Change.{Change}
 use Rattle.dns_journal.specs.declared.read.Cursor.{Cursor}
 use Rattle.dns_journal.specs.declared.journal.Journal.{Journal}
-use Rattle.dns_journal.specs.State.{Keeps}
+use Rattle.dns_journal.specs.State.{Keeps, IsOpened, opened_of}
 use Rattle.dns_journal.specs.Bank.{sectors_of, LaysBank, Turns, IsTurned, IsTurnedTo, LeavesEither}
 use Rattle.dns_journal.proofs.Bank.{tidy_from}
 use Rattle.dns_journal.proofs.Laying.{entries_count, versions_count}
@@ -27,10 +27,10 @@ root_turned r bank base len = record r { bank = bank; bank_open = r.open_count; 
 
 -- nothing was done
 pub still_stored : {D : Type 0} {g : Ghosts D} (shape : Shape) (old : Journal D g) (k : Stored) (keeps : Keeps shape old k []) (octets : List ℕ) (changes : List Change) (c : Content)
-    → c ≡ g.seen old.device → LeavesEither shape k octets changes c
+    → c ≡ g.seen old.device → LeavesEither shape k octets changes (opened_of old) c
 still_stored {D} {g} shape old k keeps octets changes c is =
-    subst (λ (d : Content). LeavesEither shape k octets changes d) (sym is)
-    (inl (keeps.0, keeps.1, keeps.2.opens), tidy_from shape (g.seen old.device) keeps.0 (version_of k) keeps.2.opens.stands keeps.2.bank keeps.2.behind)
+    subst (λ (d : Content). LeavesEither shape k octets changes (opened_of old) d) (sym is)
+    (inl (keeps.0, keeps.1, keeps.2.opens), tidy_from shape (g.seen old.device) keeps.0 (version_of k) keeps.2.opens.stands keeps.2.bank keeps.2.behind, ap open_count keeps.2.opens.stands ∙ keeps.2.says.opened_is)
 
 -- the places of a bank depend on the two rooms alone
 module _ {D : Type 0} {g : Ghosts D} (shape : Shape) (old : Journal D g) (k : Stored) (keeps : Keeps shape old k []) (octets : List ℕ) (changes : List Change) (bank : Bank) (base : ℕ) (ws : List Write) (next : Cursor)
@@ -97,9 +97,9 @@ module _ {D : Type 0} {g : Ghosts D} (shape : Shape) (old : Journal D g) (k : St
         ∙ ap (λ n. writes_from (snapshot_place shape (other_of (number keeps.0))) lays.parts ++ writes_from n (sectors_of lays.entries)) start_is;
   }
 
-  pub leaves_either : (c : Content) → (OpensAs shape c k ⊎ OpensAs shape c stored) × IsTidy shape c → LeavesEither shape k octets changes c
-  leaves_either c (inl before, tidy) = (inl before, tidy)
-  leaves_either c (inr after, tidy) = (inr (stored, is_turned, after), tidy)
+  pub leaves_either : (c : Content) → (OpensAs shape c k ⊎ OpensAs shape c stored) × IsTidy shape c × IsOpened (open_count keeps.0) c → LeavesEither shape k octets changes (opened_of old) c
+  leaves_either c (inl before, tidy, opened) = (inl before, tidy, opened ∙ keeps.2.says.opened_is)
+  leaves_either c (inr after, tidy, opened) = (inr (stored, is_turned, after), tidy, opened ∙ keeps.2.says.opened_is)
 
   pub turned_keeps : (new : Journal D g) → new.is_closed ≡ false → g.is_honest new.device → Only (g.seen new.device) (g.may_leave new.device) → IsTurnedTo shape stored (root_turned old.root bank base (length octets)) (open_count keeps.0) (g.seen new.device)
       → new.root ≡ root_turned old.root bank base (length octets) → new.next ≡ next → pairs new.bodies.items ≡ pairs old.bodies.items → pairs new.heads.items ≡ pairs old.heads.items → Keeps shape new stored []

@@ -10,6 +10,7 @@ use Rattle.dns_layout.specs.Journal.{Entry, size_of, AreBodies, Stand, IsBatch, 
 use Rattle.dns_layout.specs.Store.{Shape, Stored, IsRoot, AreParts, OpensBy, OpensAs, IsTidy, IsLeftOver, all_sectors, snapshot_place, journal_place, bank_end, version_of, other_of}
 use Rattle.dns_layout.specs.declared.format.Format.TheVariants.{Two}
 use Rattle.dns_layout.specs.declared.root.Root.{Root}
+use Rattle.dns_journal.specs.State.{IsOpened}
 use Rattle.dns_journal.specs.Bank.{sectors_of, Turns, IsTurnedTo}
 use Rattle.dns_journal.proofs.Places.{at_set-either, some_below, some-length, all_are_some, applied-append}
 use Rattle.dns_journal.proofs.Reading.{stand_same, version_grows}
@@ -212,17 +213,17 @@ module _ (s : Shape) (k new : Stored) (d : Content) (x : List ℕ) (parts : List
   turn_tidy = tidy_from s (slice_set (applied ws d) 0 y) y (version_of new) turn_opens.stands turn_bank turn_behind
 
   -- A crash while the root is turned leaves what was stored, or what was to be.
-  pub turn_crash : (c : Content) → MayWrite 0 y (applied ws d) c → (OpensAs s c k ⊎ OpensAs s c new) × IsTidy s c
-  turn_crash c (inl not) = subst (λ (z : Content). (OpensAs s z k ⊎ OpensAs s z new) × IsTidy s z) (sym not) (inl (x, parts, bank_written.0), bank_written.2)
-  turn_crash c (inr is) = subst (λ (z : Content). (OpensAs s z k ⊎ OpensAs s z new) × IsTidy s z) (sym is) (inr (y, turns.parts, turn_opens), turn_tidy)
+  pub turn_crash : (c : Content) → MayWrite 0 y (applied ws d) c → (OpensAs s c k ⊎ OpensAs s c new) × IsTidy s c × IsOpened (open_count x) c
+  turn_crash c (inl not) = subst (λ (z : Content). (OpensAs s z k ⊎ OpensAs s z new) × IsTidy s z × IsOpened (open_count x) z) (sym not) (inl (x, parts, bank_written.0), bank_written.2, ap open_count bank_written.0.stands)
+  turn_crash c (inr is) = subst (λ (z : Content). (OpensAs s z k ⊎ OpensAs s z new) × IsTidy s z × IsOpened (open_count x) z) (sym is) (inr (y, turns.parts, turn_opens), turn_tidy, ap open_count turn_opens.stands ∙ open_is)
 
   -- during the two phases
-  pub first_left : (may_leave : Content → Type 0) → Only d may_leave → (c : Content) → CrashOf may_leave ws c → (OpensAs s c k ⊎ OpensAs s c new) × IsTidy s c
+  pub first_left : (may_leave : Content → Type 0) → Only d may_leave → (c : Content) → CrashOf may_leave ws c → (OpensAs s c k ⊎ OpensAs s c new) × IsTidy s c × IsOpened (open_count x) c
   first_left may_leave only c (e, left, some) =
       let same = bank_crash c (subst (λ (z : Content). SomeApplied ws z c) (only e left) some) in
-      (inl (x, parts, same.0), same.2)
+      (inl (x, parts, same.0), same.2, ap open_count same.0.stands)
 
-  pub second_left : (mid : Content) (may_leave : Content → Type 0) → mid ≡ applied ws d → Only mid may_leave → (c : Content) → CrashOf may_leave ((0, y) ∷ []) c → (OpensAs s c k ⊎ OpensAs s c new) × IsTidy s c
+  pub second_left : (mid : Content) (may_leave : Content → Type 0) → mid ≡ applied ws d → Only mid may_leave → (c : Content) → CrashOf may_leave ((0, y) ∷ []) c → (OpensAs s c k ⊎ OpensAs s c new) × IsTidy s c × IsOpened (open_count x) c
   second_left mid may_leave written only c (e, left, some) = turn_crash c (subst (λ (z : Content). MayWrite 0 y z c) (only e left ∙ written) some)
 
   pub turned_to : (mid after : Content) → mid ≡ applied ws d → after ≡ slice_set mid 0 y → IsTurnedTo s new r (open_count x) after

@@ -9,10 +9,10 @@ use Rattle.dns_sectors.specs.Phase.{zeros_from}
 use Rattle.dns_layout.specs.Sector.{sector_at, blank, tag, head_tag, head_tag_in, root_tag, root_tag_in, open_count, number, bank_open, clear}
 use Rattle.dns_layout.specs.Own.{IsIntactIn}
 use Rattle.dns_layout.specs.Journal.{AllBehind}
-use Rattle.dns_layout.specs.Store.{Shape, Stored, IsRoot, OpensBy, OpensByIn, OpensAs, IsTidy, IsLeftOver, all_sectors, snapshot_place, bank_end, other_of}
+use Rattle.dns_layout.specs.Store.{Shape, Stored, IsRoot, OpensBy, OpensByIn, IsTidy, IsLeftOver, all_sectors, snapshot_place, bank_end, other_of}
 use Rattle.dns_layout.specs.declared.format.Format.{Format}
 use Rattle.dns_layout.specs.declared.format.Format.TheVariants.{Two}
-use Rattle.dns_journal.specs.Clearing.{NamesSameBank, IsToClear}
+use Rattle.dns_journal.specs.Clearing.{NamesSameBank, IsToClear, OpensStill}
 use Rattle.dns_journal.proofs.Places.{at_set-same, at_set-other, some-length, all_are_some}
 use Rattle.dns_journal.proofs.Altered.{same_or_not}
 use Rattle.dns_journal.proofs.Between.{AllBetween, some_outside, banks_apart, root_apart, which_bank, bank_inside, zeros_between, zeros_stand}
@@ -119,10 +119,10 @@ module _ (s : Shape) (k : Stored) (d : Content) (x : List ℕ) (parts : List (Li
       (λ at kept tagged. ⊎_elim (λ out. heads_stay c some at out tagged)
       (λ inside. absurd (kept (record { not_clear = begun.not_clear; from = inside.0; to = inside.1 }))) (out_or_in at)) bank
 
-  zeros_leave : (c : Content) → SomeApplied (zeros_from from (until - from)) d c → OpensAs s c k × IsTidy s c
-  zeros_leave c some = ((x, parts, stays c some), tidy_stays c some)
+  zeros_leave : (c : Content) → SomeApplied (zeros_from from (until - from)) d c → OpensStill s k x z c
+  zeros_leave c some = ((x, parts, stays c some), tidy_stays c some, inl (ap open_count (stays c some).stands))
 
-  pub zeros_left : (may_leave : Content → Type 0) → Only d may_leave → (c : Content) → CrashOf may_leave (zeros_from from (until - from)) c → OpensAs s c k × IsTidy s c
+  pub zeros_left : (may_leave : Content → Type 0) → Only d may_leave → (c : Content) → CrashOf may_leave (zeros_from from (until - from)) c → OpensStill s k x z c
   zeros_left may_leave only c left = zeros_leave c (subst (λ (e : Content). SomeApplied (zeros_from from (until - from)) e c) (only left.0 left.1) left.2)
 
   abbrev blanked : Content
@@ -155,10 +155,10 @@ module _ (s : Shape) (k : Stored) (d : Content) (x : List ℕ) (parts : List (Li
       tidy_of s (slice_set blanked 0 z) z cleared_now.stands (λ at kept tagged. (let le = heads_left at tagged in omega (arith, le, begun.no_lower)))
       (omega (arith, begun.names.bank_open, bank, begun.no_lower))
 
-  pub cleared_left : (mid : Content) (may_leave : Content → Type 0) → mid ≡ applied (zeros_from from (until - from)) d → Only mid may_leave → (c : Content) → CrashOf may_leave ((0, z) ∷ []) c → OpensAs s c k × IsTidy s c
-  cleared_left mid may_leave is only c (e, left, inl not) = subst (λ (b : Content). OpensAs s b k × IsTidy s b) (sym (not ∙ only e left ∙ is)) (zeros_leave blanked all_zeros)
+  pub cleared_left : (mid : Content) (may_leave : Content → Type 0) → mid ≡ applied (zeros_from from (until - from)) d → Only mid may_leave → (c : Content) → CrashOf may_leave ((0, z) ∷ []) c → OpensStill s k x z c
+  cleared_left mid may_leave is only c (e, left, inl not) = subst (λ (b : Content). OpensStill s k x z b) (sym (not ∙ only e left ∙ is)) (zeros_leave blanked all_zeros)
   cleared_left mid may_leave is only c (e, left, inr new) =
-      subst (λ (b : Content). OpensAs s b k × IsTidy s b) (sym (new ∙ ap (λ (b : Content). slice_set b 0 z) (only e left ∙ is))) ((z, parts, cleared_now), tidy_now)
+      subst (λ (b : Content). OpensStill s k x z b) (sym (new ∙ ap (λ (b : Content). slice_set b 0 z) (only e left ∙ is))) ((z, parts, cleared_now), tidy_now, inr (ap open_count cleared_now.stands))
 
   module _ (after : Content) (is : after ≡ slice_set (applied (zeros_from from (until - from)) d) 0 z) where
     pub cleared : OpensBy s after z parts k × IsTidy s after

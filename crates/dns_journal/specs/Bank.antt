@@ -18,6 +18,7 @@ use Rattle.dns_changes.specs.Change.{Change}
 use Rattle.dns_changes.specs.Entry.{entry}
 use Rattle.dns_journal.specs.declared.journal.Journal.{Journal}
 use Rattle.dns_journal.specs.declared.read.Cursor.{Cursor}
+use Rattle.dns_journal.specs.State.{IsOpened}
 use Rattle.dns_sectors.specs.declared.device.Sectors.{Ghosts}
 
 -- the octets of a snapshot that its part with this index holds
@@ -94,10 +95,11 @@ pub record IsTurned (k : Stored) (octets : List ℕ) (changes : List Change) (ne
   pub snapshot : new.snapshot ≡ octets
   pub entries : AreEntries changes new.entries
 
--- A crash left what was stored, or what is stored behind the turn.
-abbrev pub LeavesEither : Shape → Stored → List ℕ → List Change → Content → Type 0
-LeavesEither shape k octets changes c =
+-- A crash left what was stored, or what is stored after the turn, of a store that was opened so often.
+abbrev pub LeavesEither : Shape → Stored → List ℕ → List Change → ℕ → Content → Type 0
+LeavesEither shape k octets changes opened c =
     (OpensAs shape c k ⊎ ((new : Stored) × IsTurned k octets changes new × OpensAs shape c new)) × IsTidy shape c
+    × IsOpened opened c
 
 -- how many sectors a bank has for its snapshot, and for its journal
 abbrev pub snapshot_room_of : {D : Type 0} {g : Ghosts D} → Journal D g → ℕ

@@ -1,8 +1,9 @@
 -- The bank that isn't in use is cleared, and a root of the same store is written.
-use Rattle.std.specs.Prelude.{◌≡◌, ◌≤◌, ℕ, List}
+use Rattle.std.specs.Prelude.{◌≡◌, ◌⊎◌, ◌≤◌, ℕ, List}
 use Rattle.dns_sectors.specs.Device.{Content}
 use Rattle.dns_layout.specs.Sector.{open_count, number, bank_open, sequence, snapshot_length, clear}
 use Rattle.dns_layout.specs.Own.{Own}
+use Rattle.dns_journal.specs.State.{IsOpened}
 use Rattle.dns_layout.specs.Store.{Shape, Stored, IsRoot, OpensBy, OpensAs, IsTidy, snapshot_place, bank_end, other_of}
 
 -- the two roots name the same bank, with the same snapshot
@@ -26,9 +27,13 @@ pub record IsToClear (s : Shape) (k : Stored) (x : List ℕ) (parts : List (List
   pub no_lower : open_count x ≤ open_count z
   pub own : Own 0 z
 
+-- It opens as what is stored, of a store that was opened as often as one of the two roots says.
+abbrev pub OpensStill : Shape → Stored → List ℕ → List ℕ → Content → Type 0
+OpensStill s k x z c = OpensAs s c k × IsTidy s c × (IsOpened (open_count x) c ⊎ IsOpened (open_count z) c)
+
 -- All that was stored before that bank is cleared is stored still.
 abbrev pub StaysUncleared : ℕ → ℕ → List ℕ → Content → Content → Type 0
 StaysUncleared from until z old new =
     (s : Shape) (k : Stored) (x : List ℕ) (parts : List (List ℕ))
     → IsToClear s k x parts from until z old
-    → OpensAs s new k × IsTidy s new
+    → OpensStill s k x z new

@@ -4,13 +4,14 @@ use Rattle.dns_sectors.specs.Device.{Content}
 use Rattle.dns_sectors.specs.Crash.{Write}
 use Rattle.dns_sectors.specs.Phase.{pairs, zeros_from}
 use Rattle.dns_sectors.specs.declared.phase.SectorWrite.{SectorWrite}
-use Rattle.dns_layout.specs.Sector.{sector_at, open_count, clear}
+use Rattle.dns_layout.specs.Sector.{sector_at, clear}
 use Rattle.dns_layout.specs.Forms.{SaysRootIn}
 use Rattle.dns_layout.specs.Store.{Shape, Stored, OpensAs, OpensAsIn, OpensByIn, IsTidy, version_of}
 use Rattle.dns_layout.specs.declared.root.Root.{Root}
 use Rattle.dns_layout.specs.declared.format.Format.TheVariants.{One}
 use Rattle.dns_changes.specs.Change.{Change}
 use Rattle.dns_journal.specs.declared.conversion.Places.{Places}
+use Rattle.dns_journal.specs.State.{IsOpened}
 use Rattle.dns_journal.specs.Bank.{IsTurned}
 
 -- these writes, and zeros from a place up to another
@@ -23,10 +24,12 @@ abbrev pub bank_writes : Places → List SectorWrite → List SectorWrite → Li
 bank_writes p parts entries =
     with_zeros parts (p.first + length parts) p.journal ++ with_zeros entries (p.journal + length entries) p.until
 
--- A crash left what format 1 held, or in format 2 what is stored after the turn.
-abbrev pub LeavesConverted : Shape → Stored → List ℕ → List Change → Content → Type 0
-LeavesConverted s k octets changes c =
-    OpensAsIn One s c k ⊎ ((new : Stored) × IsTurned k octets changes new × OpensAs s c new × IsTidy s c)
+-- A crash left what format 1 held, of a store that was opened so often; or in format 2 what is stored after the turn, opened once
+-- more.
+abbrev pub LeavesConverted : Shape → Stored → List ℕ → List Change → ℕ → Content → Type 0
+LeavesConverted s k octets changes opened c =
+    (OpensAsIn One s c k × IsOpened opened c)
+    ⊎ ((new : Stored) × IsTurned k octets changes new × OpensAs s c new × IsTidy s c × IsOpened (opened + 1) c)
 
 -- So it is of all that format 1 held there by this root, up to that version.
 abbrev pub StaysOrConverts : Root → ℕ → List ℕ → List Change → Content → Content → Type 0
@@ -35,11 +38,11 @@ StaysOrConverts root base octets changes old new =
     → OpensByIn One s old x parts k
     → SaysRootIn One x root
     → base + length changes ≡ version_of k
-    → LeavesConverted s k octets changes new
+    → LeavesConverted s k octets changes root.open_count new
 
 -- It opens in format 2 as what is stored, its root has this open count, and says that the other bank is cleared.
 pub record OpensCleared (s : Shape) (k : Stored) (opened : ℕ) (c : Content) : Type 0 where
   pub opens : OpensAs s c k
   pub tidy : IsTidy s c
   pub cleared : clear (sector_at c 0) ≡ 1
-  pub counted : open_count (sector_at c 0) ≡ opened
+  pub counted : IsOpened opened c

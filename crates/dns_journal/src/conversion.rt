@@ -1,5 +1,5 @@
-//! What a store of format 1 holds is put into its other bank in format 2. The root is turned to it, and the old bank is
-//! cleared.
+//! What a store of format 1 holds is put into its other bank in format 2. The root is turned to it, and the
+//! old bank is cleared.
 ghost use Rattle.std.specs.Prelude.{◌≡◌, ◌≢◌, ◌≤◌, ◌<◌, ◌↔◌, ◌+◌, ◌-◌, ◌*◌, ◌^◌, ℕ, List, length, sum_by, IfErr, OnOk};
 ghost use Rattle.dns_sectors.specs.Device.{Only, LeavesOnly, CountsFailure};
 ghost use Rattle.dns_sectors.specs.Crash.{applied, CrashOf};
@@ -27,10 +27,10 @@ pub(crate) struct Places {
     until: usize,
 }
 
-/// Puts what a store of format 1 holds into the bank that isn't in use, in format 2: a snapshot with these octets, of
-/// the version with this number, and the entries of these newest changes, all with the open count raised by one. Makes
-/// it durable, turns the root to that bank, and clears the old one. It makes all growths before the first write.
-/// `Device` where the device fails.
+/// Puts what a store of format 1 holds into the bank that isn't in use, in format 2: a snapshot with these
+/// octets, of the version with this number, and the entries of these newest changes, all with the open count
+/// raised by one. Makes it durable, turns the root to that bank, and clears the old one. It makes all growths
+/// before the first write. `Device` where the device fails.
 pub fn convert<D: Sectors>(
     alloc: Heap,
     device: &mut D,
@@ -59,6 +59,7 @@ pub fn convert<D: Sectors>(
     ensures device { result ≡ Err TurnError.Device → HasRisen (D.failed device.old) (D.failed device.new) }
     ensures open { IfErr result (λ e. e ≢ TurnError.Closed) }
     ensures grows { D.failed device.old ≤ D.failed device.new }
+    ensures quiet { OnOk result (D.failed device.new ≡ D.failed device.old) }
     ensures honest { D.is_honest device.new ↔ D.is_honest device.old }
     ensures count { D.count device.new ≡ D.count device.old }
 {
@@ -103,8 +104,8 @@ fn places_of(root: &Root, bank: Bank) -> Places
     }
 }
 
-// Writes every sector of a bank in order and makes them durable: the parts of its snapshot, zeros up to its journal, the
-// sectors of its entries, and zeros up to its end.
+// Writes every sector of a bank in order and makes them durable: the parts of its snapshot, zeros up to its
+// journal, the sectors of its entries, and zeros up to its end.
 fn write_whole<D: Sectors>(
     device: &mut D,
     places: Places,

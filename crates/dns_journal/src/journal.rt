@@ -1,5 +1,5 @@
-//! A journal that is written: staged entries become durable in two phases, first their bodies and then their heads. Its
-//! entries are `stage` and `flush`.
+//! A journal that is written: staged entries become durable in two phases, first their bodies and then their
+//! heads. Its entries are `stage` and `flush`.
 ghost use Rattle.std.specs.Prelude.{length, take, drop, replicate, ◌≤◌, ◌+◌, ◌-◌, ◌^◌, ◌++◌, ◌∷◌, ◌≡◌, ◌≢◌, ◌<◌, ◌↔◌, [], ℕ, List};
 ghost use Rattle.std.specs.Prelude.{true, false, ◌*◌, IsOk, OnOk, OnErr};
 ghost use Rattle.dns_sectors.specs.Device.{Only, LeavesOnly, CountsFailure};
@@ -53,8 +53,9 @@ pub enum FlushError {
     Closed,
 }
 
-/// The journal of a bank, on the device of a store whose root was raised. Between two calls all but the staged entries is
-/// durable. Where the device fails it is closed for good.
+/// The journal of a bank, on the device of a store whose root was raised. Between two calls all but the
+/// staged entries is durable. Where the device fails it is closed for good.
+#[derive(Drop)]
 pub struct Journal<D: Sectors> {
     pub(crate) device: D,
     bodies: Vec<SectorWrite, Heap>,
@@ -73,28 +74,13 @@ pub struct Journal<D: Sectors> {
     ghost banks_small: { 1 + 2 * (root.snapshot_room + root.journal_room) ≤ 2 ^ 20 },
 }
 
-// Written out, so that a proof lets one go by one call (docs/GATE.md).
-impl<D: Sectors + Drop> Drop for Journal<D> {
-    fn drop(self) {
-        let Journal {
-            device,
-            bodies,
-            heads,
-            is_closed: _,
-            next: _,
-            root: _,
-        } = self;
-        drop((device, bodies, heads));
-    }
-}
-
 impl<D: Sectors> Journal<D> {
     ghost use Rattle.dns_layout.specs.Sector.{open_count, bank_open, number};
     ghost use Rattle.dns_layout.specs.Forms.{SaysRoot};
     ghost use Rattle.dns_layout.specs.Journal.{Entry, size_of, octets_of, AllBehind, place_behind};
     ghost use Rattle.dns_layout.specs.Store.{Shape, Stored, OpensBy, with_more, bank_end, journal_place, version_of};
     ghost use Rattle.dns_journal.specs.State.{Keeps, LeavesPart, JournalLeavesOnly, HasFailed, is_closed, device_of, left_of};
-    ghost use Rattle.dns_journal.specs.State.{newest_of};
+    ghost use Rattle.dns_journal.specs.State.{newest_of, opened_of};
     ghost use Rattle.dns_journal.specs.Bank.{snapshot_room_of, journal_room_of};
 
     /// A journal on a device that was opened by this root, with nothing staged. It makes no device operation.
@@ -113,6 +99,7 @@ impl<D: Sectors> Journal<D> {
             → next.version ≡ version_of k → next.opened ≡ open_count x
             → Keeps shape result k [] }
         ensures newest { newest_of result ≡ next.version }
+        ensures opened { opened_of result ≡ root.open_count }
         ensures device { device_of result ≡ device }
     {
         Journal {
@@ -150,8 +137,9 @@ impl<D: Sectors> Journal<D> {
         self.next.until - self.next.at
     }
 
-    /// Puts a change behind the newest entry, in memory. Nothing is written. `Full` where its entry takes more sectors than
-    /// are left, `Closed` where the device has failed; neither changes anything, nor does memory that is refused.
+    /// Puts a change behind the newest entry, in memory. Nothing is written. `Full` where its entry takes
+    /// more sectors than are left, `Closed` where the device has failed; neither changes anything, nor does
+    /// memory that is refused.
     pub fn stage(&mut self, alloc: Heap, change: &Change) -> Result<(), StageError>
         requires { newest_of self.old < 2 ^ 64 - 1 }
         ensures staged { (shape : Shape) (k : Stored) (staged : List Entry) → Keeps shape self.old k staged
@@ -167,6 +155,7 @@ impl<D: Sectors> Journal<D> {
         ensures fits { OnOk result (left_of self.new + sectors_of_entry (length (entry change.now)) ≡ left_of self.old) }
         ensures closed { result ≡ Err StageError.Closed ↔ is_closed self.old ≡ true }
         ensures stays_open { is_closed self.new ≡ is_closed self.old }
+        ensures opened { opened_of self.new ≡ opened_of self.old }
         ensures device { device_of self.new ≡ device_of self.old }
     {
         if self.is_closed {
@@ -180,12 +169,13 @@ impl<D: Sectors> Journal<D> {
         Ok(())
     }
 
-    /// Makes the staged entries durable: writes all bodies, syncs, writes all heads, and syncs; where no entry has a body, one
-    /// sync is enough. `Device` where the device fails; every later call answers `Closed`, until the store is opened again.
+    /// Makes the staged entries durable: writes all bodies, syncs, writes all heads, and syncs; where no
+    /// entry has a body, one sync is enough. `Device` where the device fails; every later call answers
+    /// `Closed`, until the store is opened again.
     pub fn flush(&mut self) -> Result<(), FlushError>
         // A crash at any moment of it leaves a first part of the staged entries behind what was stored.
         ensures any_moment { (shape : Shape) (k : Stored) (staged : List Entry) → Keeps shape self.old k staged
-            → JournalLeavesOnly self.old self.new (LeavesPart shape k staged) }
+            → JournalLeavesOnly self.old self.new (LeavesPart shape k staged (opened_of self.old)) }
         ensures flushed { (shape : Shape) (k : Stored) (staged : List Entry) → Keeps shape self.old k staged
             → OnOk result (Keeps shape self.new (with_more k staged) []) }
         ensures closes { OnErr result (is_closed self.new ≡ true) }
@@ -196,10 +186,13 @@ impl<D: Sectors> Journal<D> {
             → (device_of self.new ≡ device_of self.old) × IsOk result }
         ensures left { left_of self.new ≡ left_of self.old }
         ensures newest { newest_of self.new ≡ newest_of self.old }
+        ensures opened { opened_of self.new ≡ opened_of self.old }
         ensures honest { D.is_honest (device_of self.new) ↔ D.is_honest (device_of self.old) }
 
         // It doesn't give up by itself.
         ensures device { result ≡ Err FlushError.Device → HasFailed self.old self.new }
+        ensures grows { D.failed (device_of self.old) ≤ D.failed (device_of self.new) }
+        ensures quiet { OnOk result (D.failed (device_of self.new) ≡ D.failed (device_of self.old)) }
         ensures only_closed { result ≡ Err FlushError.Closed → is_closed self.old ≡ true }
     {
         if self.is_closed {
@@ -248,8 +241,8 @@ impl<D: Sectors> Journal<D> {
     }
 }
 
-// Puts the sectors of an entry with these octets behind those that are to be written. Where memory is refused, nothing
-// changes.
+// Puts the sectors of an entry with these octets behind those that are to be written. Where memory is
+// refused, nothing changes.
 fn stage_octets(
     next: &mut Cursor,
     bodies: &mut Vec<SectorWrite, Heap>,

@@ -1,17 +1,21 @@
-//! A bank that is written whole: the parts of a snapshot and the entries behind them are written and made durable, and then the
-//! root is turned to it.
-ghost use Rattle.std.specs.Prelude.{◌≡◌, ◌≢◌, ◌⊎◌, ◌≤◌, ◌<◌, ◌↔◌, ◌+◌, ◌-◌, ◌*◌, ◌^◌, [], true, ℕ, List, length};
+//! A bank that is written whole: the parts of a snapshot and the entries behind them are written and made
+//! durable, and then the root is turned to it.
+ghost use Rattle.std.specs.Prelude.{◌≡◌, ◌≢◌, ◌⊎◌, ◌≤◌, ◌<◌, ◌↔◌, ◌+◌, ◌-◌, ◌*◌, ◌^◌, [], true, ℕ, List};
+ghost use Rattle.std.specs.Prelude.{length};
 ghost use Rattle.std.specs.Prelude.{IfOk, OnOk, OnErr, sum_by};
 ghost use Rattle.dns_sectors.specs.Device.{Only, LeavesOnly, CountsFailure};
 ghost use Rattle.dns_sectors.specs.Phase.{pairs, AllWithin};
-ghost use Rattle.dns_layout.specs.Sector.{entry_sectors as sectors_of_entry, snapshot_sectors as sectors_of_snapshot};
+ghost use Rattle.dns_layout.specs.Sector.{entry_sectors as sectors_of_entry};
+ghost use Rattle.dns_layout.specs.Sector.{snapshot_sectors as sectors_of_snapshot};
 ghost use Rattle.dns_layout.specs.Sector.{blank, payload_room, open_count, bank_open};
 ghost use Rattle.dns_layout.specs.Forms.{SaysPart, bank_number};
 ghost use Rattle.dns_layout.specs.Own.{Own};
 ghost use Rattle.dns_layout.specs.Journal.{AllBehind};
 ghost use Rattle.dns_layout.specs.Store.{Shape, Stored, OpensBy, OpensAs, IsTidy, version_of, other_of};
-ghost use Rattle.dns_journal.specs.Bank.{part_of, piece, Holds, sectors_for, PushesParts, PushesEntry, PushesEntries};
+ghost use Rattle.dns_journal.specs.Bank.{part_of, piece, Holds, sectors_for, PushesParts, PushesEntry};
+ghost use Rattle.dns_journal.specs.Bank.{PushesEntries};
 ghost use Rattle.dns_journal.specs.Bank.{LaysBank, Turns, IsTurnedTo};
+ghost use Rattle.dns_journal.specs.State.{IsOpened};
 
 use crate::journal::push_bodies;
 use crate::{Cursor, Journal};
@@ -59,27 +63,35 @@ impl From<DeviceError> for TurnError {
 }
 
 impl<D: Sectors> Journal<D> {
-    ghost use Rattle.dns_journal.specs.State.{Keeps, JournalLeavesOnly, HasFailed, is_closed, device_of, left_of, newest_of};
+    ghost use Rattle.dns_journal.specs.State.{Keeps, JournalLeavesOnly, HasFailed, is_closed, device_of};
+    ghost use Rattle.dns_journal.specs.State.{left_of, newest_of};
+    ghost use Rattle.dns_journal.specs.State.{opened_of};
     ghost use Rattle.dns_journal.specs.Bank.{IsTurned, LeavesEither, snapshot_room_of, journal_room_of};
 
-    /// With nothing staged, writes a snapshot with these octets and the entries of these newest changes into the bank that
-    /// isn't in use, and makes them durable; then turns the root to that bank. It makes all growths before the first write.
-    /// `Device` where the device fails, and every later call answers `Closed`, until the store is opened again.
+    /// With nothing staged, writes a snapshot with these octets and the entries of these newest changes into
+    /// the bank that isn't in use, and makes them durable; then turns the root to that bank. It makes all
+    /// growths before the first write. `Device` where the device fails, and every later call answers
+    /// `Closed`, until the store is opened again.
     pub fn turn(&mut self, alloc: Heap, octets: &[u8], changes: &[Change]) -> Result<(), TurnError>
         requires fits { sectors_of_snapshot (length octets.now) ≤ snapshot_room_of self.old }
         requires room { sum_by sectors_for changes.now ≤ journal_room_of self.old }
         requires few { length changes.now ≤ newest_of self.old }
         // A crash at any moment of it leaves what was stored, or what is stored behind the turn.
         ensures any_moment { (shape : Shape) (k : Stored) → Keeps shape self.old k []
-            → JournalLeavesOnly self.old self.new (LeavesEither shape k octets.now changes.now) }
+            → JournalLeavesOnly self.old self.new (LeavesEither shape k octets.now changes.now
+            (opened_of self.old)) }
         ensures turned { (shape : Shape) (k : Stored) → Keeps shape self.old k []
-            → OnOk result ((turned : Stored) × IsTurned k octets.now changes.now turned × Keeps shape self.new turned []) }
+            → OnOk result ((turned : Stored) × IsTurned k octets.now changes.now turned
+            × Keeps shape self.new turned []) }
         ensures closed { is_closed self.old ≡ true ↔ result ≡ Err TurnError.Closed }
         ensures closes { result ≡ Err TurnError.Device → is_closed self.new ≡ true }
         ensures device { result ≡ Err TurnError.Device → HasFailed self.old self.new }
+        ensures grows { D.failed (device_of self.old) ≤ D.failed (device_of self.new) }
+        ensures quiet { OnOk result (D.failed (device_of self.new) ≡ D.failed (device_of self.old)) }
         ensures stays { OnErr result ((result ≡ Err TurnError.Device) ⊎ (self.new ≡ self.old)) }
         ensures left { OnErr result (left_of self.new ≡ left_of self.old) }
         ensures newest { newest_of self.new ≡ newest_of self.old }
+        ensures opened { opened_of self.new ≡ opened_of self.old }
         ensures honest { D.is_honest (device_of self.new) ↔ D.is_honest (device_of self.old) }
     {
         if self.is_closed {
@@ -104,7 +116,8 @@ impl<D: Sectors> Journal<D> {
     }
 }
 
-/// The sector at a place that holds the part with this index of a snapshot, with zeros behind the snapshot's end.
+/// The sector at a place that holds the part with this index of a snapshot, with zeros behind the snapshot's
+/// end.
 pub fn snapshot_sector(at: usize, bank_open: u64, base: u64, octets: &[u8], index: u32) -> Sector
     requires { payload_room * index ≤ length octets.now }
     ensures says { SaysPart result (part_of bank_open base index) }
@@ -131,7 +144,8 @@ pub(crate) fn push_parts(
     octets: &[u8],
 ) -> Result<(), AllocError>
     requires { at + sectors_of_snapshot (length octets.now) ≤ 2 ^ 20 }
-    ensures pushed { OnOk result (PushesParts at bank_open base octets.now (sectors_of_snapshot (length octets.now))
+    ensures pushed { OnOk result (PushesParts at bank_open base octets.now (sectors_of_snapshot
+        (length octets.now))
         (pairs writes.old.items) (pairs writes.new.items)) }
     ensures within { (n : ℕ) → at + sectors_of_snapshot (length octets.now) ≤ n → AllWithin n writes.old.items
         → AllWithin n writes.new.items }
@@ -147,8 +161,8 @@ pub(crate) fn push_parts(
     Ok(())
 }
 
-// Puts the sectors of an entry with these octets, its head and then its bodies, at the cursor and behind those that are to be
-// written.
+// Puts the sectors of an entry with these octets, its head and then its bodies, at the cursor and behind
+// those that are to be written.
 fn push_entry(
     next: &mut Cursor,
     writes: &mut Vec<SectorWrite, Heap>,
@@ -158,8 +172,10 @@ fn push_entry(
     requires number { next.old.version < 2 ^ 64 - 1 }
     requires small { next.old.until ≤ 2 ^ 20 }
     requires len { length octets.now < 2 ^ 32 }
-    ensures pushed { OnOk result (PushesEntry next.old next.new octets.now (pairs writes.old.items) (pairs writes.new.items)) }
-    ensures within { (n : ℕ) → next.old.until ≤ n → AllWithin n writes.old.items → AllWithin n writes.new.items }
+    ensures pushed { OnOk result (PushesEntry next.old next.new octets.now (pairs writes.old.items)
+        (pairs writes.new.items)) }
+    ensures within { (n : ℕ) → next.old.until ≤ n → AllWithin n writes.old.items
+        → AllWithin n writes.new.items }
 {
     let len = octets.len();
     let in_head = len.min(HEAD_ROOM);
@@ -179,7 +195,8 @@ fn push_entry(
     Ok(())
 }
 
-// Puts the entries of these changes at the cursor, one behind the other, and behind the sectors that are to be written.
+// Puts the entries of these changes at the cursor, one behind the other, and behind the sectors that are to
+// be written.
 pub(crate) fn push_entries(
     alloc: Heap,
     next: &mut Cursor,
@@ -189,8 +206,10 @@ pub(crate) fn push_entries(
     requires room { next.old.at + sum_by sectors_for changes.now ≤ next.old.until }
     requires number { next.old.version + length changes.now < 2 ^ 64 }
     requires small { next.old.until ≤ 2 ^ 20 }
-    ensures pushed { OnOk result (PushesEntries next.old next.new changes.now (pairs writes.old.items) (pairs writes.new.items)) }
-    ensures within { (n : ℕ) → next.old.until ≤ n → AllWithin n writes.old.items → AllWithin n writes.new.items }
+    ensures pushed { OnOk result (PushesEntries next.old next.new changes.now (pairs writes.old.items)
+        (pairs writes.new.items)) }
+    ensures within { (n : ℕ) → next.old.until ≤ n → AllWithin n writes.old.items
+        → AllWithin n writes.new.items }
 {
     for change in changes {
         let octets = change.encode(alloc)?;
@@ -199,8 +218,9 @@ pub(crate) fn push_entries(
     Ok(())
 }
 
-// The sectors that are to be written into the bank that this root doesn't name: a snapshot with these octets, of the version with
-// this number, and the entries of these changes behind it. And where the next entry goes then.
+// The sectors that are to be written into the bank that this root doesn't name: a snapshot with these octets,
+// of the version with this number, and the entries of these changes behind it. And where the next entry goes
+// then.
 pub(crate) fn write_bank(
     alloc: Heap,
     root: &Root,
@@ -214,10 +234,13 @@ pub(crate) fn write_bank(
     requires number { base + length changes.now < 2 ^ 64 }
     ensures laid { IfOk result (λ r. LaysBank
         (record { snapshot = root.now.snapshot_room; journal = root.now.journal_room; apex = root.now.apex })
-        (other_of (bank_number root.now.bank)) root.now.open_count base octets.now changes.now (pairs r.0.items) r.1) }
-    ensures within { IfOk result (λ r. AllWithin (1 + 2 * (root.now.snapshot_room + root.now.journal_room)) r.0.items) }
+        (other_of (bank_number root.now.bank)) root.now.open_count base octets.now changes.now
+        (pairs r.0.items) r.1) }
+    ensures within { IfOk result
+        (λ r. AllWithin (1 + 2 * (root.now.snapshot_room + root.now.journal_room)) r.0.items) }
     ensures next { IfOk result (λ r. (r.1.at ≤ r.1.until)
-        × (r.1.until ≤ 1 + 2 * (root.now.snapshot_room + root.now.journal_room)) × (r.1.version ≡ base + length changes.now)) }
+        × (r.1.until ≤ 1 + 2 * (root.now.snapshot_room + root.now.journal_room))
+        × (r.1.version ≡ base + length changes.now)) }
 {
     let rooms = root.snapshot_room as usize + root.journal_room as usize;
     let first = 1 + other_bank(root.bank).number() as usize * rooms;
@@ -252,17 +275,21 @@ pub(crate) fn turn_to<D: Sectors>(
 ) -> Result<(), DeviceError>
     requires within { AllWithin (D.count device.old) writes.now }
     requires some { 0 < D.count device.old }
-    ensures any_moment { (s : Shape) (k new : Stored) (x : List ℕ) (parts : List (List ℕ)) → D.is_honest device.old
+    ensures any_moment { (s : Shape) (k new : Stored) (x : List ℕ) (parts : List (List ℕ))
+        → D.is_honest device.old
         → Only (D.seen device.old) (D.may_leave device.old) → OpensBy s (D.seen device.old) x parts k
         → bank_open x ≤ open_count x → AllBehind (open_count x) (version_of k) (D.seen device.old)
         → Turns s k new x root.now (pairs writes.now)
-        → LeavesOnly D.moment D.left_since device.old device.new (λ c. (OpensAs s c k ⊎ OpensAs s c new) × IsTidy s c) }
-    ensures turned { (s : Shape) (k new : Stored) (x : List ℕ) (parts : List (List ℕ)) → D.is_honest device.old
+        → LeavesOnly D.moment D.left_since device.old device.new
+        (λ c. (OpensAs s c k ⊎ OpensAs s c new) × IsTidy s c × IsOpened (open_count x) c) }
+    ensures turned { (s : Shape) (k new : Stored) (x : List ℕ) (parts : List (List ℕ))
+        → D.is_honest device.old
         → Only (D.seen device.old) (D.may_leave device.old) → OpensBy s (D.seen device.old) x parts k
         → bank_open x ≤ open_count x → AllBehind (open_count x) (version_of k) (D.seen device.old)
         → Turns s k new x root.now (pairs writes.now)
         → OnOk result (IsTurnedTo s new root.now (open_count x) (D.seen device.new)) }
-    ensures durable { D.is_honest device.old → OnOk result (Only (D.seen device.new) (D.may_leave device.new)) }
+    ensures durable { D.is_honest device.old
+        → OnOk result (Only (D.seen device.new) (D.may_leave device.new)) }
     ensures failed { CountsFailure result (D.failed device.old) (D.failed device.new) }
     ensures honest { D.is_honest device.new ↔ D.is_honest device.old }
     ensures count { D.count device.new ≡ D.count device.old }

@@ -1,47 +1,25 @@
 -- An update that is answered behind what came first, over a primary.
-use Rattle.std.proofs.Common.{◌≡◌, ◌⊎◌, inl, inr, ℕ, zero, suc, Bool, List, [], ◌∷◌, Option, Some, refl, sym, subst}
-use Rattle.std.specs.Prelude.{slice_get}
+use Rattle.std.proofs.Common.{◌≡◌, inl, inr, ℕ, Bool, List, Option}
 use Rattle.dns_zone.specs.declared.index.ZoneIndex as index
 use Rattle.dns_store.specs.declared.zone_store.ZoneStore as store
 use Rattle.dns_held.specs.declared.behind.Behind.{Behind}
 use Rattle.dns_held.specs.Each.{Each2}
-use Rattle.dns_held.specs.Flush.{FailedWhere, HasFailed}
+use Rattle.dns_held.specs.Flush.{FailedWhere}
 use Rattle.dns_primary.specs.declared.event.Noted.TheVariants.{OutOfMemory}
 use Rattle.dns_primary.specs.declared.primary.Primary.{Primary}
 use Rattle.dns_primary.specs.Machine.{ZoneState, Machine}
 use Rattle.dns_primary.specs.Step as machine
 use Rattle.dns_primary.specs.Step.{IsBegun}
 use Rattle.dns_primary.specs.Queue.{IsUntouched}
-use Rattle.dns_primary.specs.Steps.{AtAnyMomentOf, HaveFailedInTurn, IsBegunOrLacks, OpensAsEvent, with_rooms}
+use Rattle.dns_primary.specs.Steps.{AtAnyMomentOf, IsBegunOrLacks, OpensAsEvent, with_rooms}
 use Rattle.dns_primary.proofs.Served.{failed_still, still_leaves}
-
--- the one that an untouched one was
-was_there : {A : Type 0} (R : A → A → Type 0) (xs ys : List A) (n : ℕ) (b : A) → Each2 R xs ys → slice_get ys n ≡ Some b → (a : A) × (slice_get xs n ≡ Some a) × R a b
-was_there R [] [] n b h e = absurd (cc e)
-was_there R [] (y ∷ ys) n b h e = absurd h
-was_there R (x ∷ xs) [] n b h e = absurd h
-was_there {A} R (x ∷ xs) (y ∷ ys) zero b h e = (let is : y ≡ b = cc e in (x, refl, subst (λ (v : A). R x v) is h.0))
-was_there R (x ∷ xs) (y ∷ ys) (suc n) b h e = was_there R xs ys n b h.1 e
 
 -- no device is touched behind it
 module _ {I S : Type 0} {i : index.Ghosts I} {s : store.Ghosts S} (m : Machine) (old mid new : Primary I S i s)
     (still : Each2 (λ (a b : Behind I S). IsUntouched s.moment s.left_since s.failed a.store b.store) mid.behind.items new.behind.items)
   where
-    pub failed_then : (fails : List Bool) → FailedWhere (λ b. s.failed b.store) fails old.behind.items mid.behind.items ⊎ HaveFailedInTurn m fails old mid
-        → FailedWhere (λ b. s.failed b.store) fails old.behind.items new.behind.items ⊎ HaveFailedInTurn m fails old new
-    failed_then fails (inl h) = inl (failed_still (λ (b : Behind I S). b.store) s.failed s.moment s.left_since fails old.behind.items mid.behind.items new.behind.items h still)
-    failed_then fails (inr t) = inr (record {
-      place = t.place;
-      flushing = t.flushing;
-      moving = t.moving;
-      both = t.both;
-      between = t.between;
-      kept = t.kept;
-      failed = t.failed;
-      moved = λ a b is here there.
-          let was = was_there (λ (a b : Behind I S). IsUntouched s.moment s.left_since s.failed a.store b.store) mid.behind.items new.behind.items t.place b still there in
-          subst (λ n. HasFailed (s.failed a.store) n) (sym (was.2).quiet) (t.moved a was.0 is here was.1);
-    })
+    pub failed_then : (fails : List Bool) → FailedWhere (λ b. s.failed b.store) fails old.behind.items mid.behind.items → FailedWhere (λ b. s.failed b.store) fails old.behind.items new.behind.items
+    failed_then fails h = failed_still (λ (b : Behind I S). b.store) s.failed s.moment s.left_since fails old.behind.items mid.behind.items new.behind.items h still
 
     pub moments_then : (moved : Option (ℕ × ℕ)) → AtAnyMomentOf s moved m old.behind.items mid.behind.items → AtAnyMomentOf s moved m old.behind.items new.behind.items
     moments_then moved each =

@@ -52,6 +52,7 @@ begun zone settings = record {
   staged = [];
   base = 0;
   second = None;
+  openings = 1;
   closed = false;
 }
 
@@ -71,6 +72,7 @@ all_begun (z ∷ zones) (s ∷ settings) e =
           staged = refl;
           base = refl;
           second = refl;
+          openings = refl;
           opened = refl;
         },
         rest.1,

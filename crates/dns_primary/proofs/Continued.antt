@@ -1,5 +1,5 @@
 -- Transfers that are open are touched by the pumps and the end of their connection alone.
-use Rattle.std.proofs.Common.{◌≡◌, ◌⊎◌, inl, inr, ⊎_elim, ℕ, Bool, true, false, List, [], ◌∷◌, ◌++◌, map, Option, Some, None, Result, Ok, Err, refl, sym, ap, subst, ◌∙◌}
+use Rattle.std.proofs.Common.{◌≡◌, ◌⊎◌, inl, inr, ⊎_elim, ℕ, Bool, true, false, List, [], ◌∷◌, map, Option, Some, None, Result, Ok, Err, refl, sym, ap, subst, ◌∙◌}
 use Rattle.std.specs.Prelude.{not, ◌&&◌, ◌==◌, nat_le, is_none, is_some, option_map, slice_get}
 use Rattle.dns_records.specs.Record.{Record}
 use Rattle.dns_wire.specs.Message.{Question, Message}
@@ -19,10 +19,10 @@ use Rattle.dns_transfer.specs.Session.{Sending, Version, Opens, IsOpened}
 use Rattle.dns_primary.specs.declared.event.Peer.{Peer}
 use Rattle.dns_primary.specs.declared.event.To.{To}
 use Rattle.dns_primary.specs.declared.event.To.TheVariants as to
-use Rattle.dns_primary.specs.Machine.{ZoneState, Machine, Connection, kept_of, shown_zones, peer_at, sending_at}
+use Rattle.dns_primary.specs.Machine.{ZoneState, Machine, kept_of, shown_zones, peer_at, sending_at}
 use Rattle.dns_primary.specs.Flush.{Sent, flushed, flush_sends}
-use Rattle.dns_primary.specs.Update.{Asked, Admission, Rejects, Admits, admission, accepted_in, judged_in, admitted, is_full, made_place, answer, room_lacked}
-use Rattle.dns_primary.specs.Transfer.{OpensFrom, TransferBegins, IsStarted, IsTransferred, IsSentOn, IsPumped, is_free, may_have, open_still, set_transfer, version_of, with_transfer, zone_named}
+use Rattle.dns_primary.specs.Update.{Asked, Admission, Rejects, Admits, admission, accepted_in, judged_in, admitted, is_full, room_lacked}
+use Rattle.dns_primary.specs.Transfer.{OpensFrom, TransferBegins, IsStarted, IsSentOn, IsPumped, is_free, may_have, open_still, set_transfer, version_of, zone_named}
 use Rattle.dns_primary.specs.Step.{Event, Datagram, Connect, Arrives, Flush, Checkpoint, Pump, Closed, IsCheckpointed, IsBegun, IsUpdated, Effects, IsServed, IsArrived, IsConnected, Goes, Lacks, Step, takes_memory}
 use Rattle.dns_primary.specs.Connections.{closed}
 use Rattle.dns_primary.specs.Stop.{IsStopped}
@@ -304,15 +304,15 @@ module _ (number : ℕ) where
   step_goes fails old event effects new s at (inr l) = lacks_goes fails old event effects new s at l
 
   -- along a run
-  stopped_none : (old : Machine) (event : Event) (new : Machine) → IsStopped old event new → sending_at number new.connections ≡ None
-  stopped_none old event new r = ap (sending_at number) r.connections
+  stopped_none : (tries : ℕ) (old : Machine) (event : Event) (new : Machine) → IsStopped tries old event new → sending_at number new.connections ≡ None
+  stopped_none tries old event new r = ap (sending_at number) r.connections
 
   pub run_goes : (run : List Moment) (start : Machine) (o : Option Sending) → sending_at number start.connections ≡ o → Run start run → Continues number run o
   run_goes [] start o at h = tt
   run_goes (t ∷ rest) start None at h = tt
   run_goes (Took event fails effects new ∷ rest) start (Some s) at h =
       (step_goes fails start event effects new s at h.0, run_goes rest new (sending_at number new.connections) refl h.1)
-  run_goes (Stopped event tries new ∷ rest) start (Some s) at h = stopped_none start event new (h.0).1
+  run_goes (Stopped event tries new ∷ rest) start (Some s) at h = stopped_none tries start event new h.0
 
   -- none that is open comes of nothing
   is_new : {P : Type 0} (old new : Machine) (s : Sending) → sending_at number old.connections ≡ None → sending_at number new.connections ≡ Some s → Same old new → P

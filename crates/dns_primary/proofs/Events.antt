@@ -1,16 +1,14 @@
 -- Requests that are served, as events of the machine.
 use Rattle.std.proofs.Common.{◌≡◌, inl, inr, ⊎_elim, ℕ, Bool, List, [], ◌++◌, Option, Some, None, refl, sym, ap, subst, ◌∙◌}
-use Rattle.std.specs.Prelude.{is_some, ◌&&◌, ◌||◌, ◌==◌}
-use Rattle.dns_request.specs.Request.{opcode_update}
+use Rattle.std.specs.Prelude.{is_some, ◌&&◌, ◌||◌}
 use Rattle.dns_request.specs.declared.request.Transport.TheVariants.{Udp, Tcp}
-use Rattle.dns_wire.specs.Message.{header_of}
 use Rattle.dns_answer.specs.Answer.{handled}
 use Rattle.dns_primary.specs.declared.event.Peer.{Peer}
 use Rattle.dns_primary.specs.declared.event.To.TheVariants.{Address, Connection}
 use Rattle.dns_primary.specs.Machine.{Machine, peer_at, shown_zones}
 use Rattle.dns_primary.specs.Flush.{Sent, flush_sends}
 use Rattle.dns_primary.specs.Update.{is_full}
-use Rattle.dns_primary.specs.Step.{Effects, Datagram, Arrives, IsArrived, Step, arrived_lacks, checkpoint_first, failures, failure, failure_on, request_lacks}
+use Rattle.dns_primary.specs.Step.{Effects, Datagram, Arrives, IsArrived, Step, arrived_lacks, arrived_update, checkpoint_first, failures, failure, failure_on, is_update, request_lacks}
 use Rattle.dns_primary.specs.Steps.{IsServedOrLacks, LacksRequest, nothing}
 use Rattle.dns_primary.proofs.Served.{gives_none}
 
@@ -23,14 +21,14 @@ arrived old next number peer octets fails stated e h =
     let goes : failures old (Arrives number octets) ≡ failure (Connection number) octets = ap (λ (o : Option Peer). failure_on number o octets) e in
     let lacks : checkpoint_first old (Arrives number octets) ≡ request_lacks old (Connection number) peer (handled (shown_zones old) octets Tcp) = ap (λ (o : Option Peer). arrived_lacks old number o octets) e in
     ⊎_elim (λ s. inl (subst (λ (o : Option Peer). IsArrived fails old number o octets stated next) (sym e) s))
-    (λ (l : LacksRequest fails old (Connection number) (request_lacks old (Connection number) peer (handled (shown_zones old) octets Tcp)) octets stated next). inr (record {
+    (λ (l : LacksRequest fails old (Connection number) (is_update (handled (shown_zones old) octets Tcp)) (request_lacks old (Connection number) peer (handled (shown_zones old) octets Tcp)) octets stated next). inr (record {
       takes = refl;
       noted = l.noted;
       accepted = l.accepted;
       stays = elim (l.stays) [
         | inl s ↦ inl (s.0, s.1, s.2 ∙ sym goes)
         | inr r ↦ elim r [
-          | inl s ↦ inr (inl (ap (λ (o : Option (ℕ × ℕ)). (header_of octets).opcode == opcode_update && is_full old || is_some o) lacks ∙ s.0, s.1, s.2, s.3 ∙ ap (λ (x : List Sent). flush_sends fails old ++ x) (sym goes)))
+          | inl s ↦ inr (inl (ap (λ (o : Option Peer). arrived_update old o octets && is_full old || is_some (arrived_lacks old number o octets)) e ∙ s.0, s.1, s.2, s.3 ∙ ap (λ (x : List Sent). flush_sends fails old ++ x) (sym goes)))
           | inr s ↦ inr (inr (s.0, s.1, lacks ∙ s.2, s.3, s.4 ∙ ap (λ (x : List Sent). (s.1).sent ++ x) (sym goes)))
         ]
       ];

@@ -14,15 +14,15 @@ use Rattle.dns_primary.specs.declared.primary.ZoneSettings.{ZoneSettings}
 use Rattle.dns_policy.specs.Prefix.{IsAllowed}
 use Rattle.dns_held.specs.Each.{Each2}
 
-case : (f : Bool) (s : Setting) (l : List Record) (shown staged : List Made) (base : ℕ) (second : Option ℕ) (closed : Bool)
-    → kept_of (flushed_zone f (record { setting = s; loaded = l; shown = shown; staged = staged; base = base; second = second; closed = closed })) ≡ held.flushed f (kept_of (record { setting = s; loaded = l; shown = shown; staged = staged; base = base; second = second; closed = closed }))
-case f s l shown staged base second true = refl
-case f s l shown [] base second false = refl
-case true s l shown (m ∷ staged) base second false = refl
-case false s l shown (m ∷ staged) base second false = λ i. record { shape = s.shape; loaded = l; shown = map-append (λ (x : Made). x.records) shown (m ∷ staged) i; staged = []; base = base; second = second; closed = false }
+case : (f : Bool) (s : Setting) (l : List Record) (shown staged : List Made) (base : ℕ) (second : Option ℕ) (openings : ℕ) (closed : Bool)
+    → kept_of (flushed_zone f (record { setting = s; loaded = l; shown = shown; staged = staged; base = base; second = second; openings = openings; closed = closed })) ≡ held.flushed f (kept_of (record { setting = s; loaded = l; shown = shown; staged = staged; base = base; second = second; openings = openings; closed = closed }))
+case f s l shown staged base second openings true = refl
+case f s l shown [] base second openings false = refl
+case true s l shown (m ∷ staged) base second openings false = refl
+case false s l shown (m ∷ staged) base second openings false = λ i. record { shape = s.shape; loaded = l; shown = map-append (λ (x : Made). x.records) shown (m ∷ staged) i; staged = []; base = base; second = second; openings = openings; closed = false }
 
 pub kept_flushed : (f : Bool) (z : ZoneState) → kept_of (flushed_zone f z) ≡ held.flushed f (kept_of z)
-kept_flushed f z = case f z.setting z.loaded z.shown z.staged z.base z.second z.closed
+kept_flushed f z = case f z.setting z.loaded z.shown z.staged z.base z.second z.openings z.closed
 
 pub kept_flushed_all : (fails : List Bool) (zs : List ZoneState) → map kept_of (flushed_zones fails zs) ≡ held.flushed_to fails (map kept_of zs)
 kept_flushed_all [] zs = refl

@@ -1,5 +1,5 @@
 -- Zones behind what comes first: an update is admitted there as before, unless its zone is closed then.
-use Rattle.std.proofs.Common.{◌≡◌, ◌⊎◌, inl, inr, ⊎_elim, ℕ, zero, suc, Bool, true, false, not, List, [], ◌∷◌, ◌++◌, Option, Some, None, refl, sym, ap, subst, ◌∙◌, append-nil}
+use Rattle.std.proofs.Common.{◌≡◌, inl, inr, ⊎_elim, ℕ, zero, suc, Bool, true, false, not, List, [], ◌∷◌, ◌++◌, Option, Some, None, refl, sym, ap, subst, ◌∙◌, append-nil}
 use Rattle.std.specs.Prelude.{slice_get, slice_set, option_map, ◌==◌, if◌then◌else◌}
 use Rattle.std.specs.declared.net.ip_addr.IpAddr.{IpAddr}
 use Rattle.dns_names.specs.Name.{Labels, names_eq}
@@ -33,13 +33,13 @@ follows_itself z = record { setting = refl; newest = refl; shut = λ e. e }
 follows_on : (a b c : ZoneState) → Follows a b → Follows b c → Follows a c
 follows_on a b c p q = record { setting = q.setting ∙ p.setting; newest = q.newest ∙ p.newest; shut = λ e. q.shut (p.shut e) }
 
-flushed_by : (f : Bool) (s : Setting) (l : List Record) (shown staged : List Made) (base : ℕ) (second : Option ℕ) (closed : Bool)
-    → Follows (record { setting = s; loaded = l; shown = shown; staged = staged; base = base; second = second; closed = closed })
-    (flushed_zone f (record { setting = s; loaded = l; shown = shown; staged = staged; base = base; second = second; closed = closed }))
-flushed_by f s l shown staged base second true = record { setting = refl; newest = refl; shut = λ e. e }
-flushed_by f s l shown [] base second false = record { setting = refl; newest = refl; shut = λ e. e }
-flushed_by true s l shown (m ∷ staged) base second false = record { setting = refl; newest = refl; shut = λ e. refl }
-flushed_by false s l shown (m ∷ staged) base second false = record {
+flushed_by : (f : Bool) (s : Setting) (l : List Record) (shown staged : List Made) (base : ℕ) (second : Option ℕ) (openings : ℕ) (closed : Bool)
+    → Follows (record { setting = s; loaded = l; shown = shown; staged = staged; base = base; second = second; openings = openings; closed = closed })
+    (flushed_zone f (record { setting = s; loaded = l; shown = shown; staged = staged; base = base; second = second; openings = openings; closed = closed }))
+flushed_by f s l shown staged base second openings true = record { setting = refl; newest = refl; shut = λ e. e }
+flushed_by f s l shown [] base second openings false = record { setting = refl; newest = refl; shut = λ e. e }
+flushed_by true s l shown (m ∷ staged) base second openings false = record { setting = refl; newest = refl; shut = λ e. refl }
+flushed_by false s l shown (m ∷ staged) base second openings false = record {
   setting = refl;
   newest =
       let whole : versions_of (shown ++ m ∷ staged) ++ [] ≡ versions_of shown ++ versions_of (m ∷ staged) = append-nil (versions_of (shown ++ m ∷ staged)) ∙ versions_joined shown (m ∷ staged) in
@@ -48,7 +48,7 @@ flushed_by false s l shown (m ∷ staged) base second false = record {
 }
 
 zone_follows : (f : Bool) (z : ZoneState) → Follows z (flushed_zone f z)
-zone_follows f z = flushed_by f z.setting z.loaded z.shown z.staged z.base z.second z.closed
+zone_follows f z = flushed_by f z.setting z.loaded z.shown z.staged z.base z.second z.openings z.closed
 
 flushed_all : (fails : List Bool) (zones : List ZoneState) → Each2 Follows zones (flushed_zones fails zones)
 flushed_all [] zones = pair_same Follows follows_itself zones

@@ -1,16 +1,14 @@
 -- Devices that are handed out by a machine, between two events or within one.
-use Rattle.std.proofs.Common.{◌≡◌, ◌≤◌, ◌+◌, ℕ, zero, suc, Bool, true, false, Option, Some, None, List, [], ◌∷◌, map, refl, subst, arith}
+use Rattle.std.proofs.Common.{◌≡◌, ◌≤◌, ◌+◌, ℕ, zero, suc, Option, Some, None, List, [], ◌∷◌, map, refl, subst, arith}
 use Rattle.std.specs.List.{AllByRecursion}
 use Rattle.dns_names.specs.Name.{Labels}
 use Rattle.dns_zone.specs.Zone.{Zone}
 use Rattle.dns_sectors.specs.Device.{Content, LeavesOnly}
 use Rattle.dns_sectors.specs.declared.device.Sectors.{Ghosts}
 use Rattle.dns_journal.specs.State.{device_of}
-use Rattle.dns_journal.specs.declared.journal.Journal.{Journal}
-use Rattle.dns_store.specs.Versions.{Kept}
-use Rattle.dns_store.specs.Opens.{KeepsBy, opens}
+use Rattle.dns_store.specs.Opens.{opens}
 use Rattle.dns_store.specs.Opening.{keeps}
-use Rattle.dns_store.specs.Laws.{at_rest_of}
+use Rattle.dns_store.specs.Laws.{at_rest_of, honest_of}
 use Rattle.dns_store.specs.declared.kept_store.KeptStore.{KeptStore}
 use Rattle.dns_held.specs.declared.behind.Behind.{Behind}
 use Rattle.dns_held.specs.Each.{Each3}
@@ -25,16 +23,12 @@ use Rattle.dns_primary.specs.Open.{device_behind, IsRecoverable, AreRecoverable}
 use Rattle.dns_primary.specs.HandOut.{IsSetAs, AreSetAs}
 use Rattle.dns_primary.proofs.Recovering.{left_recovered, checkpoint_recovered}
 
-honest_of : {D : Type 0} {g : Ghosts D} (journal : Journal D g) (k : Kept) (closed : Bool) → KeepsBy journal k closed → g.is_honest (device_of journal)
-honest_of journal k true kept = kept.honest
-honest_of journal k false (s, staged, kept) = kept.keeps.2.honest
-
 module _ {D I : Type 0} {g : Ghosts D} (m : Machine) (event : Event)
     (counts_now : (device : D) (t : ℕ) (c : Content) → g.is_honest device → t ≤ g.moment device → g.may_leave device c → g.left_since device t c)
     (only_now : (device : D) (c : Content) → g.is_honest device → g.left_since device (g.moment device) c → g.may_leave device c)
   where
     -- between two events
-    rests_recoverable : (making : ℕ → Type 0) (a : Labels) (s : ZoneSettings) (z : ZoneState) (zone : Zone) (b : Behind I (KeptStore D I g)) → IsSetAs a s z → HasVersions (λ (x : KeptStore D I g) k. keeps x k) zone b (kept_of z) → IsRecoverable g making z a s (device_behind b)
+    rests_recoverable : (making : ℕ → Type 0) (a : Labels) (s : ZoneSettings) (z : ZoneState) (zone : Zone) (b : Behind I (KeptStore D I g)) → IsSetAs a s z → HasVersions (λ (x : KeptStore D I g) k. keeps x k) zone b (kept_of z) → IsRecoverable g 0 making z a s (device_behind b)
     rests_recoverable making a s z zone b so h =
         let k = kept_of z in
         let journal = b.store.journal in
@@ -48,7 +42,7 @@ module _ {D I : Type 0} {g : Ghosts D} (m : Machine) (event : Event)
         }
 
     pub rest_recoverable : (place : ℕ) (zones : List Zone) (behind : List (Behind I (KeptStore D I g))) (states : List ZoneState) (apexes : List Labels) (settings : List ZoneSettings)
-        → HaveVersions (λ (x : KeptStore D I g) k. keeps x k) zones behind states → AreSetAs apexes settings states → AreRecoverable g m event place states apexes settings (map (λ b. device_behind b) behind)
+        → HaveVersions (λ (x : KeptStore D I g) k. keeps x k) zones behind states → AreSetAs apexes settings states → AreRecoverable g 0 m event place states apexes settings (map (λ b. device_behind b) behind)
     rest_recoverable place [] [] [] [] [] held so = tt
     rest_recoverable place (y ∷ zones) (b ∷ behind) (z ∷ states) (a ∷ apexes) (s ∷ settings) held so =
         (rests_recoverable (IsMaking m event place z) a s z y b so.0 held.0, rest_recoverable (suc place) zones behind states apexes settings held.1 so.1)
@@ -71,7 +65,7 @@ module _ {D I : Type 0} {g : Ghosts D} (m : Machine) (event : Event)
     LeavesZone a b k = LeavesOnly (λ (x : KeptStore D I g). g.moment (device_of x.journal)) (λ (x : KeptStore D I g). g.left_since (device_of x.journal)) a.store b.store (OpensAsEvent opens k.0 k.1)
 
     left_now : (making : ℕ → Type 0) (a : Labels) (s : ZoneSettings) (z : ZoneState) (old new : Behind I (KeptStore D I g)) (room : Option ℕ) → IsSetAs a s z → g.is_honest (device_behind new) → LeavesZone old new (room, z)
-        → ((c : Content) → OpensAsEvent opens room z c → OpensAsRecovered opens making z c) → IsRecoverable g making z a s (device_behind new)
+        → ((c : Content) → OpensAsEvent opens room z c → OpensAsRecovered opens 0 making z c) → IsRecoverable g 0 making z a s (device_behind new)
     left_now making a s z old new room so honest leaves recovers = record {
       shape = so.shape;
       set = so.set;
@@ -81,7 +75,7 @@ module _ {D I : Type 0} {g : Ghosts D} (m : Machine) (event : Event)
     }
 
     none_moved : (place : ℕ) (olds news : List (Behind I (KeptStore D I g))) (states : List ZoneState) (apexes : List Labels) (settings : List ZoneSettings)
-        → AreSetAs apexes settings states → AllByRecursion (λ b. g.is_honest (device_behind b)) news → Each3 LeavesZone olds news (map without_room states) → AreRecoverable g m event place states apexes settings (map (λ b. device_behind b) news)
+        → AreSetAs apexes settings states → AllByRecursion (λ b. g.is_honest (device_behind b)) news → Each3 LeavesZone olds news (map without_room states) → AreRecoverable g 0 m event place states apexes settings (map (λ b. device_behind b) news)
     none_moved place [] [] [] [] [] so honest leaves = tt
     none_moved place (o ∷ olds) (n ∷ news) (z ∷ states) (a ∷ apexes) (s ∷ settings) so honest leaves =
         (left_now (IsMaking m event place z) a s z o n None so.0 honest.0 leaves.0 (λ c is. left_recovered (IsMaking m event place z) z c is), none_moved (suc place) olds news states apexes settings so.1 honest.1 leaves.1)
@@ -95,7 +89,7 @@ module _ {D I : Type 0} {g : Ghosts D} (m : Machine) (event : Event)
 
     one_moved : (place behind room : ℕ) (olds news : List (Behind I (KeptStore D I g))) (states : List ZoneState) (apexes : List Labels) (settings : List ZoneSettings)
         → Checkpoints m event (place + behind) room
-        → AreSetAs apexes settings states → AllByRecursion (λ b. g.is_honest (device_behind b)) news → Each3 LeavesZone olds news (with_room behind room states) → AreRecoverable g m event place states apexes settings (map (λ b. device_behind b) news)
+        → AreSetAs apexes settings states → AllByRecursion (λ b. g.is_honest (device_behind b)) news → Each3 LeavesZone olds news (with_room behind room states) → AreRecoverable g 0 m event place states apexes settings (map (λ b. device_behind b) news)
     one_moved place zero room [] [] [] [] [] makes so honest leaves = tt
     one_moved place (suc behind) room [] [] [] [] [] makes so honest leaves = tt
     one_moved place zero room (o ∷ olds) (n ∷ news) (z ∷ states) (a ∷ apexes) (s ∷ settings) makes so honest leaves =
@@ -115,7 +109,7 @@ module _ {D I : Type 0} {g : Ghosts D} (m : Machine) (event : Event)
 
     pub event_recoverable : (moved : Option (ℕ × ℕ)) (olds news : List (Behind I (KeptStore D I g))) (states : List ZoneState) (apexes : List Labels) (settings : List ZoneSettings)
         → ((p r : ℕ) → moved ≡ Some (p, r) → Checkpoints m event p r)
-        → AreSetAs apexes settings states → AllByRecursion (λ b. g.is_honest (device_behind b)) news → Each3 LeavesZone olds news (with_rooms moved states) → AreRecoverable g m event 0 states apexes settings (map (λ b. device_behind b) news)
+        → AreSetAs apexes settings states → AllByRecursion (λ b. g.is_honest (device_behind b)) news → Each3 LeavesZone olds news (with_rooms moved states) → AreRecoverable g 0 m event 0 states apexes settings (map (λ b. device_behind b) news)
     event_recoverable None olds news states apexes settings makes so honest leaves = none_moved 0 olds news states apexes settings so honest leaves
     event_recoverable (Some (p, r)) olds news states apexes settings makes so honest leaves =
         one_moved 0 p r olds news states apexes settings (subst (λ (i : ℕ). Checkpoints m event i r) (let e : p ≡ 0 + p = omega arith in e) (makes p r refl)) so honest leaves

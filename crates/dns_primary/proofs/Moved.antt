@@ -1,6 +1,9 @@
 -- A step that moves the base of a zone, behind a flush.
-use Rattle.std.proofs.Common.{◌≡◌, ◌⊎◌, inl, inr, ⊎_elim, ◌<◌, ◌-◌, ℕ, zero, suc, Bool, true, false, List, [], ◌∷◌, length, map, Option, Some, None, Result, Ok, Err, refl, sym, ap, subst, ◌∙◌, arith, append-nil}
-use Rattle.std.specs.Prelude.{slice_get, slice_set, slice_index_or, is_some}
+use Rattle.std.proofs.Common.{◌≡◌, ◌⊎◌, inl, inr, ⊎_elim, ◌<◌, ◌≤◌, ◌-◌, ◌^◌, ℕ, zero, suc, Bool, true, false, List, [], ◌∷◌, length, map, Option, Some, None, Result, Ok, Err, refl, sym, ap, subst, ◌∙◌, arith, append-nil}
+use Rattle.std.specs.Prelude.{nat_lt, slice_get, slice_set, slice_index_or, is_some}
+use Rattle.std.proofs.lemmas.Bool.Decides.{nat_tests}
+use Rattle.dns_zone.specs.Sets.{true_or_false}
+use Rattle.dns_wire.proofs.Binds.{true_lt}
 use Rattle.dns_zone.specs.Zone.{Zone}
 use Rattle.dns_zone.specs.declared.index.ZoneIndex as index
 use Rattle.dns_records.specs.Record.{Record}
@@ -14,7 +17,7 @@ use Rattle.dns_held.specs.declared.behind.Behind.{Behind}
 use Rattle.dns_held.specs.Each.{Each3}
 use Rattle.dns_held.specs.Held.{HasVersions}
 use Rattle.dns_held.specs.Flush as held
-use Rattle.dns_held.specs.Flush.{first_true}
+use Rattle.dns_held.specs.Flush.{first_true, HasFailed, IsCounted, FailedWhere}
 use Rattle.dns_held.specs.Checkpoint.{IsNextBase}
 use Rattle.dns_primary.specs.declared.event.Noted.{Noted}
 use Rattle.dns_primary.specs.declared.event.Noted.TheVariants.{OutOfMemory}
@@ -45,14 +48,14 @@ without store moment left_since opens (a ∷ olds) (b ∷ news) (z ∷ zones) ea
 without store moment left_since opens _ _ _ each = absurd each
 
 -- a zone of which nothing is staged, or that is closed, is as it would be behind a flush
-settled_by : (s : Setting) (l : List Record) (shown staged : List Made) (base : ℕ) (second : Option ℕ) (closed : Bool) → (closed ≡ true) ⊎ (staged ≡ [])
-    → held.flushed false (kept_of (record { setting = s; loaded = l; shown = shown; staged = staged; base = base; second = second; closed = closed })) ≡ kept_of (record { setting = s; loaded = l; shown = shown; staged = staged; base = base; second = second; closed = closed })
-settled_by s l shown staged base second true settled = refl
-settled_by s l shown [] base second false settled = refl
-settled_by s l shown (m ∷ staged) base second false settled = ⊎_elim (λ e. absurd cc) (λ e. absurd cc) settled
+settled_by : (s : Setting) (l : List Record) (shown staged : List Made) (base : ℕ) (second : Option ℕ) (openings : ℕ) (closed : Bool) → (closed ≡ true) ⊎ (staged ≡ [])
+    → held.flushed false (kept_of (record { setting = s; loaded = l; shown = shown; staged = staged; base = base; second = second; openings = openings; closed = closed })) ≡ kept_of (record { setting = s; loaded = l; shown = shown; staged = staged; base = base; second = second; openings = openings; closed = closed })
+settled_by s l shown staged base second openings true settled = refl
+settled_by s l shown [] base second openings false settled = refl
+settled_by s l shown (m ∷ staged) base second openings false settled = ⊎_elim (λ e. absurd cc) (λ e. absurd cc) settled
 
 pub settled_flushed : (z : ZoneState) → IsSettled z → held.flushed false (kept_of z) ≡ kept_of z
-settled_flushed z settled = settled_by z.setting z.loaded z.shown z.staged z.base z.second z.closed settled
+settled_flushed z settled = settled_by z.setting z.loaded z.shown z.staged z.base z.second z.openings z.closed settled
 
 open_of : (b : Bool) → (b ≡ true → ⊥) → b ≡ false
 open_of true none = absurd (none refl)
@@ -123,28 +126,28 @@ module _ {I S : Type 0} (keeps : S → Kept → Type 0) (zone : Zone) (b : Behin
   moved_refused refused.OutOfMemory shuts shut closes large right stays = ⊎_elim (λ failed. absurd cc) (λ kept. (z, refl, still_is kept)) stays
 
 -- a zone behind a flush
-zone_by : (f : Bool) (s : Setting) (l : List Record) (shown staged : List Made) (base : ℕ) (second : Option ℕ) (closed : Bool)
-    → IsSettled (flushed_zone f (record { setting = s; loaded = l; shown = shown; staged = staged; base = base; second = second; closed = closed }))
-zone_by f s l shown staged base second true = inl refl
-zone_by f s l shown [] base second false = inr refl
-zone_by true s l shown (m ∷ staged) base second false = inl refl
-zone_by false s l shown (m ∷ staged) base second false = inr refl
+zone_by : (f : Bool) (s : Setting) (l : List Record) (shown staged : List Made) (base : ℕ) (second : Option ℕ) (openings : ℕ) (closed : Bool)
+    → IsSettled (flushed_zone f (record { setting = s; loaded = l; shown = shown; staged = staged; base = base; second = second; openings = openings; closed = closed }))
+zone_by f s l shown staged base second openings true = inl refl
+zone_by f s l shown [] base second openings false = inr refl
+zone_by true s l shown (m ∷ staged) base second openings false = inl refl
+zone_by false s l shown (m ∷ staged) base second openings false = inr refl
 
 pub zone_settled : (f : Bool) (z : ZoneState) → IsSettled (flushed_zone f z)
-zone_settled f z = zone_by f z.setting z.loaded z.shown z.staged z.base z.second z.closed
+zone_settled f z = zone_by f z.setting z.loaded z.shown z.staged z.base z.second z.openings z.closed
 
-open_by : (f : Bool) (s : Setting) (l : List Record) (shown staged : List Made) (base : ℕ) (second : Option ℕ) (closed : Bool)
-    → (flushed_zone f (record { setting = s; loaded = l; shown = shown; staged = staged; base = base; second = second; closed = closed })).closed ≡ false
-    → flushed_zone f (record { setting = s; loaded = l; shown = shown; staged = staged; base = base; second = second; closed = closed })
-    ≡ flushed_zone false (record { setting = s; loaded = l; shown = shown; staged = staged; base = base; second = second; closed = closed })
-open_by f s l shown staged base second true is = refl
-open_by f s l shown [] base second false is = refl
-open_by true s l shown (m ∷ staged) base second false is = absurd (cc is)
-open_by false s l shown (m ∷ staged) base second false is = refl
+open_by : (f : Bool) (s : Setting) (l : List Record) (shown staged : List Made) (base : ℕ) (second : Option ℕ) (openings : ℕ) (closed : Bool)
+    → (flushed_zone f (record { setting = s; loaded = l; shown = shown; staged = staged; base = base; second = second; openings = openings; closed = closed })).closed ≡ false
+    → flushed_zone f (record { setting = s; loaded = l; shown = shown; staged = staged; base = base; second = second; openings = openings; closed = closed })
+    ≡ flushed_zone false (record { setting = s; loaded = l; shown = shown; staged = staged; base = base; second = second; openings = openings; closed = closed })
+open_by f s l shown staged base second openings true is = refl
+open_by f s l shown [] base second openings false is = refl
+open_by true s l shown (m ∷ staged) base second openings false is = absurd (cc is)
+open_by false s l shown (m ∷ staged) base second openings false is = refl
 
 -- where it isn't closed then, it did not fail
 zone_open : (f : Bool) (z : ZoneState) → (flushed_zone f z).closed ≡ false → kept_of (flushed_zone f z) ≡ held.flushed false (kept_of z)
-zone_open f z is = ap kept_of (open_by f z.setting z.loaded z.shown z.staged z.base z.second z.closed is) ∙ kept_flushed false z
+zone_open f z is = ap kept_of (open_by f z.setting z.loaded z.shown z.staged z.base z.second z.openings z.closed is) ∙ kept_flushed false z
 
 pub zone_at : (fails : List Bool) (zones : List ZoneState) (place : ℕ) (z : ZoneState) → length fails ≡ length zones → slice_get zones place ≡ Some z → (f : Bool) × (slice_get (flushed_zones fails zones) place ≡ Some (flushed_zone f z))
 zone_at [] [] place z long e = absurd (cc e)
@@ -172,7 +175,7 @@ pub on_any : {I S : Type 0} {i : index.Ghosts I} {s : store.Ghosts S} (m : Machi
     → Stepped m old new effects step → SteppedOn m moved old new effects step
 on_any {s = s} m old new effects moved step stepped = record {
   fails = stepped.fails;
-  failed = inl stepped.failed;
+  failed = stepped.failed;
   any_moment = moments_of s moved m old.behind.items new.behind.items stepped.any_moment;
   next = stepped.next;
   stated = stepped.stated;
@@ -216,7 +219,7 @@ pub not_there : {I S : Type 0} {i : index.Ghosts I} {s : store.Ghosts S} (m : Ma
     → SteppedBy m (Checkpoint place) p p effects
 not_there {s = s} m place p effects none rest kept effects_are = record {
   fails = [];
-  failed = inl tt;
+  failed = tt;
   any_moment = with_more (λ (b : Behind _ _). b.store) s.moment s.left_since s.opens p.behind.items p.behind.items m.zones place 0 rest;
   next = m;
   stated = nothing;
@@ -332,3 +335,31 @@ step_of fails m place z effects new there (inr (some, l)) = inr (record {
   accepted = l.accepted;
   stays = inr (inl (ap (λ (o : Option ZoneState). is_some o) there, l.failures, l.state, l.sent ∙ sym (append-nil (flush_sends fails m))));
 })
+
+-- devices that failed in a flush, or that of one zone in the move of its base after it
+still_counted : (f : Bool) (a b c : ℕ) → IsCounted f a b → b ≤ c → IsCounted f a c
+still_counted f a b c one on = record {
+  grows = (let up = one.grows in omega (arith, up, on));
+  rises = λ e. ⊎_elim (λ less. inl (omega (arith, less, on))) (λ end. inr end) (one.rises e);
+}
+
+then_failed : (a b c : ℕ) → a ≤ b → b ≤ c → HasFailed b c → IsCounted true a c
+then_failed a b c up on rose = record { grows = omega (arith, up, on); rises = λ e. ⊎_elim (λ less. inl (omega (arith, up, less))) at_end rose }
+  where
+    at_end : b ≡ 2 ^ 64 - 1 → HasFailed a c
+    at_end end = elim (true_or_false (nat_lt a (2 ^ 64 - 1))) [
+      | inl t ↦ (let less = true_lt a (2 ^ 64 - 1) t in inl (omega (arith, less, end, on)))
+      | inr t ↦ (let most : 2 ^ 64 - 1 ≤ a = grind (arith, nat_tests, t) in inr (omega (arith, most, up, end)))
+    ]
+
+pub failed_either : {A : Type 0} (failed : A → ℕ) (moving : Bool) (place : ℕ) (fails : List Bool) (olds mids : List A) (new : A) → FailedWhere failed fails olds mids
+    → ((a : A) → slice_get mids place ≡ Some a → IsCounted moving (failed a) (failed new)) → FailedWhere failed (either_fails moving place fails) olds (slice_set mids place new)
+failed_either failed false place [] olds mids new h moved = tt
+failed_either failed true place [] olds mids new h moved = tt
+failed_either failed moving place (f ∷ fails) [] mids new h moved = absurd h
+failed_either failed moving place (f ∷ fails) (a ∷ olds) [] new h moved = absurd h
+failed_either failed false zero (f ∷ fails) (a ∷ olds) (b ∷ mids) new h moved = (still_counted f (failed a) (failed b) (failed new) h.0 (moved b refl).grows, h.1)
+failed_either failed true zero (f ∷ fails) (a ∷ olds) (b ∷ mids) new h moved =
+    (then_failed (failed a) (failed b) (failed new) (h.0).grows (moved b refl).grows ((moved b refl).rises refl), h.1)
+failed_either failed false (suc place) (f ∷ fails) (a ∷ olds) (b ∷ mids) new h moved = (h.0, failed_either failed false place fails olds mids new h.1 moved)
+failed_either failed true (suc place) (f ∷ fails) (a ∷ olds) (b ∷ mids) new h moved = (h.0, failed_either failed true place fails olds mids new h.1 moved)

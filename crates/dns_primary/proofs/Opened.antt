@@ -1,14 +1,14 @@
 -- Devices that are opened one after the other, and what that is for a machine that stopped.
-use Rattle.std.proofs.Common.{◌≡◌, ◌<◌, ◌≤◌, ℕ, zero, suc, inl, inr, List, [], ◌∷◌, ◌++◌, length, map, drop, refl, sym, ap, subst, ◌∙◌, arith}
+use Rattle.std.proofs.Common.{◌≡◌, ◌+◌, ◌<◌, ◌≤◌, ℕ, zero, suc, inl, inr, List, [], ◌∷◌, ◌++◌, length, map, drop, refl, sym, ap, subst, ◌∙◌, arith}
 use Rattle.std.specs.Prelude.{slice_index_or}
 use Rattle.dns_names.specs.Name.{Labels}
 use Rattle.dns_zone.specs.Zone.{Zone}
 use Rattle.dns_sectors.specs.Device.{Content, LeavesOnly}
 use Rattle.dns_sectors.specs.declared.device.Sectors.{Ghosts}
 use Rattle.dns_sectors.proofs.Moments.{weaker, started}
-use Rattle.dns_store.specs.Versions.{Shape, Kept}
+use Rattle.dns_store.specs.Versions.{Shape, Kept, opened_again}
 use Rattle.dns_store.specs.Opens.{opens, fresh}
-use Rattle.dns_store.specs.Opening.{MayOpen, OpensAsPossible, keeps}
+use Rattle.dns_store.specs.Opening.{IsStopped, MayOpen, OpensAsPossible, StopsPossible, keeps}
 use Rattle.dns_store.specs.declared.kept_store.KeptStore.{KeptStore}
 use Rattle.dns_store.specs.declared.root.OpenError.{OpenError}
 use Rattle.dns_store.specs.declared.root.OpenError.TheVariants.{OutOfMemory}
@@ -84,27 +84,78 @@ module _ {D I : Type 0} {g : Ghosts D} where
   handed_back error _ _ _ _ _ _ a s d e each l m n is = absurd each
 
 -- what a zone is that may be recovered, and its device
-module _ {D : Type 0} {g : Ghosts D} (making : ℕ → Type 0) (z : ZoneState) (a : Labels) (s : ZoneSettings) (d : D) (is : IsRecoverable g making z a s d) where
-  shape_is : (w : ZoneState) → IsRecovered making z w → w.setting.shape ≡ shape_of a s
-  shape_is w r = ap (λ (x : Setting). x.shape) r.setting ∙ is.shape
+module _ {D : Type 0} {g : Ghosts D} (tries : ℕ) (making : ℕ → Type 0) (z : ZoneState) (a : Labels) (s : ZoneSettings) (d : D) (is : IsRecoverable g tries making z a s d) where
+  shape_is : (least most : ℕ) (w : ZoneState) → IsRecovered least most making z w → w.setting.shape ≡ shape_of a s
+  shape_is least most w r = ap (λ (x : Setting). x.shape) r.setting ∙ is.shape
 
   pub may_open : MayOpen g (shape_of a s) d
   may_open c left =
       let there = is.leaves c left in
-      (opened_of there.0, subst (λ (x : Shape). opens x (opened_of there.0) c) (shape_is there.0 there.1) there.2)
+      (opened_of there.0, subst (λ (x : Shape). opens x (opened_of there.0) c) (shape_is 0 tries there.0 there.1) there.2)
 
-  possible_recovered : (c : Content) → OpensAsPossible g (shape_of a s) d c → OpensAsRecovered opens making z c
+  -- the zone, opened once more
+  abbrev again : ZoneState → ZoneState
+  again w = record w { openings = w.openings + 1 }
+
+  at_most_more : (w : ZoneState) → IsRecovered 0 tries making z w → IsRecovered 0 (suc tries) making z w
+  at_most_more w r = record {
+    setting = r.setting;
+    loaded = r.loaded;
+    kept = r.kept;
+    lost = r.lost;
+    front = r.front;
+    shown = r.shown;
+    staged = r.staged;
+    base = r.base;
+    so_far = r.so_far;
+    second = r.second;
+    opened = r.opened;
+    at_least = r.at_least;
+    at_most = (let most = r.at_most in omega (arith, most));
+  }
+
+  once_more : (least : ℕ) → least ≤ 1 → (w : ZoneState) → IsRecovered 0 tries making z w → IsRecovered least (suc tries) making z (again w)
+  once_more least few w r = record {
+    setting = r.setting;
+    loaded = r.loaded;
+    kept = r.kept;
+    lost = r.lost;
+    front = r.front;
+    shown = r.shown;
+    staged = r.staged;
+    base = r.base;
+    so_far = r.so_far;
+    second = r.second;
+    opened = r.opened;
+    at_least = (let at = r.at_least in omega (arith, at, few));
+    at_most = (let most = r.at_most in omega (arith, most));
+  }
+
+  possible_recovered : (c : Content) → OpensAsPossible g (shape_of a s) d c → OpensAsRecovered opens (suc tries) making z c
   possible_recovered c possible =
       let there = is.leaves possible.0 possible.1 in
-      let same = shape_is there.0 there.1 in
-      let now = possible.2 (opened_of there.0) (subst (λ (x : Shape). opens x (opened_of there.0) possible.0) same there.2) in
-      (there.0, there.1, subst (λ (x : Shape). opens x (opened_of there.0) c) (sym same) now)
+      let w = there.0 in
+      let same = shape_is 0 tries w there.1 in
+      elim (possible.2 (opened_of w) (subst (λ (x : Shape). opens x (opened_of w) possible.0) same there.2)) [
+        | inl now ↦ (w, at_most_more w there.1, subst (λ (x : Shape). opens x (opened_of w) c) (sym same) now)
+        | inr now ↦ (again w, once_more 0 (omega arith) w there.1, subst (λ (x : Shape). opens x (opened_of (again w)) c) (sym same) now)
+      ]
 
-  pub leaves_recovered : (e : D) → StaysPossible g a s d e → LeavesOnly g.moment g.left_since d e (OpensAsRecovered opens making z)
-  leaves_recovered e stays = weaker g.moment g.left_since d e (OpensAsPossible g (shape_of a s) d) (OpensAsRecovered opens making z) (stays.any_moment is.honest is.range) possible_recovered
+  pub leaves_recovered : (e : D) → StaysPossible g a s d e → LeavesOnly g.moment g.left_since d e (OpensAsRecovered opens (suc tries) making z)
+  leaves_recovered e stays = weaker g.moment g.left_since d e (OpensAsPossible g (shape_of a s) d) (OpensAsRecovered opens (suc tries) making z) (stays.any_moment is.honest is.range) possible_recovered
+
+  -- one try more
+  pub tried : IsRecoverable g (suc tries) making z a s d
+  tried = record {
+    shape = is.shape;
+    set = is.set;
+    range = is.range;
+    honest = is.honest;
+    leaves = λ c left. (let there = is.leaves c left in (there.0, at_most_more there.0 there.1, there.2));
+  }
 
   module _ (counts_now : (device : D) (t : ℕ) (c : Content) → g.is_honest device → t ≤ g.moment device → g.may_leave device c → g.left_since device t c) where
-    pub stays_recoverable : (e : D) → StaysPossible g a s d e → IsRecoverable g making z a s e
+    pub stays_recoverable : (e : D) → StaysPossible g a s d e → IsRecoverable g (suc tries) making z a s e
     stays_recoverable e stays =
         let run = leaves_recovered e stays in
         record {
@@ -115,19 +166,33 @@ module _ {D : Type 0} {g : Ghosts D} (making : ℕ → Type 0) (z : ZoneState) (
           leaves = λ c left. run.each c (counts_now e (g.moment d) c (stays.honest is.honest) run.later left);
         }
 
-  kept_fresh : (w : ZoneState) → IsRecovered making z w → kept_of w ≡ fresh (shape_of a s) (opened_of w)
+  -- why it was not opened, by how often the machine says that it was
+  pub stopped_by : (error : OpenError) → StopsPossible g (shape_of a s) d error → IsStopped (z.openings + tries) error
+  stopped_by error stops =
+      let there = is.leaves stops.0 stops.1 in
+      let w = there.0 in
+      let most = (there.1).at_most in
+      by w.openings most (stops.2 (opened_of w) (subst (λ (x : Shape). opens x (opened_of w) stops.0) (shape_is 0 tries w there.1) there.2))
+    where
+      by : (n : ℕ) → n ≤ z.openings + tries → IsStopped n error → IsStopped (z.openings + tries) error
+      by n most (inl device) = inl device
+      by n most (inr (inl memory)) = inr (inl memory)
+      by n most (inr (inr often)) = inr (inr (often.0, (let limit = often.1 in omega (arith, limit, most))))
+
+  kept_fresh : (w : ZoneState) → IsRecovered 0 tries making z w → kept_of (again w) ≡ fresh (shape_of a s) (opened_again (opened_of w))
   kept_fresh w r = λ i. record {
-    shape = shape_is w r i;
+    shape = shape_is 0 tries w r i;
     loaded = w.loaded;
     shown = versions_of w.shown;
     staged = versions_of (r.staged i);
     base = w.base;
     second = r.second i;
+    openings = w.openings + 1;
     closed = r.opened i;
   }
 
-  pub set_recovered : (w : ZoneState) → IsRecovered making z w → IsSet s w
-  set_recovered w r = record {
+  pub set_recovered : (least most : ℕ) (w : ZoneState) → IsRecovered least most making z w → IsSet s w
+  set_recovered least most w r = record {
     keep = is.set.keep ∙ sym (ap (λ (x : Setting). x.keep) r.setting);
     update = (subst (λ (x : Setting). IsSet s (record z { setting = x })) (sym r.setting) is.set).update;
     transfer = (subst (λ (x : Setting). IsSet s (record z { setting = x })) (sym r.setting) is.set).transfer;
@@ -135,31 +200,31 @@ module _ {D : Type 0} {g : Ghosts D} (making : ℕ → Type 0) (z : ZoneState) (
 
   pub record IsReopened {I : Type 0} (zone : Zone) (b : Behind I (KeptStore D I g)) : Type 0 where
     pub state : ZoneState
-    pub recovered : IsRecovered making z state
+    pub recovered : IsRecovered 1 (suc tries) making z state
     pub held : HasVersions (λ x k. keeps x k) zone b (kept_of state)
 
   pub reopened : {I : Type 0} (zone : Zone) (b : Behind I (KeptStore D I g)) → IsOpened a s d zone b → IsReopened zone b
   reopened {I} zone b opened =
       let takes = opened.takes is.honest is.range may_open in
       let there = is.leaves takes.0 takes.1 in
-      let held = takes.2 (opened_of there.0) (subst (λ (x : Shape). opens x (opened_of there.0) takes.0) (shape_is there.0 there.1) there.2) in
+      let held = takes.2 (opened_of there.0) (subst (λ (x : Shape). opens x (opened_of there.0) takes.0) (shape_is 0 tries there.0 there.1) there.2) in
       record {
-        state = there.0;
-        recovered = there.1;
+        state = again there.0;
+        recovered = once_more 1 (omega arith) there.0 there.1;
         held = subst (λ (k : Kept). HasVersions (λ (x : KeptStore D I g) (k : Kept). keeps x k) zone b k) (sym (kept_fresh there.0 there.1)) held;
       }
 
 -- all zones of a machine that stopped within an event
-module _ {D I : Type 0} {g : Ghosts D} (m : Machine) (event : Event) where
+module _ {D I : Type 0} {g : Ghosts D} (m : Machine) (event : Event) (tries : ℕ) where
   pub record AreReopened (place : ℕ) (olds : List ZoneState) (settings : List ZoneSettings) (devices : List D) (zones : List Zone) (behind : List (Behind I (KeptStore D I g))) : Type 0 where
     pub states : List ZoneState
-    pub recovered : AreRecovered m event place olds states
+    pub recovered : AreRecovered 1 (suc tries) m event place olds states
     pub held : HaveVersions (λ (x : KeptStore D I g) k. keeps x k) zones behind states
     pub set : Each2 IsSet settings states
-    pub left : LeaveRecovered g m event place olds devices (map (λ (b : Behind I (KeptStore D I g)). device_behind b) behind)
+    pub left : LeaveRecovered g (suc tries) m event place olds devices (map (λ (b : Behind I (KeptStore D I g)). device_behind b) behind)
 
   pub all_reopened : (place : ℕ) (olds : List ZoneState) (apexes : List Labels) (settings : List ZoneSettings) (devices : List D) (zones : List Zone) (behind : List (Behind I (KeptStore D I g)))
-      → AreRecoverable g m event place olds apexes settings devices → AreOpened (length settings) apexes settings devices zones behind → AreReopened place olds settings devices zones behind
+      → AreRecoverable g tries m event place olds apexes settings devices → AreOpened (length settings) apexes settings devices zones behind → AreReopened place olds settings devices zones behind
   all_reopened place [] [] [] [] [] [] is each = record { states = []; recovered = tt; held = tt; set = tt; left = tt }
   all_reopened place [] [] [] [] [] (b ∷ behind) is each = absurd each
   all_reopened place [] [] [] [] (y ∷ zones) behind is each = absurd each
@@ -167,70 +232,79 @@ module _ {D I : Type 0} {g : Ghosts D} (m : Machine) (event : Event) where
   all_reopened place (z ∷ olds) (a ∷ apexes) (s ∷ settings) (d ∷ devices) (y ∷ zones) [] is each = absurd each
   all_reopened place (z ∷ olds) (a ∷ apexes) (s ∷ settings) (d ∷ devices) (y ∷ zones) (b ∷ behind) is each =
       let making = IsMaking m event place z in
-      let one = reopened making z a s d is.0 y b each.0 in
+      let one = reopened tries making z a s d is.0 y b each.0 in
       let rest = all_reopened (suc place) olds apexes settings devices zones behind is.1 each.1 in
       record {
         states = one.state ∷ rest.states;
         recovered = (one.recovered, rest.recovered);
         held = (one.held, rest.held);
-        set = (set_recovered making z a s d is.0 one.state one.recovered, rest.set);
-        left = (leaves_recovered making z a s d is.0 (device_behind b) each.0.leaves, rest.left);
+        set = (set_recovered tries making z a s d is.0 1 (suc tries) one.state one.recovered, rest.set);
+        left = (leaves_recovered tries making z a s d is.0 (device_behind b) each.0.leaves, rest.left);
       }
   all_reopened place _ _ _ _ zones behind is each = absurd is
 
 -- the devices that are handed back
-module _ {D : Type 0} (g : Ghosts D) (m : Machine) (event : Event)
+module _ {D : Type 0} (g : Ghosts D) (m : Machine) (event : Event) (tries : ℕ)
     (counts_now : (device : D) (t : ℕ) (c : Content) → g.is_honest device → t ≤ g.moment device → g.may_leave device c → g.left_since device t c)
     (only_now : (device : D) (c : Content) → g.is_honest device → g.left_since device (g.moment device) c → g.may_leave device c)
   where
     stays_itself : (a : Labels) (s : ZoneSettings) (d : D) → StaysPossible g a s d d
     stays_itself a s d = record {
       honest = λ h. h;
-      any_moment = λ honest range. started g.moment g.left_since d (OpensAsPossible g (shape_of a s) d) (λ c left. (c, only_now d c honest left, λ o is. is));
+      any_moment = λ honest range. started g.moment g.left_since d (OpensAsPossible g (shape_of a s) d) (λ c left. (c, only_now d c honest left, λ o is. inl is));
     }
 
-    same_left : (place : ℕ) (olds : List ZoneState) (apexes : List Labels) (settings : List ZoneSettings) (devices : List D) → AreRecoverable g m event place olds apexes settings devices → LeaveRecovered g m event place olds devices devices
+    same_left : (place : ℕ) (olds : List ZoneState) (apexes : List Labels) (settings : List ZoneSettings) (devices : List D) → AreRecoverable g tries m event place olds apexes settings devices → LeaveRecovered g (suc tries) m event place olds devices devices
     same_left place [] [] [] [] is = tt
     same_left place (z ∷ olds) (a ∷ apexes) (s ∷ settings) (d ∷ devices) is =
-        (leaves_recovered (IsMaking m event place z) z a s d is.0 d (stays_itself a s d), same_left (suc place) olds apexes settings devices is.1)
+        (leaves_recovered tries (IsMaking m event place z) z a s d is.0 d (stays_itself a s d), same_left (suc place) olds apexes settings devices is.1)
     same_left place _ _ _ _ is = absurd is
 
+    all_tried : (place : ℕ) (olds : List ZoneState) (apexes : List Labels) (settings : List ZoneSettings) (devices : List D) → AreRecoverable g tries m event place olds apexes settings devices → AreRecoverable g (suc tries) m event place olds apexes settings devices
+    all_tried place [] [] [] [] is = tt
+    all_tried place (z ∷ olds) (a ∷ apexes) (s ∷ settings) (d ∷ devices) is =
+        (tried tries (IsMaking m event place z) z a s d is.0, all_tried (suc place) olds apexes settings devices is.1)
+    all_tried place _ _ _ _ is = absurd is
+
     pub record AreHeld (error : OpenError) (n place : ℕ) (olds : List ZoneState) (apexes : List Labels) (settings : List ZoneSettings) (devices back : List D) : Type 0 where
-      pub recoverable : AreRecoverable g m event place olds apexes settings back
-      pub stopped : IsRecoveryStopped g error n devices
-      pub left : LeaveRecovered g m event place olds devices back
+      pub recoverable : AreRecoverable g (suc tries) m event place olds apexes settings back
+      pub stopped : IsRecoveryStopped tries error n olds
+      pub left : LeaveRecovered g (suc tries) m event place olds devices back
 
     all_back : (error : OpenError) (n place : ℕ) (olds : List ZoneState) (apexes : List Labels) (settings : List ZoneSettings) (devices back : List D)
-        → AreRecoverable g m event place olds apexes settings devices → AreHandedBack g error n apexes settings devices back → AreHeld error n place olds apexes settings devices back
+        → AreRecoverable g tries m event place olds apexes settings devices → AreHandedBack g error n apexes settings devices back → AreHeld error n place olds apexes settings devices back
     all_back error zero place (z ∷ olds) (a ∷ apexes) (s ∷ settings) (d ∷ devices) (e ∷ back) is h =
         let making = IsMaking m event place z in
         record {
-          recoverable = (stays_recoverable making z a s d is.0 counts_now e h.0.leaves, subst (λ (l : List D). AreRecoverable g m event (suc place) olds apexes settings l) (sym h.1) is.1);
-          stopped = h.0.stopped is.0.honest is.0.range (may_open making z a s d is.0);
-          left = (leaves_recovered making z a s d is.0 e h.0.leaves, subst (λ (l : List D). LeaveRecovered g m event (suc place) olds devices l) (sym h.1) (same_left (suc place) olds apexes settings devices is.1));
+          recoverable = (
+            stays_recoverable tries making z a s d is.0 counts_now e h.0.leaves,
+            subst (λ (l : List D). AreRecoverable g (suc tries) m event (suc place) olds apexes settings l) (sym h.1) (all_tried (suc place) olds apexes settings devices is.1),
+          );
+          stopped = stopped_by tries making z a s d is.0 error (h.0.stopped is.0.honest is.0.range (may_open tries making z a s d is.0));
+          left = (leaves_recovered tries making z a s d is.0 e h.0.leaves, subst (λ (l : List D). LeaveRecovered g (suc tries) m event (suc place) olds devices l) (sym h.1) (same_left (suc place) olds apexes settings devices is.1));
         }
     all_back error (suc n) place (z ∷ olds) (a ∷ apexes) (s ∷ settings) (d ∷ devices) (e ∷ back) is h =
         let making = IsMaking m event place z in
         let rest = all_back error n (suc place) olds apexes settings devices back is.1 h.1 in
         record {
-          recoverable = (stays_recoverable making z a s d is.0 counts_now e h.0, rest.recoverable);
+          recoverable = (stays_recoverable tries making z a s d is.0 counts_now e h.0, rest.recoverable);
           stopped = rest.stopped;
-          left = (leaves_recovered making z a s d is.0 e h.0, rest.left);
+          left = (leaves_recovered tries making z a s d is.0 e h.0, rest.left);
         }
     all_back error n place _ (a ∷ apexes) (s ∷ settings) (d ∷ devices) [] is h = absurd h
     all_back error n place [] [] [] [] back is h = absurd h
     all_back error n place _ _ _ _ back is h = absurd is
 
-    for_memory : (error : OpenError) (n : ℕ) (devices : List D) → error ≡ OutOfMemory → IsRecoveryStopped g error n devices
+    for_memory : (error : OpenError) (n : ℕ) (olds : List ZoneState) → error ≡ OutOfMemory → IsRecoveryStopped tries error n olds
     for_memory error n [] e = e
-    for_memory error zero (d ∷ devices) e = inr (inl e)
-    for_memory error (suc n) (d ∷ devices) e = for_memory error n devices e
+    for_memory error zero (z ∷ olds) e = inr (inl e)
+    for_memory error (suc n) (z ∷ olds) e = for_memory error n olds e
 
     pub refused_held : (error : OpenError) (n : ℕ) (olds : List ZoneState) (apexes : List Labels) (settings : List ZoneSettings) (devices back : List D)
-        → AreRecoverable g m event 0 olds apexes settings devices → AreRefused g error n apexes settings devices back → AreHeld error n 0 olds apexes settings devices back
+        → AreRecoverable g tries m event 0 olds apexes settings devices → AreRefused g error n apexes settings devices back → AreHeld error n 0 olds apexes settings devices back
     refused_held error n olds apexes settings devices back is (inl h) = all_back error n 0 olds apexes settings devices back is h
     refused_held error n olds apexes settings devices back is (inr (memory, same)) = record {
-      recoverable = subst (λ (l : List D). AreRecoverable g m event 0 olds apexes settings l) (sym same) is;
-      stopped = for_memory error n devices memory;
-      left = subst (λ (l : List D). LeaveRecovered g m event 0 olds devices l) (sym same) (same_left 0 olds apexes settings devices is);
+      recoverable = subst (λ (l : List D). AreRecoverable g (suc tries) m event 0 olds apexes settings l) (sym same) (all_tried 0 olds apexes settings devices is);
+      stopped = for_memory error n olds memory;
+      left = subst (λ (l : List D). LeaveRecovered g (suc tries) m event 0 olds devices l) (sym same) (same_left 0 olds apexes settings devices is);
     }

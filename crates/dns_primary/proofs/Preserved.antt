@@ -31,6 +31,10 @@ use Rattle.dns_primary.proofs.Sound.{IsPlaced, IsSound, Preserves, all_with, sta
 abbrev Carries : Machine → Machine × List Sent → Type 0
 Carries old p = Preserves old p.0 p.1
 
+pub has : (b : Bool) → not b ≡ false → b ≡ true
+has true e = refl
+has false e = absurd cc
+
 -- an update
 accepted_preserves : (m : Machine) (a : Asked) (place : ℕ) (z : ZoneState) (records : List Record) → IsSound m → slice_get m.zones place ≡ Some z
     → verdict (newest_zone (kept_of z)) a.message.answers a.message.authorities ≡ Leaves records
@@ -39,8 +43,8 @@ accepted_preserves m a place z records s e j =
     tested (Carries m) (not (has_room (kept_of z) records)) (waits m a place rcode_servfail (updates_of z), [])
     (if nat_le (entry_between (newest_of (kept_of z)) records) (sectors_left (kept_of z)) then (stages m a place z records, []) else (m, replies a rcode_servfail ∷ []))
     (λ _. wait_preserves m a place rcode_servfail z s e)
-    (λ _. tested (Carries m) (nat_le (entry_between (newest_of (kept_of z)) records) (sectors_left (kept_of z))) (stages m a place z records, []) (m, replies a rcode_servfail ∷ [])
-    (λ _. stage_preserves m a place z records s e j)
+    (λ has_it. tested (Carries m) (nat_le (entry_between (newest_of (kept_of z)) records) (sectors_left (kept_of z))) (stages m a place z records, []) (m, replies a rcode_servfail ∷ [])
+    (λ _. stage_preserves m a place z records s e j (has (has_room (kept_of z) records) has_it))
     (λ _. with_reply m m [] a.to (text (bare_reply a.message.header rcode_servfail)) (stays m s)))
 
 judged_preserves : (m : Machine) (a : Asked) (place : ℕ) (z : ZoneState) (v : Verdict) → IsSound m → slice_get m.zones place ≡ Some z
@@ -93,28 +97,29 @@ given : (old : Machine) (effects : Effects) (new next : Machine) (out : List Sen
 given old effects new next out fails g p = reaches old new next effects.sent out g.state g.sent p
 
 -- a zone whose base is moved
-record IsSameBut (z w : ZoneState) : Type 0 where
-  setting : w.setting ≡ z.setting
-  loaded : w.loaded ≡ z.loaded
-  shown : w.shown ≡ z.shown
-  staged : w.staged ≡ z.staged
+pub record IsSameBut (z w : ZoneState) : Type 0 where
+  pub setting : w.setting ≡ z.setting
+  pub loaded : w.loaded ≡ z.loaded
+  pub shown : w.shown ≡ z.shown
+  pub staged : w.staged ≡ z.staged
+  pub openings : w.openings ≡ z.openings
 
 same_rebased : (fails : Bool) (base : ℕ) (z : ZoneState) → IsSameBut z (rebased fails base z)
-same_rebased true base z = record { setting = refl; loaded = refl; shown = refl; staged = refl }
-same_rebased false base z = record { setting = refl; loaded = refl; shown = refl; staged = refl }
+same_rebased true base z = record { setting = refl; loaded = refl; shown = refl; staged = refl; openings = refl }
+same_rebased false base z = record { setting = refl; loaded = refl; shown = refl; staged = refl; openings = refl }
 
 same_zone : (z w : ZoneState) → w ≡ z → IsSameBut z w
-same_zone z w e = subst (λ (x : ZoneState). IsSameBut z x) (sym e) (record { setting = refl; loaded = refl; shown = refl; staged = refl })
+same_zone z w e = subst (λ (x : ZoneState). IsSameBut z x) (sym e) (record { setting = refl; loaded = refl; shown = refl; staged = refl; openings = refl })
 
-same_moved : (fails : Bool) (room : ℕ) (z w : ZoneState) → IsMovedUnlessClosed fails room z w → IsSameBut z w
+pub same_moved : (fails : Bool) (room : ℕ) (z w : ZoneState) → IsMovedUnlessClosed fails room z w → IsSameBut z w
 same_moved fails room z w (inl h) = same_zone z w h.2
 same_moved fails room z w (inr h) = ⊎_elim (λ e. subst (λ (x : ZoneState). IsSameBut z x) (sym e) (same_rebased fails (h.1).0 z)) (λ e. same_zone z w e.1) (h.1).2
 
 same_lasts : (z w : ZoneState) → IsSameBut z w → Lasts z w
 same_lasts z w s = record { setting = s.setting; loaded = s.loaded; more = []; shown = s.shown ∙ sym (append-nil z.shown) }
 
-same_updates : (z w : ZoneState) → IsSameBut z w → Same z w
-same_updates z w s = record { setting = s.setting; loaded = s.loaded; updates = λ i. s.shown i ++ s.staged i }
+pub same_updates : (z w : ZoneState) → IsSameBut z w → Same z w
+same_updates z w s = record { setting = s.setting; loaded = s.loaded; updates = λ i. s.shown i ++ s.staged i; openings = s.openings }
 
 moved_preserves : (fails : List Bool) (old : Machine) (place : ℕ) (z w : ZoneState) → IsSound (flushed fails old) → slice_get (flushed fails old).zones place ≡ Some z → IsSameBut z w
     → Preserves (flushed fails old) (record (flushed fails old) { zones = slice_set (flushed fails old).zones place w }) []

@@ -8,7 +8,7 @@ use Rattle.dns_transfer.specs.Session.{Sending}
 use Rattle.dns_primary.specs.declared.event.Peer.{Peer}
 use Rattle.dns_primary.specs.declared.event.To.{To}
 use Rattle.dns_primary.specs.declared.event.To.TheVariants.{Address, Connection, Nowhere}
-use Rattle.dns_primary.specs.Machine.{ZoneState, Waits, Machine}
+use Rattle.dns_primary.specs.Machine.{Machine}
 use Rattle.dns_primary.specs.Flush.{Sent, Answered, Replied}
 use Rattle.dns_primary.specs.Transfer.{TransferBegins, IsStarted, IsTransferred, IsSentOn, IsPumped}
 

@@ -13,7 +13,7 @@ module _ (update : Message) (header : Header) (setting : Setting) where
   made = record { update = update; records = [] }
 
   abbrev zone : ZoneState
-  zone = record { setting = setting; loaded = []; shown = []; staged = made ∷ []; base = 0; second = None; closed = false }
+  zone = record { setting = setting; loaded = []; shown = []; staged = made ∷ []; base = 0; second = None; openings = 0; closed = false }
 
   abbrev reply : To → Waits
   reply to = record { to = to; header = header; rcode = 0; zone = 0; updates = made ∷ [] }

@@ -1,7 +1,6 @@
 -- What is done with requests, as steps.
 use Rattle.std.proofs.Common.{◌≡◌, ◌⊎◌, inl, inr, ⊎_elim, ℕ, Bool, true, false, not, List, [], ◌∷◌, ◌++◌, length, map, Option, Some, None, Result, Ok, Err, refl, sym, ap, subst, ◌∙◌, append-nil, arith}
 use Rattle.std.specs.Prelude.{◌==◌, ◌&&◌, ◌||◌, nat_lt, is_some, IfOk, IfErr, if◌then◌else◌}
-use Rattle.dns_records.specs.Types.{type_ixfr, type_axfr, type_mailb, type_maila, class_in}
 use Rattle.dns_wire.specs.Message.{Header, Question, Message, header_of}
 use Rattle.dns_wire.specs.Reading.{message_of}
 use Rattle.dns_wire.specs.Text.{text}
@@ -18,7 +17,7 @@ use Rattle.dns_sectors.specs.Device.{Content, LeavesOnly}
 use Rattle.dns_sectors.proofs.Moments.{started}
 use Rattle.dns_held.proofs.Lists.{diag}
 use Rattle.dns_held.specs.Each.{Each2, Each3}
-use Rattle.dns_held.specs.Flush.{FailedWhere, HasFailed}
+use Rattle.dns_held.specs.Flush.{FailedWhere, IsCounted}
 use Rattle.dns_held.specs.Held.{HasVersions, shown_zone}
 use Rattle.dns_primary.specs.declared.event.Peer.{Peer}
 use Rattle.dns_primary.specs.declared.event.To.{To}
@@ -31,7 +30,7 @@ use Rattle.dns_primary.specs.Machine.{ZoneState, Machine, kept_of, shown_zones}
 use Rattle.dns_primary.specs.Flush.{Sent, Replied, flushed, flush_sends, rcode_servfail}
 use Rattle.dns_primary.specs.Update.{Asked, answer, is_full, made_place, replies, room_lacked}
 use Rattle.dns_primary.specs.Step as machine
-use Rattle.dns_primary.specs.Step.{AreFailures, Gives, IsBegun, IsServed, failure, is_asking, request_lacks}
+use Rattle.dns_primary.specs.Step.{AreFailures, Gives, IsBegun, IsServed, failure, is_asking, is_update, request_lacks}
 use Rattle.dns_primary.specs.Keeps.{HaveVersions, IsKept, AreEffects}
 use Rattle.dns_primary.specs.Queue.{IsAnswered, IsUntouched}
 use Rattle.dns_primary.specs.Steps.{AtAnyMoment, Stepped, nothing, one_reply, answered_with, IsBegunOrLacks, LacksUpdate, IsUpdatedOrLacks, LacksRequest, IsServedOrLacks, LacksAlone, IsTransferredOrLacks}
@@ -48,7 +47,7 @@ pub failed_still : {S B : Type 0} (store : B → S) (failed : S → ℕ) (moment
     → FailedWhere (λ b. failed (store b)) fails olds mids → Each2 (λ a b. IsUntouched moment left_since failed (store a) (store b)) mids news → FailedWhere (λ b. failed (store b)) fails olds news
 failed_still store failed moment left_since [] olds mids news h same = tt
 failed_still store failed moment left_since (f ∷ fails) (a ∷ olds) (b ∷ mids) (c ∷ news) h same =
-    (λ e. subst (λ n. HasFailed (failed (store a)) n) (sym same.0.quiet) (h.0 e), failed_still store failed moment left_since fails olds mids news h.1 same.1)
+    (subst (λ n. IsCounted f (failed (store a)) n) (sym same.0.quiet) h.0, failed_still store failed moment left_since fails olds mids news h.1 same.1)
 failed_still store failed moment left_since (f ∷ fails) [] mids news h same = absurd h
 failed_still store failed moment left_since (f ∷ fails) (a ∷ olds) [] news h same = absurd h
 failed_still store failed moment left_since (f ∷ fails) (a ∷ olds) (b ∷ mids) [] h same = absurd same
@@ -89,43 +88,6 @@ asking octets transport r e some =
     (if not ((header_of octets).opcode == opcode_query || (header_of octets).opcode == opcode_update) then request.Refused rcode_notimp
     else if too_long transport octets then request.Refused rcode_formerr
     else read_as (message_of octets)) r e some
-
--- an update has the opcode of one
-past_tests : (b o l : Bool) (x : request.Request) (m : Message) (q : Question)
-    → (if b then request.Ignored else if not o then request.Refused rcode_notimp else if l then request.Refused rcode_formerr else x) ≡ request.Update m q → x ≡ request.Update m q
-past_tests true o l x m q e = absurd (cc e)
-past_tests false true true x m q e = absurd (cc e)
-past_tests false true false x m q e = e
-past_tests false false l x m q e = absurd (cc e)
-
-past_counts : (b : Bool) (x : request.Request) (m : Message) (q : Question) → (if b then x else request.Refused rcode_formerr) ≡ request.Update m q → x ≡ request.Update m q
-past_counts true x m q e = e
-past_counts false x m q e = absurd (cc e)
-
-kind : (a b c d : Bool) (n m : Message) (p q : Question)
-    → (if a then request.Update n p else if b then request.Transfer n p else if c then request.NotServed n p rcode_notimp else if not d then request.NotServed n p rcode_refused else request.Query n p) ≡ request.Update m q
-    → (n ≡ m) × (a ≡ true)
-kind true b c d n m p q e = let same : n ≡ m = cc e in (same, refl)
-kind false true c d n m p q e = absurd (cc e)
-kind false false true d n m p q e = absurd (cc e)
-kind false false false false n m p q e = absurd (cc e)
-kind false false false true n m p q e = absurd (cc e)
-
-by_questions : (n m : Message) (q : Question) (qs : List Question) → message_as n qs ≡ request.Update m q → (m.header.opcode == opcode_update) ≡ true
-by_questions n m q [] e = absurd (cc e)
-by_questions n m q (p ∷ []) e =
-    let k = kind (n.header.opcode == opcode_update) (p.qtype == type_ixfr || p.qtype == type_axfr) (p.qtype == type_mailb || p.qtype == type_maila) (p.qclass == class_in) n m p q (past_counts (has_counts n p) (question_as n p) m q e) in
-    subst (λ (x : Message). (x.header.opcode == opcode_update) ≡ true) k.0 k.1
-by_questions n m q (p ∷ r ∷ rest) e = absurd (cc e)
-
-by_reading : (o : Option Message) (m : Message) (q : Question) → read_as o ≡ request.Update m q → (m.header.opcode == opcode_update) ≡ true
-by_reading None m q e = absurd (cc e)
-by_reading (Some n) m q e = by_questions n m q n.questions e
-
-pub update_opcode : (octets : List ℕ) (transport : Transport) (m : Message) (q : Question) → request_of octets transport ≡ request.Update m q → (m.header.opcode == opcode_update) ≡ true
-update_opcode octets transport m q e =
-    by_reading (message_of octets) m q
-    (past_tests (nat_lt (length octets) 12 || (header_of octets).qr) ((header_of octets).opcode == opcode_query || (header_of octets).opcode == opcode_update) (too_long transport octets) (read_as (message_of octets)) m q e)
 
 -- SERVFAIL, made from the header of octets that get a reply
 pub failure_is : (to : To) (octets : List ℕ) (h : Header) → is_asking octets ≡ true → h ≡ header_of octets → failure to octets ≡ Replied to (text (bare_reply h rcode_servfail)) ∷ []
@@ -266,9 +228,9 @@ gives_one m reply = record { state = refl; sent = refl; accepted = refl; noted =
 pub gives_none : (m : Machine) → Gives nothing m m [] []
 gives_none m = record { state = refl; sent = refl; accepted = refl; noted = refl }
 
-pub lacks_one : (m : Machine) (to : To) (lacked : Option (ℕ × ℕ)) (octets : List ℕ) (transport : Transport) (r : request.Request) → r ≡ request_of octets transport → (r ≡ request.Ignored → ⊥)
-    → LacksRequest [] m to lacked octets (lack (Replied to (text (bare_reply (header_of octets) rcode_servfail)))) m
-lacks_one m to lacked octets transport r e some = record { noted = refl; accepted = refl; stays = inl (refl, refl, sym (failure_is to octets (header_of octets) (asking octets transport r (sym e) some) refl)) }
+pub lacks_one : (m : Machine) (to : To) (updates : Bool) (lacked : Option (ℕ × ℕ)) (octets : List ℕ) (transport : Transport) (r : request.Request) → r ≡ request_of octets transport → (r ≡ request.Ignored → ⊥)
+    → LacksRequest [] m to updates lacked octets (lack (Replied to (text (bare_reply (header_of octets) rcode_servfail)))) m
+lacks_one m to updates lacked octets transport r e some = record { noted = refl; accepted = refl; stays = inl (refl, refl, sym (failure_is to octets (header_of octets) (asking octets transport r (sym e) some) refl)) }
 
 -- a reply that was made, or memory was refused
 pub replied : {V E : Type 0} (items : V → List ℕ) (r : Result V E) (effects : Effects) (to : To) (octets failed : List ℕ) → IfOk r (λ v. items v ≡ octets) → IfOk r (λ v. AreEffects (one_reply (Replied to (items v))) effects)
@@ -277,19 +239,17 @@ replied items (Ok v) effects to octets failed is effects_are none = inl (subst (
 replied items (Err e) effects to octets failed is effects_are none = inr none
 
 -- an update that lacked memory, as a request
-pub lacks_update : (fails : List Bool) (old new : Machine) (a : Asked) (octets : List ℕ) (effects : machine.Effects) → is_asking octets ≡ true → a.message.header ≡ header_of octets → (a.message.header.opcode == opcode_update) ≡ true
-    → LacksUpdate fails old a effects new → LacksRequest fails old a.to (room_lacked old a) octets effects new
-lacks_update fails old new a octets effects asks is kind l =
+pub lacks_update : (fails : List Bool) (old new : Machine) (a : Asked) (octets : List ℕ) (effects : machine.Effects) → is_asking octets ≡ true → a.message.header ≡ header_of octets
+    → LacksUpdate fails old a effects new → LacksRequest fails old a.to true (room_lacked old a) octets effects new
+lacks_update fails old new a octets effects asks is l =
     let goes = failure_is a.to octets a.message.header asks is in
-    let opcode : ((header_of octets).opcode == opcode_update) ≡ true = ap (λ (h : Header). h.opcode == opcode_update) (sym is) ∙ kind in
-    let lacks = is_some (room_lacked old a) in
     record {
       noted = l.noted;
       accepted = l.accepted;
       stays = elim (l.stays) [
         | inl h ↦ inl (h.0, h.1, h.2 ∙ sym goes)
         | inr r ↦ elim r [
-          | inl h ↦ inr (inl (ap (λ (b : Bool). b && is_full old || lacks) opcode ∙ h.0, h.1, h.2, h.3 ∙ ap (λ (x : List Sent). flush_sends fails old ++ x) (sym goes)))
+          | inl h ↦ inr (inl (h.0, h.1, h.2, h.3 ∙ ap (λ (x : List Sent). flush_sends fails old ++ x) (sym goes)))
           | inr h ↦ inr (inr (h.0, h.1, h.2, h.3, h.4 ∙ ap (λ (x : List Sent). (h.1).sent ++ x) (sym goes)))
         ]
       ];
@@ -317,5 +277,5 @@ module _ {I S : Type 0} {i : index.Ghosts I} {s : store.Ghosts S} where
       (λ t. stays p m effects (one_reply (Replied to reply)) (IsServedOrLacks m peer to octets transport) rest kept t
       (served_as m m peer to octets transport r [] (one_reply (Replied to reply)) e
       (subst (λ (h : Handled). IsServed [] m to peer h (one_reply (Replied to reply)) m) (sym is) (refl, gives_one m (Replied to reply)))))
-      (λ t. stays p m effects (lack (Replied to (text (bare_reply (header_of octets) rcode_servfail)))) (IsServedOrLacks m peer to octets transport) rest kept t (inr (lacks_one m to (request_lacks m to peer (handled (shown_zones m) octets transport)) octets transport r e some)))
+      (λ t. stays p m effects (lack (Replied to (text (bare_reply (header_of octets) rcode_servfail)))) (IsServedOrLacks m peer to octets transport) rest kept t (inr (lacks_one m to (is_update (handled (shown_zones m) octets transport)) (request_lacks m to peer (handled (shown_zones m) octets transport)) octets transport r e some)))
       effects_are

@@ -1,17 +1,24 @@
 -- What every step of the machine keeps.
-use Rattle.std.proofs.Common.{◌≡◌, ℕ, zero, suc, Bool, true, inl, inr, List, [], ◌∷◌, ◌++◌, length, map, Some, refl, sym, ap, subst, ◌∙◌, arith, append_assoc, append-nil}
-use Rattle.std.specs.Prelude.{slice_get, slice_set, if◌then◌else◌}
+use Rattle.std.proofs.Common.{◌≡◌, ◌+◌, ◌<◌, ◌≤◌, ◌^◌, ℕ, zero, suc, Bool, true, inl, inr, List, [], ◌∷◌, ◌++◌, length, map, Some, refl, sym, ap, subst, ◌∙◌, arith, append_assoc, append-nil}
+use Rattle.std.specs.Prelude.{◌-◌, ◌&&◌, nat_le, nat_lt, slice_get, slice_set, if◌then◌else◌}
 use Rattle.std.specs.List.{AllByRecursion}
+use Rattle.std.proofs.lemmas.List.{length-append, length-map}
 use Rattle.dns_records.specs.Record.{Record}
+use Rattle.dns_layout.specs.Sector.{snapshot_sectors}
+use Rattle.dns_wire.proofs.Binds.{true_le, true_lt}
+use Rattle.dns_zone.specs.Order.{both_true}
 use Rattle.dns_update.specs.Verdict.{Leaves, verdict}
-use Rattle.dns_store.specs.Versions.{newest_after}
+use Rattle.dns_store.specs.Versions.{newest_after, newest_of}
+use Rattle.dns_store.specs.Plain.{octets_of}
+use Rattle.dns_store.specs.Room.{entry_between}
 use Rattle.dns_held.specs.Each.{Each2}
 use Rattle.dns_held.specs.Held.{newest_zone}
+use Rattle.dns_held.specs.Staging.{has_room}
 use Rattle.dns_primary.specs.declared.event.To.{To}
 use Rattle.dns_primary.specs.Machine.{ZoneState, Made, Waits, Machine, kept_of, updates_of, versions_of}
 use Rattle.dns_primary.specs.Flush.{Sent, Answered, Replied, rcode_servfail, flushed_zones, flushed, flush_sends, released, is_closed_in}
 use Rattle.dns_primary.specs.Update.{Asked, waits, stages, with_staged}
-use Rattle.dns_primary.specs.Runs.{Lasts, AllLast, IsDurable, IsTrueIn, HasHistory, IsHistory}
+use Rattle.dns_primary.specs.Runs.{Lasts, AllLast, IsDurable, IsTrueIn, IsAccepted, HasHistory, IsHistory}
 use Rattle.dns_primary.proofs.Zonewise.{pair_found, pair_set, pair_over, all_found, all_set, lasts_same, all_last_same, all_last_on, same_history, IsFlushed, zone_flushed, history_more, newest_is}
 
 -- the updates of a waiting reply are the first of its zone's
@@ -149,22 +156,46 @@ set_stands [] place z w e = absurd cc
 set_stands (a ∷ zones) zero z w e = refl
 set_stands (a ∷ zones) (suc place) z w e = set_stands zones place z w e
 
+as_many : (z : ZoneState) → length (versions_of z.shown) + length (versions_of z.staged) ≡ 0 + length (updates_of z)
+as_many z =
+    let one = length-map z.shown (λ (m : Made). m.records) in
+    let two = length-map z.staged (λ (m : Made). m.records) in
+    let both = length-append z.shown z.staged in
+    omega (arith, one, two, both)
+
+-- an update with room is accepted on the newest version
+accepted_on : (z : ZoneState) (made : Made) → verdict (newest_zone (kept_of z)) made.update.answers made.update.authorities ≡ Leaves made.records → has_room (kept_of z) made.records ≡ true
+    → IsAccepted z.setting (0 + length (updates_of z)) (newest_after z.loaded (versions_of (updates_of z))) made
+accepted_on z made j room =
+    let k = kept_of z in
+    let few = nat_le (length made.records) 65536 in
+    let snapshot = nat_le (snapshot_sectors (octets_of made.records)) k.shape.snapshot in
+    let entry = nat_le (entry_between (newest_of k) made.records) k.shape.journal in
+    let last = both_true (few && snapshot && entry) (nat_lt (length k.shown + length k.staged) (2 ^ 64 - 1)) room in
+    let third = both_true (few && snapshot) entry last.0 in
+    let first = both_true few snapshot third.0 in
+    record {
+      judged = subst (λ (rs : List Record). verdict (record { apex = z.setting.shape.apex; records = rs }) made.update.answers made.update.authorities ≡ Leaves made.records) (newest_is z) j;
+      few = true_le (length made.records) 65536 first.0;
+      snapshot = true_le (snapshot_sectors (octets_of made.records)) k.shape.snapshot first.1;
+      entry = subst (λ (rs : List Record). entry_between rs made.records ≤ k.shape.journal) (newest_is z) (true_le (entry_between (newest_of k) made.records) k.shape.journal third.1);
+      numbered = subst (λ (n : ℕ). n < 2 ^ 64 - 1) (as_many z) (true_lt (length k.shown + length k.staged) (2 ^ 64 - 1) last.1);
+    }
+
 -- an update that is staged
 pub stage_preserves : (m : Machine) (a : Asked) (place : ℕ) (z : ZoneState) (records : List Record) → IsSound m → slice_get m.zones place ≡ Some z
-    → verdict (newest_zone (kept_of z)) a.message.answers a.message.authorities ≡ Leaves records
+    → verdict (newest_zone (kept_of z)) a.message.answers a.message.authorities ≡ Leaves records → has_room (kept_of z) records ≡ true
     → Preserves m (stages m a place z records) []
-stage_preserves m a place z records s e j =
+stage_preserves m a place z records s e j room =
     let made : Made = record { update = a.message; records = records } in
     let after : ZoneState = with_staged made z in
     let longer : updates_of after ≡ updates_of z ++ made ∷ [] = sym (append_assoc z.shown z.staged (made ∷ [])) in
     let grown : Each2 Grows m.zones (slice_set m.zones place after) = pair_set Grows grows_itself m.zones place z after e (record { more = made ∷ []; updates = longer }) in
-    let judged : verdict (record { apex = z.setting.shape.apex; records = newest_after z.loaded (versions_of (updates_of z)) }) made.update.answers made.update.authorities ≡ Leaves made.records =
-    subst (λ (rs : List Record). verdict (record { apex = z.setting.shape.apex; records = rs }) a.message.answers a.message.authorities ≡ Leaves records) (newest_is z) j in
-    let history = history_more z.setting.shape.apex z.loaded (updates_of z) made (all_found HasHistory m.zones place z s.zones e) judged in
+    let history = history_more z.setting 0 z.loaded (updates_of z) made (all_found HasHistory m.zones place z s.zones e) (accepted_on z made j room) in
     record {
       lasts = pair_set Lasts lasts_same m.zones place z after e (record { setting = refl; loaded = refl; more = []; shown = sym (append-nil z.shown) });
       sound = record {
-        zones = all_set HasHistory m.zones place after s.zones (subst (λ (us : List Made). IsHistory z.setting.shape.apex z.loaded us) (sym longer) history);
+        zones = all_set HasHistory m.zones place after s.zones (subst (λ (us : List Made). IsHistory z.setting 0 z.loaded us) (sym longer) history);
         waiting = all_more (IsPlaced (slice_set m.zones place after)) m.waiting _ (waiting_over m.zones (slice_set m.zones place after) grown m.waiting s.waiting)
             (record { zone = after; stands = set_stands m.zones place z after e; more = []; updates = sym (append-nil (updates_of after)) });
       };

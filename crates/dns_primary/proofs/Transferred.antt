@@ -1,10 +1,10 @@
 -- Transfers that are open, as they are stored and as the machine has them.
-use Rattle.std.proofs.Common.{◌≡◌, ℕ, zero, suc, ◌+◌, Bool, true, false, not, cond, List, [], ◌∷◌, ◌++◌, length, map, Option, Some, None, Result, Ok, Err, inr, refl, sym, ap, subst, ◌∙◌, arith}
+use Rattle.std.proofs.Common.{◌≡◌, ℕ, suc, ◌+◌, Bool, true, false, not, cond, List, [], ◌∷◌, ◌++◌, map, Option, Some, None, Result, Ok, Err, inr, refl, sym, ap, subst, ◌∙◌, arith}
 use Rattle.std.specs.Prelude.{filter, slice_get, slice_set, ◌==◌, ◌&&◌, ◌||◌, is_none, IsTrue, IfOk, ◌↔◌, if◌then◌else◌}
 use Rattle.std.specs.List.{position, position_from}
 use Rattle.std.proofs.lemmas.Iterator.Adapters.{position_from-zero}
 use Rattle.dns_records.specs.Record.{Record}
-use Rattle.dns_changes.specs.Change.{Change, IsChange}
+use Rattle.dns_changes.specs.Change.{Change}
 use Rattle.dns_zone.specs.Zone.{soas}
 use Rattle.dns_store.specs.Versions.{Versions}
 use Rattle.dns_store.specs.Recovered.{AreLed}

@@ -1,15 +1,13 @@
 -- Zones before and after an event: what each pair of them keeps.
-use Rattle.std.proofs.Common.{◌≡◌, ℕ, zero, suc, Bool, true, false, ◌||◌, ◌⊎◌, inl, inr, List, [], ◌∷◌, ◌++◌, Some, refl, sym, ap, subst, ◌∙◌, append_assoc, append-nil}
+use Rattle.std.proofs.Common.{◌≡◌, ◌+◌, ℕ, zero, suc, Bool, true, false, ◌||◌, ◌⊎◌, inl, inr, List, [], ◌∷◌, ◌++◌, length, Some, refl, sym, ap, subst, ◌∙◌, arith, append_assoc, append-nil}
 use Rattle.std.specs.Prelude.{slice_get, slice_set, if◌then◌else◌}
 use Rattle.std.specs.List.{AllByRecursion}
-use Rattle.dns_names.specs.Name.{Labels}
 use Rattle.dns_records.specs.Record.{Record}
-use Rattle.dns_update.specs.Verdict.{Leaves, verdict}
 use Rattle.dns_store.specs.Versions.{newest_after, newest_of}
 use Rattle.dns_held.specs.Each.{Each2}
-use Rattle.dns_primary.specs.Machine.{ZoneState, Made, kept_of, updates_of, versions_of}
+use Rattle.dns_primary.specs.Machine.{Setting, ZoneState, Made, kept_of, updates_of, versions_of}
 use Rattle.dns_primary.specs.Flush.{is_none_made, flushed_zone}
-use Rattle.dns_primary.specs.Runs.{IsHistory, HasHistory, Lasts, AllLast}
+use Rattle.dns_primary.specs.Runs.{IsAccepted, IsHistory, HasHistory, Lasts, AllLast}
 
 -- a test of a case
 pub tested : {A : Type 0} (P : A → Type 0) (b : Bool) (x y : A) → (b ≡ true → P x) → (b ≡ false → P y) → P (if b then x else y)
@@ -84,15 +82,16 @@ pub record Same (z w : ZoneState) : Type 0 where
   pub setting : w.setting ≡ z.setting
   pub loaded : w.loaded ≡ z.loaded
   pub updates : updates_of w ≡ updates_of z
+  pub openings : w.openings ≡ z.openings
 
 pub same_itself : (z : ZoneState) → Same z z
-same_itself z = record { setting = refl; loaded = refl; updates = refl }
+same_itself z = record { setting = refl; loaded = refl; updates = refl; openings = refl }
 
 pub same_history : (z w : ZoneState) → Same z w → HasHistory z → HasHistory w
 same_history z w s h =
-    subst (λ u. IsHistory w.setting.shape.apex w.loaded u) (sym s.updates) (
-    subst (λ r. IsHistory w.setting.shape.apex r (updates_of z)) (sym s.loaded) (
-    subst (λ (t : Labels). IsHistory t z.loaded (updates_of z)) (ap (λ t. t.shape.apex) (sym s.setting)) h))
+    subst (λ u. IsHistory w.setting 0 w.loaded u) (sym s.updates) (
+    subst (λ r. IsHistory w.setting 0 r (updates_of z)) (sym s.loaded) (
+    subst (λ (t : Setting). IsHistory t 0 z.loaded (updates_of z)) (sym s.setting) h))
 
 -- a zone that is flushed, or closes
 pub record IsFlushed (z w : ZoneState) : Type 0 where
@@ -120,15 +119,19 @@ zone_flushed fails z =
       ];
     })
     (λ e. tested (IsFlushed z) fails (record z { closed = true }) (record z { shown = z.shown ++ z.staged; staged = [] })
-    (λ f. record { lasts = record { setting = refl; loaded = refl; more = []; shown = sym (append-nil z.shown) }; same = record { setting = refl; loaded = refl; updates = refl }; whole = inl refl })
-    (λ f. record { lasts = record { setting = refl; loaded = refl; more = z.staged; shown = refl }; same = record { setting = refl; loaded = refl; updates = append-nil (z.shown ++ z.staged) }; whole = inr refl }))
+    (λ f. record { lasts = record { setting = refl; loaded = refl; more = []; shown = sym (append-nil z.shown) }; same = record { setting = refl; loaded = refl; updates = refl; openings = refl }; whole = inl refl })
+    (λ f. record { lasts = record { setting = refl; loaded = refl; more = z.staged; shown = refl }; same = record { setting = refl; loaded = refl; updates = append-nil (z.shown ++ z.staged); openings = refl }; whole = inr refl }))
 
 -- one update more, judged on the newest version
-pub history_more : (apex : Labels) (records : List Record) (updates : List Made) (made : Made) → IsHistory apex records updates
-    → verdict (record { apex = apex; records = newest_after records (versions_of updates) }) made.update.answers made.update.authorities ≡ Leaves made.records
-    → IsHistory apex records (updates ++ made ∷ [])
-history_more apex records [] made h e = (e, tt)
-history_more apex records (m ∷ updates) made h e = (h.0, history_more apex m.records updates made h.1 e)
+pub history_more : (s : Setting) (number : ℕ) (records : List Record) (updates : List Made) (made : Made) → IsHistory s number records updates
+    → IsAccepted s (number + length updates) (newest_after records (versions_of updates)) made
+    → IsHistory s number records (updates ++ made ∷ [])
+history_more s number records [] made h e = (subst (λ (n : ℕ). IsAccepted s n records made) (omega arith) e, tt)
+history_more s number records (m ∷ updates) made h e = (
+  h.0,
+  history_more s (suc number) m.records updates made h.1
+      (subst (λ (n : ℕ). IsAccepted s n (newest_after m.records (versions_of updates)) made) (omega arith) e),
+)
 
 pub versions_joined : (xs ys : List Made) → versions_of (xs ++ ys) ≡ versions_of xs ++ versions_of ys
 versions_joined [] ys = refl

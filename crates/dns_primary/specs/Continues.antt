@@ -8,7 +8,7 @@ use Rattle.dns_primary.specs.declared.event.Peer.{Peer}
 use Rattle.dns_primary.specs.declared.event.To.TheVariants.{Connection}
 use Rattle.dns_primary.specs.declared.event.Noted.TheVariants.{OutOfMemory}
 use Rattle.dns_primary.specs.Machine.{ZoneState, Machine, shown_zones, peer_at, sending_at}
-use Rattle.dns_primary.specs.Flush.{Sent, Replied}
+use Rattle.dns_primary.specs.Flush.{Replied}
 use Rattle.dns_primary.specs.Transfer.{open_still, version_of, zone_named}
 use Rattle.dns_primary.specs.Step.{Event, Effects, Arrives, Pump, Closed}
 use Rattle.dns_primary.specs.Runs.{Moment, Took, Stopped}

@@ -7,7 +7,7 @@ use Rattle.dns_primary.specs.declared.primary.ZoneSettings.{ZoneSettings}
 use Rattle.dns_primary.specs.Machine.{ZoneState, Machine, kept_of}
 use Rattle.dns_primary.specs.Keeps.{IsSet}
 
--- The zone is as it was loaded: no update was accepted.
+-- The zone is as it was loaded: no update was accepted. Its store was opened once.
 pub record IsLoaded (zone : Zone) (settings : ZoneSettings) (z : ZoneState) : Type 0 where
   pub shape : z.setting.shape ≡ record { apex = zone.apex; snapshot = settings.snapshot; journal = settings.journal }
   pub set : IsSet settings z
@@ -16,6 +16,7 @@ pub record IsLoaded (zone : Zone) (settings : ZoneSettings) (z : ZoneState) : Ty
   pub staged : z.staged ≡ []
   pub base : z.base ≡ 0
   pub second : z.second ≡ None
+  pub openings : z.openings ≡ 1
   pub opened : z.closed ≡ false
 
 -- A machine of these zones to which nothing has happened.

@@ -24,8 +24,8 @@ pub record Made : Type 0 where
   pub records : List Record
 
 -- A zone: its records as loaded, the updates of the version that is shown, and those staged behind it. `base` is the number of
--- the version that its journal begins at; `second` is that of another, which a checkpoint left that failed. Where its device failed
--- it is closed.
+-- the version that its journal begins at; `second` is that of another, which a checkpoint left that failed. `openings` is how often
+-- its store was opened. Where its device failed it is closed.
 pub record ZoneState : Type 0 where
   pub setting : Setting
   pub loaded : List Record
@@ -33,6 +33,7 @@ pub record ZoneState : Type 0 where
   pub staged : List Made
   pub base : ℕ
   pub second : Option ℕ
+  pub openings : ℕ
   pub closed : Bool
 
 abbrev pub updates_of : ZoneState → List Made
@@ -50,6 +51,7 @@ kept_of z = record {
   staged = versions_of z.staged;
   base = z.base;
   second = z.second;
+  openings = z.openings;
   closed = z.closed;
 }
 

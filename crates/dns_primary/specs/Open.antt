@@ -1,14 +1,14 @@
 -- How the devices of all zones are opened, and what a primary that is opened keeps.
-use Rattle.std.specs.Prelude.{◌≡◌, ◌⊎◌, ℕ, zero, suc, List, [], ◌∷◌}
+use Rattle.std.specs.Prelude.{◌≡◌, ◌⊎◌, ◌+◌, ℕ, zero, suc, List, [], ◌∷◌}
 use Rattle.dns_names.specs.Name.{Labels}
 use Rattle.dns_zone.specs.Zone.{Zone}
 use Rattle.dns_sectors.specs.Device.{Content, LeavesOnly}
 use Rattle.dns_sectors.specs.declared.device.Sectors.{Ghosts}
 use Rattle.dns_layout.specs.Sector.{sector_at}
 use Rattle.dns_journal.specs.Reads.{HasRisen}
-use Rattle.dns_store.specs.Versions.{Shape, Opened}
+use Rattle.dns_store.specs.Versions.{Shape, Opened, opened_again}
 use Rattle.dns_store.specs.Opens.{opens, sizes_of, fresh}
-use Rattle.dns_store.specs.Opening.{IsInRange, MayOpen, OpensAsPossible, keeps, store_device}
+use Rattle.dns_store.specs.Opening.{IsInRange, MayOpen, OpensAsPossible, StopsPossible, keeps, store_device}
 use Rattle.dns_store.specs.Opening as store
 use Rattle.dns_store.specs.Root.{OpenRefusal}
 use Rattle.dns_store.specs.Damage.{NamesWrong}
@@ -30,18 +30,19 @@ shape_of apex s = record { apex = apex; snapshot = s.snapshot; journal = s.journ
 abbrev pub device_behind : {D I : Type 0} {g : Ghosts D} → Behind I (KeptStore D I g) → D
 device_behind b = store_device b.store
 
--- A crash at any moment since then leaves what opens as a crash might have left it then: a version and a base that were possible
--- together. The device is as honest as it was.
+-- A crash at any moment since then leaves what opens as a crash might have left it then, opened as often or once more: a version and
+-- a base that were possible together. The device is as honest as it was.
 pub record StaysPossible {D : Type 0} (g : Ghosts D) (apex : Labels) (s : ZoneSettings) (old new : D) : Type 0 where
   pub honest : g.is_honest old → g.is_honest new
   pub any_moment : g.is_honest old → IsInRange s.snapshot s.journal
       → LeavesOnly g.moment g.left_since old new (OpensAsPossible g (shape_of apex s) old)
 
--- What stands behind the zone keeps what a crash might have left of its device before, whichever versions there were before the
--- base.
+-- What stands behind the zone keeps what a crash might have left of its device before, opened once more, whichever versions there were
+-- before the base.
 abbrev pub TakesDevice : {D I : Type 0} {g : Ghosts D} → Shape → D → Zone → Behind I (KeptStore D I g) → Type 0
 TakesDevice {g} shape device zone b =
-    (d : Content) × g.may_leave device d × ((o : Opened) → opens shape o d → HasVersions (λ s k. keeps s k) zone b (fresh shape o))
+    (d : Content) × g.may_leave device d
+    × ((o : Opened) → opens shape o d → HasVersions (λ s k. keeps s k) zone b (fresh shape (opened_again o)))
 
 -- The device was opened as this zone.
 pub record IsOpened {D I : Type 0} {g : Ghosts D} (apex : Labels) (s : ZoneSettings) (device : D) (zone : Zone)
@@ -57,7 +58,7 @@ pub record IsNotOpened {D : Type 0} (g : Ghosts D) (apex : Labels) (s : ZoneSett
     : Type 0 where
   pub leaves : StaysPossible g apex s old new
   pub stopped : g.is_honest old → IsInRange s.snapshot s.journal → MayOpen g (shape_of apex s) old
-      → store.IsStopped (g.seen old) error
+      → StopsPossible g (shape_of apex s) old error
   pub refused : g.is_honest old → OpenRefusal (sizes_of (shape_of apex s)) (g.count old) (sector_at (g.seen old) 0) error
   pub damaged : g.is_honest old → NamesWrong (shape_of apex s) (g.seen old) error
   pub failed : error ≡ Device → HasRisen (g.failed old) (g.failed new)
@@ -84,35 +85,37 @@ abbrev pub AreRefused : {D : Type 0} → Ghosts D → OpenError → ℕ → List
 AreRefused g error place apexes settings devices back =
     AreHandedBack g error place apexes settings devices back ⊎ ((error ≡ OutOfMemory) × (back ≡ devices))
 
--- Every crash leaves the zone's device so that it opens as one that this zone may be recovered as, and these are its name and its
--- settings.
-pub record IsRecoverable {D : Type 0} (g : Ghosts D) (making : ℕ → Type 0) (z : ZoneState) (apex : Labels) (s : ZoneSettings)
-    (device : D)
+-- Every crash leaves the zone's device so that it opens as one that this zone may be recovered as, opened at most so often since, and
+-- these are its name and its settings.
+pub record IsRecoverable {D : Type 0} (g : Ghosts D) (tries : ℕ) (making : ℕ → Type 0) (z : ZoneState) (apex : Labels)
+    (s : ZoneSettings) (device : D)
     : Type 0 where
   pub shape : z.setting.shape ≡ shape_of apex s
   pub set : IsSet s z
   pub range : IsInRange s.snapshot s.journal
   pub honest : g.is_honest device
-  pub leaves : (c : Content) → g.may_leave device c → OpensAsRecovered opens making z c
+  pub leaves : (c : Content) → g.may_leave device c → OpensAsRecovered opens tries making z c
 
 -- Each zone's device, those from this place on, where the machine stopped within the event.
-abbrev pub AreRecoverable : {D : Type 0} → Ghosts D → Machine → Event → ℕ → List ZoneState → List Labels → List ZoneSettings
-    → List D → Type 0
-AreRecoverable g m event place [] [] [] [] = Unit {0}
-AreRecoverable g m event place (z ∷ zones) (a ∷ apexes) (s ∷ settings) (d ∷ devices) =
-    IsRecoverable g (IsMaking m event place z) z a s d × AreRecoverable g m event (suc place) zones apexes settings devices
-AreRecoverable g m event place _ _ _ _ = ⊥
+abbrev pub AreRecoverable : {D : Type 0} → Ghosts D → ℕ → Machine → Event → ℕ → List ZoneState → List Labels
+    → List ZoneSettings → List D → Type 0
+AreRecoverable g tries m event place [] [] [] [] = Unit {0}
+AreRecoverable g tries m event place (z ∷ zones) (a ∷ apexes) (s ∷ settings) (d ∷ devices) =
+    IsRecoverable g tries (IsMaking m event place z) z a s d
+    × AreRecoverable g tries m event (suc place) zones apexes settings devices
+AreRecoverable g tries m event place _ _ _ _ = ⊥
 
 -- A crash at any moment between the two leaves each device so that it opens as a zone that this one may be recovered as.
-abbrev pub LeaveRecovered : {D : Type 0} → Ghosts D → Machine → Event → ℕ → List ZoneState → List D → List D → Type 0
-LeaveRecovered g m event place [] [] [] = Unit {0}
-LeaveRecovered g m event place (z ∷ zones) (d ∷ olds) (e ∷ news) =
-    LeavesOnly g.moment g.left_since d e (OpensAsRecovered opens (IsMaking m event place z) z)
-    × LeaveRecovered g m event (suc place) zones olds news
-LeaveRecovered g m event place _ _ _ = ⊥
+abbrev pub LeaveRecovered : {D : Type 0} → Ghosts D → ℕ → Machine → Event → ℕ → List ZoneState → List D → List D → Type 0
+LeaveRecovered g tries m event place [] [] [] = Unit {0}
+LeaveRecovered g tries m event place (z ∷ zones) (d ∷ olds) (e ∷ news) =
+    LeavesOnly g.moment g.left_since d e (OpensAsRecovered opens tries (IsMaking m event place z) z)
+    × LeaveRecovered g tries m event (suc place) zones olds news
+LeaveRecovered g tries m event place _ _ _ = ⊥
 
--- The device there of a stopped machine failed, memory was refused, or its store was opened too often.
-abbrev pub IsRecoveryStopped : {D : Type 0} → Ghosts D → OpenError → ℕ → List D → Type 0
-IsRecoveryStopped g error place [] = error ≡ OutOfMemory
-IsRecoveryStopped g error zero (d ∷ devices) = store.IsStopped (g.seen d) error
-IsRecoveryStopped g error (suc n) (d ∷ devices) = IsRecoveryStopped g error n devices
+-- The device of the zone there of a stopped machine failed, memory was refused, or its store was opened too often: as often as the
+-- machine says, and as there were tries since.
+abbrev pub IsRecoveryStopped : ℕ → OpenError → ℕ → List ZoneState → Type 0
+IsRecoveryStopped tries error place [] = error ≡ OutOfMemory
+IsRecoveryStopped tries error zero (z ∷ zones) = store.IsStopped (z.openings + tries) error
+IsRecoveryStopped tries error (suc n) (z ∷ zones) = IsRecoveryStopped tries error n zones

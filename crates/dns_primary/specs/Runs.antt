@@ -1,21 +1,29 @@
 -- Runs of the machine, and what holds of every one.
-use Rattle.std.specs.Prelude.{◌≡◌, ◌⊎◌, Bool, true, List, [], ◌∷◌, ◌++◌, slice_get, Some}
+use Rattle.std.specs.Prelude.{◌≡◌, ◌⊎◌, ◌<◌, ◌≤◌, ◌+◌, ◌-◌, ◌^◌, ℕ, suc, Bool, true, List, [], ◌∷◌, ◌++◌, length, slice_get, Some}
 use Rattle.std.specs.List.{AllByRecursion, Contains}
 use Rattle.dns_records.specs.Record.{Record}
-use Rattle.dns_names.specs.Name.{Labels}
+use Rattle.dns_names.specs.Name.{names_eq}
+use Rattle.dns_layout.specs.Sector.{snapshot_sectors}
+use Rattle.dns_wire.specs.Message.{Question, Message}
+use Rattle.dns_request.specs.declared.request.Transport.{Transport}
+use Rattle.dns_request.specs.declared.request.Transport.TheVariants.{Udp, Tcp}
+use Rattle.dns_answer.specs.Answer.{Update, handled}
 use Rattle.dns_update.specs.Verdict.{Leaves, verdict}
+use Rattle.dns_store.specs.Plain.{octets_of}
+use Rattle.dns_store.specs.Room.{entry_between}
 use Rattle.dns_held.specs.Each.{Each2}
-use Rattle.dns_primary.specs.Machine.{Made, ZoneState, Waits, Machine, updates_of}
+use Rattle.dns_primary.specs.declared.event.Peer.{Peer}
+use Rattle.dns_primary.specs.Machine.{Setting, Made, ZoneState, Waits, Machine, updates_of, shown_zones, peer_at}
 use Rattle.dns_primary.specs.Flush.{Sent, Answered, Replied, is_closed_in, rcode_servfail}
-use Rattle.dns_primary.specs.Step.{Event, Effects, Step}
+use Rattle.dns_primary.specs.Step.{Event, Datagram, Arrives, Connect, Flush, Checkpoint, Pump, Closed, Effects, Step}
 use Rattle.dns_primary.specs.Stop.{IsStopped}
 
 -- What happens in a run: a step, of which are told the event, the devices that failed, what went out, and the machine after it. Or a
--- stop within an event, of which are told the machines that recoveries would have led to which were themselves stopped or refused,
--- as often as that was so, and the one that a recovery led to which succeeded.
+-- stop within an event, of which are told how many recoveries were themselves stopped or refused, and the machine that the one led to
+-- which succeeded.
 pub data Moment : Type 0 where
   Took : Event → List Bool → Effects → Machine → Moment
-  Stopped : Event → List Machine → Machine → Moment
+  Stopped : Event → ℕ → Machine → Moment
 
 abbrev pub after : Moment → Machine
 after (Took event fails effects new) = new
@@ -26,10 +34,11 @@ abbrev pub sent_in : Moment → List Sent
 sent_in (Took event fails effects new) = effects.sent
 sent_in (Stopped event tries new) = []
 
--- An event is a step of the machine. A recovery that is stopped or refused leaves the choices that the stop left.
+-- An event is a step of the machine. A recovery that is stopped or refused leaves the choices that the stop left, and counts as an
+-- opening.
 abbrev pub Happens : Machine → Moment → Type 0
 Happens m (Took event fails effects new) = Step fails m event effects new
-Happens m (Stopped event tries new) = AllByRecursion (IsStopped m event) tries × IsStopped m event new
+Happens m (Stopped event tries new) = IsStopped tries m event new
 
 -- Each of these happens to the machine that those before it left.
 abbrev pub Run : Machine → List Moment → Type 0
@@ -40,16 +49,58 @@ abbrev pub last_of : Machine → List Moment → Machine
 last_of m [] = m
 last_of m (t ∷ rest) = last_of (after t) rest
 
--- Each update was accepted where it came: the verdict on it, judged on the records that the one before it left, leaves its records
--- (RFC 2136 3).
-abbrev pub IsHistory : Labels → List Record → List Made → Type 0
-IsHistory apex records [] = Unit {0}
-IsHistory apex records (m ∷ later) =
-    (verdict (record { apex = apex; records = records }) m.update.answers m.update.authorities ≡ Leaves m.records)
-    × IsHistory apex m.records later
+-- An update is accepted on the version with this number: judged on the records of that version it leaves its own (RFC 2136 3), and
+-- there is room for those: they are at most 65,536, their snapshot and their entry fit in the sectors that there are for them, and
+-- the number that they get has 64 bits.
+pub record IsAccepted (s : Setting) (number : ℕ) (before : List Record) (m : Made) : Type 0 where
+  pub judged : verdict (record { apex = s.shape.apex; records = before }) m.update.answers m.update.authorities ≡ Leaves m.records
+  pub few : length m.records ≤ 65536
+  pub snapshot : snapshot_sectors (octets_of m.records) ≤ s.shape.snapshot
+  pub entry : entry_between before m.records ≤ s.shape.journal
+  pub numbered : number < 2 ^ 64 - 1
+
+-- Each update was accepted on the version that the one before it left.
+abbrev pub IsHistory : Setting → ℕ → List Record → List Made → Type 0
+IsHistory s number before [] = Unit {0}
+IsHistory s number before (m ∷ later) = IsAccepted s number before m × IsHistory s (suc number) m.records later
 
 abbrev pub HasHistory : ZoneState → Type 0
-HasHistory z = IsHistory z.setting.shape.apex z.loaded (updates_of z)
+HasHistory z = IsHistory z.setting 0 z.loaded (updates_of z)
+
+-- The event brings octets from a peer by a transport.
+abbrev pub Carries : Machine → Event → Peer → Transport → List ℕ → Type 0
+Carries m (Datagram from octets) peer transport came = (peer ≡ from) × (transport ≡ Udp) × (came ≡ octets)
+Carries m (Arrives number octets) peer transport came =
+    (peer_at number m.connections ≡ Some peer) × (transport ≡ Tcp) × (came ≡ octets)
+Carries m (Connect from) peer transport came = ⊥
+Carries m Flush peer transport came = ⊥
+Carries m (Checkpoint place) peer transport came = ⊥
+Carries m (Pump number) peer transport came = ⊥
+Carries m (Closed number) peer transport came = ⊥
+
+-- The event brings this update of the zone: its message came from an address from which the zone may be updated, and names it.
+pub record Brings (m : Machine) (event : Event) (z : ZoneState) (update : Message) : Type 0 where
+  pub peer : Peer
+  pub transport : Transport
+  pub octets : List ℕ
+  pub came : Carries m event peer transport octets
+  pub question : Question
+  pub asks : handled (shown_zones m) octets transport ≡ Update update question
+  pub named : names_eq z.setting.shape.apex question.name ≡ true
+  pub allowed : z.setting.may_update peer.address ≡ true
+
+abbrev pub BringsIn : Machine → Moment → ZoneState → Message → Type 0
+BringsIn m (Took event fails effects new) z update = Brings m event z update
+BringsIn m (Stopped event tries new) z update = ⊥
+
+-- The update came in one of these moments.
+abbrev pub CameIn : Machine → List Moment → ZoneState → Message → Type 0
+CameIn m [] z update = ⊥
+CameIn m (t ∷ rest) z update = BringsIn m t z update ⊎ CameIn (after t) rest z update
+
+-- Each update of the zone came in one of these moments.
+abbrev pub AllCameIn : Machine → List Moment → ZoneState → Type 0
+AllCameIn m run z = AllByRecursion (λ u. CameIn m run z u.update) (updates_of z)
 
 -- What was shown stays shown: the updates of the version shown before are the first of those of the version shown after.
 pub record Lasts (old new : ZoneState) : Type 0 where
@@ -87,10 +138,23 @@ IsReleasedFrom old new (Answered w rcode) =
     × (is_closed_in (slice_get old.zones w.zone) ≡ true → rcode ≡ rcode_servfail)
 IsReleasedFrom old new (Replied to octets) = Unit {0}
 
+-- How often the stores were opened in these moments.
+abbrev pub openings_in : List Moment → ℕ
+openings_in [] = 0
+openings_in (Took event fails effects new ∷ rest) = openings_in rest
+openings_in (Stopped event tries new ∷ rest) = suc tries + openings_in rest
+
+-- The store was opened at most so often more.
+abbrev pub IsOpenedAtMost : ℕ → ZoneState → ZoneState → Type 0
+IsOpenedAtMost times old new = new.openings ≤ old.openings + times
+
 -- At the end of a run, however often the machine stopped in it, each zone is its loaded records after accepted updates, each judged
--- on what the ones before it left, and the version that is shown is after the first of them; among these are all that was shown and
--- all that was answered NOERROR at any moment of the run.
+-- on what the ones before it left, for which there was room, and which came in the run from an address that may update the zone; the
+-- version that is shown is after the first of them; among these are all that was shown and all that was answered NOERROR at any moment
+-- of the run. No store says that it was opened more often than it was.
 pub record Promise (start : Machine) (run : List Moment) : Type 0 where
   pub loaded : AllLast start.zones (last_of start run).zones
   pub history : AllByRecursion HasHistory (last_of start run).zones
+  pub came : AllByRecursion (AllCameIn start run) (last_of start run).zones
+  pub openings : Each2 (IsOpenedAtMost (openings_in run)) start.zones (last_of start run).zones
   pub moments : AllByRecursion (StaysTrue (last_of start run).zones) run

@@ -1,8 +1,7 @@
 -- One event is one step of the machine.
-use Rattle.std.specs.Prelude.{◌≡◌, ◌⊎◌, ◌<◌, ◌≤◌, ℕ, Bool, true, false, not, ◌&&◌, ◌||◌, ◌==◌, nat_lt, List, [], ◌∷◌, ◌++◌, length, slice_get, is_some, Option, Some, None, if◌then◌else◌}
+use Rattle.std.specs.Prelude.{◌≡◌, ◌⊎◌, ◌<◌, ◌≤◌, ℕ, Bool, true, false, not, ◌&&◌, ◌||◌, nat_lt, List, [], ◌∷◌, ◌++◌, length, slice_get, is_some, Option, Some, None, if◌then◌else◌}
 use Rattle.dns_wire.specs.Message.{header_of}
 use Rattle.dns_wire.specs.Text.{text}
-use Rattle.dns_request.specs.Request.{opcode_update}
 use Rattle.dns_request.specs.declared.request.Transport.TheVariants.{Udp, Tcp}
 use Rattle.dns_answer.specs.Answer.{Handled, NoReply, Replies, Update, Transfer, handled, bare_reply}
 use Rattle.dns_held.specs.Flush.{first_true}
@@ -176,13 +175,25 @@ checkpoint_first m (Checkpoint place) = None
 checkpoint_first m (Pump number) = None
 checkpoint_first m (Closed number) = None
 
+-- What came is an update.
+abbrev pub is_update : Handled → Bool
+is_update NoReply = false
+is_update (Replies reply) = false
+is_update (Update message question) = true
+is_update (Transfer octets message question) = false
+
+abbrev pub arrived_update : Machine → Option Peer → List ℕ → Bool
+arrived_update m None octets = false
+arrived_update m (Some peer) octets = is_update (handled (shown_zones m) octets Tcp)
+
 -- An update that comes while as many wait as may flushes first, and so does one that lacks room, and the checkpoint of a zone that
 -- is there.
 abbrev pub flushes_first : Machine → Event → Bool
 flushes_first m (Datagram peer octets) =
-    (header_of octets).opcode == opcode_update && is_full m || is_some (checkpoint_first m (Datagram peer octets))
+    is_update (handled (shown_zones m) octets Udp) && is_full m || is_some (checkpoint_first m (Datagram peer octets))
 flushes_first m (Arrives number octets) =
-    (header_of octets).opcode == opcode_update && is_full m || is_some (checkpoint_first m (Arrives number octets))
+    arrived_update m (peer_at number m.connections) octets && is_full m
+    || is_some (checkpoint_first m (Arrives number octets))
 flushes_first m (Connect peer) = false
 flushes_first m Flush = false
 flushes_first m (Checkpoint place) = is_some (slice_get m.zones place)

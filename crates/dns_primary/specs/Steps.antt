@@ -1,11 +1,10 @@
 -- Steps of a primary, and what is told of them.
-use Rattle.std.specs.Prelude.{◌≡◌, ◌⊎◌, ℕ, zero, suc, Bool, true, ◌&&◌, ◌||◌, ◌==◌, is_some, List, [], ◌∷◌, ◌++◌, Option, Some, None, Result, Ok, Err, map, slice_get}
-use Rattle.dns_wire.specs.Message.{Header, Question, Message, header_of}
+use Rattle.std.specs.Prelude.{◌≡◌, ◌⊎◌, ℕ, zero, suc, Bool, true, ◌&&◌, ◌||◌, is_some, List, [], ◌∷◌, ◌++◌, Option, Some, None, Result, Ok, Err, map}
+use Rattle.dns_wire.specs.Message.{Header, Question, Message}
 use Rattle.dns_wire.specs.Codes.{number_of_rcode}
-use Rattle.dns_request.specs.Request.{opcode_update}
 use Rattle.dns_request.specs.declared.request.Transport.{Transport}
 use Rattle.dns_wire.specs.Text.{text}
-use Rattle.dns_answer.specs.Answer.{Handled, Transfer, bare_reply, handled}
+use Rattle.dns_answer.specs.Answer.{Transfer, bare_reply, handled}
 use Rattle.dns_zone.specs.declared.index.ZoneIndex as index
 use Rattle.dns_store.specs.declared.zone_store.ZoneStore as store
 use Rattle.dns_sectors.specs.Device.{Content, LeavesOnly}
@@ -14,7 +13,7 @@ use Rattle.dns_store.specs.declared.checkpoint.CheckpointError.{CheckpointError}
 use Rattle.dns_store.specs.declared.checkpoint.CheckpointError.TheVariants as refused
 use Rattle.dns_held.specs.declared.behind.Behind.{Behind}
 use Rattle.dns_held.specs.Each.{Each3}
-use Rattle.dns_held.specs.Flush.{FailedWhere, HasFailed}
+use Rattle.dns_held.specs.Flush.{FailedWhere}
 use Rattle.dns_held.specs.Checkpoint.{OpensAsCheckpointed}
 use Rattle.dns_primary.specs.declared.event.Peer.{Peer}
 use Rattle.dns_primary.specs.declared.event.To.{To}
@@ -27,11 +26,10 @@ use Rattle.dns_primary.specs.declared.primary.Primary.{Primary}
 use Rattle.dns_primary.specs.declared.update.Outcome.{Outcome}
 use Rattle.dns_primary.specs.declared.update.Outcome.TheVariants as outcome
 use Rattle.dns_primary.specs.Machine.{ZoneState, Machine, kept_of, shown_zones}
-use Rattle.dns_primary.specs.Checkpoint.{either_fails}
 use Rattle.dns_primary.specs.Flush.{Sent, Replied, flushed, flush_sends, rcode_servfail}
 use Rattle.dns_primary.specs.Update.{Asked, replies, is_full, room_lacked}
 use Rattle.dns_primary.specs.Step as machine
-use Rattle.dns_primary.specs.Step.{AreFailures, IsBegun, IsServed, IsUpdated, failure, request_lacks}
+use Rattle.dns_primary.specs.Step.{AreFailures, IsBegun, IsServed, IsUpdated, failure, is_update, request_lacks}
 use Rattle.dns_primary.specs.Keeps.{IsKept, AreEffects}
 
 -- The event of the machine.
@@ -88,21 +86,6 @@ AtAnyMomentOf s moved m olds news =
     Each3 (λ a b k. LeavesOnly s.moment s.left_since a.store b.store (OpensAsEvent s.opens k.0 k.1)) olds news
     (with_rooms moved m.zones)
 
--- Devices failed in a flush, or behind it, where the primary kept what the flush had left, that of one zone in the move of its base.
-pub record HaveFailedInTurn {I S : Type 0} {i : index.Ghosts I} {s : store.Ghosts S} (m : Machine) (fails : List Bool)
-    (old new : Primary I S i s) : Type 0 where
-  pub place : ℕ
-  pub flushing : List Bool
-  pub moving : Bool
-  pub both : fails ≡ either_fails moving place flushing
-  pub between : Primary I S i s
-  pub kept : IsKept between (flushed flushing m)
-  pub failed : FailedWhere (λ b. s.failed b.store) flushing old.behind.items between.behind.items
-  pub moved : (a b : Behind I S) → moving ≡ true
-      → slice_get between.behind.items place ≡ Some a
-      → slice_get new.behind.items place ≡ Some b
-      → HasFailed (s.failed a.store) (s.failed b.store)
-
 -- A primary took a step that may move the base of this zone, leaving that room: of the devices these failed, each of which it is
 -- said; at each moment a crash left each device as that allows; the machine that it kept went on to the next one, which it keeps
 -- now, and the effects are told.
@@ -110,7 +93,7 @@ pub record SteppedOn {I S : Type 0} {i : index.Ghosts I} {s : store.Ghosts S} (m
     (old new : Primary I S i s) (effects : Effects)
     (step : List Bool → machine.Effects → Machine → Type 0) : Type 0 where
   pub fails : List Bool
-  pub failed : FailedWhere (λ b. s.failed b.store) fails old.behind.items new.behind.items ⊎ HaveFailedInTurn m fails old new
+  pub failed : FailedWhere (λ b. s.failed b.store) fails old.behind.items new.behind.items
   pub any_moment : AtAnyMomentOf s moved m old.behind.items new.behind.items
   pub next : Machine
   pub stated : machine.Effects
@@ -178,13 +161,13 @@ pub record LacksUpdate (fails : List Bool) (old : Machine) (a : Asked) (effects 
 abbrev pub IsUpdatedOrLacks : Machine → Asked → List Bool → machine.Effects → Machine → Type 0
 IsUpdatedOrLacks old a fails effects new = IsUpdated fails old a effects new ⊎ LacksUpdate fails old a effects new
 
--- Memory was refused to a request.
-pub record LacksRequest (fails : List Bool) (old : Machine) (to : To) (lacked : Option (ℕ × ℕ)) (octets : List ℕ)
+-- Memory was refused to a request, which is an update or none.
+pub record LacksRequest (fails : List Bool) (old : Machine) (to : To) (updates : Bool) (lacked : Option (ℕ × ℕ)) (octets : List ℕ)
     (effects : machine.Effects) (new : Machine) : Type 0 where
   pub noted : effects.noted ≡ OutOfMemory
   pub accepted : effects.accepted ≡ None
   pub stays : ((fails ≡ []) × (new ≡ old) × (effects.sent ≡ failure to octets))
-      ⊎ (((((header_of octets).opcode == opcode_update && is_full old || is_some lacked) ≡ true) × AreFailures true old fails
+      ⊎ ((((updates && is_full old || is_some lacked) ≡ true) × AreFailures true old fails
       × (new ≡ flushed fails old) × (effects.sent ≡ flush_sends fails old ++ failure to octets))
       ⊎ ((room : ℕ × ℕ) × (first : machine.Effects) × (lacked ≡ Some room)
       × IsBegun fails old (Some room) first new × (effects.sent ≡ first.sent ++ failure to octets)))
@@ -193,7 +176,8 @@ pub record LacksRequest (fails : List Bool) (old : Machine) (to : To) (lacked : 
 abbrev pub IsServedOrLacks : Machine → Peer → To → List ℕ → Transport → List Bool → machine.Effects → Machine → Type 0
 IsServedOrLacks old peer to octets transport fails effects new =
     IsServed fails old to peer (handled (shown_zones old) octets transport) effects new
-    ⊎ LacksRequest fails old to (request_lacks old to peer (handled (shown_zones old) octets transport)) octets effects new
+    ⊎ LacksRequest fails old to (is_update (handled (shown_zones old) octets transport))
+    (request_lacks old to peer (handled (shown_zones old) octets transport)) octets effects new
 
 -- Memory was refused to a request that changes nothing then.
 pub record LacksAlone (fails : List Bool) (old : Machine) (to : To) (header : Header) (effects : machine.Effects) (new : Machine)

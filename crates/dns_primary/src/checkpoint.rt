@@ -1,5 +1,5 @@
 //! Checkpoints: all zones are flushed, and then the base of one is moved, so that its journal has room again.
-ghost use Rattle.std.specs.Prelude.{◌≡◌, ◌<◌, ◌-◌, ℕ, [], Some, None, true, length};
+ghost use Rattle.std.specs.Prelude.{◌≡◌, ◌<◌, ◌≤◌, ◌-◌, ℕ, [], Some, None, true, length};
 ghost use Rattle.dns_zone.specs.Zone.{Zone as Stated};
 ghost use Rattle.dns_sectors.specs.Device.{LeavesOnly};
 ghost use Rattle.dns_store.specs.Versions.{Kept, OpensAsEither, StandsStill};
@@ -32,6 +32,7 @@ fn move_base<I: ZoneIndex, S: ZoneStore>(
         → LeavesOnly S.moment S.left_since behind.old.store behind.new.store (OpensAsEither S.opens k (length k.shown - n)) }
     ensures still { (k : Kept) → S.keeps behind.old.store k → k.closed ≡ true
         → StandsStill S.moment S.left_since behind.old.store behind.new.store }
+    ensures grows { S.failed behind.old.store ≤ S.failed behind.new.store }
     ensures failed { result ≡ Err CheckpointError.Device
         → HasFailed (S.failed behind.old.store) (S.failed behind.new.store) }
     ensures tip { behind.new.tip ≡ behind.old.tip }

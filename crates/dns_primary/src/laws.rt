@@ -18,8 +18,9 @@ ghost use Rattle.dns_primary.specs.declared.primary.ZoneSettings.{ZoneSettings a
 
 /// Whatever events come, whatever devices fail, whenever memory is refused, and however often the machine stops, within an event
 /// and within the recovery behind it: after recovery each zone is its loaded records after accepted updates, in order, each
-/// judged on what the one before it left (RFC 2136 section 3). They hold every update that was ever answered NOERROR, and every
-/// version that was ever shown.
+/// judged on what the one before it left (RFC 2136 section 3), with room for each, and each came in the run from an address that may
+/// update the zone. They hold every update that was ever answered NOERROR, and every version that was ever shown. And no store says
+/// that it was opened more often than it was.
 ///
 /// It says what follows for whole runs from the machine's single moments. That the code makes those moments is what the clauses of
 /// `step`, `open` and `into_devices` say; `stop_law` ties their words to the machine's stop.
@@ -32,10 +33,10 @@ pub fn versions_law()
 /// updates staged behind it, in order, and a base that it had or that the event was making.
 pub fn stop_law()
     ensures left { (m : Machine) (event : StatedEvent) (place : ℕ) (z : ZoneState) (c : List (List ℕ))
-        → OpensAsLeft opens (kept_of z) c → OpensAsRecovered opens (IsMaking m event place z) z c }
+        → OpensAsLeft opens (kept_of z) c → OpensAsRecovered opens 0 (IsMaking m event place z) z c }
     ensures moved { (m : Machine) (event : StatedEvent) (place room : ℕ) (z : ZoneState) (c : List (List ℕ))
         → Checkpoints m event place room → OpensAsCheckpointed opens z.setting.keep room (kept_of z) c
-        → OpensAsRecovered opens (IsMaking m event place z) z c }
+        → OpensAsRecovered opens 0 (IsMaking m event place z) z c }
 {}
 
 /// The reply to an update that was judged goes out at a later event than it was judged at, with the code of its judgement, or with

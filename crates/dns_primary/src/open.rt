@@ -1,5 +1,5 @@
 //! Primaries over devices: the store of each zone is opened, and at the end all devices are handed out again.
-ghost use Rattle.std.specs.Prelude.{◌≡◌, ◌≤◌, ◌+◌, ◌++◌, List, length, map, vec_capacity, IfErr, IfOk, MatchResult};
+ghost use Rattle.std.specs.Prelude.{◌≡◌, ◌≤◌, ◌+◌, ◌++◌, ℕ, suc, List, length, map, vec_capacity, IfErr, IfOk, MatchResult};
 ghost use Rattle.dns_primary.specs.Machine.{Machine};
 ghost use Rattle.dns_names.specs.Name.{Labels};
 ghost use Rattle.dns_primary.specs.declared.event.Effects.{Effects as StatedEffects};
@@ -163,19 +163,19 @@ impl<D: Sectors + Drop, I: ZoneIndex> Primary<I, KeptStore<D, I>> {
     ) -> Result<Primary<I, KeptStore<D, I>>, NotOpened<D>>
         requires as_many { length devices.items ≡ length settings.items }
         requires named { length apexes.now ≡ length settings.items }
-        // On the devices of a machine that stopped it is a machine that recovered from that stop; refused, the devices are such
-        // devices still.
-        ensures recovered { (m : Machine) (event : StatedEvent)
-            → AreRecoverable D.Sectors m event 0 m.zones apexes.now settings.entry.items devices.entry.items
-            → MatchResult result (λ p. (new : Machine) × IsStopped m event new × IsKept p new)
-            (λ e. AreRecoverable D.Sectors m event 0 m.zones apexes.now settings.entry.items e.devices.items
-            × IsRecoveryStopped D.Sectors e.error e.place devices.entry.items) }
+        // On the devices of a machine that stopped, with so many tries since, it is a machine that recovered from that stop; refused,
+        // the devices are such devices still, and this was one try more.
+        ensures recovered { (m : Machine) (event : StatedEvent) (tries : ℕ)
+            → AreRecoverable D.Sectors tries m event 0 m.zones apexes.now settings.entry.items devices.entry.items
+            → MatchResult result (λ p. (new : Machine) × IsStopped tries m event new × IsKept p new)
+            (λ e. AreRecoverable D.Sectors (suc tries) m event 0 m.zones apexes.now settings.entry.items e.devices.items
+            × IsRecoveryStopped tries e.error e.place m.zones) }
         // A crash at any moment of it leaves each device as one that a crash might have left before.
-        ensures any_moment { (m : Machine) (event : StatedEvent)
-            → AreRecoverable D.Sectors m event 0 m.zones apexes.now settings.entry.items devices.entry.items
-            → MatchResult result (λ p. LeaveRecovered D.Sectors m event 0 m.zones devices.entry.items
+        ensures any_moment { (m : Machine) (event : StatedEvent) (tries : ℕ)
+            → AreRecoverable D.Sectors tries m event 0 m.zones apexes.now settings.entry.items devices.entry.items
+            → MatchResult result (λ p. LeaveRecovered D.Sectors (suc tries) m event 0 m.zones devices.entry.items
             (map (λ b. device_behind b) p.behind.items))
-            (λ e. LeaveRecovered D.Sectors m event 0 m.zones devices.entry.items e.devices.items) }
+            (λ e. LeaveRecovered D.Sectors (suc tries) m event 0 m.zones devices.entry.items e.devices.items) }
         // Why it is refused, on any devices.
         ensures refused { IfErr result (λ e. AreRefused D.Sectors e.error e.place apexes.now settings.entry.items
             devices.entry.items e.devices.items) }
@@ -207,12 +207,12 @@ impl<D: Sectors + Drop, I: ZoneIndex> Primary<I, KeptStore<D, I>> {
         // Between two events: a machine that it keeps, which stops here.
         ensures at_rest { IfOk result (λ devices. (m : Machine) (event : StatedEvent) (apexes : List Labels)
             (settings : List StatedSettings) → IsKept self m → AreSetAs apexes settings m.zones
-            → AreRecoverable D.Sectors m event 0 m.zones apexes settings devices.items) }
+            → AreRecoverable D.Sectors 0 m event 0 m.zones apexes settings devices.items) }
         // Within the event that led here: the machine from which it came.
         ensures within { IfOk result (λ devices. (m : Machine) (event : StatedEvent) (before : _) (effects : StatedEffects)
             (apexes : List Labels) (settings : List StatedSettings)
             → SteppedBy m event before self effects → AreSetAs apexes settings m.zones
-            → AreRecoverable D.Sectors m event 0 m.zones apexes settings devices.items) }
+            → AreRecoverable D.Sectors 0 m event 0 m.zones apexes settings devices.items) }
     {
         let Ok(mut devices) = Vec::with_capacity(*self.places.allocator(), self.behind.len()) else {
             return Err(self);

@@ -1,5 +1,5 @@
 //! A record: owner, TTL and data, and its plain form.
-ghost use Rattle.std.specs.Prelude.{◌≡◌, ◌++◌, ◌↔◌, IsTrue, IfOk, OnOk};
+ghost use Rattle.std.specs.Prelude.{◌≡◌, ◌++◌, ◌↔◌, IsTrue, IfOk, OnErr, OnOk, length, take};
 ghost use Rattle.dns_records.specs.Compare.{same_record, same_record-per, same_record-equiv};
 ghost use Rattle.dns_records.specs.Record.{Record as Stated, plain, IsRecord, record_of, data_of, record_cmp};
 
@@ -125,9 +125,23 @@ impl Record {
         owners.then(types.then(parts.rdata.octets().cmp(others.rdata.octets())))
     }
 
-    /// Writes the plain form at the end.
+    /// Writes the plain form at the end. Where memory is refused, what was written before stays as it was, and nothing is added.
     pub fn to_wire_plain(&self, out: &mut Vec<u8, Heap>) -> Result<(), AllocError>
-        ensures { OnOk result (out.new.items ≡ out.old.items ++ plain self.now) }
+        ensures written { OnOk result (out.new.items ≡ out.old.items ++ plain self.now) }
+        ensures stays { OnErr result (out.new.items ≡ out.old.items) }
+    {
+        let before = out.len();
+        let written = self.append_plain(out);
+        if written.is_err() {
+            out.truncate(before);
+        }
+        written
+    }
+
+    // Writes the plain form at the end, as far as memory goes.
+    fn append_plain(&self, out: &mut Vec<u8, Heap>) -> Result<(), AllocError>
+        ensures written { OnOk result (out.new.items ≡ out.old.items ++ plain self.now) }
+        ensures front { OnErr result (take (length out.old.items) out.new.items ≡ out.old.items) }
     {
         let parts = self.parts.as_ref();
         let rdata = parts.rdata.octets();

@@ -1,10 +1,12 @@
 -- Devices behind a crash, and settings that are the same.
-use Rattle.std.proofs.Common.{◌≡◌, ◌<◌, ℕ, zero, suc, ◌↔◌, IsTrue, List, [], ◌∷◌, ◌++◌, length, take, drop, refl, sym, ap, subst, ◌∙◌, arith}
+use Rattle.std.proofs.Common.{◌≡◌, ◌<◌, ◌+◌, ℕ, zero, suc, ◌↔◌, IsTrue, List, [], ◌∷◌, ◌++◌, length, take, drop, refl, sym, ap, subst, ◌∙◌, arith}
 use Rattle.std.specs.Prelude.{slice_index_or}
 use Rattle.std.specs.declared.net.ip_addr.IpAddr.{IpAddr}
 use Rattle.dns_policy.specs.Prefix.{IsAllowed}
 use Rattle.dns_names.specs.Name.{Labels}
+use Rattle.dns_sectors.specs.Device.{Content}
 use Rattle.dns_sectors.specs.declared.device.Sectors.{Ghosts}
+use Rattle.dns_sectors.specs.declared.memory.Keep as told
 use Rattle.dns_store.specs.Opening.{IsInRange}
 use Rattle.dns_held.specs.Each.{Each2}
 use Rattle.dns_primary.specs.declared.primary.ZoneSettings.{ZoneSettings}
@@ -12,12 +14,14 @@ use Rattle.dns_primary.specs.Machine.{Machine, ZoneState}
 use Rattle.dns_primary.specs.Step.{Event}
 use Rattle.dns_primary.specs.Stop.{IsMaking}
 use Rattle.dns_primary.specs.Open.{AreRecoverable, IsRecoverable}
-use Rattle.dns_replay.specs.Runs.{AreSame, IsLeftBy}
+use Rattle.dns_script.specs.Keeps.{ZoneKeep}
+use Rattle.dns_replay.specs.Crashes.{AreLeftBy, IsLeftBy, keep_at}
+use Rattle.dns_replay.specs.Runs.{AreSame}
 
-module _ {D : Type 0} (g : Ghosts D) (m : Machine) (event : Event) where
-  pub crashed_recoverable : (place : ℕ) (zones : List ZoneState) (names : List Labels) (settings : List ZoneSettings) (olds news : List D) → AreRecoverable g m event place zones names settings olds → Each2 (IsLeftBy g) olds news → AreRecoverable g m event place zones names settings news
-  crashed_recoverable place [] [] [] [] [] is each = tt
-  crashed_recoverable place (z ∷ zones) (a ∷ names) (s ∷ settings) (d ∷ olds) (e ∷ news) is each = (
+module _ {D : Type 0} (g : Ghosts D) (tries : ℕ) (m : Machine) (event : Event) where
+  pub crashed_recoverable : (kept : D → told.Keep → Content) (keeps : List ZoneKeep) (at place : ℕ) (zones : List ZoneState) (names : List Labels) (settings : List ZoneSettings) (olds news : List D) → AreRecoverable g tries m event place zones names settings olds → AreLeftBy g kept keeps at olds news → AreRecoverable g tries m event place zones names settings news
+  crashed_recoverable kept keeps at place [] [] [] [] [] is each = tt
+  crashed_recoverable kept keeps at place (z ∷ zones) (a ∷ names) (s ∷ settings) (d ∷ olds) (e ∷ news) is each = (
     record {
       shape = is.0.shape;
       set = is.0.set;
@@ -25,13 +29,13 @@ module _ {D : Type 0} (g : Ghosts D) (m : Machine) (event : Event) where
       honest = each.0.honest is.0.honest;
       leaves = λ c left. is.0.leaves c (each.0.left c is.0.honest left);
     },
-    crashed_recoverable (suc place) zones names settings olds news is.1 each.1,
+    crashed_recoverable kept keeps (suc at) (suc place) zones names settings olds news is.1 each.1,
   )
-  crashed_recoverable place zones names settings [] (e ∷ news) is each = absurd each
-  crashed_recoverable place zones names settings (d ∷ olds) [] is each = absurd each
-  crashed_recoverable place _ _ _ olds news is each = absurd is
+  crashed_recoverable kept keeps at place zones names settings [] (e ∷ news) is each = absurd each
+  crashed_recoverable kept keeps at place zones names settings (d ∷ olds) [] is each = absurd each
+  crashed_recoverable kept keeps at place _ _ _ olds news is each = absurd is
 
-  same_recoverable : (making : ℕ → Type 0) (z : ZoneState) (a : Labels) (s t : ZoneSettings) (d : D) → AreSame s t → IsRecoverable g making z a s d → IsRecoverable g making z a t d
+  same_recoverable : (making : ℕ → Type 0) (z : ZoneState) (a : Labels) (s t : ZoneSettings) (d : D) → AreSame s t → IsRecoverable g tries making z a s d → IsRecoverable g tries making z a t d
   same_recoverable making z a s t d same is = record {
     shape = is.shape ∙ (λ i. record { apex = a; snapshot = sym same.snapshot i; journal = sym same.journal i });
     set = record {
@@ -44,7 +48,7 @@ module _ {D : Type 0} (g : Ghosts D) (m : Machine) (event : Event) where
     leaves = is.leaves;
   }
 
-  pub reset_recoverable : (place : ℕ) (zones : List ZoneState) (names : List Labels) (settings again : List ZoneSettings) (devices : List D) → Each2 AreSame settings again → AreRecoverable g m event place zones names settings devices → AreRecoverable g m event place zones names again devices
+  pub reset_recoverable : (place : ℕ) (zones : List ZoneState) (names : List Labels) (settings again : List ZoneSettings) (devices : List D) → Each2 AreSame settings again → AreRecoverable g tries m event place zones names settings devices → AreRecoverable g tries m event place zones names again devices
   reset_recoverable place [] [] [] [] [] each is = tt
   reset_recoverable place (z ∷ zones) (a ∷ names) (s ∷ settings) (t ∷ again) (d ∷ devices) each is =
       (same_recoverable (IsMaking m event place z) z a s t d each.0 is.0, reset_recoverable (suc place) zones names settings again devices each.1 is.1)
@@ -66,6 +70,16 @@ each_more R (x ∷ xs) zero d [] y small h r = (r, tt)
 each_more R (x ∷ xs) zero d (z ∷ ys) y small h r = absurd h
 each_more R (x ∷ xs) (suc i) d [] y small h r = absurd h
 each_more R (x ∷ xs) (suc i) d (z ∷ ys) y small h r = (h.0, each_more R xs i d ys y (omega (arith, small)) h.1 r)
+
+-- one more device
+pub left_more : {D : Type 0} (g : Ghosts D) (kept : D → told.Keep → Content) (keeps : List ZoneKeep) (at : ℕ) (olds : List D) (i : ℕ) (d : D) (news : List D) (e : D) → i < length olds → AreLeftBy g kept keeps at (take i olds) news → IsLeftBy g kept (keep_at keeps (at + i)) (slice_index_or olds i d) e → AreLeftBy g kept keeps at (take (suc i) olds) (news ++ e ∷ [])
+left_more g kept keeps at [] i d news e small h r = absurd (omega (arith, small))
+left_more g kept keeps at (x ∷ olds) zero d [] e small h r = (subst (λ n. IsLeftBy g kept (keep_at keeps n) x e) (omega arith) r, tt)
+left_more g kept keeps at (x ∷ olds) zero d (y ∷ news) e small h r = absurd h
+left_more g kept keeps at (x ∷ olds) (suc i) d [] e small h r = absurd h
+left_more g kept keeps at (x ∷ olds) (suc i) d (y ∷ news) e small h r =
+    let there : at + suc i ≡ suc at + i = omega arith in
+    (h.0, left_more g kept keeps (suc at) olds i d news e (omega (arith, small)) h.1 (subst (λ n. IsLeftBy g kept (keep_at keeps n) (slice_index_or olds i d) e) there r))
 
 pub first_dropped : {A : Type 0} (xs : List A) (i : ℕ) (d : A) → slice_index_or (drop i xs) 0 d ≡ slice_index_or xs i d
 first_dropped xs zero d = refl

@@ -1,9 +1,11 @@
 -- What commands lead to, over a primary and its devices.
-use Rattle.std.proofs.Common.{◌≡◌, inl, inr, ℕ, Option, Some, None, Result, Ok, Err, IfOk, MatchResult, List, [], ◌∷◌, length, refl, sym, subst}
+use Rattle.std.proofs.Common.{◌≡◌, inl, inr, ℕ, suc, Option, Some, None, Result, Ok, Err, IfOk, MatchResult, List, [], ◌∷◌, length, refl, sym, subst}
 use Rattle.std.specs.Prelude.{slice_get}
 use Rattle.std.specs.Io.KnownBytes.{Appends}
 use Rattle.dns_names.specs.Name.{Labels}
+use Rattle.dns_sectors.specs.Device.{Content}
 use Rattle.dns_sectors.specs.declared.device.Sectors.{Ghosts}
+use Rattle.dns_sectors.specs.declared.memory.Keep as told
 use Rattle.dns_zone.specs.declared.index.ZoneIndex as index
 use Rattle.dns_store.specs.declared.zone_store.ZoneStore as store
 use Rattle.dns_store.specs.declared.kept_store.KeptStore.{KeptStore}
@@ -23,9 +25,12 @@ use Rattle.dns_primary.specs.Runs.{Took, Stopped}
 use Rattle.dns_script.specs.Commands.{Command, Says}
 use Rattle.dns_replay.specs.declared.run.After.{After}
 use Rattle.dns_replay.specs.declared.run.After.TheVariants.{GoesOn, NoCommand, Refused}
-use Rattle.dns_replay.specs.Scripts.{Standing, Takes, Stands, machine_of, event_in, Said, Nothing, Happens, Plans, Led, EventLeads, Leads, PlanLeads, Recovers, idle, halted, said_by, printed_effects, printed_refusal, printed_stop, recovered_zones}
-use Rattle.dns_replay.specs.Runs.{AreSame, DoesBy, IsAt, IsLeftBy, IsRefused, LeadsOn, LineDoes, crash_by}
+use Rattle.dns_replay.specs.Scripts.{Standing, Takes, Stands, machine_of, event_in, tries_in, Said, Nothing, Happens, Plans, Led, EventLeads, Leads, PlanLeads, Recovers, idle, halted, said_by, printed_effects, printed_refusal, printed_stop, recovered_zones}
+use Rattle.dns_script.specs.Keeps.{ZoneKeep}
+use Rattle.dns_replay.specs.Crashes.{AreLeftBy, IsCrash}
+use Rattle.dns_replay.specs.Runs.{AreSame, DoesBy, IsAt, IsRefused, LeadsOn, LineDoes, crash_by}
 use Rattle.dns_replay.proofs.Crashed.{crashed_recoverable, reset_recoverable, same_back}
+use Rattle.dns_replay.proofs.Reopened.{opened_over}
 use Rattle.dns_replay.proofs.Printing.{nothing_more}
 
 module _ {D I : Type 0} {g : Ghosts D} {i : index.Ghosts I} {s : store.Ghosts (KeptStore D I g)} (names : List Labels) (settings : List ZoneSettings) where
@@ -35,7 +40,7 @@ module _ {D I : Type 0} {g : Ghosts D} {i : index.Ghosts I} {s : store.Ghosts (K
   still_halted event (Some p) q devices out out_after e f a from at set = absurd cc
   still_halted event None (Some q) devices out out_after e f a from at set = absurd cc
   still_halted event None None devices out out_after e f a (Takes m) at set = absurd at
-  still_halted event None None devices out out_after e f a (Stands m stopped) at set = (halted m stopped, refl, a, at)
+  still_halted event None None devices out out_after e f a (Stands m stopped tries) at set = (halted m stopped tries, refl, a, at)
 
   -- of the primary that stood there
   pub leads_from : (leads : Standing → Led → Type 0) (o : Option (Primary I (KeptStore D I g) i s)) (p : Primary I (KeptStore D I g) i s) (devices : List D) (q : Option (Primary I (KeptStore D I g) i s)) (rest : List D) (out out_after : Option (List ℕ)) → o ≡ Some p
@@ -46,22 +51,22 @@ module _ {D I : Type 0} {g : Ghosts D} {i : index.Ghosts I} {s : store.Ghosts (K
       → LeadsOn names settings PlanLeads p devices p devices out out_after
   plan_halted (Some p) devices out out_after e a from at set = absurd cc
   plan_halted None devices out out_after e a (Takes m) at set = absurd at
-  plan_halted None devices out out_after e a (Stands m stopped) at set = (halted m stopped, refl, a, at)
+  plan_halted None devices out out_after e a (Stands m stopped tries) at set = (halted m stopped tries, refl, a, at)
 
   pub planned : {p : Primary I (KeptStore D I g) i s} (o : Option (Primary I (KeptStore D I g) i s)) (devices : List D) (out : Option (List ℕ)) → o ≡ Some p
       → LeadsOn names settings PlanLeads o devices o devices out out
   planned None devices out e from at set = absurd cc
   planned (Some p) devices out e (Takes m) at set = (idle (Takes m), refl, nothing_more out, at)
-  planned (Some p) devices out e (Stands m stopped) at set = absurd at
+  planned (Some p) devices out e (Stands m stopped tries) at set = absurd at
 
   -- a stop fell in an event
   pub now_halted : (event : Event) (p q : Primary I (KeptStore D I g) i s) (effects : Code) (devices left : List D) (out out_after : Option (List ℕ))
       → ((m : Machine) → IsKept p m → SteppedBy m event p q effects)
-      → ((m : Machine) (event : Event) (before : Primary I (KeptStore D I g) i s) (effects : Code) (names : List Labels) (settings : List ZoneSettings) → SteppedBy m event before q effects → AreSetAs names settings m.zones → AreRecoverable g m event 0 m.zones names settings left)
+      → ((m : Machine) (event : Event) (before : Primary I (KeptStore D I g) i s) (effects : Code) (names : List Labels) (settings : List ZoneSettings) → SteppedBy m event before q effects → AreSetAs names settings m.zones → AreRecoverable g 0 m event 0 m.zones names settings left)
       → Appends out out_after printed_stop
       → LeadsOn names settings (λ from led. EventLeads names from event led) (Some p) devices None left out out_after
-  now_halted event p q effects devices left out out_after steps leaves a (Takes m) at set = (halted m event, inr refl, a, leaves m event p effects names settings (steps m at) set)
-  now_halted event p q effects devices left out out_after steps leaves a (Stands m stopped) at set = absurd at
+  now_halted event p q effects devices left out out_after steps leaves a (Takes m) at set = (halted m event 0, inr refl, a, leaves m event p effects names settings (steps m at) set)
+  now_halted event p q effects devices left out out_after steps leaves a (Stands m stopped tries) at set = absurd at
 
   -- an event happened
   pub happened : (event : Event) (p q : Primary I (KeptStore D I g) i s) (effects : Code) (devices left : List D) (out out_after : Option (List ℕ))
@@ -75,80 +80,86 @@ module _ {D I : Type 0} {g : Ghosts D} {i : index.Ghosts I} {s : store.Ghosts (K
         prints st.stated st.effects_are,
         st.kept,
       )
-  happened event p q effects devices left out out_after steps prints (Stands m stopped) at set = absurd at
+  happened event p q effects devices left out out_after steps prints (Stands m stopped tries) at set = absurd at
 
   -- stores that were opened, or refused
   pub opened_ok : (crashed : List D) (opened : Result (Primary I (KeptStore D I g) i s) (NotOpened D)) (q : Primary I (KeptStore D I g) i s) → opened ≡ Ok q
-      → ((m : Machine) (event : Event) → AreRecoverable g m event 0 m.zones names settings crashed → MatchResult opened (λ p. (new : Machine) × IsStopped m event new × IsKept p new) (λ e. AreRecoverable g m event 0 m.zones names settings e.devices.items))
-      → (m : Machine) (event : Event) → AreRecoverable g m event 0 m.zones names settings crashed → (new : Machine) × IsStopped m event new × IsKept q new
-  opened_ok crashed (Ok p) q e h m event r = (let is : p ≡ q = cc e in subst (λ (x : Primary I (KeptStore D I g) i s). (new : Machine) × IsStopped m event new × IsKept x new) is (h m event r))
-  opened_ok crashed (Err p) q e h m event r = absurd cc
+      → ((m : Machine) (event : Event) (tries : ℕ) → AreRecoverable g tries m event 0 m.zones names settings crashed → MatchResult opened (λ p. (new : Machine) × IsStopped tries m event new × IsKept p new) (λ e. AreRecoverable g (suc tries) m event 0 m.zones names settings e.devices.items))
+      → (m : Machine) (event : Event) (tries : ℕ) → AreRecoverable g tries m event 0 m.zones names settings crashed → (new : Machine) × IsStopped tries m event new × IsKept q new
+  opened_ok crashed (Ok p) q e h m event tries r = (let is : p ≡ q = cc e in subst (λ (x : Primary I (KeptStore D I g) i s). (new : Machine) × IsStopped tries m event new × IsKept x new) is (h m event tries r))
+  opened_ok crashed (Err p) q e h m event tries r = absurd cc
 
   pub opened_err : (crashed : List D) (opened : Result (Primary I (KeptStore D I g) i s) (NotOpened D)) (q : NotOpened D) → opened ≡ Err q
-      → ((m : Machine) (event : Event) → AreRecoverable g m event 0 m.zones names settings crashed → MatchResult opened (λ p. (new : Machine) × IsStopped m event new × IsKept p new) (λ e. AreRecoverable g m event 0 m.zones names settings e.devices.items))
-      → (m : Machine) (event : Event) → AreRecoverable g m event 0 m.zones names settings crashed → AreRecoverable g m event 0 m.zones names settings q.devices.items
-  opened_err crashed (Ok p) q e h m event r = absurd cc
-  opened_err crashed (Err p) q e h m event r = (let is : p ≡ q = cc e in subst (λ (x : NotOpened D). AreRecoverable g m event 0 m.zones names settings x.devices.items) is (h m event r))
+      → ((m : Machine) (event : Event) (tries : ℕ) → AreRecoverable g tries m event 0 m.zones names settings crashed → MatchResult opened (λ p. (new : Machine) × IsStopped tries m event new × IsKept p new) (λ e. AreRecoverable g (suc tries) m event 0 m.zones names settings e.devices.items))
+      → (m : Machine) (event : Event) (tries : ℕ) → AreRecoverable g tries m event 0 m.zones names settings crashed → AreRecoverable g (suc tries) m event 0 m.zones names settings q.devices.items
+  opened_err crashed (Ok p) q e h m event tries r = absurd cc
+  opened_err crashed (Err p) q e h m event tries r = (let is : p ≡ q = cc e in subst (λ (x : NotOpened D). AreRecoverable g (suc tries) m event 0 m.zones names settings x.devices.items) is (h m event tries r))
 
   -- ... with the same settings
-  pub opened_again : (m : Machine) (event : Event) (again : List ZoneSettings) (devices : List D) (r : Result (Primary I (KeptStore D I g) i s) (NotOpened D)) → Each2 AreSame settings again
-      → MatchResult r (λ p. (new : Machine) × IsStopped m event new × IsKept p new) (λ e. AreRecoverable g m event 0 m.zones names again e.devices.items × IsRecoveryStopped g e.error e.place devices)
-      → MatchResult r (λ p. (new : Machine) × IsStopped m event new × IsKept p new) (λ e. AreRecoverable g m event 0 m.zones names settings e.devices.items)
-  opened_again m event again devices (Ok p) same h = h
-  opened_again m event again devices (Err e) same h = reset_recoverable g m event 0 m.zones names again settings e.devices.items (same_back settings again same) h.0
+  pub opened_again : (m : Machine) (event : Event) (tries : ℕ) (again : List ZoneSettings) (devices : List D) (r : Result (Primary I (KeptStore D I g) i s) (NotOpened D)) → Each2 AreSame settings again
+      → MatchResult r (λ p. (new : Machine) × IsStopped tries m event new × IsKept p new) (λ e. AreRecoverable g (suc tries) m event 0 m.zones names again e.devices.items × IsRecoveryStopped tries e.error e.place m.zones)
+      → MatchResult r (λ p. (new : Machine) × IsStopped tries m event new × IsKept p new) (λ e. AreRecoverable g (suc tries) m event 0 m.zones names settings e.devices.items)
+  opened_again m event tries again devices (Ok p) same h = h
+  opened_again m event tries again devices (Err e) same h = reset_recoverable g (suc tries) m event 0 m.zones names again settings e.devices.items (same_back settings again same) h.0
 
+-- what is said leads on
+module _ {D I : Type 0} {g : Ghosts D} {i : index.Ghosts I} {s : store.Ghosts (KeptStore D I g)} (kept : D → told.Keep → Content) (names : List Labels) (settings : List ZoneSettings) where
   -- a crash, and all stores were opened
-  pub recovers : (stop : Option ℕ) (o : Option (Primary I (KeptStore D I g) i s)) (q : Primary I (KeptStore D I g) i s) (devices left crashed rest : List D) (out out_after : Option (List ℕ))
-      → ((names : List Labels) (settings : List ZoneSettings) (from : Standing) → IsAt names settings o devices from → AreSetAs names settings (machine_of from).zones → AreRecoverable g (machine_of from) (event_in from) 0 (machine_of from).zones names settings left)
-      → Each2 (IsLeftBy g) left crashed
-      → ((m : Machine) (event : Event) → AreRecoverable g m event 0 m.zones names settings crashed → (new : Machine) × IsStopped m event new × IsKept q new)
+  pub recovers : (stays : (device : D) → g.is_honest device → g.may_leave device (g.seen device)) (keeps : List ZoneKeep) (stop : Option ℕ) (o : Option (Primary I (KeptStore D I g) i s)) (q : Primary I (KeptStore D I g) i s) (devices left crashed rest : List D) (out out_after : Option (List ℕ))
+      → ((names : List Labels) (settings : List ZoneSettings) (from : Standing) → IsAt names settings o devices from → AreSetAs names settings (machine_of from).zones → AreRecoverable g (tries_in from) (machine_of from) (event_in from) 0 (machine_of from).zones names settings left)
+      → AreLeftBy g kept keeps 0 left crashed
+      → ((m : Machine) (event : Event) (tries : ℕ) → AreRecoverable g tries m event 0 m.zones names settings crashed → (new : Machine) × IsStopped tries m event new × IsKept q new)
       → ((m : Machine) → IsKept q m → Appends out out_after (recovered_zones names m.zones (length names)))
-      → DoesBy names settings (crash_by stop) o devices (Some q) rest out out_after GoesOn
-  recovers stop o q devices left crashed rest out out_after takes each opens prints from at set =
+      → DoesBy kept names settings (crash_by keeps stop) o devices (Some q) rest out out_after GoesOn
+  recovers stays keeps stop o q devices left crashed rest out out_after takes each opens prints from at set =
       let m = machine_of from in
       let event = event_in from in
-      let new = opens m event (crashed_recoverable g m event 0 m.zones names settings left crashed (takes names settings from at set) each) in
-      let led : Led = record { moments = Stopped event [] new.0 ∷ []; text = recovered_zones names new.0.zones (length names); standing = Takes new.0 } in
-      (led, does stop (new.0, new.1, refl), prints new.0 new.2, new.2)
+      let tries = tries_in from in
+      let stood = takes names settings from at set in
+      let new = opened_over g stays tries m event (λ (x : Machine). IsKept q x) kept keeps names settings left crashed stood each opens in
+      let led : Led = record { moments = Stopped event tries new.0 ∷ []; text = recovered_zones names new.0.zones (length names); standing = Takes new.0 } in
+      (led, does stop (new.0, new.1, (crashed, record { before = left; stood = stood; left = each }, new.3), refl), prints new.0 new.2, new.2)
     where
-      does : (stop : Option ℕ) {led : Led} → Recovers names from led → Leads names from (crash_by stop) led
+      does : (stop : Option ℕ) {led : Led} → Recovers names (IsCrash g kept names settings) from keeps led → Leads names (IsCrash g kept names settings) from (crash_by keeps stop) led
       does None h = h
       does (Some n) h = inl h
 
   -- a store was refused behind a crash
-  pub refused : (stop : Option ℕ) (after : After) (o : Option (Primary I (KeptStore D I g) i s)) (devices left crashed back rest : List D) (out out_after : Option (List ℕ))
-      → ((names : List Labels) (settings : List ZoneSettings) (from : Standing) → IsAt names settings o devices from → AreSetAs names settings (machine_of from).zones → AreRecoverable g (machine_of from) (event_in from) 0 (machine_of from).zones names settings left)
-      → Each2 (IsLeftBy g) left crashed
-      → ((m : Machine) (event : Event) → AreRecoverable g m event 0 m.zones names settings crashed → AreRecoverable g m event 0 m.zones names settings back)
-      → IsRefused names (crash_by stop) back rest out out_after after
-      → DoesBy names settings (crash_by stop) o devices None rest out out_after after
-  refused None GoesOn o devices left crashed back rest out out_after takes each opens h = λ from at set. absurd (let e = h.0 in cc e)
-  refused (Some n) GoesOn o devices left crashed back rest out out_after takes each opens h = λ from at set.
+  pub refused : (keeps : List ZoneKeep) (stop : Option ℕ) (after : After) (o : Option (Primary I (KeptStore D I g) i s)) (devices left crashed back rest : List D) (out out_after : Option (List ℕ))
+      → ((names : List Labels) (settings : List ZoneSettings) (from : Standing) → IsAt names settings o devices from → AreSetAs names settings (machine_of from).zones → AreRecoverable g (tries_in from) (machine_of from) (event_in from) 0 (machine_of from).zones names settings left)
+      → AreLeftBy g kept keeps 0 left crashed
+      → ((m : Machine) (event : Event) (tries : ℕ) → AreRecoverable g tries m event 0 m.zones names settings crashed → AreRecoverable g (suc tries) m event 0 m.zones names settings back)
+      → IsRefused names stop back rest out out_after after
+      → DoesBy kept names settings (crash_by keeps stop) o devices None rest out out_after after
+  refused keeps None GoesOn o devices left crashed back rest out out_after takes each opens h = λ from at set. absurd (let e = h.0 in cc e)
+  refused keeps (Some n) GoesOn o devices left crashed back rest out out_after takes each opens h = λ from at set.
       let m = machine_of from in
       let event = event_in from in
-      let are = opens m event (crashed_recoverable g m event 0 m.zones names settings left crashed (takes names settings from at set) each) in
-      (halted m event, inr refl, h.2, subst (λ (l : List D). AreRecoverable g m event 0 m.zones names settings l) (sym h.1) are)
-  refused None Refused o devices left crashed back rest out out_after takes each opens h = (tt, h)
-  refused (Some n) Refused o devices left crashed back rest out out_after takes each opens h = (tt, h)
-  refused stop NoCommand o devices left crashed back rest out out_after takes each opens h = absurd h
+      let tries = tries_in from in
+      let stood = takes names settings from at set in
+      let are = opens m event tries (crashed_recoverable g tries m event kept keeps 0 0 m.zones names settings left crashed stood each) in
+      (halted m event (suc tries), inr ((crashed, record { before = left; stood = stood; left = each }), refl), h.2, subst (λ (l : List D). AreRecoverable g (suc tries) m event 0 m.zones names settings l) (sym h.1) are)
+  refused keeps None Refused o devices left crashed back rest out out_after takes each opens h = (tt, h)
+  refused keeps (Some n) Refused o devices left crashed back rest out out_after takes each opens h = (tt, h)
+  refused keeps stop NoCommand o devices left crashed back rest out out_after takes each opens h = absurd h
 
-  pub refused_in : {E : Type 0} (stop : Option ℕ) (r : Result After E) (o q : Option (Primary I (KeptStore D I g) i s)) (devices left crashed back rest : List D) (out out_after : Option (List ℕ)) → q ≡ None
-      → ((names : List Labels) (settings : List ZoneSettings) (from : Standing) → IsAt names settings o devices from → AreSetAs names settings (machine_of from).zones → AreRecoverable g (machine_of from) (event_in from) 0 (machine_of from).zones names settings left)
-      → Each2 (IsLeftBy g) left crashed
-      → ((m : Machine) (event : Event) → AreRecoverable g m event 0 m.zones names settings crashed → AreRecoverable g m event 0 m.zones names settings back)
-      → IfOk r (IsRefused names (crash_by stop) back rest out out_after)
-      → IfOk r (DoesBy names settings (crash_by stop) o devices q rest out out_after)
-  refused_in stop (Err e) o q devices left crashed back rest out out_after none takes each opens h = tt
-  refused_in stop (Ok after) o q devices left crashed back rest out out_after none takes each opens h =
-      subst (λ (x : Option (Primary I (KeptStore D I g) i s)). DoesBy names settings (crash_by stop) o devices x rest out out_after after) (sym none) (refused stop after o devices left crashed back rest out out_after takes each opens h)
+  pub refused_in : {E : Type 0} (keeps : List ZoneKeep) (stop : Option ℕ) (r : Result After E) (o q : Option (Primary I (KeptStore D I g) i s)) (devices left crashed back rest : List D) (out out_after : Option (List ℕ)) → q ≡ None
+      → ((names : List Labels) (settings : List ZoneSettings) (from : Standing) → IsAt names settings o devices from → AreSetAs names settings (machine_of from).zones → AreRecoverable g (tries_in from) (machine_of from) (event_in from) 0 (machine_of from).zones names settings left)
+      → AreLeftBy g kept keeps 0 left crashed
+      → ((m : Machine) (event : Event) (tries : ℕ) → AreRecoverable g tries m event 0 m.zones names settings crashed → AreRecoverable g (suc tries) m event 0 m.zones names settings back)
+      → IfOk r (IsRefused names stop back rest out out_after)
+      → IfOk r (DoesBy kept names settings (crash_by keeps stop) o devices q rest out out_after)
+  refused_in keeps stop (Err e) o q devices left crashed back rest out out_after none takes each opens h = tt
+  refused_in keeps stop (Ok after) o q devices left crashed back rest out out_after none takes each opens h =
+      subst (λ (x : Option (Primary I (KeptStore D I g) i s)). DoesBy kept names settings (crash_by keeps stop) o devices x rest out out_after after) (sym none) (refused keeps stop after o devices left crashed back rest out out_after takes each opens h)
 
   -- all commands
-  pub does_nothing : (p : Option (Primary I (KeptStore D I g) i s)) (devices : List D) (out : Option (List ℕ)) → LeadsOn names settings (λ from led. Leads names from Nothing led) p devices p devices out out
+  pub does_nothing : (p : Option (Primary I (KeptStore D I g) i s)) (devices : List D) (out : Option (List ℕ)) → LeadsOn names settings (λ from led. Leads names (IsCrash g kept names settings) from Nothing led) p devices p devices out out
   does_nothing p devices out from at set = (idle from, refl, nothing_more out, at)
 
   pub does_event : {E : Type 0} (event : Event) (r : Result After E) (p q : Option (Primary I (KeptStore D I g) i s)) (devices left : List D) (out out_after : Option (List ℕ))
       → IfOk r (λ after. (after ≡ GoesOn) × LeadsOn names settings (λ from led. EventLeads names from event led) p devices q left out out_after)
-      → IfOk r (DoesBy names settings (Happens event) p devices q left out out_after)
+      → IfOk r (DoesBy kept names settings (Happens event) p devices q left out out_after)
   does_event event (Err e) p q devices left out out_after h = tt
   does_event event (Ok GoesOn) p q devices left out out_after h = h.1
   does_event event (Ok NoCommand) p q devices left out out_after h = absurd (let e = h.0 in cc e)
@@ -156,12 +167,12 @@ module _ {D I : Type 0} {g : Ghosts D} {i : index.Ghosts I} {s : store.Ghosts (K
 
   pub does_said : {E : Type 0} (said : Said) (event : Event) (r : Result After E) (p q : Option (Primary I (KeptStore D I g) i s)) (devices left : List D) (out out_after : Option (List ℕ)) → said ≡ Happens event
       → IfOk r (λ after. (after ≡ GoesOn) × LeadsOn names settings (λ from led. EventLeads names from event led) p devices q left out out_after)
-      → IfOk r (DoesBy names settings said p devices q left out out_after)
-  does_said said event r p q devices left out out_after e h = subst (λ (x : Said). IfOk r (DoesBy names settings x p devices q left out out_after)) (sym e) (does_event event r p q devices left out out_after h)
+      → IfOk r (DoesBy kept names settings said p devices q left out out_after)
+  does_said said event r p q devices left out out_after e h = subst (λ (x : Said). IfOk r (DoesBy kept names settings x p devices q left out out_after)) (sym e) (does_event event r p q devices left out out_after h)
 
   pub does_plan : {E : Type 0} (r : Result After E) (p : Option (Primary I (KeptStore D I g) i s)) (devices : List D) (out out_after : Option (List ℕ))
       → IfOk r (λ after. (after ≡ GoesOn) × LeadsOn names settings PlanLeads p devices p devices out out_after)
-      → IfOk r (DoesBy names settings Plans p devices p devices out out_after)
+      → IfOk r (DoesBy kept names settings Plans p devices p devices out out_after)
   does_plan (Err e) p devices out out_after h = tt
   does_plan (Ok GoesOn) p devices out out_after h = h.1
   does_plan (Ok NoCommand) p devices out out_after h = absurd (let e = h.0 in cc e)
@@ -169,8 +180,8 @@ module _ {D I : Type 0} {g : Ghosts D} {i : index.Ghosts I} {s : store.Ghosts (K
 
   -- the line that says it
   pub line_does : {E : Type 0} (line : List ℕ) (command : Command) (r : Result After E) (p q : Option (Primary I (KeptStore D I g) i s)) (devices left : List D) (out out_after : Option (List ℕ)) → Says names line command
-      → IfOk r (DoesBy names settings (said_by command) p devices q left out out_after)
-      → IfOk r (LineDoes names settings line p devices q left out out_after)
+      → IfOk r (DoesBy kept names settings (said_by command) p devices q left out out_after)
+      → IfOk r (LineDoes kept names settings line p devices q left out out_after)
   line_does line command (Err e) p q devices left out out_after says h = tt
   line_does line command (Ok GoesOn) p q devices left out out_after says h = λ from at set.
       let does = h from at set in
@@ -182,14 +193,14 @@ module _ {D I : Type 0} {g : Ghosts D} {i : index.Ghosts I} {s : store.Ghosts (K
 -- the devices of a primary that stood there, or those that were left
 module _ {D I : Type 0} {g : Ghosts D} {i : index.Ghosts I} {s : store.Ghosts (KeptStore D I g)} where
   pub taken_running : (o : Option (Primary I (KeptStore D I g) i s)) (p : Primary I (KeptStore D I g) i s) (devices left : List D) → o ≡ Some p
-      → ((m : Machine) (event : Event) (names : List Labels) (settings : List ZoneSettings) → IsKept p m → AreSetAs names settings m.zones → AreRecoverable g m event 0 m.zones names settings left)
-      → (names : List Labels) (settings : List ZoneSettings) (from : Standing) → IsAt names settings o devices from → AreSetAs names settings (machine_of from).zones → AreRecoverable g (machine_of from) (event_in from) 0 (machine_of from).zones names settings left
+      → ((m : Machine) (event : Event) (names : List Labels) (settings : List ZoneSettings) → IsKept p m → AreSetAs names settings m.zones → AreRecoverable g 0 m event 0 m.zones names settings left)
+      → (names : List Labels) (settings : List ZoneSettings) (from : Standing) → IsAt names settings o devices from → AreSetAs names settings (machine_of from).zones → AreRecoverable g (tries_in from) (machine_of from) (event_in from) 0 (machine_of from).zones names settings left
   taken_running None p devices left e h names settings from at set = absurd cc
   taken_running (Some r) p devices left e h names settings (Takes m) at set = (let is : r ≡ p = cc e in h m Flush names settings (subst (λ (x : Primary I (KeptStore D I g) i s). IsKept x m) is at) set)
-  taken_running (Some r) p devices left e h names settings (Stands m event) at set = absurd at
+  taken_running (Some r) p devices left e h names settings (Stands m event tries) at set = absurd at
 
   pub taken_left : (o : Option (Primary I (KeptStore D I g) i s)) (devices left : List D) → o ≡ None → left ≡ devices
-      → (names : List Labels) (settings : List ZoneSettings) (from : Standing) → IsAt names settings o devices from → AreSetAs names settings (machine_of from).zones → AreRecoverable g (machine_of from) (event_in from) 0 (machine_of from).zones names settings left
+      → (names : List Labels) (settings : List ZoneSettings) (from : Standing) → IsAt names settings o devices from → AreSetAs names settings (machine_of from).zones → AreRecoverable g (tries_in from) (machine_of from) (event_in from) 0 (machine_of from).zones names settings left
   taken_left (Some r) devices left e same names settings from at set = absurd cc
   taken_left None devices left e same names settings (Takes m) at set = absurd at
-  taken_left None devices left e same names settings (Stands m event) at set = subst (λ (l : List D). AreRecoverable g m event 0 m.zones names settings l) (sym same) at
+  taken_left None devices left e same names settings (Stands m event tries) at set = subst (λ (l : List D). AreRecoverable g tries m event 0 m.zones names settings l) (sym same) at

@@ -27,8 +27,13 @@ use Rattle.dns_primary.specs.Keeps.{IsKept}
 use Rattle.dns_primary.specs.Runs.{Run}
 use Rattle.dns_replay.specs.declared.run.Ending.{Ending}
 use Rattle.dns_replay.specs.Scripts.{Led, Runs, Takes}
+use Rattle.dns_replay.specs.Crashes.{IsCrash}
 use Rattle.dns_replay.specs.Runs.{AreSame, RanScript, RunsFrom}
+use Rattle.dns_primary.proofs.Begun.{fresh_machine}
+use Rattle.dns_sectors.specs.Device.{Content}
+use Rattle.dns_sectors.specs.declared.memory.Keep as told
 use Rattle.dns_replay.proofs.Crashed.{reset_recoverable}
+use Rattle.dns_replay.proofs.Reopened.{none_kept, none_moved}
 
 -- sizes that are not refused
 pub in_range : (snapshot journal count : ℕ) → ((IsGeometry snapshot journal count → ⊥) → ⊥) → IsInRange snapshot journal
@@ -41,16 +46,24 @@ in_range snapshot journal count h = record {
     within {n} true e f = grind (arith, nat_tests, e)
     within {n} false e f = absurd (f (λ is. grind (arith, nat_tests, e, is)))
 
+-- the zone before its store was opened
+abbrev pub unopened : ZoneState → ZoneState
+unopened z = record z { openings = 0 }
+
+abbrev pub all_unopened : List ZoneState → List ZoneState
+all_unopened [] = []
+all_unopened (z ∷ zones) = unopened z ∷ all_unopened zones
+
 module _ {D : Type 0} (g : Ghosts D) (m : Machine) where
-  made_recoverable : (making : ℕ → Type 0) (y : Zone) (s : ZoneSettings) (z : ZoneState) (d : D) → IsMade g y s d → IsLoaded y s z → IsRecoverable g making z y.apex s d
+  made_recoverable : (making : ℕ → Type 0) (y : Zone) (s : ZoneSettings) (z : ZoneState) (d : D) → IsMade g y s d → IsLoaded y s z → IsRecoverable g 0 making (unopened z) y.apex s d
   made_recoverable making y s z d made is = record {
     shape = is.shape;
-    set = is.set;
+    set = record { keep = is.set.keep; update = is.set.update; transfer = is.set.transfer };
     range = made.range;
     honest = made.honest;
     leaves = λ c left.
-        let opened : first_of y.records ≡ opened_of z = λ i. record { loaded = sym is.loaded i; versions = versions_of (sym is.shown i); base = sym is.base i } in
-        let recovered : IsRecovered making z z = record {
+        let opened : first_of y.records ≡ opened_of (unopened z) = λ i. record { loaded = sym is.loaded i; versions = versions_of (sym is.shown i); base = sym is.base i; openings = 0 } in
+        let recovered : IsRecovered 0 0 making (unopened z) (unopened z) = record {
           setting = refl;
           loaded = refl;
           kept = [];
@@ -62,24 +75,26 @@ module _ {D : Type 0} (g : Ghosts D) (m : Machine) where
           so_far = omega (arith, is.base);
           second = is.second;
           opened = is.opened;
+          at_least = omega arith;
+          at_most = omega arith;
         } in
-        (z, recovered, subst (λ (x : Shape). opens x (opened_of z) c) (sym is.shape) (subst (λ (o : Opened). opens (shape_of y.apex s) o c) opened (made.leaves c left)));
+        (unopened z, recovered, subst (λ (x : Shape). opens x (opened_of (unopened z)) c) (sym is.shape) (subst (λ (o : Opened). opens (shape_of y.apex s) o c) opened (made.leaves c left)));
   }
 
-  pub all_recoverable : (event : Event) (place : ℕ) (zones : List Zone) (settings : List ZoneSettings) (states : List ZoneState) (devices : List D) → Each3 (IsMade g) zones settings devices → Each3 IsLoaded zones settings states → AreRecoverable g m event place states (map (λ z. z.apex) zones) settings devices
+  pub all_recoverable : (event : Event) (place : ℕ) (zones : List Zone) (settings : List ZoneSettings) (states : List ZoneState) (devices : List D) → Each3 (IsMade g) zones settings devices → Each3 IsLoaded zones settings states → AreRecoverable g 0 m event place (all_unopened states) (map (λ z. z.apex) zones) settings devices
   all_recoverable event place [] [] [] [] made each = tt
   all_recoverable event place (y ∷ zones) (s ∷ settings) (z ∷ states) (d ∷ devices) made each =
-      (made_recoverable (IsMaking m event place z) y s z d made.0 each.0, all_recoverable event (suc place) zones settings states devices made.1 each.1)
+      (made_recoverable (IsMaking m event place (unopened z)) y s z d made.0 each.0, all_recoverable event (suc place) zones settings states devices made.1 each.1)
   all_recoverable event place zones settings [] (d ∷ devices) made each = none zones settings each made
     where
-      none : (zones : List Zone) (settings : List ZoneSettings) → Each3 IsLoaded zones settings [] → Each3 (IsMade g) zones settings (d ∷ devices) → AreRecoverable g m event place [] (map (λ z. z.apex) zones) settings (d ∷ devices)
+      none : (zones : List Zone) (settings : List ZoneSettings) → Each3 IsLoaded zones settings [] → Each3 (IsMade g) zones settings (d ∷ devices) → AreRecoverable g 0 m event place [] (map (λ z. z.apex) zones) settings (d ∷ devices)
       none [] [] each made = absurd made
       none [] (s ∷ settings) each made = absurd each
       none (y ∷ zones) [] each made = absurd each
       none (y ∷ zones) (s ∷ settings) each made = absurd each
   all_recoverable event place zones settings (z ∷ states) [] made each = none zones settings each made
     where
-      none : (zones : List Zone) (settings : List ZoneSettings) → Each3 IsLoaded zones settings (z ∷ states) → Each3 (IsMade g) zones settings [] → AreRecoverable g m event place (z ∷ states) (map (λ z. z.apex) zones) settings []
+      none : (zones : List Zone) (settings : List ZoneSettings) → Each3 IsLoaded zones settings (z ∷ states) → Each3 (IsMade g) zones settings [] → AreRecoverable g 0 m event place (all_unopened (z ∷ states)) (map (λ z. z.apex) zones) settings []
       none [] [] each made = absurd each
       none [] (s ∷ settings) each made = absurd each
       none (y ∷ zones) [] each made = absurd each
@@ -100,17 +115,13 @@ all_set g [] [] [] (d ∷ devices) made each = absurd made
 all_set g (y ∷ zones) (s ∷ settings) (z ∷ states) [] made each = absurd made
 
 -- a machine to which nothing has happened, behind a stop before its first event
-none_kept : (kept lost : List Made) → [] ≡ kept ++ lost → kept ≡ []
-none_kept [] lost e = refl
-none_kept (x ∷ kept) lost e = absurd cc
-
-none_moved : (moved : ℕ × ℕ) → None ≡ Some moved → ⊥
-none_moved moved e = cc
-
-same_zone : (m : Machine) (place : ℕ) (y : Zone) (s : ZoneSettings) (z w : ZoneState) → IsLoaded y s z → IsRecovered (IsMaking m Flush place z) z w → w ≡ z
+same_zone : (m : Machine) (place : ℕ) (y : Zone) (s : ZoneSettings) (z w : ZoneState) → IsLoaded y s z → IsRecovered 1 1 (IsMaking m Flush place (unopened z)) (unopened z) w → w ≡ z
 same_zone m place y s z w is r =
     let kept = none_kept r.kept r.lost (sym is.staged ∙ r.front) in
     let shown : w.shown ≡ z.shown = r.shown ∙ ap (λ (l : List Made). z.shown ++ l) kept ∙ append-nil z.shown in
+    let least = r.at_least in
+    let most = r.at_most in
+    let once : w.openings ≡ z.openings = (let is_one = is.openings in omega (arith, least, most, is_one)) in
     let base : w.base ≡ z.base = elim (r.base) [
       | inl e ↦ e
       | inr h ↦ elim h [
@@ -125,37 +136,50 @@ same_zone m place y s z w is r =
       staged = (r.staged ∙ sym is.staged) i;
       base = base i;
       second = (r.second ∙ sym is.second) i;
+      openings = once i;
       closed = (r.opened ∙ sym is.opened) i;
     }
 
-same_zones : (m : Machine) (place : ℕ) (zones : List Zone) (settings : List ZoneSettings) (olds news : List ZoneState) → Each3 IsLoaded zones settings olds → AreRecovered m Flush place olds news → news ≡ olds
+same_zones : (m : Machine) (place : ℕ) (zones : List Zone) (settings : List ZoneSettings) (olds news : List ZoneState) → Each3 IsLoaded zones settings olds → AreRecovered 1 1 m Flush place (all_unopened olds) news → news ≡ olds
 same_zones m place [] [] [] [] each r = refl
 same_zones m place (y ∷ zones) (s ∷ settings) (z ∷ olds) (w ∷ news) each r = (let one = same_zone m place y s z w each.0 r.0 in let rest = same_zones m (suc place) zones settings olds news each.1 r.1 in λ i. one i ∷ rest i)
 same_zones m place zones settings [] (w ∷ news) each r = absurd r
 same_zones m place zones settings (z ∷ olds) [] each r = absurd r
 same_zones m place _ _ _ _ each r = absurd each
 
-pub same_machine : (zones : List Zone) (settings : List ZoneSettings) (start new : Machine) → IsFresh zones settings start → IsStopped start Flush new → new ≡ start
+-- the machine before its stores were opened
+abbrev pub before_opening : Machine → Machine
+before_opening m = record m { zones = all_unopened m.zones }
+
+pub same_machine : (zones : List Zone) (settings : List ZoneSettings) (start new : Machine) → IsFresh zones settings start → IsStopped 0 (before_opening start) Flush new → new ≡ start
 same_machine zones settings start new fresh stopped =
-    let states = same_zones start 0 zones settings start.zones new.zones fresh.zones_are stopped.zones in
+    let states = same_zones (before_opening start) 0 zones settings start.zones new.zones fresh.zones_are stopped.zones in
     λ i. record {
       zones = states i;
       waiting = (stopped.waiting ∙ sym fresh.waiting) i;
       connections = (stopped.connections ∙ sym fresh.connections) i;
     }
 
+pub each3_same : {A B C : Type 0} (R : A → B → C → Type 0) (xs : List A) (ys : List B) (zs : List C) → Each3 R xs ys zs → length xs ≡ length ys
+each3_same R [] [] [] h = refl
+each3_same R (x ∷ xs) (y ∷ ys) (z ∷ zs) h = ap suc (each3_same R xs ys zs h.1)
+each3_same R _ _ _ h = absurd h
+
 -- what a script does over a primary that was opened for the devices that were made
-pub runs_from : {D I : Type 0} {g : Ghosts D} {i : index.Ghosts I} {s : store.Ghosts (KeptStore D I g)} (zones : List Zone) (settings again : List ZoneSettings) (names : List Labels) (devices : List D) (p : Primary I (KeptStore D I g) i s) (lines : List (List ℕ)) (ending : Ending) (out out_after : Option (List ℕ)) → names ≡ map (λ (z : Zone). z.apex) zones → Each2 AreSame settings again → Each3 (IsMade g) zones settings devices
-    → ((m : Machine) (event : Event) → AreRecoverable g m event 0 m.zones names again devices → (new : Machine) × IsStopped m event new × IsKept p new)
-    → RanScript names settings lines ending p out out_after → RunsFrom zones settings lines ending out out_after
-runs_from {g = g} zones settings again names devices p lines ending out out_after e same made opens ran start fresh =
-    let made_so = all_recoverable g start Flush 0 zones settings start.zones devices made fresh.zones_are in
-    let named = subst (λ (ns : List Labels). AreRecoverable g start Flush 0 start.zones ns settings devices) (sym e) made_so in
-    let opened = opens start Flush (reset_recoverable g start Flush 0 start.zones names settings again devices same named) in
-    let is : opened.0 ≡ start = same_machine zones settings start opened.0 fresh opened.1 in
-    let set = subst (λ (ns : List Labels). AreSetAs ns settings start.zones) (sym e) (all_set g zones settings start.zones devices made fresh.zones_are) in
-    let done = ran start (record { zones = zones; loaded = settings; first = start; fresh = fresh; set = set; before = []; run = tt; last = refl }) (subst (λ (m : Machine). IsKept p m) is opened.2) in
-    subst (λ (ns : List Labels). (led : Led) × Runs ns (Takes start) 1 lines led ending × Run start led.moments × Appends out out_after led.text) e done
+pub runs_from : {D I : Type 0} {g : Ghosts D} {i : index.Ghosts I} {s : store.Ghosts (KeptStore D I g)} (kept : D → told.Keep → Content) (zones : List Zone) (settings again : List ZoneSettings) (names : List Labels) (devices : List D) (p : Primary I (KeptStore D I g) i s) (lines : List (List ℕ)) (ending : Ending) (out out_after : Option (List ℕ)) → names ≡ map (λ (z : Zone). z.apex) zones → Each2 AreSame settings again → Each3 (IsMade g) zones settings devices
+    → ((m : Machine) (event : Event) (tries : ℕ) → AreRecoverable g tries m event 0 m.zones names again devices → (new : Machine) × IsStopped tries m event new × IsKept p new)
+    → RanScript kept names settings lines ending p out out_after → RunsFrom g kept zones settings lines ending out out_after
+runs_from {g = g} kept zones settings again names devices p lines ending out out_after e same made opens ran = record { begins = fresh_machine zones settings (each3_same (IsMade g) zones settings devices made); leads = leads }
+  where
+    leads : (start : Machine) → IsFresh zones settings start → (led : Led) × Runs (map (λ (z : Zone). z.apex) zones) (IsCrash g kept (map (λ (z : Zone). z.apex) zones) settings) (Takes start) 1 lines led ending × Run start led.moments × Appends out out_after led.text
+    leads start fresh =
+        let made_so = all_recoverable g (before_opening start) Flush 0 zones settings start.zones devices made fresh.zones_are in
+        let named = subst (λ (ns : List Labels). AreRecoverable g 0 (before_opening start) Flush 0 (before_opening start).zones ns settings devices) (sym e) made_so in
+        let opened = opens (before_opening start) Flush 0 (reset_recoverable g 0 (before_opening start) Flush 0 (before_opening start).zones names settings again devices same named) in
+        let is : opened.0 ≡ start = same_machine zones settings start opened.0 fresh opened.1 in
+        let set = subst (λ (ns : List Labels). AreSetAs ns settings start.zones) (sym e) (all_set g zones settings start.zones devices made fresh.zones_are) in
+        let done = ran start (record { zones = zones; loaded = settings; first = start; fresh = fresh; set = set; before = []; run = tt; last = refl }) (subst (λ (m : Machine). IsKept p m) is opened.2) in
+        subst (λ (ns : List Labels). (led : Led) × Runs ns (IsCrash g kept ns settings) (Takes start) 1 lines led ending × Run start led.moments × Appends out out_after led.text) e done
 
 -- one more device
 pub each3_more : {A B C : Type 0} (R : A → B → C → Type 0) (xs : List A) (ys : List B) (i : ℕ) (d : A) (e : B) (zs : List C) (z : C) → i < length xs → i < length ys → Each3 R (take i xs) (take i ys) zs → R (slice_index_or xs i d) (slice_index_or ys i e) z → Each3 R (take (suc i) xs) (take (suc i) ys) (zs ++ z ∷ [])

@@ -3,7 +3,9 @@ use Rattle.std.proofs.Common.{◌≡◌, ℕ, ◌+◌, inl, inr, Option, Some, L
 use Rattle.std.specs.Io.KnownBytes.{Appends, Keeps}
 use Rattle.std.proofs.KnownBytes.{Appends-kept}
 use Rattle.dns_names.specs.Name.{Labels}
+use Rattle.dns_sectors.specs.Device.{Content}
 use Rattle.dns_sectors.specs.declared.device.Sectors.{Ghosts}
+use Rattle.dns_sectors.specs.declared.memory.Keep as told
 use Rattle.dns_zone.specs.declared.index.ZoneIndex as index
 use Rattle.dns_store.specs.declared.zone_store.ZoneStore as store
 use Rattle.dns_store.specs.declared.kept_store.KeptStore.{KeptStore}
@@ -17,7 +19,9 @@ use Rattle.dns_primary.proofs.Stopping.{fresh_keeps}
 use Rattle.dns_replay.specs.declared.run.Ending.{Ending}
 use Rattle.dns_replay.specs.declared.run.Ending.TheVariants.{Done, Syntax, Refused}
 use Rattle.dns_replay.proofs.Printing.{appends_more, nothing_more}
-use Rattle.dns_replay.specs.Scripts.{Standing, Takes, Stands, machine_of, Said, Nothing, Happens, Plans, Crashes, Reopens, Led, Leads, Recovers, LineLeads, LineRefuses, IsNoCommand, Runs, idle}
+use Rattle.dns_replay.specs.Scripts.{Standing, Takes, Stands, machine_of, Said, Nothing, Happens, Plans, Crashes, Reopens, Crash, Led, Leads, Recovers, LineLeads, LineRefuses, IsNoCommand, Runs, idle}
+use Rattle.dns_script.specs.Keeps.{ZoneKeep}
+use Rattle.dns_replay.specs.Crashes.{IsCrash}
 use Rattle.dns_replay.specs.Runs.{IsAt, IsReached, LeadsOn, RanScript}
 
 -- moments behind others
@@ -37,21 +41,21 @@ pub record IsRunning (s : Standing) (led : Led) : Type 0 where
 run_of : (s : Standing) (led is : Led) → led ≡ is → IsRunning s is → IsRunning s led
 run_of s led is e r = subst (λ (l : Led). IsRunning s l) (sym e) r
 
-recovers_runs : (names : List Labels) (s : Standing) (led : Led) → Recovers names s led → IsRunning s led
-recovers_runs names (Takes m) led h = run_of (Takes m) led _ h.2 (record { run = ((tt, h.1), tt); last = refl })
-recovers_runs names (Stands m event) led h = run_of (Stands m event) led _ h.2 (record { run = ((tt, h.1), tt); last = refl })
+recovers_runs : (names : List Labels) (crash : Crash) (s : Standing) (keeps : List ZoneKeep) (led : Led) → Recovers names crash s keeps led → IsRunning s led
+recovers_runs names crash (Takes m) keeps led h = run_of (Takes m) led _ h.3 (record { run = (h.1, tt); last = refl })
+recovers_runs names crash (Stands m event tries) keeps led h = run_of (Stands m event tries) led _ h.3 (record { run = (h.1, tt); last = refl })
 
-pub leads_runs : (names : List Labels) (s : Standing) (said : Said) (led : Led) → Leads names s said led → IsRunning s led
-leads_runs names s Nothing led h = run_of s led (idle s) h (record { run = tt; last = refl })
-leads_runs names (Takes m) (Happens event) led (inl h) = run_of (Takes m) led _ h.4 (record { run = (h.3, tt); last = refl })
-leads_runs names (Takes m) (Happens event) led (inr h) = run_of (Takes m) led _ h (record { run = tt; last = refl })
-leads_runs names (Stands m stopped) (Happens event) led h = run_of (Stands m stopped) led _ h (record { run = tt; last = refl })
-leads_runs names (Takes m) Plans led h = run_of (Takes m) led _ h (record { run = tt; last = refl })
-leads_runs names (Stands m event) Plans led h = run_of (Stands m event) led _ h (record { run = tt; last = refl })
-leads_runs names s Crashes led h = recovers_runs names s led h
-leads_runs names s Reopens led (inl h) = recovers_runs names s led h
-leads_runs names (Takes m) Reopens led (inr h) = run_of (Takes m) led _ h (record { run = tt; last = refl })
-leads_runs names (Stands m event) Reopens led (inr h) = run_of (Stands m event) led _ h (record { run = tt; last = refl })
+pub leads_runs : (names : List Labels) (crash : Crash) (s : Standing) (said : Said) (led : Led) → Leads names crash s said led → IsRunning s led
+leads_runs names crash s Nothing led h = run_of s led (idle s) h (record { run = tt; last = refl })
+leads_runs names crash (Takes m) (Happens event) led (inl h) = run_of (Takes m) led _ h.4 (record { run = (h.3, tt); last = refl })
+leads_runs names crash (Takes m) (Happens event) led (inr h) = run_of (Takes m) led _ h (record { run = tt; last = refl })
+leads_runs names crash (Stands m stopped tries) (Happens event) led h = run_of (Stands m stopped tries) led _ h (record { run = tt; last = refl })
+leads_runs names crash (Takes m) Plans led h = run_of (Takes m) led _ h (record { run = tt; last = refl })
+leads_runs names crash (Stands m event tries) Plans led h = run_of (Stands m event tries) led _ h (record { run = tt; last = refl })
+leads_runs names crash s (Crashes keeps) led h = recovers_runs names crash s keeps led h
+leads_runs names crash s (Reopens keeps) led (inl h) = recovers_runs names crash s keeps led h
+leads_runs names crash (Takes m) (Reopens keeps) led (inr h) = run_of (Takes m) led _ h.1 (record { run = tt; last = refl })
+leads_runs names crash (Stands m event tries) (Reopens keeps) led (inr h) = run_of (Stands m event tries) led _ h.1 (record { run = tt; last = refl })
 
 -- what zones were opened for lasts
 set_lasts_one : (a : Labels) (s : ZoneSettings) (z w : ZoneState) → IsSetAs a s z → Lasts z w → IsSetAs a s w
@@ -78,21 +82,21 @@ set_lasts [] (s ∷ settings) (z ∷ olds) (w ∷ news) so l = absurd so
 set_lasts (a ∷ names) [] (z ∷ olds) (w ∷ news) so l = absurd so
 
 -- A run up to a line: that is printed so far, and what is led to from there on follows it.
-pub record IsRunUpTo (names : List Labels) (start : Machine) (all : List (List ℕ)) (number : ℕ) (left : List (List ℕ)) (out out_now : Option (List ℕ)) (now : Standing) : Type 0 where
+pub record IsRunUpTo (names : List Labels) (crash : Crash) (start : Machine) (all : List (List ℕ)) (number : ℕ) (left : List (List ℕ)) (out out_now : Option (List ℕ)) (now : Standing) : Type 0 where
   pub moments : List Moment
   pub text : List ℕ
   pub written : Appends out out_now text
   pub run : Run start moments
   pub last : last_of start moments ≡ machine_of now
-  pub goes_on : (more : Led) (ending : Ending) → Runs names now number left more ending → Runs names (Takes start) 1 all (record { moments = moments ++ more.moments; text = text ++ more.text; standing = more.standing }) ending
+  pub goes_on : (more : Led) (ending : Ending) → Runs names crash now number left more ending → Runs names crash (Takes start) 1 all (record { moments = moments ++ more.moments; text = text ++ more.text; standing = more.standing }) ending
 
-module _ (names : List Labels) (start : Machine) (all : List (List ℕ)) where
-  pub run_begins : (out : Option (List ℕ)) → IsRunUpTo names start all 1 all out out (Takes start)
+module _ (names : List Labels) (crash : Crash) (start : Machine) (all : List (List ℕ)) where
+  pub run_begins : (out : Option (List ℕ)) → IsRunUpTo names crash start all 1 all out out (Takes start)
   run_begins out = record { moments = []; text = []; written = nothing_more out; run = tt; last = refl; goes_on = λ more ending r. r }
 
-  pub run_more : (number : ℕ) (line : List ℕ) (left whole : List (List ℕ)) (out out_now out_after : Option (List ℕ)) (now : Standing) (first : Led) → whole ≡ line ∷ left → IsRunUpTo names start all number whole out out_now now → LineLeads names now line first → Appends out_now out_after first.text → IsRunUpTo names start all (number + 1) left out out_after first.standing
+  pub run_more : (number : ℕ) (line : List ℕ) (left whole : List (List ℕ)) (out out_now out_after : Option (List ℕ)) (now : Standing) (first : Led) → whole ≡ line ∷ left → IsRunUpTo names crash start all number whole out out_now now → LineLeads names crash now line first → Appends out_now out_after first.text → IsRunUpTo names crash start all (number + 1) left out out_after first.standing
   run_more number line left whole out out_now out_after now first e h p a =
-      let more = leads_runs names now _ first p.leads in
+      let more = leads_runs names crash now _ first p.leads in
       record {
         moments = h.moments ++ first.moments;
         text = h.text ++ first.text;
@@ -101,45 +105,45 @@ module _ (names : List Labels) (start : Machine) (all : List (List ℕ)) where
         last = last_joined start h.moments first.moments ∙ ap (λ (m : Machine). last_of m first.moments) h.last ∙ more.last;
         goes_on = λ later ending r.
             let whole_led : Led = record { moments = first.moments ++ later.moments; text = first.text ++ later.text; standing = later.standing } in
-            let here = h.goes_on whole_led ending (subst (λ (ls : List (List ℕ)). Runs names now number ls whole_led ending) (sym e) (inl (first, later, p, r, refl))) in
-            subst (λ (ms : List Moment). Runs names (Takes start) 1 all (record { moments = ms; text = (h.text ++ first.text) ++ later.text; standing = later.standing }) ending) (sym (append_assoc h.moments first.moments later.moments)) (
-            subst (λ (t : List ℕ). Runs names (Takes start) 1 all (record { moments = h.moments ++ (first.moments ++ later.moments); text = t; standing = later.standing }) ending) (sym (append_assoc h.text first.text later.text)) here);
+            let here = h.goes_on whole_led ending (subst (λ (ls : List (List ℕ)). Runs names crash now number ls whole_led ending) (sym e) (inl (first, later, p, r, refl))) in
+            subst (λ (ms : List Moment). Runs names crash (Takes start) 1 all (record { moments = ms; text = (h.text ++ first.text) ++ later.text; standing = later.standing }) ending) (sym (append_assoc h.moments first.moments later.moments)) (
+            subst (λ (t : List ℕ). Runs names crash (Takes start) 1 all (record { moments = h.moments ++ (first.moments ++ later.moments); text = t; standing = later.standing }) ending) (sym (append_assoc h.text first.text later.text)) here);
       }
 
   -- where nothing more happens to the machine, and this is printed
-  ends_with : (number : ℕ) (left : List (List ℕ)) (out out_now out_after : Option (List ℕ)) (now : Standing) (text : List ℕ) (ending : Ending) → IsRunUpTo names start all number left out out_now now → Appends out_now out_after text
-      → Runs names now number left (record (idle now) { text = text }) ending
-      → (led : Led) × Runs names (Takes start) 1 all led ending × Run start led.moments × Appends out out_after led.text
+  ends_with : (number : ℕ) (left : List (List ℕ)) (out out_now out_after : Option (List ℕ)) (now : Standing) (text : List ℕ) (ending : Ending) → IsRunUpTo names crash start all number left out out_now now → Appends out_now out_after text
+      → Runs names crash now number left (record (idle now) { text = text }) ending
+      → (led : Led) × Runs names crash (Takes start) 1 all led ending × Run start led.moments × Appends out out_after led.text
   ends_with number left out out_now out_after now text ending h a r =
       let led : Led = record { moments = h.moments ++ []; text = h.text ++ text; standing = now } in
       (led, h.goes_on (record (idle now) { text = text }) ending r, subst (λ (ms : List Moment). Run start ms) (sym (append-nil h.moments)) h.run, appends_more out out_now out_after h.text text h.written a)
 
-  pub run_ends : (number : ℕ) (out out_now : Option (List ℕ)) (now : Standing) → IsRunUpTo names start all number [] out out_now now
-      → (led : Led) × Runs names (Takes start) 1 all led Done × Run start led.moments × Appends out out_now led.text
+  pub run_ends : (number : ℕ) (out out_now : Option (List ℕ)) (now : Standing) → IsRunUpTo names crash start all number [] out out_now now
+      → (led : Led) × Runs names crash (Takes start) 1 all led Done × Run start led.moments × Appends out out_now led.text
   run_ends number out out_now now h = ends_with number [] out out_now out_now now [] Done h (nothing_more out_now) (refl, refl)
 
-  pub run_stops : (number : ℕ) (line : List ℕ) (left whole : List (List ℕ)) (out out_now out_after : Option (List ℕ)) (now : Standing) → whole ≡ line ∷ left → IsRunUpTo names start all number whole out out_now now → IsNoCommand names line → Keeps out_now out_after
-      → (led : Led) × Runs names (Takes start) 1 all led (Syntax number) × Run start led.moments × Appends out out_after led.text
+  pub run_stops : (number : ℕ) (line : List ℕ) (left whole : List (List ℕ)) (out out_now out_after : Option (List ℕ)) (now : Standing) → whole ≡ line ∷ left → IsRunUpTo names crash start all number whole out out_now now → IsNoCommand names line → Keeps out_now out_after
+      → (led : Led) × Runs names crash (Takes start) 1 all led (Syntax number) × Run start led.moments × Appends out out_after led.text
   run_stops number line left whole out out_now out_after now e h none keeps =
       ends_with number whole out out_now out_after now [] (Syntax number) h (Appends-kept out_now out_now out_after [] (nothing_more out_now) keeps)
-      (subst (λ (ls : List (List ℕ)). Runs names now number ls (idle now) (Syntax number)) (sym e) (inr (inl (none, refl, refl))))
+      (subst (λ (ls : List (List ℕ)). Runs names crash now number ls (idle now) (Syntax number)) (sym e) (inr (inl (none, refl, refl))))
 
-  pub run_refused : (number : ℕ) (line : List ℕ) (left whole : List (List ℕ)) (out out_now out_after : Option (List ℕ)) (now : Standing) (text : List ℕ) → whole ≡ line ∷ left → IsRunUpTo names start all number whole out out_now now → LineRefuses names line text → Appends out_now out_after text
-      → (led : Led) × Runs names (Takes start) 1 all led Refused × Run start led.moments × Appends out out_after led.text
+  pub run_refused : (number : ℕ) (line : List ℕ) (left whole : List (List ℕ)) (out out_now out_after : Option (List ℕ)) (now : Standing) (text : List ℕ) → whole ≡ line ∷ left → IsRunUpTo names crash start all number whole out out_now now → LineRefuses names line text → Appends out_now out_after text
+      → (led : Led) × Runs names crash (Takes start) 1 all led Refused × Run start led.moments × Appends out out_after led.text
   run_refused number line left whole out out_now out_after now text e h refuses a =
       ends_with number whole out out_now out_after now text Refused h a
-      (subst (λ (ls : List (List ℕ)). Runs names now number ls (record (idle now) { text = text }) Refused) (sym e) (inr (inr (text, refuses, refl, refl))))
+      (subst (λ (ls : List (List ℕ)). Runs names crash now number ls (record (idle now) { text = text }) Refused) (sym e) (inr (inr (text, refuses, refl, refl))))
 
 -- The same over what a primary and its devices stand for, whatever machine the first one kept.
-module _ {D I : Type 0} {g : Ghosts D} {i : index.Ghosts I} {s : store.Ghosts (KeptStore D I g)} (names : List Labels) (settings : List ZoneSettings) (all : List (List ℕ)) (first : Primary I (KeptStore D I g) i s) where
+module _ {D I : Type 0} {g : Ghosts D} {i : index.Ghosts I} {s : store.Ghosts (KeptStore D I g)} (left_by : D → told.Keep → Content) (names : List Labels) (settings : List ZoneSettings) (all : List (List ℕ)) (first : Primary I (KeptStore D I g) i s) where
   abbrev pub AreRunUpTo : ℕ → List (List ℕ) → Option (List ℕ) → Option (List ℕ) → Option (Primary I (KeptStore D I g) i s) → List D → Type 0
   AreRunUpTo number left out out_now p devices =
-      (start : Machine) → IsReached names settings start → IsKept first start → (now : Standing) × IsRunUpTo names start all number left out out_now now × IsAt names settings p devices now
+      (start : Machine) → IsReached names settings start → IsKept first start → (now : Standing) × IsRunUpTo names (IsCrash g left_by names settings) start all number left out out_now now × IsAt names settings p devices now
 
   pub begin_all : (out : Option (List ℕ)) (devices : List D) → AreRunUpTo 1 all out out (Some first) devices
-  begin_all out devices start reached kept = (Takes start, run_begins names start all out, kept)
+  begin_all out devices start reached kept = (Takes start, run_begins names (IsCrash g left_by names settings) start all out, kept)
 
-  set_now : (start : Machine) (number : ℕ) (left : List (List ℕ)) (out out_now : Option (List ℕ)) (now : Standing) → IsReached names settings start → IsRunUpTo names start all number left out out_now now → AreSetAs names settings (machine_of now).zones
+  set_now : (start : Machine) (number : ℕ) (left : List (List ℕ)) (out out_now : Option (List ℕ)) (now : Standing) → IsReached names settings start → IsRunUpTo names (IsCrash g left_by names settings) start all number left out out_now now → AreSetAs names settings (machine_of now).zones
   set_now start number left out out_now now reached h =
       let joined = runs_joined reached.first reached.before h.moments reached.run (subst (λ (m : Machine). Run m h.moments) (sym reached.last) h.run) in
       let promise = fresh_keeps reached.zones reached.loaded reached.first (reached.before ++ h.moments) reached.fresh joined in
@@ -147,19 +151,19 @@ module _ {D I : Type 0} {g : Ghosts D} {i : index.Ghosts I} {s : store.Ghosts (K
       subst (λ (m : Machine). AreSetAs names settings m.zones) last (set_lasts names settings (reached.first).zones (last_of reached.first (reached.before ++ h.moments)).zones reached.set promise.loaded)
 
   pub more_all : (number : ℕ) (line : List ℕ) (left whole : List (List ℕ)) (out out_now out_after : Option (List ℕ)) (p q : Option (Primary I (KeptStore D I g) i s)) (devices rest : List D) → whole ≡ line ∷ left → AreRunUpTo number whole out out_now p devices
-      → LeadsOn names settings (λ from led. LineLeads names from line led) p devices q rest out_now out_after → AreRunUpTo (number + 1) left out out_after q rest
+      → LeadsOn names settings (λ from led. LineLeads names (IsCrash g left_by names settings) from line led) p devices q rest out_now out_after → AreRunUpTo (number + 1) left out out_after q rest
   more_all number line left whole out out_now out_after p q devices rest e h does start reached kept =
       let here = h start reached kept in
       let next = does here.0 here.2 (set_now start number whole out out_now here.0 reached here.1) in
-      (next.0.standing, run_more names start all number line left whole out out_now out_after here.0 next.0 e here.1 next.1 next.2, next.3)
+      (next.0.standing, run_more names (IsCrash g left_by names settings) start all number line left whole out out_now out_after here.0 next.0 e here.1 next.1 next.2, next.3)
 
-  pub ends_all : (number : ℕ) (out out_now : Option (List ℕ)) (p : Option (Primary I (KeptStore D I g) i s)) (devices : List D) → AreRunUpTo number [] out out_now p devices → RanScript names settings all Done first out out_now
-  ends_all number out out_now p devices h start reached kept = (let here = h start reached kept in run_ends names start all number out out_now here.0 here.1)
+  pub ends_all : (number : ℕ) (out out_now : Option (List ℕ)) (p : Option (Primary I (KeptStore D I g) i s)) (devices : List D) → AreRunUpTo number [] out out_now p devices → RanScript left_by names settings all Done first out out_now
+  ends_all number out out_now p devices h start reached kept = (let here = h start reached kept in run_ends names (IsCrash g left_by names settings) start all number out out_now here.0 here.1)
 
-  pub stops_all : (number : ℕ) (line : List ℕ) (left whole : List (List ℕ)) (out out_now out_after : Option (List ℕ)) (p : Option (Primary I (KeptStore D I g) i s)) (devices : List D) → whole ≡ line ∷ left → AreRunUpTo number whole out out_now p devices → IsNoCommand names line → Keeps out_now out_after → RanScript names settings all (Syntax number) first out out_after
+  pub stops_all : (number : ℕ) (line : List ℕ) (left whole : List (List ℕ)) (out out_now out_after : Option (List ℕ)) (p : Option (Primary I (KeptStore D I g) i s)) (devices : List D) → whole ≡ line ∷ left → AreRunUpTo number whole out out_now p devices → IsNoCommand names line → Keeps out_now out_after → RanScript left_by names settings all (Syntax number) first out out_after
   stops_all number line left whole out out_now out_after p devices e h none keeps start reached kept =
-      let here = h start reached kept in run_stops names start all number line left whole out out_now out_after here.0 e here.1 none keeps
+      let here = h start reached kept in run_stops names (IsCrash g left_by names settings) start all number line left whole out out_now out_after here.0 e here.1 none keeps
 
-  pub refused_all : (number : ℕ) (line : List ℕ) (left whole : List (List ℕ)) (out out_now out_after : Option (List ℕ)) (p : Option (Primary I (KeptStore D I g) i s)) (devices : List D) (text : List ℕ) → whole ≡ line ∷ left → AreRunUpTo number whole out out_now p devices → LineRefuses names line text → Appends out_now out_after text → RanScript names settings all Refused first out out_after
+  pub refused_all : (number : ℕ) (line : List ℕ) (left whole : List (List ℕ)) (out out_now out_after : Option (List ℕ)) (p : Option (Primary I (KeptStore D I g) i s)) (devices : List D) (text : List ℕ) → whole ≡ line ∷ left → AreRunUpTo number whole out out_now p devices → LineRefuses names line text → Appends out_now out_after text → RanScript left_by names settings all Refused first out out_after
   refused_all number line left whole out out_now out_after p devices text e h refuses a start reached kept =
-      let here = h start reached kept in run_refused names start all number line left whole out out_now out_after here.0 text e here.1 refuses a
+      let here = h start reached kept in run_refused names (IsCrash g left_by names settings) start all number line left whole out out_now out_after here.0 text e here.1 refuses a

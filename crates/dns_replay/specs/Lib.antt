@@ -1,3 +1,4 @@
+pub mod Crashes
 pub mod Made
 pub mod Runs
 pub mod Scripts

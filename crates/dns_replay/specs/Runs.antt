@@ -1,10 +1,11 @@
 -- What a script runs over, and what it leads to.
-use Rattle.std.specs.Prelude.{◌≡◌, ℕ, List, ◌++◌, map, slice_get, Option, Some, None}
+use Rattle.std.specs.Prelude.{◌≡◌, ℕ, List, ◌++◌, map, slice_get, Option, Some, None, IsSome}
 use Rattle.std.specs.Io.KnownBytes.{Appends, Keeps}
 use Rattle.dns_names.specs.Name.{Labels}
 use Rattle.dns_zone.specs.Zone.{Zone}
 use Rattle.dns_sectors.specs.Device.{Content}
 use Rattle.dns_sectors.specs.declared.device.Sectors.{Ghosts}
+use Rattle.dns_sectors.specs.declared.memory.Keep as told
 use Rattle.dns_zone.specs.declared.index.ZoneIndex as index
 use Rattle.dns_store.specs.declared.zone_store.ZoneStore as store
 use Rattle.dns_store.specs.declared.kept_store.KeptStore.{KeptStore}
@@ -18,6 +19,8 @@ use Rattle.dns_primary.specs.Open.{AreRecoverable}
 use Rattle.dns_primary.specs.HandOut.{AreSetAs}
 use Rattle.dns_primary.specs.Runs.{Moment, Run, last_of}
 use Rattle.dns_primary.specs.Fresh.{IsFresh}
+use Rattle.dns_script.specs.Keeps.{ZoneKeep}
+use Rattle.dns_replay.specs.Crashes.{IsCrash}
 use Rattle.dns_replay.specs.Scripts.{Standing, Takes, Stands, machine_of, Said, Crashes, Reopens, Led, Leads, LineLeads, LineRefuses, IsNoCommand, MayRefuse, Runs, printed_refusal, printed_stop}
 use Rattle.dns_store.specs.declared.root.OpenError.{OpenError}
 use Rattle.dns_replay.specs.declared.run.After.{After}
@@ -36,15 +39,10 @@ pub record AreSame (s t : ZoneSettings) : Type 0 where
   pub update : t.update.items ≡ s.update.items
   pub transfer : t.transfer.items ≡ s.transfer.items
 
--- The device after a crash: it leaves what the device might have left before.
-pub record IsLeftBy {D : Type 0} (g : Ghosts D) (old new : D) : Type 0 where
-  pub honest : g.is_honest old → g.is_honest new
-  pub left : (c : Content) → g.is_honest old → g.may_leave new c → g.may_leave old c
-
 -- What a crash says, with the number of the write or sync of the opening that is the last, if one is.
-abbrev pub crash_by : Option ℕ → Said
-crash_by None = Crashes
-crash_by (Some n) = Reopens
+abbrev pub crash_by : List ZoneKeep → Option ℕ → Said
+crash_by keeps None = Crashes keeps
+crash_by keeps (Some n) = Reopens keeps
 
 module _ {D I : Type 0} {g : Ghosts D} {i : index.Ghosts I} {s : store.Ghosts (KeptStore D I g)} (names : List Labels)
     (settings : List ZoneSettings)
@@ -52,8 +50,8 @@ module _ {D I : Type 0} {g : Ghosts D} {i : index.Ghosts I} {s : store.Ghosts (K
     -- A primary keeps the machine; or of one that stopped within an event these devices are left.
     abbrev pub IsAt : Option (Primary I (KeptStore D I g) i s) → List D → Standing → Type 0
     IsAt (Some p) devices (Takes m) = IsKept p m
-    IsAt None devices (Stands m event) = AreRecoverable g m event 0 m.zones names settings devices
-    IsAt (Some p) devices (Stands m event) = ⊥
+    IsAt None devices (Stands m event tries) = AreRecoverable g tries m event 0 m.zones names settings devices
+    IsAt (Some p) devices (Stands m event tries) = ⊥
     IsAt None devices (Takes m) = ⊥
 
     -- Wherever the script stood, this is what it was led to, and where it stands.
@@ -69,25 +67,26 @@ pub record Refuses (origins : List Labels) (out out_after : Option (List ℕ)) :
   pub error : OpenError
   pub printed : Appends out out_after (printed_refusal (slice_get origins place) error)
 
--- A stop fell in the opening, and these are the devices; or the run ends.
-abbrev pub IsRefused : {D : Type 0} → List Labels → Said → List D → List D → Option (List ℕ) → Option (List ℕ) → After → Type 0
-IsRefused names said devices left out out_after GoesOn = (said ≡ Reopens) × (left ≡ devices) × Appends out out_after printed_stop
-IsRefused names said devices left out out_after Refused = Refuses names out out_after
-IsRefused names said devices left out out_after NoCommand = ⊥
+-- A stop fell in the opening, which was to have one, and these are the devices; or the run ends.
+abbrev pub IsRefused : {D : Type 0} → List Labels → Option ℕ → List D → List D → Option (List ℕ) → Option (List ℕ) → After → Type 0
+IsRefused names stop devices left out out_after GoesOn = IsSome stop × (left ≡ devices) × Appends out out_after printed_stop
+IsRefused names stop devices left out out_after Refused = Refuses names out out_after
+IsRefused names stop devices left out out_after NoCommand = ⊥
 
-module _ {D I : Type 0} {g : Ghosts D} {i : index.Ghosts I} {s : store.Ghosts (KeptStore D I g)} where
+module _ {D I : Type 0} {g : Ghosts D} {i : index.Ghosts I} {s : store.Ghosts (KeptStore D I g)} (kept : D → told.Keep → Content) where
   -- What is said leads on, or ends the run.
   abbrev pub DoesBy : List Labels → List ZoneSettings → Said → Option (Primary I (KeptStore D I g) i s) → List D
       → Option (Primary I (KeptStore D I g) i s) → List D → Option (List ℕ) → Option (List ℕ) → After → Type 0
   DoesBy names settings said p devices q left out out_after GoesOn =
-      LeadsOn names settings (λ from led. Leads names from said led) p devices q left out out_after
+      LeadsOn names settings (λ from led. Leads names (IsCrash g kept names settings) from said led) p devices q left out out_after
   DoesBy names settings said p devices q left out out_after Refused = MayRefuse said × Refuses names out out_after
   DoesBy names settings said p devices q left out out_after NoCommand = ⊥
 
   abbrev pub LineDoes : List Labels → List ZoneSettings → List ℕ → Option (Primary I (KeptStore D I g) i s) → List D
       → Option (Primary I (KeptStore D I g) i s) → List D → Option (List ℕ) → Option (List ℕ) → After → Type 0
   LineDoes names settings line p devices q left out out_after GoesOn =
-      LeadsOn names settings (λ from led. LineLeads names from line led) p devices q left out out_after
+      LeadsOn names settings (λ from led. LineLeads names (IsCrash g kept names settings) from line led) p devices q left out
+      out_after
   LineDoes names settings line p devices q left out out_after Refused =
       (text : List ℕ) × LineRefuses names line text × Appends out out_after text
   LineDoes names settings line p devices q left out out_after NoCommand =
@@ -105,15 +104,21 @@ pub record IsReached (names : List Labels) (settings : List ZoneSettings) (m : M
   pub last : last_of first before ≡ m
 
 -- From each such machine that the primary kept, the lines lead there, by moments that are a run of the machine.
-abbrev pub RanScript : {D I : Type 0} {g : Ghosts D} {i : index.Ghosts I} {s : store.Ghosts (KeptStore D I g)} → List Labels
-    → List ZoneSettings → List (List ℕ) → Ending → Primary I (KeptStore D I g) i s → Option (List ℕ) → Option (List ℕ) → Type 0
-RanScript names settings lines ending primary out out_after =
+abbrev pub RanScript : {D I : Type 0} {g : Ghosts D} {i : index.Ghosts I} {s : store.Ghosts (KeptStore D I g)}
+    → (D → told.Keep → Content) → List Labels → List ZoneSettings → List (List ℕ) → Ending → Primary I (KeptStore D I g) i s
+    → Option (List ℕ) → Option (List ℕ) → Type 0
+RanScript {g} kept names settings lines ending primary out out_after =
     (start : Machine) → IsReached names settings start → IsKept primary start
-    → (led : Led) × Runs names (Takes start) 1 lines led ending × Run start led.moments × Appends out out_after led.text
-
--- The same of zones that were loaded: from each machine of them to which nothing has happened.
-abbrev pub RunsFrom : List Zone → List ZoneSettings → List (List ℕ) → Ending → Option (List ℕ) → Option (List ℕ) → Type 0
-RunsFrom zones settings lines ending out out_after =
-    (start : Machine) → IsFresh zones settings start
-    → (led : Led) × Runs (map (λ z. z.apex) zones) (Takes start) 1 lines led ending × Run start led.moments
+    → (led : Led) × Runs names (IsCrash g kept names settings) (Takes start) 1 lines led ending × Run start led.moments
     × Appends out out_after led.text
+
+-- The same of zones that were loaded: they have a machine to which nothing has happened, and from each such machine the lines lead
+-- there.
+pub record RunsFrom {D : Type 0} (g : Ghosts D) (kept : D → told.Keep → Content) (zones : List Zone) (settings : List ZoneSettings)
+    (lines : List (List ℕ)) (ending : Ending) (out out_after : Option (List ℕ))
+    : Type 0 where
+  pub begins : (start : Machine) × IsFresh zones settings start
+  pub leads : (start : Machine) → IsFresh zones settings start
+      → (led : Led)
+      × Runs (map (λ z. z.apex) zones) (IsCrash g kept (map (λ z. z.apex) zones) settings) (Takes start) 1 lines led ending
+      × Run start led.moments × Appends out out_after led.text

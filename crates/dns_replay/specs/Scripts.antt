@@ -23,6 +23,7 @@ use Rattle.dns_primary.specs.Stop.{IsStopped}
 use Rattle.dns_primary.specs.Runs.{Moment, Took, Stopped}
 use Rattle.dns_script.specs.Commands.{Command, Says}
 use Rattle.dns_script.specs.Commands as script
+use Rattle.dns_script.specs.Keeps.{ZoneKeep}
 use Rattle.dns_replay.specs.declared.run.Ending.{Ending}
 use Rattle.dns_replay.specs.declared.run.Ending.TheVariants.{Done, Syntax, Refused}
 
@@ -30,14 +31,14 @@ use Rattle.dns_replay.specs.declared.run.Ending.TheVariants.{Done, Syntax, Refus
 abbrev pub peer_of : IpAddr → Peer
 peer_of address = record { address = address; port = 0 }
 
--- What a command says: nothing; an event; that a write or a sync is to fail; that a crash comes, all stores are opened anew, and that
--- a write or a sync of the opening may be the last.
+-- What a command says: nothing; an event; that a write or a sync is to fail; that a crash comes which keeps these of the writes that
+-- are pending, all stores are opened anew, and that a write or a sync of the opening may be the last.
 pub data Said : Type 0 where
   Nothing : Said
   Happens : Event → Said
   Plans : Said
-  Crashes : Said
-  Reopens : Said
+  Crashes : List ZoneKeep → Said
+  Reopens : List ZoneKeep → Said
 
 abbrev pub said_by : Command → Said
 said_by script.Nothing = Nothing
@@ -50,8 +51,8 @@ said_by script.Flush = Happens machine.Flush
 said_by (script.Checkpoint place) = Happens (machine.Checkpoint place)
 said_by (script.Fail n) = Plans
 said_by (script.Stop n) = Plans
-said_by (script.Crash keeps) = Crashes
-said_by (script.Reopen n keeps) = Reopens
+said_by (script.Crash keeps) = Crashes keeps
+said_by (script.Reopen n keeps) = Reopens keeps
 
 -- A reply: where it goes, and its octets.
 abbrev pub printed_to : To → List ℕ
@@ -141,19 +142,24 @@ abbrev pub printed_refusal : Option Labels → OpenError → List ℕ
 printed_refusal None error = []
 printed_refusal (Some origin) error = refused_line origin error
 
--- Where a script stands: a machine takes events; or one stopped within an event, and its devices alone are left.
+-- Where a script stands: a machine takes events; or one stopped within an event, and its devices alone are left, after so many tries
+-- to open them again.
 pub data Standing : Type 0 where
   Takes : Machine → Standing
-  Stands : Machine → Event → Standing
+  Stands : Machine → Event → ℕ → Standing
 
 -- The machine that a crash comes to, and the event that it comes in. Between two events it is as in a flush that has not begun.
 abbrev pub machine_of : Standing → Machine
 machine_of (Takes m) = m
-machine_of (Stands m event) = m
+machine_of (Stands m event tries) = m
 
 abbrev pub event_in : Standing → Event
 event_in (Takes m) = machine.Flush
-event_in (Stands m event) = event
+event_in (Stands m event tries) = event
+
+abbrev pub tries_in : Standing → ℕ
+tries_in (Takes m) = 0
+tries_in (Stands m event tries) = tries
 
 -- What happens to the machine meanwhile, what is printed, and where the script stands then.
 pub record Led : Type 0 where
@@ -164,23 +170,28 @@ pub record Led : Type 0 where
 abbrev pub idle : Standing → Led
 idle s = record { moments = []; text = []; standing = s }
 
-abbrev pub halted : Machine → Event → Led
-halted m event = record { moments = []; text = printed_stop; standing = Stands m event }
+abbrev pub halted : Machine → Event → ℕ → Led
+halted m event tries = record { moments = []; text = printed_stop; standing = Stands m event tries }
 
 -- An event is a step of the machine, or a stop fell within it.
 abbrev pub EventLeads : List Labels → Standing → Event → Led → Type 0
 EventLeads origins (Takes m) event led =
     ((fails : List Bool) × (effects : Effects) × (next : Machine) × Step fails m event effects next
     × (led ≡ record { moments = Took event fails effects next ∷ []; text = printed_effects origins event effects; standing = Takes next }))
-    ⊎ (led ≡ halted m event)
-EventLeads origins (Stands m stopped) event led = led ≡ halted m stopped
+    ⊎ (led ≡ halted m event 0)
+EventLeads origins (Stands m stopped tries) event led = led ≡ halted m stopped tries
+
+-- What a crash that keeps these of the pending writes leads to from where a script stands: a machine, whose zones are what is left on
+-- their devices; or, where a stop falls in the opening, devices alone.
+abbrev pub Crash : Type 1
+Crash = Standing → List ZoneKeep → Option Machine → Type 0
 
 -- A crash, and the stores are opened again: the machine stopped, and recovered.
-abbrev pub Recovers : List Labels → Standing → Led → Type 0
-Recovers origins s led =
-    (next : Machine) × IsStopped (machine_of s) (event_in s) next
+abbrev pub Recovers : List Labels → Crash → Standing → List ZoneKeep → Led → Type 0
+Recovers origins crash s keeps led =
+    (next : Machine) × IsStopped (tries_in s) (machine_of s) (event_in s) next × crash s keeps (Some next)
     × (led ≡ record {
-      moments = Stopped (event_in s) [] next ∷ [];
+      moments = Stopped (event_in s) (tries_in s) next ∷ [];
       text = recovered_zones origins next.zones (length origins);
       standing = Takes next;
     })
@@ -188,26 +199,27 @@ Recovers origins s led =
 -- A plan is made for the devices of a machine that takes events.
 abbrev pub PlanLeads : Standing → Led → Type 0
 PlanLeads (Takes m) led = led ≡ idle (Takes m)
-PlanLeads (Stands m event) led = led ≡ halted m event
+PlanLeads (Stands m event tries) led = led ≡ halted m event tries
 
-abbrev pub Leads : List Labels → Standing → Said → Led → Type 0
-Leads origins s Nothing led = led ≡ idle s
-Leads origins s (Happens event) led = EventLeads origins s event led
-Leads origins s Plans led = PlanLeads s led
-Leads origins s Crashes led = Recovers origins s led
-Leads origins s Reopens led = Recovers origins s led ⊎ (led ≡ halted (machine_of s) (event_in s))
+abbrev pub Leads : List Labels → Crash → Standing → Said → Led → Type 0
+Leads origins crash s Nothing led = led ≡ idle s
+Leads origins crash s (Happens event) led = EventLeads origins s event led
+Leads origins crash s Plans led = PlanLeads s led
+Leads origins crash s (Crashes keeps) led = Recovers origins crash s keeps led
+Leads origins crash s (Reopens keeps) led =
+    Recovers origins crash s keeps led ⊎ (crash s keeps None × (led ≡ halted (machine_of s) (event_in s) (suc (tries_in s))))
 
 -- What a command may end: a store is refused behind a crash.
 abbrev pub MayRefuse : Said → Type 0
-MayRefuse Crashes = Unit {0}
-MayRefuse Reopens = Unit {0}
+MayRefuse (Crashes keeps) = Unit {0}
+MayRefuse (Reopens keeps) = Unit {0}
 MayRefuse _ = ⊥
 
 -- A line that is a command leads on.
-pub record LineLeads (origins : List Labels) (s : Standing) (line : List ℕ) (led : Led) : Type 0 where
+pub record LineLeads (origins : List Labels) (crash : Crash) (s : Standing) (line : List ℕ) (led : Led) : Type 0 where
   pub command : Command
   pub says : Says origins line command
-  pub leads : Leads origins s (said_by command) led
+  pub leads : Leads origins crash s (said_by command) led
 
 -- ... or ends the run.
 pub record LineRefuses (origins : List Labels) (line text : List ℕ) : Type 0 where
@@ -223,10 +235,10 @@ IsNoCommand origins line = (c : Command) → ¬ (Says origins line c)
 
 -- What lines lead to, the first of which has that number, and how the run ends: where all are commands, at the first that is none, or
 -- at one behind which a store is refused.
-abbrev pub Runs : List Labels → Standing → ℕ → List (List ℕ) → Led → Ending → Type 0
-Runs origins s number [] led ending = (led ≡ idle s) × (ending ≡ Done)
-Runs origins s number (line ∷ rest) led ending =
-    ((first more : Led) × LineLeads origins s line first × Runs origins first.standing (number + 1) rest more ending
+abbrev pub Runs : List Labels → Crash → Standing → ℕ → List (List ℕ) → Led → Ending → Type 0
+Runs origins crash s number [] led ending = (led ≡ idle s) × (ending ≡ Done)
+Runs origins crash s number (line ∷ rest) led ending =
+    ((first more : Led) × LineLeads origins crash s line first × Runs origins crash first.standing (number + 1) rest more ending
     × (led ≡ record { moments = first.moments ++ more.moments; text = first.text ++ more.text; standing = more.standing }))
     ⊎ (IsNoCommand origins line × (led ≡ idle s) × (ending ≡ Syntax number))
     ⊎ ((text : List ℕ) × LineRefuses origins line text × (led ≡ record (idle s) { text = text }) × (ending ≡ Refused))

@@ -106,8 +106,8 @@ fn replay_over<D: ScriptDevice, I: ZoneIndex, W: Write>(
     requires named { world.origins.now ≡ map (λ z. z.apex) zones.now }
     requires same { Each2 AreSame world.settings.now again.items }
     requires made { Each3 (IsMade D.Sectors) zones.now world.settings.now devices.items }
-    ensures { result ≢ Ending.Failed → RunsFrom zones.now world.entry.settings.now (lines script.now) result
-        (W.contents out.old) (W.contents out.new) }
+    ensures { result ≢ Ending.Failed → RunsFrom D.Sectors D.left_by zones.now world.entry.settings.now
+        (lines script.now) result (W.contents out.old) (W.contents out.new) }
 {
     match Primary::<I, KeptStore<D, I>>::open(world.heap, devices, world.origins, again) {
         Ok(primary) => run_script(world, primary, script, out),
@@ -126,7 +126,8 @@ pub fn replay_zones<D: ScriptDevice, I: ZoneIndex, W: Write>(
 ) -> Result<Ending, NotMade>
     requires { length zones.items ≡ length settings.items }
     ensures ran { IfOk result (λ ending. ending ≢ Ending.Failed
-        → RunsFrom zones.entry.items settings.entry.items (lines script.now) ending (W.contents out.old) (W.contents out.new)) }
+        → RunsFrom D.Sectors D.left_by zones.entry.items settings.entry.items (lines script.now) ending (W.contents out.old)
+        (W.contents out.new)) }
     ensures refused { IfErr result (λ _. W.contents out.new ≡ W.contents out.old) }
 {
     let no_memory = NotMade {

@@ -95,7 +95,7 @@ fn run_command<D: ScriptDevice, I: ZoneIndex, W: Write>(
     command: &Command,
     out: &mut W,
 ) -> io::Result<After>
-    ensures { IfOk result (DoesBy world.entry.origins.now world.entry.settings.now (said_by (said command.now))
+    ensures { IfOk result (DoesBy D.left_by world.entry.origins.now world.entry.settings.now (said_by (said command.now))
         primary.old devices.old.items primary.new devices.new.items
         (W.contents out.old) (W.contents out.new)) }
 {
@@ -141,7 +141,7 @@ fn run_line<D: ScriptDevice, I: ZoneIndex, W: Write>(
     line: &[u8],
     out: &mut W,
 ) -> io::Result<After>
-    ensures { IfOk result (LineDoes world.entry.origins.now world.entry.settings.now line.now
+    ensures { IfOk result (LineDoes D.left_by world.entry.origins.now world.entry.settings.now line.now
         primary.old devices.old.items primary.new devices.new.items
         (W.contents out.old) (W.contents out.new)) }
 {
@@ -160,7 +160,7 @@ pub fn run_script<D: ScriptDevice, I: ZoneIndex, W: Write>(
     out: &mut W,
 ) -> Ending
     ensures { result ≢ Ending.Failed
-        → RanScript world.entry.origins.now world.entry.settings.now (lines script.now) result primary
+        → RanScript D.left_by world.entry.origins.now world.entry.settings.now (lines script.now) result primary
         (W.contents out.old) (W.contents out.new) }
 {
     let mut running = Some(primary);

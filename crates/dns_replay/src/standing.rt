@@ -1,5 +1,6 @@
 //! What a script runs over, and crashes of it.
-ghost use Rattle.std.specs.Prelude.{◌≡◌, ℕ, true, List, Some, None, IfOk, MatchResult};
+ghost use Rattle.std.specs.Prelude.{◌≡◌, ◌==◌, ℕ, suc, true, List, Some, None, find, map, IsSome, IfOk, MatchResult};
+ghost use Rattle.std.specs.Option.{option_copied};
 ghost use Rattle.dns_names.specs.Name.{Labels};
 ghost use Rattle.dns_held.specs.Each.{Each2};
 ghost use Rattle.dns_primary.specs.declared.event.Effects.{Effects as StatedEffects};
@@ -11,8 +12,10 @@ ghost use Rattle.dns_primary.specs.Stop.{IsStopped};
 ghost use Rattle.dns_primary.specs.Keeps.{IsKept};
 ghost use Rattle.dns_primary.specs.Open.{AreRecoverable};
 ghost use Rattle.dns_primary.specs.HandOut.{AreSetAs};
-ghost use Rattle.dns_replay.specs.Scripts.{EventLeads, Reopens, Standing as Stated, event_in, machine_of};
-ghost use Rattle.dns_replay.specs.Runs.{AreSame, DoesBy, IsAt, IsLeftBy, IsRefused, LeadsOn, crash_by};
+ghost use Rattle.dns_script.specs.Commands.{said_keep, said_zone_keep};
+ghost use Rattle.dns_replay.specs.Crashes.{AreLeftBy, IsToldAs, keep_at};
+ghost use Rattle.dns_replay.specs.Scripts.{EventLeads, Standing as Stated, event_in, machine_of, tries_in};
+ghost use Rattle.dns_replay.specs.Runs.{AreSame, DoesBy, IsAt, IsRefused, LeadsOn, crash_by};
 
 use crate::device::ScriptDevice;
 use crate::print::{print_effects, print_recovered, print_refusal, print_stop};
@@ -66,17 +69,31 @@ pub(crate) fn settings_again(
     Ok(again)
 }
 
-/// What is kept of the writes that are pending on the device of the zone at a place: none where nothing is said of it.
-fn keep_at(keeps: &[ZoneKeep], place: usize) -> dns_sectors::Keep<'_> {
-    for one in keeps {
-        if one.zone == place {
-            return match &one.keep {
-                Keep::All => dns_sectors::Keep::All,
-                Keep::These(numbers) => dns_sectors::Keep::These(numbers),
-            };
-        }
+/// What is kept, as a device is told it.
+fn told_as(keep: &Keep) -> dns_sectors::Keep<'_>
+    ensures { IsToldAs (said_keep keep.now) result }
+{
+    match keep {
+        Keep::All => dns_sectors::Keep::All,
+        Keep::These(numbers) => dns_sectors::Keep::These(numbers),
     }
-    dns_sectors::Keep::These(&[])
+}
+
+/// What is said of the zone at a place.
+fn said_of(keeps: &[ZoneKeep], place: usize) -> Option<&ZoneKeep>
+    ensures { option_copied result ≡ find (λ k. k.zone == place) keeps.now }
+{
+    keeps.iter().find(|one| one.zone == place)
+}
+
+/// What is kept of the writes that are pending on the device of the zone at a place: none where nothing is said of it.
+fn keep_at(keeps: &[ZoneKeep], place: usize) -> dns_sectors::Keep<'_>
+    ensures { IsToldAs (keep_at (map said_zone_keep keeps.now) place) result }
+{
+    match said_of(keeps, place) {
+        Some(one) => told_as(&one.keep),
+        None => dns_sectors::Keep::These(&[]),
+    }
 }
 
 /// The devices after a crash of all.
@@ -85,7 +102,8 @@ fn crash_all<D: ScriptDevice>(
     devices: Vec<D, Heap>,
     keeps: &[ZoneKeep],
 ) -> Result<Vec<D, Heap>, AllocError>
-    ensures { IfOk result (λ left. Each2 (IsLeftBy D.Sectors) devices.entry.items left.items) }
+    ensures { IfOk result
+        (λ left. AreLeftBy D.Sectors D.left_by (map said_zone_keep keeps.now) 0 devices.entry.items left.items) }
 {
     let mut devices = devices;
     let count = devices.len();
@@ -102,10 +120,10 @@ fn open_again<D: ScriptDevice, I: ZoneIndex>(
     world: World<'_>,
     devices: Vec<D, Heap>,
 ) -> Result<Result<Primary<I, KeptStore<D, I>>, NotOpened<D>>, AllocError>
-    ensures { IfOk result (λ opened. (m : Machine) (event : StatedEvent)
-        → AreRecoverable D.Sectors m event 0 m.zones world.entry.origins.now world.entry.settings.now devices.entry.items
-        → MatchResult opened (λ p. (new : Machine) × IsStopped m event new × IsKept p new)
-        (λ e. AreRecoverable D.Sectors m event 0 m.zones world.entry.origins.now world.entry.settings.now e.devices.items)) }
+    ensures { IfOk result (λ opened. (m : Machine) (event : StatedEvent) (tries : ℕ)
+        → AreRecoverable D.Sectors tries m event 0 m.zones world.entry.origins.now world.entry.settings.now devices.entry.items
+        → MatchResult opened (λ p. (new : Machine) × IsStopped tries m event new × IsKept p new)
+        (λ e. AreRecoverable D.Sectors (suc tries) m event 0 m.zones world.entry.origins.now world.entry.settings.now e.devices.items)) }
 {
     let settings = settings_again(world.heap, world.settings)?;
     if devices.len() != settings.len() || world.origins.len() != settings.len() {
@@ -178,7 +196,7 @@ fn take_devices<D: ScriptDevice, I: ZoneIndex>(
     ensures recoverable { IfOk result (λ left. (names : List Labels) (settings : List StatedSettings) (s : Stated)
         → IsAt names settings primary.old devices.old.items s
         → AreSetAs names settings (machine_of s).zones
-        → AreRecoverable D.Sectors (machine_of s) (event_in s) 0 (machine_of s).zones names settings left.items) }
+        → AreRecoverable D.Sectors (tries_in s) (machine_of s) (event_in s) 0 (machine_of s).zones names settings left.items) }
 {
     match primary.take() {
         Some(running) => {
@@ -199,7 +217,8 @@ pub(crate) fn crash<D: ScriptDevice, I: ZoneIndex, W: Write>(
     keeps: &[ZoneKeep],
     out: &mut W,
 ) -> io::Result<After>
-    ensures { IfOk result (DoesBy world.entry.origins.now world.entry.settings.now (crash_by stop)
+    ensures { IfOk result (DoesBy D.left_by world.entry.origins.now world.entry.settings.now
+        (crash_by (map said_zone_keep keeps.now) stop)
         primary.old devices.old.items primary.new devices.new.items
         (W.contents out.old) (W.contents out.new)) }
 {
@@ -221,7 +240,7 @@ pub(crate) fn crash<D: ScriptDevice, I: ZoneIndex, W: Write>(
 
 /// Whether a stop fell in an opening in which a write or sync was to be the last.
 fn fell(stop: Option<u32>, plan: &Plan) -> bool
-    ensures { result ≡ true → crash_by stop ≡ Reopens }
+    ensures { result ≡ true → IsSome stop }
 {
     match stop {
         Some(_) => plan.stopped(),
@@ -237,7 +256,7 @@ fn keep_refused<D: ScriptDevice, W: Write>(
     refused: NotOpened<D>,
     out: &mut W,
 ) -> io::Result<After>
-    ensures { IfOk result (IsRefused world.entry.origins.now (crash_by stop) refused.devices.items
+    ensures { IfOk result (IsRefused world.entry.origins.now stop refused.devices.items
         devices.new.items (W.contents out.old) (W.contents out.new)) }
 {
     if fell(stop, world.plan) {
@@ -258,11 +277,11 @@ fn devices_of<D: ScriptDevice, I: ZoneIndex>(
 ) -> Result<Vec<D, Heap>, AllocError>
     ensures at_rest { IfOk result (λ devices. (m : Machine) (event : StatedEvent) (names : List Labels)
         (settings : List StatedSettings) → IsKept primary m → AreSetAs names settings m.zones
-        → AreRecoverable D.Sectors m event 0 m.zones names settings devices.items) }
+        → AreRecoverable D.Sectors 0 m event 0 m.zones names settings devices.items) }
     ensures within { IfOk result (λ devices. (m : Machine) (event : StatedEvent) (before : _) (effects : StatedEffects)
         (names : List Labels) (settings : List StatedSettings)
         → SteppedBy m event before primary effects → AreSetAs names settings m.zones
-        → AreRecoverable D.Sectors m event 0 m.zones names settings devices.items) }
+        → AreRecoverable D.Sectors 0 m event 0 m.zones names settings devices.items) }
 {
     match primary.into_devices() {
         Ok(devices) => Ok(devices),

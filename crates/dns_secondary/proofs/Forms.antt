@@ -14,16 +14,17 @@ use Rattle.dns_zone.specs.declared.ZoneError.{ZoneError}
 use Rattle.dns_wire.specs.Message.{ResourceRecord, record_of_item}
 use Rattle.dns_secondary.specs.State.{State, Begun, Led, Whole, Removing, Adding, Ended}
 use Rattle.dns_secondary.specs.Step.{step, within_whole, sequence_from, first_sequence, second, IsFit}
-use Rattle.dns_secondary.specs.Rest.{Means, Rest}
-use Rattle.dns_secondary.specs.Taken.{AreOthers, Collects, Removes, Adds, sequence, Applies, Leads, IsCurrent, IsWhole, IsChanged, Taken}
+use Rattle.dns_secondary.specs.Rest.{Means, Rest, Reaches}
+use Rattle.dns_secondary.specs.Taken.{IsSoaAt, AreOthers, Collects, Removes, Adds, sequence, Applies, Leads, IsCurrent, IsWhole, HasChangedForm, IsChanged, Taken}
 use Rattle.dns_secondary.specs.declared.fault.Fault.{Fault}
+use Rattle.dns_secondary.proofs.Runs.{rest_of}
 
--- an answer read record by record, of records that are fit
-abbrev pub Runs : Labels → Option Zone → State → List Record → List Record → Type 0
-Runs apex held at [] set = Means apex held at set
-Runs apex held at (r ∷ rs) set = (next : State) × (step apex held at r ≡ Ok next) × Runs apex held next rs set
+-- records that are fit lead from a state to another
+abbrev pub Goes : Labels → Option Zone → State → List Record → State → Type 0
+Goes apex held at [] end = end ≡ at
+Goes apex held at (r ∷ rs) end = (next : State) × (step apex held at r ≡ Ok next) × Goes apex held next rs end
 
-when : (b : Bool) (x y : Result State Fault) → b ≡ true → (if b then x else y) ≡ x
+pub when : (b : Bool) (x y : Result State Fault) → b ≡ true → (if b then x else y) ≡ x
 when true x y e = refl
 when false x y e = absurd cc
 
@@ -31,7 +32,7 @@ pub unless : (b : Bool) (x y : Result State Fault) → b ≡ false → (if b the
 unless false x y e = refl
 unless true x y e = absurd cc
 
-and_false : (b : Bool) → (b && false) ≡ false
+pub and_false : (b : Bool) → (b && false) ≡ false
 and_false true = refl
 and_false false = refl
 
@@ -68,36 +69,36 @@ along_is (c ∷ rest) end =
     ∙ ap (λ (xs : List Record). c.old_soa ∷ xs) (append_assoc c.removed (c.new_soa ∷ c.added) (along rest end))
 
 module _ (apex : Labels) (held : Option Zone) where
-  adds_run : (soa reached : Record) (set rs more final out : List Record)
+  adds_run : (soa reached : Record) (set rs more final : List Record) (out : State)
       → AreOthers rs
       → Adds set rs final
-      → Runs apex held (Adding soa final reached) more out
-      → Runs apex held (Adding soa set reached) (rs ++ more) out
-  adds_run soa reached set [] more final out o h run = subst (λ (s : List Record). Runs apex held (Adding soa s reached) more out) h run
+      → Goes apex held (Adding soa final reached) more out
+      → Goes apex held (Adding soa set reached) (rs ++ more) out
+  adds_run soa reached set [] more final out o h run = subst (λ (s : List Record). Goes apex held (Adding soa s reached) more out) h run
   adds_run soa reached set (r ∷ rs) more final out o h run = (
     Adding soa (put r set) reached,
     when (not (is_soa r)) _ _ (ap not o.0) ∙ unless (has r set) _ _ h.0,
     adds_run soa reached (put r set) rs more final out o.1 h.1 run,
   )
 
-  removes_run : (soa : Record) (set rs more left out : List Record)
+  removes_run : (soa : Record) (set rs more left : List Record) (out : State)
       → AreOthers rs
       → Removes set rs left
-      → Runs apex held (Removing soa left) more out
-      → Runs apex held (Removing soa set) (rs ++ more) out
-  removes_run soa set [] more left out o h run = subst (λ (s : List Record). Runs apex held (Removing soa s) more out) h run
+      → Goes apex held (Removing soa left) more out
+      → Goes apex held (Removing soa set) (rs ++ more) out
+  removes_run soa set [] more left out o h run = subst (λ (s : List Record). Goes apex held (Removing soa s) more out) h run
   removes_run soa set (r ∷ rs) more left out o h run = (
     Removing soa (without r set),
     unless (is_soa r) _ _ o.0 ∙ when (contains set r) _ _ h.0,
     removes_run soa (without r set) rs more left out o.1 h.1 run,
   )
 
-  collects_run : (soa : Record) (set rs more whole out : List Record)
+  collects_run : (soa : Record) (set rs more whole : List Record) (out : State)
       → AreOthers rs
       → Collects set rs whole
-      → Runs apex held (Whole soa whole) more out
-      → Runs apex held (Whole soa set) (rs ++ more) out
-  collects_run soa set [] more whole out o h run = subst (λ (s : List Record). Runs apex held (Whole soa s) more out) h run
+      → Goes apex held (Whole soa whole) more out
+      → Goes apex held (Whole soa set) (rs ++ more) out
+  collects_run soa set [] more whole out o h run = subst (λ (s : List Record). Goes apex held (Whole soa s) more out) h run
   collects_run soa set (r ∷ rs) more whole out o (inl h) run = (
     Whole soa (put r set),
     unless (is_soa r) _ _ o.0 ∙ when (not (has r set)) _ _ (ap not h.0),
@@ -110,13 +111,13 @@ module _ (apex : Labels) (held : Option Zone) where
   )
 
   -- one sequence, from a state in which the next SOA begins one
-  sequence_run : (at : State) (soa reached : Record) (set result : List Record) (c : Change) (more out : List Record)
+  sequence_run : (at : State) (soa reached : Record) (set result : List Record) (c : Change) (more : List Record) (out : State)
       → ((r : Record) → is_soa r ≡ true → step apex held at r ≡ sequence_from soa set reached r)
       → c.old_soa ≡ reached
       → (serial_of c.new_soa == serial_of soa && not (same c.new_soa soa)) ≡ false
       → Applies c set result
-      → Runs apex held (Adding soa result c.new_soa) more out
-      → Runs apex held at (c.old_soa ∷ (c.removed ++ (c.new_soa ∷ (c.added ++ more)))) out
+      → Goes apex held (Adding soa result c.new_soa) more out
+      → Goes apex held at (c.old_soa ∷ (c.removed ++ (c.new_soa ∷ (c.added ++ more)))) out
   sequence_run at soa reached set result c more out begins from fine a run =
       let same_old : same c.old_soa reached ≡ true = subst (λ (s : Record). same c.old_soa s ≡ true) from (same_itself c.old_soa) in
       let goes = a.goes in
@@ -135,11 +136,10 @@ module _ (apex : Labels) (held : Option Zone) where
   leads_run : (at : State) (soa reached : Record) (set : List Record) (changes : List Change) (out : List Record)
       → ((r : Record) → is_soa r ≡ true → step apex held at r ≡ sequence_from soa set reached r)
       → is_soa soa ≡ true
-      → IsZone (record { apex = apex; records = out })
       → Leads soa reached set changes out
-      → Runs apex held at (along changes (soa ∷ [])) out
-  leads_run at soa reached set [] out begins leading valid h = absurd h
-  leads_run at soa reached set (c ∷ []) out begins leading valid h =
+      → Goes apex held at (along changes (soa ∷ [])) (Ended out)
+  leads_run at soa reached set [] out begins leading h = absurd h
+  leads_run at soa reached set (c ∷ []) out begins leading h =
       let same_new : same c.new_soa soa ≡ true = subst (λ (s : Record). same c.new_soa s ≡ true) h.1 (same_itself c.new_soa) in
       let one_serial : (serial_of c.new_soa == serial_of soa) ≡ true = serials_same (serial_of c.new_soa) (serial_of soa) (ap serial_of h.1) in
       let fine : (serial_of c.new_soa == serial_of soa && not (same c.new_soa soa)) ≡ false =
@@ -147,21 +147,17 @@ module _ (apex : Labels) (held : Option Zone) where
       let ends : step apex held (Adding soa out c.new_soa) soa ≡ Ok (Ended out) =
       unless (not (is_soa soa)) _ _ (ap not leading) ∙ when (serial_of c.new_soa == serial_of soa) _ _ one_serial
       ∙ when (same soa soa) _ _ (same_itself soa) in
-      sequence_run at soa reached set out c (soa ∷ []) out begins h.0 fine h.2 (Ended out, ends, (refl, valid))
-  leads_run at soa reached set (c ∷ d ∷ rest) out begins leading valid h =
+      sequence_run at soa reached set out c (soa ∷ []) (Ended out) begins h.0 fine h.2 (Ended out, ends, refl)
+  leads_run at soa reached set (c ∷ d ∷ rest) out begins leading h =
       let fine : (serial_of c.new_soa == serial_of soa && not (same c.new_soa soa)) ≡ false =
       ap (λ b. b && not (same c.new_soa soa)) h.1 in
       let goes_on : (r : Record) → is_soa r ≡ true → step apex held (Adding soa h.2 c.new_soa) r ≡ sequence_from soa h.2 c.new_soa r =
       λ r is. unless (not (is_soa r)) _ _ (ap not is) ∙ unless (serial_of c.new_soa == serial_of soa) _ _ h.1 in
-      sequence_run at soa reached set h.2 c (along (d ∷ rest) (soa ∷ [])) out begins h.0 fine h.3
-      (leads_run (Adding soa h.2 c.new_soa) soa c.new_soa h.2 (d ∷ rest) out goes_on leading valid h.4)
+      sequence_run at soa reached set h.2 c (along (d ∷ rest) (soa ∷ [])) (Ended out) begins h.0 fine h.3
+      (leads_run (Adding soa h.2 c.new_soa) soa c.new_soa h.2 (d ∷ rest) out goes_on leading h.4)
 
   -- the three forms
-  current_run : (answer set : List Record) → IsCurrent apex held answer set → Runs apex held Begun answer set
-  current_run answer set h = subst (λ (xs : List Record). Runs apex held Begun xs set) (sym h.alone)
-      (Led h.soa, when (is_soa h.soa && names_eq (h.soa).owner apex) _ _ h.at_apex, (h.not_newer, h.stays))
-
-  soa_of : (a b : Bool) → (a && b) ≡ true → a ≡ true
+  pub soa_of : (a b : Bool) → (a && b) ≡ true → a ≡ true
   soa_of true b e = refl
   soa_of false b e = absurd cc
 
@@ -169,25 +165,19 @@ module _ (apex : Labels) (held : Option Zone) where
   lone_soa : (soa : Record) → is_soa soa ≡ true → IsZone (record { apex = apex; records = soa ∷ [] }) → ⊥
   lone_soa soa is z = lone_fault apex soa is z.valid
 
+  pub begins : (soa : Record) → IsSoaAt apex soa → step apex held Begun soa ≡ Ok (Led soa)
+  begins soa leading = when (is_soa soa && names_eq soa.owner apex) _ _ leading
+
   whole_second : (held' : Option Zone) (soa r : Record) → is_soa r ≡ false → second held' soa r ≡ within_whole soa (soa ∷ []) r
   whole_second None soa r o = refl
   whole_second (Some z) soa r o = unless (is_soa r) _ _ o ∙ sym (unless (is_soa r) _ _ o)
 
-  whole_others : (soa : Record) (others set : List Record) → is_soa soa ≡ true → AreOthers others → Collects (soa ∷ []) others set
-      → IsZone (record { apex = apex; records = set }) → Runs apex held (Led soa) (others ++ soa ∷ []) set
-  whole_others soa [] set leading o h valid =
-      absurd (lone_soa soa leading (subst (λ (s : List Record). IsZone (record { apex = apex; records = s })) h valid))
-  whole_others soa (r ∷ rs) set leading o h valid =
+  pub whole_others : (soa r : Record) (rs set : List Record) → is_soa soa ≡ true → AreOthers (r ∷ rs) → Collects (soa ∷ []) (r ∷ rs) set
+      → Goes apex held (Led soa) (r ∷ rs ++ soa ∷ []) (Ended set)
+  whole_others soa r rs set leading o h =
       let ends : step apex held (Whole soa set) soa ≡ Ok (Ended set) = when (is_soa soa) _ _ leading ∙ when (same soa soa) _ _ (same_itself soa) in
-      let all = collects_run soa (soa ∷ []) (r ∷ rs) (soa ∷ []) set set o h (Ended set, ends, (refl, valid)) in
+      let all = collects_run soa (soa ∷ []) (r ∷ rs) (soa ∷ []) set (Ended set) o h (Ended set, ends, refl) in
       (all.0, whole_second held soa r o.0 ∙ all.1, all.2)
-
-  whole_run : (answer set : List Record) → IsWhole apex answer set → Runs apex held Begun answer set
-  whole_run answer set h = subst (λ (xs : List Record). Runs apex held Begun xs set) (sym h.framed) (
-    Led h.soa,
-    when (is_soa h.soa && names_eq (h.soa).owner apex) _ _ h.at_apex,
-    whole_others h.soa h.others set (soa_of (is_soa h.soa) _ h.at_apex) h.no_soas h.all h.valid,
-  )
 
   changed_second : (held' : Option Zone) (z : Zone) (soa first r : Record) (more : List Record)
       → held' ≡ Some z
@@ -199,38 +189,71 @@ module _ (apex : Labels) (held : Option Zone) where
       ap (λ (h : Option Zone). second h soa r) is ∙ when (is_soa r) _ _ o
       ∙ ap (λ (rs : List Record). first_sequence soa z.records rs r) one ∙ unless (serial_of soa == serial_of first) _ _ other
 
-  changed_run : (answer set : List Record) → IsChanged apex held answer set → Runs apex held Begun answer set
-  changed_run answer set h =
+  pub changed_goes : (answer set : List Record) → HasChangedForm apex held answer set → Goes apex held Begun answer (Ended set)
+  changed_goes answer set h =
       let leading = soa_of (is_soa h.soa) _ h.at_apex in
       let framed : answer ≡ h.soa ∷ along h.changes (h.soa ∷ []) =
       h.framed ∙ ap (λ (xs : List Record). h.soa ∷ xs) (along_is h.changes (h.soa ∷ [])) in
-      subst (λ (xs : List Record). Runs apex held Begun xs set) (sym framed) (
+      subst (λ (xs : List Record). Goes apex held Begun xs (Ended set)) (sym framed) (
         Led h.soa,
-        when (is_soa h.soa && names_eq (h.soa).owner apex) _ _ h.at_apex,
+        begins h.soa h.at_apex,
         leads_run (Led h.soa) h.soa h.first (h.from).records h.changes set
-            (λ r is. changed_second held h.from h.soa h.first r h.more h.held_is h.first_is h.other_serial is) leading h.valid h.leads,
+            (λ r is. changed_second held h.from h.soa h.first r h.more h.held_is h.first_is h.other_serial is) leading h.leads,
       )
 
-  runs_rest : (at : State) (items : List ResourceRecord) (set : List Record)
-      → AllByRecursion IsFit items
-      → Runs apex held at (map record_of_item items) set
-      → Rest apex held at items set
-  runs_rest at [] set fit run = run
-  runs_rest at (i ∷ items) set fit run = (run.0, record { fit = fit.0; steps = run.1 }, runs_rest run.0 items set fit.1 run.2)
+  -- an answer that leads to a state which has a meaning
+  record HasMeaning (answer set : List Record) : Type 0 where
+    end : State
+    goes : Goes apex held Begun answer end
+    means : Means apex held end set
 
-  pub rest_runs : (at : State) (items : List ResourceRecord) (set : List Record)
-      → Rest apex held at items set
-      → AllByRecursion IsFit items × Runs apex held at (map record_of_item items) set
-  rest_runs at [] set rest = (tt, rest)
-  rest_runs at (i ∷ items) set rest =
-      let more = rest_runs rest.0 items set rest.2 in
-      (((rest.1).fit, more.0), (rest.0, (rest.1).steps, more.1))
+  current_means : (answer set : List Record) → IsCurrent apex held answer set → HasMeaning answer set
+  current_means answer set h = record {
+    end = Led h.soa;
+    goes = subst (λ (xs : List Record). Goes apex held Begun xs (Led h.soa)) (sym h.alone) (Led h.soa, begins h.soa h.at_apex, refl);
+    means = (h.not_newer, h.stays);
+  }
+
+  whole_means : (answer set : List Record) → IsWhole apex answer set → HasMeaning answer set
+  whole_means answer set h = at (h.form).soa (h.form).others (h.form).framed (h.form).at_apex (h.form).no_soas (h.form).all
+    where
+      at : (soa : Record) (others : List Record) → answer ≡ soa ∷ others ++ soa ∷ [] → IsSoaAt apex soa → AreOthers others
+          → Collects (soa ∷ []) others set → HasMeaning answer set
+      at soa [] framed leading o all =
+          absurd (lone_soa soa (soa_of (is_soa soa) _ leading) (subst (λ (s : List Record). IsZone (record { apex = apex; records = s })) all h.valid))
+      at soa (r ∷ rs) framed leading o all = record {
+        end = Ended set;
+        goes = subst (λ (xs : List Record). Goes apex held Begun xs (Ended set)) (sym framed)
+            (Led soa, begins soa leading, whole_others soa r rs set (soa_of (is_soa soa) _ leading) o all);
+        means = (refl, h.valid);
+      }
+
+  changed_means : (answer set : List Record) → IsChanged apex held answer set → HasMeaning answer set
+  changed_means answer set h = record { end = Ended set; goes = changed_goes answer set h.form; means = (refl, h.valid) }
+
+  -- of records of a message
+  pub reaches_of : (at : State) (items : List ResourceRecord) (end : State)
+      → AllByRecursion IsFit items
+      → Goes apex held at (map record_of_item items) end
+      → Reaches apex held at items end
+  reaches_of at [] end fit go = go
+  reaches_of at (i ∷ items) end fit go = (go.0, record { fit = fit.0; steps = go.1 }, reaches_of go.0 items end fit.1 go.2)
+
+  pub goes_of : (at : State) (items : List ResourceRecord) (end : State)
+      → Reaches apex held at items end
+      → AllByRecursion IsFit items × Goes apex held at (map record_of_item items) end
+  goes_of at [] end go = (tt, go)
+  goes_of at (i ∷ items) end go =
+      let more = goes_of go.0 items end go.2 in
+      (((go.1).fit, more.0), (go.0, (go.1).steps, more.1))
 
   pub taken_rest : (items : List ResourceRecord) (set : List Record) → Taken apex held items set → Rest apex held Begun items set
-  taken_rest items set h = runs_rest Begun items set h.fit (of h.form)
+  taken_rest items set h =
+      let m = of h.form in
+      (rest_of apex held Begun m.end items set (reaches_of Begun items m.end h.fit m.goes)).1 m.means
     where
       of : IsCurrent apex held (map record_of_item items) set ⊎ IsWhole apex (map record_of_item items) set ⊎ IsChanged apex held (map record_of_item items) set
-          → Runs apex held Begun (map record_of_item items) set
-      of (inl c) = current_run (map record_of_item items) set c
-      of (inr (inl w)) = whole_run (map record_of_item items) set w
-      of (inr (inr c)) = changed_run (map record_of_item items) set c
+          → HasMeaning (map record_of_item items) set
+      of (inl c) = current_means (map record_of_item items) set c
+      of (inr (inl w)) = whole_means (map record_of_item items) set w
+      of (inr (inr c)) = changed_means (map record_of_item items) set c

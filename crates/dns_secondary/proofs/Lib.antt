@@ -4,5 +4,9 @@ pub mod Carried
 pub mod Asked
 pub mod Door
 pub mod Forms
+pub mod Ends
 pub mod Shapes
 pub mod Applying
+pub mod Soas
+pub mod Beginnings
+pub mod Mores

@@ -24,6 +24,21 @@ module _ (apex : Labels) (held : Option Zone) where
   one_reached at a b (x ∷ xs) h g =
       one_reached h.0 a b xs h.2 (subst (λ s. Reaches apex held s xs b) (one_next at g.0 h.0 x g.1 h.1) g.2)
 
+  pub reached_on : (at mid next : State) (xs ys : List ResourceRecord)
+      → Reaches apex held at xs mid
+      → Reaches apex held mid ys next
+      → Reaches apex held at (xs ++ ys) next
+  reached_on at mid next [] ys h g = subst (λ s. Reaches apex held s ys next) h g
+  reached_on at mid next (x ∷ xs) ys h g = (h.0, h.1, reached_on h.0 mid next xs ys h.2 g)
+
+  pub reached_from : (at mid next : State) (xs ys : List ResourceRecord)
+      → Reaches apex held at xs mid
+      → Reaches apex held at (xs ++ ys) next
+      → Reaches apex held mid ys next
+  reached_from at mid next [] ys h g = subst (λ s. Reaches apex held s ys next) (sym h) g
+  reached_from at mid next (x ∷ xs) ys h g =
+      reached_from h.0 mid next xs ys h.2 (subst (λ s. Reaches apex held s (xs ++ ys) next) (one_next at g.0 h.0 x g.1 h.1) g.2)
+
   -- what follows means from the state behind the records what it means behind them
   pub rest_on : (at next : State) (xs more : List ResourceRecord) (set : List Record)
       → Reaches apex held at xs next

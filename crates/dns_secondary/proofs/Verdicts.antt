@@ -6,7 +6,7 @@ use Rattle.dns_wire.specs.Message.{Message, ResourceRecord}
 use Rattle.dns_wire.specs.Reads.{Reads}
 use Rattle.dns_request.specs.declared.request.Transport.{Transport}
 use Rattle.dns_request.specs.declared.request.Transport.TheVariants.{Udp, Tcp}
-use Rattle.dns_secondary.specs.State.{State, Begun, Led, Whole, Removing, Adding, Ended}
+use Rattle.dns_secondary.specs.State.{State, Begun, Led, Whole, Removing, Adding, Ended, IsUnfinished}
 use Rattle.dns_secondary.specs.Rest.{is_current, Means, Reaches, FailsBy}
 use Rattle.dns_secondary.specs.Receiving.{Receiving, header_fault}
 use Rattle.dns_secondary.specs.Told.{verdict, Concludes, Tells, Fails, Ends, Hears, Feeds, RefusesFrom, RefusesFeed, over}
@@ -42,6 +42,14 @@ more_open s (Removing soa so_far) set e m = m
 more_open s (Adding soa so_far reached) set e m = m
 more_open s (Ended ended) set e m = absurd cc
 
+more_unfinished : (s : Receiving) (at : State) → verdict s at ≡ More → IsUnfinished at
+more_unfinished s Begun e = tt
+more_unfinished s (Led soa) e = tt
+more_unfinished s (Whole soa so_far) e = tt
+more_unfinished s (Removing soa so_far) e = tt
+more_unfinished s (Adding soa so_far reached) e = tt
+more_unfinished s (Ended ended) e = absurd cc
+
 more_tcp : (s : Receiving) (at : State) (soa : Record) → verdict s at ≡ More → at ≡ Led soa → s.transport ≡ Tcp
 more_tcp s at soa e is = (led_more (is_current s.held soa) s.transport (ap (verdict s) (sym is) ∙ e)).1
 
@@ -70,6 +78,8 @@ pub tells : (s : Receiving) (at next : State) (records : List ResourceRecord) (p
     → Tells s at records p new
 tells s at next records More new run e c = (
   next,
+  run,
+  more_unfinished (over s) next (sym e),
   c,
   (λ more set. rest_on s.apex s.held at next records more set run),
   (λ set r. more_open (over s) next set (sym e) ((rest_of s.apex s.held at next records set run).0 r)),

@@ -35,7 +35,7 @@ abbrev pub Rest : Labels → Option Zone → State → List ResourceRecord → L
 Rest apex held state [] set = Means apex held state set
 Rest apex held state (i ∷ more) set = (next : State) × Takes apex held state i next × Rest apex held next more set
 
--- The state behind some records.
+-- The state after some records.
 abbrev pub Reaches : Labels → Option Zone → State → List ResourceRecord → State → Type 0
 Reaches apex held state [] next = next ≡ state
 Reaches apex held state (i ∷ more) next = (mid : State) × Takes apex held state i mid × Reaches apex held mid more next

@@ -1,5 +1,5 @@
 -- How far the answer to a transfer was read.
-use Rattle.std.specs.Prelude.{List}
+use Rattle.std.specs.Prelude.{⊤, List}
 use Rattle.dns_records.specs.Record.{Record}
 
 pub data State : Type 0 where
@@ -15,3 +15,8 @@ pub data State : Type 0 where
   Adding : (soa : Record) (set : List Record) (reached : Record) → State
   -- behind the end, with the set that the answer leads to
   Ended : (set : List Record) → State
+
+-- The answer is not at its end there: a record may follow.
+abbrev pub IsUnfinished : State → Type 0
+IsUnfinished (Ended set) = ⊥
+IsUnfinished state = ⊤

@@ -1,5 +1,5 @@
 -- What the whole answer to a transfer means, by its form alone.
-use Rattle.std.specs.Prelude.{◌≡◌, ◌⊎◌, ◌==◌, ◌&&◌, true, false, List, [], ◌∷◌, ◌++◌, map, Option, Some}
+use Rattle.std.specs.Prelude.{◌≡◌, ◌≢◌, ◌⊎◌, ◌==◌, ◌&&◌, true, false, List, [], ◌∷◌, ◌++◌, map, Option, Some}
 use Rattle.std.specs.List.{AllByRecursion, flat_map}
 use Rattle.dns_names.specs.Name.{Labels, names_eq}
 use Rattle.dns_records.specs.Record.{Record, serial_of}
@@ -32,14 +32,18 @@ Collects set (r ∷ rest) whole =
     ((has r set ≡ false) × Collects (put r set) rest whole)
     ⊎ ((contains set r ≡ true) × (has r set ≡ true) × Collects set rest whole)
 
--- A SOA, records that are none, and the same SOA: the set of them all (RFC 5936 2.2).
-pub record IsWhole (apex : Labels) (answer set : List Record) : Type 0 where
+-- A SOA, records that are none, and the same SOA, with the set of them all.
+pub record HasWholeForm (apex : Labels) (answer set : List Record) : Type 0 where
   pub soa : Record
   pub others : List Record
   pub framed : answer ≡ soa ∷ others ++ soa ∷ []
   pub at_apex : IsSoaAt apex soa
   pub no_soas : AreOthers others
   pub all : Collects (soa ∷ []) others set
+
+-- A whole zone (RFC 5936 2.2).
+pub record IsWhole (apex : Labels) (answer set : List Record) : Type 0 where
+  pub form : HasWholeForm apex answer set
   pub valid : IsZone (record { apex = apex; records = set })
 
 -- A set but for records, each of which is there, with its TTL, when it goes.
@@ -78,8 +82,9 @@ Leads soa reached set (c ∷ d ∷ rest) result =
     × Applies c set mid
     × Leads soa c.new_soa mid (d ∷ rest) result
 
--- A SOA whose serial is not that of the version that is held, sequences from that version on, and the same SOA.
-pub record IsChanged (apex : Labels) (held : Option Zone) (answer set : List Record) : Type 0 where
+-- A SOA whose serial is not that of the version that is held, sequences from that version on, and the same SOA, with the set
+-- that the sequences lead to.
+pub record HasChangedForm (apex : Labels) (held : Option Zone) (answer set : List Record) : Type 0 where
   pub soa : Record
   pub changes : List Change
   pub framed : answer ≡ soa ∷ flat_map sequence changes ++ soa ∷ []
@@ -91,6 +96,10 @@ pub record IsChanged (apex : Labels) (held : Option Zone) (answer set : List Rec
   pub first_is : soas from.records ≡ first ∷ more
   pub other_serial : (serial_of soa == serial_of first) ≡ false
   pub leads : Leads soa first from.records changes set
+
+-- Changes that lead to a zone (RFC 1995 4).
+pub record IsChanged (apex : Labels) (held : Option Zone) (answer set : List Record) : Type 0 where
+  pub form : HasChangedForm apex held answer set
   pub valid : IsZone (record { apex = apex; records = set })
 
 -- The records of a message are records that a zone can have, and one of the three forms.
@@ -99,3 +108,17 @@ pub record Taken (apex : Labels) (held : Option Zone) (answer : List ResourceRec
   pub form : IsCurrent apex held (map record_of_item answer) set
       ⊎ IsWhole apex (map record_of_item answer) set
       ⊎ IsChanged apex held (map record_of_item answer) set
+
+-- A list of one of the three forms, whether the set is a zone or not.
+abbrev pub HasForm : Labels → Option Zone → List Record → Type 0
+HasForm apex held answer =
+    ((soa : Record) × (answer ≡ soa ∷ []) × IsSoaAt apex soa)
+    ⊎ ((set : List Record) × HasWholeForm apex answer set)
+    ⊎ ((set : List Record) × HasChangedForm apex held answer set)
+
+-- Records that a zone can have, which begin a longer list of a form.
+pub record IsBeginning (apex : Labels) (held : Option Zone) (records : List ResourceRecord) : Type 0 where
+  pub fit : AllByRecursion IsFit records
+  pub later : List Record
+  pub longer : later ≢ []
+  pub form : HasForm apex held (map record_of_item records ++ later)

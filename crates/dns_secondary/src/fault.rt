@@ -20,7 +20,7 @@ pub enum Progress {
 /// Why an answer is refused.
 #[derive(Clone, Copy, Debug, Error, PartialEq, Eq)]
 pub enum Fault {
-    /// Memory was refused.
+    /// Memory was refused, and nothing has changed.
     #[error("memory was refused")]
     OutOfMemory,
     /// The octets are no message, no response to a query, cut off (TC), or ask another question.

@@ -1,14 +1,15 @@
 //! How far an answer was read.
-ghost use Rattle.std.specs.Prelude.{◌≡◌, List};
+ghost use Rattle.std.specs.Prelude.{◌≡◌, List, IfOk};
 ghost use Rattle.dns_records.specs.Record.{Record as Stated};
 ghost use Rattle.dns_secondary.specs.State.{Ended};
 
 use dns_records::Record;
 use dns_zone::ZoneIndex;
+use std::alloc::AllocError;
 use std::marker::Model;
 
 /// The place in an answer.
-#[derive(Drop)]
+#[derive(Clone, Drop)]
 pub(crate) enum Phase {
     /// Before the first record.
     Begun,
@@ -43,6 +44,20 @@ impl<I: ZoneIndex> Model for Reading<I> {
 }
 
 impl<I: ZoneIndex> Reading<I> {
+    /// The same again. What is read on from one does not change the other.
+    pub(crate) fn fork(&self) -> Result<Reading<I>, AllocError>
+        ensures { IfOk result (λ fork. fork ≡ self.now) }
+    {
+        let set = self.set.fork()?;
+        match self.phase.clone() {
+            Ok(phase) => Ok(Reading { phase, set }),
+            Err(error) => {
+                drop(set);
+                Err(error)
+            }
+        }
+    }
+
     /// The set alone.
     pub(crate) fn into_set(self) -> I
         ensures { (set : List Stated) → self ≡ Ended set → I.records result ≡ set }

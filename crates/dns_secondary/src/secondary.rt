@@ -12,7 +12,7 @@ ghost use Rattle.dns_secondary.specs.State.{Begun, Led};
 ghost use Rattle.dns_secondary.specs.Rest.{is_current, Reaches, FailsBy};
 ghost use Rattle.dns_secondary.specs.Receiving.{header_fault, is_answer, repeats_question, type_asked};
 ghost use Rattle.dns_secondary.specs.Request.{question_asked, request_octets, request_message, most_by};
-ghost use Rattle.dns_secondary.specs.Told.{verdict, Concludes, Feeds, Hears, Tells, Fails, RefusesMessage, RefusesFrom, RefusesFeed, Ends, holding, over};
+ghost use Rattle.dns_secondary.specs.Told.{verdict, Concludes, Feeds, Hears, Tells, Fails, RefusesMessage, RefusesFrom, RefusesFeed, Ends, holding, after_fault};
 
 use crate::reading::{Phase, Reading};
 use crate::request::{request, type_asked};
@@ -28,8 +28,8 @@ use dns_zone::{Zone, ZoneIndex};
 use std::alloc::AllocError;
 use std::marker::Model;
 
-/// One who asked for a transfer of a zone: the version that is held, if one is, and how far the answer was read. The records of the
-/// answer are applied to a set of their own, beside the version that is held, and no message is kept.
+/// One who asked for a transfer of a zone: the version that is held, if one is, and how far the answer was read. The records
+/// of a message are applied to a fork of the set that was reached, beside the version that is held, and no message is kept.
 pub struct Secondary<I: ZoneIndex> {
     apex: Name,
     held: Option<Zone<I>>,
@@ -283,71 +283,82 @@ impl<I: ZoneIndex> Secondary<I> {
         }
     }
 
-    /// The records of a message, behind those that were read.
+    /// The records of a message, after those that were read, in a fork of what they led to.
     fn take_answers(
         &self,
         alloc: Heap,
-        reading: Reading<I>,
+        reading: &Reading<I>,
         message: &Message<'_>,
     ) -> Result<Reading<I>, Fault>
         ensures reached { IfOk result
-            (λ next. Reaches self.now.apex self.now.held reading message.now.message.answers next) }
+            (λ next. Reaches self.now.apex self.now.held reading.now message.now.message.answers next) }
         ensures refused { IfErr result
-            (λ e. (e ≡ Fault.OutOfMemory) ⊎ FailsBy self.now.apex self.now.held reading message.now.message.answers e) }
+            (λ e. (e ≡ Fault.OutOfMemory)
+            ⊎ FailsBy self.now.apex self.now.held reading.now message.now.message.answers e) }
     {
-        reading.take_all(alloc, &self.apex, &self.held, message.answers())
+        match reading.fork() {
+            Ok(fork) => fork.take_all(alloc, &self.apex, &self.held, message.answers()),
+            Err(_) => Err(Fault::OutOfMemory),
+        }
     }
 
     /// What the records of a message tell.
     fn apply(
         &mut self,
         alloc: Heap,
-        reading: Reading<I>,
+        reading: &Reading<I>,
         message: &Message<'_>,
     ) -> Result<Progress, Fault>
         requires { self.old.state ≡ None }
-        ensures told { IfOk result (λ p. Tells self.old reading message.now.message.answers p self.new) }
+        ensures told { IfOk result (λ p. Tells self.old reading.now message.now.message.answers p self.new) }
         ensures refused { IfErr result
-            (λ e. (e ≡ Fault.OutOfMemory) ⊎ Fails self.old reading message.now.message.answers e) }
+            (λ e. (e ≡ Fault.OutOfMemory) ⊎ Fails self.old reading.now message.now.message.answers e) }
         ensures stays { OnErr result (self.new ≡ self.old) }
     {
         let reading = self.take_answers(alloc, reading, message)?;
         self.conclude(reading)
     }
 
-    /// What octets tell that come behind those that were read.
-    fn hear(&mut self, alloc: Heap, reading: Reading<I>, octets: &[u8]) -> Result<Progress, Fault>
+    /// What octets tell that come after those that were read.
+    fn hear(&mut self, alloc: Heap, reading: &Reading<I>, octets: &[u8]) -> Result<Progress, Fault>
         requires { self.old.state ≡ None }
-        ensures told { IfOk result (λ p. Hears self.old reading octets.now p self.new) }
+        ensures told { IfOk result (λ p. Hears self.old reading.now octets.now p self.new) }
         ensures refused { IfErr result
-            (λ e. (e ≡ Fault.OutOfMemory) ⊎ RefusesFrom self.old (Some reading) octets.now e) }
+            (λ e. (e ≡ Fault.OutOfMemory) ⊎ RefusesFrom self.old (Some reading.now) octets.now e) }
         ensures stays { OnErr result (self.new ≡ self.old) }
     {
         match self.accept(octets) {
             Ok(message) => self.apply(alloc, reading, &message),
-            Err(fault) => {
-                drop(reading);
-                Err(fault)
-            }
+            Err(fault) => Err(fault),
         }
     }
 
-    /// Reads the next message of the answer, and applies its records as they come. The tests stand in this order:
+    /// Reads the next message of the answer, and applies its records as they come. `More` is answered where they lead to a
+    /// state that is not at the answer's end, from which the next message is read. The tests are made in this order:
     ///
     /// - `AfterEnd`: the answer is at its end, or was refused before.
     /// - `BadMessage`, `WrongId`, `Refused`: of the message's header and its question.
-    /// - `BadSequence`, `RemovesAbsent`, `AddsPresent`, `InvalidZone`: of its records, the first that is a fault; at the end of the
-    ///   answer, behind the last record of the message, the set that is no valid zone.
+    /// - `BadSequence`, `RemovesAbsent`, `AddsPresent`, `InvalidZone`: of its records, the first that is a fault; at the
+    ///   end of the answer, after the last record of the message, the set that is no valid zone.
     ///
-    /// Where it is refused, for want of memory too, the version that is held stays, and every later call answers `AfterEnd`, as
-    /// behind `Done`, `UpToDate` and `RetryTcp`.
+    /// Where it is refused, the version that is held stays, and every later call answers `AfterEnd`, as after `Done`,
+    /// `UpToDate` and `RetryTcp`. `OutOfMemory`, which may come at any call, changes nothing: the same message can be fed
+    /// again.
     pub fn feed(&mut self, alloc: Heap, octets: &[u8]) -> Result<Progress, Fault>
         ensures fed { IfOk result (λ progress. Feeds self.old octets.now progress self.new) }
         ensures refused { IfErr result (λ e. (e ≡ Fault.OutOfMemory) ⊎ RefusesFeed self.old octets.now e) }
-        ensures stays { OnErr result (self.new ≡ over self.old) }
+        ensures stays { IfErr result (λ e. self.new ≡ after_fault self.old e) }
     {
         match self.reading.take() {
-            Some(reading) => self.hear(alloc, reading, octets),
+            Some(reading) => {
+                let told = self.hear(alloc, &reading, octets);
+                if matches!(told, Err(Fault::OutOfMemory)) {
+                    self.reading.insert(reading);
+                    return told;
+                }
+                drop(reading);
+                told
+            }
             None => Err(Fault::AfterEnd),
         }
     }

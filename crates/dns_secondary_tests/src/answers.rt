@@ -1,4 +1,5 @@
-//! Answers that were made up, fed message by message, beside a plain reader of whole lists of records.
+//! Answers that were made up, fed message by message, also where memory is refused, beside a plain reader of whole lists
+//! of records.
 use crate::exchanges::{asking_as, name};
 use crate::letters::{HELD, RECORDS, letters_in, meaning};
 use crate::made_up::{made_up, next};
@@ -95,16 +96,33 @@ fn holds(alloc: Heap, secondary: &Secondary<RecordList>, letters: &[u8]) -> Opti
     Some(are_held)
 }
 
-/// What is told of a message.
+/// What is told of octets, each of whose allocations is refused before, in turn.
+fn fed_again(
+    alloc: Heap,
+    secondary: &mut Secondary<RecordList>,
+    octets: &[u8],
+) -> Option<Result<Progress, Fault>> {
+    for n in 1..1000u64 {
+        alloc.refuse(n);
+        let told = secondary.feed(alloc, octets);
+        alloc.refuse(0);
+        if told != Err(Fault::OutOfMemory) {
+            return Some(told);
+        }
+    }
+    None
+}
+
+/// What is told of a message, each of whose allocations is refused before, in turn.
 fn fed(
     alloc: Heap,
     secondary: &mut Secondary<RecordList>,
     letters: &[u8],
 ) -> Option<Result<Progress, Fault>> {
     let octets = message(alloc, letters)?;
-    let told = secondary.feed(alloc, octets.as_slice());
+    let told = fed_again(alloc, secondary, octets.as_slice());
     drop(octets);
-    Some(told)
+    told
 }
 
 /// What was told of a message, as it agrees with the plain reader.
@@ -205,7 +223,8 @@ fn disagreeing(alloc: Heap, count: u32) -> Option<(Option<u32>, u32)> {
     Some((None, with_meaning))
 }
 
-// Five hundred answers, cut off, with records that come twice, are missing, exchanged or others.
+// Five hundred answers, cut off, with records that come twice, are missing, exchanged or others. Of each message every
+// allocation is refused before, in turn, and it is fed again.
 #[test]
 fn answers_that_were_made_up(rt: HostRuntime) -> Result<(), Fail> {
     let alloc = heap(rt.alloc())?;

@@ -21,12 +21,17 @@ use Rattle.dns_replay.specs.declared.run.Ending.{Ending}
 use Rattle.dns_replay.specs.declared.run.Ending.TheVariants as ending
 use Rattle.dns_configuration.specs.Faults.{line, fault_text}
 use Rattle.dns_configuration.specs.Files.{Holds, IsFirstFault, IsLoaded}
-use Rattle.dns_configuration.specs.Known.{origins_of}
+use Rattle.dns_configuration.specs.Known.{IsSettingOf, origins_of}
+use Rattle.dns_sectors.specs.Device.{Content}
+use Rattle.dns_sectors.specs.declared.device.Sectors.{Ghosts}
+use Rattle.dns_sectors.specs.declared.memory.Keep as told
+use Rattle.dns_primary.specs.declared.primary.ZoneSettings as primary
 use Rattle.dns_devices.specs.Faults.{device_text, fault_of_format}
 use Rattle.dns_script.specs.Lines.{lines}
-use Rattle.dns_replay.specs.Scripts.{Led, Runs, Takes}
+use Rattle.dns_replay.specs.Crashes.{IsCrash}
+use Rattle.dns_replay.specs.Scripts.{Crash, Led, Runs, Takes}
 
--- A zone as it was loaded, with what is configured of it: no update was accepted.
+-- A zone as it was loaded, with what is configured of it: no update was accepted, and its store was opened once.
 pub record IsBegun (settings : ZoneSettings) (zone : Zone) (z : ZoneState) : Type 0 where
   pub shape : z.setting.shape
       ≡ record { apex = zone.apex; snapshot = settings.snapshot_sectors; journal = settings.journal_sectors }
@@ -38,6 +43,7 @@ pub record IsBegun (settings : ZoneSettings) (zone : Zone) (z : ZoneState) : Typ
   pub staged : z.staged ≡ []
   pub base : z.base ≡ 0
   pub second : z.second ≡ None
+  pub openings : z.openings ≡ 1
   pub opened : z.closed ≡ false
 
 -- The machine of these zones, to which nothing has happened.
@@ -51,26 +57,27 @@ abbrev pub devices_of : List ZoneSettings → List (List ℕ)
 devices_of settings = map (λ (z : ZoneSettings). string_bytes z.device) settings
 
 -- The lines of a script lead there, from this machine on, by a run of the machine; and the run ends so.
-abbrev pub RunsInto : List Labels → Machine → List (List ℕ) → Ending → Option (List ℕ) → Option (List ℕ) → Type 0
-RunsInto origins m lines ending out out_after =
-    (led : Led) × Runs origins (Takes m) 1 lines led ending × Run m led.moments × Appends out out_after led.text
+abbrev pub RunsInto : List Labels → Crash → Machine → List (List ℕ) → Ending → Option (List ℕ) → Option (List ℕ) → Type 0
+RunsInto origins crash m lines ending out out_after =
+    (led : Led) × Runs origins crash (Takes m) 1 lines led ending × Run m led.moments × Appends out out_after led.text
 
-abbrev pub Ran : List Labels → Machine → Ending → Option (List ℕ) → Option (List ℕ) → Option (List ℕ) → Type 0
-Ran origins m ending None out out_after = ⊥
-Ran origins m ending (Some octets) out out_after = RunsInto origins m (lines octets) ending out out_after
+abbrev pub Ran : List Labels → Crash → Machine → Ending → Option (List ℕ) → Option (List ℕ) → Option (List ℕ) → Type 0
+Ran origins crash m ending None out out_after = ⊥
+Ran origins crash m ending (Some octets) out out_after = RunsInto origins crash m (lines octets) ending out out_after
 
-abbrev pub IsScriptFault : List Labels → Machine → Option (List ℕ) → Fault → Option (List ℕ) → Option (List ℕ) → Type 0
-IsScriptFault origins m None Unreadable out out_after = Keeps out out_after
-IsScriptFault origins m (Some octets) (Syntax number) out out_after =
-    RunsInto origins m (lines octets) (ending.Syntax number) out out_after
-IsScriptFault origins m octets fault out out_after = ⊥
+abbrev pub IsScriptFault : List Labels → Crash → Machine → Option (List ℕ) → Fault → Option (List ℕ) → Option (List ℕ) → Type 0
+IsScriptFault origins crash m None Unreadable out out_after = Keeps out out_after
+IsScriptFault origins crash m (Some octets) (Syntax number) out out_after =
+    RunsInto origins crash m (lines octets) (ending.Syntax number) out out_after
+IsScriptFault origins crash m octets fault out out_after = ⊥
 
 -- A fault of the script is told: that it can't be read, or the first line that is no command, behind what the lines before it print.
-pub record IsScriptTold (origins : List Labels) (m : Machine) (script : File) (out out_after err err_after : Option (List ℕ)) : Type 0
-  where
-    pub fault : Fault
-    pub is : IsScriptFault origins m (option_copied script.octets) fault out out_after
-    pub told : Appends err err_after (line (fault_text script.path.now fault))
+pub record IsScriptTold (origins : List Labels) (crash : Crash) (m : Machine) (script : File)
+    (out out_after err err_after : Option (List ℕ))
+    : Type 0 where
+  pub fault : Fault
+  pub is : IsScriptFault origins crash m (option_copied script.octets) fault out out_after
+  pub told : Appends err err_after (line (fault_text script.path.now fault))
 
 -- A device is told on which no store can be made, and why.
 pub record IsUnmadeTold (devices : List (List ℕ)) (err err_after : Option (List ℕ)) : Type 0 where
@@ -84,27 +91,33 @@ pub record IsUnmadeTold (devices : List (List ℕ)) (err err_after : Option (Lis
 -- print that is no command, and that line is told, or that the script can't be read; or what the lines print up to the one behind
 -- which a store is refused; or nothing, and the device is told on which no store can be made. With 3 a writer or a device failed, or
 -- memory was refused.
-pub record ScriptEnds (origins : List Labels) (devices : List (List ℕ)) (m : Machine) (script : File)
+pub record ScriptEnds (origins : List Labels) (crash : Crash) (devices : List (List ℕ)) (m : Machine) (script : File)
     (out out_after err err_after : Option (List ℕ)) (status : ℕ)
     : Type 0 where
-  pub done : status ≡ 0 → Ran origins m ending.Done (option_copied script.octets) out out_after × Keeps err err_after
+  pub done : status ≡ 0 → Ran origins crash m ending.Done (option_copied script.octets) out out_after × Keeps err err_after
   pub refused : status ≡ 1
-      → IsScriptTold origins m script out out_after err err_after
-      ⊎ (Ran origins m ending.Refused (option_copied script.octets) out out_after × Keeps err err_after)
+      → IsScriptTold origins crash m script out out_after err err_after
+      ⊎ (Ran origins crash m ending.Refused (option_copied script.octets) out out_after × Keeps err err_after)
       ⊎ (IsUnmadeTold devices err err_after × Keeps out out_after)
   pub others : status ≤ 1 ⊎ (status ≡ 3)
 
--- The zones of the configuration that a file holds, and how a run of a script ends that begins with them.
-pub record RunsOver (config : Option (List ℕ)) (files : List File) (script : File) (out out_after err err_after : Option (List ℕ))
-    (status : ℕ) : Type 0 where
+-- The zones of the configuration that a file holds, what a primary is told of each, and how a run of a script ends that begins with
+-- them: there is a machine of these zones to which nothing has happened, and from each such machine it ends so. A crash keeps of the
+-- pending writes on each device those that the script says.
+pub record RunsOver {D : Type 0} (g : Ghosts D) (kept : D → told.Keep → Content) (config : Option (List ℕ)) (files : List File)
+    (script : File) (out out_after err err_after : Option (List ℕ)) (status : ℕ)
+    : Type 0 where
   pub configuration : Configuration
   pub zones : List Zone
   pub described : Holds config (Ok configuration)
   pub loaded : AllZip (IsLoaded files) configuration.zones.items zones
+  pub known : List primary.ZoneSettings
+  pub settings : AllZip IsSettingOf configuration.zones.items known
+  pub begins : (m : Machine) × Begins configuration.zones.items zones m
   pub ends : (m : Machine)
       → Begins configuration.zones.items zones m
-      → ScriptEnds (origins_of configuration.zones.items) (devices_of configuration.zones.items) m script out out_after err err_after
-      status
+      → ScriptEnds (origins_of configuration.zones.items) (IsCrash g kept (origins_of configuration.zones.items) known)
+      (devices_of configuration.zones.items) m script out out_after err err_after status
 
 -- The fault that is told, behind a path, before the script runs: of the configuration, or else of the first master file that
 -- holds no zone, in the order of the zones.
@@ -115,10 +128,11 @@ IsFault config files path fault =
 
 -- How a run with a configuration, files and a script ends: nothing runs, and the first fault is told; or the script ran over the
 -- zones that are held; or, with status 3, a writer or a device failed or memory was refused.
-abbrev pub ReplayEnds : File → List File → File → Option (List ℕ) → Option (List ℕ) → Option (List ℕ) → Option (List ℕ) → ℕ → Type 0
-ReplayEnds config files script out out_after err err_after status =
+abbrev pub ReplayEnds : {D : Type 0} → Ghosts D → (D → told.Keep → Content) → File → List File → File → Option (List ℕ)
+    → Option (List ℕ) → Option (List ℕ) → Option (List ℕ) → ℕ → Type 0
+ReplayEnds g kept config files script out out_after err err_after status =
     ((status ≡ 1) × Keeps out out_after
     × ((path : List ℕ) × (fault : Fault) × IsFault config files path fault
     × Appends err err_after (line (fault_text path fault))))
-    ⊎ RunsOver (option_copied config.octets) files script out out_after err err_after status
+    ⊎ RunsOver g kept (option_copied config.octets) files script out out_after err err_after status
     ⊎ (status ≡ 3)

@@ -2,6 +2,7 @@
 ghost use Rattle.std.specs.Prelude.{◌≡◌, ◌⊎◌, length, map, IfOk};
 ghost use Rattle.dns_primary.specs.Machine.{Machine};
 ghost use Rattle.dns_primary.specs.Fresh.{IsFresh};
+ghost use Rattle.dns_replay.specs.Crashes.{IsCrash};
 ghost use Rattle.dns_server.specs.Replays.{IsUnmadeTold, ReplayEnds, ScriptEnds, devices_of};
 
 use crate::files::Index;
@@ -11,8 +12,8 @@ use dns_configuration::{
 };
 use dns_devices::{DeviceFault, tell_device};
 use dns_memory::Heap;
-use dns_replay::{Ending, NotMade, replay_zones};
-use dns_sectors::MemorySectors;
+use dns_replay::{Ending, NotMade, ScriptDevice, replay_zones};
+use dns_sectors::{MemorySectors, Sectors};
 use dns_zone::Zone;
 use std::alloc::Global;
 use std::io::{self, Write};
@@ -43,8 +44,11 @@ fn run<W: Write, E: Write>(
     ensures { IfOk result
         (λ status. (m : Machine)
         → IsFresh zones.entry.items known.entry.items m
-        → ScriptEnds (map (λ z. z.apex) zones.entry.items) (devices_of own.now) m script.now (W.contents out.old)
-        (W.contents out.new) (E.contents err.old) (E.contents err.new) status) }
+        → ScriptEnds (map (λ z. z.apex) zones.entry.items)
+        (IsCrash ⟦<MemorySectors as Sectors>⟧ ⟦<MemorySectors as ScriptDevice>⟧.left_by
+        (map (λ z. z.apex) zones.entry.items) known.entry.items)
+        (devices_of own.now) m script.now (W.contents out.old) (W.contents out.new) (E.contents err.old) (E.contents err.new)
+        status) }
 {
     let Some(lines) = script.octets else {
         return tell(err, script.path, Fault::Unreadable);
@@ -69,8 +73,8 @@ fn replayed<W: Write, E: Write>(
     err: &mut E,
 ) -> io::Result<u8>
     ensures { IfOk result
-        (ReplayEnds config.now files.now script.now (W.contents out.old) (W.contents out.new) (E.contents err.old)
-        (E.contents err.new)) }
+        (ReplayEnds ⟦<MemorySectors as Sectors>⟧ ⟦<MemorySectors as ScriptDevice>⟧.left_by config.now files.now script.now
+        (W.contents out.old) (W.contents out.new) (E.contents err.old) (E.contents err.new)) }
 {
     let settings = match read_configuration(alloc, heap, config) {
         Ok(configuration) => configuration.zones,
@@ -97,8 +101,8 @@ pub fn replay<W: Write, E: Write>(
     out: &mut W,
     err: &mut E,
 ) -> u8
-    ensures { ReplayEnds config.now files.now script.now (W.contents out.old) (W.contents out.new) (E.contents err.old)
-        (E.contents err.new) result }
+    ensures { ReplayEnds ⟦<MemorySectors as Sectors>⟧ ⟦<MemorySectors as ScriptDevice>⟧.left_by config.now files.now script.now
+        (W.contents out.old) (W.contents out.new) (E.contents err.old) (E.contents err.new) result }
 {
     replayed(alloc, heap, config, files, script, out, err).unwrap_or(FAILED)
 }

@@ -31,12 +31,14 @@ fn open_devices<D: Sectors + Drop, F: Devices<D>>(
 {
     let mut given = Vec::new(heap);
     for place in 0..zones.len() {
-        let refused = Refusal {
-            place,
-            fault: DeviceFault::Device,
-        };
-        let Ok(device) = devices.open(&zones[place].device) else {
-            return Err(refused);
+        let device = match devices.open(&zones[place].device) {
+            Ok(device) => device,
+            Err(error) => {
+                return Err(Refusal {
+                    place,
+                    fault: DeviceFault::from(error),
+                });
+            }
         };
         match given.push(device) {
             Ok(()) => {}
@@ -53,11 +55,12 @@ fn open_devices<D: Sectors + Drop, F: Devices<D>>(
 
 /// The fault of the device there, which was handed back when its store was refused for this.
 fn fault_at<D: Sectors>(devices: &mut [D], place: usize, error: OpenError) -> DeviceFault
-    ensures { IsFaultAt D.Sectors error devices.old place result }
+    ensures { IsFaultAt D.Sectors error devices.old devices.new place result }
 {
-    match devices.get_mut(place) {
-        Some(device) => refusal(device, error),
-        None => DeviceFault::from(error),
+    if place < devices.len() {
+        refusal(&mut devices[place], error)
+    } else {
+        DeviceFault::from(error)
     }
 }
 

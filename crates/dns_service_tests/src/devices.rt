@@ -1,5 +1,6 @@
 //! Devices in memory, each with the store of one zone.
 use dns_devices::Devices;
+use dns_files::OpenDeviceError;
 use dns_masterfile::read_zone;
 use dns_memory::Heap;
 use dns_names::Name;
@@ -92,8 +93,8 @@ impl Devices<MemorySectors> for InMemory {
         Err(DeviceError::Device)
     }
 
-    fn open(&self, _path: &str) -> Result<MemorySectors, DeviceError> {
-        device(self.0).ok_or(DeviceError::Device)
+    fn open(&self, _path: &str) -> Result<MemorySectors, OpenDeviceError> {
+        device(self.0).ok_or(OpenDeviceError::Device)
     }
 
     fn remove(&self, _path: &str) {}

@@ -20,10 +20,12 @@ use Rattle.dns_store.specs.declared.device_format.DeviceFormat.TheVariants as ki
 use Rattle.dns_layout.specs.Store.{Stored, OpensAsIn, OpensByIn, version_of}
 use Rattle.dns_layout.specs.declared.format.Format.TheVariants.{One, Two}
 use Rattle.dns_layout.specs.declared.root.Root.{Root}
+use Rattle.dns_journal.specs.State.{IsOpened}
 use Rattle.dns_journal.specs.Bank.{IsTurned}
 use Rattle.dns_journal.specs.Converting.{StaysOrConverts}
-use Rattle.dns_store.specs.Versions.{Versions, Shape, Opened, newest_after}
-use Rattle.dns_store.specs.Opens.{IsPartOf, IsPartOfIn, base_of, fresh, opens, sizes_of}
+use Rattle.dns_store.specs.Versions.{Versions, Shape, Opened, newest_after, moved_to}
+use Rattle.dns_store.specs.Opens.{IsPartOf, IsPartOfIn, base_of, durable_part, fresh, opens, sizes_of}
+use Rattle.dns_store.proofs.Leaves.{part_opened}
 use Rattle.dns_store.specs.Recovered.{AreLed}
 use Rattle.dns_store.specs.Checkpoint.{AllZones, IsBaseOf, IsNextBase, sectors_of_snapshot}
 use Rattle.dns_store.specs.Choosing.{IsChosen, version_from}
@@ -85,6 +87,10 @@ module _ (shape : Shape) (o : Opened) (s : Stored) (d : Content) (root : Root) (
   journal_is : root.journal_room ≡ shape.journal
   journal_is = omega (arith, read.says.journal_room_is, first.1.valid.journal)
 
+  -- how often it was opened
+  pub openings : root.open_count ≡ o.openings
+  openings = sym read.says.opened_is ∙ read.opened
+
   -- the newest version doesn't fit
   pub too_wide : root.snapshot_room < sectors_of_snapshot (newest_after base.records vs) → shape.snapshot < sectors_of_snapshot (newest_after o.loaded o.versions)
   too_wide wide =
@@ -144,14 +150,21 @@ module _ (shape : Shape) (o : Opened) (s : Stored) (d : Content) (root : Root) (
         let same : to.kept ≡ n = one_choice shape.snapshot shape.journal (base_of o) vs to.kept n to.chosen choice in
         let place : next ≡ after.base = omega (arith, to.base, same) in
         let part = part_turned One (fresh shape o) s new next octets (drop gone changes) read.part is turned in
-        subst (λ (a : Opened). IsPartOf shape.apex a new) (λ i. record { loaded = sym to.loaded i; versions = sym to.versions i; base = place i }) part
+        subst (λ (a : Opened). IsPartOf shape.apex a new) (λ i. record { loaded = sym to.loaded i; versions = sym to.versions i; base = place i; openings = after.openings })
+        (part_opened shape.apex (durable_part (moved_to next (fresh shape o))) after.openings new part)
 
     -- A crash leaves what was read, or what is migrated.
     pub converted : (zone : Zone) (octets lent : List ℕ) (m : ℕ) → m ≡ version - n → lent ≡ octets → IsNextBase base zone (take (length changes - n) vs) octets → (c : Content)
         → StaysOrConverts root m lent (drop (length changes - n) changes) d c → old_opens shape o c ⊎ ((after : Opened) → IsMigrated shape o after → opens shape after c)
     converted zone octets lent m m_is lent_is is c stays = ⊎_elim
-        (λ same. inl (s, same, read.part))
-        (λ turned. inr (λ after to. (turned.0, turned.2, turned.3, migrated lent turned.0 (subst (λ (l : List ℕ). IsBaseOf (fresh shape o) next l (drop gone changes)) (sym lent_is) (is_base zone octets is)) turned.1 after to)))
+        (λ same. inl (s, same.0, read.part, same.1 ∙ openings))
+        (λ turned. inr (λ after to. (
+          turned.0,
+          turned.2,
+          turned.3,
+          migrated lent turned.0 (subst (λ (l : List ℕ). IsBaseOf (fresh shape o) next l (drop gone changes)) (sym lent_is) (is_base zone octets is)) turned.1 after to,
+          turned.4 ∙ ap (λ m. m + 1) openings ∙ sym to.openings,
+        )))
         (stays (sizes_of shape) s (sector_at d 0) first.0 first.1 read.says (count_is m m_is))
 
     -- what `convert` is told
@@ -160,7 +173,7 @@ module _ (shape : Shape) (o : Opened) (s : Stored) (d : Content) (root : Root) (
 
 -- where nothing was written, it is held still
 pub stays_old : (root : Root) (version : ℕ) (base : Zone) (changes : List Change) (d c : Content) → c ≡ d → StaysOrMigrates root version base changes d c
-stays_old root version base changes d c is shape o s read = inl (s, subst (λ (x : Content). OpensAsIn One (sizes_of shape) x s) (sym is) read.opens, read.part)
+stays_old root version base changes d c is shape o s read = inl (s, subst (λ (x : Content). OpensAsIn One (sizes_of shape) x s) (sym is) read.opens, read.part, subst (λ (x : Content). IsOpened o.openings x) (sym is) read.opened)
 
 tags_differ : root_tag_in Two ≡ root_tag_in One → ⊥
 unfolding root_tag_in
@@ -193,10 +206,11 @@ old_tag shape o c is new = tags_differ (sym new ∙ ap (λ (x : List ℕ). tag x
 
 -- what was read, as it is told to what writes it anew
 pub read_old : (shape : Shape) (o : Opened) (s : Stored) (e d : Content) (root : Root) (end : Cursor) (base : Zone) (changes : List Change) (newest : List Record) → e ≡ d
-    → IsReadIn One (sizes_of shape) e o s root end base.records changes newest → base.apex ≡ shape.apex → OpensAsIn One (sizes_of shape) d s → IsPartOfIn One shape.apex o s → IsReadOld shape o s d root end.version base changes
-read_old shape o s e d root end base changes newest same is apex opens part = record {
+    → IsReadIn One (sizes_of shape) e o s root end base.records changes newest → base.apex ≡ shape.apex → OpensAsIn One (sizes_of shape) d s → IsPartOfIn One shape.apex o s → IsOpened o.openings d → IsReadOld shape o s d root end.version base changes
+read_old shape o s e d root end base changes newest same is apex opens part opened = record {
   opens = opens;
   part = part;
+  opened = opened;
   says = subst (λ (x : Content). SaysRootIn One (sector_at x 0) root) same is.says;
   version_is = is.version_is;
   base_is = λ i. record { apex = apex i; records = is.base_is i };
@@ -208,9 +222,9 @@ module _ {D : Type 0} {g : Ghosts D} (shape : Shape) (old mid : D) (honest : g.i
   reads_migrate = weaker g.moment g.left_since old mid (g.may_leave old) (MigratesAsPossible g shape old) (reads.any_moment honest) (λ c left. (c, left, λ o is. is))
 
   module _ (new : D) (root : Root) (version : ℕ) (base : Zone) (changes : List Change) (left : g.may_leave old (g.seen old)) (not_new : tag (sector_at (g.seen old) 0) ≡ root_tag → ⊥)
-      (read : (o : Opened) (s : Stored) → OpensAsIn One (sizes_of shape) (g.seen old) s → IsPartOfIn One shape.apex o s → IsReadOld shape o s (g.seen old) root version base changes) where
-    read_there : (o : Opened) (s : Stored) → OpensAsIn One (sizes_of shape) (g.seen old) s → IsPartOfIn One shape.apex o s → IsReadOld shape o s (g.seen mid) root version base changes
-    read_there o s is part = subst (λ (x : Content). IsReadOld shape o s x root version base changes) (sym (reads.seen honest)) (read o s is part)
+      (read : (o : Opened) (s : Stored) → OpensAsIn One (sizes_of shape) (g.seen old) s → IsPartOfIn One shape.apex o s → IsOpened o.openings (g.seen old) → IsReadOld shape o s (g.seen old) root version base changes) where
+    read_there : (o : Opened) (s : Stored) → OpensAsIn One (sizes_of shape) (g.seen old) s → IsPartOfIn One shape.apex o s → IsOpened o.openings (g.seen old) → IsReadOld shape o s (g.seen mid) root version base changes
+    read_there o s is part opened = subst (λ (x : Content). IsReadOld shape o s x root version base changes) (sym (reads.seen honest)) (read o s is part opened)
 
     pub writes_migrate : LeavesOnly g.moment g.left_since mid new (StaysOrMigrates root version base changes (g.seen mid)) → LeavesOnly g.moment g.left_since old new (MigratesAsPossible g shape old)
     writes_migrate run =
@@ -220,6 +234,6 @@ module _ {D : Type 0} {g : Ghosts D} (shape : Shape) (old mid : D) (honest : g.i
           left,
           λ o is. ⊎_elim
               (λ there_new. absurd (not_new (new_tag shape o (g.seen old) there_new)))
-              (λ was. ⊎_elim (λ same. inr (was.0, same, was.2)) (λ becomes. inl (becomes o was.2)) (stays shape was.0 was.1.0 (read_there was.0 was.1.0 was.1.1 was.1.2)))
+              (λ was. ⊎_elim (λ same. inr (was.0, same, was.2)) (λ becomes. inl (becomes o was.2)) (stays shape was.0 was.1.0 (read_there was.0 was.1.0 was.1.1 was.1.2 was.1.3)))
               is,
         ))

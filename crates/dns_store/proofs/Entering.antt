@@ -1,5 +1,5 @@
 -- What opening leaves of the device.
-use Rattle.std.proofs.Common.{◌≡◌, ◌⊎◌, inl, inr, ℕ, List, length, drop, refl, sym, subst, arith}
+use Rattle.std.proofs.Common.{◌≡◌, ◌⊎◌, inl, inr, ⊎_elim, ℕ, ◌+◌, List, length, drop, refl, sym, ◌∙◌, ap, subst, arith}
 use Rattle.std.proofs.lemmas.List.{length-drop}
 use Rattle.dns_names.specs.Name.{Labels}
 use Rattle.dns_sectors.specs.Device.{Content, LeavesOnly}
@@ -9,13 +9,15 @@ use Rattle.dns_layout.specs.Sector.{sector_at}
 use Rattle.dns_layout.specs.Forms.{SaysRoot}
 use Rattle.dns_layout.specs.Store.{Stored, OpensBy, OpensAs, IsTidy, version_of}
 use Rattle.dns_layout.specs.declared.root.Root.{Root}
+use Rattle.dns_layout.specs.declared.format.Format.{Format}
 use Rattle.dns_layout.specs.declared.format.Format.TheVariants.{Two}
 use Rattle.dns_journal.specs.Reads.{OnlyReads}
 use Rattle.dns_store.specs.Versions.{Shape, Opened}
 use Rattle.dns_store.specs.Opens.{IsPartOf, base_of, sizes_of}
-use Rattle.dns_store.specs.Damage.{NamesAltered}
+use Rattle.dns_store.specs.Damage.{NamesAlteredIn}
 use Rattle.dns_store.specs.declared.root.OpenError.{OpenError}
 use Rattle.dns_store.specs.declared.root.OpenError.TheVariants as errors
+use Rattle.dns_store.proofs.Leaves.{part_opened}
 use Rattle.dns_store.proofs.Places.{versions_behind}
 use Rattle.dns_store.specs.Opening.{OpensAsPossible, IsStopped}
 use Rattle.dns_store.specs.Turn.{StaysStored}
@@ -34,7 +36,7 @@ stands shape old now root s same is tidy =
 
 module _ {D : Type 0} {g : Ghosts D} (shape : Shape) (old mid : D) (honest : g.is_honest old) (reads : OnlyReads g old mid) where
   pub read_leaves : LeavesOnly g.moment g.left_since old mid (OpensAsPossible g shape old)
-  read_leaves = weaker g.moment g.left_since old mid (g.may_leave old) (OpensAsPossible g shape old) (reads.any_moment honest) (λ c left. (c, left, λ o is. is))
+  read_leaves = weaker g.moment g.left_since old mid (g.may_leave old) (OpensAsPossible g shape old) (reads.any_moment honest) (λ c left. (c, left, λ o is. inl is))
 
   -- the root that was read is raised
   pub raise_leaves : (new : D) (root : Root) → g.may_leave old (g.seen old)
@@ -49,17 +51,18 @@ module _ {D : Type 0} {g : Ghosts D} (shape : Shape) (old mid : D) (honest : g.i
         λ o is.
             (let there = stands shape (g.seen old) (g.seen mid) root is.0 (reads.seen honest) is.1 is.2 in
             let now = stays (sizes_of shape) is.0 (sector_at (g.seen old) 0) there.parts there.by there.tidy (says o is.0 is.1 is.3) in
-            (is.0, now.0, now.1, is.3)),
+            ⊎_elim (λ same. inl (is.0, now.0, now.1, is.3, same ∙ is.4))
+            (λ more. inr (is.0, now.0, now.1, part_opened shape.apex o (o.openings + 1) is.0 is.3, more ∙ ap (λ n. n + 1) is.4)) now.2),
       ))
 
 -- of a device that wasn't altered no altered sector is named
-pub none_altered : (c : Content) (e : OpenError) → IsStopped c e ⊎ NamesAltered c c e → IsStopped c e
-none_altered c e (inl stopped) = stopped
-none_altered c errors.Device (inr named) = absurd named
-none_altered c errors.Blank (inr named) = absurd named
-none_altered c (errors.Damaged place) (inr named) = absurd (named.other refl)
-none_altered c errors.Geometry (inr named) = absurd named
-none_altered c errors.OutOfMemory (inr named) = absurd named
+pub none_altered : (f : Format) (n : ℕ) (c : Content) (e : OpenError) → IsStopped n e ⊎ NamesAlteredIn f c c e → IsStopped n e
+none_altered f n c e (inl stopped) = stopped
+none_altered f n c errors.Device (inr named) = absurd named
+none_altered f n c errors.Blank (inr named) = absurd named
+none_altered f n c (errors.Damaged place) (inr named) = absurd (named.other refl)
+none_altered f n c errors.Geometry (inr named) = absurd named
+none_altered f n c errors.OutOfMemory (inr named) = absurd named
 
 -- the number of the newest version
 pub newest_number : (apex : Labels) (o : Opened) (s : Stored) → IsPartOf apex o s → version_of s ≡ length o.versions

@@ -195,6 +195,7 @@ made_is shape records octets r valid octets_are new some fits c made = (
   (sector_at c 0, sectors_from c 1 (snapshot_sectors (length octets)), made_opens (sizes_of shape) octets r new some fits c made),
   made_tidy (sizes_of shape) octets r new some fits c made,
   record { number = refl; so_far = omega arith; valid = valid; snapshot = octets_are; changes = tt },
+  made.says.opened_is ∙ new.opened,
 )
 
 -- one sector more behind the root

@@ -55,7 +55,7 @@ module _ (f : Format) where
     root_intact : IsIntactIn f 0 (sector_at c 0)
     root_intact = by.own 0 (omega arith) (λ left. absurd (omega (arith, left.from)))
 
-    pub root_there : IsPlain s.apex → (count : ℕ) → count ≡ length c → (e : OpenError) → (e ≡ Device) ⊎ NamesSpoiltIn f d 0 1 e ⊎ RootRefusalIn f s count (sector_at c 0) e → IsStopped c e ⊎ NamesAlteredIn f c d e
+    pub root_there : IsPlain s.apex → (count : ℕ) → count ≡ length c → (e : OpenError) → (e ≡ Device) ⊎ NamesSpoiltIn f d 0 1 e ⊎ RootRefusalIn f s count (sector_at c 0) e → IsStopped (open_count (sector_at c 0)) e ⊎ NamesAlteredIn f c d e
     root_there plain count size e (inl failed) = inl (inl failed)
     root_there plain count size Device (inr (inl spoilt)) = absurd spoilt
     root_there plain count size Blank (inr (inl spoilt)) = absurd spoilt
@@ -95,7 +95,7 @@ module _ (f : Format) where
     bank_altered from until low high Geometry spoilt = spoilt
     bank_altered from until low high OutOfMemory spoilt = spoilt
 
-    pub snapshot_there : (at : ℕ) → at ≡ snapshot_place s (number (sector_at c 0)) → (size : ℕ) → size ≤ s.snapshot → (e : ReadError) (r : OpenError) → r ≡ open_error e → NamesSpoilt f d at (at + size) e ⊎ IsBadSnapshotIn f (sector_at c 0) at c e → IsStopped c r ⊎ NamesAlteredIn f c d r
+    pub snapshot_there : (at : ℕ) → at ≡ snapshot_place s (number (sector_at c 0)) → (size : ℕ) → size ≤ s.snapshot → (e : ReadError) (r : OpenError) → r ≡ open_error e → NamesSpoilt f d at (at + size) e ⊎ IsBadSnapshotIn f (sector_at c 0) at c e → IsStopped (open_count (sector_at c 0)) r ⊎ NamesAlteredIn f c d r
     snapshot_there at place size le ReadError.Device r is bad = inl (inl is)
     snapshot_there at place size le (ReadError.Damaged n) r is (inl spoilt) =
         inr (bank_altered at (at + size) (omega (arith, place)) (omega (arith, place, le)) r (subst (λ (q : OpenError). NamesSpoiltIn f d at (at + size) q) (sym is) spoilt))

@@ -45,9 +45,9 @@ pub record IsMade (root : Root) (octets : List ℕ) (count : ℕ) (c : Content) 
   pub own : Own 0 (sector_at c 0)
   pub laid : IsLaidTo octets count c
 
--- what a new store opens as: its first version, whose number is 0
+-- what a new store opens as: its first version, whose number is 0; it was never opened
 abbrev pub first_of : List Record → Opened
-first_of records = record { loaded = records; versions = []; base = 0 }
+first_of records = record { loaded = records; versions = []; base = 0; openings = 0 }
 
 -- A crash while a store is made leaves what it might have left before, a blank root, or the new store.
 abbrev pub LeftByFormat : {D : Type 0} → Ghosts D → Shape → List Record → D → Content → Type 0

@@ -1,17 +1,18 @@
 -- What migrating makes of a store of format 1, and what a stop at any moment of it leaves.
-use Rattle.std.specs.Prelude.{◌≡◌, ◌⊎◌, ◌≤◌, ◌+◌, ◌-◌, ◌^◌, ℕ, List, [], ◌∷◌, length, drop, Result, Ok, Err}
+use Rattle.std.specs.Prelude.{◌≡◌, ◌⊎◌, ◌≤◌, ◌+◌, ◌^◌, ℕ, List, [], ◌∷◌, length, drop, Result, Ok, Err}
 use Rattle.dns_records.specs.Record.{Record, serial_of}
 use Rattle.dns_zone.specs.Zone.{Zone, soas}
 use Rattle.dns_changes.specs.Change.{Change}
 use Rattle.dns_sectors.specs.Device.{Content}
 use Rattle.dns_sectors.specs.declared.device.Sectors.{Ghosts}
-use Rattle.dns_layout.specs.Sector.{sector_at, open_count}
+use Rattle.dns_layout.specs.Sector.{sector_at}
 use Rattle.dns_layout.specs.Forms.{SaysRootIn}
 use Rattle.dns_layout.specs.Store.{Stored, OpensAsIn, version_of}
 use Rattle.dns_layout.specs.declared.root.Root.{Root}
 use Rattle.dns_layout.specs.declared.format.Format.TheVariants.{One}
 use Rattle.dns_store.specs.declared.root.OpenError.{OpenError}
 use Rattle.dns_store.specs.declared.root.OpenError.TheVariants as refused
+use Rattle.dns_journal.specs.State.{IsOpened}
 use Rattle.dns_journal.specs.declared.turn.TurnError.{TurnError}
 use Rattle.dns_journal.specs.declared.turn.TurnError.TheVariants as written
 use Rattle.dns_store.specs.declared.checkpoint.CheckpointError.{CheckpointError}
@@ -27,17 +28,19 @@ use Rattle.dns_store.specs.Opens.{IsPartOfIn, base_of, opens, sizes_of}
 use Rattle.dns_store.specs.Root.{OpenRefusalIn}
 use Rattle.dns_store.specs.Damage.{NamesWrongIn}
 
--- The same versions, beginning at the base that is chosen.
+-- The same versions, beginning at the base that is chosen; migrating counts as an opening.
 pub record IsMigrated (shape : Shape) (before after : Opened) : Type 0 where
   pub kept : ℕ
   pub chosen : IsChosen shape.snapshot shape.journal (base_of before) (drop before.base before.versions) kept
   pub loaded : after.loaded ≡ before.loaded
   pub versions : after.versions ≡ before.versions
   pub base : after.base + kept ≡ length before.versions
+  pub openings : after.openings ≡ before.openings + 1
 
--- What a device of format 1 holds, as versions. Nothing is asked of it for later writing.
+-- What a device of format 1 holds, as versions, and how often it was opened. Nothing is asked of it for later writing.
 abbrev pub old_opens : Shape → Opened → Content → Type 0
-old_opens shape o c = (s : Stored) × OpensAsIn One (sizes_of shape) c s × IsPartOfIn One shape.apex o s
+old_opens shape o c =
+    (s : Stored) × OpensAsIn One (sizes_of shape) c s × IsPartOfIn One shape.apex o s × IsOpened o.openings c
 
 -- `migrate` and then `open` open the content as these versions: what format 2 holds as it is, and what format 1 holds with the base
 -- that is chosen.
@@ -61,6 +64,7 @@ pub record IsReadOld (shape : Shape) (o : Opened) (s : Stored) (c : Content) (ro
     : Type 0 where
   pub opens : OpensAsIn One (sizes_of shape) c s
   pub part : IsPartOfIn One shape.apex o s
+  pub opened : IsOpened o.openings c
   pub says : SaysRootIn One (sector_at c 0) root
   pub version_is : version ≡ version_of s
   pub base_is : base ≡ record { apex = shape.apex; records = base_of o }
@@ -91,9 +95,15 @@ TakesMigrated g shape before after answer =
     × ((o : Opened) → opens_migrated shape o d
     → ((c : Content) → g.may_leave after c → opens shape o c) × IsAnswer o answer)
 
--- Why a store that could be migrated is not: the device failed, memory was refused, or it was opened too often.
-abbrev pub IsMigrateStopped : Content → MigrateError → Type 0
-IsMigrateStopped c e = (e ≡ Device) ⊎ (e ≡ OutOfMemory) ⊎ ((e ≡ Damaged 0) × (2 ^ 64 - 1 ≤ open_count (sector_at c 0)))
+-- Why a store that could be migrated is not: the device failed, memory was refused, or it was opened too often. This opening is one of
+-- so many.
+abbrev pub IsMigrateStopped : ℕ → MigrateError → Type 0
+IsMigrateStopped openings e = (e ≡ Device) ⊎ (e ≡ OutOfMemory) ⊎ ((e ≡ Damaged 0) × (2 ^ 64 ≤ openings))
+
+-- So it is by how often a content would be opened then that a crash might have left of the device before.
+abbrev pub StopsMigrating : {D : Type 0} → Ghosts D → Shape → D → MigrateError → Type 0
+StopsMigrating g shape device e =
+    (d : Content) × g.may_leave device d × ((o : Opened) → opens_migrated shape o d → IsMigrateStopped o.openings e)
 
 -- A refusal of reading, as one of migrating.
 abbrev pub migrate_error : OpenError → MigrateError
@@ -125,11 +135,6 @@ pub record IsUnread (shape : Shape) (count : ℕ) (c : Content) (e : MigrateErro
 
 abbrev pub MigrateRefusal : Shape → ℕ → Content → MigrateError → Type 0
 MigrateRefusal shape count c e = IsUnread shape count c e ⊎ (e ≡ ZoneTooLarge)
-
--- A store that was migrated was opened once more.
-abbrev pub CountsOpening : Content → Content → Migration → Type 0
-CountsOpening old new Already = Unit {0}
-CountsOpening old new (Migrated version serial) = open_count (sector_at new 0) ≡ open_count (sector_at old 0) + 1
 
 -- The store was migrated.
 abbrev pub IsMigratedStore : {E : Type 0} → Result Migration E → Type 0

@@ -3,7 +3,7 @@ use Rattle.std.specs.Prelude.{◌≡◌, ◌⊎◌, ◌≤◌, ◌-◌, ◌^◌,
 use Rattle.dns_records.specs.Record.{Record}
 use Rattle.dns_changes.specs.Change.{Change}
 use Rattle.dns_sectors.specs.Device.{Content}
-use Rattle.dns_layout.specs.Sector.{sector_at, open_count, number}
+use Rattle.dns_layout.specs.Sector.{sector_at, number}
 use Rattle.dns_layout.specs.Forms.{SaysRootIn}
 use Rattle.dns_layout.specs.Journal.{place_behind}
 use Rattle.dns_layout.specs.Store.{Shape as Sizes, Stored, journal_place, bank_end, version_of}
@@ -13,7 +13,7 @@ use Rattle.dns_layout.specs.declared.root.Root.{Root}
 use Rattle.dns_journal.specs.declared.read.Cursor.{Cursor}
 use Rattle.dns_store.specs.declared.root.OpenError.{OpenError}
 use Rattle.dns_store.specs.declared.root.OpenError.TheVariants.{Device, Damaged, OutOfMemory}
-use Rattle.dns_store.specs.Versions.{Shape, Kept, Opened, newest_after}
+use Rattle.dns_store.specs.Versions.{Shape, Kept, Opened, newest_after, opened_again}
 use Rattle.dns_sectors.specs.declared.device.Sectors.{Ghosts}
 use Rattle.dns_journal.specs.State.{device_of, newest_of}
 use Rattle.dns_zone.specs.Zone.{Zone}
@@ -42,18 +42,25 @@ pub record IsReadIn (f : Format) (sizes : Sizes) (c : Content) (o : Opened) (s :
 abbrev pub IsRead : Sizes → Content → Opened → Stored → Root → Cursor → List Record → List Change → List Record → Type 0
 IsRead sizes c o s root end base changes newest = IsReadIn Two sizes c o s root end base changes newest
 
--- Why a store that is there is not opened: the device failed, memory was refused, or it was opened too often.
-abbrev pub IsStopped : Content → OpenError → Type 0
-IsStopped c e = (e ≡ Device) ⊎ (e ≡ OutOfMemory) ⊎ ((e ≡ Damaged 0) × (2 ^ 64 - 1 ≤ open_count (sector_at c 0)))
+-- Why a store that was opened so often is not opened again: the device failed, memory was refused, or it was opened too often.
+abbrev pub IsStopped : ℕ → OpenError → Type 0
+IsStopped openings e = (e ≡ Device) ⊎ (e ≡ OutOfMemory) ⊎ ((e ≡ Damaged 0) × (2 ^ 64 - 1 ≤ openings))
 
 -- Each crash leaves a store that opens.
 abbrev pub MayOpen : {D : Type 0} → Ghosts D → Shape → D → Type 0
 MayOpen g shape device = (c : Content) → g.may_leave device c → (o : Opened) × opens shape o c
 
--- It opens as a content does that a crash might have left of the device before: its version and base were possible together. Which
--- versions there were before that base stands on no device, so this holds whichever they were.
+-- It opens as a content does that a crash might have left of the device before, opened as often or once more: its version and base
+-- were possible together. Which versions there were before that base is on no device, so this holds whichever they were.
 abbrev pub OpensAsPossible : {D : Type 0} → Ghosts D → Shape → D → Content → Type 0
-OpensAsPossible g shape device c = (d : Content) × g.may_leave device d × ((o : Opened) → opens shape o d → opens shape o c)
+OpensAsPossible g shape device c =
+    (d : Content) × g.may_leave device d
+    × ((o : Opened) → opens shape o d → opens shape o c ⊎ opens shape (opened_again o) c)
+
+-- Why it isn't opened, by how often a content was opened that a crash might have left of the device before.
+abbrev pub StopsPossible : {D : Type 0} → Ghosts D → Shape → D → OpenError → Type 0
+StopsPossible g shape device e =
+    (d : Content) × g.may_leave device d × ((o : Opened) → opens shape o d → IsStopped o.openings e)
 
 abbrev pub store_device : {D I : Type 0} {g : Ghosts D} → KeptStore D I g → D
 store_device store = device_of store.journal
@@ -69,10 +76,10 @@ pub record IsTaken {D I : Type 0} {g : Ghosts D} (shape : Shape) (o : Opened) (s
   pub keeps_them : keeps store (fresh shape o)
   pub newest_is : newest ≡ record { apex = shape.apex; records = newest_after o.loaded o.versions }
 
--- The store keeps from here on what a crash might have left of the device before, whichever versions there were.
+-- The store keeps from here on what a crash might have left of the device before, opened once more, whichever versions there were.
 abbrev pub TakesPossible : {D I : Type 0} {g : Ghosts D} → Shape → D → KeptStore D I g → Zone → Type 0
 TakesPossible {g} shape device store newest =
-    (d : Content) × g.may_leave device d × ((o : Opened) → opens shape o d → IsTaken shape o store newest)
+    (d : Content) × g.may_leave device d × ((o : Opened) → opens shape o d → IsTaken shape (opened_again o) store newest)
 
 -- The answer is that for what opens as these versions: the newest one and its number, the base, and the changes from there.
 pub record AnswersAs {D I : Type 0} {g : Ghosts D} (shape : Shape) (o : Opened) (store : KeptStore D I g)

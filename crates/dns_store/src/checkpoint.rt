@@ -1,5 +1,6 @@
 //! A checkpoint: the base moves to a later version, and of the changes the newest alone are kept.
-ghost use Rattle.std.specs.Prelude.{◌≡◌, ◌⊎◌, ◌≤◌, ◌<◌, ◌-◌, ◌↔◌, [], ℕ, true, false, length, drop, min, sum_by, IfOk, IfErr};
+ghost use Rattle.std.specs.Prelude.{◌≡◌, ◌⊎◌, ◌≤◌, ◌<◌, ◌-◌, ◌↔◌, [], ℕ, true, false, length, drop, min};
+ghost use Rattle.std.specs.Prelude.{sum_by, IfOk, IfErr};
 ghost use Rattle.std.specs.Prelude.{OnOk, OnErr, MatchResult};
 ghost use Rattle.dns_names.specs.Name.{Labels};
 ghost use Rattle.dns_zone.specs.Records.{is_ordered};
@@ -8,7 +9,8 @@ ghost use Rattle.dns_sectors.specs.Device.{LeavesOnly};
 ghost use Rattle.dns_journal.specs.State.{device_of, is_closed, newest_of};
 ghost use Rattle.dns_journal.specs.Reads.{HasRisen};
 ghost use Rattle.dns_journal.specs.Bank.{sectors_for, snapshot_room_of, journal_room_of};
-ghost use Rattle.dns_store.specs.Versions.{Versions, Kept, newest_after, version_at, OpensAsEither, moved_to, closed_between};
+ghost use Rattle.dns_store.specs.Versions.{Versions, Kept, newest_after, version_at, OpensAsEither, moved_to};
+ghost use Rattle.dns_store.specs.Versions.{closed_between};
 ghost use Rattle.dns_store.specs.Recovered.{AreLed};
 ghost use Rattle.dns_store.specs.Opens.{IsClosedBy, opens, keeps as keeps_versions};
 ghost use Rattle.dns_store.specs.Checkpoint.{AllZones, IsBaseOf, IsMostKept, IsNextBase, sectors_of_snapshot};
@@ -89,20 +91,24 @@ impl<D: Sectors, I: ZoneIndex> KeptStore<D, I> {
     ghost use Rattle.dns_store.specs.Opening.{store_device};
     ghost use Rattle.dns_store.specs.Checkpoint.{IsKeptNumber, IsLent};
 
-    // Writes the new base's snapshot and the entries of the changes that are kept into the bank that isn't in use, and makes them
-    // durable; then turns the root to that bank. It makes all growths before the first write.
+    // Writes the new base's snapshot and the entries of the changes that are kept into the bank that isn't in
+    // use, and makes them durable; then turns the root to that bank. It makes all growths before the first
+    // write.
     pub(crate) fn move_base(&mut self, keep: usize, room: usize) -> Result<(), CheckpointError>
         // A crash at any moment of it leaves the shown version, with the old base or the new one.
-        ensures any_moment { (k : Kept) (n : ℕ) → IsLent self.old.journal self.old.base self.old.changes.items k
+        ensures any_moment { (k : Kept) (n : ℕ)
+            → IsLent self.old.journal self.old.base self.old.changes.items k
             → IsKeptNumber k keep room n → LeavesOnly D.moment D.left_since (store_device self.old)
             (store_device self.new) (OpensAsEither opens k (length k.shown - n)) }
         ensures moved { (k : Kept) (n : ℕ) → IsLent self.old.journal self.old.base self.old.changes.items k
-            → IsKeptNumber k keep room n → OnOk result (IsLent self.new.journal self.new.base self.new.changes.items
+            → IsKeptNumber k keep room n
+            → OnOk result (IsLent self.new.journal self.new.base self.new.changes.items
             (moved_to (length k.shown - n) k)) }
         ensures failed { (k : Kept) (n : ℕ) → IsLent self.old.journal self.old.base self.old.changes.items k
             → IsKeptNumber k keep room n → result ≡ Err CheckpointError.Device
             → (k.closed ≡ false) × IsClosedBy self.new.journal (closed_between (length k.shown - n) k) }
-        ensures too_large { (k : Kept) (n : ℕ) → IsLent self.old.journal self.old.base self.old.changes.items k
+        ensures too_large { (k : Kept) (n : ℕ)
+            → IsLent self.old.journal self.old.base self.old.changes.items k
             → IsKeptNumber k keep room n → result ≡ Err CheckpointError.ZoneTooLarge
             → k.shape.snapshot < sectors_of_snapshot (version_at k (length k.shown - n)) }
         ensures fits { (k : Kept) (n : ℕ) → IsLent self.old.journal self.old.base self.old.changes.items k
@@ -113,8 +119,12 @@ impl<D: Sectors, I: ZoneIndex> KeptStore<D, I> {
         ensures closed { is_closed self.old.journal ≡ true ↔ result ≡ Err CheckpointError.Closed }
         ensures device { result ≡ Err CheckpointError.Device
             → HasRisen (D.failed (store_device self.old)) (D.failed (store_device self.new)) }
-        ensures stays { OnErr result ((result ≡ Err CheckpointError.Device) ⊎ (self.new.journal ≡ self.old.journal)) }
-        ensures lent { OnErr result ((self.new.base ≡ self.old.base) × (self.new.changes ≡ self.old.changes)) }
+        ensures grows { D.failed (store_device self.old) ≤ D.failed (store_device self.new) }
+        ensures quiet { OnOk result (D.failed (store_device self.new) ≡ D.failed (store_device self.old)) }
+        ensures stays { OnErr result ((result ≡ Err CheckpointError.Device)
+            ⊎ (self.new.journal ≡ self.old.journal)) }
+        ensures lent { OnErr result ((self.new.base ≡ self.old.base)
+            × (self.new.changes ≡ self.old.changes)) }
         ensures honest { D.is_honest (store_device self.new) ↔ D.is_honest (store_device self.old) }
     {
         if self.journal.is_closed() {
@@ -142,7 +152,8 @@ impl<D: Sectors, I: ZoneIndex> KeptStore<D, I> {
     }
 }
 
-// With nothing staged, moves the base to the durable version with this snapshot, from which these changes lead to the newest.
+// With nothing staged, moves the base to the durable version with this snapshot, from which these changes
+// lead to the newest.
 fn turn_bank<D: Sectors>(
     alloc: Heap,
     journal: &mut Journal<D>,
@@ -155,14 +166,18 @@ fn turn_bank<D: Sectors>(
     // A crash at any moment of it leaves the durable version, with the old base or the new one.
     ensures any_moment { (k : Kept) (base : ℕ) → keeps_versions journal.old k → k.staged ≡ []
         → IsBaseOf k base octets.now changes.now
-        → LeavesOnly D.moment D.left_since (device_of journal.old) (device_of journal.new) (OpensAsEither opens k base) }
+        → LeavesOnly D.moment D.left_since (device_of journal.old) (device_of journal.new)
+        (OpensAsEither opens k base) }
     ensures moved { (k : Kept) (base : ℕ) → keeps_versions journal.old k → k.staged ≡ []
-        → IsBaseOf k base octets.now changes.now → OnOk result (keeps_versions journal.new (moved_to base k)) }
+        → IsBaseOf k base octets.now changes.now
+        → OnOk result (keeps_versions journal.new (moved_to base k)) }
     ensures failed { (k : Kept) (base : ℕ) → keeps_versions journal.old k → k.staged ≡ []
         → IsBaseOf k base octets.now changes.now → result ≡ Err TurnError.Device
         → (k.closed ≡ false) × IsClosedBy journal.new (closed_between base k) }
     ensures device { result ≡ Err TurnError.Device
         → HasRisen (D.failed (device_of journal.old)) (D.failed (device_of journal.new)) }
+    ensures grows { D.failed (device_of journal.old) ≤ D.failed (device_of journal.new) }
+    ensures quiet { OnOk result (D.failed (device_of journal.new) ≡ D.failed (device_of journal.old)) }
     ensures closed { is_closed journal.old ≡ true ↔ result ≡ Err TurnError.Closed }
     ensures stays { OnErr result ((result ≡ Err TurnError.Device) ⊎ (journal.new ≡ journal.old)) }
     ensures honest { D.is_honest (device_of journal.new) ↔ D.is_honest (device_of journal.old) }
@@ -199,7 +214,8 @@ impl Entry for Change {
     }
 }
 
-// How many of the newest entries are kept: the greatest number, at most `keep`, that take at most so many sectors.
+// How many of the newest entries are kept: the greatest number, at most `keep`, that take at most so many
+// sectors.
 pub(crate) fn most_kept<E: Entry>(entries: &[E], keep: usize, room: usize) -> usize
     ensures { IsMostKept E.takes entries.now keep room result }
 {
@@ -217,10 +233,13 @@ pub(crate) fn most_kept<E: Entry>(entries: &[E], keep: usize, room: usize) -> us
 
 // Makes these changes of a set, one after the other.
 fn apply_all<I: ZoneIndex>(set: &mut I, changes: &[Change]) -> Result<(), CheckpointError>
-    ensures applied { (apex : Labels) (vs : Versions) → AreLed (I.records set.old) vs changes.now → AllZones apex vs
+    ensures applied { (apex : Labels) (vs : Versions) → AreLed (I.records set.old) vs changes.now
+        → AllZones apex vs
         → is_ordered (I.records set.old) ≡ true
-        → MatchResult result (λ _. I.records set.new ≡ newest_after (I.records set.old) vs) (λ e. e ≡ CheckpointError.OutOfMemory) }
-    ensures only { IfErr result (λ e. (e ≡ CheckpointError.OutOfMemory) ⊎ (e ≡ CheckpointError.WrongChanges)) }
+        → MatchResult result (λ _. I.records set.new ≡ newest_after (I.records set.old) vs)
+        (λ e. e ≡ CheckpointError.OutOfMemory) }
+    ensures only { IfErr result (λ e. (e ≡ CheckpointError.OutOfMemory)
+        ⊎ (e ≡ CheckpointError.WrongChanges)) }
 {
     for change in changes {
         change.apply(set)?;
@@ -236,7 +255,8 @@ fn version_after<I: ZoneIndex>(
     ensures found { (vs : Versions) → AreLed base.now.records vs changes.now → AllZones base.now.apex vs
         → MatchResult result (λ z. (z.apex ≡ base.now.apex) × (z.records ≡ newest_after base.now.records vs))
         (λ e. e ≡ CheckpointError.OutOfMemory) }
-    ensures only { IfErr result (λ e. (e ≡ CheckpointError.OutOfMemory) ⊎ (e ≡ CheckpointError.WrongChanges)) }
+    ensures only { IfErr result (λ e. (e ≡ CheckpointError.OutOfMemory)
+        ⊎ (e ≡ CheckpointError.WrongChanges)) }
 {
     let apex = base.apex().clone()?;
     let mut set = base.index().fork()?;
@@ -247,7 +267,8 @@ fn version_after<I: ZoneIndex>(
     }
 }
 
-// The version that these changes lead to from a base, and its snapshot, which is to have at most so many sectors.
+// The version that these changes lead to from a base, and its snapshot, which is to have at most so many
+// sectors.
 pub(crate) fn next_base<I: ZoneIndex>(
     alloc: Heap,
     base: &Zone<I>,
@@ -257,7 +278,8 @@ pub(crate) fn next_base<I: ZoneIndex>(
     ensures found { (vs : Versions) → AreLed base.now.records vs changes.now → AllZones base.now.apex vs
         → MatchResult result (λ r. IsNextBase base.now r.0 vs r.1.items)
         (λ e. (e ≡ CheckpointError.OutOfMemory)
-        ⊎ ((e ≡ CheckpointError.ZoneTooLarge) × (room < sectors_of_snapshot (newest_after base.now.records vs)))) }
+        ⊎ ((e ≡ CheckpointError.ZoneTooLarge)
+        × (room < sectors_of_snapshot (newest_after base.now.records vs)))) }
     ensures fits { IfOk result (λ r. sectors_of_octets (length r.1.items) ≤ room) }
     ensures only { IfErr result (λ e. (e ≡ CheckpointError.OutOfMemory) ⊎ (e ≡ CheckpointError.WrongChanges)
         ⊎ (e ≡ CheckpointError.ZoneTooLarge)) }

@@ -1,5 +1,5 @@
-//! How many of the newest changes are kept where a store is migrated: those whose entries fit in a journal, from a version on from which
-//! each fits in a snapshot.
+//! How many of the newest changes are kept where a store is migrated: those whose entries fit in a journal,
+//! from a version on from which each fits in a snapshot.
 ghost use Rattle.std.specs.Prelude.{◌≡◌, ◌<◌, ◌≤◌, ◌+◌, ◌^◌, MatchOption, IfSome, length};
 ghost use Rattle.dns_layout.specs.Sector.{snapshot_sectors as sectors_of_octets};
 ghost use Rattle.dns_store.specs.Versions.{Versions, newest_after};
@@ -14,8 +14,8 @@ use dns_changes::Change;
 use dns_layout::snapshot_sectors;
 use dns_zone::{Zone, ZoneIndex};
 
-// How many of the newest changes from a base are kept, where a bank has so many sectors for a snapshot and for a journal. `None` where the
-// newest version takes more sectors than a snapshot has.
+// How many of the newest changes from a base are kept, where a bank has so many sectors for a snapshot and
+// for a journal. `None` where the newest version takes more sectors than a snapshot has.
 pub(crate) fn chosen<I: ZoneIndex>(
     base: &Zone<I>,
     changes: &[Change],
@@ -35,8 +35,8 @@ pub(crate) fn chosen<I: ZoneIndex>(
     Some(most_kept(changes, changes.len() - first, journal as usize))
 }
 
-// The number, from the base on, of the first version from which on each takes at most so many sectors as a snapshot; one more than that of
-// the newest where that one takes more.
+// The number, from the base on, of the first version from which on each takes at most so many sectors as a
+// snapshot; one more than that of the newest where that one takes more.
 fn first_fitting<I: ZoneIndex>(base: &Zone<I>, changes: &[Change], room: usize) -> usize
     ensures { (vs : Versions) → AreLed base.now.records vs changes.now → AllZones base.now.apex vs
         → IsFirstFitting room base.now.records vs (length vs) result }

@@ -3,7 +3,7 @@ ghost use Rattle.std.specs.Prelude.{◌≡◌, ◌⊎◌, ◌≤◌, ◌<◌, �
 ghost use Rattle.std.specs.List.{flat_map};
 ghost use Rattle.dns_records.specs.Record.{plain};
 ghost use Rattle.dns_sectors.specs.Device.{Only, LeavesOnly, CountsFailure};
-ghost use Rattle.dns_layout.specs.Sector.{sector_at, open_count, snapshot_sectors as sectors_of_snapshot};
+ghost use Rattle.dns_layout.specs.Sector.{sector_at, snapshot_sectors as sectors_of_snapshot};
 ghost use Rattle.dns_journal.specs.Reads.{HasRisen};
 ghost use Rattle.dns_store.specs.Opens.{opens};
 ghost use Rattle.dns_store.specs.Formatting.{IsGeometry, IsLaid, IsLaidTo, HasBlankRoot, IsMade, first_of, LeftByFormat};
@@ -59,13 +59,13 @@ impl From<AllocError> for FormatError {
     }
 }
 
-/// Makes the store of this zone, with so many sectors for a bank's snapshot and its journal: makes the root blank, writes the
-/// snapshot into the first bank and zeros everywhere else, and then the root, each step made durable before the next. It
-/// makes all growths before the first write.
+/// Makes the store of this zone, with so many sectors for a bank's snapshot and its journal: makes the root
+/// blank, writes the snapshot into the first bank and zeros everywhere else, and then the root, each step
+/// made durable before the next. It makes all growths before the first write.
 ///
-/// `Geometry` where the snapshot's size is not 1 to 65,536, the journal's not 8 to 65,536, or the device has not the sectors of
-/// a root and two such banks; `ZoneTooLarge` where the zone's records take more sectors than a snapshot has. Neither writes
-/// anything.
+/// `Geometry` where the snapshot's size is not 1 to 65,536, the journal's not 8 to 65,536, or the device has
+/// not the sectors of a root and two such banks; `ZoneTooLarge` where the zone's records take more sectors
+/// than a snapshot has. Neither writes anything.
 pub fn format<D: Sectors, I: ZoneIndex>(
     alloc: Heap,
     device: &mut D,
@@ -78,9 +78,6 @@ pub fn format<D: Sectors, I: ZoneIndex>(
         (record { apex = zone.now.apex; snapshot = snapshot; journal = journal }) zone.now.records device.old) }
     ensures made { D.is_honest device.old → OnOk result ((c : List (List ℕ)) → D.may_leave device.new c
         → opens (record { apex = zone.now.apex; snapshot = snapshot; journal = journal }) (first_of zone.now.records) c) }
-    // It was never opened.
-    ensures opened { D.is_honest device.old → OnOk result ((c : List (List ℕ)) → D.may_leave device.new c
-        → open_count (sector_at c 0) ≡ 0) }
     ensures geometry { result ≡ Err FormatError.Geometry ↔ (IsGeometry snapshot journal (D.count device.old) → ⊥) }
     ensures too_large { result ≡ Err FormatError.ZoneTooLarge
         ↔ (IsGeometry snapshot journal (D.count device.old)
@@ -88,6 +85,8 @@ pub fn format<D: Sectors, I: ZoneIndex>(
     ensures memory { result ≡ Err FormatError.OutOfMemory → device.new ≡ device.old }
     ensures unwritten { (result ≡ Err FormatError.Geometry) ⊎ (result ≡ Err FormatError.ZoneTooLarge) → device.new ≡ device.old }
     ensures device { result ≡ Err FormatError.Device → HasRisen (D.failed device.old) (D.failed device.new) }
+    ensures grows { D.failed device.old ≤ D.failed device.new }
+    ensures quiet { OnOk result (D.failed device.new ≡ D.failed device.old) }
     ensures honest { D.is_honest device.new ↔ D.is_honest device.old }
     ensures count { D.count device.new ≡ D.count device.old }
 {

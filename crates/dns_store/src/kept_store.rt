@@ -1,5 +1,5 @@
-//! The store of a zone on a device, as the layer above sees it: a journal in versions, the zone at its base, and the changes from
-//! there.
+//! The store of a zone on a device, as the layer above sees it: a journal in versions, the zone at its base,
+//! and the changes from there.
 ghost use Rattle.std.specs.Prelude.{◌≡◌, ◌⊎◌, ◌≤◌, ◌+◌, ◌++◌, ◌*◌, ◌^◌, ◌↔◌, [], true, false, ℕ, List, length, drop, OnOk, OnErr};
 
 use crate::{CheckpointError, ZoneStore};
@@ -11,8 +11,8 @@ use dns_sectors::Sectors;
 use dns_zone::{Zone, ZoneIndex};
 use std::alloc::AllocError;
 
-/// The versions of a zone on a device. Its base and the changes since are its own, so that they are always those of what the
-/// device holds.
+/// The versions of a zone on a device. Its base and the changes since are its own, so that they are always
+/// those of what the device holds.
 pub struct KeptStore<D: Sectors, I: ZoneIndex> {
     pub(crate) alloc: Heap,
     pub(crate) journal: Journal<D>,
@@ -22,7 +22,8 @@ pub struct KeptStore<D: Sectors, I: ZoneIndex> {
     pub(crate) changes: Vec<Change, Heap>,
 }
 
-// Written out, so that a proof lets one go by one call (docs/GATE.md).
+// Written out, so that a proof lets one go by one call (docs/GATE.md). It takes the value apart and lets each
+// part go, and makes no call on the device.
 impl<D: Sectors + Drop, I: ZoneIndex> Drop for KeptStore<D, I> {
     fn drop(self) {
         let KeptStore {
@@ -73,7 +74,7 @@ impl<D: Sectors, I: ZoneIndex> KeptStore<D, I> {
             → AllBehind (open_count x) (version_of s) (D.seen device) → IsPartOf shape.apex o s
             → next.until ≡ bank_end (sizes_of shape) (number x)
             → next.at ≡ place_behind (journal_place (sizes_of shape) (number x)) s.entries → next.version ≡ version_of s
-            → next.opened ≡ open_count x
+            → next.opened ≡ open_count x → open_count x ≡ o.openings
             → base ≡ record { apex = shape.apex; records = base_of o }
             → AreLed (base_of o) (drop o.base o.versions) changes.entry.items
             → keeps result (fresh shape o) }
@@ -111,9 +112,11 @@ impl<D: Sectors + Drop, I: ZoneIndex> ZoneStore for KeptStore<D, I> {
     ghost use Rattle.dns_journal.specs.State.{device_of};
     ghost use Rattle.dns_store.specs.Opens.{opens as opens_as};
     ghost use Rattle.dns_store.specs.Opening.{keeps as keeps_all};
-    ghost use Rattle.dns_store.specs.Laws.{at_rest_of};
+    ghost use Rattle.dns_store.specs.Laws.{at_rest_of, honest_of};
 
     ghost moment = { λ s. D.moment (device_of s.journal) };
+
+    ghost may_leave = { λ s. D.may_leave (device_of s.journal) };
 
     ghost left_since = { λ s. D.left_since (device_of s.journal) };
 
@@ -179,6 +182,12 @@ impl<D: Sectors + Drop, I: ZoneIndex> ZoneStore for KeptStore<D, I> {
             Err(error) => Err(error),
         }
     }
+
+    ghost some_left = { λ s k kept.
+        (D.seen (device_of s.journal), D.seen_may_stay (device_of s.journal) (honest_of s.journal k k.closed kept.keeps)) };
+
+    ghost counts_now = { λ s k t c kept earlier left.
+        D.counts_now (device_of s.journal) t c (honest_of s.journal k k.closed kept.keeps) earlier left };
 
     ghost at_rest = { λ s k kept c left.
         at_rest_of (λ d x honest now. D.only_now d x honest now) s.journal k k.closed kept.keeps c left };

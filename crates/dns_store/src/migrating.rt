@@ -1,15 +1,17 @@
 //! A store of format 1 is migrated to format 2.
-ghost use Rattle.std.specs.Prelude.{◌≡◌, ◌⊎◌, ◌↔◌, ◌+◌, ◌*◌, ◌<◌, ◌≤◌, ◌^◌, ◌-◌, ℕ, List, MatchResult, IsTrue, IfErr, IfOk, OnOk, OnErr};
+ghost use Rattle.std.specs.Prelude.{◌≡◌, ◌⊎◌, ◌↔◌, ◌+◌, ◌*◌, ◌<◌, ◌≤◌, ◌^◌, ◌-◌, ℕ, List, MatchResult};
+ghost use Rattle.std.specs.Prelude.{IsTrue, IfErr, IfOk, OnOk, OnErr};
 ghost use Rattle.dns_sectors.specs.Device.{Only, LeavesOnly, CountsFailure};
-ghost use Rattle.dns_layout.specs.Sector.{sector_at, tag, open_count, root_tag};
+ghost use Rattle.dns_layout.specs.Sector.{sector_at, tag, root_tag};
 ghost use Rattle.dns_journal.specs.Reads.{OnlyReads, HasRisen};
 ghost use Rattle.dns_store.specs.Opening.{IsInRange};
 ghost use Rattle.dns_layout.specs.Store.{Stored};
 ghost use Rattle.dns_store.specs.Versions.{Shape, Opened, newest_after};
 ghost use Rattle.dns_store.specs.Opens.{opens};
 ghost use Rattle.dns_store.specs.Checkpoint.{sectors_of_snapshot};
-ghost use Rattle.dns_store.specs.Migrating.{MayMigrate, MigratesAsPossible, TakesMigrated, IsMigrateStopped, CountsOpening};
-ghost use Rattle.dns_store.specs.Migrating.{MigrateRefusal, IsMigratedStore, IsMigrated, IsReadOld, StaysOrMigrates, old_opens};
+ghost use Rattle.dns_store.specs.Migrating.{MayMigrate, MigratesAsPossible, TakesMigrated, StopsMigrating};
+ghost use Rattle.dns_store.specs.Migrating.{MigrateRefusal, IsMigratedStore, IsMigrated, IsReadOld};
+ghost use Rattle.dns_store.specs.Migrating.{StaysOrMigrates, old_opens};
 
 use crate::checkpoint::next_base;
 use crate::choosing::chosen;
@@ -119,14 +121,16 @@ impl From<TurnError> for MigrateError {
     }
 }
 
-/// Migrates the store of this zone, with these sizes, from format 1 to format 2: makes all that is pending durable, reads the store,
-/// writes it into the bank that isn't in use, makes that durable, and turns the root to that bank; then clears the old one. It makes all
-/// growths before the first write, and counts as an opening.
+/// Migrates the store of this zone, with these sizes, from format 1 to format 2: makes all that is pending
+/// durable, reads the store, writes it into the bank that isn't in use, makes that durable, and turns the
+/// root to that bank; then clears the old one. It makes all growths before the first write, and counts as an
+/// opening.
 ///
-/// Of the changes the newest are kept, the greatest number of them whose entries fit in a journal, where each version from the one
-/// before them to the newest fits in a snapshot. `Already` where the root is of format 2. It is refused as `open` refuses, by the rules
-/// of format 1; `ZoneTooLarge` where the newest version takes more sectors of format 2 than a snapshot has. Refused for anything but its
-/// failure, the device was read and synced alone.
+/// Of the changes the newest are kept, the greatest number of them whose entries fit in a journal, where each
+/// version from the one before them to the newest fits in a snapshot. `Already` where the root is of format
+/// 2. It is refused as `open` refuses, by the rules of format 1; `ZoneTooLarge` where the newest version
+/// takes more sectors of format 2 than a snapshot has. Refused for anything but its failure, the device was
+/// read and synced alone.
 pub fn migrate<D: Sectors, I: ZoneIndex>(
     alloc: Heap,
     device: &mut D,
@@ -134,34 +138,39 @@ pub fn migrate<D: Sectors, I: ZoneIndex>(
     snapshot: u32,
     journal: u32,
 ) -> Result<Migration, MigrateError>
-    // On a device of which each crash leaves a store with room in format 2, it is migrated; or the device failed, memory was refused, or
-    // it was opened too often.
+    // On a device of which each crash leaves a store with room in format 2, it is migrated; or the device
+    // failed, memory was refused, or it was opened too often.
     ensures migrated { D.is_honest device.old → IsInRange snapshot journal
         → MayMigrate D.Sectors (record { apex = apex.now; snapshot = snapshot; journal = journal }) device.old
         → MatchResult result
-        (TakesMigrated D.Sectors (record { apex = apex.now; snapshot = snapshot; journal = journal }) device.old device.new)
-        (IsMigrateStopped (D.seen device.old)) }
-    // A crash at any moment of it leaves what migrate and then open open as a crash might have left it before.
+        (TakesMigrated D.Sectors
+        (record { apex = apex.now; snapshot = snapshot; journal = journal }) device.old device.new)
+        (StopsMigrating D.Sectors
+        (record { apex = apex.now; snapshot = snapshot; journal = journal }) device.old) }
+    // A crash at any moment of it leaves what migrate and then open open as a crash might have left it
+    // before.
     ensures any_moment { D.is_honest device.old → IsInRange snapshot journal
         → LeavesOnly D.moment D.left_since device.old device.new (MigratesAsPossible D.Sectors
         (record { apex = apex.now; snapshot = snapshot; journal = journal }) device.old) }
     // It answers `Already` exactly for a root of format 2.
-    ensures already { D.is_honest device.old → result ≡ Ok Migration.Already → tag (sector_at (D.seen device.old) 0) ≡ root_tag }
-    ensures old { D.is_honest device.old → 0 < D.count device.old → tag (sector_at (D.seen device.old) 0) ≡ root_tag
+    ensures already { D.is_honest device.old → result ≡ Ok Migration.Already
+        → tag (sector_at (D.seen device.old) 0) ≡ root_tag }
+    ensures old { D.is_honest device.old → 0 < D.count device.old
+        → tag (sector_at (D.seen device.old) 0) ≡ root_tag
         → (result ≡ Ok Migration.Already) ⊎ (result ≡ Err MigrateError.Device) }
-    // It counts as an opening.
-    ensures counts { D.is_honest device.old → IsInRange snapshot journal → (o : Opened)
-        → old_opens (record { apex = apex.now; snapshot = snapshot; journal = journal }) o (D.seen device.old)
-        → IfOk result (CountsOpening (D.seen device.old) (D.seen device.new)) }
     // Why it is refused, on any honest device.
     ensures refused { D.is_honest device.old → IfErr result (MigrateRefusal
-        (record { apex = apex.now; snapshot = snapshot; journal = journal }) (D.count device.old) (D.seen device.old)) }
+        (record { apex = apex.now; snapshot = snapshot; journal = journal }) (D.count device.old)
+        (D.seen device.old)) }
     ensures too_large { D.is_honest device.old → (o : Opened)
         → old_opens (record { apex = apex.now; snapshot = snapshot; journal = journal }) o (D.seen device.old)
         → IsInRange snapshot journal → result ≡ Err MigrateError.ZoneTooLarge
         → snapshot < sectors_of_snapshot (newest_after o.loaded o.versions) }
-    ensures unwritten { (result ≡ Err MigrateError.Device) ⊎ IsMigratedStore result ⊎ OnlyReads D.Sectors device.old device.new }
+    ensures unwritten { (result ≡ Err MigrateError.Device) ⊎ IsMigratedStore result
+        ⊎ OnlyReads D.Sectors device.old device.new }
     ensures device { result ≡ Err MigrateError.Device → HasRisen (D.failed device.old) (D.failed device.new) }
+    ensures grows { D.failed device.old ≤ D.failed device.new }
+    ensures quiet { OnOk result (D.failed device.new ≡ D.failed device.old) }
     ensures honest { D.is_honest device.new ↔ D.is_honest device.old }
     ensures count { D.count device.new ≡ D.count device.old }
 {
@@ -180,10 +189,7 @@ pub fn migrate<D: Sectors, I: ZoneIndex>(
         changes,
         newest,
     } = found;
-    match write_anew(alloc, device, root, end.version, &base, &changes) {
-        Ok(()) => (),
-        Err(error) => return Err(error),
-    }
+    write_anew(alloc, device, root, end.version, &base, &changes)?;
     Ok(Migration::Migrated {
         version: end.version,
         serial: newest.soa().serial(),
@@ -192,7 +198,8 @@ pub fn migrate<D: Sectors, I: ZoneIndex>(
 
 // Whether the first sector is a root of format 2, by its tag.
 fn is_new<D: Sectors>(device: &mut D) -> Result<bool, DeviceError>
-    ensures new { D.is_honest device.old → IfOk result (λ b. IsTrue b ↔ (tag (sector_at (D.seen device.old) 0) ≡ root_tag)) }
+    ensures new { D.is_honest device.old → IfOk result (λ b. IsTrue b
+        ↔ (tag (sector_at (D.seen device.old) 0) ≡ root_tag)) }
     ensures failed { CountsFailure result (D.failed device.old) (D.failed device.new) }
     ensures reads { OnlyReads D.Sectors device.old device.new }
 {
@@ -204,8 +211,8 @@ fn is_new<D: Sectors>(device: &mut D) -> Result<bool, DeviceError>
     }
 }
 
-// Writes what was read of a store of format 1 into its other bank in format 2, turns the root to that bank, and clears the old one. Of
-// the changes those are kept that are chosen.
+// Writes what was read of a store of format 1 into its other bank in format 2, turns the root to that bank,
+// and clears the old one. Of the changes those are kept that are chosen.
 fn write_anew<D: Sectors, I: ZoneIndex>(
     alloc: Heap,
     device: &mut D,
@@ -223,19 +230,19 @@ fn write_anew<D: Sectors, I: ZoneIndex>(
     ensures migrated { D.is_honest device.old → Only (D.seen device.old) (D.may_leave device.old)
         → (shape : Shape) (o : Opened) (s : Stored)
         → IsReadOld shape o s (D.seen device.old) root version base.now changes.now
-        → OnOk result ((after : Opened) → IsMigrated shape o after → (c : List (List ℕ)) → D.may_leave device.new c
+        → OnOk result ((after : Opened) → IsMigrated shape o after → (c : List (List ℕ))
+        → D.may_leave device.new c
         → opens shape after c) }
-    ensures counts { D.is_honest device.old → Only (D.seen device.old) (D.may_leave device.old)
-        → (shape : Shape) (o : Opened) (s : Stored)
-        → IsReadOld shape o s (D.seen device.old) root version base.now changes.now
-        → OnOk result (open_count (sector_at (D.seen device.new) 0) ≡ root.open_count + 1) }
     ensures too_large { (shape : Shape) (o : Opened) (s : Stored)
-        → IsReadOld shape o s (D.seen device.old) root version base.now changes.now → result ≡ Err MigrateError.ZoneTooLarge
+        → IsReadOld shape o s (D.seen device.old) root version base.now changes.now
+        → result ≡ Err MigrateError.ZoneTooLarge
         → shape.snapshot < sectors_of_snapshot (newest_after o.loaded o.versions) }
-    ensures only { IfErr result (λ e. (e ≡ MigrateError.Device) ⊎ (e ≡ MigrateError.OutOfMemory) ⊎ (e ≡ MigrateError.ZoneTooLarge)) }
+    ensures only { IfErr result (λ e. (e ≡ MigrateError.Device) ⊎ (e ≡ MigrateError.OutOfMemory)
+        ⊎ (e ≡ MigrateError.ZoneTooLarge)) }
     ensures unwritten { OnErr result ((result ≡ Err MigrateError.Device) ⊎ (device.new ≡ device.old)) }
     ensures device { result ≡ Err MigrateError.Device → HasRisen (D.failed device.old) (D.failed device.new) }
     ensures grows { D.failed device.old ≤ D.failed device.new }
+    ensures quiet { OnOk result (D.failed device.new ≡ D.failed device.old) }
     ensures honest { D.is_honest device.new ↔ D.is_honest device.old }
     ensures count { D.count device.new ≡ D.count device.old }
 {

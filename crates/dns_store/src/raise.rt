@@ -1,5 +1,5 @@
-//! The end of opening a store: its root is written again with the open count raised, after the other bank was cleared where the root
-//! says that it isn't.
+//! The end of opening a store: its root is written again with the open count raised, after the other bank was
+//! cleared where the root says that it isn't.
 ghost use Rattle.std.specs.Prelude.{◌≡◌, ◌≤◌, ◌<◌, ◌+◌, ◌-◌, ◌*◌, ◌^◌, ◌↔◌, true, List, ℕ, OnOk};
 ghost use Rattle.dns_sectors.specs.Device.{Only, LeavesOnly, CountsFailure};
 ghost use Rattle.dns_layout.specs.Sector.{open_count, bank_open};
@@ -12,8 +12,8 @@ use dns_journal::clear_bank;
 use dns_layout::{Bank, Root};
 use dns_sectors::{DeviceError, SectorWrite, Sectors, write_phase};
 
-// Writes the root again with its open count raised, and makes it durable. Where it says that the other bank isn't clear, that bank is
-// cleared before, and the root says so.
+// Writes the root again with its open count raised, and makes it durable. Where it says that the other bank
+// isn't clear, that bank is cleared before, and the root says so.
 pub(crate) fn raise_root<D: Sectors>(device: &mut D, root: &mut Root) -> Result<(), DeviceError>
     requires room { 1 + 2 * (root.old.snapshot_room + root.old.journal_room) ≤ D.count device.old }
     requires more { root.old.open_count < 2 ^ 64 - 1 }

@@ -1,5 +1,5 @@
 //! The first sector of a device, read when a store is opened.
-ghost use Rattle.std.specs.Prelude.{◌≡◌, ◌≤◌, ◌<◌, ◌+◌, ◌-◌, ◌*◌, ◌^◌, ◌⊎◌, ◌↔◌, List, ℕ, IsTrue, IfOk, IfErr, MatchResult};
+ghost use Rattle.std.specs.Prelude.{◌≡◌, ◌≤◌, ◌<◌, ◌+◌, ◌-◌, ◌*◌, ◌^◌, ◌⊎◌, ◌↔◌, List, ℕ, IsTrue, IfOk, IfErr, OnOk, MatchResult};
 ghost use Rattle.dns_layout.specs.Apex.{apex_octets};
 ghost use Rattle.dns_layout.specs.Sector.{sector_at, snapshot_sectors_in as sectors_of_snapshot_in};
 ghost use Rattle.dns_layout.specs.Own.{IsIntactIn, IsAltered};
@@ -91,6 +91,7 @@ pub(crate) fn read_root<D: Sectors>(
     ensures not_own { D.is_honest device.old → (IsIntactIn format 0 (sector_at (D.seen device.old) 0) → ⊥)
         → MatchResult result (λ _. ⊥) (NamesSector 0) }
     ensures device { result ≡ Err OpenError.Device → HasRisen (D.failed device.old) (D.failed device.new) }
+    ensures quiet { OnOk result (D.failed device.new ≡ D.failed device.old) }
     ensures reads { OnlyReads D.Sectors device.old device.new }
 {
     let count = device.len();

@@ -39,6 +39,7 @@ pub(crate) fn read_snapshot<D: Sectors>(
         → (IsIntactIn format (at + index) (sector_at (D.seen device.old) (at + index)) → ⊥)
         → MatchResult result (λ _. ⊥) (IsThat (at + index)) }
     ensures device { result ≡ Err ReadError.Device → HasRisen (D.failed device.old) (D.failed device.new) }
+    ensures quiet { OnOk result (D.failed device.new ≡ D.failed device.old) }
     ensures reads { OnlyReads D.Sectors device.old device.new }
 {
     let mut octets = Vec::new(alloc);
@@ -78,6 +79,7 @@ fn read_parts<D: Sectors>(
         → (IsIntactIn format (at + index) (sector_at (D.seen device.old) (at + index)) → ⊥)
         → MatchResult result (λ _. ⊥) (IsThat (at + index)) }
     ensures device { result ≡ Err ReadError.Device → HasRisen (D.failed device.old) (D.failed device.new) }
+    ensures quiet { OnOk result (D.failed device.new ≡ D.failed device.old) }
     ensures reads { OnlyReads D.Sectors device.old device.new }
 {
     for i in 0..snapshot_sectors_in(format, root.snapshot_length as usize) {

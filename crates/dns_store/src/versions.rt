@@ -1,5 +1,5 @@
 //! The versions behind the base, read from the journal.
-ghost use Rattle.std.specs.Prelude.{◌≡◌, ◌⊎◌, ◌≤◌, ◌<◌, List, ℕ, None, true, IfOk, IfErr, MatchResult};
+ghost use Rattle.std.specs.Prelude.{◌≡◌, ◌⊎◌, ◌≤◌, ◌<◌, List, ℕ, None, true, IfOk, IfErr, OnOk, MatchResult};
 ghost use Rattle.std.specs.List.{AllByRecursion, flat_map};
 ghost use Rattle.dns_records.specs.Record.{Record as Stated};
 ghost use Rattle.dns_zone.specs.Zone.{Zone as StatedZone, IsZone};
@@ -100,6 +100,7 @@ pub(crate) fn read_versions<D: Sectors, I: ZoneIndex>(
         → (IsIntactIn format place (sector_at (D.seen device.old) place) → ⊥)
         → MatchResult result (λ _. ⊥) (NamesSector place) }
     ensures device { result ≡ Err OpenError.Device → HasRisen (D.failed device.old) (D.failed device.new) }
+    ensures quiet { OnOk result (D.failed device.new ≡ D.failed device.old) }
     ensures reads { OnlyReads D.Sectors device.old device.new }
 {
     let mut zone = base;

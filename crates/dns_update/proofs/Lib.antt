@@ -17,3 +17,4 @@ pub mod Halved
 pub mod Naming
 pub mod Listing
 pub mod Examples
+pub mod Accepted

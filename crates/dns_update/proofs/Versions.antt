@@ -49,7 +49,7 @@ module _ (apex : Labels) (xs : List Record) (h : HasSoa apex xs) where
   next : Record
   next = with_serial h.soa (next_serial (serial_of h.soa))
 
-  each_next : AllByRecursion IsRecord xs → AllByRecursion IsRecord (with_next_serial (soas xs) xs)
+  pub each_next : AllByRecursion IsRecord xs → AllByRecursion IsRecord (with_next_serial (soas xs) xs)
   each_next all = subst (λ (ss : List Record). AllByRecursion IsRecord (with_next_serial ss xs)) (sym h.one)
       (put_valid (with_serial h.soa (next_serial (serial_of h.soa))) (without h.soa xs) (next_valid h.soa (next_serial (serial_of h.soa)) (soa_valid all) soa_type) (without_valid h.soa xs all))
 
@@ -75,7 +75,7 @@ module _ (z : Zone) (after : List Record) (h : IsSound z.apex after) (each : ∥
   as_is : greater (serial_in (soas after)) (serial_in (soas z.records)) ≡ true → IsVersion z after
   as_is e = record { ordered = ordered_from after h.sorted; each = each; valid = fault_of_sound z.apex after h; serial = e }
 
-  version_of : (xs : List Record) → versioned z.records after ≡ Leaves xs → IsVersion z xs
+  pub version_of : (xs : List Record) → versioned z.records after ≡ Leaves xs → IsVersion z xs
   version_of xs = at (same_set z.records after) (serial_in (soas after) == serial_in (soas z.records)) (greater (serial_in (soas after)) (serial_in (soas z.records))) refl refl
     where
       at : (a b d : Bool) → (serial_in (soas after) == serial_in (soas z.records)) ≡ b → greater (serial_in (soas after)) (serial_in (soas z.records)) ≡ d

@@ -3,7 +3,7 @@
 
 use clap::error::ErrorKind;
 use clap::{Arg, ArgAction, ArgMatches, Command, Error};
-use dns_configuration::{Configuration, FAILED, File, REFUSED, USAGE};
+use dns_configuration::{Configuration, ConfigurationError, FAILED, File, REFUSED, USAGE};
 use dns_devices::{Disk, dump, init, migrate};
 use dns_files::{DiskFile, FileSectors};
 use dns_memory::{Heap, heap};
@@ -206,7 +206,8 @@ fn file<'a>(path: &'a str, octets: &'a Option<Vec<u8>>) -> File<'a> {
     }
 }
 
-/// The paths of the master files that a configuration names, and the octets of each; none where it is refused.
+/// The paths of the master files that a configuration names, and the octets of each; none where it is refused. Refused memory is an
+/// error.
 fn master_files(
     rt: &HostRuntime,
     heap: Heap,
@@ -216,13 +217,17 @@ fn master_files(
     let Some(text) = config.octets else {
         return Ok(files);
     };
-    if let Ok(configuration) = Configuration::read(rt.alloc(), heap, text) {
-        for zone in configuration.zones {
-            let octets = octets(rt, &zone.file)?;
-            files.push((zone.file, octets))?;
+    match Configuration::read(rt.alloc(), heap, text) {
+        Ok(configuration) => {
+            for zone in configuration.zones {
+                let octets = octets(rt, &zone.file)?;
+                files.push((zone.file, octets))?;
+            }
+            Ok(files)
         }
+        Err(ConfigurationError::OutOfMemory) => Err(io::ErrorKind::OutOfMemory.into()),
+        Err(ConfigurationError::BadConfig) => Ok(files),
     }
-    Ok(files)
 }
 
 /// Tells why the system does not give a file, if it was not given.

@@ -2,24 +2,23 @@ use Rattle.std.proofs.Common.{inr, Ok, Err, refl, ap}
 use Rattle.dns_devices.proofs.Migrated.{only_read, unless_failed}
 use Rattle.dns_devices.proofs.migration.migrate_one.Goals as goal
 
-pub returns-in-Ok-migrated : goal.returns-in-Ok-migrated
-returns-in-Ok-migrated g c = record {
-  device = c.in-Ok.device;
+pub returns-in-Ok : goal.returns-in-Ok
+returns-in-Ok g c = record {
+  device = c.in_ok-device.device;
   after = _;
-  came = rw c.deref.ensures at c.in-Ok.ensures;
-  honest = c.in-Ok-migrated.ensures.honest;
-  takes = c.in-Ok-migrated.ensures.migrated;
-  any_moment = c.in-Ok-migrated.ensures.any_moment;
-  already = λ honest is. c.in-Ok-migrated.ensures.already honest (ap Ok is);
-  read_only = only_read c.in-Ok-migrated.answer (Ok c.in-Ok-migrated.answer) refl c.in-Ok-migrated.ensures.unwritten;
-  counts = c.in-Ok-migrated.ensures.counts;
+  came = rw c.deref.ensures at c.in_ok-device.ensures;
+  honest = c.in-Ok.ensures.honest;
+  takes = c.in-Ok.ensures.migrated;
+  any_moment = c.in-Ok.ensures.any_moment;
+  already = λ honest is. c.in-Ok.ensures.already honest (ap Ok is);
+  read_only = only_read c.in-Ok.answer (Ok c.in-Ok.answer) refl c.in-Ok.ensures.unwritten;
 }
 
 pub returns : goal.returns
 returns g c = inr (record {
-  device = c.in-Ok.device;
+  device = c.in_ok-device.device;
   after = _;
-  came = rw c.deref.ensures at c.in-Ok.ensures;
+  came = rw c.deref.ensures at c.in_ok-device.ensures;
   error = c.in-Err.error;
   named = c.from.ensures;
   stopped = c.in-Err.ensures.migrated;

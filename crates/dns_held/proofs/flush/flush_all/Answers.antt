@@ -5,7 +5,7 @@ use Rattle.dns_sectors.proofs.Moments.{started, joined}
 use Rattle.dns_store.specs.Versions.{Kept, OpensAsLeft}
 use Rattle.dns_held.specs.Each.{Each3}
 use Rattle.dns_held.specs.Held.{HasVersions}
-use Rattle.dns_held.specs.Flush.{flushed, flushed_to, HasFailed}
+use Rattle.dns_held.specs.Flush.{flushed, flushed_to, IsCounted}
 use Rattle.dns_held.proofs.Lists.{get3, set3, mid3, diag, long3, stands, more, fails_more, untouched, same_at, newest_set}
 use Rattle.dns_held.proofs.flush.flush_all.Goals as goal
 
@@ -45,7 +45,7 @@ loop-i-preserved g c =
                 (set3 (λ z b k. HasVersions g.S.ZoneStore.keeps z b k) zones behind (flushed_to fails ks) i c.flush_zone-failed.new.zone c.flush_zone-failed.new.behind (flushed failed k) was.2 (c.flush_zone-failed.ensures.held k there.2)),
             c.first_failure-first.ensures fails was.3 (sym was.1),
             fails_more (λ b. g.S.ZoneStore.failed b.store) fails c.args.behind.now behind i failed c.flush_zone-failed.new.behind c.index-behind-i.result was.1 was.4 (omega (arith, c.loop-i.invariant.count)) inside
-                (λ f. subst (λ b. HasFailed (g.S.ZoneStore.failed b.store) (g.S.ZoneStore.failed c.flush_zone-failed.new.behind.store)) (same_at behind c.args.behind.now i c.index-behind-i.result c.loop-i.invariant.rest) (c.flush_zone-failed.ensures.failed f)),
+                (subst (λ b. IsCounted failed (g.S.ZoneStore.failed b.store) (g.S.ZoneStore.failed c.flush_zone-failed.new.behind.store)) (same_at behind c.args.behind.now i c.index-behind-i.result c.loop-i.invariant.rest) c.flush_zone-failed.ensures.failed),
           );
       moments = λ ks each.
           let was = c.loop-i.invariant.held ks each in

@@ -1,4 +1,4 @@
-use Rattle.std.proofs.Common.{◌≡◌, ◌+◌, List, [], ◌∷◌, length, inr, take, drop, refl, ◌∙◌, ap, arith}
+use Rattle.std.proofs.Common.{◌≡◌, ◌+◌, List, [], ◌∷◌, length, inr, ⊎_elim, take, drop, refl, ◌∙◌, ap, arith}
 use Rattle.dns_sectors.specs.Device.{Content}
 use Rattle.dns_sectors.specs.Crash.{CrashOf}
 use Rattle.dns_sectors.specs.Phase.{pairs}
@@ -97,7 +97,7 @@ returns-in_err-clear_bank-clause-any_moment g c honest only =
     c.encode.result c.encode.ensures.says c.encode.ensures.own c.encode-cleared.result c.encode-cleared.ensures.says c.encode-cleared.ensures.own c.places_of-old.result old c.places_of-new.result new c.split_at.result.0.now c.split_at.result.1.now front back in
     let begun = st.to_clear (g.D.Sectors.seen c.write_whole.new.device) (g.D.Sectors.seen c.write_phase.new.device) written (c.in_ok-write_phase.ensures.written one) in
     let stays = left s st.new c.encode.result st.parts begun in
-    inr (st.new, st.turned, stays.0, stays.1))
+    inr (st.new, st.turned, stays.0, stays.1, ⊎_elim (λ now. now ∙ c.encode.ensures.says.opened_is) (λ then. then ∙ st.counted) stays.2))
 
 pub returns-clause-any_moment : goal.returns-clause-any_moment
 returns-clause-any_moment g c honest only =
@@ -127,7 +127,7 @@ returns-clause-any_moment g c honest only =
     c.encode.result c.encode.ensures.says c.encode.ensures.own c.encode-cleared.result c.encode-cleared.ensures.says c.encode-cleared.ensures.own c.places_of-old.result old c.places_of-new.result new c.split_at.result.0.now c.split_at.result.1.now front back in
     let begun = st.to_clear (g.D.Sectors.seen c.write_whole.new.device) (g.D.Sectors.seen c.write_phase.new.device) written (c.in_ok-write_phase.ensures.written one) in
     let stays = left s st.new c.encode.result st.parts begun in
-    inr (st.new, st.turned, stays.0, stays.1))
+    inr (st.new, st.turned, stays.0, stays.1, ⊎_elim (λ now. now ∙ c.encode.ensures.says.opened_is) (λ then. then ∙ st.counted) stays.2))
 
 pub returns-clause-converted : goal.returns-clause-converted
 returns-clause-converted g c s k x parts honest only opens says base_is =
@@ -140,7 +140,7 @@ returns-clause-converted g c s k x parts honest only opens says base_is =
     let back : c.split_at.result.1.now ≡ drop n c.in_ok-writes.writes.items = c.split_at.ensures.back ∙ (λ i. drop (c.snapshot_sectors.ensures i) (c.deref.ensures.value i)) in
     let st = steps s k (g.D.Sectors.seen c.args.device.now) x parts opens r says c.args.base c.args.octets.now c.args.changes.now base_is c.requires.fits c.in_ok-writes.writes.items c.in_ok-writes._next lays c.other_bank-root.result c.other_bank-root.ensures
     c.encode.result c.encode.ensures.says c.encode.ensures.own c.encode-cleared.result c.encode-cleared.ensures.says c.encode-cleared.ensures.own c.places_of-old.result old c.places_of-new.result new c.split_at.result.0.now c.split_at.result.1.now front back in
-    let P : Content → Type 0 = λ e. LeavesConverted s k c.args.octets.now c.args.changes.now e in
+    let P : Content → Type 0 = λ e. LeavesConverted s k c.args.octets.now c.args.changes.now r.open_count e in
     let one = c.write_whole.ensures.honest.1 honest in
     let written = c.in_ok-write_whole.ensures.written honest in
     let two = c.write_phase.ensures.honest.1 one in

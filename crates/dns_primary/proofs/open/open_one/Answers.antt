@@ -1,6 +1,6 @@
 use Rattle.std.proofs.Common.{arith, refl, sym, ap, ◌∙◌, append-nil}
 use Rattle.dns_zone.specs.Zone.{Zone}
-use Rattle.dns_store.specs.Versions.{Versions, newest_after}
+use Rattle.dns_store.specs.Versions.{Versions, newest_after, opened_again}
 use Rattle.dns_store.specs.Opens.{fresh}
 use Rattle.dns_store.specs.Plain.{octets_of}
 use Rattle.dns_primary.specs.Open.{shape_of}
@@ -21,7 +21,7 @@ returns-in-Ok g c =
                 record {
                   zone_is = taken.newest_is;
                   tip_is = refl;
-                  number_is = omega (arith, c.newest.ensures (fresh shape o) taken.keeps_them);
+                  number_is = omega (arith, c.newest.ensures (fresh shape (opened_again o)) taken.keeps_them);
                   octets_are = c.snapshot_len.ensures ∙ ap (λ (z : Zone). octets_of z.records) taken.newest_is ∙ ap (λ (vs : Versions). octets_of (newest_after o.loaded vs)) (sym (append-nil o.versions));
                   snapshot_is = refl;
                   journal_is = refl;

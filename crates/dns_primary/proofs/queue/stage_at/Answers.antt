@@ -8,7 +8,6 @@ use Rattle.dns_update.specs.Verdict.{verdict}
 use Rattle.dns_held.specs.Held.{HasVersions, newer, newest_zone}
 use Rattle.dns_held.proofs.Lists.{newest_at}
 use Rattle.dns_primary.specs.declared.event.Waiting.{Waiting}
-use Rattle.dns_primary.specs.declared.update.Outcome.TheVariants as outcome
 use Rattle.dns_primary.specs.Machine.{Machine, kept_of}
 use Rattle.dns_primary.specs.Flush.{Sent}
 use Rattle.dns_primary.specs.Update.{Admission, admitted, judged_in, replies}

@@ -1,5 +1,5 @@
-use Rattle.std.proofs.Common.{◌≡◌, inl, inr, [], refl, sym, subst}
-use Rattle.std.specs.Prelude.{MatchOption, OnSome}
+use Rattle.std.proofs.Common.{◌≡◌, inl, [], subst}
+use Rattle.std.specs.Prelude.{MatchOption}
 use Rattle.dns_transfer.specs.Session.{Sends}
 use Rattle.dns_primary.proofs.transfers.at_once.Goals as goal
 

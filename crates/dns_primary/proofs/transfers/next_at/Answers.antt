@@ -1,8 +1,7 @@
-use Rattle.std.proofs.Common.{◌≡◌, ℕ, List, [], refl, sym, ap, subst, ◌∙◌}
-use Rattle.std.specs.Prelude.{MatchOption, OnErr, IsTrue, true, false, Option, None, Some, Result, Ok, Err, slice_set}
+use Rattle.std.proofs.Common.{◌≡◌, List, [], sym, ap, subst, ◌∙◌}
+use Rattle.std.specs.Prelude.{MatchOption, OnErr, true, false, Option, None, Some, Result, Ok, Err}
 use Rattle.dns_transfer.specs.Session.{Sending, Sends}
 use Rattle.dns_primary.specs.declared.transfers.OpenTransfer.{OpenTransfer}
-use Rattle.dns_primary.specs.Keeps.{sending_on}
 use Rattle.dns_primary.specs.Sending.{EndsOn, SendsOn}
 use Rattle.dns_primary.proofs.Moved.{got}
 use Rattle.dns_primary.proofs.Transferred.{found, is_first, ends, sends_last, sends_on, same_on}

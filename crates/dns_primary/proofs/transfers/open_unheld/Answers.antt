@@ -1,4 +1,4 @@
-use Rattle.std.proofs.Common.{None, Option, subst}
+use Rattle.std.proofs.Common.{Option, subst}
 use Rattle.std.specs.Prelude.{IfOk, false}
 use Rattle.dns_transfer.specs.Session.{Version, Opens}
 use Rattle.dns_primary.proofs.Transferred.{opened_some}

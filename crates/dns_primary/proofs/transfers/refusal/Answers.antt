@@ -1,7 +1,7 @@
-use Rattle.std.proofs.Common.{◌≡◌, ◌⊎◌, inl, inr, ℕ, List, Ok, Err, Result, refl, sym, ap, subst, ◌∙◌}
+use Rattle.std.proofs.Common.{◌≡◌, ◌⊎◌, inl, ℕ, List, refl, sym, subst}
 use Rattle.std.specs.Prelude.{IfOk, IfErr}
 use Rattle.dns_wire.specs.Codes.{number_of_rcode}
-use Rattle.dns_wire.specs.Message.{Header, Question, Message, header_of}
+use Rattle.dns_wire.specs.Message.{Header, Question, Message}
 use Rattle.dns_wire.specs.Text.{text}
 use Rattle.dns_wire.specs.declared.codes.Rcode.{Rcode}
 use Rattle.dns_wire.specs.declared.codes.Rcode.TheVariants as code

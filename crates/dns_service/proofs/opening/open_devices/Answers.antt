@@ -1,15 +1,14 @@
-use Rattle.std.proofs.Common.{inr, Ok, refl, add-one, arith}
+use Rattle.std.proofs.Common.{inr, Ok, add-one, arith}
 use Rattle.std.specs.String.{string_bytes}
 use Rattle.dns_configuration.specs.declared.configuration.ZoneSettings.{ZoneSettings}
 use Rattle.dns_configuration.proofs.Loaded.{zip_more}
 use Rattle.dns_service.proofs.Known.{cannot_be_had}
 use Rattle.dns_service.proofs.opening.open_devices.Goals as goal
 
-pub returns-in_default : goal.returns-in_default
-returns-in_default g c =
+pub returns-in-Err : goal.returns-in-Err
+returns-in-Err g c =
     let opened = g.F.Devices.opened c.args.devices.now in
-    let error = c.in_default.field-0 in
-    inr (refl, cannot_be_had opened c.args.zones.now c.loop-place.place c.index-zones-place.result error (omega arith) (rw c.deref.ensures at c.in_default.ensures))
+    inr (cannot_be_had opened c.args.zones.now c.loop-place.place c.index-zones-place.result c.in-Err.error c.from.result (omega arith) (rw c.deref.ensures at c.in-Err.ensures) c.from.ensures)
 
 pub loop-place-preserved : goal.loop-place-preserved
 loop-place-preserved g c =

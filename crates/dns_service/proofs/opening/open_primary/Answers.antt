@@ -25,5 +25,5 @@ returns-in-Ok-open g c = record {
   given = c.in-Ok-open_devices.ensures;
   known = c.in-Ok.settings.items;
   settings = c.in-Ok.ensures;
-  recovered = λ m event are. c.in-Ok-open.ensures.recovered m event (subst (λ (names : List Labels). AreRecoverable g.D.Sectors m event 0 m.zones names c.in-Ok.settings.items c.in-Ok-open_devices.given.items) (sym c.requires) are);
+  recovered = λ m event tries are. c.in-Ok-open.ensures.recovered m event tries (subst (λ (names : List Labels). AreRecoverable g.D.Sectors tries m event 0 m.zones names c.in-Ok.settings.items c.in-Ok-open_devices.given.items) (sym c.requires) are);
 }

@@ -11,7 +11,7 @@ returns-in-Ok-clause-any_moment g c k base kept none is =
 pub returns-in-Ok-clause-moved : goal.returns-in-Ok-clause-moved
 returns-in-Ok-clause-moved g c k base kept none is =
     let not : is_closed c.args.journal.now ≡ true → ⊥ = search (rules, c.in-Ok.ensures.closed) in
-    turn_keeps c.args.journal.now c.turn.new.self k none base c.args.octets.now c.args.changes.now is c.in-Ok.ensures.turned not k.closed kept
+    turn_keeps c.args.journal.now c.turn.new.self k none base c.args.octets.now c.args.changes.now is c.in-Ok.ensures.turned c.turn.ensures.opened not k.closed kept
 
 pub returns-in-Err-clause-any_moment : goal.returns-in-Err-clause-any_moment
 returns-in-Err-clause-any_moment g c k base kept none is =

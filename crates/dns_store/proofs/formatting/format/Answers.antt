@@ -44,6 +44,3 @@ returns-clause-made g c honest =
     let fits : snapshot_sectors (length c.in_ok-octets.octets.items) ≤ c.args.snapshot = omega (arith, c.if-snapshot_sectors-snapshot.false, c.snapshot_sectors.ensures, ap snapshot_sectors same) in
     let new : IsNewRoot (sizes_of shape) c.in_ok-octets.octets.items root = record { opened = refl; base = refl; bank = refl; bank_open = refl; length = sym same; snapshot = refl; journal = refl; clear = refl; apex = c.apex_of-apex.ensures.octets ∙ ap wire c.apex.ensures.name } in
     λ x left. made_in_versions shape c.args.zone.now.records octets c.deref.result.now root (g.D.Sectors.count c.args.device.now) c.apex.ensures.valid c.in_ok-octets.ensures c.deref.ensures.value new geometry fits x (c.in_ok-make.ensures.made honest x left)
-
-pub returns-clause-opened : goal.returns-clause-opened
-returns-clause-opened g c honest = λ x left. (c.in_ok-make.ensures.made honest x left).says.opened_is

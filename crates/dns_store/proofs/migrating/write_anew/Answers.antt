@@ -12,7 +12,7 @@ use Rattle.dns_store.specs.Checkpoint.{IsBaseOf}
 use Rattle.dns_store.specs.Migrating.{StaysOrMigrates, base_error}
 use Rattle.dns_store.specs.declared.checkpoint.CheckpointError.{CheckpointError}
 use Rattle.dns_store.specs.declared.migrating.MigrateError.{MigrateError}
-use Rattle.dns_store.proofs.Anew.{led, zones, too_wide, gone_led, gone_zones, base_fits, is_base, count_is, migrated, converted, told, stays_old}
+use Rattle.dns_store.proofs.Anew.{led, zones, too_wide, gone_led, gone_zones, base_fits, is_base, count_is, migrated, converted, told, stays_old, openings}
 use Rattle.dns_store.proofs.migrating.write_anew.Goals as goal
 
 pub returns-in_default-clause-any_moment : goal.returns-in_default-clause-any_moment
@@ -93,15 +93,5 @@ returns-clause-migrated g c honest only shape o s read after to x left =
       migrated shape o s d c.args.root c.args.version c.args.base.now c.args.changes.now read n chosen c.deref.result.now made.0
           (subst (λ (l : List ℕ). IsBaseOf (fresh shape o) (length o.versions - n) l (drop (length c.args.changes.now - n) c.args.changes.now)) (sym c.deref.ensures.value) is)
           (subst (λ (cs : List Change). IsTurned s c.deref.result.now cs made.0) (take_rest c.args.changes.now (length c.args.changes.now - n)) made.1) after to,
+      by.counted ∙ ap (λ m. m + 1) (openings shape o s d c.args.root c.args.version c.args.base.now c.args.changes.now read) ∙ sym to.openings,
     )
-
-pub returns-clause-counts : goal.returns-clause-counts
-returns-clause-counts g c honest only shape o s read =
-    let d = g.D.Sectors.seen c.args.device.now in
-    let n = c.in-Some.kept in
-    let chosen = c.in-Some.ensures.chosen (drop o.base o.versions) (led shape o s d c.args.root c.args.version c.args.base.now c.args.changes.now read) (zones shape o s d c.args.root c.args.version c.args.base.now c.args.changes.now read) in
-    let first = told shape o s d c.args.root c.args.version c.args.base.now c.args.changes.now read n chosen in
-    let made = c.in_ok-convert.ensures.converted (sizes_of shape) s (sector_at d 0) first.0 honest only first.1 read.says
-    (subst (λ (cs : List Change). c.saturating_sub-number.result + length cs ≡ version_of s) (sym (take_rest c.args.changes.now (length c.args.changes.now - n)))
-    (count_is shape o s d c.args.root c.args.version c.args.base.now c.args.changes.now read n chosen c.saturating_sub-number.result c.saturating_sub-number.ensures)) in
-    (made.2 (g.D.Sectors.seen c.convert.new.device) (g.met.D.Sectors.seen_may_stay c.convert.new.device (c.convert.ensures.honest.1 honest))).counted

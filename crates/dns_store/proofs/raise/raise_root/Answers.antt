@@ -6,7 +6,7 @@ use Rattle.dns_layout.specs.Journal.{AllBehind}
 use Rattle.dns_layout.specs.Store.{OpensBy}
 use Rattle.dns_store.specs.Turn.{StaysStored}
 use Rattle.dns_store.proofs.Turns as root
-use Rattle.dns_store.proofs.Raising.{on_ok, on_ok_both, is_raised, is_root, says_clear, raise_crash, to_clear, bank_after}
+use Rattle.dns_store.proofs.Raising.{on_ok, on_ok_both, is_raised, is_root, says_clear, raise_crash, still_raised, to_clear, bank_after}
 use Rattle.dns_store.proofs.raise.raise_root.Goals as goal
 
 pub returns-then-was_clear-clause-any_moment : goal.returns-then-was_clear-clause-any_moment
@@ -36,9 +36,10 @@ returns-else-was_clear-clause-any_moment g c honest only =
     let r = c.args.root.now in
     weaker g.D.Sectors.moment g.D.Sectors.left_since c.args.device.now c.clear_bank.new.device _ (StaysStored (g.D.Sectors.seen c.args.device.now) r) (c.clear_bank.ensures.any_moment honest only)
     (λ d left s k x parts opens tidy says.
-    left s k x parts
+    still_raised s k x c.encode-sector.result d (is_raised x c.encode-sector.result r says c.encode-sector.ensures.says)
+    (left s k x parts
     (to_clear s k (g.D.Sectors.seen c.args.device.now) x c.encode-sector.result parts r (r.snapshot_room + r.journal_room) c.other_bank_at-from.result (c.other_bank_at-from.result + (r.snapshot_room + r.journal_room))
-    c.if-was_clear.false opens tidy says c.encode-sector.ensures.says c.encode-sector.ensures.own refl c.other_bank_at-from.ensures refl))
+    c.if-was_clear.false opens tidy says c.encode-sector.ensures.says c.encode-sector.ensures.own refl c.other_bank_at-from.ensures refl)))
 
 pub returns-else-was_clear-clause-raised : goal.returns-else-was_clear-clause-raised
 returns-else-was_clear-clause-raised g c = λ s k x parts honest only opens tidy says.

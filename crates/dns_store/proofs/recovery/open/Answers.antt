@@ -1,12 +1,14 @@
-use Rattle.std.proofs.Common.{◌≡◌, ℕ, List, drop, sym, ◌∙◌, ap, subst}
+use Rattle.std.proofs.Common.{◌≡◌, ◌⊎◌, inl, ℕ, ◌+◌, List, drop, refl, sym, ◌∙◌, ap, subst}
 use Rattle.dns_sectors.specs.Device.{Content, Only, LeavesOnly}
-use Rattle.dns_layout.specs.Sector.{sector_at, open_count}
+use Rattle.dns_layout.specs.Sector.{sector_at}
 use Rattle.dns_layout.specs.Journal.{place_behind}
 use Rattle.dns_layout.specs.Store.{journal_place, bank_end, version_of}
-use Rattle.dns_store.specs.Versions.{Shape}
+use Rattle.dns_store.specs.Versions.{Shape, opened_again}
 use Rattle.dns_store.specs.Opens.{base_of, sizes_of}
 use Rattle.dns_store.specs.Recovered.{AreLed}
-use Rattle.dns_store.specs.Opening.{OpensAsPossible}
+use Rattle.dns_store.specs.Opening.{OpensAsPossible, IsStopped}
+use Rattle.dns_store.specs.Damage.{NamesAltered}
+use Rattle.dns_store.proofs.Leaves.{part_opened}
 use Rattle.dns_journal.proofs.Altered.{altered_itself}
 use Rattle.dns_layout.specs.declared.format.Format.TheVariants.{Two}
 use Rattle.dns_store.proofs.Entering.{stands, raise_leaves, none_altered, newest_number}
@@ -14,12 +16,19 @@ use Rattle.dns_store.proofs.recovery.open.Goals as goal
 
 pub returns-in-Err-clause-opened : goal.returns-in-Err-clause-opened
 returns-in-Err-clause-opened g c honest range may =
-    let d = g.D.Sectors.seen c.args.device in
-    let there = may d (g.met.D.Sectors.seen_may_stay c.args.device honest) in
-    none_altered d c.in-Err.error (c.in-Err.ensures.found honest range d (altered_itself Two d) there.0 there.1.0 there.1.1 there.1.3)
+    let d = g.D.Sectors.seen c.args.device in (
+      d,
+      g.met.D.Sectors.seen_may_stay c.args.device honest,
+      λ o is. subst (λ n. IsStopped n c.in-Err.error) is.4 (none_altered Two _ d c.in-Err.error (c.in-Err.ensures.found honest range d (altered_itself Two d) o is.0 is.1 is.3)),
+    )
+
+pub returns-in-Err-raise_root-clause-opened : goal.returns-in-Err-raise_root-clause-opened
+returns-in-Err-raise_root-clause-opened g c honest range may =
+    (g.D.Sectors.seen c.args.device, g.met.D.Sectors.seen_may_stay c.args.device honest, λ o is. inl refl)
 
 pub returns-in-Err-clause-altered : goal.returns-in-Err-clause-altered
-returns-in-Err-clause-altered g c honest range before o is altered = c.in-Err.ensures.found honest range before altered o is.0 is.1 is.3
+returns-in-Err-clause-altered g c honest range before o is altered =
+    subst (λ n. IsStopped n c.in-Err.error ⊎ NamesAltered before (g.D.Sectors.seen c.args.device) c.in-Err.error) is.4 (c.in-Err.ensures.found honest range before altered o is.0 is.1 is.3)
 
 pub returns-in-Err-raise_root-clause-any_moment : goal.returns-in-Err-raise_root-clause-any_moment
 returns-in-Err-raise_root-clause-any_moment g c honest range =
@@ -49,8 +58,9 @@ returns-clause-opened g c honest range may =
           let there = stands shape d (g.D.Sectors.seen c.read_settled.new.device) c.in-Ok.found.root s same is.1 is.2 in
           let raised = c.in-Ok-raise_root.ensures.raised sz s (sector_at d 0) there.parts mid only there.by there.tidy read.says in
           let bank = raised.2.names.bank in
-          let keeps = c.over-store.ensures.keeps shape o s raised.0 there.parts (c.raise_root.ensures.honest.1 mid) (c.in-Ok-raise_root.ensures.durable mid) raised.3 raised.1 raised.4 (raised.5 (version_of s)) is.3
-          (read.until_is ∙ ap (λ n. bank_end sz n) (sym bank)) (read.at_is ∙ ap (λ n. place_behind (journal_place sz n) s.entries) (sym bank)) read.version_is (sym raised.1.opened_is)
+          let again = raised.2.count ∙ ap (λ n. n + 1) is.4 in
+          let keeps = c.over-store.ensures.keeps shape (opened_again o) s raised.0 there.parts (c.raise_root.ensures.honest.1 mid) (c.in-Ok-raise_root.ensures.durable mid) raised.3 raised.1 raised.4 (raised.5 (version_of s)) (part_opened shape.apex o (o.openings + 1) s is.3)
+          (read.until_is ∙ ap (λ n. bank_end sz n) (sym bank)) (read.at_is ∙ ap (λ n. place_behind (journal_place sz n) s.entries) (sym bank)) read.version_is (sym raised.1.opened_is) again
           (λ i. record { apex = c.in-Ok.ensures.apex.0 i; records = read.base_is i }) read.led in
           record { keeps_them = keeps; newest_is = λ i. record { apex = c.in-Ok.ensures.apex.1 i; records = read.newest_is i } }),
     )
@@ -76,19 +86,3 @@ returns-clause-any_moment g c honest range =
     (raise_leaves shape c.args.device c.read_settled.new.device honest reads c.raise_root.new.device c.in-Ok.found.root (g.met.D.Sectors.seen_may_stay c.args.device honest)
     (λ o s is part. (c.in-Ok.ensures.found honest range d (altered_itself Two d) o s is part).says)
     (c.raise_root.ensures.any_moment (reads.honest.1 honest) only))
-
-pub returns-clause-counts : goal.returns-clause-counts
-returns-clause-counts g c honest range o is =
-    let shape : Shape = record { apex = c.args.apex.now; snapshot = c.args.snapshot; journal = c.args.journal } in
-    let sz = sizes_of shape in
-    let d = g.D.Sectors.seen c.args.device in
-    let reads = c.read_settled.ensures.reads in
-    let same = reads.seen honest in
-    let mid = reads.honest.1 honest in
-    let only : Only (g.D.Sectors.seen c.read_settled.new.device) (g.D.Sectors.may_leave c.read_settled.new.device) = λ x l. c.in-Ok.ensures.durable honest x l ∙ sym same in
-    let read = c.in-Ok.ensures.found honest range d (altered_itself Two d) o is.0 is.1 is.3 in
-    let there = stands shape d (g.D.Sectors.seen c.read_settled.new.device) c.in-Ok.found.root is.0 same is.1 is.2 in
-    let raised = c.in-Ok-raise_root.ensures.raised sz is.0 (sector_at d 0) there.parts mid only there.by there.tidy read.says in
-    λ x left.
-    let now : x ≡ g.D.Sectors.seen c.raise_root.new.device = c.in-Ok-raise_root.ensures.durable mid x (subst (λ e. g.D.Sectors.may_leave e x) c.over-store.ensures.device left) in
-    ap (λ (e : Content). open_count (sector_at e 0)) now ∙ ap (λ (y : List ℕ). open_count y) raised.3.stands ∙ raised.2.count

@@ -29,6 +29,7 @@ returns-then-not-is_part-clause-damaged g c honest k altered x says =
 pub loop-i-preserved : goal.loop-i-preserved
 loop-i-preserved g c = record {
   reads = reads_then _ _ _ c.loop-i.invariant.reads c.read_sector.ensures.reads;
+  quiet = c.in_ok-sector.ensures.quiet ∙ c.loop-i.invariant.quiet;
   parts = λ honest k altered x says.
       let f = c.args.format in
       let still = subst (λ d. IsAltered f k d) (sym (c.loop-i.invariant.reads.seen honest)) altered in

@@ -10,6 +10,7 @@ use Rattle.dns_store.proofs.snapshot.read_parts.Given as goal
 abbrev pub invariant-loop-i : goal.invariant-loop-i
 invariant-loop-i g l = record {
   reads : OnlyReads g.D.Sectors l.fn.device l.device;
+  quiet : g.D.Sectors.failed l.device ≡ g.D.Sectors.failed l.fn.device;
   parts : g.D.Sectors.is_honest l.fn.device → (k : List (List ℕ)) → IsAltered l.format k (g.D.Sectors.seen l.fn.device) → (x : List ℕ) → SaysRootIn l.format x l.root → ArePartsIn l.format x 0 (sectors_from k l.at l.i);
   passed : g.D.Sectors.is_honest l.fn.device → AreIntact l.format (g.D.Sectors.seen l.fn.device) l.at l.i;
   size : length l.octets.items ≡ length l.fn.octets.items + payload_room_in l.format * l.i;

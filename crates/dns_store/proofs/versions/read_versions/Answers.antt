@@ -20,6 +20,7 @@ use Rattle.dns_store.proofs.versions.read_versions.Goals as goal
 pub entries-init : goal.entries-init
 entries-init g c = record {
   reads = none_read c.args.device.now (λ honest left since. g.met.D.Sectors.only_now c.args.device.now left honest since);
+  quiet = refl;
   until = refl;
   within = c.requires.at;
   rises = omega arith;
@@ -58,6 +59,7 @@ returns-in-Err-clause-reads_all g c honest k altered vs es reads are =
 pub entries-preserved : goal.entries-preserved
 entries-preserved g c = record {
   reads = reads_then _ _ _ c.entries.invariant.reads c.next_entry.ensures.reads;
+  quiet = c.in_ok-found.ensures.quiet ∙ c.entries.invariant.quiet;
   until = c.next_entry.ensures.until ∙ c.entries.invariant.until;
   within = search (rules, arith);
   rises = search (rules, arith);

@@ -12,6 +12,7 @@ use Rattle.dns_store.proofs.versions.read_versions.Given as goal
 abbrev pub invariant-entries : goal.invariant-entries
 invariant-entries g l = record {
   reads : OnlyReads g.D.Sectors l.fn.device l.device;
+  quiet : g.D.Sectors.failed l.device ≡ g.D.Sectors.failed l.fn.device;
   until : l.cursor.until ≡ l.fn.cursor.until;
   within : l.cursor.at ≤ l.cursor.until;
   rises : l.fn.cursor.at ≤ l.cursor.at;

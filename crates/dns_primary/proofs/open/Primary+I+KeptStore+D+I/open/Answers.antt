@@ -21,9 +21,9 @@ invariant_of-result-clause-settled g c =
     omega (arith, many.0, ap (λ (l : List ZoneSettings). length l) c.deref.ensures.value)
 
 pub returns-in-Ok-clause-recovered : goal.returns-in-Ok-clause-recovered
-returns-in-Ok-clause-recovered g c m event is =
+returns-in-Ok-clause-recovered g c m event tries is =
     let opened = subst (λ (l : List ZoneSettings). AreOpened (length l) c.args.apexes.now l c.args.devices.items c.in-Ok.all.zones.items c.in-Ok.all.behind.items) c.deref.ensures.value c.in-Ok.ensures in
-    let all = all_reopened m event 0 m.zones c.args.apexes.now c.args.settings.items c.args.devices.items c.in-Ok.all.zones.items c.in-Ok.all.behind.items is opened in
+    let all = all_reopened m event tries 0 m.zones c.args.apexes.now c.args.settings.items c.args.devices.items c.in-Ok.all.zones.items c.in-Ok.all.behind.items is opened in
     let new : Machine = record { zones = all.states; waiting = []; connections = [] } in (
       new,
       record { zones = all.recovered; waiting = refl; connections = refl },
@@ -38,21 +38,21 @@ returns-in-Ok-clause-recovered g c m event is =
     )
 
 pub returns-in-Ok-clause-any_moment : goal.returns-in-Ok-clause-any_moment
-returns-in-Ok-clause-any_moment g c m event is =
+returns-in-Ok-clause-any_moment g c m event tries is =
     let opened = subst (λ (l : List ZoneSettings). AreOpened (length l) c.args.apexes.now l c.args.devices.items c.in-Ok.all.zones.items c.in-Ok.all.behind.items) c.deref.ensures.value c.in-Ok.ensures in
-    (all_reopened m event 0 m.zones c.args.apexes.now c.args.settings.items c.args.devices.items c.in-Ok.all.zones.items c.in-Ok.all.behind.items is opened).left
+    (all_reopened m event tries 0 m.zones c.args.apexes.now c.args.settings.items c.args.devices.items c.in-Ok.all.zones.items c.in-Ok.all.behind.items is opened).left
 
 pub returns-in-Err-clause-recovered : goal.returns-in-Err-clause-recovered
-returns-in-Err-clause-recovered g c m event is =
+returns-in-Err-clause-recovered g c m event tries is =
     let s = g.D.Sectors in
     let back = c.open_all.new.devices.items in
     let refused = subst (λ (l : List ZoneSettings). AreRefused s c.in-Err.refusal.error c.in-Err.refusal.place c.args.apexes.now l c.args.devices.items back) c.deref.ensures.value c.in-Err.ensures in
-    let held = refused_held s m event g.met.D.Sectors.counts_now g.met.D.Sectors.only_now c.in-Err.refusal.error c.in-Err.refusal.place m.zones c.args.apexes.now c.args.settings.items c.args.devices.items back is refused in
+    let held = refused_held s m event tries g.met.D.Sectors.counts_now g.met.D.Sectors.only_now c.in-Err.refusal.error c.in-Err.refusal.place m.zones c.args.apexes.now c.args.settings.items c.args.devices.items back is refused in
     (held.recoverable, held.stopped)
 
 pub returns-in-Err-clause-any_moment : goal.returns-in-Err-clause-any_moment
-returns-in-Err-clause-any_moment g c m event is =
+returns-in-Err-clause-any_moment g c m event tries is =
     let s = g.D.Sectors in
     let back = c.open_all.new.devices.items in
     let refused = subst (λ (l : List ZoneSettings). AreRefused s c.in-Err.refusal.error c.in-Err.refusal.place c.args.apexes.now l c.args.devices.items back) c.deref.ensures.value c.in-Err.ensures in
-    (refused_held s m event g.met.D.Sectors.counts_now g.met.D.Sectors.only_now c.in-Err.refusal.error c.in-Err.refusal.place m.zones c.args.apexes.now c.args.settings.items c.args.devices.items back is refused).left
+    (refused_held s m event tries g.met.D.Sectors.counts_now g.met.D.Sectors.only_now c.in-Err.refusal.error c.in-Err.refusal.place m.zones c.args.apexes.now c.args.settings.items c.args.devices.items back is refused).left

@@ -1,16 +1,14 @@
-use Rattle.std.proofs.Common.{◌≡◌, ℕ, List, [], ◌∷◌, ◌++◌, length, map, rules, Option, Some, None, inl, inr, ⊎_elim, refl, sym, ap, subst, ◌∙◌}
+use Rattle.std.proofs.Common.{◌≡◌, List, [], ◌∷◌, ◌++◌, map, Some, None, inl, inr, ⊎_elim, refl, sym, ap, subst, ◌∙◌}
 use Rattle.std.specs.Prelude.{true}
 use Rattle.std.proofs.lemmas.List.{length-map}
-use Rattle.slab.specs.Slab.{get}
 use Rattle.dns_wire.specs.Message.{header_of}
 use Rattle.dns_wire.specs.Text.{text}
 use Rattle.dns_answer.specs.Answer.{bare_reply}
-use Rattle.dns_transfer.specs.Session.{Sending}
 use Rattle.dns_primary.specs.declared.event.To.{To}
-use Rattle.dns_primary.specs.declared.event.To.TheVariants.{Address, Connection}
+use Rattle.dns_primary.specs.declared.event.To.TheVariants.{Connection}
 use Rattle.dns_primary.specs.declared.transfers.OpenTransfer.{OpenTransfer}
 use Rattle.dns_primary.specs.Machine.{kept_of}
-use Rattle.dns_primary.specs.Flush.{Sent, Replied, rcode_servfail}
+use Rattle.dns_primary.specs.Flush.{Replied, rcode_servfail}
 use Rattle.dns_primary.specs.Transfer.{TransferBegins, is_free, set_transfer, with_transfer}
 use Rattle.dns_primary.specs.Keeps.{AreEffects, IsThere, sending_on}
 use Rattle.dns_primary.specs.Steps.{nothing, one_reply}

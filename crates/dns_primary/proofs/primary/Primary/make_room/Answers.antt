@@ -1,4 +1,4 @@
-use Rattle.std.proofs.Common.{◌≡◌, ℕ, ◌<◌, List, length, map, inr, refl, sym, ap, subst, ◌∙◌, arith}
+use Rattle.std.proofs.Common.{◌≡◌, ℕ, ◌<◌, List, length, map, sym, ap, subst, ◌∙◌, arith}
 use Rattle.std.specs.Prelude.{slice_set, slice_index_or, IsTrue, ◌↔◌}
 use Rattle.std.proofs.lemmas.List.{length-map}
 use Rattle.dns_zone.specs.Zone.{Zone}
@@ -9,7 +9,7 @@ use Rattle.dns_store.specs.Checkpoint.{IsKeptNumber}
 use Rattle.dns_held.specs.declared.behind.Behind.{Behind}
 use Rattle.dns_held.specs.Each.{Each3}
 use Rattle.dns_held.proofs.Lists.{newest_kept}
-use Rattle.dns_held.specs.Flush.{HasFailed, first_true}
+use Rattle.dns_held.specs.Flush.{IsCounted, first_true}
 use Rattle.dns_held.specs.Held.{HasVersions, shown_zone}
 use Rattle.dns_primary.specs.declared.event.Noted.{Noted}
 use Rattle.dns_primary.specs.declared.primary.ZoneSettings.{ZoneSettings}
@@ -22,7 +22,7 @@ use Rattle.dns_primary.specs.Steps.{noted_moved}
 use Rattle.dns_primary.proofs.Admitted.{get2}
 use Rattle.dns_primary.proofs.Flushed.{setting_stays}
 use Rattle.dns_primary.proofs.Places.{at3, some_at, map_get, map_set, mid_set, right_set, long3_first}
-use Rattle.dns_primary.proofs.Moved.{zone_at, zone_settled, moved_by, device_of, setting_of, moved_moments, move_at, got, put, stepped, next, stated}
+use Rattle.dns_primary.proofs.Moved.{zone_at, zone_settled, moved_by, device_of, setting_of, moved_moments, failed_either, move_at, got, stepped, next, stated}
 use Rattle.dns_primary.proofs.primary.Primary.make_room.Goals as goal
 
 pub index-requires : goal.index-requires
@@ -64,20 +64,10 @@ returns-clause-step g c old kept =
     let setting : (moved.0).setting ≡ zf.setting = setting_of c.args.room zf moved.0 r moved.1 in
     record {
       fails = either_fails (moved_by r) place fails;
-      failed = inr (record {
-        place = place;
-        flushing = fails;
-        moving = moved_by r;
-        both = refl;
-        between = q;
-        kept = mid;
-        failed = s.failed;
-        moved = λ a e is here there.
-            let first : b ≡ a = c.index_mut.ensures.value ∙ got q.behind.items place a b here in
-            let second : new ≡ e = put q.behind.items place new e inside there in
-            subst (λ (x : Behind g.row.I.Denot g.row.S.Denot). HasFailed (g.S.ZoneStore.failed x.store) (g.S.ZoneStore.failed e.store)) first
-            (subst (λ (x : Behind g.row.I.Denot g.row.S.Denot). HasFailed (g.S.ZoneStore.failed b.store) (g.S.ZoneStore.failed x.store)) second (c.move_base-moved.ensures.failed (device_of r is)));
-      });
+      failed = failed_either (λ (x : Behind g.row.I.Denot g.row.S.Denot). g.S.ZoneStore.failed x.store) (moved_by r) place fails p.behind.items q.behind.items new s.failed (λ a here.
+          let first : b ≡ a = c.index_mut.ensures.value ∙ got q.behind.items place a b here in
+          subst (λ (x : Behind g.row.I.Denot g.row.S.Denot). IsCounted (moved_by r) (g.S.ZoneStore.failed x.store) (g.S.ZoneStore.failed new.store)) first
+          (record { grows = c.move_base-moved.ensures.grows; rises = λ is. c.move_base-moved.ensures.failed (device_of r is) }));
       any_moment = moved_moments (λ (x : Behind g.row.I.Denot g.row.S.Denot). x.store) g.S.ZoneStore.moment g.S.ZoneStore.left_since g.S.ZoneStore.opens p.behind.items q.behind.items old.zones place c.args.room z.0 b new s.any_moment z.1
           (λ a first. move_at g.S.ZoneStore.moment g.S.ZoneStore.left_since g.S.ZoneStore.opens c.args.room z.0 at.0 a.store b.store new.store
           (subst (λ (x : Behind g.row.I.Denot g.row.S.Denot). LeavesOnly g.S.ZoneStore.moment g.S.ZoneStore.left_since a.store x.store (OpensAsLeft g.S.ZoneStore.opens (kept_of z.0))) (sym c.index_mut.ensures.value) first)

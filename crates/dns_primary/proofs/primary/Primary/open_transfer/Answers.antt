@@ -1,21 +1,19 @@
-use Rattle.std.proofs.Common.{◌≡◌, ◌<◌, ℕ, Bool, List, map, length, take, drop, Option, Some, None, Ok, Err, refl, sym, ap, subst, ◌∙◌, arith}
-use Rattle.std.specs.Prelude.{IfOk, ◌&&◌, false, option_map, slice_get, slice_index_or}
+use Rattle.std.proofs.Common.{◌≡◌, ◌<◌, List, map, length, Option, Some, None, sym, ap, subst, ◌∙◌, arith}
+use Rattle.std.specs.Prelude.{IfOk, ◌&&◌, false, option_map}
 use Rattle.std.proofs.lemmas.List.{length-map}
 use Rattle.std.specs.List.{position}
 use Rattle.dns_names.specs.Name.{names_eq}
 use Rattle.dns_zone.specs.Zone.{Zone}
-use Rattle.dns_store.specs.Versions.{Kept, version_at}
-use Rattle.dns_transfer.specs.Session.{Version, Opens}
+use Rattle.dns_store.specs.Versions.{Kept}
+use Rattle.dns_transfer.specs.Session.{Opens}
 use Rattle.dns_held.specs.declared.behind.Behind.{Behind}
 use Rattle.dns_held.specs.Held.{HasVersions}
-use Rattle.dns_primary.specs.declared.primary.ZoneSettings.{ZoneSettings}
-use Rattle.dns_primary.specs.Machine.{ZoneState, kept_of, versions_of}
+use Rattle.dns_primary.specs.Machine.{ZoneState, kept_of}
 use Rattle.dns_primary.specs.Update.{place_of}
-use Rattle.dns_primary.specs.Transfer.{OpensFrom, is_free, may_have, transport_of, version_of, zone_at, zone_named}
-use Rattle.dns_primary.specs.Keeps.{IsSet}
-use Rattle.dns_primary.proofs.Admitted.{get2, same_place}
-use Rattle.dns_primary.proofs.Places.{at3, long3_first, map_get, some_at}
-use Rattle.dns_primary.proofs.Transferred.{along_is, opened_some, same_test, opens_as}
+use Rattle.dns_primary.specs.Transfer.{is_free, may_have, transport_of, version_of, zone_at, zone_named}
+use Rattle.dns_primary.proofs.Admitted.{same_place}
+use Rattle.dns_primary.proofs.Places.{long3_first, some_at}
+use Rattle.dns_primary.proofs.Transferred.{opens_as}
 use Rattle.dns_primary.proofs.primary.Primary.open_transfer.Goals as goal
 
 pub open_shown-requires : goal.open_shown-requires

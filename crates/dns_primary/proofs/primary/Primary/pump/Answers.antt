@@ -1,4 +1,4 @@
-use Rattle.std.proofs.Common.{◌≡◌, ℕ, List, [], ◌∷◌, length, map, Option, Some, None, inl, inr, ⊎_elim, refl, sym, ap, subst, ◌∙◌}
+use Rattle.std.proofs.Common.{List, [], ◌∷◌, map, Option, Some, None, inl, inr, ⊎_elim, refl, sym, ap, subst, ◌∙◌}
 use Rattle.std.specs.Prelude.{MatchOption}
 use Rattle.std.proofs.lemmas.List.{length-map}
 use Rattle.dns_transfer.specs.Session.{Sending}
@@ -7,13 +7,11 @@ use Rattle.dns_primary.specs.declared.event.Noted.TheVariants.{OutOfMemory}
 use Rattle.dns_primary.specs.declared.transfers.OpenTransfer.{OpenTransfer}
 use Rattle.dns_primary.specs.Keeps.{sending_on}
 use Rattle.dns_primary.specs.Machine.{kept_of}
-use Rattle.dns_primary.specs.Flush.{Sent, Replied}
+use Rattle.dns_primary.specs.Flush.{Replied}
 use Rattle.dns_primary.specs.Transfer.{IsPumped, open_still, set_transfer, with_transfer}
-use Rattle.dns_primary.specs.Step.{Pump, Step}
 use Rattle.dns_primary.specs.Steps.{nothing, one_reply}
-use Rattle.dns_primary.specs.Sending.{EndsOn, SendsOn}
 use Rattle.dns_primary.proofs.Transferred.{peer_with, set_are, there_open, sent_on, sent_none}
-use Rattle.dns_primary.proofs.Served.{rests, stays}
+use Rattle.dns_primary.proofs.Served.{rests}
 use Rattle.dns_primary.proofs.primary.Primary.pump.Goals as goal
 
 -- a message, or none, by what is known of either

@@ -1,4 +1,4 @@
-use Rattle.std.proofs.Common.{map, ◌≡◌, inr, ⊎_elim, ℕ, List, [], Option, refl, sym, ap, subst, ◌∙◌}
+use Rattle.std.proofs.Common.{map, ◌≡◌, inr, ⊎_elim, ℕ, Bool, true, List, [], Option, refl, sym, ap, subst, ◌∙◌}
 use Rattle.dns_wire.specs.Codes.{number_of_rcode}
 use Rattle.dns_wire.specs.Message.{Header, header_of}
 use Rattle.dns_wire.specs.Text.{text}
@@ -7,14 +7,14 @@ use Rattle.dns_request.specs.Request as request
 use Rattle.dns_request.specs.Request.{request_of}
 use Rattle.std.specs.Prelude.{IfOk, IfErr}
 use Rattle.dns_primary.specs.Update.{Asked, room_lacked}
-use Rattle.dns_primary.specs.Step.{request_lacks}
+use Rattle.dns_primary.specs.Step.{is_update, request_lacks}
 use Rattle.dns_answer.specs.Answer.{answered, bare_reply, fitted, handled, handled_as, with_question}
 use Rattle.dns_primary.specs.Machine.{kept_of, shown_zones}
 use Rattle.dns_primary.specs.Flush.{Replied, rcode_servfail}
 use Rattle.dns_primary.specs.Keeps.{AreEffects}
 use Rattle.dns_primary.specs.Steps.{AtAnyMomentOf, IsServedOrLacks, IsTransferredOrLacks, LacksRequest, nothing, one_reply}
 use Rattle.dns_primary.proofs.Moved.{on_any}
-use Rattle.dns_primary.proofs.Served.{transferred_as, rests, are_shown, asking, gives_none, gives_one, lack, lacks_update, replied, replies_or_lacks, served_as, stays, update_opcode}
+use Rattle.dns_primary.proofs.Served.{transferred_as, rests, are_shown, asking, gives_none, gives_one, lack, lacks_update, replied, replies_or_lacks, served_as, stays}
 use Rattle.dns_primary.proofs.primary.Primary.serve.Goals as goal
 
 pub returns-in-Ignored : goal.returns-in-Ignored
@@ -93,8 +93,10 @@ returns-in-Update g c = record {
         next = s.next;
         stated = s.stated;
         is = ⊎_elim (λ h. served_as old s.next c.args.peer c.args.to octets c.args.transport r s.fails s.stated e h)
-            (λ h. inr (subst (λ (o : Option (ℕ × ℕ)). LacksRequest s.fails old c.args.to o octets s.stated s.next) lacked
-            (lacks_update s.fails old s.next a octets s.stated (asking octets c.args.transport r (sym e) (λ x. cc x)) header (update_opcode octets c.args.transport m u.question (sym e)) h))) s.is;
+            (λ h. inr (subst (λ (b : Bool). LacksRequest s.fails old c.args.to b (request_lacks old c.args.to c.args.peer (handled (shown_zones old) octets c.args.transport)) octets s.stated s.next)
+            (ap (λ (x : request.Request). is_update (handled_as (shown_zones old) octets c.args.transport x)) e)
+            (subst (λ (o : Option (ℕ × ℕ)). LacksRequest s.fails old c.args.to true o octets s.stated s.next) lacked
+            (lacks_update s.fails old s.next a octets s.stated (asking octets c.args.transport r (sym e) (λ x. cc x)) header h)))) s.is;
         effects_are = s.effects_are;
         kept = s.kept;
       };

@@ -1,16 +1,14 @@
-use Rattle.std.proofs.Common.{◌≡◌, ℕ, Bool, List, [], ◌∷◌, map, Option, Some, None, Ok, Err, inl, inr, ⊎_elim, refl, sym, ap, subst, ◌∙◌}
-use Rattle.std.specs.Prelude.{IfOk, true}
-use Rattle.dns_wire.specs.Message.{Header, header_of}
+use Rattle.std.proofs.Common.{◌≡◌, [], map, Ok, Err, inl, inr, ⊎_elim, refl, subst}
+use Rattle.std.specs.Prelude.{IfOk}
+use Rattle.dns_wire.specs.Message.{Header}
 use Rattle.dns_wire.specs.Text.{text}
 use Rattle.dns_answer.specs.Answer.{bare_reply}
-use Rattle.dns_primary.specs.declared.event.Effects.{Effects}
 use Rattle.dns_primary.specs.Machine.{kept_of}
 use Rattle.dns_primary.specs.Flush.{Replied, rcode_servfail}
 use Rattle.dns_primary.specs.Transfer.{OpensFrom, is_free, may_have, refusal_of, transport_of, zone_named}
 use Rattle.dns_primary.specs.Keeps.{AreEffects}
-use Rattle.dns_primary.specs.Step as machine
 use Rattle.dns_primary.specs.Steps.{IsTransferredOrLacks, LacksAlone, one_reply}
-use Rattle.dns_primary.proofs.Transferred.{second_true, allowed_when}
+use Rattle.dns_primary.proofs.Transferred.{allowed_when}
 use Rattle.dns_primary.proofs.Served.{lack, rests, stays}
 use Rattle.dns_primary.proofs.primary.Primary.transfer.Goals as goal
 

@@ -15,14 +15,14 @@ use Rattle.dns_store.proofs.kept_store.KeptStoreZoneStore.stage.Goals as goal
 pub returns-in-Ok-clause-staged : goal.returns-in-Ok-clause-staged
 returns-in-Ok-clause-staged g c k after kept next =
     let not : is_closed c.args.self.now.journal ≡ true → ⊥ = search (rules, c.in-Ok.ensures.closed) in
-    let journal = stage_keeps c.args.self.now.journal c.stage.new.self k after c.args.change next c.in-Ok.ensures.written c.in-Ok.ensures.staged not k.closed kept.keeps in
+    let journal = stage_keeps c.args.self.now.journal c.stage.new.self k after c.args.change next c.in-Ok.ensures.written c.in-Ok.ensures.staged c.stage.ensures.opened not k.closed kept.keeps in
     let held = held_staged c.args.self.now.journal c.stage.new.self c.args.self.now.base c.args.self.now.changes.items k kept after c.args.change not next journal in
     let more : c.push_reserved.new.self.items ≡ c.args.self.now.changes.items ++ c.args.change ∷ [] = search rules in
     subst (λ (l : List Change). Holds c.stage.new.self c.args.self.now.base l (staged_with after k)) (sym more) held
 
 pub returns-in-Err-clause-stays : goal.returns-in-Err-clause-stays
 returns-in-Err-clause-stays g c k kept =
-    let journal = stage_stays c.args.self.now.journal c.stage.new.self k c.in-Err.ensures.stays c.stage.ensures.device c.stage.ensures.stays_open c.in-Err.ensures.left c.in-Err.ensures.newest k.closed kept.keeps in
+    let journal = stage_stays c.args.self.now.journal c.stage.new.self k c.in-Err.ensures.stays c.stage.ensures.device c.stage.ensures.opened c.stage.ensures.stays_open c.in-Err.ensures.left c.in-Err.ensures.newest k.closed kept.keeps in
     subst (λ (l : List Change). Holds c.stage.new.self c.args.self.now.base l k) (sym c.reserve.ensures.items)
     (held_still c.args.self.now.journal c.stage.new.self c.args.self.now.base c.args.self.now.changes.items k kept journal)
 

@@ -1,0 +1,4 @@
+pub mod Given
+pub mod Chained
+pub mod Read
+pub mod Followed
