@@ -11,14 +11,15 @@ pub record AddsUnseen (before after : Sections) (records : List Record) : Type 0
   pub answer : after.answer.items ≡ before.answer.items
   pub authority : after.authority.items ≡ before.authority.items
   pub additional : after.additional.items
-      ≡ before.additional.items ++ unseen ((before.answer.items ++ before.authority.items) ++ before.additional.items) records
+      ≡ before.additional.items
+      ++ unseen ((before.answer.items ++ before.authority.items) ++ before.additional.items) records
 
 -- How many records the sections have.
 abbrev pub count_of : Sections → ℕ
 count_of s = length s.answer.items + length s.authority.items + length s.additional.items
 
--- The same of the first of some records: of all of them, unless the sections have more records than so many. Sections that have
--- more stay.
+-- The same of the first of some records: of all of them, unless the sections have more records than so many.
+-- Sections that have more stay.
 pub record AddsUpTo (most : ℕ) (before after : Sections) (records : List Record) : Type 0 where
   pub first : List Record
   pub rest : List Record

@@ -27,7 +27,8 @@ is_address r = r.rtype == type_a || r.rtype == type_aaaa
 
 -- Names are among others.
 abbrev pub AreAmong : List Labels → List Labels → Type 0
-AreAmong names others = (name : Labels) → list_any (names_eq name) names ≡ true → list_any (names_eq name) others ≡ true
+AreAmong names others =
+    (name : Labels) → list_any (names_eq name) names ≡ true → list_any (names_eq name) others ≡ true
 
 -- Each address that stands among those has one of the owners.
 abbrev pub AreOwners : List Labels → List Record → Type 0
@@ -39,7 +40,8 @@ AreOwners owners seen =
 
 -- No address of that owner stands in the sections.
 abbrev pub HasNoAddressOf : Labels → Sections → Type 0
-HasNoAddressOf owner s = (r : Record) → is_address r ≡ true → r.owner ≡ owner → list_any (same r) (stood s) ≡ false
+HasNoAddressOf owner s =
+    (r : Record) → is_address r ≡ true → r.owner ≡ owner → list_any (same r) (stood s) ≡ false
 
 -- All addresses of the hosts, in the zone, stand in the sections.
 abbrev pub AreKnown : Zone → List Labels → Sections → Type 0
@@ -48,8 +50,8 @@ AreKnown z known s =
     → list_any (names_eq host) known ≡ true
     → all_stand (stood s) (rrset z.records host type_a ++ rrset z.records host type_aaaa) ≡ true
 
--- They do, unless the sections have more records than so many, and no address stands there but those of the hosts and of the
--- owners.
+-- They do, unless the sections have more records than so many, and no address stands there but those of the
+-- hosts and of the owners.
 pub record AreHosts (most : ℕ) (z : Zone) (owners known : List Labels) (s : Sections) : Type 0 where
   pub all : (most < count_of s → ⊥) → AreKnown z known s
   pub alone : (r : Record)

@@ -5,7 +5,8 @@ ghost use Rattle.dns_records.specs.Record.{host_of};
 ghost use Rattle.dns_records.specs.Types.{type_a, type_aaaa};
 ghost use Rattle.dns_zone.specs.Records.{rrset, same};
 ghost use Rattle.dns_answer.specs.Sections.{from_zone, addresses_for};
-ghost use Rattle.dns_answer.specs.Known.{is_address, none_stands, stood, AreAmong, AreHosts, AreOwners, HasNoAddressOf};
+ghost use Rattle.dns_answer.specs.Known.{is_address, none_stands, stood, AreAmong, AreHosts, AreOwners};
+ghost use Rattle.dns_answer.specs.Known.{HasNoAddressOf};
 ghost use Rattle.dns_answer.specs.Added.{AddsUnseen, AddsUpTo, count_of};
 
 use crate::names::Names;
@@ -34,7 +35,8 @@ fn is_same(shown: &ReplyRecord<'_>, stored: &Record) -> bool
         & (stored.ttl() == shown.ttl())
 }
 
-/// Whether a record goes out already. The place, behind the record that was found last, is where it is looked for first.
+/// Whether a record goes out already. The place, behind the record that was found last, is where it is looked
+/// for first.
 fn is_among(shown: &[ReplyRecord<'_>], stored: &Record, place: &mut usize) -> bool
     ensures { result ≡ list_any (same stored.now) shown.now }
 {
@@ -87,7 +89,8 @@ impl<'a> Sections<'a> {
         count.saturating_add(self.additional.len()) > most as usize
     }
 
-    /// Puts a record behind the others, unless it stands in the reply already: at the place, before others are looked at.
+    /// Puts a record behind the others, unless it stands in the reply already: at the place, before others
+    /// are looked at.
     fn push_record(&mut self, stored: &'a Record, place: &mut usize) -> Result<(), AllocError>
         ensures { OnOk result (AddsUnseen self.old self.new (stored.now ∷ [])) }
     {
@@ -102,7 +105,8 @@ impl<'a> Sections<'a> {
         Ok(())
     }
 
-    /// Puts records behind the others, but those that stand in the reply already, until there are more than so many.
+    /// Puts records behind the others, but those that stand in the reply already, until there are more than
+    /// so many.
     fn push_records(&mut self, records: &'a [Record], most: u16) -> Result<(), AllocError>
         ensures { OnOk result (AddsUpTo most self.old self.new records.now) }
     {
@@ -166,9 +170,9 @@ impl<'a> Sections<'a> {
         self.push_new(of_type(owned, types::AAAA), most)
     }
 
-    /// Puts in the addresses that go with a record of the zone: those of the host of an NS, an MX or an SRV (RFC 1034 section
-    /// 4.3.2, step 6; RFC 2782). A host that stands among the known ones is not looked up again. Its addresses are looked for in
-    /// the reply where it is one of the owners.
+    /// Puts in the addresses that go with a record of the zone: those of the host of an NS, an MX or an SRV
+    /// (RFC 1034 section 4.3.2, step 6; RFC 2782). A host that stands among the known ones is not looked up
+    /// again. Its addresses are looked for in the reply where it is one of the owners.
     fn push_for<'b, I: ZoneIndex>(
         &mut self,
         zone: &'a Zone<I>,
@@ -179,7 +183,8 @@ impl<'a> Sections<'a> {
     ) -> Result<(), AllocError>
         requires { AreHosts most zone.now owners.now known.old self.old }
         ensures added { OnOk result
-            (AddsUpTo most self.old self.new (addresses_for (record { zone = zone.now; shown = stored.now }))) }
+            (AddsUpTo most self.old self.new
+            (addresses_for (record { zone = zone.now; shown = stored.now }))) }
         ensures hosts { OnOk result (AreHosts most zone.now owners.now known.new self.new) }
     {
         let Some(host) = stored.host() else {
@@ -208,8 +213,8 @@ impl<'a> Sections<'a> {
         Ok(owners)
     }
 
-    /// Puts in the addresses that go with records of the zone, until there are more than so many, where those that stand already
-    /// have these owners.
+    /// Puts in the addresses that go with records of the zone, until there are more than so many, where those
+    /// that stand already have these owners.
     fn push_for_each<I: ZoneIndex>(
         &mut self,
         alloc: Heap,
@@ -219,7 +224,8 @@ impl<'a> Sections<'a> {
         most: u16,
     ) -> Result<(), AllocError>
         requires { AreOwners owners.now (stood self.old) }
-        ensures { OnOk result (AddsUpTo most self.old self.new (flat_map addresses_for (from_zone zone.now records.now))) }
+        ensures { OnOk result
+            (AddsUpTo most self.old self.new (flat_map addresses_for (from_zone zone.now records.now))) }
     {
         let mut known = Names::new(alloc);
         for stored in records {
@@ -228,8 +234,8 @@ impl<'a> Sections<'a> {
         Ok(())
     }
 
-    /// Puts in the addresses that go with records of the zone, some of which have hosts, until there are more than so many. It is
-    /// compiled apart, so that records without a host cost their test alone.
+    /// Puts in the addresses that go with records of the zone, some of which have hosts, until there are more
+    /// than so many. It is compiled apart, so that records without a host cost their test alone.
     #[inline(never)]
     fn push_addresses_of_hosts<I: ZoneIndex>(
         &mut self,
@@ -238,7 +244,8 @@ impl<'a> Sections<'a> {
         records: &[Record],
         most: u16,
     ) -> Result<(), AllocError>
-        ensures { OnOk result (AddsUpTo most self.old self.new (flat_map addresses_for (from_zone zone.now records.now))) }
+        ensures { OnOk result
+            (AddsUpTo most self.old self.new (flat_map addresses_for (from_zone zone.now records.now))) }
     {
         let owners = self.owners(alloc)?;
         self.push_for_each(alloc, zone, records, &owners, most)
@@ -252,7 +259,8 @@ impl<'a> Sections<'a> {
         records: &[Record],
         most: u16,
     ) -> Result<(), AllocError>
-        ensures { OnOk result (AddsUpTo most self.old self.new (flat_map addresses_for (from_zone zone.now records.now))) }
+        ensures { OnOk result
+            (AddsUpTo most self.old self.new (flat_map addresses_for (from_zone zone.now records.now))) }
     {
         if !have_host(records) {
             return Ok(());

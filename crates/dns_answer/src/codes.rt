@@ -10,9 +10,11 @@ ghost use Rattle.dns_answer.specs.Answer.{rcode_nxdomain};
 use dns_lookup::{Found, Kind};
 use dns_wire::Rcode;
 
-/// Whether the last of the names that were searched does not exist (RFC 1035 section 4.1.1, RFC 2308 section 2.1).
+/// Whether the last of the names that were searched does not exist (RFC 1035 section 4.1.1, RFC 2308
+/// section 2.1).
 fn is_name_error(found: &[Found<'_>]) -> bool
-    ensures { (zones : List Lent) (fs : List Stated) → RepresentAll zones fs found.now → result ≡ is_name_error fs }
+    ensures { (zones : List Lent) (fs : List Stated) → RepresentAll zones fs found.now
+        → result ≡ is_name_error fs }
 {
     let Some(last) = found.last() else {
         return false;
@@ -25,7 +27,8 @@ fn is_name_error(found: &[Found<'_>]) -> bool
 
 /// Whether the answer is authoritative: the first name led to no referral (RFC 1034 section 4.3.2, step 3b).
 pub(crate) fn is_authoritative(found: &[Found<'_>]) -> bool
-    ensures { (zones : List Lent) (fs : List Stated) → RepresentAll zones fs found.now → result ≡ is_authoritative fs }
+    ensures { (zones : List Lent) (fs : List Stated) → RepresentAll zones fs found.now
+        → result ≡ is_authoritative fs }
 {
     let Some(first) = found.first() else {
         return false;

@@ -4,7 +4,8 @@ ghost use Rattle.std.specs.List.{list_all};
 ghost use Rattle.dns_records.specs.Types.{type_ns};
 ghost use Rattle.dns_wire.specs.Reply.{stated};
 ghost use Rattle.dns_wire.specs.Text.{Reply as Stated, question_octets, text};
-ghost use Rattle.dns_answer.specs.Fit.{is_referral, by_udp, by_udp_without_additional, by_tcp, failed, most_records, truncated};
+ghost use Rattle.dns_answer.specs.Fit.{is_referral, by_udp, by_udp_without_additional, by_tcp, failed};
+ghost use Rattle.dns_answer.specs.Fit.{most_records, truncated};
 ghost use Rattle.dns_answer.specs.Answer.{fitted};
 ghost use Rattle.dns_answer.specs.Added.{IsWithoutAdditional, IsWithoutRecords};
 
@@ -83,7 +84,8 @@ fn failed(alloc: Heap, reply: &mut Reply<'_, '_>) -> Result<Vec<u8, Heap>, Alloc
     short_text(alloc, reply)
 }
 
-/// A reply by UDP that doesn't fit whole: without its additional section, which is gone, unless it is a referral; else truncated.
+/// A reply by UDP that doesn't fit whole: without its additional section, which is gone, unless it is a
+/// referral; else truncated.
 fn fit_without_additional(
     alloc: Heap,
     reply: &mut Reply<'_, '_>,
@@ -156,7 +158,8 @@ pub(crate) fn most_records(transport: Transport) -> u16
     }
 }
 
-/// The text of a reply with too many records for the transport, of which the additional ones are left out here.
+/// The text of a reply with too many records for the transport, of which the additional ones are left out
+/// here.
 pub(crate) fn fit_first_sections(
     alloc: Heap,
     reply: &mut Reply<'_, '_>,
@@ -177,7 +180,8 @@ pub(crate) fn fit_first_sections(
     }
 }
 
-/// The text of a reply with too many records for the transport in its first two sections, all of which are left out here.
+/// The text of a reply with too many records for the transport in its first two sections, all of which are
+/// left out here.
 pub(crate) fn fit_question(
     alloc: Heap,
     reply: &mut Reply<'_, '_>,

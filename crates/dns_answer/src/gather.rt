@@ -105,8 +105,9 @@ impl<'a> Sections<'a> {
         }
     }
 
-    /// The sections of the reply to what a question found: what each name puts into the answer section, what the last puts
-    /// into the authority section, and the addresses that go with both, until there are more records than so many.
+    /// The sections of the reply to what a question found: what each name puts into the answer section, what
+    /// the last puts into the authority section, and the addresses that go with both, until there are more
+    /// records than so many.
     pub(crate) fn new<I: ZoneIndex>(
         alloc: Heap,
         zones: &'a [Zone<I>],

@@ -7,8 +7,8 @@ ghost use Rattle.dns_answer.specs.Answer.{bare_reply};
 
 use dns_wire::Rcode;
 
-/// The reply with no question and no record: the ID and the OPCODE of the request, RD where it is a query, and the RCODE
-/// (RFC 1035 section 4.1.1).
+/// The reply with no question and no record: the ID and the OPCODE of the request, RD where it is a query,
+/// and the RCODE (RFC 1035 section 4.1.1).
 pub fn header_only(request: &[u8; 12], rcode: Rcode) -> [u8; 12]
     ensures { result ≡ text (bare_reply (header_of request.now) (number_of_rcode rcode)) }
 {

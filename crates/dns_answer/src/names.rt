@@ -50,7 +50,8 @@ impl<'a> Names<'a> {
         ensures new { IfOk result (λ new. new ≡ not (list_any (names_eq name.entry) self.old)) }
         ensures names { OnOk result
             ((other : Labels)
-            → list_any (names_eq other) self.new ≡ (names_eq other name.entry || list_any (names_eq other) self.old)) }
+            → list_any (names_eq other) self.new
+            ≡ (names_eq other name.entry || list_any (names_eq other) self.old)) }
     {
         Ok(self.octets.insert(name.as_wire())?)
     }

@@ -43,7 +43,8 @@ fn reply_with_question<'s, 'a>(
     ensures stated { (q : Question)
         → Echoes message.now.octets q question.entry
         → stated result
-        ≡ record (with_question message.now.octets message.now.message q (number_of_rcode rcode)) { aa = aa; answer = answer.now } }
+        ≡ record (with_question message.now.octets message.now.message q
+        (number_of_rcode rcode)) { aa = aa; answer = answer.now } }
     ensures question { question_octets (stated result) ≡ question.entry.octets.now }
     ensures answer { result.answer.now ≡ answer.now }
     ensures authority { result.authority.now ≡ [] }
@@ -63,7 +64,8 @@ fn reply_with_question<'s, 'a>(
     }
 }
 
-/// The reply to what a question finds, which has its question already. A section that can't go out is not built.
+/// The reply to what a question finds, which has its question already. A section that can't go out is not
+/// built.
 #[inline(never)]
 fn reply_of_sections<'a, I: ZoneIndex>(
     alloc: Heap,
@@ -109,7 +111,8 @@ fn reply_of_sections<'a, I: ZoneIndex>(
     fit(alloc, &mut whole, transport)
 }
 
-/// The reply to what a question finds (RFC 1034 section 4.3.2). Most are one record, and take no memory but for their octets.
+/// The reply to what a question finds (RFC 1034 section 4.3.2). Most are one record, and take no memory but
+/// for their octets.
 #[inline(always)]
 fn reply_to<'a, I: ZoneIndex>(
     alloc: Heap,
@@ -169,8 +172,8 @@ fn answer<'a, I: ZoneIndex>(
     reply_to(alloc, zones, message, question, transport, found)
 }
 
-/// The reply to a query whose name has capitals, which are lowered first. It is compiled apart, so that other queries don't pay for
-/// it.
+/// The reply to a query whose name has capitals, which are lowered first. It is compiled apart, so that other
+/// queries don't pay for it.
 #[inline(never)]
 fn reply_in_lower_case<I: ZoneIndex>(
     alloc: Heap,
@@ -180,7 +183,8 @@ fn reply_in_lower_case<I: ZoneIndex>(
 ) -> Result<Vec<u8, Heap>, AllocError>
     ensures { IfOk result
         (λ octets. octets.items
-        ≡ fitted transport (answered zones.now query.now.message.octets query.now.message.message query.now.question)) }
+        ≡ fitted transport
+        (answered zones.now query.now.message.octets query.now.message.message query.now.question)) }
 {
     let name = query.question.name().to_name(alloc)?;
     let qtype = query.question.qtype();
@@ -188,8 +192,8 @@ fn reply_in_lower_case<I: ZoneIndex>(
     answer(alloc, zones, &query.message, question, qtype, transport)
 }
 
-/// The reply to a query, octet for octet as it is defined, with its question: what the lookup finds, or REFUSED where its name is
-/// under no held apex.
+/// The reply to a query, octet for octet as it is defined, with its question: what the lookup finds, or
+/// REFUSED where its name is under no held apex.
 pub fn reply<I: ZoneIndex>(
     alloc: Heap,
     zones: &[Zone<I>],
@@ -198,7 +202,8 @@ pub fn reply<I: ZoneIndex>(
 ) -> Result<Vec<u8, Heap>, AllocError>
     ensures { IfOk result
         (λ octets. octets.items
-        ≡ fitted transport (answered zones.now query.now.message.octets query.now.message.message query.now.question)) }
+        ≡ fitted transport
+        (answered zones.now query.now.message.octets query.now.message.message query.now.question)) }
 {
     let asked = query.question.name();
     let Some(name) = asked.as_plain() else {
@@ -219,7 +224,8 @@ pub fn refuse(
     ensures { IfOk result
         (λ octets. octets.items
         ≡ fitted transport
-        (with_question query.now.message.octets query.now.message.message query.now.question (number_of_rcode rcode))) }
+        (with_question query.now.message.octets query.now.message.message query.now.question
+        (number_of_rcode rcode))) }
 {
     let name = query.question.name().to_name(alloc)?;
     let octets = query.message.question_octets();

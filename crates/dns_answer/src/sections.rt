@@ -6,7 +6,8 @@ ghost use Rattle.dns_lookup.specs.Lookup.{Found as Stated};
 ghost use Rattle.dns_lookup.specs.Represented.{Represents, RepresentAll};
 ghost use Rattle.dns_lookup.specs.Lent.{Lends, AllLend};
 ghost use Rattle.dns_answer.specs.Added.{IsAll};
-ghost use Rattle.dns_answer.specs.Sections.{from_zone, as_owner, records_of, answers_of, answer_of, negative_soa, authority_at, authority_of, addresses_for};
+ghost use Rattle.dns_answer.specs.Sections.{from_zone, as_owner, records_of, answers_of, answer_of};
+ghost use Rattle.dns_answer.specs.Sections.{negative_soa, authority_at, authority_of, addresses_for};
 
 use dns_lookup::{Found, Kind};
 use dns_memory::Heap;
@@ -24,8 +25,8 @@ pub(crate) fn searched<'a, I: ZoneIndex>(zones: &'a [Zone<I>], one: &Found<'_>) 
     &zones[one.zone]
 }
 
-/// The records that a name puts into the answer section: its CNAME, or those that were asked for (RFC 1034 section 4.3.2,
-/// step 3a).
+/// The records that a name puts into the answer section: its CNAME, or those that were asked for (RFC 1034
+/// section 4.3.2, step 3a).
 pub(crate) fn answers<'a>(one: &Found<'a>) -> &'a [Record]
     ensures { (zones : List Lent) (t : ℕ) (f : Stated)
         → Represents zones f one.now
@@ -38,7 +39,8 @@ pub(crate) fn answers<'a>(one: &Found<'a>) -> &'a [Record]
     }
 }
 
-/// The name servers that the last name puts into the authority section: those of a cut (RFC 1034 section 4.3.2, step 3b).
+/// The name servers that the last name puts into the authority section: those of a cut (RFC 1034
+/// section 4.3.2, step 3b).
 pub(crate) fn servers<'a>(last: &Found<'a>) -> &'a [Record]
     ensures few { (zones : List Lent) (t : ℕ) (f : Stated)
         → Represents zones f last.now
@@ -55,7 +57,8 @@ pub(crate) fn servers<'a>(last: &Found<'a>) -> &'a [Record]
     }
 }
 
-/// The record that is all that goes out for what was found: that of one name, with no host whose addresses would go with it.
+/// The record that is all that goes out for what was found: that of one name, with no host whose addresses
+/// would go with it.
 pub(crate) fn only_record<'a>(found: &[Found<'a>]) -> Option<ReplyRecord<'a>>
     ensures { IfSome result
         (λ r. (zones : List Lent) (t : ℕ) (fs : List Stated)
@@ -102,7 +105,8 @@ pub(crate) fn server_count(found: &[Found<'_>]) -> usize
     }
 }
 
-/// Puts records of a zone behind others, with the name that was asked as their owner (RFC 1034 section 4.3.2, step 3c).
+/// Puts records of a zone behind others, with the name that was asked as their owner (RFC 1034 section 4.3.2,
+/// step 3c).
 fn put_under<'a>(
     shown: &mut Vec<ReplyRecord<'a>, Heap>,
     name: &NameRef<'a>,
@@ -164,8 +168,8 @@ fn start_of_authority<'a, I: ZoneIndex>(
     Ok(shown)
 }
 
-/// The authority section, which goes by the last name: the NS of a cut, or the SOA of a negative reply (RFC 1034 section
-/// 4.3.2, step 3b; RFC 2308 section 2).
+/// The authority section, which goes by the last name: the NS of a cut, or the SOA of a negative reply
+/// (RFC 1034 section 4.3.2, step 3b; RFC 2308 section 2).
 pub(crate) fn authority_section<'a, I: ZoneIndex>(
     alloc: Heap,
     zones: &'a [Zone<I>],

@@ -1,5 +1,6 @@
 -- The change from one version of a zone to another.
-use Rattle.std.specs.Prelude.{◌≡◌, ◌<◌, ◌^◌, length, Bool, not, ◌&&◌, ◌==◌, List, [], ◌∷◌, filter, Option, Some, None, if◌then◌else◌}
+use Rattle.std.specs.Prelude.{◌≡◌, ◌<◌, ◌^◌, length, Bool, not, ◌&&◌, ◌==◌, List, [], ◌∷◌, filter, Option}
+use Rattle.std.specs.Prelude.{Some, None, if◌then◌else◌}
 use Rattle.std.specs.List.{list_any, list_all}
 use Rattle.dns_records.specs.Types.{type_soa}
 use Rattle.dns_records.specs.Record.{Record}
@@ -26,8 +27,8 @@ is_soa r = r.rtype == type_soa
 -- The SOAs are SOAs and no other record is one, and each list is in order.
 abbrev pub is_formed : Change → Bool
 is_formed c =
-    is_soa c.old_soa && is_soa c.new_soa && not (list_any is_soa c.removed) && not (list_any is_soa c.added) && is_ordered
-    c.removed && is_ordered c.added
+    is_soa c.old_soa && is_soa c.new_soa && not (list_any is_soa c.removed)
+    && not (list_any is_soa c.added) && is_ordered c.removed && is_ordered c.added
 
 -- The record is no SOA, and not in the others. A record whose TTL changed is not in the others.
 abbrev pub is_lone : List Record → Record → Bool
@@ -65,5 +66,6 @@ abbrev pub change_fault : Change → List Record → Option ChangeError
 change_fault c records =
     if not (contains records c.old_soa) then Some WrongSoa
     else if not (are_present records (c.old_soa ∷ c.removed)) then Some RemovesAbsent
-    else if not (are_new (removed_from records (c.old_soa ∷ c.removed)) (c.new_soa ∷ c.added)) then Some AddsPresent
+    else if not (are_new (removed_from records (c.old_soa ∷ c.removed)) (c.new_soa ∷ c.added))
+    then Some AddsPresent
     else None

@@ -14,8 +14,8 @@ abbrev pub serial_in : List Record → ℕ
 serial_in [] = 0
 serial_in (soa ∷ rest) = serial_of soa
 
--- The records are a valid zone of that apex, where they are not too many: room is no matter of an update. The serial is greater
--- than before, an advance of 1 to 2^31 - 1 (RFC 1982 3.2).
+-- The records are a valid zone of that apex, where they are not too many: room is no matter of an update. The
+-- serial is greater than before, an advance of 1 to 2^31 - 1 (RFC 1982 3.2).
 pub record IsVersion (before : Zone) (after : List Record) : Type 0 where
   pub ordered : is_ordered after ≡ true
   pub each : ∥ AllByRecursion IsRecord after ∥₁

@@ -14,8 +14,8 @@ use dns_records::types::SOA;
 use dns_zone::ZoneIndex;
 use std::alloc::AllocError;
 
-/// Whether the record is no SOA, and not among the others with its TTL. It is searched from a place on, and the place is moved to
-/// it.
+/// Whether the record is no SOA, and not among the others with its TTL. It is searched from a place on, and
+/// the place is moved to it.
 fn is_lone(r: &Record, others: &[Record], near: &mut usize) -> bool
     requires { is_ordered others.now ≡ true }
     ensures { result ≡ is_lone others.now r.now }
@@ -41,7 +41,8 @@ fn push_lone(
     Ok(())
 }
 
-/// Copies of the records of a set that are not in another, SOAs aside, in order. What the names own is all that is compared.
+/// Copies of the records of a set that are not in another, SOAs aside, in order. What the names own is all
+/// that is compared.
 fn only_in<I: ZoneIndex>(
     alloc: Heap,
     set: &I,
@@ -60,8 +61,8 @@ fn only_in<I: ZoneIndex>(
 }
 
 impl Change {
-    /// The change from a set to another that differs from it only in what these names own. Each has one SOA, and so few records
-    /// that their number has 32 bits.
+    /// The change from a set to another that differs from it only in what these names own. Each has one SOA,
+    /// and so few records that their number has 32 bits.
     pub fn between<I: ZoneIndex>(
         alloc: Heap,
         before: &I,

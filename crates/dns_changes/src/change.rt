@@ -1,7 +1,9 @@
-//! A change between two versions of a zone: the SOAs, and the records that go and that come (RFC 1995 section 4).
+//! A change between two versions of a zone: the SOAs, and the records that go and that come (RFC 1995
+//! section 4).
 ghost use Rattle.std.specs.Prelude.{◌≡◌, ◌⊎◌, true, false, not, ◌∷◌, Some, None, IfOk, IfErr, OnOk, OnErr};
 ghost use Rattle.dns_zone.specs.Records.{contains, has, is_ordered, put, united, without};
-ghost use Rattle.dns_changes.specs.Change.{AreFew, is_formed, applied, are_present, are_new, change_fault, removed_from};
+ghost use Rattle.dns_changes.specs.Change.{AreFew, is_formed, applied, are_present, are_new, change_fault};
+ghost use Rattle.dns_changes.specs.Change.{removed_from};
 
 use crate::ChangeError;
 use crate::group::{put_each, take_each};
@@ -11,8 +13,8 @@ use dns_zone::{ZoneIndex, find_record};
 use std::alloc::AllocError;
 use std::marker::Model;
 
-/// A change from one version of a zone to another (RFC 1995 section 4): its SOA before and after, and the other records that
-/// go and come, each with its TTL.
+/// A change from one version of a zone to another (RFC 1995 section 4): its SOA before and after, and the
+/// other records that go and come, each with its TTL.
 #[derive(Debug)]
 pub struct Change {
     old_soa: Record,
@@ -40,16 +42,18 @@ impl Model for Change {
 
     ghost Value = { Stated };
 
-    ghost view = { λ c. record { old_soa = c.old_soa; removed = c.removed.items; new_soa = c.new_soa; added = c.added.items } };
+    ghost view = { λ c.
+        record { old_soa = c.old_soa; removed = c.removed.items; new_soa = c.new_soa; added = c.added.items } };
 
     ghost invariant = { λ c. AreFew c.removed.items c.added.items
-        × (is_formed (record { old_soa = c.old_soa; removed = c.removed.items; new_soa = c.new_soa; added = c.added.items })
+        × (is_formed
+        (record { old_soa = c.old_soa; removed = c.removed.items; new_soa = c.new_soa; added = c.added.items })
         ≡ true) };
 }
 
 impl Change {
-    /// The change of these records, of which the two SOAs alone are SOAs. Each list is in order, and so short that its length has
-    /// 32 bits.
+    /// The change of these records, of which the two SOAs alone are SOAs. Each list is in order, and so short
+    /// that its length has 32 bits.
     pub fn new(
         old_soa: Record,
         removed: Vec<Record, Heap>,
@@ -103,9 +107,9 @@ impl Change {
         &self.added
     }
 
-    /// Takes the records that go out of a set, and puts those that come into it, name by name: what a name owns is copied once for
-    /// all that go there and once for all that come, and for the SOAs. Where the change doesn't fit the set, or
-    /// memory is refused, the set stays.
+    /// Takes the records that go out of a set, and puts those that come into it, name by name: what a name
+    /// owns is copied once for all that go there and once for all that come, and for the SOAs. Where the
+    /// change doesn't fit the set, or memory is refused, the set stays.
     pub fn apply<I: ZoneIndex>(&self, index: &mut I) -> Result<(), ChangeError>
         ensures applied { OnOk result (I.records index.new ≡ applied self.now (I.records index.old)) }
         ensures fits { OnOk result (change_fault self.now (I.records index.old) ≡ None) }
@@ -125,8 +129,10 @@ impl Change {
         ensures present { OnOk result
             ((contains (I.records set.old) self.now.old_soa ≡ true)
             × (are_present (I.records set.old) (self.now.old_soa ∷ self.now.removed) ≡ true)) }
-        ensures left { OnOk result (I.records set.new ≡ removed_from (I.records set.old) (self.now.old_soa ∷ self.now.removed)) }
-        ensures refused { IfErr result (λ e. (e ≡ ChangeError.OutOfMemory) ⊎ (change_fault self.now (I.records set.old) ≡ Some e)) }
+        ensures left { OnOk result
+            (I.records set.new ≡ removed_from (I.records set.old) (self.now.old_soa ∷ self.now.removed)) }
+        ensures refused { IfErr result
+            (λ e. (e ≡ ChangeError.OutOfMemory) ⊎ (change_fault self.now (I.records set.old) ≡ Some e)) }
     {
         if !take_out(set, self.old_soa())? {
             return Err(ChangeError::WrongSoa);
@@ -140,10 +146,12 @@ impl Change {
     /// Puts the new SOA and the records that come into a set, which is of no use where that is refused.
     fn add_all<I: ZoneIndex>(&self, set: &mut I) -> Result<(), ChangeError>
         ensures new { OnOk result (are_new (I.records set.old) (self.now.new_soa ∷ self.now.added) ≡ true) }
-        ensures left { OnOk result (I.records set.new ≡ united (I.records set.old) (self.now.new_soa ∷ self.now.added)) }
+        ensures left { OnOk result
+            (I.records set.new ≡ united (I.records set.old) (self.now.new_soa ∷ self.now.added)) }
         ensures refused { IfErr result
             (λ e. (e ≡ ChangeError.OutOfMemory)
-            ⊎ ((are_new (I.records set.old) (self.now.new_soa ∷ self.now.added) ≡ false) × (e ≡ ChangeError.AddsPresent))) }
+            ⊎ ((are_new (I.records set.old) (self.now.new_soa ∷ self.now.added) ≡ false)
+            × (e ≡ ChangeError.AddsPresent))) }
     {
         if !put_in(set, self.new_soa())? {
             return Err(ChangeError::AddsPresent);
@@ -155,8 +163,9 @@ impl Change {
     }
 }
 
-/// Whether the record is one of these, which stand in order, with its TTL. It is looked for at a place first, and then from there on, and
-/// the place is moved behind it, so that records that are looked for in order are found soon.
+/// Whether the record is one of these, which stand in order, with its TTL. It is looked for at a place first,
+/// and then from there on, and the place is moved behind it, so that records that are looked for in order are
+/// found soon.
 pub(crate) fn is_among(records: &[Record], wanted: &Record, near: &mut usize) -> bool
     requires { is_ordered records.now ≡ true }
     ensures { result ≡ contains records.now wanted.now }
@@ -196,7 +205,8 @@ pub fn holds_key<I: ZoneIndex>(set: &I, wanted: &Record) -> bool
 /// Takes a record out, and answers whether it was there.
 pub fn take_out<I: ZoneIndex>(set: &mut I, gone: &Record) -> Result<bool, AllocError>
     ensures present { IfOk result (λ present. present ≡ contains (I.records set.old) gone.now) }
-    ensures left { IfOk result (λ present. present ≡ true → I.records set.new ≡ without gone.now (I.records set.old)) }
+    ensures left { IfOk result
+        (λ present. present ≡ true → I.records set.new ≡ without gone.now (I.records set.old)) }
 {
     if !holds(set, gone) {
         return Ok(false);

@@ -1,5 +1,7 @@
-//! The octets of a change in a journal: the old SOA and the new one in plain form, and each list behind its count.
-ghost use Rattle.std.specs.Prelude.{◌≡◌, ℕ, ◌⊎◌, ◌+◌, ◌*◌, ◌<◌, ◌≤◌, ◌^◌, List, ◌++◌, length, IfOk, IfErr, OnOk, IfSome, IfNone, MatchResult};
+//! The octets of a change in a journal: the old SOA and the new one in plain form, and each list behind its
+//! count.
+ghost use Rattle.std.specs.Prelude.{◌≡◌, ℕ, ◌⊎◌, ◌+◌, ◌*◌, ◌<◌, ◌≤◌, ◌^◌, List, ◌++◌, length, IfOk, IfErr};
+ghost use Rattle.std.specs.Prelude.{OnOk, IfSome, IfNone, MatchResult};
 ghost use Rattle.std.specs.Int.{w32, to_be_bytes};
 ghost use Rattle.std.specs.List.{AllByRecursion};
 ghost use Rattle.dns_records.specs.Record.{Record as Stated, IsRecord, plain};
@@ -112,7 +114,8 @@ fn split_count(octets: &[u8]) -> Option<(u32, &[u8])>
 /// The records behind their count at the front of octets, and what is behind them.
 fn split_counted(alloc: Heap, octets: &[u8]) -> Result<(Vec<Record, Heap>, &[u8]), ChangeError>
     ensures found { IfOk result
-        (λ r. AllByRecursion IsRecord r.0.items × (length r.0.items < 2 ^ 32) × (octets.now ≡ counted r.0.items ++ r.1.now)) }
+        (λ r. AllByRecursion IsRecord r.0.items × (length r.0.items < 2 ^ 32)
+        × (octets.now ≡ counted r.0.items ++ r.1.now)) }
     ensures refused { IfErr result (λ e. (e ≡ ChangeError.OutOfMemory) ⊎ (e ≡ ChangeError.BadBytes)) }
     ensures only { (rs : List Stated) (rest : List ℕ)
         → AllByRecursion IsRecord rs

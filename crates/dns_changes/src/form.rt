@@ -29,7 +29,8 @@ pub(crate) fn is_formed(
     added: &[Record],
 ) -> bool
     ensures { result
-        ≡ is_formed (record { old_soa = old_soa.now; removed = removed.now; new_soa = new_soa.now; added = added.now }) }
+        ≡ is_formed
+        (record { old_soa = old_soa.now; removed = removed.now; new_soa = new_soa.now; added = added.now }) }
 {
     let soas = is_soa(old_soa) & is_soa(new_soa);
     soas & !has_soa(removed) & !has_soa(added) & rises(removed) & rises(added)

@@ -80,7 +80,8 @@ fn take_owned<I: ZoneIndex>(
     requires order { is_ordered gone.now ≡ true }
     requires owned { are_of name.now gone.now ≡ true }
     ensures present { IfOk result (λ present. present ≡ are_present (I.records set.old) gone.now) }
-    ensures left { IfOk result (λ present. present ≡ true → I.records set.new ≡ removed_from (I.records set.old) gone.now) }
+    ensures left { IfOk result
+        (λ present. present ≡ true → I.records set.new ≡ removed_from (I.records set.old) gone.now) }
 {
     let held = set.records_at(name);
     if !are_among(gone, held) {
@@ -91,7 +92,8 @@ fn take_owned<I: ZoneIndex>(
     Ok(true)
 }
 
-/// Takes records in order out name by name, up to the first name that doesn't own its own, and answers whether all were there.
+/// Takes records in order out name by name, up to the first name that doesn't own its own, and answers
+/// whether all were there.
 pub(crate) fn take_each<I: ZoneIndex>(
     alloc: Heap,
     set: &mut I,
@@ -99,7 +101,8 @@ pub(crate) fn take_each<I: ZoneIndex>(
 ) -> Result<bool, AllocError>
     requires { is_ordered gone.now ≡ true }
     ensures present { IfOk result (λ present. present ≡ are_present (I.records set.old) gone.now) }
-    ensures left { IfOk result (λ present. present ≡ true → I.records set.new ≡ removed_from (I.records set.old) gone.now) }
+    ensures left { IfOk result
+        (λ present. present ≡ true → I.records set.new ≡ removed_from (I.records set.old) gone.now) }
 {
     let mut rest = gone;
     'names: while let Some((first, group, others)) = first_group(rest) {
@@ -186,7 +189,8 @@ fn put_owned<I: ZoneIndex>(
     Ok(true)
 }
 
-/// Puts copies of records in order in name by name, up to the first name that owns one of them, and answers whether none was there.
+/// Puts copies of records in order in name by name, up to the first name that owns one of them, and answers
+/// whether none was there.
 pub(crate) fn put_each<I: ZoneIndex>(
     alloc: Heap,
     set: &mut I,

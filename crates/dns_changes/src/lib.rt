@@ -15,8 +15,8 @@ pub use entry::{plain_len, split_record};
 use std::alloc::AllocError;
 use thiserror::Error;
 
-/// Why a change can't be applied, or octets are none. Of the first three `WrongSoa` comes before `RemovesAbsent`, and that
-/// before `AddsPresent`.
+/// Why a change can't be applied, or octets are none. Of the first three `WrongSoa` comes before
+/// `RemovesAbsent`, and that before `AddsPresent`.
 #[derive(Clone, Copy, Debug, Error, PartialEq, Eq)]
 pub enum ChangeError {
     /// Memory was refused.

@@ -1,5 +1,6 @@
 -- What is wrong with a file or a word, and the line that tells it.
-use Rattle.std.specs.Prelude.{◌≡◌, ℕ, Bool, true, false, ◌||◌, nat_lt, List, [], ◌∷◌, ◌++◌, flat_map, Option, Some, None, Result, Ok, Err, codes, decimal, if◌then◌else◌}
+use Rattle.std.specs.Prelude.{◌≡◌, ℕ, Bool, true, false, ◌||◌, nat_lt, List, [], ◌∷◌, ◌++◌, flat_map, Option}
+use Rattle.std.specs.Prelude.{Some, None, Result, Ok, Err, codes, decimal, if◌then◌else◌}
 use Rattle.std.specs.Bool.{MatchBool}
 use Rattle.std.specs.Io.KnownBytes.{Appends}
 use Rattle.dns_names.specs.Name.{Labels}
@@ -12,7 +13,8 @@ use Rattle.dns_masterfile.specs.Reading.{read_file}
 use Rattle.dns_masterfile.specs.declared.FileError.{FileError}
 use Rattle.dns_masterfile.specs.declared.FileError.TheVariants as file
 use Rattle.dns_configuration.specs.declared.files.Fault.{Fault}
-use Rattle.dns_configuration.specs.declared.files.Fault.TheVariants.{OutOfMemory, Unreadable, BadConfig, BadOrigin, Syntax, Entry, NoZone}
+use Rattle.dns_configuration.specs.declared.files.Fault.TheVariants.{OutOfMemory, Unreadable, BadConfig}
+use Rattle.dns_configuration.specs.declared.files.Fault.TheVariants.{BadOrigin, Syntax, Entry, NoZone}
 
 -- The name of each refusal.
 abbrev pub entry_word : FileError → List ℕ
@@ -67,8 +69,8 @@ fault_text what fault = printed_word what ++ fault_words fault
 abbrev pub line : List ℕ → List ℕ
 line text = text ++ 10 ∷ []
 
--- The records of a master file that are a zone of that apex, or the fault: that it can't be read, that of the first entry which is
--- refused, or the lowest of the zone.
+-- The records of a master file that are a zone of that apex, or the fault: that it can't be read, that of the
+-- first entry which is refused, or the lowest of the zone.
 abbrev pub unless : List Record → Option ZoneError → Result (List Record) Fault
 unless records None = Ok records
 unless records (Some e) = Err (NoZone e)
@@ -81,7 +83,9 @@ abbrev pub loaded : Option (List ℕ) → Labels → Result (List Record) Fault
 loaded None apex = Err Unreadable
 loaded (Some octets) apex = as_zone apex (read_file octets apex)
 
--- How a run that told a fault goes on: of refused memory nothing is told, and the status is 3; else the line of the fault is, and it is 1.
+-- How a run that told a fault goes on: of refused memory nothing is told, and the status is 3; else the line
+-- of the fault is, and it is 1.
 abbrev pub IsTold : List ℕ → Fault → Option (List ℕ) → Option (List ℕ) → ℕ → Type 0
 IsTold what fault err err_after status =
-    MatchBool (is_memory fault) (status ≡ 3) ((status ≡ 1) × Appends err err_after (line (fault_text what fault)))
+    MatchBool (is_memory fault) (status ≡ 3)
+    ((status ≡ 1) × Appends err err_after (line (fault_text what fault)))

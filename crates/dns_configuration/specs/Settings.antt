@@ -1,8 +1,11 @@
 -- What a configuration says.
-use Rattle.std.specs.Prelude.{◌≡◌, ◌≢◌, ⊤, ℕ, suc, ◌<◌, ◌≤◌, ◌==◌, ◌^◌, Bool, true, false, ◌||◌, List, [], ◌∷◌, ◌++◌, length, Result, Ok, Err, Option, Some, None, option_and_then, decimal, All, AllPairs, bytes_eq, codes, get_or, ℤ, pos, String, Vec}
+use Rattle.std.specs.Prelude.{◌≡◌, ◌≢◌, ⊤, ℕ, suc, ◌<◌, ◌≤◌, ◌==◌, ◌^◌, Bool, true, false, ◌||◌, List, []}
+use Rattle.std.specs.Prelude.{◌∷◌, ◌++◌, length, Result, Ok, Err, Option, Some, None, option_and_then}
+use Rattle.std.specs.Prelude.{decimal, All, AllPairs, bytes_eq, codes, get_or, ℤ, pos, String, Vec}
 use Rattle.std.specs.Global.{Global}
 use Rattle.std.specs.Str.{IsUtf8}
-use Rattle.toml.specs.Data.{Data, Items, Members, no_members, member, as_array, as_integer, as_str, get, table}
+use Rattle.toml.specs.Data.{Data, Items, Members, no_members, member, as_array, as_integer, as_str, get}
+use Rattle.toml.specs.Data.{table}
 use Rattle.toml.specs.View.{items_of}
 use Rattle.toml.specs.Parse.{parse_document}
 use Rattle.std.specs.List.{AllZip}
@@ -19,7 +22,8 @@ use Rattle.dns_policy.specs.Prefix.{IsPrefix}
 use Rattle.dns_configuration.specs.declared.configuration.ZoneSettings.{ZoneSettings}
 use Rattle.dns_configuration.specs.declared.configuration.Configuration.{Configuration}
 use Rattle.dns_configuration.specs.declared.configuration.ConfigurationError.{ConfigurationError}
-use Rattle.dns_configuration.specs.declared.configuration.ConfigurationError.TheVariants.{OutOfMemory, BadConfig}
+use Rattle.dns_configuration.specs.declared.configuration.ConfigurationError.TheVariants.{OutOfMemory}
+use Rattle.dns_configuration.specs.declared.configuration.ConfigurationError.TheVariants.{BadConfig}
 
 -- A port in text: from 1 to 65,535, without leading zeros.
 abbrev pub IsPort : List ℕ → ℕ → Type 0
@@ -45,7 +49,8 @@ HasNone octet text = (i : ℕ) → i < length text → get_or text i 0 ≢ octet
 abbrev pub IsLastParted : ℕ → List ℕ → List ℕ × List ℕ → Type 0
 IsLastParted octet text parts = (text ≡ parts.0 ++ octet ∷ parts.1) × HasNone octet parts.1
 
--- The counts of a zone are within their bounds: sectors of a snapshot and of the journal, versions that are kept.
+-- The counts of a zone are within their bounds: sectors of a snapshot and of the journal, versions that are
+-- kept.
 pub record AreCounts (sectors entries versions : ℕ) : Type 0 where
   pub snapshot : (1 ≤ sectors) × (sectors ≤ 65536)
   pub journal : (8 ≤ entries) × (entries ≤ 65536)
@@ -56,12 +61,14 @@ HasCounts z = AreCounts z.snapshot_sectors z.journal_sectors z.keep
 
 -- Two zones have one apex or one device.
 abbrev pub are_alike : ZoneSettings → ZoneSettings → Bool
-are_alike z other = names_eq z.origin other.origin || bytes_eq (string_bytes z.device) (string_bytes other.device)
+are_alike z other =
+    names_eq z.origin other.origin || bytes_eq (string_bytes z.device) (string_bytes other.device)
 
 abbrev pub AreApart : ZoneSettings → ZoneSettings → Type 0
 AreApart z other = are_alike z other ≡ false
 
--- What a server may hold: it listens at a port, and has 1 to 16 zones, each with its counts, no two with one apex or one device.
+-- What a server may hold: it listens at a port, and has 1 to 16 zones, each with its counts, no two with one
+-- apex or one device.
 pub record IsConfiguration (c : Configuration) : Type 0 where
   pub listens : 0 < socket_port c.listen
   pub some : 0 < length c.zones.items
@@ -145,9 +152,11 @@ pub record AreSettings (tables : List Data) (zs : List ZoneSettings) : Type 0 wh
 pub record Describes (d : Data) (c : Configuration) : Type 0 where
   pub keys : has_keys 2 d ≡ true
   pub listen : (text : List ℕ) × (text_at (codes "listen") d ≡ Some text) × IsListener text c.listen
-  pub zones : (tables : List Data) × (list_at (codes "zone") d ≡ Some (items_of tables)) × AreSettings tables c.zones.items
+  pub zones : (tables : List Data) × (list_at (codes "zone") d ≡ Some (items_of tables))
+      × AreSettings tables c.zones.items
   pub some : 0 < length c.zones.items
 
 -- The octets are the text of a TOML document that describes it.
 abbrev pub IsDescribedBy : List ℕ → Configuration → Type 0
-IsDescribedBy octets c = (ms : Members) × IsUtf8 octets × (parse_document octets ≡ Some ms) × Describes (table ms) c
+IsDescribedBy octets c =
+    (ms : Members) × IsUtf8 octets × (parse_document octets ≡ Some ms) × Describes (table ms) c

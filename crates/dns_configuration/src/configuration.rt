@@ -1,5 +1,6 @@
 //! The configuration: the zones that are held, their files, and who may change and copy them.
-ghost use Rattle.std.specs.Prelude.{◌≡◌, ◌≢◌, ℕ, ◌<◌, ◌^◌, List, [], ◌∷◌, ◌++◌, Ok, Some, MatchOption, IfOk, map, option_map, pos};
+ghost use Rattle.std.specs.Prelude.{◌≡◌, ◌≢◌, ℕ, ◌<◌, ◌^◌, List, [], ◌∷◌, ◌++◌, Ok, Some, MatchOption, IfOk};
+ghost use Rattle.std.specs.Prelude.{map, option_map, pos};
 ghost use Rattle.std.specs.List.{list_any};
 ghost use Rattle.std.specs.Option.{option_copied};
 ghost use Rattle.toml.specs.View.{array_view, view};
@@ -7,7 +8,11 @@ ghost use Rattle.dns_names.specs.Text.{name_of_text};
 ghost use Rattle.dns_policy.specs.Address.{IsAddress};
 ghost use Rattle.std.specs.declared.net.ip_addr.IpAddr.TheVariants.{V4, V6};
 ghost use Rattle.dns_configuration.specs.declared.configuration.ConfigurationError.TheVariants as told;
-ghost use Rattle.dns_configuration.specs.Settings.{ArePrefixes, AreSettings, Describes, Finds, HasCount, HasName, HasNone, HasPath, HasPrefixes, IsConfiguration, IsDescribedBy, IsHost, IsLastParted, IsListener, IsPort, IsSettings, Reads, are_alike, has_keys, list_at, number_at, text_at};
+ghost use Rattle.dns_configuration.specs.Settings.{ArePrefixes, AreSettings, Describes, Finds, HasCount};
+ghost use Rattle.dns_configuration.specs.Settings.{HasName, HasNone, HasPath, HasPrefixes, IsConfiguration};
+ghost use Rattle.dns_configuration.specs.Settings.{IsDescribedBy, IsHost, IsLastParted, IsListener, IsPort};
+ghost use Rattle.dns_configuration.specs.Settings.{IsSettings, Reads, are_alike, has_keys, list_at};
+ghost use Rattle.dns_configuration.specs.Settings.{number_at, text_at};
 
 use dns_memory::Heap;
 use dns_names::{Name, NameError};
@@ -153,7 +158,8 @@ fn host(text: &[u8]) -> Option<IpAddr>
 
 /// What stands before the last colon, and behind it.
 fn split_at_last_colon(text: &str) -> Option<(&str, &str)>
-    ensures { MatchOption result (HasNone 58 text.now) (λ parts. IsLastParted 58 text.now (parts.0.now, parts.1.now)) }
+    ensures { MatchOption result (HasNone 58 text.now)
+        (λ parts. IsLastParted 58 text.now (parts.0.now, parts.1.now)) }
 {
     text.rsplit_once(':')
 }
@@ -368,8 +374,8 @@ fn configuration_of(
 }
 
 impl Configuration {
-    /// Reads a configuration in TOML: its keys are those of `Configuration` and of its zones, `listen` with the address, a colon
-    /// and the port as one text. `BadConfig` comes for every other text.
+    /// Reads a configuration in TOML: its keys are those of `Configuration` and of its zones, `listen` with
+    /// the address, a colon and the port as one text. `BadConfig` comes for every other text.
     pub fn read(
         alloc: Global,
         heap: Heap,

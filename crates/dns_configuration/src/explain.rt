@@ -1,5 +1,6 @@
-//! What one who mends a refused configuration is told beside its fault: the key whose value is missing or wrong, and what is
-//! expected there. It serves `--explain` alone, and no clause says more of it than that it ends.
+//! What one who mends a refused configuration is told beside its fault: the key whose value is missing or
+//! wrong, and what is expected there. It serves `--explain` alone, and no clause says more of it than that it
+//! ends.
 use crate::configuration::{
     LEAST_JOURNAL, LEAST_SNAPSHOT, MOST, ZONE_KEYS, count_at, has_keys, list_at, listener, name_at,
     path_at, prefixes_at, text_at,

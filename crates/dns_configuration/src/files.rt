@@ -3,7 +3,8 @@ ghost use Rattle.std.specs.Prelude.{◌≡◌, ◌⊎◌, [], Some, Ok, Err, IfO
 ghost use Rattle.std.specs.Option.{option_copied};
 ghost use Rattle.dns_names.specs.Text.{name_of_text};
 ghost use Rattle.dns_names.specs.declared.NameError.{NameError as StatedError};
-ghost use Rattle.dns_configuration.specs.Faults.{IsTold, entry_word, is_memory, fault_text, zone_word, printed_word, word_octet};
+ghost use Rattle.dns_configuration.specs.Faults.{IsTold, entry_word, is_memory, fault_text, zone_word};
+ghost use Rattle.dns_configuration.specs.Faults.{printed_word, word_octet};
 ghost use Rattle.dns_configuration.specs.Files.{Holds};
 ghost use Rattle.dns_configuration.specs.Settings.{IsConfiguration};
 
@@ -16,7 +17,8 @@ use std::alloc::Global;
 use std::fmt;
 use std::io::{self, Write};
 
-/// Exit statuses: all was done; a file, a line or a word was refused; the words are wrong; a writer failed, or memory was refused.
+/// Exit statuses: all was done; a file, a line or a word was refused; the words are wrong; a writer failed,
+/// or memory was refused.
 pub const DONE: u8 = 0;
 
 pub const REFUSED: u8 = 1;
@@ -149,7 +151,8 @@ impl fmt::Display for FaultText<'_> {
     }
 }
 
-/// Tells in one line what is wrong with the file or the word, and gives the exit status. Of refused memory nothing is told.
+/// Tells in one line what is wrong with the file or the word, and gives the exit status. Of refused memory
+/// nothing is told.
 pub fn tell<E: Write>(err: &mut E, what: &str, fault: Fault) -> io::Result<u8>
     ensures { IfOk result (λ status. IsTold what.now fault (E.contents err.old) (E.contents err.new) status) }
 {
@@ -163,7 +166,8 @@ pub fn tell<E: Write>(err: &mut E, what: &str, fault: Fault) -> io::Result<u8>
 /// The name that a text is, under the root.
 pub fn apex(alloc: Heap, text: &str) -> Result<Name, Fault>
     ensures { MatchResult result (λ name. name_of_text [] text.now ≡ Ok name)
-        (λ f. (f ≡ Fault.OutOfMemory) ⊎ ((f ≡ Fault.BadOrigin) × ((e : StatedError) × (name_of_text [] text.now ≡ Err e)))) }
+        (λ f. (f ≡ Fault.OutOfMemory)
+        ⊎ ((f ≡ Fault.BadOrigin) × ((e : StatedError) × (name_of_text [] text.now ≡ Err e)))) }
 {
     match Name::from_text(alloc, text.as_bytes(), &Name::root(alloc)) {
         Ok(name) => Ok(name),

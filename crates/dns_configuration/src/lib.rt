@@ -1,4 +1,5 @@
-//! What a server is given: its configuration, the files that it names, the zones that they hold, and how a fault in one is told.
+//! What a server is given: its configuration, the files that it names, the zones that they hold, and how a
+//! fault in one is told.
 #![tactic(auto)]
 
 mod configuration;

@@ -26,7 +26,8 @@ pub fn load<I: ZoneIndex>(
         × (z.1 ≡ length records)
         × (z.0.apex ≡ apex)
         × IsSetOf records z.0.records) }
-    ensures refused { IfErr result (λ f. (is_memory f ≡ true) ⊎ (loaded (option_copied octets.entry) apex ≡ Err f)) }
+    ensures refused { IfErr result
+        (λ f. (is_memory f ≡ true) ⊎ (loaded (option_copied octets.entry) apex ≡ Err f)) }
 {
     let Some(octets) = octets else {
         return Err(Fault::Unreadable);
@@ -72,7 +73,8 @@ fn load_one<I: ZoneIndex>(
     }
 }
 
-/// The zones of these settings, each with what its master file holds, or the path of the first file that holds none, and why.
+/// The zones of these settings, each with what its master file holds, or the path of the first file that
+/// holds none, and why.
 pub fn load_all<'s, I: ZoneIndex>(
     heap: Heap,
     files: &[File<'_>],

@@ -22,8 +22,8 @@ use Rattle.dns_secondary.specs.declared.fault.Fault.{Fault}
 use Rattle.dns_secondary.specs.declared.fault.Progress.TheVariants.{More, Done, UpToDate, RetryTcp}
 use Rattle.dns_copies.specs.Versions.{LeadTo, EndAlike}
 
--- What is held where a transfer is asked for: nothing; or a version from which changes lead to the one that is shown, over which the
--- serial goes less than 2^31. It may be older than the first whose changes are kept.
+-- What is held where a transfer is asked for: nothing; or a version from which changes lead to the one that
+-- is shown, over which the serial goes less than 2^31. It may be older than the first whose changes are kept.
 abbrev pub IsFollowed : Labels → Option Zone → List Change → List Record → Type 0
 IsFollowed apex None kept shown = ⊤
 IsFollowed apex (Some z) kept shown =
@@ -50,16 +50,19 @@ TransferIsTaken =
 -- A session sends all that is left of it, one message after the other.
 abbrev pub SendsAll : Sending → List (List ℕ) → Type 0
 SendsAll s [] = s.left ≡ []
-SendsAll s (message ∷ messages) = (s.left ≡ [] → ⊥) × (next : Sending) × Sends s message next × SendsAll next messages
+SendsAll s (message ∷ messages) =
+    (s.left ≡ [] → ⊥) × (next : Sending) × Sends s message next × SendsAll next messages
 
--- The messages of the session that is opened for a request, for the version that is shown. By UDP none is cut off, with the
--- bit TC (RFC 1035 4.1.1).
-pub record AreAnswers (s : Receiving) (kept : List Change) (shown : List Record) (messages : List (List ℕ)) : Type 0 where
+-- The messages of the session that is opened for a request, for the version that is shown. By UDP none is cut
+-- off, with the bit TC (RFC 1035 4.1.1).
+pub record AreAnswers (s : Receiving) (kept : List Change) (shown : List Record)
+    (messages : List (List ℕ)) : Type 0 where
   pub named : IsName s.apex
   pub number : s.id < 2 ^ 16
   pub sending : Sending
   pub opened : IsOpened s.transport (request_octets s.apex s.held s.id) (request_message s.apex s.held s.id)
-      (question_asked s.apex s.held) (record { zone = record { apex = s.apex; records = shown }; changes = kept }) sending
+      (question_asked s.apex s.held)
+      (record { zone = record { apex = s.apex; records = shown }; changes = kept }) sending
   pub each : AllByRecursion IsRecord sending.left
   pub all : SendsAll sending messages
   pub not_cut : s.transport ≡ Udp → AllByRecursion (λ message. (header_of message).tc ≡ false) messages
@@ -69,10 +72,11 @@ abbrev pub GoesOn : Receiving → List (List ℕ) → Receiving → Type 0
 GoesOn s [] now = now ≡ s
 GoesOn s (message ∷ rest) now = (next : Receiving) × Feeds s message More next × GoesOn next rest now
 
--- The next message of a transfer of the version that is shown is not refused. More is to come only where a message is
--- left; after the last the version that is shown is held, anew or as before, and it is told after no other. By UDP there is
--- one message, and it may be told to ask again by TCP.
-pub record Follows (s : Receiving) (message : List ℕ) (behind : List (List ℕ)) (shown : List Record) : Type 0 where
+-- The next message of a transfer of the version that is shown is not refused. More is to come only where a
+-- message is left; after the last the version that is shown is held, anew or as before, and it is told after
+-- no other. By UDP there is one message, and it may be told to ask again by TCP.
+pub record Follows (s : Receiving) (message : List ℕ) (behind : List (List ℕ))
+    (shown : List Record) : Type 0 where
   pub refused : (fault : Fault) → RefusesFeed s message fault → ⊥
   pub more : (next : Receiving) → Feeds s message More next → behind ≡ [] → ⊥
   pub done : (next : Receiving) → Feeds s message Done next → (behind ≡ []) × (next ≡ holding s shown)
@@ -80,12 +84,12 @@ pub record Follows (s : Receiving) (message : List ℕ) (behind : List (List ℕ
   pub again : (next : Receiving) → Feeds s message RetryTcp next → s.transport ≡ Udp
   pub alone : s.transport ≡ Udp → behind ≡ []
 
--- Who asks for a transfer of a version, and is fed its messages in order, holds that version after the last, or by UDP is
--- told to ask again.
+-- Who asks for a transfer of a version, and is fed its messages in order, holds that version after the last,
+-- or by UDP is told to ask again.
 abbrev pub TransferIsFollowed : Type 0
 TransferIsFollowed =
-    (s : Receiving) (base : List Record) (kept : List Change) (shown : List Record) (before : List (List ℕ)) (message : List ℕ)
-    (behind : List (List ℕ)) (now : Receiving)
+    (s : Receiving) (base : List Record) (kept : List Change) (shown : List Record) (before : List (List ℕ))
+    (message : List ℕ) (behind : List (List ℕ)) (now : Receiving)
     → s.state ≡ Some Begun
     → LeadTo s.apex base kept shown
     → IsFollowed s.apex s.held kept shown

@@ -1,5 +1,6 @@
 -- What is wrong with a device, and how it is told.
-use Rattle.std.specs.Prelude.{◌≡◌, ◌⊎◌, ℕ, Bool, true, false, List, ◌++◌, Option, codes, decimal, if◌then◌else◌}
+use Rattle.std.specs.Prelude.{◌≡◌, ◌⊎◌, ℕ, Bool, true, false, List, ◌++◌, Option, codes, decimal}
+use Rattle.std.specs.Prelude.{if◌then◌else◌}
 use Rattle.std.specs.Bool.{MatchBool}
 use Rattle.std.specs.Io.KnownBytes.{Appends}
 use Rattle.dns_sectors.specs.declared.device.Sectors.{Ghosts}
@@ -16,7 +17,9 @@ use Rattle.dns_store.specs.declared.migrating.MigrateError.{MigrateError}
 use Rattle.dns_store.specs.declared.migrating.MigrateError.TheVariants as unmigrated
 use Rattle.dns_configuration.specs.Faults.{line, printed_word}
 use Rattle.dns_devices.specs.declared.faults.DeviceFault.{DeviceFault}
-use Rattle.dns_devices.specs.declared.faults.DeviceFault.TheVariants.{Exists, Device, Blank, Damaged, OldFormat, Geometry, ZoneTooLarge, OutOfMemory}
+use Rattle.dns_devices.specs.declared.faults.DeviceFault.TheVariants.{Exists, Device, Blank, Damaged}
+use Rattle.dns_devices.specs.declared.faults.DeviceFault.TheVariants.{OldFormat, Geometry, ZoneTooLarge}
+use Rattle.dns_devices.specs.declared.faults.DeviceFault.TheVariants.{OutOfMemory}
 
 -- Why the device is not opened.
 abbrev pub fault_of_device : OpenDeviceError → DeviceFault
@@ -49,12 +52,13 @@ fault_of_migrate unmigrated.OutOfMemory = OutOfMemory
 abbrev pub HasOldRoot : {D : Type 0} → Ghosts D → D → Type 0
 HasOldRoot g device = tag (sector_at (g.seen device) 0) ≡ root_tag_in One
 
--- The fault of a device that was handed back when its store was refused: that of the refusal; but where the store was refused for its
--- first sector, `OldFormat` exactly if a root of format 1 is there, and `Device` where the device failed when that was asked. The
--- second device is the first one after that.
+-- The fault of a device that was handed back when its store was refused: that of the refusal; but where the
+-- store was refused for its first sector, `OldFormat` exactly if a root of format 1 is there, and `Device`
+-- where the device failed when that was asked. The second device is the first one after that.
 abbrev pub IsFaultOf : {D : Type 0} → Ghosts D → OpenError → D → D → DeviceFault → Type 0
 IsFaultOf g error device after fault =
-    ((fault ≡ fault_of_open error) × (error ≡ refused.Damaged 0 → g.is_honest device → HasOldRoot g device → ⊥))
+    ((fault ≡ fault_of_open error)
+    × (error ≡ refused.Damaged 0 → g.is_honest device → HasOldRoot g device → ⊥))
     ⊎ ((error ≡ refused.Damaged 0)
     × (((fault ≡ OldFormat) × (g.is_honest device → HasOldRoot g device))
     ⊎ ((fault ≡ Device) × HasRisen (g.failed device) (g.failed after))))
@@ -72,7 +76,8 @@ device_word OutOfMemory = codes "OutOfMemory"
 
 abbrev pub advice : DeviceFault → List ℕ
 advice Exists = codes "init makes new files alone; move the file away, or serve it"
-advice Device = codes "the file is missing, may not be read and written, is held by another process, or failed"
+advice Device =
+    codes "the file is missing, may not be read and written, is held by another process, or failed"
 advice Blank = codes "no store was ever made in the file, or making it was stopped; move it away and run init"
 advice (Damaged sector) =
     codes "that sector is not what was written there; a copy of the file, or its master file and init, restores it"
@@ -98,10 +103,12 @@ status_of _ = 1
 abbrev pub device_text : List ℕ → DeviceFault → Bool → List ℕ
 device_text path fault explain =
     if explain
-    then printed_word path ++ codes ": " ++ device_word fault ++ codes "\n" ++ printed_word path ++ codes ": " ++ advice fault
+    then printed_word path ++ codes ": " ++ device_word fault ++ codes "\n" ++ printed_word path
+    ++ codes ": " ++ advice fault
     else printed_word path ++ codes ": " ++ device_word fault
 
--- How a run that met a fault goes on: of refused memory nothing is told; else the fault is, and the status is that of the fault.
+-- How a run that met a fault goes on: of refused memory nothing is told; else the fault is, and the status is
+-- that of the fault.
 abbrev pub IsDeviceTold : List ℕ → DeviceFault → Bool → Option (List ℕ) → Option (List ℕ) → ℕ → Type 0
 IsDeviceTold path fault explain err err_after status =
     MatchBool (is_memory fault) (status ≡ 3)

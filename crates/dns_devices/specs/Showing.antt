@@ -42,9 +42,10 @@ IsNotOpened opened own fault =
 abbrev pub own_shape : ZoneSettings → Shape
 own_shape own = record { apex = own.origin; snapshot = own.snapshot_sectors; journal = own.journal_sectors }
 
--- The zone is the newest version of what a crash might have left of the device that was given for the path, whichever versions
--- there were before the base.
-pub record IsShown {D : Type 0} (g : Ghosts D) (opened : Gives D) (own : ZoneSettings) (zone : Zone) : Type 0 where
+-- The zone is the newest version of what a crash might have left of the device that was given for the path,
+-- whichever versions there were before the base.
+pub record IsShown {D : Type 0} (g : Ghosts D) (opened : Gives D) (own : ZoneSettings)
+    (zone : Zone) : Type 0 where
   pub device : D
   pub came : opened (string_bytes own.device) (Ok device)
   pub apex : zone.apex ≡ own.origin
@@ -55,9 +56,10 @@ pub record IsShown {D : Type 0} (g : Ghosts D) (opened : Gives D) (own : ZoneSet
       × ((o : Opened) → opens (own_shape own) o c
       → zone ≡ record { apex = own.origin; records = newest_after o.loaded o.versions })
 
--- Why the device shows none: where each crash leaves a store that opens, the device failed, memory was refused, or it was opened too
--- often; else by what stands on it. It was only read, unless it failed.
-pub record IsClosed {D : Type 0} (g : Ghosts D) (opened : Gives D) (own : ZoneSettings) (fault : DeviceFault) : Type 0 where
+-- Why the device shows none: where each crash leaves a store that opens, the device failed, memory was
+-- refused, or it was opened too often; else by what stands on it. It was only read, unless it failed.
+pub record IsClosed {D : Type 0} (g : Ghosts D) (opened : Gives D) (own : ZoneSettings)
+    (fault : DeviceFault) : Type 0 where
   pub device : D
   pub came : opened (string_bytes own.device) (Ok device)
   pub back : D
@@ -70,23 +72,26 @@ pub record IsClosed {D : Type 0} (g : Ghosts D) (opened : Gives D) (own : ZoneSe
       → IsInRange own.snapshot_sectors own.journal_sectors
       → MayOpen g (own_shape own) device
       → StopsPossible g (own_shape own) device error
-  pub refused : g.is_honest device → OpenRefusal (sizes_of (own_shape own)) (g.count device) (sector_at (g.seen device) 0) error
+  pub refused : g.is_honest device
+      → OpenRefusal (sizes_of (own_shape own)) (g.count device) (sector_at (g.seen device) 0) error
   pub damaged : g.is_honest device → NamesWrong (own_shape own) (g.seen device) error
 
 -- ... or none was given.
 abbrev pub IsNotShown : {D : Type 0} → Ghosts D → Gives D → ZoneSettings → DeviceFault → Type 0
 IsNotShown g opened own fault = IsNotOpened opened own fault ⊎ IsClosed g opened own fault
 
--- How the showing of a device ends: its zone is printed, or its fault is told. With status 3 the device can't be had, a writer failed
--- or memory was refused.
+-- How the showing of a device ends: its zone is printed, or its fault is told. With status 3 the device can't
+-- be had, a writer failed or memory was refused.
 pub record ShowingEnds {D : Type 0} (g : Ghosts D) (opened : Gives D) (own : ZoneSettings) (explain : Bool)
     (out out_after err err_after : Option (List ℕ)) (status : ℕ)
     : Type 0 where
   pub done : status ≡ 0
-      → (zone : Zone) × IsShown g opened own zone × Appends out out_after (printed_zone zone.records) × Keeps err err_after
+      → (zone : Zone) × IsShown g opened own zone × Appends out out_after (printed_zone zone.records)
+      × Keeps err err_after
   pub refused : status ≡ 1
       → (fault : DeviceFault) × IsNotShown g opened own fault × (status_of fault ≡ 1)
-      × Appends err err_after (line (device_text (string_bytes own.device) fault explain)) × Keeps out out_after
+      × Appends err err_after (line (device_text (string_bytes own.device) fault explain))
+      × Keeps out out_after
   pub others : status ≤ 1 ⊎ (status ≡ 3)
 
 -- The zone of that name in a configuration.
@@ -108,13 +113,14 @@ IsNoName origin c =
 
 abbrev pub IsUnnamed : File → List ℕ → List ℕ → Type 0
 IsUnnamed config origin text =
-    ((fault : Fault) × Holds (option_copied config.octets) (Err fault) × (text ≡ fault_text config.path.now fault))
+    ((fault : Fault) × Holds (option_copied config.octets) (Err fault)
+    × (text ≡ fault_text config.path.now fault))
     ⊎ ((c : Configuration) × Holds (option_copied config.octets) (Ok c) × IsNoName origin c
     × (text ≡ fault_text origin BadOrigin))
 
 -- How a run of `dump` ends. With status 3 the device can't be had, a writer failed or memory was refused.
-pub record DumpEnds {D : Type 0} (g : Ghosts D) (opened : Gives D) (config : File) (origin : List ℕ) (explain : Bool)
-    (out out_after err err_after : Option (List ℕ)) (status : ℕ)
+pub record DumpEnds {D : Type 0} (g : Ghosts D) (opened : Gives D) (config : File) (origin : List ℕ)
+    (explain : Bool) (out out_after err err_after : Option (List ℕ)) (status : ℕ)
     : Type 0 where
   pub done : status ≡ 0
       → (own : ZoneSettings) × (zone : Zone) × IsNamed config origin own × IsShown g opened own zone
@@ -122,6 +128,6 @@ pub record DumpEnds {D : Type 0} (g : Ghosts D) (opened : Gives D) (config : Fil
   pub refused : status ≡ 1
       → (text : List ℕ) × Appends err err_after (line text) × Keeps out out_after
       × (IsUnnamed config origin text
-      ⊎ ((own : ZoneSettings) × (fault : DeviceFault) × IsNamed config origin own × IsNotShown g opened own fault
-      × (text ≡ device_text (string_bytes own.device) fault explain)))
+      ⊎ ((own : ZoneSettings) × (fault : DeviceFault) × IsNamed config origin own
+      × IsNotShown g opened own fault × (text ≡ device_text (string_bytes own.device) fault explain)))
   pub others : status ≤ 1 ⊎ (status ≡ 3)

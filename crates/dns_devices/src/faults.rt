@@ -1,7 +1,9 @@
 //! What is wrong with a device, and how it is told.
 ghost use Rattle.std.specs.Prelude.{◌≡◌, Some, IfOk};
-ghost use Rattle.dns_devices.specs.Faults.{IsDeviceTold, advice, device_text, device_word, is_memory, status_of};
-ghost use Rattle.dns_devices.specs.Faults.{IsFaultOf, fault_of_device, fault_of_format, fault_of_migrate, fault_of_open};
+ghost use Rattle.dns_devices.specs.Faults.{IsDeviceTold, advice, device_text, device_word, is_memory};
+ghost use Rattle.dns_devices.specs.Faults.{status_of};
+ghost use Rattle.dns_devices.specs.Faults.{IsFaultOf, fault_of_device, fault_of_format, fault_of_migrate};
+ghost use Rattle.dns_devices.specs.Faults.{fault_of_open};
 ghost use Rattle.dns_journal.specs.Reads.{OnlyReads};
 
 use dns_configuration::{FAILED, PrintedWord, REFUSED};
@@ -25,7 +27,8 @@ pub enum DeviceFault {
     Damaged(usize),
     /// Its store is of sector format 1, which has to be migrated before it is opened.
     OldFormat,
-    /// It is no whole number of sectors, or has another number of them; or its store is of another zone or of other sizes.
+    /// It is no whole number of sectors, or has another number of them; or its store is of another zone or of
+    /// other sizes.
     Geometry,
     /// The zone's records take more sectors than a snapshot may have.
     ZoneTooLarge,
@@ -86,8 +89,9 @@ impl From<MigrateError> for DeviceFault {
     }
 }
 
-/// Why a device was refused whose store was not opened, for this; it was handed back. A root of format 1, which is no root of today's
-/// format, is told as what it is. It is only read, and only where sector 0 is said to be wrong. `Device` where it fails then.
+/// Why a device was refused whose store was not opened, for this; it was handed back. A root of format 1,
+/// which is no root of today's format, is told as what it is. It is only read, and only where sector 0 is
+/// said to be wrong. `Device` where it fails then.
 pub fn refusal<D: Sectors>(device: &mut D, error: OpenError) -> DeviceFault
     ensures fault { IsFaultOf D.Sectors error device.old device.new result }
     ensures reads { OnlyReads D.Sectors device.old device.new }
@@ -187,8 +191,8 @@ fn status_of(fault: DeviceFault) -> u8
     }
 }
 
-/// Tells in one line what is wrong with a device, and in a second one, if it is wanted, what can be done; gives the exit status. Of
-/// refused memory nothing is told.
+/// Tells in one line what is wrong with a device, and in a second one, if it is wanted, what can be done;
+/// gives the exit status. Of refused memory nothing is told.
 pub fn tell_device<E: Write>(
     err: &mut E,
     path: &str,

@@ -7,7 +7,8 @@ use dns_files::{DiskFile, FileSectors, OpenDeviceError};
 use dns_sectors::DeviceError;
 use std::fs::{self, Files};
 
-/// Devices by their paths. Whoever has them may answer a call differently from one time to the next, as a system does.
+/// Devices by their paths. Whoever has them may answer a call differently from one time to the next, as a
+/// system does.
 pub trait Devices<D> {
     /// It may answer so where it is asked whether there is anything at a path,
     ghost found: { Self → List ℕ → Result Bool StatedError → Type 0 };
@@ -22,12 +23,13 @@ pub trait Devices<D> {
     fn has(&self, path: &str) -> Result<bool, DeviceError>
         ensures { found self.now path.now result };
 
-    /// Makes a device of so many sectors of zeros at a path. `Device` where there is something, and where it can't be made.
+    /// Makes a device of so many sectors of zeros at a path. `Device` where there is something, and where it
+    /// can't be made.
     fn make(&self, path: &str, len: usize) -> Result<D, DeviceError>
         ensures { made self.now path.now len result };
 
-    /// The device at a path, which is another's by no call until it is let go. `Device` where it can't be had, `Geometry`
-    /// where it is no whole number of sectors.
+    /// The device at a path, which is another's by no call until it is let go. `Device` where it can't be
+    /// had, `Geometry` where it is no whole number of sectors.
     fn open(&self, path: &str) -> Result<D, OpenDeviceError>
         ensures { opened self.now path.now result };
 

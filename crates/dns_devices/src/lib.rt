@@ -1,5 +1,5 @@
-//! Devices by their paths: a store is made in each for a zone, the zone that one keeps is shown, and one of an older sector format is
-//! made new.
+//! Devices by their paths: a store is made in each for a zone, the zone that one keeps is shown, and one of
+//! an older sector format is made new.
 #![tactic(auto)]
 
 mod faults;

@@ -1,7 +1,8 @@
 //! Devices that are made: the store of each zone, from its master file.
 ghost use Rattle.std.specs.Prelude.{◌≡◌, ◌+◌, ◌*◌, length, All, IfOk, OnOk, MatchOption, MatchResult, Ok};
 ghost use Rattle.std.specs.Io.KnownBytes.{Appends};
-ghost use Rattle.dns_devices.specs.Making.{InitEnds, IsFirstFound, IsFound, IsMade, IsNotMade, MakingEnds, formatted, is_absent, sectors_of};
+ghost use Rattle.dns_devices.specs.Making.{InitEnds, IsFirstFound, IsFound, IsMade, IsNotMade, MakingEnds};
+ghost use Rattle.dns_devices.specs.Making.{formatted, is_absent, sectors_of};
 
 use crate::faults::{DeviceFault, tell_device};
 use crate::folder::Devices;
@@ -21,7 +22,8 @@ fn sectors_of(own: &ZoneSettings) -> usize
     (1 + 2 * bank) as usize
 }
 
-/// Makes the store of a zone on a new device. One that is made for a zone that it can't hold is taken away again.
+/// Makes the store of a zone on a new device. One that is made for a zone that it can't hold is taken away
+/// again.
 fn make_store<D: Sectors + Drop, F: Devices<D>, I: ZoneIndex>(
     heap: Heap,
     devices: &F,
@@ -47,7 +49,8 @@ fn make_store<D: Sectors + Drop, F: Devices<D>, I: ZoneIndex>(
 
 /// Why the device of a zone is not to be made: there is something at its path already, or that can't be told.
 fn fault_at<D, F: Devices<D>>(devices: &F, own: &ZoneSettings) -> Option<DeviceFault>
-    ensures { MatchOption result (is_absent (F.found devices.now) own.now) (IsFound (F.found devices.now) own.now) }
+    ensures { MatchOption result (is_absent (F.found devices.now) own.now)
+        (IsFound (F.found devices.now) own.now) }
 {
     match devices.has(&own.device) {
         Ok(there) => {
@@ -124,7 +127,8 @@ fn init_all<D: Sectors + Drop, F: Devices<D>, I: ZoneIndex, W: Write, E: Write>(
     out: &mut W,
     err: &mut E,
 ) -> io::Result<u8>
-    ensures { IfOk result (λ status. InitEnds D.Sectors (F.found devices.now) (F.made devices.now) config.now files.now explain
+    ensures { IfOk result
+        (λ status. InitEnds D.Sectors (F.found devices.now) (F.made devices.now) config.now files.now explain
         (W.contents out.old) (W.contents out.new) (E.contents err.old) (E.contents err.new) status) }
 {
     let settings = match read_configuration(alloc, heap, config) {
@@ -141,10 +145,11 @@ fn init_all<D: Sectors + Drop, F: Devices<D>, I: ZoneIndex, W: Write, E: Write>(
     make_all(heap, devices, &settings, &zones, explain, out, err)
 }
 
-/// Makes the device of each zone of a configuration from its master file, and prints `formatted ORIGIN serial M` for each. Faults are
-/// told in one line, the first in this order: the configuration, the master files in the order of the zones, the devices
-/// (`DEVICE: Exists` before any is made); of a device, if it is wanted, a second line says what can be done. Gives the exit status:
-/// `DONE`, `REFUSED`, or `FAILED` where a device can't be had, a writer failed or memory was refused.
+/// Makes the device of each zone of a configuration from its master file, and prints
+/// `formatted ORIGIN serial M` for each. Faults are told in one line, the first in this order: the
+/// configuration, the master files in the order of the zones, the devices (`DEVICE: Exists` before any is
+/// made); of a device, if it is wanted, a second line says what can be done. Gives the exit status: `DONE`,
+/// `REFUSED`, or `FAILED` where a device can't be had, a writer failed or memory was refused.
 pub fn init<D: Sectors + Drop, F: Devices<D>, I: ZoneIndex, W: Write, E: Write>(
     alloc: Global,
     heap: Heap,
@@ -155,8 +160,8 @@ pub fn init<D: Sectors + Drop, F: Devices<D>, I: ZoneIndex, W: Write, E: Write>(
     out: &mut W,
     err: &mut E,
 ) -> u8
-    ensures { InitEnds D.Sectors (F.found devices.now) (F.made devices.now) config.now files.now explain (W.contents out.old)
-        (W.contents out.new) (E.contents err.old) (E.contents err.new) result }
+    ensures { InitEnds D.Sectors (F.found devices.now) (F.made devices.now) config.now files.now explain
+        (W.contents out.old) (W.contents out.new) (E.contents err.old) (E.contents err.new) result }
 {
     init_all::<D, F, I, W, E>(alloc, heap, devices, config, files, explain, out, err).unwrap_or(
         FAILED,

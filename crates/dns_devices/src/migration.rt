@@ -1,7 +1,8 @@
 //! Devices of sector format 1 that are made new, in format 2.
 ghost use Rattle.std.specs.Prelude.{IfOk, MatchResult, OnOk};
 ghost use Rattle.std.specs.Io.KnownBytes.{Appends};
-ghost use Rattle.dns_devices.specs.Migrating.{IsMigratedAs, IsNotMigrated, MigrateEnds, MigratingEnds, migrated};
+ghost use Rattle.dns_devices.specs.Migrating.{IsMigratedAs, IsNotMigrated, MigrateEnds, MigratingEnds};
+ghost use Rattle.dns_devices.specs.Migrating.{migrated};
 
 use crate::faults::{DeviceFault, tell_device};
 use crate::folder::Devices;
@@ -86,11 +87,12 @@ fn migrate_all<D: Sectors + Drop, F: Devices<D>, I: ZoneIndex, W: Write, E: Writ
     migrate_zones::<D, F, I, W, E>(heap, devices, &settings, explain, out, err)
 }
 
-/// Makes the device of each zone of a configuration new, in sector format 2, if it is of format 1, and prints `migrated ORIGIN version
-/// V serial M` with the newest version that it keeps, or `ORIGIN already` where it is of format 2. Faults are told in one line, the
-/// first in this order: the configuration, the devices in the order of the zones, of which, if it is wanted, a second line says what
-/// can be done; the devices before a refused one stay migrated. Gives the exit status: `DONE`, `REFUSED`, or `FAILED` where a device
-/// can't be had, a writer failed or memory was refused. A run that was stopped is made again.
+/// Makes the device of each zone of a configuration new, in sector format 2, if it is of format 1, and prints
+/// `migrated ORIGIN version V serial M` with the newest version that it keeps, or `ORIGIN already` where it
+/// is of format 2. Faults are told in one line, the first in this order: the configuration, the devices in
+/// the order of the zones, of which, if it is wanted, a second line says what can be done; the devices before
+/// a refused one stay migrated. Gives the exit status: `DONE`, `REFUSED`, or `FAILED` where a device can't be
+/// had, a writer failed or memory was refused. A run that was stopped is made again.
 pub fn migrate<D: Sectors + Drop, F: Devices<D>, I: ZoneIndex, W: Write, E: Write>(
     alloc: Global,
     heap: Heap,
@@ -100,8 +102,8 @@ pub fn migrate<D: Sectors + Drop, F: Devices<D>, I: ZoneIndex, W: Write, E: Writ
     out: &mut W,
     err: &mut E,
 ) -> u8
-    ensures { MigrateEnds D.Sectors (F.opened devices.now) config.now explain (W.contents out.old) (W.contents out.new)
-        (E.contents err.old) (E.contents err.new) result }
+    ensures { MigrateEnds D.Sectors (F.opened devices.now) config.now explain (W.contents out.old)
+        (W.contents out.new) (E.contents err.old) (E.contents err.new) result }
 {
     migrate_all::<D, F, I, W, E>(alloc, heap, devices, config, explain, out, err).unwrap_or(FAILED)
 }

@@ -56,7 +56,8 @@ fn show<D: Sectors + Drop, F: Devices<D>, I: ZoneIndex, W: Write, E: Write>(
     out: &mut W,
     err: &mut E,
 ) -> io::Result<u8>
-    ensures { IfOk result (λ status. ShowingEnds D.Sectors (F.opened devices.now) own.now explain (W.contents out.old)
+    ensures { IfOk result
+        (λ status. ShowingEnds D.Sectors (F.opened devices.now) own.now explain (W.contents out.old)
         (W.contents out.new) (E.contents err.old) (E.contents err.new) status) }
 {
     match open_zone::<D, F, I>(heap, devices, own) {
@@ -79,8 +80,9 @@ fn dump_zone<D: Sectors + Drop, F: Devices<D>, I: ZoneIndex, W: Write, E: Write>
     out: &mut W,
     err: &mut E,
 ) -> io::Result<u8>
-    ensures { IfOk result (λ status. DumpEnds D.Sectors (F.opened devices.now) config.now origin.now explain (W.contents out.old)
-        (W.contents out.new) (E.contents err.old) (E.contents err.new) status) }
+    ensures { IfOk result
+        (λ status. DumpEnds D.Sectors (F.opened devices.now) config.now origin.now explain
+        (W.contents out.old) (W.contents out.new) (E.contents err.old) (E.contents err.new) status) }
 {
     let zones = match read_configuration(alloc, heap, config) {
         Ok(configuration) => configuration.zones,
@@ -96,9 +98,10 @@ fn dump_zone<D: Sectors + Drop, F: Devices<D>, I: ZoneIndex, W: Write, E: Write>
     }
 }
 
-/// Prints the zone that the device of a configuration's zone keeps, as a master file. Faults are told in one line, the first in this
-/// order: the configuration, the origin (`ORIGIN: BadOrigin`), the device, of which, if it is wanted, a second line says what can be
-/// done. Gives the exit status: `DONE`, `REFUSED`, or `FAILED` where the device can't be had, a writer failed or memory was refused.
+/// Prints the zone that the device of a configuration's zone keeps, as a master file. Faults are told in one
+/// line, the first in this order: the configuration, the origin (`ORIGIN: BadOrigin`), the device, of which,
+/// if it is wanted, a second line says what can be done. Gives the exit status: `DONE`, `REFUSED`, or
+/// `FAILED` where the device can't be had, a writer failed or memory was refused.
 pub fn dump<D: Sectors + Drop, F: Devices<D>, I: ZoneIndex, W: Write, E: Write>(
     alloc: Global,
     heap: Heap,
@@ -109,8 +112,8 @@ pub fn dump<D: Sectors + Drop, F: Devices<D>, I: ZoneIndex, W: Write, E: Write>(
     out: &mut W,
     err: &mut E,
 ) -> u8
-    ensures { DumpEnds D.Sectors (F.opened devices.now) config.now origin.now explain (W.contents out.old) (W.contents out.new)
-        (E.contents err.old) (E.contents err.new) result }
+    ensures { DumpEnds D.Sectors (F.opened devices.now) config.now origin.now explain (W.contents out.old)
+        (W.contents out.new) (E.contents err.old) (E.contents err.new) result }
 {
     dump_zone::<D, F, I, W, E>(alloc, heap, devices, config, origin, explain, out, err).unwrap_or(
         FAILED,

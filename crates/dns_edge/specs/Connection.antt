@@ -33,13 +33,15 @@ module _ {S : Type 0} where
   abbrev pub unhandled : Connection S → List ℕ
   unhandled connection = concat (map behind_length (held_of connection)) ++ rest_of connection
 
-  -- Octets may have moved: what the stream took and what is left to write are what they were, in order, and what was read from it
-  -- stands behind what was not handled yet.
+  -- Octets may have moved: what the stream took and what is left to write are what they were, in order, and
+  -- what was read from it stands behind what was not handled yet.
   pub record HasMoved (s : Ghosts S) (old new : Connection S) : Type 0 where
     pub faithful : s.is_faithful (stream_of new) ↔ s.is_faithful (stream_of old)
-    pub went : s.is_faithful (stream_of old) → s.sent (stream_of new) ++ left_of new ≡ s.sent (stream_of old) ++ left_of old
+    pub went : s.is_faithful (stream_of old)
+        → s.sent (stream_of new) ++ left_of new ≡ s.sent (stream_of old) ++ left_of old
     pub came : s.is_faithful (stream_of old)
-        → (piece : List ℕ) × (s.received (stream_of new) ≡ s.received (stream_of old) ++ piece) × (unhandled new ≡ unhandled old ++ piece)
+        → (piece : List ℕ) × (s.received (stream_of new) ≡ s.received (stream_of old) ++ piece)
+        × (unhandled new ≡ unhandled old ++ piece)
 
   -- So it is where the stream didn't end.
   abbrev pub MovesOn : Ghosts S → Moved → Connection S → Connection S → Type 0

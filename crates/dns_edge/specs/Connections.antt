@@ -1,5 +1,6 @@
 -- All connections, as their contracts see them.
-use Rattle.std.specs.Prelude.{◌≡◌, ◌⊎◌, ◌==◌, ℕ, Bool, true, false, not, List, [], length, Option, Some, None, slice_get, slice_set}
+use Rattle.std.specs.Prelude.{◌≡◌, ◌⊎◌, ◌==◌, ℕ, Bool, true, false, not, List, [], length, Option, Some, None}
+use Rattle.std.specs.Prelude.{slice_get, slice_set}
 use Rattle.dns_edge.specs.declared.connection.Connection.{Connection}
 use Rattle.dns_edge.specs.declared.connections.Connections.{Connections}
 use Rattle.dns_edge.specs.declared.stream.Stream.{Ghosts}
@@ -20,13 +21,14 @@ module _ {S : Type 0} where
   abbrev pub is_open : ℕ → List (Option (Connection S)) → Bool
   is_open number places = is_open_at (slice_get places number)
 
-  -- A reply was queued on the connection with that number: this one stood there, if there is such a place and a connection in it,
-  -- and nothing else is another than it was.
+  -- A reply was queued on the connection with that number: this one stood there, if there is such a place and
+  -- a connection in it, and nothing else is another than it was.
   abbrev pub IsPushedTo : ℕ → List ℕ → Option (Option (Connection S)) → List (Option (Connection S))
       → List (Option (Connection S)) → Type 0
   IsPushedTo number reply None old new = new ≡ old
   IsPushedTo number reply (Some None) old new = new ≡ old
-  IsPushedTo number reply (Some (Some c)) old new = (d : Connection S) × IsQueued reply c d × (new ≡ slice_set old number (Some d))
+  IsPushedTo number reply (Some (Some c)) old new =
+      (d : Connection S) × IsQueued reply c d × (new ≡ slice_set old number (Some d))
 
   abbrev pub IsPushed : ℕ → List ℕ → List (Option (Connection S)) → List (Option (Connection S)) → Type 0
   IsPushed number reply old new = IsPushedTo number reply (slice_get old number) old new
@@ -37,17 +39,21 @@ module _ {S : Type 0} where
   has_left_at (Some None) = false
   has_left_at (Some (Some c)) = not (length (left_of c) == 0)
 
-  -- Nothing is another than it was, or octets may have moved on the connection with that number, and on no other one.
-  abbrev pub HasMovedAt : Ghosts S → ℕ → Moved → List (Option (Connection S)) → List (Option (Connection S)) → Type 0
+  -- Nothing is another than it was, or octets may have moved on the connection with that number, and on no
+  -- other one.
+  abbrev pub HasMovedAt : Ghosts S → ℕ → Moved → List (Option (Connection S))
+      → List (Option (Connection S)) → Type 0
   HasMovedAt s number moved old new =
       (new ≡ old)
-      ⊎ ((c : Connection S) × (d : Connection S) × (slice_get old number ≡ Some (Some c)) × MovesOn s moved c d
-      × (new ≡ slice_set old number (Some d)))
+      ⊎ ((c : Connection S) × (d : Connection S) × (slice_get old number ≡ Some (Some c))
+      × MovesOn s moved c d × (new ≡ slice_set old number (Some d)))
 
-  -- The connection with that number handed over its first message, and no other one is another than it was; or it had none.
-  abbrev pub HandsOver : ℕ → Option (List ℕ) → List (Option (Connection S)) → List (Option (Connection S)) → Type 0
+  -- The connection with that number handed over its first message, and no other one is another than it was;
+  -- or it had none.
+  abbrev pub HandsOver : ℕ → Option (List ℕ) → List (Option (Connection S))
+      → List (Option (Connection S)) → Type 0
   HandsOver number None old new =
       (new ≡ old) × ((c : Connection S) → slice_get old number ≡ Some (Some c) → held_of c ≡ [])
   HandsOver number (Some message) old new =
-      (c : Connection S) × (d : Connection S) × (slice_get old number ≡ Some (Some c)) × HasHandedOver message c d
-      × (new ≡ slice_set old number (Some d))
+      (c : Connection S) × (d : Connection S) × (slice_get old number ≡ Some (Some c))
+      × HasHandedOver message c d × (new ≡ slice_set old number (Some d))

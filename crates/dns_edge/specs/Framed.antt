@@ -10,7 +10,8 @@ behind_length message = to_be_bytes w16 (length message) ++ message
 
 -- No whole message stands at the front.
 abbrev pub BeginsWithNone : List ℕ → Type 0
-BeginsWithNone octets = (message rest : List ℕ) → length message < 65536 → octets ≡ behind_length message ++ rest → ⊥
+BeginsWithNone octets =
+    (message rest : List ℕ) → length message < 65536 → octets ≡ behind_length message ++ rest → ⊥
 
 -- A stream is these messages, each behind its length, and a rest that is no whole message.
 pub record IsFramed (stream : List ℕ) (messages : List (List ℕ)) (rest : List ℕ) : Type 0 where

@@ -1,8 +1,10 @@
 //! A connection: its stream, what came on it and what is to go out.
-ghost use Rattle.std.specs.Prelude.{◌≡◌, ◌≢◌, ◌<◌, ◌==◌, ◌++◌, ◌∷◌, ℕ, List, [], not, false, length, drop, OnOk, OnErr, IfNone, MatchOption};
+ghost use Rattle.std.specs.Prelude.{◌≡◌, ◌≢◌, ◌<◌, ◌==◌, ◌++◌, ◌∷◌, ℕ, List, [], not, false, length, drop};
+ghost use Rattle.std.specs.Prelude.{OnOk, OnErr, IfNone, MatchOption};
 ghost use Rattle.dns_edge.specs.Framed.{IsFramed};
 ghost use Rattle.dns_edge.specs.Stream.{IfOctets, moved};
-ghost use Rattle.dns_edge.specs.Connection.{HasMoved, IsQueued, MovesOn, held_of, left_of, rest_of, stream_of};
+ghost use Rattle.dns_edge.specs.Connection.{HasMoved, IsQueued, MovesOn, held_of, left_of, rest_of};
+ghost use Rattle.dns_edge.specs.Connection.{stream_of};
 
 use crate::{Framing, Moved, Octets, Outbox, Stream};
 use dns_memory::Heap;
@@ -11,8 +13,8 @@ use std::alloc::AllocError;
 /// A connection that is silent for so many seconds, while nothing is left to write, may be closed.
 const SILENCE: u64 = 30;
 
-/// A connection: its stream, the messages that came and weren't handled yet, what is left to write, and the second in which octets
-/// last moved.
+/// A connection: its stream, the messages that came and weren't handled yet, what is left to write, and the
+/// second in which octets last moved.
 pub struct Connection<S: Stream> {
     stream: S,
     framing: Framing,
@@ -64,7 +66,8 @@ impl<S: Stream + Drop> Connection<S> {
         !self.outbox.is_empty()
     }
 
-    /// Puts a reply behind all that is left to write, with its length before it. Where memory is refused it isn't there.
+    /// Puts a reply behind all that is left to write, with its length before it. Where memory is refused it
+    /// isn't there.
     pub fn push(&mut self, reply: &[u8]) -> Result<(), AllocError>
         requires { length reply.now < 65536 }
         ensures queued { OnOk result (IsQueued reply.now self.old self.new) }
@@ -78,7 +81,8 @@ impl<S: Stream + Drop> Connection<S> {
         ensures left { left_of self.new ≡ drop (moved result) (left_of self.old) }
         // What the stream took and what is left are what they were, in order.
         ensures moved { HasMoved S.Stream self.old self.new }
-        ensures still { S.is_faithful (stream_of self.old) → S.received (stream_of self.new) ≡ S.received (stream_of self.old) }
+        ensures still { S.is_faithful (stream_of self.old)
+            → S.received (stream_of self.new) ≡ S.received (stream_of self.old) }
         ensures held { held_of self.new ≡ held_of self.old }
         ensures rest { rest_of self.new ≡ rest_of self.old }
     {
@@ -89,8 +93,9 @@ impl<S: Stream + Drop> Connection<S> {
         moved
     }
 
-    /// Reads one piece of the stream into the buffer, and takes the messages that are whole with it; nothing is read while octets are
-    /// left to write, or a whole message is held. Where memory is refused the stream has ended.
+    /// Reads one piece of the stream into the buffer, and takes the messages that are whole with it; nothing
+    /// is read while octets are left to write, or a whole message is held. Where memory is refused the stream
+    /// has ended.
     pub fn read(&mut self, alloc: Heap, buffer: &mut [u8], now: u64) -> Moved
         ensures writes_first { left_of self.old ≢ [] → self.new ≡ self.old }
         ensures held_first { held_of self.old ≢ [] → self.new ≡ self.old }
@@ -99,7 +104,8 @@ impl<S: Stream + Drop> Connection<S> {
             ((piece : List ℕ) × (S.received (stream_of self.new) ≡ S.received (stream_of self.old) ++ piece)
             × IsFramed (rest_of self.old ++ piece) (held_of self.new) (rest_of self.new)) }
         ensures moved { MovesOn S.Stream result self.old self.new }
-        ensures still { S.is_faithful (stream_of self.old) → S.sent (stream_of self.new) ≡ S.sent (stream_of self.old) }
+        ensures still { S.is_faithful (stream_of self.old)
+            → S.sent (stream_of self.new) ≡ S.sent (stream_of self.old) }
         ensures left { left_of self.new ≡ left_of self.old }
     {
         if self.has_left() || !self.messages.is_empty() {
@@ -121,7 +127,8 @@ impl<S: Stream + Drop> Connection<S> {
 
     /// The first of the messages that came and weren't handled yet, which is handed over.
     pub fn next_message(&mut self) -> Option<Octets>
-        ensures first { MatchOption result (held_of self.old ≡ []) (λ m. held_of self.old ≡ m.items ∷ held_of self.new) }
+        ensures first { MatchOption result (held_of self.old ≡ [])
+            (λ m. held_of self.old ≡ m.items ∷ held_of self.new) }
         ensures left { left_of self.new ≡ left_of self.old }
         ensures stream { stream_of self.new ≡ stream_of self.old }
         ensures rest { rest_of self.new ≡ rest_of self.old }

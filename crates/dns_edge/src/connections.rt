@@ -1,7 +1,9 @@
 //! All connections, by their numbers.
-ghost use Rattle.std.specs.Prelude.{◌≡◌, ◌≤◌, ◌<◌, length, replicate, slice_get, slice_set, true, false, None, Some, IfErr, IfOk, OnOk, OnErr};
+ghost use Rattle.std.specs.Prelude.{◌≡◌, ◌≤◌, ◌<◌, length, replicate, slice_get, slice_set, true, false};
+ghost use Rattle.std.specs.Prelude.{None, Some, IfErr, IfOk, OnOk, OnErr};
 ghost use Rattle.std.specs.Option.{option_map};
-ghost use Rattle.dns_edge.specs.Connections.{HandsOver, HasMovedAt, IsPushed, has_left_at, is_open, places_of};
+ghost use Rattle.dns_edge.specs.Connections.{HandsOver, HasMovedAt, IsPushed, has_left_at, is_open};
+ghost use Rattle.dns_edge.specs.Connections.{places_of};
 
 use crate::{Connection, Moved, Octets, Stream};
 use dns_memory::Heap;
@@ -17,7 +19,8 @@ pub struct Connections<S: Stream> {
 }
 
 impl<S: Stream + Drop> Connections<S> {
-    /// No connection, and places for 64, whose numbers are below that. Refused where the memory for the places is.
+    /// No connection, and places for 64, whose numbers are below that. Refused where the memory for the
+    /// places is.
     pub fn new(alloc: Heap) -> Result<Connections<S>, AllocError>
         ensures { IfOk result (λ c. places_of c ≡ replicate 64 None) }
     {
@@ -31,7 +34,8 @@ impl<S: Stream + Drop> Connections<S> {
     /// Puts a connection under its number. One whose number is that of no place is handed back.
     pub fn insert(&mut self, number: usize, connection: Connection<S>) -> Result<(), Connection<S>>
         ensures place { OnOk result (number < length (places_of self.old)) }
-        ensures put { OnOk result (places_of self.new ≡ slice_set (places_of self.old) number (Some connection)) }
+        ensures put { OnOk result
+            (places_of self.new ≡ slice_set (places_of self.old) number (Some connection)) }
         ensures back { IfErr result (λ c. (c ≡ connection) × (length (places_of self.old) ≤ number)) }
         ensures still { OnErr result (places_of self.new ≡ places_of self.old) }
     {
@@ -68,8 +72,8 @@ impl<S: Stream + Drop> Connections<S> {
         }
     }
 
-    /// Queues a reply on the connection with that number; to one that isn't there nothing goes. Where memory is refused all are as
-    /// they were.
+    /// Queues a reply on the connection with that number; to one that isn't there nothing goes. Where memory
+    /// is refused all are as they were.
     pub fn push(&mut self, number: usize, reply: &[u8]) -> Result<(), AllocError>
         requires { length reply.now < 65536 }
         ensures queued { OnOk result (IsPushed number reply.now (places_of self.old) (places_of self.new)) }
@@ -120,9 +124,11 @@ impl<S: Stream + Drop> Connections<S> {
         }
     }
 
-    /// The first of the messages that came on the connection with that number and weren't handled yet, which is handed over.
+    /// The first of the messages that came on the connection with that number and weren't handled yet, which
+    /// is handed over.
     pub fn next_message(&mut self, number: usize) -> Option<Octets>
-        ensures { HandsOver number (option_map (λ m. m.items) result) (places_of self.old) (places_of self.new) }
+        ensures { HandsOver number (option_map (λ m. m.items) result) (places_of self.old)
+            (places_of self.new) }
     {
         if number >= self.places.len() {
             return None;
@@ -133,7 +139,8 @@ impl<S: Stream + Drop> Connections<S> {
         }
     }
 
-    /// Whether nothing is left to write to the connection with that number, and for 30 seconds nothing came or went.
+    /// Whether nothing is left to write to the connection with that number, and for 30 seconds nothing came
+    /// or went.
     pub fn is_silent(&self, number: usize, now: u64) -> bool
         ensures busy { has_left_at (slice_get (places_of self.now) number) ≡ true → result ≡ false }
     {

@@ -1,5 +1,6 @@
 //! Messages on a stream, each behind two octets of its length (RFC 1035 section 4.2.2): `Framing::feed`.
-ghost use Rattle.std.specs.Prelude.{◌≡◌, ℕ, ◌-◌, ◌≤◌, ◌<◌, List, [], ◌++◌, length, drop, IfOk, IfSome, OnErr, None, map};
+ghost use Rattle.std.specs.Prelude.{◌≡◌, ℕ, ◌-◌, ◌≤◌, ◌<◌, List, [], ◌++◌, length, drop, IfOk, IfSome, OnErr};
+ghost use Rattle.std.specs.Prelude.{None, map};
 ghost use Rattle.dns_edge.specs.Framed.{behind_length, BeginsWithNone, IsFramed};
 
 use dns_memory::Heap;
@@ -54,7 +55,8 @@ struct Taken {
 fn take_messages(alloc: Heap, stream: &[u8]) -> Result<Taken, AllocError>
     ensures inside { IfOk result (λ taken. taken.left ≤ length stream.now) }
     ensures taken { IfOk result (λ taken.
-        IsFramed stream.now (map (λ m. m.items) taken.messages.items) (drop (length stream.now - taken.left) stream.now)) }
+        IsFramed stream.now (map (λ m. m.items) taken.messages.items)
+        (drop (length stream.now - taken.left) stream.now)) }
 {
     let mut messages = Vec::new(alloc);
     let mut rest = stream;
@@ -78,8 +80,8 @@ impl Framing {
         }
     }
 
-    /// Takes the next piece of the stream: the messages that are whole with it, in their order. Where memory is refused the piece
-    /// has not come, and can be given again.
+    /// Takes the next piece of the stream: the messages that are whole with it, in their order. Where memory
+    /// is refused the piece has not come, and can be given again.
     pub fn feed(&mut self, alloc: Heap, piece: &[u8]) -> Result<Vec<Octets, Heap>, AllocError>
         ensures framed { IfOk result (λ messages.
             IsFramed (self.old ++ piece.now) (map (λ m. m.items) messages.items) self.new) }
@@ -109,7 +111,8 @@ pub fn length_octets(message: &[u8]) -> [u8; 2]
     (message.len() as u16).to_be_bytes()
 }
 
-/// A stream has one reading, and however it is cut its messages are those of its pieces, each behind what the pieces before it left.
+/// A stream has one reading, and however it is cut its messages are those of its pieces, each behind what the
+/// pieces before it left.
 pub fn framing_law()
     ensures once { (stream : List ℕ) (messages messages' : List (List ℕ)) (rest rest' : List ℕ)
         → IsFramed stream messages rest → IsFramed stream messages' rest'

@@ -7,7 +7,8 @@ use dns_memory::Heap;
 use std::alloc::AllocError;
 use std::cmp::min;
 
-/// A stream in memory, which is always faithful. It keeps a record of what was read from it and of what it took.
+/// A stream in memory, which is always faithful. It keeps a record of what was read from it and of what it
+/// took.
 pub struct MemoryStream {
     // what the peer wrote and nobody read yet
     waiting: Octets,

@@ -8,7 +8,8 @@ use dns_memory::Heap;
 use std::alloc::AllocError;
 use std::marker::Model;
 
-/// The octets that are left to write to a stream: replies in their order, each behind its length, the first one perhaps cut.
+/// The octets that are left to write to a stream: replies in their order, each behind its length, the first
+/// one perhaps cut.
 #[derive(Drop)]
 pub struct Outbox {
     octets: Octets,
@@ -60,7 +61,8 @@ impl Outbox {
     pub fn write<S: Stream>(&mut self, stream: &mut S) -> Moved
         ensures rest { self.new ≡ drop (moved result) self.old }
         // What was taken of the stream and what is left are what they were, in order.
-        ensures went { S.is_faithful stream.old → S.sent stream.new ++ self.new ≡ S.sent stream.old ++ self.old }
+        ensures went { S.is_faithful stream.old
+            → S.sent stream.new ++ self.new ≡ S.sent stream.old ++ self.old }
         ensures still { S.is_faithful stream.old → S.received stream.new ≡ S.received stream.old }
         ensures faithful { S.is_faithful stream.new ↔ S.is_faithful stream.old }
     {

@@ -1,6 +1,16 @@
-//! Runs over files: each line of the file `list` is a run, and what it prints, what it tells of a fault, and its exit status are printed
-//! behind that line. What is expected of all of them is what this program is to print.
+//! Runs over files: each line of the file `list` is a run, and what it prints, what it tells of a fault, and
+//! its exit status are printed behind that line. What is expected of all of them is what this program is to
+//! print.
+//!
+//! The script of `feed` says what a secondary is and what it is fed, a line for each. First come, each once,
+//! `apex NAME`, `transport udp` or `transport tcp`, and `identifier NUMBER`; then `holds FILE` where a
+//! version is held, the zone of a master file. One who holds none asks for the whole zone. After them each
+//! line is a message in hexadecimal digits. Blank lines, and those that begin with `#`, say nothing. Printed
+//! are the octets of the request or why there is none, what each message tells, and the zone that is held at
+//! the end, or `nothing held`. A line that is none of these is told by its number, and nothing is fed.
 #![tactic(auto)]
+
+mod feeding;
 
 use dns_configuration::{Configuration, DONE, FAILED, File, REFUSED};
 use dns_masterfile::{print_zone, read_zone};
@@ -8,13 +18,14 @@ use dns_memory::{Heap, heap};
 use dns_names::Name;
 use dns_server::{check, explain_check, explain_replay, replay};
 use dns_zone::{RecordList, Zone};
+use feeding::fed;
 use std::fs;
 use std::io::{self, Write};
 use std::process::ExitCode;
 
 /// The words of a run; those that are missing are empty. A run is one of
-/// `replay FOLDER CONFIG SCRIPT`, `explain-replay FOLDER CONFIG SCRIPT`, `check FILE ORIGIN`, `explain-check FILE ORIGIN` and
-/// `print FILE ORIGIN APEX`.
+/// `replay FOLDER CONFIG SCRIPT`, `explain-replay FOLDER CONFIG SCRIPT`, `check FILE ORIGIN`,
+/// `explain-check FILE ORIGIN`, `print FILE ORIGIN APEX` and `feed SCRIPT`.
 #[derive(Clone, Copy)]
 struct Words<'a> {
     verb: &'a str,
@@ -180,6 +191,7 @@ fn ended_by(rt: &HostRuntime, heap: Heap, words: Words<'_>) -> io::Result<Ended>
         "check" => checked(rt, heap, words, false),
         "explain-check" => checked(rt, heap, words, true),
         "print" => printed(rt, heap, words),
+        "feed" => fed(rt, heap, words.first),
         _ => Ok(started(rt, FAILED)),
     }
 }

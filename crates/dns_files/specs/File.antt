@@ -22,7 +22,8 @@ abbrev pub OnlyOctets : Octets → (Octets → Type 0) → Type 0
 OnlyOctets octets outcomes = (c : Octets) → outcomes c → c ≡ octets
 
 -- Time goes on: a crash since t might have left what it might have left before, or what it may leave now.
-pub record Passes (before now : ℕ) (past since : ℕ → Octets → Type 0) (may_leave : Octets → Type 0) : Type 0 where
+pub record Passes (before now : ℕ) (past since : ℕ → Octets → Type 0)
+    (may_leave : Octets → Type 0) : Type 0 where
   pub later : before ≤ now
   pub nothing_else : (t : ℕ) (c : Octets) → t ≤ before → since t c → past t c ⊎ may_leave c
   pub keeps : (t : ℕ) (c : Octets) → t ≤ before → past t c → since t c

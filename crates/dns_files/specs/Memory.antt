@@ -17,13 +17,14 @@ after_all octets (change ∷ changes) = after_all (after octets change) changes
 
 -- what a crash since the first t changes of the record left: what the file held then or after a later one
 abbrev pub HeldSince : List ℕ → List Change → ℕ → List ℕ → Type 0
-HeldSince start changes t c = (k : ℕ) × (t ≤ k) × (k ≤ length changes) × (c ≡ after_all start (take k changes))
+HeldSince start changes t c =
+    (k : ℕ) × (t ≤ k) × (k ≤ length changes) × (c ≡ after_all start (take k changes))
 
-pub now_is_since : (start : List ℕ) (changes : List Change) (t : ℕ) (c : List ℕ) → t ≤ length changes → c ≡ after_all start changes
-    → HeldSince start changes t c
+pub now_is_since : (start : List ℕ) (changes : List Change) (t : ℕ) (c : List ℕ) → t ≤ length changes
+    → c ≡ after_all start changes → HeldSince start changes t c
 now_is_since start changes t c le is =
     (length changes, le, omega arith, is ∙ ap (after_all start) (sym (take_all (length changes) changes (omega arith))))
 
-pub since_now : (start : List ℕ) (changes : List Change) (c : List ℕ) → HeldSince start changes (length changes) c
-    → c ≡ after_all start changes
+pub since_now : (start : List ℕ) (changes : List Change) (c : List ℕ)
+    → HeldSince start changes (length changes) c → c ≡ after_all start changes
 since_now start changes c (k, from, to, is) = is ∙ ap (after_all start) (take_all k changes from)

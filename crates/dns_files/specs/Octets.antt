@@ -8,7 +8,8 @@ padded zero octets = []
 padded (suc n) [] = 0 ∷ padded n []
 padded (suc n) (x ∷ octets) = x ∷ padded n octets
 
--- The octets with new ones from an offset on, in the place of those that stood there. Zeros fill a gap before them.
+-- The octets with new ones from an offset on, in the place of those that stood there. Zeros fill a gap before
+-- them.
 abbrev pub written : ℕ → List ℕ → List ℕ → List ℕ
 written offset new octets = padded offset octets ++ (new ++ drop (offset + length new) octets)
 

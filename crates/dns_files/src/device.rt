@@ -1,5 +1,6 @@
 //! A device whose sector i is the 512 octets of a file from the offset 512 * i on.
-ghost use Rattle.std.specs.Prelude.{◌≡◌, ◌≢◌, ◌%◌, ◌≤◌, ◌<◌, ◌+◌, ◌-◌, ◌*◌, ◌^◌, ◌↔◌, min, refl, length, replicate, Ok, Err, IsErr, IfOk, OnOk, MatchResult};
+ghost use Rattle.std.specs.Prelude.{◌≡◌, ◌≢◌, ◌%◌, ◌≤◌, ◌<◌, ◌+◌, ◌-◌, ◌*◌, ◌^◌, ◌↔◌, min, refl, length};
+ghost use Rattle.std.specs.Prelude.{replicate, Ok, Err, IsErr, IfOk, OnOk, MatchResult};
 ghost use Rattle.dns_files.specs.File.{OnlyOctets};
 ghost use Rattle.dns_files.specs.Octets.{sectors};
 
@@ -18,9 +19,10 @@ pub enum OpenDeviceError {
     Geometry,
 }
 
-/// A device in a file. It is honest where the file is, and then a crash leaves of it the sectors of what it leaves of
-/// the file; octets behind the file's end count as zeros there. A call of the file that fails, or that moves fewer octets
-/// than a sector has, is a failure of the device, and so a read behind the end is one.
+/// A device in a file. It is honest where the file is, and then a crash leaves of it the sectors of what it
+/// leaves of the file; octets behind the file's end count as zeros there. A call of the file that fails, or
+/// that moves fewer octets than a sector has, is a failure of the device, and so a read behind the end is
+/// one.
 #[derive(Drop)]
 pub struct FileSectors<F: File> {
     file: F,
@@ -38,10 +40,12 @@ fn fail(failures: &mut u64) -> DeviceError
     DeviceError::Device
 }
 
-// Makes a file so many zeros, whatever it held, and makes that durable. It fails at the first call of the file that does.
+// Makes a file so many zeros, whatever it held, and makes that durable. It fails at the first call of the
+// file that does.
 fn blank<F: File>(file: &mut F, len: u64) -> Result<(), FileError>
     ensures zeros { F.is_honest file.old → OnOk result (F.seen file.new ≡ replicate len 0) }
-    ensures durable { F.is_honest file.old → OnOk result (OnlyOctets (F.seen file.new) (F.may_leave file.new)) }
+    ensures durable { F.is_honest file.old
+        → OnOk result (OnlyOctets (F.seen file.new) (F.may_leave file.new)) }
     ensures honest { F.is_honest file.new ↔ F.is_honest file.old }
 {
     file.set_len(0)?;
@@ -67,15 +71,17 @@ impl<F: File + Drop> FileSectors<F> {
         }
     }
 
-    /// The device that a file holds. Nothing is written. `Device` where the file doesn't tell its length, `Geometry` where
-    /// that is no multiple of 512.
+    /// The device that a file holds. Nothing is written. `Device` where the file doesn't tell its length,
+    /// `Geometry` where that is no multiple of 512.
     pub fn over(file: F) -> Result<FileSectors<F>, OpenDeviceError>
         ensures file { IfOk result (λ device. file_of device ≡ file) }
         ensures measured { MatchResult result (λ device. F.measured file (Ok (512 * count_of device)))
             (IsNoDevice (F.measured file)) }
-        ensures count { F.is_honest file → IfOk result (λ device. 512 * count_of device ≡ length (F.seen file)) }
+        ensures count { F.is_honest file
+            → IfOk result (λ device. 512 * count_of device ≡ length (F.seen file)) }
         ensures partial { F.is_honest file → length (F.seen file) % 512 ≢ 0 → IsErr result }
-        ensures geometry { F.is_honest file → result ≡ Err OpenDeviceError.Geometry → length (F.seen file) % 512 ≢ 0 }
+        ensures geometry { F.is_honest file → result ≡ Err OpenDeviceError.Geometry
+            → length (F.seen file) % 512 ≢ 0 }
         ensures failures { IfOk result (λ device. failures_of device ≡ 0) }
     {
         match file.len() {
@@ -85,13 +91,15 @@ impl<F: File + Drop> FileSectors<F> {
         }
     }
 
-    /// A device of so many sectors of zeros, all of it durable, in a file that may have held anything. `Device` where the
-    /// file fails, and where a file can't be so long.
+    /// A device of so many sectors of zeros, all of it durable, in a file that may have held anything.
+    /// `Device` where the file fails, and where a file can't be so long.
     pub fn zeroed(mut file: F, len: usize) -> Result<FileSectors<F>, DeviceError>
         ensures count { IfOk result (λ device. count_of device ≡ len) }
-        ensures octets { F.is_honest file → IfOk result (λ device. F.seen (file_of device) ≡ replicate (512 * len) 0) }
+        ensures octets { F.is_honest file
+            → IfOk result (λ device. F.seen (file_of device) ≡ replicate (512 * len) 0) }
         ensures sectors { F.is_honest file
-            → IfOk result (λ device. sectors len (F.seen (file_of device)) ≡ replicate len (replicate 512 0)) }
+            → IfOk result
+            (λ device. sectors len (F.seen (file_of device)) ≡ replicate len (replicate 512 0)) }
         ensures durable { F.is_honest file
             → IfOk result (λ device. OnlyOctets (F.seen (file_of device)) (F.may_leave (file_of device))) }
         ensures honest { IfOk result (λ device. F.is_honest (file_of device) ↔ F.is_honest file) }
@@ -138,11 +146,14 @@ impl<F: File> Sectors for FileSectors<F> {
 
     ghost is_honest = { λ device. F.is_honest (file_of device) };
 
-    ghost seen_may_stay = { λ device honest. (F.seen (file_of device), F.seen_may_stay (file_of device) honest, refl) };
+    ghost seen_may_stay = { λ device honest.
+        (F.seen (file_of device), F.seen_may_stay (file_of device) honest, refl) };
 
-    ghost counts_now = { λ device t c honest le left. (left.0, F.counts_now (file_of device) t left.0 honest le left.1, left.2) };
+    ghost counts_now = { λ device t c honest le left.
+        (left.0, F.counts_now (file_of device) t left.0 honest le left.1, left.2) };
 
-    ghost only_now = { λ device c honest left. (left.0, F.only_now (file_of device) left.0 honest left.1, left.2) };
+    ghost only_now = { λ device c honest left.
+        (left.0, F.only_now (file_of device) left.0 honest left.1, left.2) };
 
     ghost all_seen = { λ device _. length-sectors (count_of device) (F.seen (file_of device)) };
 

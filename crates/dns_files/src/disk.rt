@@ -9,8 +9,9 @@ use std::path::Path;
 
 /// A file of the operating system, which no other process that asks for the lock has open.
 ///
-/// Nothing that is proved says what the system does with a file, so this one is never taken to be honest: no fact
-/// about its octets follows from its contract. That a real file is honest is a premise of whoever relies on it.
+/// Nothing that is proved says what the system does with a file, so this one is never taken to be honest: no
+/// fact about its octets follows from its contract. That a real file is honest is a premise of whoever relies
+/// on it.
 #[derive(Drop)]
 pub struct DiskFile {
     file: fs::File,
@@ -32,8 +33,8 @@ fn sync_folder<R: Files<File = fs::File>>(files: &R, path: &str) -> Result<(), F
 }
 
 impl DiskFile {
-    /// Makes a file at this path, which is empty and locked, and makes its name durable. Refused where there is one, and
-    /// where the system refuses a step; the file is then there or not.
+    /// Makes a file at this path, which is empty and locked, and makes its name durable. Refused where there
+    /// is one, and where the system refuses a step; the file is then there or not.
     pub fn create<R: Files<File = fs::File>>(files: &R, path: &str) -> Result<DiskFile, FileError> {
         let mut how = OpenOptions::new();
         how.read(true).write(true).create_new(true);
@@ -42,7 +43,8 @@ impl DiskFile {
         Ok(file)
     }
 
-    /// Opens and locks the file at this path. Refused where another process holds it, and where the system refuses.
+    /// Opens and locks the file at this path. Refused where another process holds it, and where the system
+    /// refuses.
     pub fn open<R: Files<File = fs::File>>(files: &R, path: &str) -> Result<DiskFile, FileError> {
         DiskFile::locked(files, path, OpenOptions::new().read(true).write(true))
     }
@@ -121,8 +123,9 @@ impl File for DiskFile {
 impl FileSectors<DiskFile> {
     ghost use Rattle.dns_files.specs.Device.{count_of, failures_of};
 
-    /// Makes a file at this path that is a device of so many sectors of zeros. `Device` where there is a file, where the
-    /// system refuses one or a call on it, and where a file can't be so long; a file may then be left that isn't so long.
+    /// Makes a file at this path that is a device of so many sectors of zeros. `Device` where there is a
+    /// file, where the system refuses one or a call on it, and where a file can't be so long; a file may then
+    /// be left that isn't so long.
     pub fn make<R: Files<File = fs::File>>(
         files: &R,
         path: &str,
@@ -138,8 +141,8 @@ impl FileSectors<DiskFile> {
         }
     }
 
-    /// The device that the file at this path is. `Device` where the file can't be had, where another process holds it,
-    /// and where it doesn't tell its length; `Geometry` where that is no multiple of 512.
+    /// The device that the file at this path is. `Device` where the file can't be had, where another process
+    /// holds it, and where it doesn't tell its length; `Geometry` where that is no multiple of 512.
     pub fn open<R: Files<File = fs::File>>(
         files: &R,
         path: &str,

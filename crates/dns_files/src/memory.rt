@@ -51,8 +51,8 @@ impl Faults {
     }
 }
 
-/// A file in memory, which is always honest. It keeps a record of the changes that were made, so that contracts can name
-/// what it held at each moment.
+/// A file in memory, which is always honest. It keeps a record of the changes that were made, so that
+/// contracts can name what it held at each moment.
 pub struct MemoryFile {
     faults: Faults,
     // the octets when the record began
@@ -86,8 +86,8 @@ fn overwrite(held: &mut [u8], at: usize, octets: &Sector)
 impl MemoryFile {
     ghost use Rattle.dns_files.specs.Held.{octets_of};
 
-    /// An empty file, with room for a record of so many changes: one beyond that fails. Refused where the memory for the
-    /// record is.
+    /// An empty file, with room for a record of so many changes: one beyond that fails. Refused where the
+    /// memory for the record is.
     pub fn new(alloc: Heap, changes: usize) -> Result<MemoryFile, AllocError>
         ensures { IfOk result (λ file. octets_of file ≡ []) }
     {
@@ -109,16 +109,16 @@ impl MemoryFile {
         &self.octets
     }
 
-    /// The `n`-th read, write, change of length or sync from here on fails, once, with no effect. It replaces an earlier
-    /// `fail_at`; 0 means none.
+    /// The `n`-th read, write, change of length or sync from here on fails, once, with no effect. It replaces
+    /// an earlier `fail_at`; 0 means none.
     pub fn fail_at(&mut self, n: u64)
         ensures { octets_of self.new ≡ octets_of self.old }
     {
         self.faults.fail_at = n;
     }
 
-    /// The `n`-th of these calls from here on, if it is a read or a write, moves no octet and says so. It replaces an
-    /// earlier `short_at`; 0 means none.
+    /// The `n`-th of these calls from here on, if it is a read or a write, moves no octet and says so. It
+    /// replaces an earlier `short_at`; 0 means none.
     pub fn short_at(&mut self, n: u64)
         ensures { octets_of self.new ≡ octets_of self.old }
     {

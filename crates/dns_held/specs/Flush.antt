@@ -1,5 +1,6 @@
 -- What a flush makes of zones.
-use Rattle.std.specs.Prelude.{◌≡◌, ◌⊎◌, ◌<◌, ◌≤◌, ◌-◌, ◌^◌, ℕ, suc, Bool, true, false, ◌||◌, List, [], ◌∷◌, Option, Some, None, option_map, if◌then◌else◌}
+use Rattle.std.specs.Prelude.{◌≡◌, ◌⊎◌, ◌<◌, ◌≤◌, ◌-◌, ◌^◌, ℕ, suc, Bool, true, false, ◌||◌, List, [], ◌∷◌}
+use Rattle.std.specs.Prelude.{Option, Some, None, option_map, if◌then◌else◌}
 use Rattle.dns_store.specs.Versions.{Kept, made_durable, closed_by_failure}
 
 abbrev pub is_none_staged : Kept → Bool
@@ -7,7 +8,8 @@ is_none_staged k = elim (k.staged) [ [] ↦ true | v ∷ rest ↦ false ]
 
 -- A zone is flushed, or its device fails. A closed zone, and one with nothing staged, stay as they are.
 abbrev pub flushed : Bool → Kept → Kept
-flushed fails k = if k.closed || is_none_staged k then k else if fails then closed_by_failure k else made_durable k
+flushed fails k =
+    if k.closed || is_none_staged k then k else if fails then closed_by_failure k else made_durable k
 
 -- Zones in order, as far as the list goes of which devices fail.
 abbrev pub flushed_to : List Bool → List Kept → List Kept

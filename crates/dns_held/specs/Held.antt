@@ -28,7 +28,8 @@ IsTip None k = k.staged ≡ []
 IsTip (Some tip) k = tip ≡ newest_zone k
 
 -- These are the versions of the zone, and of what stands behind it. `keeps` says what its store keeps.
-pub record HasVersions {I S : Type 0} (keeps : S → Kept → Type 0) (zone : Zone) (b : Behind I S) (k : Kept) : Type 0 where
+pub record HasVersions {I S : Type 0} (keeps : S → Kept → Type 0) (zone : Zone) (b : Behind I S)
+    (k : Kept) : Type 0 where
   pub zone_is : zone ≡ shown_zone k
   pub tip_is : IsTip b.tip k
   pub number_is : b.number ≡ length k.shown

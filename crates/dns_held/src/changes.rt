@@ -10,7 +10,8 @@ use dns_changes::Change;
 use dns_store::ZoneStore;
 use dns_zone::ZoneIndex;
 
-/// The changes that lead to the version that is shown from the one that the journal begins at, the oldest first.
+/// The changes that lead to the version that is shown from the one that the journal begins at, the oldest
+/// first.
 pub fn shown_changes<I: ZoneIndex, S: ZoneStore>(behind: &Behind<I, S>) -> &[Change]
     ensures { (zone : Stated) (k : Kept) → HasVersions S.keeps zone behind.now k
         → AreLed (version_at k k.base) (drop k.base k.shown) result.now }

@@ -10,11 +10,12 @@ use crate::Behind;
 use dns_store::{FlushError, ZoneStore};
 use dns_zone::{Zone, ZoneIndex};
 
-/// Makes the staged versions of a zone durable and shows the newest, unless its device fails. Answers whether it failed. A
-/// zone whose device failed before stays as it is.
+/// Makes the staged versions of a zone durable and shows the newest, unless its device fails. Answers whether
+/// it failed. A zone whose device failed before stays as it is.
 pub fn flush_zone<I: ZoneIndex, S: ZoneStore>(zone: &mut Zone<I>, behind: &mut Behind<I, S>) -> bool
     ensures held { (k : Kept)
-        → HasVersions S.keeps zone.old behind.old k → HasVersions S.keeps zone.new behind.new (flushed result k) }
+        → HasVersions S.keeps zone.old behind.old k
+        → HasVersions S.keeps zone.new behind.new (flushed result k) }
     // A crash at any moment of it leaves a device that opens as the versions shown and some of those staged.
     ensures any_moment { (k : Kept)
         → S.keeps behind.old.store k
@@ -38,7 +39,8 @@ pub fn flush_zone<I: ZoneIndex, S: ZoneStore>(zone: &mut Zone<I>, behind: &mut B
 
 /// The place of the first failure, where it is known of one place more whether it failed.
 fn first_failure(first: Option<usize>, failed: bool, place: usize) -> Option<usize>
-    ensures { (fails : List Bool) → first ≡ first_true fails → place ≡ length fails → result ≡ first_true (fails ++ failed ∷ []) }
+    ensures { (fails : List Bool) → first ≡ first_true fails → place ≡ length fails
+        → result ≡ first_true (fails ++ failed ∷ []) }
 {
     match first {
         Some(earlier) => Some(earlier),
@@ -58,7 +60,8 @@ pub fn flush_all<I: ZoneIndex, S: ZoneStore>(
         × (result ≡ first_true fails)
         × FailedWhere (λ b. S.failed b.store) fails behind.old behind.new }
     ensures any_moment { (ks : List Kept) → Each3 (λ z b k. HasVersions S.keeps z b k) zones.old behind.old ks
-        → Each3 (λ a b k. LeavesOnly S.moment S.left_since a.store b.store (OpensAsLeft S.opens k)) behind.old behind.new ks }
+        → Each3 (λ a b k. LeavesOnly S.moment S.left_since a.store b.store (OpensAsLeft S.opens k))
+        behind.old behind.new ks }
     ensures newest { newest_each zones.new behind.new ≡ newest_each zones.old behind.old }
 {
     let mut first = None;

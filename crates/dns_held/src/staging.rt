@@ -22,8 +22,8 @@ pub const MOST_RECORDS: usize = 65536;
 /// Why a change was not put behind a zone.
 #[derive(Clone, Copy, Debug, Error, PartialEq, Eq)]
 pub enum StagingError {
-    /// There is no room for the version: it has too many records, its snapshot or its entry takes more sectors than there
-    /// are, or there is no number for it.
+    /// There is no room for the version: it has too many records, its snapshot or its entry takes more
+    /// sectors than there are, or there is no number for it.
     #[error("there is no room for the version, or no number")]
     NoRoom,
     /// The entry takes more sectors than are left of the journal.
@@ -90,7 +90,8 @@ fn lacks_room<I: ZoneIndex, S: ZoneStore>(
 ) -> bool
     requires next { IsNext (newer zone.now behind.now.tip) change.now (I.records records.now) }
     requires change { IsChange (newer zone.now behind.now.tip).records (I.records records.now) change.now }
-    ensures { (k : Kept) → HasVersions S.keeps zone.now behind.now k → result ≡ lacks_room k (I.records records.now) }
+    ensures { (k : Kept) → HasVersions S.keeps zone.now behind.now k
+        → result ≡ lacks_room k (I.records records.now) }
 {
     let _valid = newest(zone, behind).apex();
     let octets = octets_after(behind.octets, change);
@@ -98,8 +99,8 @@ fn lacks_room<I: ZoneIndex, S: ZoneStore>(
     has_room(behind, change, records, octets) && behind.store.left() < sectors
 }
 
-/// How many sectors the entry of a change takes, where there is room for the version that it leads to, but not in what is left of
-/// the journal.
+/// How many sectors the entry of a change takes, where there is room for the version that it leads to, but
+/// not in what is left of the journal.
 pub fn sectors_lacked<I: ZoneIndex, S: ZoneStore>(
     zone: &Zone<I>,
     behind: &Behind<I, S>,
@@ -108,7 +109,8 @@ pub fn sectors_lacked<I: ZoneIndex, S: ZoneStore>(
 ) -> Option<usize>
     requires next { IsNext (newer zone.now behind.now.tip) change.now (I.records records.now) }
     requires change { IsChange (newer zone.now behind.now.tip).records (I.records records.now) change.now }
-    ensures { (k : Kept) → HasVersions S.keeps zone.now behind.now k → result ≡ sectors_lacked k (I.records records.now) }
+    ensures { (k : Kept) → HasVersions S.keeps zone.now behind.now k
+        → result ≡ sectors_lacked k (I.records records.now) }
 {
     if !lacks_room(zone, behind, change, records) {
         return None;
@@ -125,7 +127,8 @@ pub fn next_version<I: ZoneIndex>(newest: &Zone<I>, records: I) -> Result<Zone<I
     Ok(Zone::of_valid(apex, records))
 }
 
-/// Puts the version that a change leads to behind the newest one, in memory alone. Where it is refused, all stays as it was.
+/// Puts the version that a change leads to behind the newest one, in memory alone. Where it is refused, all
+/// stays as it was.
 ///
 /// `NoRoom` before `Full`: of the one no flush and no checkpoint makes room.
 pub fn stage<I: ZoneIndex, S: ZoneStore>(
@@ -140,8 +143,10 @@ pub fn stage<I: ZoneIndex, S: ZoneStore>(
         → HasVersions S.keeps zone.now behind.old k
         → OnOk result (HasVersions S.keeps zone.now behind.new (staged_with (I.records records) k)) }
     ensures stays { (k : Kept)
-        → HasVersions S.keeps zone.now behind.old k → OnErr result (HasVersions S.keeps zone.now behind.new k) }
-    ensures room { (k : Kept) → HasVersions S.keeps zone.now behind.old k → HasRoomBy k (I.records records) result }
+        → HasVersions S.keeps zone.now behind.old k
+        → OnErr result (HasVersions S.keeps zone.now behind.new k) }
+    ensures room { (k : Kept) → HasVersions S.keeps zone.now behind.old k
+        → HasRoomBy k (I.records records) result }
     ensures still { StandsStill S.moment S.left_since behind.old.store behind.new.store }
     ensures quiet { S.failed behind.new.store ≡ S.failed behind.old.store }
 {

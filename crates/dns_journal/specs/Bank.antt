@@ -1,5 +1,6 @@
 -- A bank that is written whole, and a root that is turned to it.
-use Rattle.std.specs.Prelude.{◌≡◌, ◌⊎◌, ◌≤◌, true, ℕ, ◌+◌, ◌-◌, ◌*◌, List, [], ◌∷◌, ◌++◌, length, take, drop, replicate}
+use Rattle.std.specs.Prelude.{◌≡◌, ◌⊎◌, ◌≤◌, true, ℕ, ◌+◌, ◌-◌, ◌*◌, List, [], ◌∷◌, ◌++◌, length, take, drop}
+use Rattle.std.specs.Prelude.{replicate}
 use Rattle.std.specs.List.{flat_map}
 use Rattle.dns_sectors.specs.Device.{Content}
 use Rattle.dns_sectors.specs.Crash.{Write}
@@ -34,11 +35,13 @@ abbrev pub Holds : List ℕ → List ℕ → Type 0
 Holds x octets = payload x ≡ octets ++ replicate (payload_room - length octets) 0
 
 -- So many parts of a snapshot are put there from this place on: they hold its octets, and zeros behind them.
-pub record PushesParts (at opened base : ℕ) (octets : List ℕ) (count : ℕ) (old new : List Write) : Type 0 where
+pub record PushesParts (at opened base : ℕ) (octets : List ℕ) (count : ℕ)
+    (old new : List Write) : Type 0 where
   pub sectors : List (List ℕ)
   pub count_is : length sectors ≡ count
   pub are : (x : List ℕ) → bank_open x ≡ opened → sequence x ≡ base → AreParts x 0 sectors
-  pub holds : flat_map payload sectors ≡ take (payload_room * count) octets ++ replicate (payload_room * count - length octets) 0
+  pub holds : flat_map payload sectors
+      ≡ take (payload_room * count) octets ++ replicate (payload_room * count - length octets) 0
   pub own : AreOwn (writes_from at sectors)
   pub written : new ≡ old ++ writes_from at sectors
 
@@ -89,7 +92,8 @@ pub record PushesEntries (old new : Cursor) (changes : List Change) (before afte
   pub version_is : new.version ≡ version_behind old.version entries
   pub opened_stays : new.opened ≡ old.opened
 
--- What is stored begins at a later version, with these octets as its snapshot, and keeps the newest changes alone.
+-- What is stored begins at a later version, with these octets as its snapshot, and keeps the newest changes
+-- alone.
 pub record IsTurned (k : Stored) (octets : List ℕ) (changes : List Change) (new : Stored) : Type 0 where
   pub base : new.base + length changes ≡ version_of k
   pub snapshot : new.snapshot ≡ octets
@@ -98,8 +102,8 @@ pub record IsTurned (k : Stored) (octets : List ℕ) (changes : List Change) (ne
 -- A crash left what was stored, or what is stored after the turn, of a store that was opened so often.
 abbrev pub LeavesEither : Shape → Stored → List ℕ → List Change → ℕ → Content → Type 0
 LeavesEither shape k octets changes opened c =
-    (OpensAs shape c k ⊎ ((new : Stored) × IsTurned k octets changes new × OpensAs shape c new)) × IsTidy shape c
-    × IsOpened opened c
+    (OpensAs shape c k ⊎ ((new : Stored) × IsTurned k octets changes new × OpensAs shape c new))
+    × IsTidy shape c × IsOpened opened c
 
 -- how many sectors a bank has for its snapshot, and for its journal
 abbrev pub snapshot_room_of : {D : Type 0} {g : Ghosts D} → Journal D g → ℕ
@@ -108,26 +112,29 @@ snapshot_room_of journal = journal.root.snapshot_room
 abbrev pub journal_room_of : {D : Type 0} {g : Ghosts D} → Journal D g → ℕ
 journal_room_of journal = journal.root.journal_room
 
--- These writes put a snapshot and the entries of changes into a bank, all with this open count, and the cursor is behind them.
-pub record LaysBank (s : Shape) (bank opened base : ℕ) (octets : List ℕ) (changes : List Change) (ws : List Write) (next : Cursor)
-    : Type 0 where
+-- These writes put a snapshot and the entries of changes into a bank, all with this open count, and the
+-- cursor is behind them.
+pub record LaysBank (s : Shape) (bank opened base : ℕ) (octets : List ℕ) (changes : List Change)
+    (ws : List Write) (next : Cursor) : Type 0 where
   pub parts : List (List ℕ)
   pub count : length parts ≡ snapshot_sectors (length octets)
   pub expected : (x : List ℕ) → bank_open x ≡ opened → sequence x ≡ base → AreParts x 0 parts
-  pub holds : flat_map payload parts ≡ take (payload_room * snapshot_sectors (length octets)) octets ++ replicate
-      (payload_room * snapshot_sectors (length octets) - length octets) 0
+  pub holds : flat_map payload parts
+      ≡ take (payload_room * snapshot_sectors (length octets)) octets
+      ++ replicate (payload_room * snapshot_sectors (length octets) - length octets) 0
   pub entries : List Entry
   pub are : AreEntries changes entries
   pub batch : IsBatch (bank_end s bank) (journal_place s bank) base opened entries
   pub own : AreOwn ws
-  pub written : ws ≡ writes_from (snapshot_place s bank) parts ++ writes_from (journal_place s bank) (sectors_of entries)
+  pub written : ws
+      ≡ writes_from (snapshot_place s bank) parts ++ writes_from (journal_place s bank) (sectors_of entries)
   pub at_is : next.at ≡ place_behind (journal_place s bank) entries
   pub until_is : next.until ≡ bank_end s bank
   pub version_is : next.version ≡ version_behind base entries
   pub opened_is : next.opened ≡ opened
 
--- The writes put what is to be stored into the bank that the root x doesn't name, and r is the root that names it. Both
--- say that the bank that isn't in use is cleared.
+-- The writes put what is to be stored into the bank that the root x doesn't name, and r is the root that
+-- names it. Both say that the bank that isn't in use is cleared.
 pub record Turns (s : Shape) (k new : Stored) (x : List ℕ) (r : Root) (ws : List Write) : Type 0 where
   pub opened : r.open_count ≡ open_count x
   pub was_clear : clear x ≡ 1
@@ -144,9 +151,11 @@ pub record Turns (s : Shape) (k new : Stored) (x : List ℕ) (r : Root) (ws : Li
   pub parts : List (List ℕ)
   pub count : length parts ≡ snapshot_sectors (length new.snapshot)
   pub expected : (y : List ℕ) → bank_open y ≡ open_count x → sequence y ≡ new.base → AreParts y 0 parts
-  pub holds : flat_map payload parts ≡ take (payload_room * snapshot_sectors (length new.snapshot)) new.snapshot ++ replicate
-      (payload_room * snapshot_sectors (length new.snapshot) - length new.snapshot) 0
-  pub batch : IsBatch (bank_end s (other_of (number x))) (journal_place s (other_of (number x))) new.base (open_count x) new.entries
+  pub holds : flat_map payload parts
+      ≡ take (payload_room * snapshot_sectors (length new.snapshot)) new.snapshot
+      ++ replicate (payload_room * snapshot_sectors (length new.snapshot) - length new.snapshot) 0
+  pub batch : IsBatch (bank_end s (other_of (number x))) (journal_place s (other_of (number x))) new.base
+      (open_count x) new.entries
   pub own : AreOwn ws
   pub written : ws ≡ writes_from (snapshot_place s (other_of (number x))) parts ++ writes_from
       (journal_place s (other_of (number x))) (sectors_of new.entries)

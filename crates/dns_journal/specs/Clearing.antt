@@ -4,7 +4,8 @@ use Rattle.dns_sectors.specs.Device.{Content}
 use Rattle.dns_layout.specs.Sector.{open_count, number, bank_open, sequence, snapshot_length, clear}
 use Rattle.dns_layout.specs.Own.{Own}
 use Rattle.dns_journal.specs.State.{IsOpened}
-use Rattle.dns_layout.specs.Store.{Shape, Stored, IsRoot, OpensBy, OpensAs, IsTidy, snapshot_place, bank_end, other_of}
+use Rattle.dns_layout.specs.Store.{Shape, Stored, IsRoot, OpensBy, OpensAs, IsTidy, snapshot_place, bank_end}
+use Rattle.dns_layout.specs.Store.{other_of}
 
 -- the two roots name the same bank, with the same snapshot
 pub record NamesSameBank (old new : List ℕ) : Type 0 where
@@ -13,10 +14,10 @@ pub record NamesSameBank (old new : List ℕ) : Type 0 where
   pub base : sequence new ≡ sequence old
   pub length : snapshot_length new ≡ snapshot_length old
 
--- The sectors open by the root x, which says that the other bank isn't cleared. That bank goes from the one place to the
--- other, and z is a root of the same bank with no lower open count.
-pub record IsToClear (s : Shape) (k : Stored) (x : List ℕ) (parts : List (List ℕ)) (from until : ℕ) (z : List ℕ)
-    (d : Content) : Type 0 where
+-- The sectors open by the root x, which says that the other bank isn't cleared. That bank goes from the one
+-- place to the other, and z is a root of the same bank with no lower open count.
+pub record IsToClear (s : Shape) (k : Stored) (x : List ℕ) (parts : List (List ℕ))
+    (from until : ℕ) (z : List ℕ) (d : Content) : Type 0 where
   pub opens : OpensBy s d x parts k
   pub tidy : IsTidy s d
   pub not_clear : clear x ≡ 0

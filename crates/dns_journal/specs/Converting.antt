@@ -18,18 +18,20 @@ use Rattle.dns_journal.specs.Bank.{IsTurned}
 abbrev pub with_zeros : List SectorWrite → ℕ → ℕ → List Write
 with_zeros ws from until = pairs ws ++ zeros_from from (until - from)
 
--- the writes to every sector of a bank: the parts of its snapshot, zeros up to its journal, the sectors of its entries,
--- and zeros up to its end
+-- the writes to every sector of a bank: the parts of its snapshot, zeros up to its journal, the sectors of
+-- its entries, and zeros up to its end
 abbrev pub bank_writes : Places → List SectorWrite → List SectorWrite → List Write
 bank_writes p parts entries =
-    with_zeros parts (p.first + length parts) p.journal ++ with_zeros entries (p.journal + length entries) p.until
+    with_zeros parts (p.first + length parts) p.journal
+    ++ with_zeros entries (p.journal + length entries) p.until
 
--- A crash left what format 1 held, of a store that was opened so often; or in format 2 what is stored after the turn, opened once
--- more.
+-- A crash left what format 1 held, of a store that was opened so often; or in format 2 what is stored after
+-- the turn, opened once more.
 abbrev pub LeavesConverted : Shape → Stored → List ℕ → List Change → ℕ → Content → Type 0
 LeavesConverted s k octets changes opened c =
     (OpensAsIn One s c k × IsOpened opened c)
-    ⊎ ((new : Stored) × IsTurned k octets changes new × OpensAs s c new × IsTidy s c × IsOpened (opened + 1) c)
+    ⊎ ((new : Stored) × IsTurned k octets changes new × OpensAs s c new × IsTidy s c
+    × IsOpened (opened + 1) c)
 
 -- So it is of all that format 1 held there by this root, up to that version.
 abbrev pub StaysOrConverts : Root → ℕ → List ℕ → List Change → Content → Content → Type 0
@@ -40,7 +42,8 @@ StaysOrConverts root base octets changes old new =
     → base + length changes ≡ version_of k
     → LeavesConverted s k octets changes root.open_count new
 
--- It opens in format 2 as what is stored, its root has this open count, and says that the other bank is cleared.
+-- It opens in format 2 as what is stored, its root has this open count, and says that the other bank is
+-- cleared.
 pub record OpensCleared (s : Shape) (k : Stored) (opened : ℕ) (c : Content) : Type 0 where
   pub opens : OpensAs s c k
   pub tidy : IsTidy s c

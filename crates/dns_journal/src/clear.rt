@@ -20,7 +20,8 @@ pub fn clear_bank<D: Sectors>(
     requires some { 0 < D.count device.old }
     // A crash at any moment of it leaves what opens as before.
     ensures any_moment { D.is_honest device.old → Only (D.seen device.old) (D.may_leave device.old)
-        → LeavesOnly D.moment D.left_since device.old device.new (StaysUncleared from until root.now (D.seen device.old)) }
+        → LeavesOnly D.moment D.left_since device.old device.new
+        (StaysUncleared from until root.now (D.seen device.old)) }
     ensures cleared { (s : Shape) (k : Stored) (x : List ℕ) (parts : List (List ℕ)) → D.is_honest device.old
         → IsToClear s k x parts from until root.now (D.seen device.old)
         → OnOk result (OpensBy s (D.seen device.new) root.now parts k × IsTidy s (D.seen device.new)) }
@@ -28,7 +29,8 @@ pub fn clear_bank<D: Sectors>(
     ensures behind { (s : Shape) (k : Stored) (x : List ℕ) (parts : List (List ℕ)) → D.is_honest device.old
         → IsToClear s k x parts from until root.now (D.seen device.old) → open_count x < open_count root.now
         → OnOk result ((version : ℕ) → AllBehind (open_count root.now) version (D.seen device.new)) }
-    ensures durable { D.is_honest device.old → OnOk result (Only (D.seen device.new) (D.may_leave device.new)) }
+    ensures durable { D.is_honest device.old
+        → OnOk result (Only (D.seen device.new) (D.may_leave device.new)) }
     ensures failed { CountsFailure result (D.failed device.old) (D.failed device.new) }
     ensures honest { D.is_honest device.new ↔ D.is_honest device.old }
     ensures count { D.count device.new ≡ D.count device.old }

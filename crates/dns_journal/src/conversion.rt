@@ -1,6 +1,7 @@
 //! What a store of format 1 holds is put into its other bank in format 2. The root is turned to it, and the
 //! old bank is cleared.
-ghost use Rattle.std.specs.Prelude.{◌≡◌, ◌≢◌, ◌≤◌, ◌<◌, ◌↔◌, ◌+◌, ◌-◌, ◌*◌, ◌^◌, ℕ, List, length, sum_by, IfErr, OnOk};
+ghost use Rattle.std.specs.Prelude.{◌≡◌, ◌≢◌, ◌≤◌, ◌<◌, ◌↔◌, ◌+◌, ◌-◌, ◌*◌, ◌^◌, ℕ, List, length, sum_by};
+ghost use Rattle.std.specs.Prelude.{IfErr, OnOk};
 ghost use Rattle.dns_sectors.specs.Device.{Only, LeavesOnly, CountsFailure};
 ghost use Rattle.dns_sectors.specs.Crash.{applied, CrashOf};
 ghost use Rattle.dns_sectors.specs.Phase.{pairs, AllWithin};
@@ -54,7 +55,8 @@ pub fn convert<D: Sectors>(
         → SaysRootIn One x root → base + length changes.now ≡ version_of k
         → OnOk result ((new : Stored) × IsTurned k octets.now changes.now new
         × ((c : List (List ℕ)) → D.may_leave device.new c → OpensCleared s new (root.open_count + 1) c)) }
-    ensures durable { D.is_honest device.old → OnOk result (Only (D.seen device.new) (D.may_leave device.new)) }
+    ensures durable { D.is_honest device.old
+        → OnOk result (Only (D.seen device.new) (D.may_leave device.new)) }
     ensures memory { result ≡ Err TurnError.OutOfMemory → device.new ≡ device.old }
     ensures device { result ≡ Err TurnError.Device → HasRisen (D.failed device.old) (D.failed device.new) }
     ensures open { IfErr result (λ e. e ≢ TurnError.Closed) }
@@ -119,8 +121,10 @@ fn write_whole<D: Sectors>(
     requires end { places.until ≤ D.count device.old }
     requires small { places.until ≤ 2 ^ 20 }
     ensures written { D.is_honest device.old
-        → OnOk result (D.seen device.new ≡ applied (bank_writes places parts.now entries.now) (D.seen device.old)) }
-    ensures durable { D.is_honest device.old → OnOk result (Only (D.seen device.new) (D.may_leave device.new)) }
+        → OnOk result
+        (D.seen device.new ≡ applied (bank_writes places parts.now entries.now) (D.seen device.old)) }
+    ensures durable { D.is_honest device.old
+        → OnOk result (Only (D.seen device.new) (D.may_leave device.new)) }
     ensures any_moment { D.is_honest device.old → LeavesOnly D.moment D.left_since device.old device.new
         (CrashOf (D.may_leave device.old) (bank_writes places parts.now entries.now)) }
     ensures failed { CountsFailure result (D.failed device.old) (D.failed device.new) }

@@ -1,6 +1,7 @@
 //! A journal that is written: staged entries become durable in two phases, first their bodies and then their
 //! heads. Its entries are `stage` and `flush`.
-ghost use Rattle.std.specs.Prelude.{length, take, drop, replicate, ◌≤◌, ◌+◌, ◌-◌, ◌^◌, ◌++◌, ◌∷◌, ◌≡◌, ◌≢◌, ◌<◌, ◌↔◌, [], ℕ, List};
+ghost use Rattle.std.specs.Prelude.{length, take, drop, replicate, ◌≤◌, ◌+◌, ◌-◌, ◌^◌, ◌++◌, ◌∷◌, ◌≡◌, ◌≢◌};
+ghost use Rattle.std.specs.Prelude.{◌<◌, ◌↔◌, [], ℕ, List};
 ghost use Rattle.std.specs.Prelude.{true, false, ◌*◌, IsOk, OnOk, OnErr};
 ghost use Rattle.dns_sectors.specs.Device.{Only, LeavesOnly, CountsFailure};
 ghost use Rattle.dns_sectors.specs.Crash.{applied, CrashOf};
@@ -78,8 +79,10 @@ impl<D: Sectors> Journal<D> {
     ghost use Rattle.dns_layout.specs.Sector.{open_count, bank_open, number};
     ghost use Rattle.dns_layout.specs.Forms.{SaysRoot};
     ghost use Rattle.dns_layout.specs.Journal.{Entry, size_of, octets_of, AllBehind, place_behind};
-    ghost use Rattle.dns_layout.specs.Store.{Shape, Stored, OpensBy, with_more, bank_end, journal_place, version_of};
-    ghost use Rattle.dns_journal.specs.State.{Keeps, LeavesPart, JournalLeavesOnly, HasFailed, is_closed, device_of, left_of};
+    ghost use Rattle.dns_layout.specs.Store.{Shape, Stored, OpensBy, with_more, bank_end, journal_place};
+    ghost use Rattle.dns_layout.specs.Store.{version_of};
+    ghost use Rattle.dns_journal.specs.State.{Keeps, LeavesPart, JournalLeavesOnly, HasFailed, is_closed};
+    ghost use Rattle.dns_journal.specs.State.{device_of, left_of};
     ghost use Rattle.dns_journal.specs.State.{newest_of, opened_of};
     ghost use Rattle.dns_journal.specs.Bank.{snapshot_room_of, journal_room_of};
 
@@ -95,7 +98,8 @@ impl<D: Sectors> Journal<D> {
             → Only (D.seen device) (D.may_leave device)
             → OpensBy shape (D.seen device) x parts k → SaysRoot x root → bank_open x ≤ open_count x
             → AllBehind (open_count x) (version_of k) (D.seen device)
-            → next.until ≡ bank_end shape (number x) → next.at ≡ place_behind (journal_place shape (number x)) k.entries
+            → next.until ≡ bank_end shape (number x)
+            → next.at ≡ place_behind (journal_place shape (number x)) k.entries
             → next.version ≡ version_of k → next.opened ≡ open_count x
             → Keeps shape result k [] }
         ensures newest { newest_of result ≡ next.version }
@@ -144,7 +148,8 @@ impl<D: Sectors> Journal<D> {
         requires { newest_of self.old < 2 ^ 64 - 1 }
         ensures staged { (shape : Shape) (k : Stored) (staged : List Entry) → Keeps shape self.old k staged
             → OnOk result ((e : Entry) × (octets_of e ≡ entry change.now)
-            × (size_of e ≡ sectors_of_entry (length (entry change.now))) × Keeps shape self.new k (staged ++ e ∷ [])) }
+            × (size_of e ≡ sectors_of_entry (length (entry change.now)))
+            × Keeps shape self.new k (staged ++ e ∷ [])) }
         ensures written { OnOk result (HasEntry change.now) }
         ensures stays { (shape : Shape) (k : Stored) (staged : List Entry) → Keeps shape self.old k staged
             → OnErr result (Keeps shape self.new k staged) }
@@ -152,7 +157,8 @@ impl<D: Sectors> Journal<D> {
         ensures newest { OnErr result (newest_of self.new ≡ newest_of self.old) }
         ensures full { result ≡ Err StageError.Full ↔ ((is_closed self.old ≡ false)
             × (left_of self.old < sectors_of_entry (length (entry change.now)))) }
-        ensures fits { OnOk result (left_of self.new + sectors_of_entry (length (entry change.now)) ≡ left_of self.old) }
+        ensures fits { OnOk result
+            (left_of self.new + sectors_of_entry (length (entry change.now)) ≡ left_of self.old) }
         ensures closed { result ≡ Err StageError.Closed ↔ is_closed self.old ≡ true }
         ensures stays_open { is_closed self.new ≡ is_closed self.old }
         ensures opened { opened_of self.new ≡ opened_of self.old }
@@ -174,12 +180,14 @@ impl<D: Sectors> Journal<D> {
     /// `Closed`, until the store is opened again.
     pub fn flush(&mut self) -> Result<(), FlushError>
         // A crash at any moment of it leaves a first part of the staged entries behind what was stored.
-        ensures any_moment { (shape : Shape) (k : Stored) (staged : List Entry) → Keeps shape self.old k staged
+        ensures any_moment { (shape : Shape) (k : Stored) (staged : List Entry)
+            → Keeps shape self.old k staged
             → JournalLeavesOnly self.old self.new (LeavesPart shape k staged (opened_of self.old)) }
         ensures flushed { (shape : Shape) (k : Stored) (staged : List Entry) → Keeps shape self.old k staged
             → OnOk result (Keeps shape self.new (with_more k staged) []) }
         ensures closes { OnErr result (is_closed self.new ≡ true) }
-        ensures closed { is_closed self.old ≡ true → (result ≡ Err FlushError.Closed) × (device_of self.new ≡ device_of self.old) }
+        ensures closed { is_closed self.old ≡ true
+            → (result ≡ Err FlushError.Closed) × (device_of self.new ≡ device_of self.old) }
 
         // Nothing staged is no device operation.
         ensures idle { (shape : Shape) (k : Stored) → Keeps shape self.old k []
@@ -253,12 +261,15 @@ fn stage_octets(
     requires number { next.old.version < 2 ^ 64 - 1 }
     requires small { next.old.until ≤ 2 ^ 20 }
     requires len { length octets.now < 2 ^ 32 }
-    ensures staged { OnOk result (Stages next.old next.new bodies.old.items bodies.new.items heads.old.items heads.new.items
+    ensures staged { OnOk result
+        (Stages next.old next.new bodies.old.items bodies.new.items heads.old.items heads.new.items
         octets.now) }
     ensures stays { OnErr result ((next.new ≡ next.old) × (bodies.new.items ≡ bodies.old.items)
         × (heads.new.items ≡ heads.old.items)) }
-    ensures within { (n : ℕ) → next.old.until ≤ n → AllWithin n bodies.old.items → AllWithin n bodies.new.items }
-    ensures heads_within { (n : ℕ) → next.old.until ≤ n → AllWithin n heads.old.items → AllWithin n heads.new.items }
+    ensures within { (n : ℕ) → next.old.until ≤ n → AllWithin n bodies.old.items
+        → AllWithin n bodies.new.items }
+    ensures heads_within { (n : ℕ) → next.old.until ≤ n → AllWithin n heads.old.items
+        → AllWithin n heads.new.items }
 {
     let len = octets.len();
     let in_head = len.min(HEAD_ROOM);
@@ -288,7 +299,8 @@ pub(crate) fn push_bodies(
 ) -> Result<(), AllocError>
     requires len { length rest.now ≡ head.now.length - head_room }
     requires fits { at + sectors_of_entry head.now.length < 2 ^ 32 }
-    ensures pushed { OnOk result (PushesBodies at head.now rest.now (sectors_of_entry head.now.length - 1) (pairs bodies.old.items)
+    ensures pushed { OnOk result
+        (PushesBodies at head.now rest.now (sectors_of_entry head.now.length - 1) (pairs bodies.old.items)
         (pairs bodies.new.items)) }
     ensures stays { OnErr result (bodies.new.items ≡ bodies.old.items) }
     ensures within { (n : ℕ) → at + sectors_of_entry head.now.length ≤ n + 1 → AllWithin n bodies.old.items
@@ -320,7 +332,8 @@ pub(crate) fn push_bodies(
 fn write_some<D: Sectors>(device: &mut D, writes: &[SectorWrite]) -> Result<(), DeviceError>
     requires { AllWithin (D.count device.old) writes.now }
     ensures idle { writes.now ≡ [] → (device.new ≡ device.old) × IsOk result }
-    ensures written { D.is_honest device.old → OnOk result (D.seen device.new ≡ applied (pairs writes.now) (D.seen device.old)) }
+    ensures written { D.is_honest device.old
+        → OnOk result (D.seen device.new ≡ applied (pairs writes.now) (D.seen device.old)) }
     ensures durable { D.is_honest device.old → Only (D.seen device.old) (D.may_leave device.old)
         → OnOk result (Only (D.seen device.new) (D.may_leave device.new)) }
     ensures any_moment { D.is_honest device.old → LeavesOnly D.moment D.left_since device.old device.new

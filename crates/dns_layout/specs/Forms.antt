@@ -1,7 +1,9 @@
 -- What sectors say, each kind by the fields of its value.
 use Rattle.std.specs.Prelude.{◌≡◌, ◌≢◌, ◌≤◌, ◌⊎◌, ℕ, ◌+◌, List, [], ◌∷◌, ◌++◌, Bool, true, false}
 use Rattle.byteorder.specs.Endian.{big_bytes}
-use Rattle.dns_layout.specs.Sector.{tag, open_count, sequence, number, HasNumbers, entry_length, entry_sectors_in, bank_open, snapshot_length, snapshot_room, journal_room, clear_in, apex_field_in}
+use Rattle.dns_layout.specs.Sector.{tag, open_count, sequence, number, HasNumbers, entry_length}
+use Rattle.dns_layout.specs.Sector.{entry_sectors_in, bank_open, snapshot_length, snapshot_room, journal_room}
+use Rattle.dns_layout.specs.Sector.{clear_in, apex_field_in}
 use Rattle.dns_layout.specs.Sector.{root_tag_in, head_tag_in, body_tag_in, snapshot_tag_in}
 use Rattle.dns_layout.specs.Apex.{IsPlain, apex_octets}
 use Rattle.dns_layout.specs.declared.LayoutError.{LayoutError}
@@ -74,11 +76,13 @@ SaysRoot x r = SaysRootIn formats.Two x r
 -- the octets of a root's payload before the zone's name
 abbrev pub root_front : Root → List ℕ
 root_front r = big_bytes 8 r.bank_open
-    ++ (big_bytes 8 r.snapshot_length ++ (big_bytes 4 r.snapshot_room ++ (big_bytes 4 r.journal_room ++ clear_number r.is_clear ∷ [])))
+    ++ (big_bytes 8 r.snapshot_length
+    ++ (big_bytes 4 r.snapshot_room ++ (big_bytes 4 r.journal_room ++ clear_number r.is_clear ∷ [])))
 
--- why a sector is refused as a root: another tag; or a bank above 1, a word above 1 on the other bank, or no name with nothing but
--- zeros behind it
+-- why a sector is refused as a root: another tag; or a bank above 1, a word above 1 on the other bank, or no
+-- name with nothing but zeros behind it
 abbrev pub RootRefusedIn : Format → List ℕ → LayoutError → Type 0
 RootRefusedIn f x NotThisKind = tag x ≢ root_tag_in f
 RootRefusedIn f x BadField = (tag x ≡ root_tag_in f)
-    × ((2 ≤ number x) ⊎ (2 ≤ clear_in f x) ⊎ ((apex : List ℕ) → IsPlain apex → apex_field_in f x ≢ apex_octets apex))
+    × ((2 ≤ number x) ⊎ (2 ≤ clear_in f x)
+    ⊎ ((apex : List ℕ) → IsPlain apex → apex_field_in f x ≢ apex_octets apex))

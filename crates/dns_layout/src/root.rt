@@ -1,7 +1,8 @@
 //! The root of a store.
 ghost use Rattle.std.specs.Prelude.{◌≡◌, ◌≢◌, ◌≤◌, ◌<◌, ◌^◌, ◌-◌, IfOk, IfErr, MatchOption, Ok};
 ghost use Rattle.dns_layout.specs.Sector.{blank, clear_in, apex_field_in};
-ghost use Rattle.dns_layout.specs.Forms.{SaysRoot, SaysRootIn, RootRefusedIn, root_front, bank_number, clear_number};
+ghost use Rattle.dns_layout.specs.Forms.{SaysRoot, SaysRootIn, RootRefusedIn, root_front, bank_number};
+ghost use Rattle.dns_layout.specs.Forms.{clear_number};
 ghost use Rattle.dns_layout.specs.Own.{Own};
 
 use crate::apex::Apex;
@@ -101,8 +102,9 @@ impl Root {
         front
     }
 
-    /// What the sector says. `NotThisKind` where it has another tag, `BadField` where its bank or what it says of the
-    /// other bank is above 1, or its last field is not a name in plain form with nothing but zeros behind it.
+    /// What the sector says. `NotThisKind` where it has another tag, `BadField` where its bank or what it
+    /// says of the other bank is above 1, or its last field is not a name in plain form with nothing but
+    /// zeros behind it.
     #[tactic(auto, unfolding(crate::specs::Sector::root_tag_in))]
     pub fn decode(format: Format, sector: &Sector) -> Result<Root, LayoutError>
         ensures says { IfOk result (SaysRootIn format sector.now) }
@@ -140,10 +142,12 @@ fn clear_octet(is_clear: bool) -> u8
     if is_clear { 1 } else { 0 }
 }
 
-// Whether the bank that isn't in use holds nothing of format 1; `None` where the sector doesn't say it by 0 or 1.
+// Whether the bank that isn't in use holds nothing of format 1; `None` where the sector doesn't say it by 0
+// or 1.
 #[tactic(auto, unfolding(crate::specs::Sector::clear))]
 fn read_clear(format: Format, sector: &Sector) -> Option<bool>
-    ensures { MatchOption result (2 ≤ clear_in format sector.now) (λ is_clear. clear_in format sector.now ≡ clear_number is_clear) }
+    ensures { MatchOption result (2 ≤ clear_in format sector.now)
+        (λ is_clear. clear_in format sector.now ≡ clear_number is_clear) }
 {
     match format {
         Format::One => Some(true),

@@ -10,7 +10,8 @@ use Rattle.dns_lookup.specs.declared.chain.Found.{Found}
 use Rattle.dns_lookup.specs.declared.outcome.Kind.{Kind}
 use Rattle.dns_lookup.specs.declared.outcome.Kind.TheVariants as kinds
 
--- The records that a name finds at the cut or the node: the NS, the CNAME, or those that were asked (RFC 1034 4.3.2, step 3).
+-- The records that a name finds at the cut or the node: the NS, the CNAME, or those that were asked (RFC 1034
+-- 4.3.2, step 3).
 abbrev pub records_found : List Record → Kind → Labels → ℕ → List Record
 records_found records kinds.Referral node t = rrset records node type_ns
 records_found records kinds.Alias node t = rrset records node type_cname

@@ -1,5 +1,6 @@
 -- What is known of names that the code tells.
-use Rattle.std.proofs.Common.{◌≡◌, ℕ, zero, suc, ◌+◌, ◌<◌, List, [], ◌∷◌, ◌++◌, length, get_or, take, refl, sym, ap, subst, ◌∙◌, arith}
+use Rattle.std.proofs.Common.{◌≡◌, ℕ, zero, suc, ◌+◌, ◌<◌, List, [], ◌∷◌, ◌++◌, length, get_or, take, refl}
+use Rattle.std.proofs.Common.{sym, ap, subst, ◌∙◌, arith}
 use Rattle.dns_names.specs.Name.{Labels}
 use Rattle.dns_zone.specs.Zone.{Zone}
 use Rattle.dns_lookup.specs.Lookup.{Outcome, Referral, Alias, Answers, NoData, NameError}
@@ -17,7 +18,8 @@ outcome_of kinds.Answers at = Answers at
 outcome_of kinds.NoData at = NoData at
 outcome_of kinds.NameError at = NameError
 
-pub represented_is : (o : Outcome) (name : Labels) (kind : Kind) (at : Labels) → IsKind o name kind at → o ≡ outcome_of kind at
+pub represented_is : (o : Outcome) (name : Labels) (kind : Kind) (at : Labels) → IsKind o name kind at
+    → o ≡ outcome_of kind at
 represented_is (Referral c) name kind at h = λ i. outcome_of (sym h.0 i) (sym h.1 i)
 represented_is (Alias n) name kind at h = λ i. outcome_of (sym h.0 i) (sym h.1 i)
 represented_is (Answers n) name kind at h = λ i. outcome_of (sym h.0 i) (sym h.1 i)
@@ -25,8 +27,8 @@ represented_is (NoData n) name kind at h = λ i. outcome_of (sym h.0 i) (sym h.1
 represented_is NameError name kind at h = λ i. outcome_of (sym h.0 i) at
 
 -- as many are returned as were found
-pub represented_length : (zones : List Zone) (fs : List lookup.Found) (returned : List Found) → RepresentAll zones fs returned
-    → length fs ≡ length returned
+pub represented_length : (zones : List Zone) (fs : List lookup.Found) (returned : List Found)
+    → RepresentAll zones fs returned → length fs ≡ length returned
 represented_length zones [] [] h = refl
 represented_length zones (f ∷ fs) (one ∷ returned) h = ap suc (represented_length zones fs returned h.1)
 represented_length zones [] (one ∷ returned) h = absurd h
@@ -38,7 +40,8 @@ pub record RepresentedAt (zones : List Zone) (fs : List lookup.Found) (i : ℕ) 
   pub is : Represents zones found one
   pub next : take (i + 1) fs ≡ take i fs ++ found ∷ []
 
-pub represented_at : (zones : List Zone) (fs : List lookup.Found) (returned : List Found) (i : ℕ) (one : Found)
+pub represented_at : (zones : List Zone) (fs : List lookup.Found) (returned : List Found)
+    (i : ℕ) (one : Found)
     → RepresentAll zones fs returned
     → i < length returned
     → one ≡ get_or returned i one

@@ -1,11 +1,13 @@
 //! All that a question finds, from alias to alias.
-ghost use Rattle.std.specs.Prelude.{◌≡◌, ℕ, List, ◌<◌, ◌≤◌, false, None, Some, [], ◌∷◌, ◌++◌, length, vec_len, IfOk, IfSome, IfNone};
+ghost use Rattle.std.specs.Prelude.{◌≡◌, ℕ, List, ◌<◌, ◌≤◌, false, None, Some, [], ◌∷◌, ◌++◌, length};
+ghost use Rattle.std.specs.Prelude.{vec_len, IfOk, IfSome, IfNone};
 ghost use Rattle.std.specs.List.{list_any};
 ghost use Rattle.dns_names.specs.Name.{Labels, names_eq};
 ghost use Rattle.dns_records.specs.Types.{type_cname};
 ghost use Rattle.dns_zone.specs.Zone.{Zone as Lent};
 ghost use Rattle.dns_zone.specs.Records.{rrset, owns_type};
-ghost use Rattle.dns_lookup.specs.Lookup.{Found as Stated, outcome, zone_of, alias_at, next_name, chain, resolve};
+ghost use Rattle.dns_lookup.specs.Lookup.{Found as Stated, outcome, zone_of, alias_at, next_name, chain};
+ghost use Rattle.dns_lookup.specs.Lookup.{resolve};
 ghost use Rattle.dns_lookup.specs.Represented.{Represents, RepresentAll, names_searched, all_searched};
 ghost use Rattle.dns_lookup.specs.Lent.{Lends, AllLend};
 
@@ -30,7 +32,8 @@ pub struct Found<'a> {
     pub node: Node<'a>,
     /// What became of it.
     pub kind: Kind,
-    /// The records that it finds at the node: the NS of a cut, the CNAME of an alias, those that were asked for, or none.
+    /// The records that it finds at the node: the NS of a cut, the CNAME of an alias, those that were asked
+    /// for, or none.
     pub records: &'a [Record],
 }
 
@@ -71,7 +74,8 @@ fn search<'a, I: ZoneIndex>(
     ensures found { IfSome result
         (λ f. (z : Lent)
         × (zone_of zones.now name.entry ≡ Some z)
-        × Represents zones.now (record { zone = z; name = name.entry; outcome = outcome z name.entry qtype }) f) }
+        × Represents zones.now
+        (record { zone = z; name = name.entry; outcome = outcome z name.entry qtype }) f) }
     ensures lent { IfSome result (Lends zones.now qtype) }
     ensures none { IfNone result (zone_of zones.now name.entry ≡ None) }
 {
@@ -89,7 +93,8 @@ fn search<'a, I: ZoneIndex>(
 /// The target of an alias by its CNAME.
 fn target<'a>(aliases: &'a [Record]) -> Option<NameRef<'a>>
     ensures found { IfSome result
-        (λ name. (z : Lent) (node : Labels) → aliases.now ≡ rrset z.records node type_cname → name ≡ alias_at z node) }
+        (λ name. (z : Lent) (node : Labels) → aliases.now ≡ rrset z.records node type_cname
+        → name ≡ alias_at z node) }
     ensures none { IfNone result
         ((z : Lent) (node : Labels)
         → aliases.now ≡ rrset z.records node type_cname
@@ -128,8 +133,8 @@ fn next_name<'a>(last: &Found<'a>, before: &[Found<'a>]) -> Option<NameRef<'a>>
     Some(next)
 }
 
-/// What a question finds whose name is an alias: that name, and then the target of each alias from this one on. It is compiled
-/// apart, so that other names don't pay for it.
+/// What a question finds whose name is an alias: that name, and then the target of each alias from this one
+/// on. It is compiled apart, so that other names don't pay for it.
 #[inline(never)]
 fn follow<'a, I: ZoneIndex>(
     alloc: Heap,
@@ -142,7 +147,8 @@ fn follow<'a, I: ZoneIndex>(
         (λ found. (f : Stated)
         → Represents zones.now f first.entry
         → RepresentAll zones.now (f ∷ chain 7 zones.now (f.name ∷ []) target.entry qtype) found.items) }
-    ensures lent { IfOk result (λ found. Lends zones.now qtype first.entry → AllLend zones.now qtype found.items) }
+    ensures lent { IfOk result
+        (λ found. Lends zones.now qtype first.entry → AllLend zones.now qtype found.items) }
     ensures most { IfOk result (λ found. vec_len found ≤ 8) }
 {
     let mut found: Vec<Found<'a>, Heap> = Vec::new(alloc);
@@ -162,10 +168,10 @@ fn follow<'a, I: ZoneIndex>(
     Ok(found)
 }
 
-/// What a question finds: the name, and then the target of each alias, each in the closest zone (RFC 1034 section
-/// 4.3.2). The list ends behind a name that is no alias, before a target that was searched already, before a name under no
-/// apex, and behind eight names; it is empty where the question's name is under no apex. Memory is taken for the list alone, and
-/// only where the question's name is an alias.
+/// What a question finds: the name, and then the target of each alias, each in the closest zone (RFC 1034
+/// section 4.3.2). The list ends behind a name that is no alias, before a target that was searched already,
+/// before a name under no apex, and behind eight names; it is empty where the question's name is under no
+/// apex. Memory is taken for the list alone, and only where the question's name is an alias.
 #[inline(always)]
 pub fn resolve<'a, I: ZoneIndex>(
     alloc: Heap,
@@ -173,7 +179,8 @@ pub fn resolve<'a, I: ZoneIndex>(
     name: NameRef<'a>,
     qtype: u16,
 ) -> Result<Outcome<'a>, AllocError>
-    ensures represents { IfOk result (λ found. RepresentAll zones.now (resolve zones.now name.entry qtype) (all_searched found)) }
+    ensures represents { IfOk result
+        (λ found. RepresentAll zones.now (resolve zones.now name.entry qtype) (all_searched found)) }
     ensures lent { IfOk result (λ found. AllLend zones.now qtype (all_searched found)) }
     ensures most { IfOk result (λ found. length (all_searched found) ≤ 8) }
 {

@@ -7,8 +7,8 @@ use dns_names::{Name, NameRef};
 use std::alloc::AllocError;
 use std::marker::Model;
 
-/// A node of a zone: a name, or the label `*` before a name. It takes no memory: the latter is not put together before it is
-/// wanted.
+/// A node of a zone: a name, or the label `*` before a name. It takes no memory: the latter is not put
+/// together before it is wanted.
 #[derive(Drop)]
 pub struct Node<'a> {
     base: NameRef<'a>,

@@ -27,8 +27,8 @@ pub enum Kind {
     NameError,
 }
 
-/// The records that a type asks for among those of a node: all, or those of the type (RFC 1034 section 4.3.2, step 3a; RFC 1035
-/// section 3.2.3).
+/// The records that a type asks for among those of a node: all, or those of the type (RFC 1034 section 4.3.2,
+/// step 3a; RFC 1035 section 3.2.3).
 fn asked(owned: &[Record], qtype: u16) -> &[Record]
     ensures { (set : List Stated) (node : Labels)
         → is_ordered set ≡ true
@@ -41,14 +41,15 @@ fn asked(owned: &[Record], qtype: u16) -> &[Record]
     of_type(owned, qtype)
 }
 
-/// What becomes of a name for which a node answers that owns these records, and those that the name finds (RFC 1034 section
-/// 4.3.2, step 3a).
+/// What becomes of a name for which a node answers that owns these records, and those that the name finds
+/// (RFC 1034 section 4.3.2, step 3a).
 #[inline(always)]
 fn kind_by(owned: &[Record], qtype: u16) -> (Kind, &[Record])
     ensures { (set : List Stated) (node name : Labels)
         → is_ordered set ≡ true
         → owned.now ≡ records_at set node
-        → IsKind (at_node set node qtype) name result.0 node × (result.1.now ≡ records_found set result.0 node qtype) }
+        → IsKind (at_node set node qtype) name result.0 node
+        × (result.1.now ≡ records_found set result.0 node qtype) }
 {
     let aliases = of_type(owned, types::CNAME);
     if !aliases.is_empty() & (qtype != types::CNAME) & (qtype != types::ANY) {
@@ -61,8 +62,8 @@ fn kind_by(owned: &[Record], qtype: u16) -> (Kind, &[Record])
     (Kind::Answers, found)
 }
 
-/// What becomes of the name, the cut or the node that answers, and the records that the name finds there; of a name error, the
-/// name itself and none.
+/// What becomes of the name, the cut or the node that answers, and the records that the name finds there; of
+/// a name error, the name itself and none.
 #[inline(always)]
 pub(crate) fn outcome<'a, I: ZoneIndex>(
     zone: &'a Zone<I>,
@@ -72,7 +73,8 @@ pub(crate) fn outcome<'a, I: ZoneIndex>(
     ensures represents { IsKind (outcome zone.now name.now qtype) name.now result.0 result.1 }
     ensures lent { result.2.now ≡ records_found zone.now.records result.0 result.1 qtype }
 {
-    // The records are in order, and the encloser of a name that doesn't exist is another name above it: there is room for a label.
+    // The records are in order, and the encloser of a name that doesn't exist is another name above it: there
+    // is room for a label.
     let (_ordered, _valid) = (zone.apex(), name.as_wire());
     match zone.find_node(name) {
         Match::Cut(cut, owned) => (Kind::Referral, Node::named(cut), of_type(owned, types::NS)),

@@ -9,7 +9,8 @@ use dns_zone::{Zone, ZoneIndex};
 
 /// The place of the first zone of that apex.
 fn place_of<I: ZoneIndex>(zones: &[Zone<I>], apex: &NameRef<'_>) -> Option<usize>
-    ensures found { IfSome result (λ i. slice_get zones.now i ≡ find (λ z. names_eq z.apex apex.now) zones.now) }
+    ensures found { IfSome result
+        (λ i. slice_get zones.now i ≡ find (λ z. names_eq z.apex apex.now) zones.now) }
     ensures inside { IfSome result (λ i. i < length zones.now) }
     ensures some { IfSome result (λ i. list_any (λ z. names_eq z.apex apex.now) zones.now ≡ true) }
     ensures none { IfNone result (list_any (λ z. names_eq z.apex apex.now) zones.now ≡ false) }

@@ -1,11 +1,14 @@
 -- The data of a record in text, by the one table of the parts of each type.
-use Rattle.std.specs.Prelude.{◌≡◌, ◌≢◌, ℕ, ◌^◌, ◌≤◌, Bool, false, ◌==◌, MatchOption, List, [], ◌∷◌, ◌++◌, length, map, flat_map, option_map, unwrap_or, Option, Some, Ok, bytes_eq, codes}
+use Rattle.std.specs.Prelude.{◌≡◌, ◌≢◌, ℕ, ◌^◌, ◌≤◌, Bool, false, ◌==◌, MatchOption, List, [], ◌∷◌, ◌++◌}
+use Rattle.std.specs.Prelude.{length, map, flat_map, option_map, unwrap_or, Option, Some, Ok, bytes_eq, codes}
 use Rattle.std.specs.List.{find}
 use Rattle.std.specs.Option.{option_or}
 use Rattle.std.specs.Int.{w16, w32, to_be_bytes}
 use Rattle.std.specs.Char.{to_ascii_uppercase}
 use Rattle.dns_names.specs.Name.{Labels, wire}
-use Rattle.dns_records.specs.Types.{Field, Name, UncompressedName, Strings, form, type_a, type_ns, type_cname, type_soa, type_ptr, type_mx, type_txt, type_aaaa, type_srv, Ipv4, Ipv6, U16, U32, Value, Values}
+use Rattle.dns_records.specs.Types.{Field, Name, UncompressedName, Strings, form, type_a, type_ns, type_cname}
+use Rattle.dns_records.specs.Types.{type_soa, type_ptr, type_mx, type_txt, type_aaaa, type_srv, Ipv4, Ipv6}
+use Rattle.dns_records.specs.Types.{U16, U32, Value, Values}
 use Rattle.dns_records.specs.Record.{string}
 use Rattle.dns_names.specs.Text.{name_of_text}
 use Rattle.dns_policy.specs.Address.{ipv4_of_text, ipv6_of_text}
@@ -29,8 +32,8 @@ IsNameWord origin (Quoted text) name = ⊥
 abbrev pub AreValues : List Value → List Word → List ℕ → Type 0
 AreValues [] words octets = (words ≡ []) × (octets ≡ [])
 AreValues (f ∷ fs) words octets =
-    (word : Word) × (more : List Word) × (front rest : List ℕ) × (words ≡ word ∷ more) × (octets ≡ front ++ rest)
-    × (octets_of_text f (text_of word) ≡ Some front) × AreValues fs more rest
+    (word : Word) × (more : List Word) × (front rest : List ℕ) × (words ≡ word ∷ more)
+    × (octets ≡ front ++ rest) × (octets_of_text f (text_of word) ≡ Some front) × AreValues fs more rest
 
 abbrev pub IsFieldText : Labels → Field → List Word → List ℕ → Type 0
 IsFieldText origin (Values vs) words octets = AreValues vs words octets
@@ -39,7 +42,8 @@ IsFieldText origin Name words octets =
 IsFieldText origin UncompressedName words octets =
     (word : Word) × (name : Labels) × (words ≡ word ∷ []) × IsNameWord origin word name × (octets ≡ wire name)
 IsFieldText origin Strings words octets =
-    (strings : List (List ℕ)) × (words ≢ []) × (each_of (λ w. string_of_text (text_of w)) words ≡ Some strings)
+    (strings : List (List ℕ)) × (words ≢ [])
+    × (each_of (λ w. string_of_text (text_of w)) words ≡ Some strings)
     × (octets ≡ flat_map string strings) × (length octets ≤ 4096)
 
 -- The words are the parts of the data, one behind the other.

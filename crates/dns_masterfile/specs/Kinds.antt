@@ -1,7 +1,8 @@
 -- What each octet of a master file does (RFC 1035 5.1).
 use Rattle.std.specs.Prelude.{ℕ, ◌||◌, ◌==◌, nat_lt, if◌then◌else◌}
 use Rattle.dns_masterfile.specs.declared.kind.Kind.{Kind}
-use Rattle.dns_masterfile.specs.declared.kind.Kind.TheVariants.{LineFeed, Return, Control, Blank, Semicolon, Quote, Opening, Closing, Backslash, Plain}
+use Rattle.dns_masterfile.specs.declared.kind.Kind.TheVariants.{LineFeed, Return, Control, Blank, Semicolon}
+use Rattle.dns_masterfile.specs.declared.kind.Kind.TheVariants.{Quote, Opening, Closing, Backslash, Plain}
 
 abbrev pub kind : ℕ → Kind
 kind c =

@@ -24,11 +24,14 @@ FileMeansOnce =
 -- A zone in print means its records, whatever the origin: none more, none less, the SOA first.
 abbrev pub PrintMeansZone : Type 0
 PrintMeansZone =
-    (zone : Zone) → IsZone zone → (origin : Labels) → FileMeans (printed_zone zone.records) origin (in_print_order zone.records)
+    (zone : Zone) → IsZone zone → (origin : Labels)
+    → FileMeans (printed_zone zone.records) origin (in_print_order zone.records)
 
 abbrev pub PrintKeepsRecords : Type 0
 PrintKeepsRecords = (zone : Zone) → IsZone zone → IsSetOf (in_print_order zone.records) zone.records
 
 -- The set of the records that are read of a zone in print is the zone's.
 abbrev pub PrintIsZone : Type 0
-PrintIsZone = (zone : Zone) → IsZone zone → (set : List Record) → IsSetOf (in_print_order zone.records) set → set ≡ zone.records
+PrintIsZone =
+    (zone : Zone) → IsZone zone → (set : List Record) → IsSetOf (in_print_order zone.records) set
+    → set ≡ zone.records

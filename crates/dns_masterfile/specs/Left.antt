@@ -17,7 +17,8 @@ no_words whole behind = record { words = []; whole = whole; behind = behind }
 abbrev pub word_before : Word → Left → Left
 word_before w left = record left { words = w ∷ left.words }
 
--- Pieces, in parentheses or not, from some line on: a line end ends an entry but within parentheses, which stand in no others.
+-- Pieces, in parentheses or not, from some line on: a line end ends an entry but within parentheses, which
+-- stand in no others.
 abbrev pub left_from : Bool → ℕ → List Piece → Left
 left_from inside line [] = no_words (not inside) []
 left_from inside line (LineEnd ∷ ps) = elim inside [
@@ -25,7 +26,8 @@ left_from inside line (LineEnd ∷ ps) = elim inside [
   | false ↦ no_words true (entries_from false (begun (suc line) ps) (suc line) ps)
 ]
 left_from inside line (Open ∷ ps) = elim inside [ true ↦ no_words false [] | false ↦ left_from true line ps ]
-left_from inside line (Close ∷ ps) = elim inside [ true ↦ left_from false line ps | false ↦ no_words false [] ]
+left_from inside line (Close ∷ ps) =
+    elim inside [ true ↦ left_from false line ps | false ↦ no_words false [] ]
 left_from inside line (Text w ∷ ps) = word_before w (left_from inside line ps)
 left_from inside line (Gap ∷ ps) = left_from inside line ps
 left_from inside line (Comment ∷ ps) = left_from inside line ps

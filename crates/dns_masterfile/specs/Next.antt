@@ -8,6 +8,7 @@ use Rattle.dns_masterfile.specs.Scan.{stated_word}
 -- What is left is that, and what is behind it.
 abbrev pub IsNext : Left → Next → Type 0
 IsNext left (Word w behind) = left ≡ word_before (stated_word w) behind
-IsNext left (Entry start behind) = left ≡ no_words true (entry_at start.line start.blank behind ∷ behind.behind)
+IsNext left (Entry start behind) =
+    left ≡ no_words true (entry_at start.line start.blank behind ∷ behind.behind)
 IsNext left End = left ≡ no_words true []
 IsNext left Fault = left ≡ no_words false []

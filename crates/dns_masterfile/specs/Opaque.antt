@@ -1,5 +1,7 @@
 -- Types without a form, and their data, in text (RFC 3597 5).
-use Rattle.std.specs.Prelude.{◌≡◌, ℕ, ◌^◌, ◌≤◌, Bool, true, false, not, ◌&&◌, ◌==◌, List, [], ◌∷◌, ◌++◌, length, take, drop, map, flat_map, Option, Some, None, Ok, bytes_eq, codes, decimal, if◌then◌else◌}
+use Rattle.std.specs.Prelude.{◌≡◌, ℕ, ◌^◌, ◌≤◌, Bool, true, false, not, ◌&&◌, ◌==◌, List, [], ◌∷◌, ◌++◌}
+use Rattle.std.specs.Prelude.{length, take, drop, map, flat_map, Option, Some, None, Ok, bytes_eq, codes}
+use Rattle.std.specs.Prelude.{decimal, if◌then◌else◌}
 use Rattle.std.specs.Char.{to_ascii_uppercase}
 use Rattle.hex.specs.Hex.{decode_of, encode_lower}
 use Rattle.dns_records.specs.Types.{is_opaque}
@@ -19,11 +21,13 @@ opaque_only None = None
 opaque_only (Some t) = if is_opaque t then Some t else None
 
 abbrev pub is_numbered : List ℕ → Bool
-is_numbered text = bytes_eq (map to_ascii_uppercase (take 4 text)) (codes "TYPE") && not (begins_with_zero (drop 4 text))
+is_numbered text =
+    bytes_eq (map to_ascii_uppercase (take 4 text)) (codes "TYPE") && not (begins_with_zero (drop 4 text))
 
 abbrev pub type_of_number : Word → Option ℕ
 type_of_number (Quoted text) = None
-type_of_number (Bare text) = if is_numbered text then opaque_only (number_of_text (2 ^ 32) (drop 4 text)) else None
+type_of_number (Bare text) =
+    if is_numbered text then opaque_only (number_of_text (2 ^ 32) (drop 4 text)) else None
 
 -- The word `\#`.
 abbrev pub opaque_mark : List ℕ

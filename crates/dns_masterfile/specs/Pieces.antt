@@ -2,7 +2,8 @@
 use Rattle.std.specs.Prelude.{◌≡◌, ℕ, ◌<◌, ◌⊎◌, ⊤, List, [], ◌∷◌, ◌++◌, length}
 use Rattle.std.specs.List.{AllByRecursion, concat}
 use Rattle.dns_masterfile.specs.declared.kind.Kind.{Kind}
-use Rattle.dns_masterfile.specs.declared.kind.Kind.TheVariants.{LineFeed, Return, Control, Blank, Semicolon, Quote, Opening, Closing, Backslash, Plain}
+use Rattle.dns_masterfile.specs.declared.kind.Kind.TheVariants.{LineFeed, Return, Control, Blank, Semicolon}
+use Rattle.dns_masterfile.specs.declared.kind.Kind.TheVariants.{Quote, Opening, Closing, Backslash, Plain}
 use Rattle.dns_masterfile.specs.Kinds.{kind}
 
 -- A word as it is written, `\` and what follows it included, and without its quotes.
@@ -40,7 +41,8 @@ IsQuotable k = IsVisible k
 
 -- One octet, or `\` and one octet.
 abbrev pub IsUnit : (Kind → Type 0) → List ℕ → Type 0
-IsUnit Stands unit = (c : ℕ) × (((unit ≡ c ∷ []) × Stands (kind c)) ⊎ ((unit ≡ 92 ∷ c ∷ []) × IsVisible (kind c)))
+IsUnit Stands unit =
+    (c : ℕ) × (((unit ≡ c ∷ []) × Stands (kind c)) ⊎ ((unit ≡ 92 ∷ c ∷ []) × IsVisible (kind c)))
 
 abbrev pub IsWord : (Kind → Type 0) → List ℕ → Type 0
 IsWord Stands text = (units : List (List ℕ)) × (text ≡ concat units) × AllByRecursion (IsUnit Stands) units
@@ -48,7 +50,8 @@ IsWord Stands text = (units : List (List ℕ)) × (text ≡ concat units) × All
 -- The octets are the piece.
 abbrev pub IsPiece : Piece → List ℕ → Type 0
 IsPiece Gap octets = (octets ≡ 9 ∷ []) ⊎ (octets ≡ 32 ∷ [])
-IsPiece Comment octets = (text : List ℕ) × (octets ≡ 59 ∷ text) × AllByRecursion (λ c. IsVisible (kind c)) text
+IsPiece Comment octets =
+    (text : List ℕ) × (octets ≡ 59 ∷ text) × AllByRecursion (λ c. IsVisible (kind c)) text
 IsPiece LineEnd octets = (octets ≡ 10 ∷ []) ⊎ (octets ≡ 13 ∷ 10 ∷ [])
 IsPiece Open octets = octets ≡ 40 ∷ []
 IsPiece Close octets = octets ≡ 41 ∷ []
@@ -65,7 +68,8 @@ abbrev pub EndsWord : List ℕ → Type 0
 EndsWord [] = ⊤
 EndsWord (c ∷ rest) = ¬ (kind c ≡ Plain) × ¬ (kind c ≡ Backslash)
 
--- The text is a bare word before the rest. A `\` before a line's end belongs to the word, and stands there alone.
+-- The text is a bare word before the rest. A `\` before a line's end belongs to the word, and stands there
+-- alone.
 abbrev pub IsBareWord : List ℕ → List ℕ → Type 0
 IsBareWord text rest =
     (IsWord (λ k. k ≡ Plain) text × EndsWord rest)
@@ -80,7 +84,8 @@ IsWhole _ rest = ⊤
 -- The octets are the pieces, one behind the other.
 abbrev pub ArePieces : List Piece → List ℕ → Type 0
 ArePieces [] octets = octets ≡ []
-ArePieces (p ∷ ps) octets = (front rest : List ℕ) × (octets ≡ front ++ rest) × IsPiece p front × IsWhole p rest × ArePieces ps rest
+ArePieces (p ∷ ps) octets =
+    (front rest : List ℕ) × (octets ≡ front ++ rest) × IsPiece p front × IsWhole p rest × ArePieces ps rest
 
 -- The same computed, from left to right. A file that has no pieces has those before the fault.
 pub data Within : Type 0 where
@@ -169,7 +174,8 @@ pieces_from InComment (c ∷ rest) = in_comment (kind c) (λ within. pieces_from
 pieces_from InWord (c ∷ rest) = in_word c (kind c) (λ within. pieces_from within rest)
 pieces_from BehindEscape (c ∷ rest) = behind_escape c (kind c) (λ within. pieces_from within rest)
 pieces_from InQuotes (c ∷ rest) = in_quotes c (kind c) (λ within. pieces_from within rest)
-pieces_from BehindQuotedEscape (c ∷ rest) = behind_quoted_escape c (kind c) (λ within. pieces_from within rest)
+pieces_from BehindQuotedEscape (c ∷ rest) =
+    behind_quoted_escape c (kind c) (λ within. pieces_from within rest)
 
 abbrev pub pieces_of : List ℕ → List Piece
 pieces_of octets = pieces_from Between octets

@@ -1,9 +1,11 @@
 -- The printed form of a zone.
-use Rattle.std.specs.Prelude.{ℕ, Option, None, Some, Bool, true, false, not, ◌==◌, List, [], ◌∷◌, ◌++◌, length, take, drop, filter, map, flat_map, decimal, codes}
+use Rattle.std.specs.Prelude.{ℕ, Option, None, Some, Bool, true, false, not, ◌==◌, List, [], ◌∷◌, ◌++◌}
+use Rattle.std.specs.Prelude.{length, take, drop, filter, map, flat_map, decimal, codes}
 use Rattle.std.specs.Net.Text.{ipv4_text}
 use Rattle.dns_names.specs.Name.{labels_of, wire}
 use Rattle.dns_names.specs.Text.{printed_name}
-use Rattle.dns_records.specs.Types.{Field, Name, UncompressedName, Strings, form, type_soa, Ipv4, Ipv6, U16, U32, Value, Values, octet_count, size_of}
+use Rattle.dns_records.specs.Types.{Field, Name, UncompressedName, Strings, form, type_soa, Ipv4, Ipv6, U16}
+use Rattle.dns_records.specs.Types.{U32, Value, Values, octet_count, size_of}
 use Rattle.dns_records.specs.Record.{Record, Data, data_of, number_of}
 use Rattle.dns_records.specs.TextStrings.{strings_of}
 use Rattle.dns_masterfile.specs.Text.{printed_string, printed_ipv6}
@@ -18,13 +20,16 @@ printed_as Ipv6 octets = printed_ipv6 octets
 
 abbrev pub value_words : List Value → List ℕ → List (List ℕ)
 value_words [] octets = []
-value_words (f ∷ fs) octets = printed_as f (take (size_of f) octets) ∷ value_words fs (drop (size_of f) octets)
+value_words (f ∷ fs) octets =
+    printed_as f (take (size_of f) octets) ∷ value_words fs (drop (size_of f) octets)
 
 -- The words of data in plain form.
 abbrev pub data_words : List Field → List ℕ → List (List ℕ)
 data_words [] octets = []
-data_words (Values vs ∷ fs) octets = value_words vs (take (octet_count vs) octets) ++ data_words fs (drop (octet_count vs) octets)
-data_words (Name ∷ fs) octets = let name = labels_of octets in printed_name name ∷ data_words fs (drop (length (wire name)) octets)
+data_words (Values vs ∷ fs) octets =
+    value_words vs (take (octet_count vs) octets) ++ data_words fs (drop (octet_count vs) octets)
+data_words (Name ∷ fs) octets =
+    let name = labels_of octets in printed_name name ∷ data_words fs (drop (length (wire name)) octets)
 data_words (UncompressedName ∷ fs) octets = let name = labels_of octets in printed_name name
     ∷ data_words fs (drop (length (wire name)) octets)
 data_words (Strings ∷ fs) octets = map printed_string (strings_of octets)
@@ -47,7 +52,8 @@ printed_data d = spaced (rdata_words d.rtype d.octets)
 -- `owner TTL IN TYPE RDATA`, ended by LF.
 abbrev pub printed_record : Record → List ℕ
 printed_record r =
-    printed_name r.owner ++ spaced (decimal r.ttl ∷ codes "IN" ∷ word_of_type r.rtype ∷ []) ++ printed_data (data_of r) ++ 10 ∷ []
+    printed_name r.owner ++ spaced (decimal r.ttl ∷ codes "IN" ∷ word_of_type r.rtype ∷ [])
+    ++ printed_data (data_of r) ++ 10 ∷ []
 
 -- The SOA, or the others.
 abbrev pub is_wanted : Bool → Record → Bool

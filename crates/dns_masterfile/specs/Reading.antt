@@ -1,21 +1,26 @@
--- Reading computed: the records of a file, or its first fault and the line on which the entry of the fault begins.
-use Rattle.std.specs.Prelude.{ℕ, ◌+◌, ◌^◌, Bool, true, false, nat_lt, ◌==◌, List, [], ◌∷◌, ◌++◌, length, Option, Some, None, Result, Ok, Err, codes, ok_or, if◌then◌else◌}
+-- Reading computed: the records of a file, or its first fault and the line on which the entry of the fault
+-- begins.
+use Rattle.std.specs.Prelude.{ℕ, ◌+◌, ◌^◌, Bool, true, false, nat_lt, ◌==◌, List, [], ◌∷◌, ◌++◌, length}
+use Rattle.std.specs.Prelude.{Option, Some, None, Result, Ok, Err, codes, ok_or, if◌then◌else◌}
 use Rattle.std.specs.List.{list_all}
 use Rattle.hex.specs.Hex.{decode_of, is_hex_digit}
 use Rattle.hex.specs.declared.error.FromHexError.{FromHexError}
 use Rattle.dns_names.specs.Name.{Labels, wire}
 use Rattle.dns_names.specs.declared.NameError.{NameError}
-use Rattle.dns_records.specs.Types.{Field, Name, UncompressedName, Strings, form, Ipv4, Ipv6, U16, U32, Value, Values}
+use Rattle.dns_records.specs.Types.{Field, Name, UncompressedName, Strings, form, Ipv4, Ipv6, U16, U32, Value}
+use Rattle.dns_records.specs.Types.{Values}
 use Rattle.dns_records.specs.Record.{Record, string}
 use Rattle.dns_masterfile.specs.declared.FileError.{FileError}
-use Rattle.dns_masterfile.specs.declared.FileError.TheVariants.{Syntax, BadName, BadNumber, BadData, NoTtl, NoOwner, UnknownType, TooLong}
+use Rattle.dns_masterfile.specs.declared.FileError.TheVariants.{Syntax, BadName, BadNumber, BadData, NoTtl}
+use Rattle.dns_masterfile.specs.declared.FileError.TheVariants.{NoOwner, UnknownType, TooLong}
 use Rattle.dns_names.specs.Text.{name_of_text}
 use Rattle.dns_masterfile.specs.Text.{number_of_text, string_of_text, is_decimal}
 use Rattle.dns_masterfile.specs.Pieces.{Word, Bare, Quoted, text_of, pieces_of}
 use Rattle.dns_masterfile.specs.Entries.{Entry, entries_of}
 use Rattle.dns_masterfile.specs.Data.{octets_of_text, is_keyword, type_of_word}
 use Rattle.dns_masterfile.specs.Opaque.{is_opaque_mark}
-use Rattle.dns_masterfile.specs.Meaning.{Context, at_start, Said, Nothing, Origin, Default, Item, after, records_in, ttl_in, is_class, begins_with_dollar}
+use Rattle.dns_masterfile.specs.Meaning.{Context, at_start, Said, Nothing, Origin, Default, Item, after}
+use Rattle.dns_masterfile.specs.Meaning.{records_in, ttl_in, is_class, begins_with_dollar}
 
 abbrev pub Outcome : Type 0 → Type 0
 Outcome A = Result A FileError
@@ -45,7 +50,8 @@ abbrev pub take_name : Labels → List Word → Taken Labels
 take_name origin words = next_word words >>= λ w. name_in origin w.0 >>= λ name. Ok (name, w.1)
 
 abbrev pub take_number : List Word → Taken ℕ
-take_number words = next_word words >>= λ w. ok_or (number_of_text (2 ^ 32) (text_of w.0)) BadNumber >>= λ n. Ok (n, w.1)
+take_number words =
+    next_word words >>= λ w. ok_or (number_of_text (2 ^ 32) (text_of w.0)) BadNumber >>= λ n. Ok (n, w.1)
 
 abbrev pub fault_of : Value → FileError
 fault_of U16 = BadNumber
@@ -81,7 +87,8 @@ abbrev pub take_field : Labels → Field → List Word → Taken (List ℕ)
 take_field origin (Values vs) words = take_values vs words
 take_field origin Name words = take_wire origin words
 take_field origin UncompressedName words = take_wire origin words
-take_field origin Strings words = next_word words >>= λ first. take_strings 0 words >>= λ octets. Ok (octets, [])
+take_field origin Strings words =
+    next_word words >>= λ first. take_strings 0 words >>= λ octets. Ok (octets, [])
 
 abbrev pub take_data : Labels → List Field → List Word → Taken (List ℕ)
 take_data origin [] words = Ok ([], words)
@@ -225,7 +232,8 @@ before records (Err fault) = Err fault
 abbrev pub read_entries : Context → List Entry → Result (List Record) (ℕ × FileError)
 read_entries ctx [] = Ok []
 read_entries ctx (e ∷ rest) =
-    on_line e.line (said_by ctx e e.words) >>= λ said. before (records_in said) (read_entries (after ctx said) rest)
+    on_line e.line (said_by ctx e e.words) >>= λ said.
+    before (records_in said) (read_entries (after ctx said) rest)
 
 abbrev pub read_file : List ℕ → Labels → Result (List Record) (ℕ × FileError)
 read_file octets origin = read_entries (at_start origin) (entries_of (pieces_of octets))

@@ -3,7 +3,8 @@ use Rattle.dns_masterfile.specs.declared.pieces.Word.{Word as Found}
 use Rattle.dns_masterfile.specs.declared.pieces.Word.TheVariants as found
 use Rattle.dns_masterfile.specs.declared.pieces.Piece.{Piece as Part}
 use Rattle.dns_masterfile.specs.declared.pieces.Piece.TheVariants as part
-use Rattle.dns_masterfile.specs.Pieces.{Word, Bare, Quoted, Piece, Gap, Comment, LineEnd, Open, Close, Text, Fault}
+use Rattle.dns_masterfile.specs.Pieces.{Word, Bare, Quoted, Piece, Gap, Comment, LineEnd, Open, Close, Text}
+use Rattle.dns_masterfile.specs.Pieces.{Fault}
 
 abbrev pub stated_word : Found → Word
 stated_word (found.Bare text) = Bare text.now

@@ -1,6 +1,8 @@
 -- What a reader takes from the words of an entry.
-use Rattle.std.specs.Prelude.{◌≡◌, ◌⊎◌, ℕ, ◌+◌, ◌<◌, ◌≤◌, Bool, false, nat_lt, List, [], ◌∷◌, ◌++◌, length, Some, None, Ok, Err, ok_or}
-use Rattle.dns_records.specs.Types.{Field, Name, UncompressedName, Strings, Value, Values, octet_count, size_of}
+use Rattle.std.specs.Prelude.{◌≡◌, ◌⊎◌, ℕ, ◌+◌, ◌<◌, ◌≤◌, Bool, false, nat_lt, List, [], ◌∷◌, ◌++◌, length}
+use Rattle.std.specs.Prelude.{Some, None, Ok, Err, ok_or}
+use Rattle.dns_records.specs.Types.{Field, Name, UncompressedName, Strings, Value, Values, octet_count}
+use Rattle.dns_records.specs.Types.{size_of}
 use Rattle.dns_records.specs.Record.{IsField, string}
 use Rattle.dns_masterfile.specs.declared.FileError.{FileError}
 use Rattle.dns_masterfile.specs.declared.FileError.TheVariants.{OutOfMemory, BadData}
@@ -13,7 +15,8 @@ use Rattle.dns_masterfile.specs.Left.{Left}
 
 -- The value is taken from the words that were left, and the file behind them stays.
 abbrev pub Takes : {A : Type 0} → (List Word → Taken A) → Left → Left → A → Type 0
-Takes taken old new value = (taken old.words ≡ Ok (value, new.words)) × (new ≡ record old { words = new.words })
+Takes taken old new value =
+    (taken old.words ≡ Ok (value, new.words)) × (new ≡ record old { words = new.words })
 
 -- Memory was refused, or that is the fault.
 abbrev pub Refuses : {A : Type 0} → Outcome A → FileError → Type 0
@@ -21,7 +24,8 @@ Refuses outcome e = (e ≡ OutOfMemory) ⊎ (outcome ≡ Err e)
 
 -- Octets are taken, and stand behind those before.
 abbrev pub Puts : (List Word → Taken (List ℕ)) → (List ℕ → Type 0) → Left → Left → List ℕ → List ℕ → Type 0
-Puts taken Is old new before after = (octets : List ℕ) × Takes taken old new octets × (after ≡ before ++ octets) × Is octets
+Puts taken Is old new before after =
+    (octets : List ℕ) × Takes taken old new octets × (after ≡ before ++ octets) × Is octets
 
 -- The words that stay are what a function leaves of them.
 abbrev pub Skips : (List Word → List Word) → Left → Left → Type 0
@@ -38,7 +42,8 @@ IsSized fs octets = length octets ≡ octet_count fs
 -- The text is a number or an address, whose octets stand behind those before.
 abbrev pub PutsValue : Value → List ℕ → List ℕ → List ℕ → Type 0
 PutsValue f text before after =
-    (octets : List ℕ) × (octets_of_text f text ≡ Some octets) × (after ≡ before ++ octets) × (length octets ≡ size_of f)
+    (octets : List ℕ) × (octets_of_text f text ≡ Some octets) × (after ≡ before ++ octets)
+    × (length octets ≡ size_of f)
 
 abbrev pub RefusesValue : Value → List ℕ → FileError → Type 0
 RefusesValue f text e = (e ≡ OutOfMemory) ⊎ ((octets_of_text f text ≡ None) × (e ≡ fault_of f))
@@ -46,7 +51,8 @@ RefusesValue f text e = (e ≡ OutOfMemory) ⊎ ((octets_of_text f text ≡ None
 -- The octets of a string behind so many octets of strings.
 abbrev pub string_at : ℕ → List ℕ → Outcome (List ℕ)
 string_at size text =
-    ok_or (string_of_text text) BadData >>= λ octets. fits_data (nat_lt 4096 (size + 1 + length octets)) >>= λ _. Ok octets
+    ok_or (string_of_text text) BadData >>= λ octets.
+    fits_data (nat_lt 4096 (size + 1 + length octets)) >>= λ _. Ok octets
 
 -- The text is a string, which stands behind the octets before, and so many octets are strings then.
 abbrev pub PutsString : List ℕ → ℕ → List ℕ → List ℕ → ℕ → Type 0
@@ -73,4 +79,5 @@ FitField Strings octets = FitStrings octets
 
 abbrev pub FitFields : List Field → List ℕ → Type 0
 FitFields [] octets = octets ≡ []
-FitFields (f ∷ fs) octets = (front rest : List ℕ) × (octets ≡ front ++ rest) × FitField f front × FitFields fs rest
+FitFields (f ∷ fs) octets =
+    (front rest : List ℕ) × (octets ≡ front ++ rest) × FitField f front × FitFields fs rest

@@ -1,5 +1,6 @@
 -- Numbers, strings and addresses in text, and how each is printed.
-use Rattle.std.specs.Prelude.{ℕ, Bool, ◌&&◌, ◌||◌, ◌==◌, nat_lt, List, [], ◌∷◌, ◌++◌, length, map, flat_map, option_and_then, Option, Some, None, if◌then◌else◌}
+use Rattle.std.specs.Prelude.{ℕ, Bool, ◌&&◌, ◌||◌, ◌==◌, nat_lt, List, [], ◌∷◌, ◌++◌, length, map, flat_map}
+use Rattle.std.specs.Prelude.{option_and_then, Option, Some, None, if◌then◌else◌}
 use Rattle.std.specs.List.{list_all}
 use Rattle.std.specs.Char.{is_ascii_digit}
 use Rattle.std.specs.Str.Parse.{digits_value}
@@ -12,7 +13,8 @@ abbrev pub is_decimal : List ℕ → Bool
 is_decimal text = nat_lt 0 (length text) && list_all is_ascii_digit text
 
 abbrev pub number_of_text : ℕ → List ℕ → Option ℕ
-number_of_text limit text = if is_decimal text && nat_lt (digits_value 10 text) limit then Some (digits_value 10 text) else None
+number_of_text limit text =
+    if is_decimal text && nat_lt (digits_value 10 text) limit then Some (digits_value 10 text) else None
 
 -- what each is, if each is something
 abbrev pub before_each : {A : Type 0} → A → Option (List A) → Option (List A)
@@ -25,11 +27,13 @@ each_of f (x ∷ xs) = option_and_then (λ y. before_each y (each_of f xs)) (f x
 
 -- A string: at most 255 octets (RFC 1035 3.3).
 abbrev pub string_of_text : List ℕ → Option (List ℕ)
-string_of_text text = option_and_then (λ ls. if nat_lt (length ls) 256 then Some (map octet_of ls) else None) (letters text)
+string_of_text text =
+    option_and_then (λ ls. if nat_lt (length ls) 256 then Some (map octet_of ls) else None) (letters text)
 
 -- An octet between quotes: `"` and `\` behind a `\`, and what is no visible ASCII as `\DDD`.
 abbrev pub printed_string_octet : ℕ → List ℕ
-printed_string_octet c = if c == 34 || c == 92 then 92 ∷ c ∷ [] else if nat_lt c 32 || nat_lt 126 c then escaped c else c ∷ []
+printed_string_octet c =
+    if c == 34 || c == 92 then 92 ∷ c ∷ [] else if nat_lt c 32 || nat_lt 126 c then escaped c else c ∷ []
 
 abbrev pub printed_string : List ℕ → List ℕ
 printed_string octets = 34 ∷ flat_map printed_string_octet octets ++ 34 ∷ []

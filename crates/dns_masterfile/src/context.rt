@@ -67,7 +67,8 @@ pub(crate) fn take_said(
     said: Said,
     records: &mut Vec<Record, Heap>,
 ) -> Result<(), AllocError>
-    ensures context { OnOk result (stated_context context.new ≡ after (stated_context context.old) (stated_said said)) }
+    ensures context { OnOk result
+        (stated_context context.new ≡ after (stated_context context.old) (stated_said said)) }
     ensures records { OnOk result (records.new.items ≡ records.old.items ++ records_in (stated_said said)) }
 {
     match said {

@@ -17,7 +17,8 @@ use dns_records::Record;
 impl<'a> Scanner<'a> {
     /// Nothing is left of the entry.
     pub(crate) fn end(&self) -> Result<(), FileError>
-        ensures { MatchResult result (λ _. has_ended self.now ≡ true) (λ e. (has_ended self.now ≡ false) × (e ≡ FileError.Syntax)) }
+        ensures { MatchResult result (λ _. has_ended self.now ≡ true)
+            (λ e. (has_ended self.now ≡ false) × (e ≡ FileError.Syntax)) }
     {
         match self.next() {
             Next::Entry(_, _) => Ok(()),
@@ -43,7 +44,8 @@ impl<'a> Scanner<'a> {
 
     /// Takes the word of a type.
     fn take_type(&mut self) -> Result<u16, FileError>
-        ensures taken { MatchResult result (Takes take_type self.old self.new) (λ e. take_type self.old.words ≡ Err e) }
+        ensures taken { MatchResult result (Takes take_type self.old self.new)
+            (λ e. take_type self.old.words ≡ Err e) }
         ensures rtype { IfOk result (λ rtype. is_data_type rtype ≡ true) }
     {
         let word = self.take_word()?;
@@ -52,7 +54,8 @@ impl<'a> Scanner<'a> {
 
     /// Takes a record.
     fn take_item(&mut self, alloc: Heap, context: &Context, blank: bool) -> Result<Said, FileError>
-        ensures { MatchResult result (Says (λ e. item_in (stated_context context.now) e self.old.words) blank self.old self.new)
+        ensures { MatchResult result
+            (Says (λ e. item_in (stated_context context.now) e self.old.words) blank self.old self.new)
             (Faults (λ e. item_in (stated_context context.now) e self.old.words) blank self.old) }
     {
         let owner = self.take_owner(alloc, context, blank)?;
@@ -75,9 +78,10 @@ impl<'a> Scanner<'a> {
         word: Word<'_>,
     ) -> Result<Said, FileError>
         ensures { MatchResult result
-            (Says (λ e. directive_in (stated_context context.now) e (stated_word word.entry) self.old.words) false self.old
-            self.new)
-            (Faults (λ e. directive_in (stated_context context.now) e (stated_word word.entry) self.old.words) false self.old) }
+            (Says (λ e. directive_in (stated_context context.now) e (stated_word word.entry) self.old.words)
+            false self.old self.new)
+            (Faults (λ e. directive_in (stated_context context.now) e (stated_word word.entry) self.old.words)
+            false self.old) }
     {
         if word.is_keyword(b"$ORIGIN") {
             let name = self.take_name(alloc, &context.origin)?;
@@ -99,7 +103,8 @@ impl<'a> Scanner<'a> {
         context: &Context,
         blank: bool,
     ) -> Result<Said, FileError>
-        ensures { MatchResult result (Says (λ e. said_by (stated_context context.now) e self.old.words) blank self.old self.new)
+        ensures { MatchResult result
+            (Says (λ e. said_by (stated_context context.now) e self.old.words) blank self.old self.new)
             (Faults (λ e. said_by (stated_context context.now) e self.old.words) blank self.old) }
     {
         let Some((word, behind)) = self.first_word() else {

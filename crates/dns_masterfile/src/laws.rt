@@ -1,5 +1,6 @@
 //! What holds of every master file.
-ghost use Rattle.dns_masterfile.specs.Laws.{FileIsRead, FileMeansOnce, PrintIsZone, PrintKeepsRecords, PrintMeansZone};
+ghost use Rattle.dns_masterfile.specs.Laws.{FileIsRead, FileMeansOnce, PrintIsZone, PrintKeepsRecords};
+ghost use Rattle.dns_masterfile.specs.Laws.{PrintMeansZone};
 
 /// A file means the records that are read of it, and no others.
 pub fn file_law()

@@ -44,7 +44,8 @@ pub enum FileError {
     /// A word in a number's place is no number, or over what its field holds.
     #[error("a decimal number is expected, within what its field holds")]
     BadNumber,
-    /// A word is no address, or no string; or data of a type without a form isn't `\#`, a length, and the digits of so many octets.
+    /// A word is no address, or no string; or data of a type without a form isn't `\#`, a length, and the
+    /// digits of so many octets.
     #[error("the data has not the form of its type")]
     BadData,
     /// No TTL is written, and none was so far.
@@ -53,8 +54,8 @@ pub enum FileError {
     /// The line begins with a blank, and no record stands before it.
     #[error("the line begins with a blank, and no record stands before it")]
     NoOwner,
-    /// The word in the type's place is no type that has a form here, and no `TYPE` with the number of another type of which a
-    /// zone can have records.
+    /// The word in the type's place is no type that has a form here, and no `TYPE` with the number of another
+    /// type of which a zone can have records.
     #[error("a type is expected, such as A, or TYPE and a number")]
     UnknownType,
     /// The data has more than 4,096 octets.

@@ -1,5 +1,6 @@
 //! Types without a form, and their data, in the words of an entry (RFC 3597 section 5).
-ghost use Rattle.std.specs.Prelude.{◌≡◌, ◌⊎◌, ◌^◌, ◌≤◌, [], Ok, Err, Some, None, true, length, MatchOption, MatchResult};
+ghost use Rattle.std.specs.Prelude.{◌≡◌, ◌⊎◌, ◌^◌, ◌≤◌, [], Ok, Err, Some, None, true, length, MatchOption};
+ghost use Rattle.std.specs.Prelude.{MatchResult};
 ghost use Rattle.std.specs.List.{list_all};
 ghost use Rattle.hex.specs.Hex.{decode_of, is_hex_digit};
 ghost use Rattle.dns_records.specs.Types.{form as form_of, is_data_type, is_opaque};
@@ -49,7 +50,8 @@ fn are_hex_digits(text: &[u8]) -> bool
 fn decoded(alloc: Heap, size: u16, digits: &[u8]) -> Result<Vec<u8, Heap>, FileError>
     ensures { MatchResult result
         (λ octets. (sized size (decode_of digits.now) ≡ Some octets.items) × (length octets.items ≡ size))
-        (λ e. (e ≡ FileError.OutOfMemory) ⊎ ((e ≡ FileError.BadData) × (sized size (decode_of digits.now) ≡ None))) }
+        (λ e. (e ≡ FileError.OutOfMemory)
+        ⊎ ((e ≡ FileError.BadData) × (sized size (decode_of digits.now) ≡ None))) }
 {
     match hex::decode(alloc, digits) {
         Ok(octets) if octets.len() == size as usize => Ok(octets),
@@ -119,7 +121,8 @@ impl<'a> Scanner<'a> {
     /// Takes the words that are left, which are hexadecimal digits.
     fn take_digits(&mut self, alloc: Heap) -> Result<Octets, FileError>
         ensures { MatchResult result
-            (λ digits. (digits_in self.old.words ≡ Ok digits.items) × (self.new ≡ record self.old { words = [] }))
+            (λ digits. (digits_in self.old.words ≡ Ok digits.items)
+            × (self.new ≡ record self.old { words = [] }))
             (Refuses (digits_in self.old.words)) }
     {
         let mut digits = SmallVec::new(alloc);
@@ -137,7 +140,8 @@ impl<'a> Scanner<'a> {
     /// Takes octets, which are all that is left of the entry.
     fn take_opaque(&mut self, alloc: Heap) -> Result<Vec<u8, Heap>, FileError>
         ensures { MatchResult result
-            (λ octets. Takes (take_opaque self.old.whole) self.old self.new octets.items × (length octets.items ≤ 4096))
+            (λ octets. Takes (take_opaque self.old.whole) self.old self.new octets.items
+            × (length octets.items ≤ 4096))
             (Refuses (take_opaque self.old.whole self.old.words)) }
     {
         self.take_mark()?;
@@ -151,7 +155,8 @@ impl<'a> Scanner<'a> {
     pub(crate) fn take_opaque_data(&mut self, alloc: Heap, rtype: u16) -> Result<RData, FileError>
         requires no_form { form_of rtype ≡ None }
         requires rtype { is_data_type rtype ≡ true }
-        ensures { MatchResult result (λ d. (d.rtype ≡ rtype) × Takes (take_opaque self.old.whole) self.old self.new d.octets)
+        ensures { MatchResult result
+            (λ d. (d.rtype ≡ rtype) × Takes (take_opaque self.old.whole) self.old self.new d.octets)
             (Refuses (take_opaque self.old.whole self.old.words)) }
     {
         let octets = self.take_opaque(alloc)?;

@@ -1,6 +1,7 @@
 //! The piece at the front of octets.
 ghost use Rattle.std.specs.Prelude.{◌≡◌, ◌<◌, ◌≤◌, [], ◌∷◌, length, MatchOption};
-ghost use Rattle.dns_masterfile.specs.Pieces.{AfterReturn, InQuotes, InWord, Word as Stated, pieces_from, pieces_of, text_of};
+ghost use Rattle.dns_masterfile.specs.Pieces.{AfterReturn, InQuotes, InWord, Word as Stated, pieces_from};
+ghost use Rattle.dns_masterfile.specs.Pieces.{pieces_of, text_of};
 ghost use Rattle.dns_masterfile.specs.Scan.{stated_piece, stated_word};
 
 use crate::comments::comment_len;
@@ -70,7 +71,8 @@ fn split_bare(octets: &[u8]) -> (Piece<'_>, &[u8])
 /// The piece at the front, and the octets behind it.
 pub(crate) fn split_piece(octets: &[u8]) -> Option<(Piece<'_>, &[u8])>
     ensures { MatchOption result (pieces_of octets.now ≡ [])
-        (λ r. (pieces_of octets.now ≡ stated_piece r.0 ∷ pieces_of r.1.now) × (length r.1.now < length octets.now)) }
+        (λ r. (pieces_of octets.now ≡ stated_piece r.0 ∷ pieces_of r.1.now)
+        × (length r.1.now < length octets.now)) }
 {
     let (first, behind) = octets.split_first()?;
     match kind_of(*first) {

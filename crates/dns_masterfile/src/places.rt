@@ -1,4 +1,5 @@
-//! Where the records of a file stand, and at which word a refused entry was refused: for one who mends the file.
+//! Where the records of a file stand, and at which word a refused entry was refused: for one who mends the
+//! file.
 use crate::FileError;
 use crate::context::{Context, at_start, take_said};
 use crate::pieces::Word;
@@ -14,7 +15,8 @@ pub struct RefusedEntry<'a> {
     /// The line on which the entry begins.
     pub line: usize,
     pub error: FileError,
-    /// The word at which it was refused, as it is written; none where the entry ends before a word that is wanted.
+    /// The word at which it was refused, as it is written; none where the entry ends before a word that is
+    /// wanted.
     pub word: Option<&'a [u8]>,
 }
 

@@ -63,7 +63,8 @@ impl fmt::Display for MxWords<'_> {
 struct SrvWords<'a>(&'a Srv<'a>);
 
 impl fmt::Display for SrvWords<'_> {
-    ghost output = { λ s. Some (spaced (decimal s.0.now.priority ∷ decimal s.0.now.weight ∷ decimal s.0.now.port
+    ghost output = { λ s. Some
+        (spaced (decimal s.0.now.priority ∷ decimal s.0.now.weight ∷ decimal s.0.now.port
         ∷ printed_name s.0.now.target ∷ [])) };
 
     fn fmt<W: fmt::Write>(&self, f: &mut fmt::Formatter<W>) -> fmt::Result {
@@ -78,8 +79,10 @@ impl fmt::Display for SrvWords<'_> {
 struct SoaWords<'a>(&'a Soa<'a>);
 
 impl fmt::Display for SoaWords<'_> {
-    ghost output = { λ s. Some (spaced (printed_name s.0.now.mname ∷ printed_name s.0.now.rname ∷ decimal s.0.now.serial
-        ∷ decimal s.0.now.refresh ∷ decimal s.0.now.retry ∷ decimal s.0.now.expire ∷ decimal s.0.now.minimum ∷ [])) };
+    ghost output = { λ s. Some
+        (spaced (printed_name s.0.now.mname ∷ printed_name s.0.now.rname ∷ decimal s.0.now.serial
+        ∷ decimal s.0.now.refresh ∷ decimal s.0.now.retry ∷ decimal s.0.now.expire
+        ∷ decimal s.0.now.minimum ∷ [])) };
 
     fn fmt<W: fmt::Write>(&self, f: &mut fmt::Formatter<W>) -> fmt::Result {
         let soa = self.0;
@@ -91,7 +94,8 @@ impl fmt::Display for SoaWords<'_> {
 
 /// Writes the strings of a TXT between quotes, each behind a blank.
 fn write_strings<W: fmt::Write>(strings: Strings<'_>, f: &mut fmt::Formatter<W>) -> fmt::Result
-    ensures { DisplaysOnOk W.write_str_gives f.old result (Some (spaced (map printed_string strings.entry))) f.new }
+    ensures { DisplaysOnOk W.write_str_gives f.old result
+        (Some (spaced (map printed_string strings.entry))) f.new }
 {
     let mut rest = strings;
     'strings: while let Some(string) = rest.next() {

@@ -5,7 +5,9 @@ ghost use Rattle.dns_records.specs.Fields.{stated_field, stated_fields, stated_v
 ghost use Rattle.dns_records.specs.Types.{form as form_of, is_data_type, U16, U32};
 ghost use Rattle.dns_masterfile.specs.Data.{octets_of_text};
 ghost use Rattle.dns_masterfile.specs.Reading.{take_data, take_field, take_values, take_rdata, take_wire};
-ghost use Rattle.dns_masterfile.specs.Taking.{FitField, FitFields, FitName, FitStrings, IsSized, Puts, PutsValue, PutsString, Refuses, RefusesValue, Takes, string_at, strings_in};
+ghost use Rattle.dns_masterfile.specs.Taking.{FitField, FitFields, FitName, FitStrings, IsSized, Puts};
+ghost use Rattle.dns_masterfile.specs.Taking.{PutsValue, PutsString, Refuses, RefusesValue, Takes, string_at};
+ghost use Rattle.dns_masterfile.specs.Taking.{strings_in};
 
 use crate::FileError;
 use crate::scanner::Scanner;
@@ -61,7 +63,8 @@ fn ipv6(text: &[u8]) -> Option<[u8; 16]>
 
 /// Puts the octets of a number or an address behind those before.
 fn put_value(value: Value, text: &[u8], octets: &mut Octets) -> Result<(), FileError>
-    ensures { MatchResult result (λ _. PutsValue (stated_value value) text.now octets.old.items octets.new.items)
+    ensures { MatchResult result
+        (λ _. PutsValue (stated_value value) text.now octets.old.items octets.new.items)
         (RefusesValue (stated_value value) text.now) }
 {
     match value {
@@ -84,7 +87,8 @@ fn put_value(value: Value, text: &[u8], octets: &mut Octets) -> Result<(), FileE
     }
 }
 
-/// Puts a string behind the octets before, of which so many are strings already, and says how many are strings then.
+/// Puts a string behind the octets before, of which so many are strings already, and says how many are
+/// strings then.
 fn put_string(
     alloc: Heap,
     text: &[u8],
@@ -92,7 +96,8 @@ fn put_string(
     octets: &mut Octets,
 ) -> Result<usize, FileError>
     requires { size ≤ 4096 }
-    ensures { MatchResult result (PutsString text.now size octets.old.items octets.new.items) (Refuses (string_at size text.now)) }
+    ensures { MatchResult result (PutsString text.now size octets.old.items octets.new.items)
+        (Refuses (string_at size text.now)) }
 {
     let string = string(alloc, text)?;
     let size = size + 1 + string.len();
@@ -108,8 +113,9 @@ impl<'a> Scanner<'a> {
     /// Takes numbers and addresses.
     fn take_values(&mut self, values: &[Value], octets: &mut Octets) -> Result<(), FileError>
         ensures { MatchResult result
-            (λ _. Puts (take_values (stated_values values.now)) (IsSized (stated_values values.now)) self.old self.new
-            octets.old.items octets.new.items) (Refuses (take_values (stated_values values.now) self.old.words)) }
+            (λ _. Puts (take_values (stated_values values.now)) (IsSized (stated_values values.now))
+            self.old self.new octets.old.items octets.new.items)
+            (Refuses (take_values (stated_values values.now) self.old.words)) }
     {
         'parts: for value in values {
             let word = self.take_word()?;
@@ -135,7 +141,8 @@ impl<'a> Scanner<'a> {
 
     /// Takes the strings that are left, one or more.
     fn take_strings(&mut self, alloc: Heap, octets: &mut Octets) -> Result<(), FileError>
-        ensures { MatchResult result (λ _. Puts strings_in FitStrings self.old self.new octets.old.items octets.new.items)
+        ensures { MatchResult result
+            (λ _. Puts strings_in FitStrings self.old self.new octets.old.items octets.new.items)
             (Refuses (strings_in self.old.words)) }
     {
         let Some(_) = self.first_word() else {
@@ -158,8 +165,9 @@ impl<'a> Scanner<'a> {
         octets: &mut Octets,
     ) -> Result<(), FileError>
         ensures { MatchResult result
-            (λ _. Puts (take_field origin.now (stated_field field)) (FitField (stated_field field)) self.old self.new
-            octets.old.items octets.new.items) (Refuses (take_field origin.now (stated_field field) self.old.words)) }
+            (λ _. Puts (take_field origin.now (stated_field field)) (FitField (stated_field field))
+            self.old self.new octets.old.items octets.new.items)
+            (Refuses (take_field origin.now (stated_field field) self.old.words)) }
     {
         match field {
             Field::Values(values) => self.take_values(values, octets),
@@ -178,8 +186,8 @@ impl<'a> Scanner<'a> {
         octets: &mut Octets,
     ) -> Result<(), FileError>
         ensures { MatchResult result
-            (λ _. Puts (take_data origin.now (stated_fields fields.now)) (FitFields (stated_fields fields.now)) self.old
-            self.new octets.old.items octets.new.items)
+            (λ _. Puts (take_data origin.now (stated_fields fields.now))
+            (FitFields (stated_fields fields.now)) self.old self.new octets.old.items octets.new.items)
             (Refuses (take_data origin.now (stated_fields fields.now) self.old.words)) }
     {
         'fields: for field in fields {
@@ -198,7 +206,8 @@ impl<'a> Scanner<'a> {
     ) -> Result<RData, FileError>
         requires { form_of rtype ≡ Some (stated_fields fields.now) }
         ensures { MatchResult result
-            (λ d. (d.rtype ≡ rtype) × Takes (take_data origin.now (stated_fields fields.now)) self.old self.new d.octets)
+            (λ d. (d.rtype ≡ rtype)
+            × Takes (take_data origin.now (stated_fields fields.now)) self.old self.new d.octets)
             (Refuses (take_data origin.now (stated_fields fields.now) self.old.words)) }
     {
         let mut octets = SmallVec::new(alloc);
@@ -221,7 +230,8 @@ impl<'a> Scanner<'a> {
     ) -> Result<RData, FileError>
         requires { is_data_type rtype ≡ true }
         ensures { MatchResult result
-            (λ d. (d.rtype ≡ rtype) × Takes (take_rdata origin.now self.old.whole rtype) self.old self.new d.octets)
+            (λ d. (d.rtype ≡ rtype)
+            × Takes (take_rdata origin.now self.old.whole rtype) self.old self.new d.octets)
             (Refuses (take_rdata origin.now self.old.whole rtype self.old.words)) }
     {
         match form(rtype) {

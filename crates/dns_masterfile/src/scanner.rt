@@ -54,7 +54,8 @@ pub(crate) enum Next<'a> {
 /// Whether a line that begins with the piece begins with a blank.
 fn is_gap(piece: &Piece<'_>) -> bool
     ensures { (line : ℕ) (rest : List Stated)
-        → begun line (stated_piece piece.now ∷ rest) ≡ record { line = line; blank = result; words = []; whole = true } }
+        → begun line (stated_piece piece.now ∷ rest)
+        ≡ record { line = line; blank = result; words = []; whole = true } }
 {
     match piece {
         Piece::Gap => true,
@@ -70,7 +71,8 @@ fn is_gap(piece: &Piece<'_>) -> bool
 /// How the entry begins that stands at the front.
 fn start_at(octets: &[u8], line: usize) -> Start
     ensures line { result.line ≡ line }
-    ensures begun { begun line (pieces_of octets.now) ≡ record { line = line; blank = result.blank; words = []; whole = true } }
+    ensures begun { begun line (pieces_of octets.now)
+        ≡ record { line = line; blank = result.blank; words = []; whole = true } }
 {
     let blank = match split_piece(octets) {
         Some((piece, _)) => is_gap(&piece),
@@ -84,7 +86,8 @@ impl<'a> Scanner<'a> {
 
     /// A file from its start on: how its first entry begins, and what is left of it.
     pub(crate) fn first(octets: &'a [u8]) -> (Start, Scanner<'a>)
-        ensures { entries_of (pieces_of octets.now) ≡ entry_at result.0.line result.0.blank result.1 ∷ result.1.behind }
+        ensures { entries_of (pieces_of octets.now)
+            ≡ entry_at result.0.line result.0.blank result.1 ∷ result.1.behind }
     {
         let scanner = Scanner {
             rest: octets,

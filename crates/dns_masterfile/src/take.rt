@@ -1,7 +1,8 @@
 //! What is taken from the words of an entry.
 ghost use Rattle.std.specs.Prelude.{◌≡◌, [], Err, MatchOption, MatchResult};
 ghost use Rattle.dns_masterfile.specs.Left.{word_before};
-ghost use Rattle.dns_masterfile.specs.Reading.{next_word, skip_class, take_middle, take_name, take_number, take_ttl};
+ghost use Rattle.dns_masterfile.specs.Reading.{next_word, skip_class, take_middle, take_name, take_number};
+ghost use Rattle.dns_masterfile.specs.Reading.{take_ttl};
 ghost use Rattle.dns_masterfile.specs.Scan.{stated_word};
 ghost use Rattle.dns_masterfile.specs.Taking.{Refuses, Skips, Takes, starts_with_class};
 
@@ -15,7 +16,8 @@ use dns_names::Name;
 impl<'a> Scanner<'a> {
     /// The next word of the entry, and what is left behind it.
     pub(crate) fn first_word(&self) -> Option<(Word<'a>, Scanner<'a>)>
-        ensures { MatchOption result (self.now.words ≡ []) (λ r. self.now ≡ word_before (stated_word r.0) r.1) }
+        ensures { MatchOption result (self.now.words ≡ [])
+            (λ r. self.now ≡ word_before (stated_word r.0) r.1) }
     {
         match self.next() {
             Next::Word(word, behind) => Some((word, behind)),
@@ -48,7 +50,8 @@ impl<'a> Scanner<'a> {
 
     /// Takes a number.
     pub(crate) fn take_number(&mut self) -> Result<u32, FileError>
-        ensures { MatchResult result (Takes take_number self.old self.new) (λ e. take_number self.old.words ≡ Err e) }
+        ensures { MatchResult result (Takes take_number self.old self.new)
+            (λ e. take_number self.old.words ≡ Err e) }
     {
         let word = self.take_word()?;
         number(word.text()).ok_or(FileError::BadNumber)
@@ -56,7 +59,8 @@ impl<'a> Scanner<'a> {
 
     /// Takes a TTL, if one stands next.
     fn take_ttl(&mut self) -> Result<Option<u32>, FileError>
-        ensures { MatchResult result (Takes take_ttl self.old self.new) (λ e. take_ttl self.old.words ≡ Err e) }
+        ensures { MatchResult result (Takes take_ttl self.old self.new)
+            (λ e. take_ttl self.old.words ≡ Err e) }
     {
         let Some((word, behind)) = self.first_word() else {
             return Ok(None);
@@ -88,7 +92,8 @@ impl<'a> Scanner<'a> {
 
     /// Takes the TTL, if one is written: the class may stand before or behind it.
     pub(crate) fn take_middle(&mut self) -> Result<Option<u32>, FileError>
-        ensures { MatchResult result (Takes take_middle self.old self.new) (λ e. take_middle self.old.words ≡ Err e) }
+        ensures { MatchResult result (Takes take_middle self.old self.new)
+            (λ e. take_middle self.old.words ≡ Err e) }
     {
         if self.skip_class() {
             return self.take_ttl();

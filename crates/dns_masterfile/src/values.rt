@@ -1,5 +1,6 @@
 //! What words say by themselves.
-ghost use Rattle.std.specs.Prelude.{◌≡◌, ◌⊎◌, ◌^◌, List, [], ◌∷◌, map, true, unwrap_or, MatchOption, MatchResult};
+ghost use Rattle.std.specs.Prelude.{◌≡◌, ◌⊎◌, ◌^◌, List, [], ◌∷◌, map, true, unwrap_or, MatchOption};
+ghost use Rattle.std.specs.Prelude.{MatchResult};
 ghost use Rattle.std.specs.Char.{is_ascii_digit, to_ascii_uppercase};
 ghost use Rattle.std.specs.List.{list_all};
 ghost use Rattle.dns_records.specs.Types.{is_known};
@@ -156,7 +157,8 @@ impl<'a> Word<'a> {
     /// The digits of a TTL, which no other word has.
     pub(crate) fn as_digits(&self) -> Option<&'a [u8]>
         ensures { MatchOption result
-            ((rest : List Stated) → take_ttl (stated_word self.now ∷ rest) ≡ Ok (None, stated_word self.now ∷ rest))
+            ((rest : List Stated)
+            → take_ttl (stated_word self.now ∷ rest) ≡ Ok (None, stated_word self.now ∷ rest))
             (λ text. (stated_word self.now ≡ Bare text.now) × (is_decimal text.now ≡ true)) }
     {
         match self {

@@ -1,6 +1,7 @@
 //! Words of a master file.
 ghost use Rattle.std.specs.Prelude.{◌≡◌, ◌+◌, ◌<◌, ◌≤◌, [], ◌∷◌, length, take, drop, IfSome, MatchOption};
-ghost use Rattle.dns_masterfile.specs.Pieces.{InWord, InQuotes, Fault, Text, Bare, Quoted, pieces_from, pieces_of};
+ghost use Rattle.dns_masterfile.specs.Pieces.{InWord, InQuotes, Fault, Text, Bare, Quoted, pieces_from};
+ghost use Rattle.dns_masterfile.specs.Pieces.{pieces_of};
 ghost use Rattle.dns_masterfile.specs.Steps.{IsEscape, IsQuotedStep, IsWordStep, escape_takes};
 
 use crate::kind::{Kind, kind_of};
@@ -16,8 +17,8 @@ pub(crate) enum Step {
     Stop,
 }
 
-/// How many octets behind a `\` belong to it, by the kind of the first: none at a line end, one else, and no answer where it may
-/// not stand there.
+/// How many octets behind a `\` belong to it, by the kind of the first: none at a line end, one else, and no
+/// answer where it may not stand there.
 fn takes(kind: Kind) -> Option<usize>
     ensures { result ≡ escape_takes kind }
 {
@@ -69,7 +70,8 @@ fn word_step(rest: &[u8]) -> Step
 pub(crate) fn bare_len(octets: &[u8]) -> Option<usize>
     ensures within { IfSome result (λ n. n ≤ length octets.now) }
     ensures word { MatchOption result (pieces_from InWord octets.now ≡ Fault ∷ [])
-        (λ n. pieces_from InWord octets.now ≡ Text (Bare (take n octets.now)) ∷ pieces_of (drop n octets.now)) }
+        (λ n. pieces_from InWord octets.now
+        ≡ Text (Bare (take n octets.now)) ∷ pieces_of (drop n octets.now)) }
 {
     let mut len = 0;
     'steps: loop {
@@ -106,7 +108,8 @@ fn quoted_step(rest: &[u8]) -> Step
 pub(crate) fn quoted_len(octets: &[u8]) -> Option<usize>
     ensures within { IfSome result (λ n. n < length octets.now) }
     ensures string { MatchOption result (pieces_from InQuotes octets.now ≡ Fault ∷ [])
-        (λ n. pieces_from InQuotes octets.now ≡ Text (Quoted (take n octets.now)) ∷ pieces_of (drop (n + 1) octets.now)) }
+        (λ n. pieces_from InQuotes octets.now
+        ≡ Text (Quoted (take n octets.now)) ∷ pieces_of (drop (n + 1) octets.now)) }
 {
     let mut len = 0;
     'steps: loop {

@@ -20,7 +20,8 @@ fn is_wanted(soa: bool, r: &Record) -> bool
 
 /// Writes the record if it is wanted.
 fn print_if<W: Write>(wanted: bool, r: &Record, out: &mut W) -> io::Result<()>
-    ensures { OnOk result (Appends (W.contents out.old) (W.contents out.new) (if wanted then printed_record r.now else [])) }
+    ensures { OnOk result
+        (Appends (W.contents out.old) (W.contents out.new) (if wanted then printed_record r.now else [])) }
 {
     if wanted {
         write!(out, "{}", Line(r))?;
@@ -40,11 +41,13 @@ fn print_wanted<I: ZoneIndex, W: Write>(index: &I, soa: bool, out: &mut W) -> io
     Ok(())
 }
 
-/// Writes a zone in its printed form: a line for each record, the SOA first, then the others by owner, type and data. Names are
-/// in full. A fault of the writer is handed on.
+/// Writes a zone in its printed form: a line for each record, the SOA first, then the others by owner, type
+/// and data. Names are in full. A fault of the writer is handed on.
 pub fn print_zone<I: ZoneIndex, W: Write>(zone: &Zone<I>, out: &mut W) -> io::Result<()>
-    ensures printed { OnOk result (Appends (W.contents out.old) (W.contents out.new) (printed_zone zone.now.records)) }
-    ensures means { (origin : Labels) → FileMeans (printed_zone zone.now.records) origin (in_print_order zone.now.records) }
+    ensures printed { OnOk result
+        (Appends (W.contents out.old) (W.contents out.new) (printed_zone zone.now.records)) }
+    ensures means { (origin : Labels)
+        → FileMeans (printed_zone zone.now.records) origin (in_print_order zone.now.records) }
     ensures keeps { IsSetOf (in_print_order zone.now.records) zone.now.records }
 {
     print_wanted(zone.index(), true, out)?;

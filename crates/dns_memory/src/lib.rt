@@ -1,5 +1,5 @@
-//! The memory of every collection: an allocator that counts the calls of `allocate`, and refuses one of them when a test
-//! asks for it.
+//! The memory of every collection: an allocator that counts the calls of `allocate`, and refuses one of them
+//! when a test asks for it.
 #![tactic(auto)]
 
 use std::alloc::{AllocError, Allocator, Global};
@@ -38,7 +38,8 @@ impl<B: Allocator> Drop for Meter<B> {
     }
 }
 
-/// The handle of every collection: `Copy`, of a known size, with no lifetime of its own and no type parameter.
+/// The handle of every collection: `Copy`, of a known size, with no lifetime of its own and no type
+/// parameter.
 pub type Heap = &'static Meter<Global>;
 
 /// The handle over the memory of the machine. It is made once, and never freed.

@@ -1,5 +1,6 @@
 -- A name that is being made from text.
-use Rattle.std.specs.Prelude.{◌≡◌, ℕ, ◌<◌, ◌==◌, nat_lt, List, [], ◌∷◌, ◌++◌, length, map, Option, Some, None, if◌then◌else◌}
+use Rattle.std.specs.Prelude.{◌≡◌, ℕ, ◌<◌, ◌==◌, nat_lt, List, [], ◌∷◌, ◌++◌, length, map, Option, Some, None}
+use Rattle.std.specs.Prelude.{if◌then◌else◌}
 use Rattle.std.specs.List.{list_any, AllByRecursion}
 use Rattle.std.specs.Char.{to_ascii_lowercase}
 use Rattle.dns_names.specs.Name.{Labels}
@@ -37,5 +38,6 @@ after done tail (Some parts) = Some (joined done tail parts)
 -- With a letter taken, the parts of the whole stay what they are.
 abbrev pub TakesLetter : Builder → Labels → List ℕ → Letter → Option (List Letter) → Type 0
 TakesLetter b done tail letter behind =
-    (ended : Labels) × (last : List ℕ) × IsBuilt b ended last × (after done tail (parts_of (onto letter behind))
+    (ended : Labels) × (last : List ℕ) × IsBuilt b ended last
+    × (after done tail (parts_of (onto letter behind))
     ≡ after ended last (parts_of behind))

@@ -4,8 +4,11 @@ use Rattle.std.specs.Prelude.{◌==◌}
 use Rattle.std.specs.Bool.{Decides, one_answer}
 use Rattle.std.specs.Ordering.{nat_cmp, eq_by_cmp, as_partial_cmp}
 use Rattle.std.specs.declared.cmp.Ordering.TheVariants.{Equal}
-use Rattle.std.specs.Cmp.{IsPartialEquivalence, IsEquivalence, IsPartialOrder, IsTotalOrder, partial_equiv_from_equiv, po, on_total, Equal-is}
-use Rattle.std.specs.Cmp.Lexicographic.{pointwise, slice_cmp, pointwise_decides, bytes_decides, lists_equiv, lists_total, lists_ties, texts_ties, nat_list_cmp_total, nat_list_eq_equiv}
+use Rattle.std.specs.Cmp.{IsPartialEquivalence, IsEquivalence, IsPartialOrder, IsTotalOrder}
+use Rattle.std.specs.Cmp.{partial_equiv_from_equiv, po, on_total, Equal-is}
+use Rattle.std.specs.Cmp.Lexicographic.{pointwise, slice_cmp, pointwise_decides, bytes_decides, lists_equiv}
+use Rattle.std.specs.Cmp.Lexicographic.{lists_total, lists_ties, texts_ties, nat_list_cmp_total}
+use Rattle.std.specs.Cmp.Lexicographic.{nat_list_eq_equiv}
 use Rattle.std.proofs.lemmas.List.{reverse-reverse}
 use Rattle.dns_names.specs.Name.{Labels, wire, labels_of, name_cmp, names_eq}
 use Rattle.dns_names.specs.Plain.{IsPlain}
@@ -18,7 +21,9 @@ names_eq-pointwise (a ∷ as') [] = refl
 names_eq-pointwise (a ∷ as') (b ∷ bs) = ap (λ (t : Bool). pointwise ◌==◌ a b && t) (names_eq-pointwise as' bs)
 
 pub names_eq-Decides : (a b : Labels) → Decides (names_eq a b) (a ≡ b)
-names_eq-Decides a b = subst (λ (t : Bool). Decides t (a ≡ b)) (sym (names_eq-pointwise a b)) (pointwise_decides bytes_decides a b)
+names_eq-Decides a b =
+    subst (λ (t : Bool). Decides t (a ≡ b)) (sym (names_eq-pointwise a b))
+    (pointwise_decides bytes_decides a b)
 
 pub names_eq-equiv : IsEquivalence names_eq
 names_eq-equiv =
@@ -34,15 +39,17 @@ pub names_eq-per : IsPartialEquivalence names_eq
 names_eq-per = partial_equiv_from_equiv names_eq-equiv
 
 -- plain forms are compared in place of their names
-pub same_plain : (p q : List ℕ) → IsPlain p → IsPlain q → Decides (pointwise ◌==◌ p q) (labels_of p ≡ labels_of q)
+pub same_plain : (p q : List ℕ) → IsPlain p → IsPlain q
+    → Decides (pointwise ◌==◌ p q) (labels_of p ≡ labels_of q)
 same_plain p q h k =
     let d = bytes_decides p q in
     (λ t. ap labels_of (d.0 t), λ e. d.1 (sym h.whole ∙ ap wire e ∙ k.whole))
 
-pub same_plain-labels : (p q : List ℕ) → IsPlain p → IsPlain q → pointwise ◌==◌ p q ≡ names_eq (labels_of p) (labels_of q)
+pub same_plain-labels : (p q : List ℕ) → IsPlain p → IsPlain q
+    → pointwise ◌==◌ p q ≡ names_eq (labels_of p) (labels_of q)
 same_plain-labels p q h k =
-    one_answer {P = labels_of p ≡ labels_of q} (pointwise ◌==◌ p q) (names_eq (labels_of p) (labels_of q)) (same_plain p q h k)
-    (names_eq-Decides (labels_of p) (labels_of q))
+    one_answer {P = labels_of p ≡ labels_of q} (pointwise ◌==◌ p q) (names_eq (labels_of p) (labels_of q))
+    (same_plain p q h k) (names_eq-Decides (labels_of p) (labels_of q))
 
 reversed_once : (a b : Labels) → reverse a ≡ reverse b → a ≡ b
 reversed_once a b e = sym (reverse-reverse a) ∙ ap reverse e ∙ reverse-reverse b

@@ -11,7 +11,8 @@ octets-append [] ys h k = k
 octets-append (x ∷ xs) ys h k = (h.0, octets-append xs ys h.1 k)
 
 -- a plain form is octets
-pub wire_octets : (name : Labels) → AllByRecursion IsLabel name → AllByRecursion (λ octet. octet < 256) (wire name)
+pub wire_octets : (name : Labels) → AllByRecursion IsLabel name
+    → AllByRecursion (λ octet. octet < 256) (wire name)
 wire_octets [] h = (omega arith, tt)
 wire_octets (label ∷ rest) h =
     let short : length label ≤ 63 = h.0.short in

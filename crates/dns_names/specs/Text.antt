@@ -1,5 +1,7 @@
 -- Names in text: what a text names, and how a name is printed.
-use Rattle.std.specs.Prelude.{ℕ, ◌+◌, ◌-◌, ◌*◌, ◌/◌, ◌%◌, Bool, true, false, ◌&&◌, ◌||◌, ◌==◌, nat_lt, List, [], ◌∷◌, ◌++◌, length, flat_map, Option, Some, None, Result, Ok, Err, bytes_eq, codes, if◌then◌else◌}
+use Rattle.std.specs.Prelude.{ℕ, ◌+◌, ◌-◌, ◌*◌, ◌/◌, ◌%◌, Bool, true, false, ◌&&◌, ◌||◌, ◌==◌, nat_lt, List}
+use Rattle.std.specs.Prelude.{[], ◌∷◌, ◌++◌, length, flat_map, Option, Some, None, Result, Ok, Err, bytes_eq}
+use Rattle.std.specs.Prelude.{codes, if◌then◌else◌}
 use Rattle.std.specs.List.{list_any}
 use Rattle.std.specs.Char.{to_ascii_lowercase, is_ascii_digit}
 use Rattle.dns_names.specs.Name.{Labels, wire}
@@ -22,7 +24,8 @@ abbrev pub onto : Letter → Option (List Letter) → Option (List Letter)
 onto x None = None
 onto x (Some xs) = Some (x ∷ xs)
 
--- The letters of a text, unless a `\` is misused: `\X`, X no digit, is the octet X, and `\DDD` the octet of that decimal value.
+-- The letters of a text, unless a `\` is misused: `\X`, X no digit, is the octet X, and `\DDD` the octet of
+-- that decimal value.
 abbrev pub letters_from : Due → List ℕ → Option (List Letter)
 letters_from ALetter [] = Some []
 letters_from AnEscape [] = None
@@ -112,7 +115,8 @@ is_special c = c == 46 || c == 92 || c == 34 || c == 40 || c == 41 || c == 59 ||
 
 -- An octet of a label in print.
 abbrev pub printed_octet : ℕ → List ℕ
-printed_octet c = if is_special c then 92 ∷ c ∷ [] else if nat_lt c 33 || nat_lt 126 c then escaped c else c ∷ []
+printed_octet c =
+    if is_special c then 92 ∷ c ∷ [] else if nat_lt c 33 || nat_lt 126 c then escaped c else c ∷ []
 
 abbrev pub printed_label : List ℕ → List ℕ
 printed_label label = flat_map printed_octet label

@@ -1,5 +1,6 @@
 //! Making a name from its octets, one by one.
-ghost use Rattle.std.specs.Prelude.{◌≡◌, ℕ, ◌<◌, List, [], ◌∷◌, ◌++◌, length, slice_set, OnOk, Ok, Err, ◌⊎◌, MatchResult, Option, if◌then◌else◌};
+ghost use Rattle.std.specs.Prelude.{◌≡◌, ℕ, ◌<◌, List, [], ◌∷◌, ◌++◌, length, slice_set, OnOk, Ok, Err, ◌⊎◌};
+ghost use Rattle.std.specs.Prelude.{MatchResult, Option, if◌then◌else◌};
 ghost use Rattle.std.specs.Char.{to_ascii_lowercase};
 
 use crate::{Name, NameError};
@@ -15,8 +16,8 @@ fn set_octet(octets: &mut SmallVec<u8, 32, Heap>, at: usize, octet: u8)
     octets.as_mut_slice()[at] = octet;
 }
 
-/// Labels that have ended, and the octets of one that has not. The limits are tested when all is read, so that the first
-/// refusal that applies is told, and not the first that is met.
+/// Labels that have ended, and the octets of one that has not. The limits are tested when all is read, so
+/// that the first refusal that applies is told, and not the first that is met.
 #[derive(Drop)]
 pub(crate) struct Builder {
     /// Labels behind their lengths, a place for the length of the open label, and its octets.
@@ -49,7 +50,8 @@ impl Builder {
     fn push(&mut self, octet: u8) -> Result<(), AllocError>
         requires { to_ascii_lowercase octet ≡ octet }
         ensures { OnOk result
-            ((done : Labels) (tail : List ℕ) → IsBuilt self.old done tail → IsBuilt self.new done (tail ++ octet ∷ [])) }
+            ((done : Labels) (tail : List ℕ) → IsBuilt self.old done tail
+            → IsBuilt self.new done (tail ++ octet ∷ [])) }
     {
         self.octets.push(octet)?;
         Ok(())
@@ -59,7 +61,8 @@ impl Builder {
     fn end_label(&mut self) -> Result<(), AllocError>
         requires { (done : Labels) × (tail : List ℕ) × IsBuilt self.old done tail }
         ensures { OnOk result
-            ((done : Labels) (tail : List ℕ) → IsBuilt self.old done tail → IsBuilt self.new (done ++ tail ∷ []) []) }
+            ((done : Labels) (tail : List ℕ) → IsBuilt self.old done tail
+            → IsBuilt self.new (done ++ tail ∷ []) []) }
     {
         let len = self.octets.len() - self.start - 1;
         self.empty |= len == 0;

@@ -1,5 +1,6 @@
 //! A name that is lent: octets that stand elsewhere, as a message or a zone holds them.
-ghost use Rattle.std.specs.Prelude.{◌≡◌, ℕ, List, ◌∷◌, ◌++◌, ◌↔◌, Some, None, IfOk, IfSome, IfNone, IsTrue, length, map};
+ghost use Rattle.std.specs.Prelude.{◌≡◌, ℕ, List, ◌∷◌, ◌++◌, ◌↔◌, Some, None, IfOk, IfSome, IfNone, IsTrue};
+ghost use Rattle.std.specs.Prelude.{length, map};
 ghost use Rattle.std.specs.Char.{to_ascii_lowercase};
 ghost use Rattle.dns_names.specs.Name.{Labels, IsName, IsUnder, wire, parent, is_wildcard, name_cmp};
 
@@ -10,7 +11,8 @@ use std::alloc::AllocError;
 use std::cmp::Ordering;
 use std::marker::Model;
 
-/// A name that somebody else keeps: the plain form, lent. Its ancestors are tails of it, so that walking up takes no memory.
+/// A name that somebody else keeps: the plain form, lent. Its ancestors are tails of it, so that walking up
+/// takes no memory.
 #[derive(Drop)]
 pub struct NameRef<'a> {
     octets: &'a [u8],
@@ -55,7 +57,8 @@ impl<'a> NameRef<'a> {
     /// The name whose plain form, in lower case, stands at the front of the octets, and the octets behind it.
     pub fn first(octets: &'a [u8]) -> Option<(NameRef<'a>, &'a [u8])>
         ensures found { IfSome result (λ r. IsName r.0 × (octets.now ≡ wire r.0 ++ r.1.now)) }
-        ensures none { IfNone result ((name : Labels) (rest : List ℕ) → IsName name → octets.now ≡ wire name ++ rest → ⊥) }
+        ensures none { IfNone result
+            ((name : Labels) (rest : List ℕ) → IsName name → octets.now ≡ wire name ++ rest → ⊥) }
     {
         let Ok(stop) = root_of(octets) else {
             return None;

@@ -1,10 +1,13 @@
-//! Names of their own: read from text or from wire form, lower case, within 255 octets (RFC 1035 section 2.3.4).
-ghost use Rattle.std.specs.Prelude.{◌≡◌, ℕ, ◌+◌, ◌≤◌, List, length, map, take, slice_get, Some, None, IfOk, IfErr, IsTrue, ◌↔◌, [], Ok, Err, ◌⊎◌, MatchResult};
+//! Names of their own: read from text or from wire form, lower case, within 255 octets (RFC 1035
+//! section 2.3.4).
+ghost use Rattle.std.specs.Prelude.{◌≡◌, ℕ, ◌+◌, ◌≤◌, List, length, map, take, slice_get, Some, None, IfOk};
+ghost use Rattle.std.specs.Prelude.{IfErr, IsTrue, ◌↔◌, [], Ok, Err, ◌⊎◌, MatchResult};
 ghost use Rattle.dns_names.specs.Text.{name_of_text, printed_name};
 ghost use Rattle.std.specs.Char.{to_ascii_lowercase};
 ghost use Rattle.dns_names.specs.Name.{Labels, IsName, IsUnder, wire, parent, wildcard, name_cmp, names_eq};
 ghost use Rattle.dns_names.specs.Octets.{LabelsAt, Explains};
-ghost use Rattle.dns_names.specs.Compare.{names_eq-per, names_eq-equiv, name_cmp-total, name_cmp-ties, name_cmp-po};
+ghost use Rattle.dns_names.specs.Compare.{names_eq-per, names_eq-equiv, name_cmp-total, name_cmp-ties};
+ghost use Rattle.dns_names.specs.Compare.{name_cmp-po};
 ghost use Rattle.std.specs.Ordering.{as_partial_cmp};
 ghost use Rattle.std.specs.Prelude.{refl};
 
@@ -47,7 +50,8 @@ impl Model for Name {
 /// Where the plain form of a name at the front of the octets has its zero octet.
 pub(crate) fn root_of(octets: &[u8]) -> Result<usize, NameError>
     ensures found { IfOk result
-        (λ stop. (stop ≤ 254) × (labels : Labels) × LabelsAt octets.now 0 labels stop × (slice_get octets.now stop ≡ Some 0)) }
+        (λ stop. (stop ≤ 254) × (labels : Labels) × LabelsAt octets.now 0 labels stop
+        × (slice_get octets.now stop ≡ Some 0)) }
     ensures refused { IfErr result (Explains octets.now) }
     ensures other { IfErr result (λ e. e ≡ NameError.OutOfMemory → ⊥) }
 {
@@ -97,10 +101,11 @@ impl Name {
         Name { octets }
     }
 
-    /// The name of a text, in lower case: labels with dots between, in which `\\X` is the octet X and `\\DDD` the octet of that
-    /// decimal value (RFC 1035 section 5.1). A text with no dot at its end is followed by the origin; `@` alone is the origin,
-    /// and `.` alone is the root. Refused are, in this order, a misused `\\` (`BadEscape`), a label without octets
-    /// (`EmptyLabel`), one of more than 63 (`LabelTooLong`), and a name of more than 255 in plain form (`NameTooLong`).
+    /// The name of a text, in lower case: labels with dots between, in which `\\X` is the octet X and `\\DDD`
+    /// the octet of that decimal value (RFC 1035 section 5.1). A text with no dot at its end is followed by
+    /// the origin; `@` alone is the origin, and `.` alone is the root. Refused are, in this order, a misused
+    /// `\\` (`BadEscape`), a label without octets (`EmptyLabel`), one of more than 63 (`LabelTooLong`), and a
+    /// name of more than 255 in plain form (`NameTooLong`).
     pub fn from_text(alloc: Heap, text: &[u8], origin: &Name) -> Result<Name, NameError>
         ensures read { MatchResult result (λ name. name_of_text origin.now text.now ≡ Ok name)
             (λ e. (e ≡ NameError.OutOfMemory) ⊎ (name_of_text origin.now text.now ≡ Err e)) }
@@ -150,7 +155,8 @@ impl Name {
     /// The name whose plain form stands at the front of the octets, and how many octets that has.
     pub fn parse_wire(alloc: Heap, octets: &[u8]) -> Result<(Name, usize), NameError>
         ensures found { IfOk result
-            (λ r. IsName r.0 × (r.1 ≤ length octets.now) × (map to_ascii_lowercase (take r.1 octets.now) ≡ wire r.0)) }
+            (λ r. IsName r.0 × (r.1 ≤ length octets.now)
+            × (map to_ascii_lowercase (take r.1 octets.now) ≡ wire r.0)) }
         ensures refused { IfErr result (Explains octets.now) }
         // What is a name is read, unless memory runs out.
         ensures only { (name : Labels) (n : ℕ)

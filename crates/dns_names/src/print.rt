@@ -21,7 +21,8 @@ impl fmt::Display for EscapedOctet {
     }
 }
 
-/// An octet of a label: what has a meaning of its own stands behind a `\`, and what is no visible ASCII is `\DDD`.
+/// An octet of a label: what has a meaning of its own stands behind a `\`, and what is no visible ASCII is
+/// `\DDD`.
 #[derive(Drop)]
 struct PrintedOctet(u8);
 
@@ -58,7 +59,8 @@ impl fmt::Display for PrintedLabel<'_> {
 impl fmt::Display for NameRef<'_> {
     ghost output = { λ name. Some (printed_name name) };
 
-    /// The name as a master file has it: each label with a dot behind it, and a dot alone for the root (RFC 1035 section 5.1).
+    /// The name as a master file has it: each label with a dot behind it, and a dot alone for the root
+    /// (RFC 1035 section 5.1).
     fn fmt<W: fmt::Write>(&self, f: &mut fmt::Formatter<W>) -> fmt::Result {
         let mut rest = self.as_wire();
         if rest.len() < 2 {

@@ -29,7 +29,8 @@ fn split_escape(text: &[u8]) -> Option<(u8, &[u8])>
 pub fn split_letter(text: &[u8]) -> Option<(u8, bool, &[u8])>
     requires { text.now ≢ [] }
     ensures { MatchOption result (letters_from ALetter text.now ≡ None)
-        (λ r. (letters_from ALetter text.now ≡ onto (if r.1 then Escaped r.0 else Itself r.0) (letters_from ALetter r.2.now))
+        (λ r. (letters_from ALetter text.now
+        ≡ onto (if r.1 then Escaped r.0 else Itself r.0) (letters_from ALetter r.2.now))
         × (length r.2.now < length text.now)) }
 {
     let (first, behind) = text.split_first()?;

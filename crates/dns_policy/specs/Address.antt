@@ -10,8 +10,8 @@ use Rattle.std.specs.Net.Reader.{read_ipv4, read_ipv6, whole_value}
 abbrev pub has_dot : List ℕ → Bool
 has_dot text = list_any (λ octet. octet == 46) text
 
--- Four decimal numbers (RFC 1035 section 3.4.1), or groups of hexadecimal digits (RFC 3596 section 2.4, RFC 4291 section 2.2)
--- with no dotted numbers at their end.
+-- Four decimal numbers (RFC 1035 section 3.4.1), or groups of hexadecimal digits (RFC 3596 section 2.4,
+-- RFC 4291 section 2.2) with no dotted numbers at their end.
 abbrev pub IsAddress : List ℕ → IpAddr → Type 0
 IsAddress text (V4 a) = IsIpv4Text text a
 IsAddress text (V6 a) = (has_dot text ≡ false) × IsIpv6Text text a

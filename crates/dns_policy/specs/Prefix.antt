@@ -1,5 +1,6 @@
 -- Prefixes of addresses, as `192.0.2.0/24`: their texts, and what they cover.
-use Rattle.std.specs.Prelude.{◌≡◌, ℕ, zero, suc, ◌/◌, ◌%◌, ◌≤◌, ◌==◌, Bool, List, [], ◌∷◌, ◌++◌, take, flat_map, decimal, IsSome}
+use Rattle.std.specs.Prelude.{◌≡◌, ℕ, zero, suc, ◌/◌, ◌%◌, ◌≤◌, ◌==◌, Bool, List, [], ◌∷◌, ◌++◌, take}
+use Rattle.std.specs.Prelude.{flat_map, decimal, IsSome}
 use Rattle.std.specs.List.{position, before_first, after_first, Any}
 use Rattle.std.specs.Net.Addr.{ipv4_octets, ipv6_octets}
 use Rattle.std.specs.declared.net.ip_addr.IpAddr.{IpAddr}

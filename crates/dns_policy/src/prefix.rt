@@ -1,5 +1,6 @@
 //! Prefixes of addresses.
-ghost use Rattle.std.specs.Prelude.{◌≡◌, ◌*◌, ◌≤◌, ◌↔◌, IsSome, IsTrue, None, length, take, MatchOption, MatchResult};
+ghost use Rattle.std.specs.Prelude.{◌≡◌, ◌*◌, ◌≤◌, ◌↔◌, IsSome, IsTrue, None, length, take, MatchOption};
+ghost use Rattle.std.specs.Prelude.{MatchResult};
 ghost use Rattle.std.specs.List.{position, before_first, after_first};
 ghost use Rattle.dns_policy.specs.Prefix.{IsPrefix, Explains, Covers, IsAllowed, bits_of, is_slash};
 ghost use Rattle.dns_policy.specs.Family.{width};
@@ -9,8 +10,8 @@ use crate::text::{address, number_up_to};
 use std::marker::Model;
 use std::net::IpAddr;
 
-/// The addresses of a family whose leading bits agree with those of one address: `192.0.2.0/24` are those from 192.0.2.0 to
-/// 192.0.2.255.
+/// The addresses of a family whose leading bits agree with those of one address: `192.0.2.0/24` are those
+/// from 192.0.2.0 to 192.0.2.255.
 #[derive(Clone, Copy, Debug, PartialEq, Eq)]
 pub struct Prefix {
     address: IpAddr,
@@ -78,8 +79,9 @@ fn split_at_slash(text: &[u8]) -> Option<(&[u8], &[u8])>
 }
 
 impl Prefix {
-    /// The prefix of a text: an address, `/` and a length of at most 32 or 128 in decimal digits without leading zeros. A text
-    /// with no `/`, or with no address before it, is `BadPrefix`; else one with no such length is `BadLength`.
+    /// The prefix of a text: an address, `/` and a length of at most 32 or 128 in decimal digits without
+    /// leading zeros. A text with no `/`, or with no address before it, is `BadPrefix`; else one with no such
+    /// length is `BadLength`.
     pub fn parse(text: &[u8]) -> Result<Prefix, PrefixError>
         ensures { MatchResult result (IsPrefix text.now) (Explains text.now) }
     {

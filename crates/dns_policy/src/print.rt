@@ -51,7 +51,8 @@ impl fmt::Display for PrintedAddress {
     }
 }
 
-/// The address in print, as the data of an A or AAAA record has it. What is printed reads back as the address.
+/// The address in print, as the data of an A or AAAA record has it. What is printed reads back as the
+/// address.
 pub fn print_address(address: IpAddr) -> PrintedAddress
     ensures same { result.0 ≡ address }
     ensures reads_back { IsAddress (printed_address address) address }

@@ -1,12 +1,13 @@
 //! Addresses and lengths in text.
-ghost use Rattle.std.specs.Prelude.{◌≡◌, ◌≢◌, ℕ, ◌<◌, ◌≤◌, Some, IfSome, MatchOption, decimal, option_and_then};
+ghost use Rattle.std.specs.Prelude.{◌≡◌, ◌≢◌, ℕ, ◌<◌, ◌≤◌, Some, IfSome, MatchOption, decimal};
+ghost use Rattle.std.specs.Prelude.{option_and_then};
 ghost use Rattle.std.specs.declared.net.ip_addr.IpAddr.{IpAddr as StatedIp};
 ghost use Rattle.dns_policy.specs.Address.{IsAddress, ipv4_in, ipv4_of_text, ipv6_in, ipv6_of_text};
 
 use std::net::{IpAddr, Ipv4Addr, Ipv6Addr};
 
-/// The address of a text, as the data of an A or AAAA record has it (RFC 1035 section 3.4.1, RFC 3596 section 2.4): an IPv6
-/// address has no dotted numbers at its end.
+/// The address of a text, as the data of an A or AAAA record has it (RFC 1035 section 3.4.1, RFC 3596
+/// section 2.4): an IPv6 address has no dotted numbers at its end.
 pub fn address(text: &[u8]) -> Option<IpAddr>
     ensures found { IfSome result (IsAddress text.now) }
     ensures only { (a : StatedIp) → IsAddress text.now a → result ≡ Some a }
@@ -43,7 +44,8 @@ fn small_number(text: &[u8]) -> Option<u8>
 /// The number of at most so much that the text is, in decimal digits without leading zeros.
 pub(crate) fn number_up_to(text: &[u8], most: u8) -> Option<u8>
     requires { most < 200 }
-    ensures { MatchOption result ((n : ℕ) → n ≤ most → text.now ≢ decimal n) (λ n. (text.now ≡ decimal n) × (n ≤ most)) }
+    ensures { MatchOption result ((n : ℕ) → n ≤ most → text.now ≢ decimal n)
+        (λ n. (text.now ≡ decimal n) × (n ≤ most)) }
 {
     match small_number(text) {
         Some(number) if number <= most => Some(number),

@@ -11,9 +11,13 @@ use Rattle.std.specs.declared.net.ip_addr.IpAddr.{IpAddr}
 use Rattle.std.specs.declared.net.ip_addr.IpAddr.TheVariants.{V4, V6}
 use Rattle.dns_zone.specs.Zone.{Zone}
 use Rattle.dns_policy.specs.Prefix.{bits_of, Covers, IsAllowed}
+use Rattle.dns_store.specs.Versions.{opened_again}
+use Rattle.dns_store.specs.Opens.{fresh}
+use Rattle.dns_store.specs.Formatting.{first_of}
 use Rattle.dns_held.specs.Each.{Each3}
 use Rattle.dns_primary.specs.declared.primary.ZoneSettings.{ZoneSettings}
-use Rattle.dns_primary.specs.Machine.{ZoneState, Machine}
+use Rattle.dns_primary.specs.Machine.{ZoneState, Machine, kept_of, versions_of}
+use Rattle.dns_primary.specs.Open.{shape_of}
 use Rattle.dns_primary.specs.Fresh.{IsLoaded, IsFresh}
 
 -- whether a prefix covers an address
@@ -83,3 +87,25 @@ pub fresh_machine : (zones : List Zone) (settings : List ZoneSettings) → lengt
 fresh_machine zones settings e =
     let all = all_begun zones settings e in
     (record { zones = all.0; waiting = []; connections = [] }, record { zones_are = all.1; waiting = refl; connections = refl })
+
+-- a zone that was just loaded is what its store is opened as
+pub loaded_opened : (zone : Zone) (settings : ZoneSettings) (z : ZoneState) → IsLoaded zone settings z → kept_of z ≡ fresh (shape_of zone.apex settings) (opened_again (first_of zone.records))
+loaded_opened zone settings z h =
+    let shape = h.shape in
+    let loaded = h.loaded in
+    let shown = h.shown in
+    let staged = h.staged in
+    let base = h.base in
+    let second = h.second in
+    let openings = h.openings in
+    let opened = h.opened in
+    λ i. record {
+      shape = shape i;
+      loaded = loaded i;
+      shown = versions_of (shown i);
+      staged = versions_of (staged i);
+      base = base i;
+      second = second i;
+      openings = openings i;
+      closed = opened i;
+    }

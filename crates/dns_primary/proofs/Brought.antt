@@ -2,7 +2,7 @@
 use Rattle.std.proofs.Common.{◌≡◌, ◌+◌, ◌≤◌, ◌⊎◌, arith, inl, inr, ⊎_elim, ℕ, suc, Bool, true, not, List, [], ◌∷◌, ◌++◌, Option, Some, None, refl, sym, ap, subst, ◌∙◌, append_assoc, append-nil}
 use Rattle.std.specs.Prelude.{slice_get, slice_set, option_map, ◌==◌, nat_le, if◌then◌else◌}
 use Rattle.std.specs.declared.net.ip_addr.IpAddr.{IpAddr}
-use Rattle.std.specs.List.{AllByRecursion}
+use Rattle.std.specs.List.{AllByRecursion, Contains}
 use Rattle.dns_names.specs.Name.{Labels, names_eq}
 use Rattle.dns_records.specs.Record.{Record}
 use Rattle.dns_records.specs.Types.{type_soa, class_in}
@@ -29,7 +29,7 @@ use Rattle.dns_primary.specs.Checkpoint.{IsCheckpoint}
 use Rattle.dns_primary.specs.Step.{Event, Datagram, Connect, Arrives, Flush, Checkpoint, Pump, Closed, IsCheckpointed, IsBegun, IsUpdated, Effects, IsServed, IsArrived, IsConnected, Goes, Lacks, Step}
 use Rattle.dns_primary.specs.Stop.{IsMaking, IsRecovered, AreRecovered}
 use Rattle.dns_primary.specs.Fresh.{IsLoaded, IsFresh}
-use Rattle.dns_primary.specs.Runs.{Moment, Took, Stopped, after, Happens, Run, last_of, Carries, Brings, BringsIn, CameIn, AllCameIn, openings_in, IsOpenedAtMost}
+use Rattle.dns_primary.specs.Runs.{Moment, Took, Stopped, after, Happens, Run, last_of, Carries, Brings, BringsIn, CameIn, AllCameIn, AllCameSince, openings_in, IsOpenedAtMost}
 use Rattle.dns_primary.proofs.Quiet.{transferred_quiet, pumped_quiet}
 use Rattle.dns_primary.proofs.Zonewise.{tested, pair_same, pair_on, pair_set, Same, same_itself, zone_flushed}
 use Rattle.dns_primary.proofs.Preserved.{has, same_moved, same_updates}
@@ -381,6 +381,24 @@ all_from_none m run (a ∷ zones) [] (z ∷ olds) (w ∷ news) f c = absurd f
 
 pub all_came : (zones : List Zone) (settings : List ZoneSettings) (start : Machine) (run : List Moment) → IsFresh zones settings start → Run start run → AllByRecursion (AllCameIn start run) (last_of start run).zones
 all_came zones settings start run f r = all_from_none start run zones settings start.zones (last_of start run).zones f.zones_are (run_came start run r)
+
+contained : (xs : List Made) (u : Made) → Has xs u → Contains xs u
+contained [] u h = absurd h
+contained (x ∷ xs) u (inl e) = (0, omega arith, sym e)
+contained (x ∷ xs) u (inr h) = (let c = contained xs u h in (suc c.0, omega (arith, c.1), c.2))
+
+all_since : (m : Machine) (run : List Moment) (olds news : List ZoneState) → Each2 (CameFrom m run) olds news → Each2 (AllCameSince m run) olds news
+all_since m run [] [] c = tt
+all_since m run [] (w ∷ news) c = absurd c
+all_since m run (z ∷ olds) [] c = absurd c
+all_since m run (z ∷ olds) (w ∷ news) c = (
+  each_has (λ u. Contains (updates_of z) u ⊎ CameIn m run w u.update) (updates_of w)
+      (λ u h. ⊎_elim (λ there. inl (contained (updates_of z) u there)) (λ came. inr came) ((c.0).updates u h)),
+  all_since m run olds news c.1,
+)
+
+pub all_came_since : (start : Machine) (run : List Moment) → Run start run → Each2 (AllCameSince start run) start.zones (last_of start run).zones
+all_came_since start run r = all_since start run start.zones (last_of start run).zones (run_came start run r)
 
 all_counted : (m : Machine) (run : List Moment) (olds news : List ZoneState) → Each2 (CameFrom m run) olds news → Each2 (IsOpenedAtMost (openings_in run)) olds news
 all_counted m run [] [] c = tt

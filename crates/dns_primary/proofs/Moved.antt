@@ -61,7 +61,7 @@ open_of : (b : Bool) → (b ≡ true → ⊥) → b ≡ false
 open_of true none = absurd (none refl)
 open_of false none = refl
 
-open_staged : (z : ZoneState) → IsSettled z → z.closed ≡ false → (kept_of z).staged ≡ []
+pub open_staged : (z : ZoneState) → IsSettled z → z.closed ≡ false → (kept_of z).staged ≡ []
 open_staged z settled is = ⊎_elim (λ c. (let clash : true ≡ false = sym c ∙ is in absurd (cc clash))) (λ n. ap versions_of n) settled
 
 tip_moved : (tip : Option Zone) (fails : Bool) (base : ℕ) (z : ZoneState) → IsTip tip (kept_of z) → IsTip tip (kept_of (rebased fails base z))

@@ -1,19 +1,20 @@
 -- A stop keeps what every step keeps, and so whole runs do.
-use Rattle.std.proofs.Common.{◌≡◌, ℕ, suc, List, [], ◌∷◌, ◌++◌, sym, ap, subst, ◌∙◌, append_assoc, append-nil}
+use Rattle.std.proofs.Common.{◌≡◌, ℕ, suc, inl, inr, List, [], ◌∷◌, ◌++◌, sym, ap, subst, ◌∙◌, append_assoc, append-nil}
 use Rattle.std.specs.List.{AllByRecursion}
 use Rattle.dns_records.specs.Record.{Record}
 use Rattle.dns_zone.specs.Zone.{Zone}
-use Rattle.dns_held.specs.Each.{Each3}
+use Rattle.dns_store.specs.Versions.{Opened}
+use Rattle.dns_held.specs.Each.{Each2, Each3}
 use Rattle.dns_primary.specs.declared.primary.ZoneSettings.{ZoneSettings}
 use Rattle.dns_primary.specs.Machine.{Setting, Made, ZoneState, Waits, Machine, updates_of}
 use Rattle.dns_primary.specs.Step.{Event}
 use Rattle.dns_primary.specs.Stop.{IsMaking, IsRecovered, AreRecovered, IsStopped}
-use Rattle.dns_primary.specs.Fresh.{IsLoaded, IsFresh}
-use Rattle.dns_primary.specs.Runs.{Moment, Took, Stopped, after, sent_in, Happens, Run, last_of, AllLast, IsHistory, HasHistory, Lasts, StaysTrue, Promise}
+use Rattle.dns_primary.specs.Fresh.{IsLoaded, IsFresh, IsReopened, IsResumed, IsStart}
+use Rattle.dns_primary.specs.Runs.{Moment, Took, Stopped, after, sent_in, Happens, Run, last_of, AllLast, IsHistory, HasHistory, Lasts, StaysTrue, Promise, Continuation}
 use Rattle.dns_primary.proofs.Zonewise.{all_last_same, all_last_on}
 use Rattle.dns_primary.proofs.Sound.{IsPlaced, IsSound, Preserves, all_true_over}
 use Rattle.dns_primary.proofs.Preserved.{step_preserves}
-use Rattle.dns_primary.proofs.Brought.{all_came, run_counts}
+use Rattle.dns_primary.proofs.Brought.{all_came, all_came_since, run_counts}
 
 -- what is left of a history when its tail goes
 pub history_front : (s : Setting) (number : ℕ) (records : List Record) (xs ys : List Made) → IsHistory s number records (xs ++ ys) → IsHistory s number records xs
@@ -88,6 +89,32 @@ pub fresh_keeps : (zones : List Zone) (settings : List ZoneSettings) (start : Ma
 fresh_keeps zones settings start run f r =
     let kept = run_keeps start run (fresh_sound zones settings start f) r in
     record { loaded = kept.loaded; history = kept.history; came = all_came zones settings start run f r; openings = run_counts start run r; moments = kept.moments }
+
+-- a machine of zones that were opened again
+reopened_history : (held : List Opened) (states : List ZoneState) → Each2 IsReopened held states → AllByRecursion HasHistory states
+reopened_history [] [] h = tt
+reopened_history [] (z ∷ states) h = absurd h
+reopened_history (o ∷ held) [] h = absurd h
+reopened_history (o ∷ held) (z ∷ states) h = ((h.0).history, reopened_history held states h.1)
+
+resumed_sound : (held : List Opened) (m : Machine) → IsResumed held m → IsSound m
+resumed_sound held m f = record {
+  zones = reopened_history held m.zones f.zones_are;
+  waiting = subst (λ (ws : List Waits). AllByRecursion (IsPlaced m.zones) ws) (sym f.waiting) tt;
+}
+
+pub resumed_keeps : (held : List Opened) (start : Machine) (run : List Moment) → IsResumed held start → Run start run → Continuation start run
+resumed_keeps held start run f r =
+    let kept = run_keeps start run (resumed_sound held start f) r in
+    record { loaded = kept.loaded; history = kept.history; came = all_came_since start run r; openings = run_counts start run r; moments = kept.moments }
+
+-- what was loaded and the history of each zone stay, from any start
+start_sound : (start : Machine) → IsStart start → IsSound start
+start_sound start (inl (zones, settings, f)) = fresh_sound zones settings start f
+start_sound start (inr (held, f)) = resumed_sound held start f
+
+pub start_keeps : (start : Machine) (run : List Moment) → IsStart start → Run start run → AllLast start.zones (last_of start run).zones × AllByRecursion HasHistory (last_of start run).zones
+start_keeps start run begins r = (let kept = run_keeps start run (start_sound start begins) r in (kept.loaded, kept.history))
 
 -- from a moment of a run to a later one
 run_sound : (start : Machine) (run : List Moment) → IsSound start → Run start run → IsSound (last_of start run)

@@ -1,5 +1,6 @@
 -- What a reply with SERVFAIL comes of, where no memory is refused.
-use Rattle.std.specs.Prelude.{◌≡◌, ◌⊎◌, ◌<◌, ◌&&◌, nat_le, ℕ, Bool, true, false, List, length, slice_get, Option, Some, None}
+use Rattle.std.specs.Prelude.{◌≡◌, ◌⊎◌, ◌<◌, ◌&&◌, nat_le, ℕ, Bool, true, false, List, length, slice_get}
+use Rattle.std.specs.Prelude.{Option, Some, None}
 use Rattle.std.specs.List.{AllByRecursion, Contains}
 use Rattle.dns_records.specs.Record.{Record}
 use Rattle.dns_wire.specs.Message.{header_of}
@@ -21,7 +22,8 @@ use Rattle.dns_primary.specs.Machine.{ZoneState, Waits, Machine, kept_of, shown_
 use Rattle.dns_primary.specs.Flush.{Sent, Answered, Replied, is_closed_in, rcode_servfail}
 use Rattle.dns_primary.specs.Update.{Asked, Admits, admission, room_lacked, place_of}
 use Rattle.dns_primary.specs.Transfer.{transport_of}
-use Rattle.dns_primary.specs.Step.{Effects, IsBegun, Event, Datagram, Connect, Arrives, Flush, Checkpoint, Pump, Closed}
+use Rattle.dns_primary.specs.Step.{Effects, IsBegun, Event, Datagram, Connect, Arrives, Flush, Checkpoint}
+use Rattle.dns_primary.specs.Step.{Pump, Closed}
 
 -- The response code of a reply (RFC 1035 4.1.1).
 abbrev pub code_of : List ℕ → ℕ
@@ -35,8 +37,8 @@ pub record IsForClosed (m : Machine) (a : Asked) : Type 0 where
   pub stands : slice_get m.zones place ≡ Some zone
   pub closed : zone.closed ≡ true
 
--- The update is accepted, and there is no room for the version that it leaves, or none in the journal for its entry behind what
--- came first.
+-- The update is accepted, and there is no room for the version that it leaves, or none in the journal for its
+-- entry behind what came first.
 pub record LacksRoom (m : Machine) (a : Asked) : Type 0 where
   pub place : ℕ
   pub zone : ZoneState
@@ -71,11 +73,14 @@ RequestCause fails m to peer octets transport (request.Transfer message question
 
 abbrev pub ArrivedCause : List Bool → Machine → ℕ → Option Peer → List ℕ → Type 0
 ArrivedCause fails m number None octets = ⊥
-ArrivedCause fails m number (Some peer) octets = RequestCause fails m (to.Connection number) peer octets Tcp (request_of octets Tcp)
+ArrivedCause fails m number (Some peer) octets =
+    RequestCause fails m (to.Connection number) peer octets Tcp (request_of octets Tcp)
 
--- What SERVFAIL to a request comes of: its update is for a closed zone or lacks room, or its reply is too long. Nothing else is.
+-- What SERVFAIL to a request comes of: its update is for a closed zone or lacks room, or its reply is too
+-- long. Nothing else is.
 abbrev pub EventCause : List Bool → Machine → Event → Type 0
-EventCause fails m (Datagram peer octets) = RequestCause fails m (to.Address peer) peer octets Udp (request_of octets Udp)
+EventCause fails m (Datagram peer octets) =
+    RequestCause fails m (to.Address peer) peer octets Udp (request_of octets Udp)
 EventCause fails m (Arrives number octets) = ArrivedCause fails m number (peer_at number m.connections) octets
 EventCause fails m (Connect peer) = ⊥
 EventCause fails m Flush = ⊥
@@ -83,12 +88,13 @@ EventCause fails m (Checkpoint place) = ⊥
 EventCause fails m (Pump number) = ⊥
 EventCause fails m (Closed number) = ⊥
 
--- A reply that waited goes out with SERVFAIL where it waited with it, or where its zone is closed then; one to a request, by the
--- request.
+-- A reply that waited goes out with SERVFAIL where it waited with it, or where its zone is closed then; one
+-- to a request, by the request.
 abbrev pub HasCause : List Bool → Machine → Event → Machine → Sent → Type 0
 HasCause fails old event new (Answered w rcode) =
     rcode ≡ rcode_servfail → (w.rcode ≡ rcode_servfail) ⊎ (is_closed_in (slice_get new.zones w.zone) ≡ true)
-HasCause fails old event new (Replied to octets) = code_of octets ≡ rcode_servfail → EventCause fails old event
+HasCause fails old event new (Replied to octets) =
+    code_of octets ≡ rcode_servfail → EventCause fails old event
 
 -- The reply waited before, though it may have gone elsewhere.
 pub record Waited (old : Machine) (w : Waits) : Type 0 where
@@ -101,6 +107,7 @@ abbrev pub WaitsWithCause : List Bool → Machine → Event → Waits → Type 0
 WaitsWithCause fails old event w = w.rcode ≡ rcode_servfail → Waited old w ⊎ EventCause fails old event
 
 -- All replies that go out, and all that wait.
-pub record HaveCauses (fails : List Bool) (old : Machine) (event : Event) (out : List Sent) (new : Machine) : Type 0 where
+pub record HaveCauses (fails : List Bool) (old : Machine) (event : Event) (out : List Sent)
+    (new : Machine) : Type 0 where
   pub sent : AllByRecursion (HasCause fails old event new) out
   pub waiting : AllByRecursion (WaitsWithCause fails old event) new.waiting

@@ -1,5 +1,6 @@
 -- What a checkpoint makes of the zones.
-use Rattle.std.specs.Prelude.{◌≡◌, ◌⊎◌, ◌<◌, ℕ, Bool, true, false, List, [], length, slice_get, slice_set, Option, Some, None, Result, Ok, Err}
+use Rattle.std.specs.Prelude.{◌≡◌, ◌⊎◌, ◌<◌, ℕ, Bool, true, false, List, [], length, slice_get, slice_set}
+use Rattle.std.specs.Prelude.{Option, Some, None, Result, Ok, Err}
 use Rattle.dns_store.specs.Versions.{version_at}
 use Rattle.dns_store.specs.Checkpoint.{sectors_of_snapshot}
 use Rattle.dns_store.specs.declared.checkpoint.CheckpointError.{CheckpointError}
@@ -8,19 +9,21 @@ use Rattle.dns_held.specs.Checkpoint.{IsNextBase}
 use Rattle.dns_primary.specs.Machine.{ZoneState, Machine, kept_of}
 use Rattle.dns_primary.specs.Flush.{flushed}
 
--- The base is moved to the version with this number; or the zone's device fails in that, and it is closed, its base stays, and
--- that version is its second one.
+-- The base is moved to the version with this number; or the zone's device fails in that, and it is closed,
+-- its base stays, and that version is its second one.
 abbrev pub rebased : Bool → ℕ → ZoneState → ZoneState
 rebased false base z = record z { base = base }
 rebased true base z = record z { second = Some base; closed = true }
 
--- The base that the zone gets is that of so many of its newest changes, at most as many as it is to keep, as leave so much room.
--- It may stay as it is only where the records of that base take more sectors than a snapshot has.
+-- The base that the zone gets is that of so many of its newest changes, at most as many as it is to keep, as
+-- leave so much room. It may stay as it is only where the records of that base take more sectors than a
+-- snapshot has.
 abbrev pub IsMoved : Bool → ℕ → ZoneState → ZoneState → Type 0
 IsMoved fails room z new =
     (base : ℕ) × IsNextBase z.setting.keep room (kept_of z) base
     × ((new ≡ rebased fails base z)
-    ⊎ ((fails ≡ false) × (new ≡ z) × (z.setting.shape.snapshot < sectors_of_snapshot (version_at (kept_of z) base))))
+    ⊎ ((fails ≡ false) × (new ≡ z)
+    × (z.setting.shape.snapshot < sectors_of_snapshot (version_at (kept_of z) base))))
 
 -- A zone that is closed stays.
 abbrev pub IsMovedUnlessClosed : Bool → ℕ → ZoneState → ZoneState → Type 0
@@ -28,7 +31,8 @@ IsMovedUnlessClosed fails room z new =
     ((z.closed ≡ true) × (fails ≡ false) × (new ≡ z)) ⊎ ((z.closed ≡ false) × IsMoved fails room z new)
 
 -- All zones are flushed, of which these fail in that; then the base of the one at a place is moved.
-pub record IsCheckpoint (place room : ℕ) (old : Machine) (fails : List Bool) (moving_fails : Bool) (new : Machine) : Type 0 where
+pub record IsCheckpoint (place room : ℕ) (old : Machine) (fails : List Bool) (moving_fails : Bool)
+    (new : Machine) : Type 0 where
   pub all : length fails ≡ length old.zones
   pub zone : ZoneState
   pub stands : slice_get (flushed fails old).zones place ≡ Some zone
@@ -46,7 +50,8 @@ first_of (Some earlier) moving_fails place = Some earlier
 first_of None true place = Some place
 first_of None false place = None
 
--- What is answered to the move of a zone's base, where nothing of it is staged or it is closed, and the zone then.
+-- What is answered to the move of a zone's base, where nothing of it is staged or it is closed, and the zone
+-- then.
 abbrev pub IsMovedBy : {T : Type 0} → ℕ → ZoneState → Result T CheckpointError → ZoneState → Type 0
 IsMovedBy room z (Ok v) new = (z.closed ≡ false) × IsMoved false room z new
 IsMovedBy room z (Err refused.Device) new = (z.closed ≡ false) × IsMoved true room z new

@@ -10,7 +10,8 @@ abbrev pub most_connections : ℕ
 most_connections = 64
 
 abbrev pub connected : ℕ → Peer → Machine → Machine
-connected number peer m = record m { connections = record { number = number; peer = peer; transfer = None } ∷ m.connections }
+connected number peer m =
+    record m { connections = record { number = number; peer = peer; transfer = None } ∷ m.connections }
 
 -- What was to go to the connection with that number goes nowhere.
 abbrev pub without_connection : ℕ → To → To
@@ -18,7 +19,8 @@ without_connection number (to.Address peer) = to.Address peer
 without_connection number (to.Connection other) = if other == number then to.Nowhere else to.Connection other
 without_connection number to.Nowhere = to.Nowhere
 
--- The connection is forgotten, and the transfer that is open on it. Its waiting replies keep their places until the next flush.
+-- The connection is forgotten, and the transfer that is open on it. Its waiting replies keep their places
+-- until the next flush.
 abbrev pub closed : ℕ → Machine → Machine
 closed number m = record m {
   waiting = map (λ (w : Waits). record w { to = without_connection number w.to }) m.waiting;

@@ -1,5 +1,6 @@
 -- What a flush of all zones does.
-use Rattle.std.specs.Prelude.{ℕ, Bool, true, false, ◌||◌, List, [], ◌∷◌, ◌++◌, map, flat_map, slice_get, Option, Some, None, if◌then◌else◌}
+use Rattle.std.specs.Prelude.{ℕ, Bool, true, false, ◌||◌, List, [], ◌∷◌, ◌++◌, map, flat_map, slice_get}
+use Rattle.std.specs.Prelude.{Option, Some, None, if◌then◌else◌}
 use Rattle.dns_wire.specs.Text.{text}
 use Rattle.dns_answer.specs.Answer.{bare_reply}
 use Rattle.dns_primary.specs.declared.event.To.{To}
@@ -19,7 +20,8 @@ abbrev pub is_none_made : List Made → Bool
 is_none_made [] = true
 is_none_made (m ∷ rest) = false
 
--- What is staged of a zone is shown, or its device fails and it is closed. A closed zone, and one with nothing staged, stay.
+-- What is staged of a zone is shown, or its device fails and it is closed. A closed zone, and one with
+-- nothing staged, stay.
 abbrev pub flushed_zone : Bool → ZoneState → ZoneState
 flushed_zone fails z =
     if z.closed || is_none_made z.staged then z

@@ -1,5 +1,6 @@
 -- What a primary keeps of the machine, and how it tells of effects.
-use Rattle.std.specs.Prelude.{◌≡◌, ◌++◌, ◌↔◌, ℕ, List, [], ◌∷◌, map, length, Option, Some, None, Result, Ok, Err, IsTrue, slice_get, ◌==◌, if◌then◌else◌}
+use Rattle.std.specs.Prelude.{◌≡◌, ◌++◌, ◌↔◌, ℕ, List, [], ◌∷◌, map, length, Option, Some, None, Result, Ok}
+use Rattle.std.specs.Prelude.{Err, IsTrue, slice_get, ◌==◌, if◌then◌else◌}
 use Rattle.slab.specs.Slab.{Slab, get, slab_len}
 use Rattle.std.specs.declared.net.ip_addr.IpAddr.{IpAddr}
 use Rattle.dns_wire.specs.Message.{header_of}
@@ -31,8 +32,10 @@ use Rattle.dns_primary.specs.Update.{Admission, Rejects, Admits, rcode_notauth}
 use Rattle.dns_primary.specs.Step as machine
 
 -- These are the versions of the zones, in order.
-abbrev pub HaveVersions : {I S : Type 0} → (S → Kept → Type 0) → List Zone → List (Behind I S) → List ZoneState → Type 0
-HaveVersions keeps zones behind states = Each3 (λ z b k. HasVersions keeps z b k) zones behind (map kept_of states)
+abbrev pub HaveVersions : {I S : Type 0} → (S → Kept → Type 0) → List Zone → List (Behind I S)
+    → List ZoneState → Type 0
+HaveVersions keeps zones behind states =
+    Each3 (λ z b k. HasVersions keeps z b k) zones behind (map kept_of states)
 
 -- A reply that waits, as it is stored: the updates before it are in no field.
 pub record IsWaiting (w : Waiting) (stated : Waits) : Type 0 where
@@ -41,8 +44,8 @@ pub record IsWaiting (w : Waiting) (stated : Waits) : Type 0 where
   pub rcode : number_of_rcode w.rcode ≡ stated.rcode
   pub zone : w.zone ≡ stated.zone
 
--- A checkpoint keeps so many changes, and the addresses from which a zone may be updated are those that its list allows, and so are
--- those from which it may be transferred.
+-- A checkpoint keeps so many changes, and the addresses from which a zone may be updated are those that its
+-- list allows, and so are those from which it may be transferred.
 pub record IsSet (s : ZoneSettings) (z : ZoneState) : Type 0 where
   pub keep : s.keep ≡ z.setting.keep
   pub update : (a : IpAddr) → IsTrue (z.setting.may_update a) ↔ IsAllowed s.update.items a
@@ -53,9 +56,10 @@ abbrev pub sending_on : {I : Type 0} → ℕ → List (OpenTransfer I) → Optio
 sending_on number [] = None
 sending_on number (t ∷ rest) = if t.number == number then Some t.session else sending_on number rest
 
--- What is shown, what stands behind it, what waits, the connections and the transfers that are open on them are those of the machine,
--- whatever older versions there were.
-pub record IsKept {I S : Type 0} {i : index.Ghosts I} {s : store.Ghosts S} (p : Primary I S i s) (m : Machine) : Type 0 where
+-- What is shown, what stands behind it, what waits, the connections and the transfers that are open on them
+-- are those of the machine, whatever older versions there were.
+pub record IsKept {I S : Type 0} {i : index.Ghosts I} {s : store.Ghosts S} (p : Primary I S i s)
+    (m : Machine) : Type 0 where
   pub zones_are : HaveVersions s.keeps p.zones.items p.behind.items m.zones
   pub settings_are : Each2 IsSet p.settings.items m.zones
   pub waiting_are : Each2 IsWaiting p.waiting.items m.waiting

@@ -18,3 +18,5 @@ pub mod HandOut
 pub mod Runs
 pub mod Continues
 pub mod Causes
+pub mod Bounds
+pub mod Rooms

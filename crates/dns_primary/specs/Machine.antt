@@ -1,4 +1,5 @@
--- The state of a primary, as a machine: of each zone its versions, and for all the replies that wait and the connections.
+-- The state of a primary, as a machine: of each zone its versions, and for all the replies that wait and the
+-- connections.
 use Rattle.std.specs.Prelude.{ℕ, Bool, ◌==◌, List, [], ◌∷◌, ◌++◌, map, Option, Some, None, if◌then◌else◌}
 use Rattle.std.specs.declared.net.ip_addr.IpAddr.{IpAddr}
 use Rattle.dns_records.specs.Record.{Record}
@@ -10,8 +11,8 @@ use Rattle.dns_held.specs.Held.{shown_zone}
 use Rattle.dns_primary.specs.declared.event.Peer.{Peer}
 use Rattle.dns_primary.specs.declared.event.To.{To}
 
--- What is configured of a zone: its apex, the sizes of its store, how many changes a checkpoint keeps at most, and from which
--- addresses it may be updated and transferred.
+-- What is configured of a zone: its apex, the sizes of its store, how many changes a checkpoint keeps at
+-- most, and from which addresses it may be updated and transferred.
 pub record Setting : Type 0 where
   pub shape : Shape
   pub keep : ℕ
@@ -23,9 +24,9 @@ pub record Made : Type 0 where
   pub update : Message
   pub records : List Record
 
--- A zone: its records as loaded, the updates of the version that is shown, and those staged behind it. `base` is the number of
--- the version that its journal begins at; `second` is that of another, which a checkpoint left that failed. `openings` is how often
--- its store was opened. Where its device failed it is closed.
+-- A zone: its records as loaded, the updates of the version that is shown, and those staged behind it. `base`
+-- is the number of the version that its journal begins at; `second` is that of another, which a checkpoint
+-- left that failed. `openings` is how often its store was opened. Where its device failed it is closed.
 pub record ZoneState : Type 0 where
   pub setting : Setting
   pub loaded : List Record
@@ -55,8 +56,8 @@ kept_of z = record {
   closed = z.closed;
 }
 
--- A reply to an update, which waits for the next flush. `updates` are those of its zone when it was judged, and the update
--- itself if it was accepted.
+-- A reply to an update, which waits for the next flush. `updates` are those of its zone when it was judged,
+-- and the update itself if it was accepted.
 pub record Waits : Type 0 where
   pub to : To
   pub header : Header

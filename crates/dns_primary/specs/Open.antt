@@ -1,5 +1,5 @@
 -- How the devices of all zones are opened, and what a primary that is opened keeps.
-use Rattle.std.specs.Prelude.{◌≡◌, ◌⊎◌, ◌+◌, ℕ, zero, suc, List, [], ◌∷◌}
+use Rattle.std.specs.Prelude.{◌≡◌, ◌⊎◌, ◌+◌, ℕ, zero, suc, List, [], ◌∷◌, length, map}
 use Rattle.dns_names.specs.Name.{Labels}
 use Rattle.dns_zone.specs.Zone.{Zone}
 use Rattle.dns_sectors.specs.Device.{Content, LeavesOnly}
@@ -13,6 +13,9 @@ use Rattle.dns_store.specs.Opening as store
 use Rattle.dns_store.specs.Root.{OpenRefusal}
 use Rattle.dns_store.specs.Damage.{NamesWrong}
 use Rattle.dns_store.specs.declared.kept_store.KeptStore.{KeptStore}
+use Rattle.dns_store.specs.declared.zone_store.ZoneStore as kept
+use Rattle.dns_zone.specs.declared.index.ZoneIndex as index
+use Rattle.dns_primary.specs.declared.primary.Primary.{Primary}
 use Rattle.dns_store.specs.declared.root.OpenError.{OpenError}
 use Rattle.dns_store.specs.declared.root.OpenError.TheVariants.{Device, OutOfMemory}
 use Rattle.dns_held.specs.declared.behind.Behind.{Behind}
@@ -30,50 +33,62 @@ shape_of apex s = record { apex = apex; snapshot = s.snapshot; journal = s.journ
 abbrev pub device_behind : {D I : Type 0} {g : Ghosts D} → Behind I (KeptStore D I g) → D
 device_behind b = store_device b.store
 
--- A crash at any moment since then leaves what opens as a crash might have left it then, opened as often or once more: a version and
--- a base that were possible together. The device is as honest as it was.
-pub record StaysPossible {D : Type 0} (g : Ghosts D) (apex : Labels) (s : ZoneSettings) (old new : D) : Type 0 where
+-- How many zones there are, and the devices of all, in order.
+abbrev pub count_of : {I S : Type 0} {i : index.Ghosts I} {s : kept.Ghosts S} → Primary I S i s → ℕ
+count_of primary = length primary.behind.items
+
+abbrev pub devices_of : {D I : Type 0} {g : Ghosts D} {i : index.Ghosts I} {s : kept.Ghosts (KeptStore D I g)}
+    → Primary I (KeptStore D I g) i s → List D
+devices_of primary = map (λ b. device_behind b) primary.behind.items
+
+-- A crash at any moment since then leaves what opens as a crash might have left it then, opened as often or
+-- once more: a version and a base that were possible together. The device is as honest as it was.
+pub record StaysPossible {D : Type 0} (g : Ghosts D) (apex : Labels) (s : ZoneSettings)
+    (old new : D) : Type 0 where
   pub honest : g.is_honest old → g.is_honest new
   pub any_moment : g.is_honest old → IsInRange s.snapshot s.journal
       → LeavesOnly g.moment g.left_since old new (OpensAsPossible g (shape_of apex s) old)
 
--- What stands behind the zone keeps what a crash might have left of its device before, opened once more, whichever versions there were
--- before the base.
-abbrev pub TakesDevice : {D I : Type 0} {g : Ghosts D} → Shape → D → Zone → Behind I (KeptStore D I g) → Type 0
+-- What stands behind the zone keeps what a crash might have left of its device before, opened once more,
+-- whichever versions there were before the base.
+abbrev pub TakesDevice : {D I : Type 0} {g : Ghosts D} → Shape → D → Zone
+    → Behind I (KeptStore D I g) → Type 0
 TakesDevice {g} shape device zone b =
     (d : Content) × g.may_leave device d
     × ((o : Opened) → opens shape o d → HasVersions (λ s k. keeps s k) zone b (fresh shape (opened_again o)))
 
 -- The device was opened as this zone.
-pub record IsOpened {D I : Type 0} {g : Ghosts D} (apex : Labels) (s : ZoneSettings) (device : D) (zone : Zone)
-    (b : Behind I (KeptStore D I g))
+pub record IsOpened {D I : Type 0} {g : Ghosts D} (apex : Labels) (s : ZoneSettings)
+    (device : D) (zone : Zone) (b : Behind I (KeptStore D I g))
     : Type 0 where
   pub leaves : StaysPossible g apex s device (device_behind b)
   pub takes : g.is_honest device → IsInRange s.snapshot s.journal → MayOpen g (shape_of apex s) device
       → TakesDevice (shape_of apex s) device zone b
 
--- The device was not opened, for this: where each crash leaves a store that opens, the device failed, memory was refused or the
--- store was opened too often; else by what stands on the device.
-pub record IsNotOpened {D : Type 0} (g : Ghosts D) (apex : Labels) (s : ZoneSettings) (error : OpenError) (old new : D)
-    : Type 0 where
+-- The device was not opened, for this: where each crash leaves a store that opens, the device failed, memory
+-- was refused or the store was opened too often; else by what stands on the device.
+pub record IsNotOpened {D : Type 0} (g : Ghosts D) (apex : Labels) (s : ZoneSettings)
+    (error : OpenError) (old new : D) : Type 0 where
   pub leaves : StaysPossible g apex s old new
   pub stopped : g.is_honest old → IsInRange s.snapshot s.journal → MayOpen g (shape_of apex s) old
       → StopsPossible g (shape_of apex s) old error
-  pub refused : g.is_honest old → OpenRefusal (sizes_of (shape_of apex s)) (g.count old) (sector_at (g.seen old) 0) error
+  pub refused : g.is_honest old
+      → OpenRefusal (sizes_of (shape_of apex s)) (g.count old) (sector_at (g.seen old) 0) error
   pub damaged : g.is_honest old → NamesWrong (shape_of apex s) (g.seen old) error
   pub failed : error ≡ Device → HasRisen (g.failed old) (g.failed new)
 
 -- The devices of so many first zones were opened as these.
-abbrev pub AreOpened : {D I : Type 0} {g : Ghosts D} → ℕ → List Labels → List ZoneSettings → List D → List Zone
-    → List (Behind I (KeptStore D I g)) → Type 0
+abbrev pub AreOpened : {D I : Type 0} {g : Ghosts D} → ℕ → List Labels → List ZoneSettings
+    → List D → List Zone → List (Behind I (KeptStore D I g)) → Type 0
 AreOpened zero apexes settings devices [] [] = Unit {0}
 AreOpened (suc n) (a ∷ apexes) (s ∷ settings) (d ∷ devices) (z ∷ zones) (b ∷ behind) =
     IsOpened a s d z b × AreOpened n apexes settings devices zones behind
 AreOpened _ _ _ _ _ _ = ⊥
 
--- The devices that came are these now: those of the zones before this place were opened and taken back, the one of the zone there
--- was not opened, for this, and the others are as they came.
-abbrev pub AreHandedBack : {D : Type 0} → Ghosts D → OpenError → ℕ → List Labels → List ZoneSettings → List D → List D → Type 0
+-- The devices that came are these now: those of the zones before this place were opened and taken back, the
+-- one of the zone there was not opened, for this, and the others are as they came.
+abbrev pub AreHandedBack : {D : Type 0} → Ghosts D → OpenError → ℕ → List Labels → List ZoneSettings → List D
+    → List D → Type 0
 AreHandedBack g error zero (a ∷ apexes) (s ∷ settings) (d ∷ devices) (e ∷ back) =
     IsNotOpened g a s error d e × (back ≡ devices)
 AreHandedBack g error (suc n) (a ∷ apexes) (s ∷ settings) (d ∷ devices) (e ∷ back) =
@@ -81,14 +96,15 @@ AreHandedBack g error (suc n) (a ∷ apexes) (s ∷ settings) (d ∷ devices) (e
 AreHandedBack g error _ _ _ _ _ = ⊥
 
 -- ... or memory was refused before any was opened, and all are as they came.
-abbrev pub AreRefused : {D : Type 0} → Ghosts D → OpenError → ℕ → List Labels → List ZoneSettings → List D → List D → Type 0
+abbrev pub AreRefused : {D : Type 0} → Ghosts D → OpenError → ℕ → List Labels → List ZoneSettings → List D
+    → List D → Type 0
 AreRefused g error place apexes settings devices back =
     AreHandedBack g error place apexes settings devices back ⊎ ((error ≡ OutOfMemory) × (back ≡ devices))
 
--- Every crash leaves the zone's device so that it opens as one that this zone may be recovered as, opened at most so often since, and
--- these are its name and its settings.
-pub record IsRecoverable {D : Type 0} (g : Ghosts D) (tries : ℕ) (making : ℕ → Type 0) (z : ZoneState) (apex : Labels)
-    (s : ZoneSettings) (device : D)
+-- Every crash leaves the zone's device so that it opens as one that this zone may be recovered as, opened at
+-- most so often since, and these are its name and its settings.
+pub record IsRecoverable {D : Type 0} (g : Ghosts D) (tries : ℕ) (making : ℕ → Type 0)
+    (z : ZoneState) (apex : Labels) (s : ZoneSettings) (device : D)
     : Type 0 where
   pub shape : z.setting.shape ≡ shape_of apex s
   pub set : IsSet s z
@@ -105,16 +121,18 @@ AreRecoverable g tries m event place (z ∷ zones) (a ∷ apexes) (s ∷ setting
     × AreRecoverable g tries m event (suc place) zones apexes settings devices
 AreRecoverable g tries m event place _ _ _ _ = ⊥
 
--- A crash at any moment between the two leaves each device so that it opens as a zone that this one may be recovered as.
-abbrev pub LeaveRecovered : {D : Type 0} → Ghosts D → ℕ → Machine → Event → ℕ → List ZoneState → List D → List D → Type 0
+-- A crash at any moment between the two leaves each device so that it opens as a zone that this one may be
+-- recovered as.
+abbrev pub LeaveRecovered : {D : Type 0} → Ghosts D → ℕ → Machine → Event → ℕ → List ZoneState → List D
+    → List D → Type 0
 LeaveRecovered g tries m event place [] [] [] = Unit {0}
 LeaveRecovered g tries m event place (z ∷ zones) (d ∷ olds) (e ∷ news) =
     LeavesOnly g.moment g.left_since d e (OpensAsRecovered opens tries (IsMaking m event place z) z)
     × LeaveRecovered g tries m event (suc place) zones olds news
 LeaveRecovered g tries m event place _ _ _ = ⊥
 
--- The device of the zone there of a stopped machine failed, memory was refused, or its store was opened too often: as often as the
--- machine says, and as there were tries since.
+-- The device of the zone there of a stopped machine failed, memory was refused, or its store was opened too
+-- often: as often as the machine says, and as there were tries since.
 abbrev pub IsRecoveryStopped : ℕ → OpenError → ℕ → List ZoneState → Type 0
 IsRecoveryStopped tries error place [] = error ≡ OutOfMemory
 IsRecoveryStopped tries error zero (z ∷ zones) = store.IsStopped (z.openings + tries) error

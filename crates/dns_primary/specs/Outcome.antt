@@ -21,8 +21,9 @@ pub record Ends : Type 0 where
   pub outcome : Outcome
   pub versions : Kept
 
--- What is refused, and what changes nothing, waits. What leaves a version without room is SERVFAIL, and waits; one whose entry is
--- over what is left of the journal, behind what made room, is SERVFAIL at once; else it is staged.
+-- What is refused, and what changes nothing, waits. What leaves a version without room is SERVFAIL, and
+-- waits; one whose entry is over what is left of the journal, behind what made room, is SERVFAIL at once;
+-- else it is staged.
 abbrev pub end_of : Kept → Verdict → Ends
 end_of k (Refuses rcode) = record { outcome = Waits rcode; versions = k }
 end_of k Keeps = record { outcome = Waits NoError; versions = k }

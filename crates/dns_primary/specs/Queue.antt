@@ -25,7 +25,8 @@ use Rattle.dns_primary.specs.Keeps.{HaveVersions, IsSet, IsWaiting}
 
 -- The update that the request is.
 abbrev pub asked_of : UpdateRequest → Asked
-asked_of u = record { to = u.to; address = u.address; message = u.request.message.message; zone = u.request.question }
+asked_of u =
+    record { to = u.to; address = u.address; message = u.request.message.message; zone = u.request.question }
 
 -- No call was made on the device of the store, and so none failed.
 pub record IsUntouched {S : Type 0} (moment : S → ℕ) (left_since : S → ℕ → Content → Type 0) (failed : S → ℕ)
@@ -42,29 +43,34 @@ pub record Holds {I S : Type 0} (keeps : S → Kept → Type 0) (zones : List Zo
   pub waiting_are : Each2 IsWaiting waiting m.waiting
   pub connections_are : m.connections ≡ connections
 
--- It ends so, with nothing told as long as its reply waits, and else a reply at once; or memory was refused, and the machine stays.
+-- It ends so, with nothing told as long as its reply waits, and else a reply at once; or memory was refused,
+-- and the machine stays.
 abbrev pub IsAnswered : (Machine → Type 0) → Machine → Asked → Machine × List Sent → Outcome → Type 0
 IsAnswered held m a ended (outcome.Waits rcode) = (ended.1 ≡ []) × held ended.0
-IsAnswered held m a ended (outcome.AtOnce rcode) = (ended.1 ≡ replies a (number_of_rcode rcode) ∷ []) × held ended.0
+IsAnswered held m a ended (outcome.AtOnce rcode) =
+    (ended.1 ≡ replies a (number_of_rcode rcode) ∷ []) × held ended.0
 IsAnswered held m a ended outcome.OutOfMemory = held m
 
--- What was judged before what came first still holds of the zone at the place: it is refused where the zone is closed then, and else
--- admitted, and the verdict on its newest version is the same.
-pub record HoldsStill {X : Type 0} (records : X → List Record) (m : Machine) (a : Asked) (place : ℕ) (j : Judgement X)
-    : Type 0 where
+-- What was judged before what came first still holds of the zone at the place: it is refused where the zone
+-- is closed then, and else admitted, and the verdict on its newest version is the same.
+pub record HoldsStill {X : Type 0} (records : X → List Record) (m : Machine) (a : Asked) (place : ℕ)
+    (j : Judgement X) : Type 0 where
   pub zone : ZoneState
   pub stands : slice_get m.zones place ≡ Some zone
   pub shut : zone.closed ≡ true → admission m.zones a ≡ Rejects rcode_servfail
   pub admits : zone.closed ≡ false → admission m.zones a ≡ Admits place zone
-  pub is : IsVerdictOf records (verdict (newest_zone (kept_of zone)) a.message.answers a.message.authorities) j
+  pub is : IsVerdictOf records
+      (verdict (newest_zone (kept_of zone)) a.message.answers a.message.authorities) j
 
 -- The update is judged, for the zone at the place.
-pub record IsJudged {X : Type 0} (records : X → List Record) (m : Machine) (a : Asked) (place : ℕ) (j : Judgement X)
-    : Type 0 where
+pub record IsJudged {X : Type 0} (records : X → List Record) (m : Machine) (a : Asked) (place : ℕ)
+    (j : Judgement X) : Type 0 where
   pub zone : ZoneState
   pub admits : admission m.zones a ≡ Admits place zone
-  pub is : IsVerdictOf records (verdict (newest_zone (kept_of zone)) a.message.answers a.message.authorities) j
-  pub lacks : lacked_of j ≡ lacked_by (kept_of zone) (verdict (newest_zone (kept_of zone)) a.message.answers a.message.authorities)
+  pub is : IsVerdictOf records
+      (verdict (newest_zone (kept_of zone)) a.message.answers a.message.authorities) j
+  pub lacks : lacked_of j ≡ lacked_by (kept_of zone)
+      (verdict (newest_zone (kept_of zone)) a.message.answers a.message.authorities)
 
 -- It is refused before, or judged so.
 abbrev pub IsTested : {X : Type 0} → (X → List Record) → Machine → Asked → Tested X → Type 0

@@ -1,5 +1,6 @@
 -- Runs of the machine, and what holds of every one.
-use Rattle.std.specs.Prelude.{◌≡◌, ◌⊎◌, ◌<◌, ◌≤◌, ◌+◌, ◌-◌, ◌^◌, ℕ, suc, Bool, true, List, [], ◌∷◌, ◌++◌, length, slice_get, Some}
+use Rattle.std.specs.Prelude.{◌≡◌, ◌⊎◌, ◌<◌, ◌≤◌, ◌+◌, ◌-◌, ◌^◌, ℕ, suc, Bool, true, List, [], ◌∷◌, ◌++◌}
+use Rattle.std.specs.Prelude.{length, slice_get, Some}
 use Rattle.std.specs.List.{AllByRecursion, Contains}
 use Rattle.dns_records.specs.Record.{Record}
 use Rattle.dns_names.specs.Name.{names_eq}
@@ -13,14 +14,16 @@ use Rattle.dns_store.specs.Plain.{octets_of}
 use Rattle.dns_store.specs.Room.{entry_between}
 use Rattle.dns_held.specs.Each.{Each2}
 use Rattle.dns_primary.specs.declared.event.Peer.{Peer}
-use Rattle.dns_primary.specs.Machine.{Setting, Made, ZoneState, Waits, Machine, updates_of, shown_zones, peer_at}
+use Rattle.dns_primary.specs.Machine.{Setting, Made, ZoneState, Waits, Machine, updates_of, shown_zones}
+use Rattle.dns_primary.specs.Machine.{peer_at}
 use Rattle.dns_primary.specs.Flush.{Sent, Answered, Replied, is_closed_in, rcode_servfail}
-use Rattle.dns_primary.specs.Step.{Event, Datagram, Arrives, Connect, Flush, Checkpoint, Pump, Closed, Effects, Step}
+use Rattle.dns_primary.specs.Step.{Event, Datagram, Arrives, Connect, Flush, Checkpoint, Pump, Closed}
+use Rattle.dns_primary.specs.Step.{Effects, Step}
 use Rattle.dns_primary.specs.Stop.{IsStopped}
 
--- What happens in a run: a step, of which are told the event, the devices that failed, what went out, and the machine after it. Or a
--- stop within an event, of which are told how many recoveries were themselves stopped or refused, and the machine that the one led to
--- which succeeded.
+-- What happens in a run: a step, of which are told the event, the devices that failed, what went out, and the
+-- machine after it. Or a stop within an event, of which are told how many recoveries were themselves stopped
+-- or refused, and the machine that the one led to which succeeded.
 pub data Moment : Type 0 where
   Took : Event → List Bool → Effects → Machine → Moment
   Stopped : Event → ℕ → Machine → Moment
@@ -34,8 +37,8 @@ abbrev pub sent_in : Moment → List Sent
 sent_in (Took event fails effects new) = effects.sent
 sent_in (Stopped event tries new) = []
 
--- An event is a step of the machine. A recovery that is stopped or refused leaves the choices that the stop left, and counts as an
--- opening.
+-- An event is a step of the machine. A recovery that is stopped or refused leaves the choices that the stop
+-- left, and counts as an opening.
 abbrev pub Happens : Machine → Moment → Type 0
 Happens m (Took event fails effects new) = Step fails m event effects new
 Happens m (Stopped event tries new) = IsStopped tries m event new
@@ -49,11 +52,12 @@ abbrev pub last_of : Machine → List Moment → Machine
 last_of m [] = m
 last_of m (t ∷ rest) = last_of (after t) rest
 
--- An update is accepted on the version with this number: judged on the records of that version it leaves its own (RFC 2136 3), and
--- there is room for those: they are at most 65,536, their snapshot and their entry fit in the sectors that there are for them, and
--- the number that they get has 64 bits.
+-- An update is accepted on the version with this number: judged on the records of that version it leaves its
+-- own (RFC 2136 3), and there is room for those: they are at most 65,536, their snapshot and their entry fit
+-- in the sectors that there are for them, and the number that they get has 64 bits.
 pub record IsAccepted (s : Setting) (number : ℕ) (before : List Record) (m : Made) : Type 0 where
-  pub judged : verdict (record { apex = s.shape.apex; records = before }) m.update.answers m.update.authorities ≡ Leaves m.records
+  pub judged : verdict (record { apex = s.shape.apex; records = before }) m.update.answers
+      m.update.authorities ≡ Leaves m.records
   pub few : length m.records ≤ 65536
   pub snapshot : snapshot_sectors (octets_of m.records) ≤ s.shape.snapshot
   pub entry : entry_between before m.records ≤ s.shape.journal
@@ -62,7 +66,8 @@ pub record IsAccepted (s : Setting) (number : ℕ) (before : List Record) (m : M
 -- Each update was accepted on the version that the one before it left.
 abbrev pub IsHistory : Setting → ℕ → List Record → List Made → Type 0
 IsHistory s number before [] = Unit {0}
-IsHistory s number before (m ∷ later) = IsAccepted s number before m × IsHistory s (suc number) m.records later
+IsHistory s number before (m ∷ later) =
+    IsAccepted s number before m × IsHistory s (suc number) m.records later
 
 abbrev pub HasHistory : ZoneState → Type 0
 HasHistory z = IsHistory z.setting 0 z.loaded (updates_of z)
@@ -78,7 +83,8 @@ Carries m (Checkpoint place) peer transport came = ⊥
 Carries m (Pump number) peer transport came = ⊥
 Carries m (Closed number) peer transport came = ⊥
 
--- The event brings this update of the zone: its message came from an address from which the zone may be updated, and names it.
+-- The event brings this update of the zone: its message came from an address from which the zone may be
+-- updated, and names it.
 pub record Brings (m : Machine) (event : Event) (z : ZoneState) (update : Message) : Type 0 where
   pub peer : Peer
   pub transport : Transport
@@ -102,7 +108,13 @@ CameIn m (t ∷ rest) z update = BringsIn m t z update ⊎ CameIn (after t) rest
 abbrev pub AllCameIn : Machine → List Moment → ZoneState → Type 0
 AllCameIn m run z = AllByRecursion (λ u. CameIn m run z u.update) (updates_of z)
 
--- What was shown stays shown: the updates of the version shown before are the first of those of the version shown after.
+-- Each update of the zone came in one of these moments, or was one of the zone before them.
+abbrev pub AllCameSince : Machine → List Moment → ZoneState → ZoneState → Type 0
+AllCameSince m run old new =
+    AllByRecursion (λ u. Contains (updates_of old) u ⊎ CameIn m run new u.update) (updates_of new)
+
+-- What was shown stays shown: the updates of the version shown before are the first of those of the version
+-- shown after.
 pub record Lasts (old new : ZoneState) : Type 0 where
   pub setting : new.setting ≡ old.setting
   pub loaded : new.loaded ≡ old.loaded
@@ -112,7 +124,8 @@ pub record Lasts (old new : ZoneState) : Type 0 where
 abbrev pub AllLast : List ZoneState → List ZoneState → Type 0
 AllLast = Each2 Lasts
 
--- The updates up to an answered one, and itself where it was accepted, are the first of those of the version shown.
+-- The updates up to an answered one, and itself where it was accepted, are the first of those of the version
+-- shown.
 pub record IsDurable (zones : List ZoneState) (w : Waits) : Type 0 where
   pub zone : ZoneState
   pub stands : slice_get zones w.zone ≡ Some zone
@@ -129,8 +142,8 @@ pub record StaysTrue (zones : List ZoneState) (t : Moment) : Type 0 where
   pub shown : AllLast (after t).zones zones
   pub answered : AllByRecursion (IsTrueIn zones) (sent_in t)
 
--- What waited before an event goes out with the code that it waited with, or with SERVFAIL where its zone is closed after the
--- event; and with that where it was closed before.
+-- What waited before an event goes out with the code that it waited with, or with SERVFAIL where its zone is
+-- closed after the event; and with that where it was closed before.
 abbrev pub IsReleasedFrom : Machine → Machine → Sent → Type 0
 IsReleasedFrom old new (Answered w rcode) =
     Contains old.waiting w
@@ -148,13 +161,23 @@ openings_in (Stopped event tries new ∷ rest) = suc tries + openings_in rest
 abbrev pub IsOpenedAtMost : ℕ → ZoneState → ZoneState → Type 0
 IsOpenedAtMost times old new = new.openings ≤ old.openings + times
 
--- At the end of a run, however often the machine stopped in it, each zone is its loaded records after accepted updates, each judged
--- on what the ones before it left, for which there was room, and which came in the run from an address that may update the zone; the
--- version that is shown is after the first of them; among these are all that was shown and all that was answered NOERROR at any moment
--- of the run. No store says that it was opened more often than it was.
+-- At the end of a run, however often the machine stopped in it, each zone is its loaded records after
+-- accepted updates, each judged on what the ones before it left, for which there was room, and which came in
+-- the run from an address that may update the zone; the version that is shown is after the first of them;
+-- among these are all that was shown and all that was answered NOERROR at any moment of the run. No store
+-- says that it was opened more often than it was.
 pub record Promise (start : Machine) (run : List Moment) : Type 0 where
   pub loaded : AllLast start.zones (last_of start run).zones
   pub history : AllByRecursion HasHistory (last_of start run).zones
   pub came : AllByRecursion (AllCameIn start run) (last_of start run).zones
+  pub openings : Each2 (IsOpenedAtMost (openings_in run)) start.zones (last_of start run).zones
+  pub moments : AllByRecursion (StaysTrue (last_of start run).zones) run
+
+-- The same of a run that begins with versions that were there: of its updates each was there or came in the
+-- run.
+pub record Continuation (start : Machine) (run : List Moment) : Type 0 where
+  pub loaded : AllLast start.zones (last_of start run).zones
+  pub history : AllByRecursion HasHistory (last_of start run).zones
+  pub came : Each2 (AllCameSince start run) start.zones (last_of start run).zones
   pub openings : Each2 (IsOpenedAtMost (openings_in run)) start.zones (last_of start run).zones
   pub moments : AllByRecursion (StaysTrue (last_of start run).zones) run

@@ -17,11 +17,13 @@ use Rattle.dns_primary.specs.Keeps.{AreEffects, sending_on}
 use Rattle.dns_primary.specs.Steps.{LacksAlone, one_reply}
 
 -- This transfer, or none, is open on the connection with that number, and on the others those that were.
-pub record SetsOn {I : Type 0} (number : ℕ) (s : Option Sending) (old new : List (OpenTransfer I)) : Type 0 where
+pub record SetsOn {I : Type 0} (number : ℕ) (s : Option Sending)
+    (old new : List (OpenTransfer I)) : Type 0 where
   pub here : sending_on number new ≡ s
   pub others : (n : ℕ) → (number ≡ n → ⊥) → sending_on n new ≡ sending_on n old
 
--- No message is there: no transfer is open on the connection, or one of which nothing is left, and it is forgotten.
+-- No message is there: no transfer is open on the connection, or one of which nothing is left, and it is
+-- forgotten.
 abbrev pub EndsOn : {I : Type 0} → ℕ → List (OpenTransfer I) → List (OpenTransfer I) → Type 0
 EndsOn number old new =
     ((sending_on number old ≡ None) × (new ≡ old))
@@ -36,10 +38,15 @@ SendsOn number message old new =
 -- The message that answers at once, or memory was refused.
 abbrev pub IsAtOnce : To → Header → Sending → Effects → Type 0
 IsAtOnce to header s effects =
-    ((message : List ℕ) × (rest : Sending) × Sends s message rest × AreEffects (one_reply (Replied to message)) effects)
-    ⊎ AreEffects (record (one_reply (Replied to (text (bare_reply header rcode_servfail)))) { noted = OutOfMemory }) effects
+    ((message : List ℕ) × (rest : Sending) × Sends s message rest
+    × AreEffects (one_reply (Replied to message)) effects)
+    ⊎ AreEffects
+    (record (one_reply (Replied to (text (bare_reply header rcode_servfail)))) { noted = OutOfMemory })
+    effects
 
 -- What a transfer begins with, or memory was refused.
-abbrev pub TransferBeginsOrLacks : Machine → To → Header → Sending → List Bool → machine.Effects → Machine → Type 0
+abbrev pub TransferBeginsOrLacks : Machine → To → Header → Sending → List Bool → machine.Effects
+    → Machine → Type 0
 TransferBeginsOrLacks old to header s fails effects new =
-    ((fails ≡ []) × TransferBegins old to s effects.sent new × Tells effects effects.sent None) ⊎ LacksAlone fails old to header effects new
+    ((fails ≡ []) × TransferBegins old to s effects.sent new × Tells effects effects.sent None)
+    ⊎ LacksAlone fails old to header effects new

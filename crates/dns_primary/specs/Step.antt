@@ -1,5 +1,6 @@
 -- One event is one step of the machine.
-use Rattle.std.specs.Prelude.{◌≡◌, ◌⊎◌, ◌<◌, ◌≤◌, ℕ, Bool, true, false, not, ◌&&◌, ◌||◌, nat_lt, List, [], ◌∷◌, ◌++◌, length, slice_get, is_some, Option, Some, None, if◌then◌else◌}
+use Rattle.std.specs.Prelude.{◌≡◌, ◌⊎◌, ◌<◌, ◌≤◌, ℕ, Bool, true, false, not, ◌&&◌, ◌||◌, nat_lt, List, []}
+use Rattle.std.specs.Prelude.{◌∷◌, ◌++◌, length, slice_get, is_some, Option, Some, None, if◌then◌else◌}
 use Rattle.dns_wire.specs.Message.{header_of}
 use Rattle.dns_wire.specs.Text.{text}
 use Rattle.dns_request.specs.declared.request.Transport.TheVariants.{Udp, Tcp}
@@ -17,8 +18,9 @@ use Rattle.dns_primary.specs.Checkpoint.{IsCheckpoint, either_fails, first_of}
 use Rattle.dns_primary.specs.Transfer.{IsTransferred, IsPumped}
 use Rattle.dns_primary.specs.Connections.{connected, closed, most_connections}
 
--- A datagram comes from a peer, a peer connects, a message comes on a connection, what waits is to be flushed, the zone at a place
--- is to get a later base, a transfer is to give its next message, a connection is closed.
+-- A datagram comes from a peer, a peer connects, a message comes on a connection, what waits is to be
+-- flushed, the zone at a place is to get a later base, a transfer is to give its next message, a connection
+-- is closed.
 pub data Event : Type 0 where
   Datagram : Peer → List ℕ → Event
   Connect : Peer → Event
@@ -52,7 +54,8 @@ AreFailures true m fails = length fails ≡ length m.zones
 AreFailures false m fails = fails ≡ []
 
 abbrev pub IsFlushed : List Bool → Machine → Effects → Machine → Type 0
-IsFlushed fails old effects new = AreFailures true old fails × Gives effects new (flushed fails old) (flush_sends fails old) fails
+IsFlushed fails old effects new =
+    AreFailures true old fails × Gives effects new (flushed fails old) (flush_sends fails old) fails
 
 -- What goes out of a flush, and the first device that failed.
 pub record Tells (effects : Effects) (out : List Sent) (first : Option ℕ) : Type 0 where
@@ -68,18 +71,20 @@ IsCheckpointed fails old place (Some z) effects new =
     × IsCheckpoint place 0 old flushing moving new
     × Tells effects (flush_sends flushing old) (first_of (first_true flushing) moving place)
 
--- What comes before an update is answered: where it lacks room, all zones are flushed, and the base of its own is moved so that the
--- room is left; else there is a flush where as many replies wait as may.
+-- What comes before an update is answered: where it lacks room, all zones are flushed, and the base of its
+-- own is moved so that the room is left; else there is a flush where as many replies wait as may.
 abbrev pub IsBegun : List Bool → Machine → Option (ℕ × ℕ) → Effects → Machine → Type 0
 IsBegun fails old None effects mid =
-    AreFailures (is_full old) old fails × Gives effects mid (made_place fails old).0 (made_place fails old).1 fails
+    AreFailures (is_full old) old fails
+    × Gives effects mid (made_place fails old).0 (made_place fails old).1 fails
 IsBegun fails old (Some lacked) effects mid =
     (flushing : List Bool) × (moving : Bool) × (fails ≡ either_fails moving lacked.0 flushing)
     × IsCheckpoint lacked.0 lacked.1 old flushing moving mid
     × Tells effects (flush_sends flushing old) (first_of (first_true flushing) moving lacked.0)
 
 -- It is answered behind that.
-pub record IsUpdated (fails : List Bool) (old : Machine) (a : Asked) (effects : Effects) (new : Machine) : Type 0 where
+pub record IsUpdated (fails : List Bool) (old : Machine) (a : Asked) (effects : Effects)
+    (new : Machine) : Type 0 where
   pub first : Effects
   pub mid : Machine
   pub begun : IsBegun fails old (room_lacked old a) first mid
@@ -91,11 +96,14 @@ pub record IsUpdated (fails : List Bool) (old : Machine) (a : Asked) (effects : 
 -- What is done with a request, by what becomes of its octets: a query is answered of what is shown.
 abbrev pub IsServed : List Bool → Machine → To → Peer → Handled → Effects → Machine → Type 0
 IsServed fails old to peer NoReply effects new = (fails ≡ []) × Gives effects new old [] []
-IsServed fails old to peer (Replies reply) effects new = (fails ≡ []) × Gives effects new old (Replied to reply ∷ []) []
+IsServed fails old to peer (Replies reply) effects new =
+    (fails ≡ []) × Gives effects new old (Replied to reply ∷ []) []
 IsServed fails old to peer (Update message question) effects new =
-    IsUpdated fails old (record { to = to; address = peer.address; message = message; zone = question }) effects new
+    IsUpdated fails old
+    (record { to = to; address = peer.address; message = message; zone = question }) effects new
 IsServed fails old to peer (Transfer octets message question) effects new =
-    (fails ≡ []) × IsTransferred old to peer octets message question effects.sent new × Tells effects effects.sent None
+    (fails ≡ []) × IsTransferred old to peer octets message question effects.sent new
+    × Tells effects effects.sent None
 
 -- A message on a connection that isn't there does nothing.
 abbrev pub IsArrived : List Bool → Machine → ℕ → Option Peer → List ℕ → Effects → Machine → Type 0
@@ -116,11 +124,14 @@ abbrev pub Goes : List Bool → Machine → Event → Effects → Machine → Ty
 Goes fails old (Datagram peer octets) effects new =
     IsServed fails old (to.Address peer) peer (handled (shown_zones old) octets Udp) effects new
 Goes fails old (Connect peer) effects new = (fails ≡ []) × IsConnected old peer effects new
-Goes fails old (Arrives number octets) effects new = IsArrived fails old number (peer_at number old.connections) octets effects new
+Goes fails old (Arrives number octets) effects new =
+    IsArrived fails old number (peer_at number old.connections) octets effects new
 Goes fails old Flush effects new = IsFlushed fails old effects new
-Goes fails old (Checkpoint place) effects new = IsCheckpointed fails old place (slice_get old.zones place) effects new
+Goes fails old (Checkpoint place) effects new =
+    IsCheckpointed fails old place (slice_get old.zones place) effects new
 Goes fails old (Pump number) effects new =
-    (fails ≡ []) × IsPumped old number (sending_at number old.connections) effects.sent new × Tells effects effects.sent None
+    (fails ≡ []) × IsPumped old number (sending_at number old.connections) effects.sent new
+    × Tells effects effects.sent None
 Goes fails old (Closed number) effects new = (fails ≡ []) × Gives effects new (closed number old) [] []
 
 -- Octets that get a reply: a header, and no response (RFC 1035 4.1.1).
@@ -129,7 +140,8 @@ is_asking octets = not (nat_lt (length octets) 12) && not (header_of octets).qr
 
 -- A request that is refused memory gets SERVFAIL, a header alone.
 abbrev pub failure : To → List ℕ → List Sent
-failure to octets = if is_asking octets then Replied to (text (bare_reply (header_of octets) rcode_servfail)) ∷ [] else []
+failure to octets =
+    if is_asking octets then Replied to (text (bare_reply (header_of octets) rcode_servfail)) ∷ [] else []
 
 abbrev pub failure_on : ℕ → Option Peer → List ℕ → List Sent
 failure_on number None octets = []
@@ -164,10 +176,12 @@ request_lacks m to peer (Transfer octets message question) = None
 
 abbrev pub arrived_lacks : Machine → ℕ → Option Peer → List ℕ → Option (ℕ × ℕ)
 arrived_lacks m number None octets = None
-arrived_lacks m number (Some peer) octets = request_lacks m (to.Connection number) peer (handled (shown_zones m) octets Tcp)
+arrived_lacks m number (Some peer) octets =
+    request_lacks m (to.Connection number) peer (handled (shown_zones m) octets Tcp)
 
 abbrev pub checkpoint_first : Machine → Event → Option (ℕ × ℕ)
-checkpoint_first m (Datagram peer octets) = request_lacks m (to.Address peer) peer (handled (shown_zones m) octets Udp)
+checkpoint_first m (Datagram peer octets) =
+    request_lacks m (to.Address peer) peer (handled (shown_zones m) octets Udp)
 checkpoint_first m (Arrives number octets) = arrived_lacks m number (peer_at number m.connections) octets
 checkpoint_first m (Connect peer) = None
 checkpoint_first m Flush = None
@@ -186,11 +200,12 @@ abbrev pub arrived_update : Machine → Option Peer → List ℕ → Bool
 arrived_update m None octets = false
 arrived_update m (Some peer) octets = is_update (handled (shown_zones m) octets Tcp)
 
--- An update that comes while as many wait as may flushes first, and so does one that lacks room, and the checkpoint of a zone that
--- is there.
+-- An update that comes while as many wait as may flushes first, and so does one that lacks room, and the
+-- checkpoint of a zone that is there.
 abbrev pub flushes_first : Machine → Event → Bool
 flushes_first m (Datagram peer octets) =
-    is_update (handled (shown_zones m) octets Udp) && is_full m || is_some (checkpoint_first m (Datagram peer octets))
+    is_update (handled (shown_zones m) octets Udp) && is_full m
+    || is_some (checkpoint_first m (Datagram peer octets))
 flushes_first m (Arrives number octets) =
     arrived_update m (peer_at number m.connections) octets && is_full m
     || is_some (checkpoint_first m (Arrives number octets))
@@ -210,9 +225,10 @@ base_moved m (Checkpoint place) = Some (place, 0)
 base_moved m (Pump number) = None
 base_moved m (Closed number) = None
 
--- Memory was refused: the machine is as before, or as after the event's flush, or as after the flush and the checkpoint that come
--- first where an update lacks room.
-pub record Lacks (fails : List Bool) (old : Machine) (event : Event) (effects : Effects) (new : Machine) : Type 0 where
+-- Memory was refused: the machine is as before, or as after the event's flush, or as after the flush and the
+-- checkpoint that come first where an update lacks room.
+pub record Lacks (fails : List Bool) (old : Machine) (event : Event) (effects : Effects)
+    (new : Machine) : Type 0 where
   pub takes : takes_memory event ≡ true
   pub noted : effects.noted ≡ OutOfMemory
   pub accepted : effects.accepted ≡ None

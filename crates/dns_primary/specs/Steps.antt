@@ -1,5 +1,6 @@
 -- Steps of a primary, and what is told of them.
-use Rattle.std.specs.Prelude.{◌≡◌, ◌⊎◌, ℕ, zero, suc, Bool, true, ◌&&◌, ◌||◌, is_some, List, [], ◌∷◌, ◌++◌, Option, Some, None, Result, Ok, Err, map}
+use Rattle.std.specs.Prelude.{◌≡◌, ◌⊎◌, ℕ, zero, suc, Bool, true, ◌&&◌, ◌||◌, is_some, List, [], ◌∷◌, ◌++◌}
+use Rattle.std.specs.Prelude.{Option, Some, None, Result, Ok, Err, map}
 use Rattle.dns_wire.specs.Message.{Header, Question, Message}
 use Rattle.dns_wire.specs.Codes.{number_of_rcode}
 use Rattle.dns_request.specs.declared.request.Transport.{Transport}
@@ -29,7 +30,8 @@ use Rattle.dns_primary.specs.Machine.{ZoneState, Machine, kept_of, shown_zones}
 use Rattle.dns_primary.specs.Flush.{Sent, Replied, flushed, flush_sends, rcode_servfail}
 use Rattle.dns_primary.specs.Update.{Asked, replies, is_full, room_lacked}
 use Rattle.dns_primary.specs.Step as machine
-use Rattle.dns_primary.specs.Step.{AreFailures, IsBegun, IsServed, IsUpdated, failure, is_update, request_lacks}
+use Rattle.dns_primary.specs.Step.{AreFailures, IsBegun, IsServed, IsUpdated, failure, is_update}
+use Rattle.dns_primary.specs.Step.{request_lacks}
 use Rattle.dns_primary.specs.Keeps.{IsKept, AreEffects}
 
 -- The event of the machine.
@@ -42,13 +44,17 @@ event_shown (event.Checkpoint place) = machine.Checkpoint place
 event_shown (event.Pump number) = machine.Pump number
 event_shown (event.Closed number) = machine.Closed number
 
--- A crash at any moment between the two leaves each device so that it opens as the versions shown and the first of those staged.
-abbrev pub AtAnyMoment : {I S : Type 0} → store.Ghosts S → Machine → List (Behind I S) → List (Behind I S) → Type 0
+-- A crash at any moment between the two leaves each device so that it opens as the versions shown and the
+-- first of those staged.
+abbrev pub AtAnyMoment : {I S : Type 0} → store.Ghosts S → Machine → List (Behind I S)
+    → List (Behind I S) → Type 0
 AtAnyMoment s m olds news =
-    Each3 (λ a b k. LeavesOnly s.moment s.left_since a.store b.store (OpensAsLeft s.opens k)) olds news (map kept_of m.zones)
+    Each3 (λ a b k. LeavesOnly s.moment s.left_since a.store b.store (OpensAsLeft s.opens k)) olds news
+    (map kept_of m.zones)
 
--- A primary took a step: of the devices these failed, each of which it is said, the machine that it kept went on to the next one,
--- which it keeps now, and the effects are told. `step` says of a list of failures, effects and a machine that they are such a step.
+-- A primary took a step: of the devices these failed, each of which it is said, the machine that it kept went
+-- on to the next one, which it keeps now, and the effects are told. `step` says of a list of failures,
+-- effects and a machine that they are such a step.
 pub record Stepped {I S : Type 0} {i : index.Ghosts I} {s : store.Ghosts S} (m : Machine)
     (old new : Primary I S i s) (effects : Effects)
     (step : List Bool → machine.Effects → Machine → Type 0) : Type 0 where
@@ -74,7 +80,8 @@ abbrev pub with_rooms : Option (ℕ × ℕ) → List ZoneState → List (Option 
 with_rooms None zones = map without_room zones
 with_rooms (Some moved) zones = with_room moved.0 moved.1 zones
 
--- A crash leaves the versions shown and the first of those staged; where the base is moved, with that or all of them with the next.
+-- A crash leaves the versions shown and the first of those staged; where the base is moved, with that or all
+-- of them with the next.
 abbrev pub OpensAsEvent : (Shape → Opened → Content → Type 0) → Option ℕ → ZoneState → Content → Type 0
 OpensAsEvent opens None z c = OpensAsLeft opens (kept_of z) c
 OpensAsEvent opens (Some room) z c = OpensAsCheckpointed opens z.setting.keep room (kept_of z) c
@@ -86,11 +93,11 @@ AtAnyMomentOf s moved m olds news =
     Each3 (λ a b k. LeavesOnly s.moment s.left_since a.store b.store (OpensAsEvent s.opens k.0 k.1)) olds news
     (with_rooms moved m.zones)
 
--- A primary took a step that may move the base of this zone, leaving that room: of the devices these failed, each of which it is
--- said; at each moment a crash left each device as that allows; the machine that it kept went on to the next one, which it keeps
--- now, and the effects are told.
-pub record SteppedOn {I S : Type 0} {i : index.Ghosts I} {s : store.Ghosts S} (m : Machine) (moved : Option (ℕ × ℕ))
-    (old new : Primary I S i s) (effects : Effects)
+-- A primary took a step that may move the base of this zone, leaving that room: of the devices these failed,
+-- each of which it is said; at each moment a crash left each device as that allows; the machine that it kept
+-- went on to the next one, which it keeps now, and the effects are told.
+pub record SteppedOn {I S : Type 0} {i : index.Ghosts I} {s : store.Ghosts S} (m : Machine)
+    (moved : Option (ℕ × ℕ)) (old new : Primary I S i s) (effects : Effects)
     (step : List Bool → machine.Effects → Machine → Type 0) : Type 0 where
   pub fails : List Bool
   pub failed : FailedWhere (λ b. s.failed b.store) fails old.behind.items new.behind.items
@@ -102,10 +109,11 @@ pub record SteppedOn {I S : Type 0} {i : index.Ghosts I} {s : store.Ghosts S} (m
   pub kept : IsKept new next
 
 -- A primary took the step of an event.
-abbrev pub SteppedBy : {I S : Type 0} {i : index.Ghosts I} {s : store.Ghosts S} → Machine → machine.Event → Primary I S i s
-    → Primary I S i s → Effects → Type 0
+abbrev pub SteppedBy : {I S : Type 0} {i : index.Ghosts I} {s : store.Ghosts S} → Machine → machine.Event
+    → Primary I S i s → Primary I S i s → Effects → Type 0
 SteppedBy m event old new effects =
-    SteppedOn m (machine.base_moved m event) old new effects (λ fails stated next. machine.Step fails m event stated next)
+    SteppedOn m (machine.base_moved m event) old new effects
+    (λ fails stated next. machine.Step fails m event stated next)
 
 -- What is noted where a device failed that came after others.
 abbrev pub noted_then : Noted → ℕ → Noted
@@ -131,12 +139,14 @@ one_reply reply = record { sent = reply ∷ []; accepted = None; noted = Nothing
 -- What becomes of an update goes out behind what went out before.
 abbrev pub answered_with : machine.Effects → Asked → Outcome → machine.Effects
 answered_with effects a (outcome.Waits rcode) = effects
-answered_with effects a (outcome.AtOnce rcode) = record effects { sent = effects.sent ++ replies a (number_of_rcode rcode) ∷ [] }
+answered_with effects a (outcome.AtOnce rcode) =
+    record effects { sent = effects.sent ++ replies a (number_of_rcode rcode) ∷ [] }
 answered_with effects a outcome.OutOfMemory =
     record effects { sent = effects.sent ++ replies a rcode_servfail ∷ []; noted = OutOfMemory }
 
 -- Memory was refused to the move of a base, behind the flush.
-pub record LacksMove (fails : List Bool) (old : Machine) (effects : machine.Effects) (mid : Machine) : Type 0 where
+pub record LacksMove (fails : List Bool) (old : Machine) (effects : machine.Effects)
+    (mid : Machine) : Type 0 where
   pub failures : AreFailures true old fails
   pub state : mid ≡ flushed fails old
   pub sent : effects.sent ≡ flush_sends fails old
@@ -149,21 +159,24 @@ IsBegunOrLacks old lacked fails effects mid =
     IsBegun fails old lacked effects mid ⊎ ((is_some lacked ≡ true) × LacksMove fails old effects mid)
 
 -- Memory was refused to an update, before what comes first, or within it, or behind it.
-pub record LacksUpdate (fails : List Bool) (old : Machine) (a : Asked) (effects : machine.Effects) (new : Machine) : Type 0 where
+pub record LacksUpdate (fails : List Bool) (old : Machine) (a : Asked) (effects : machine.Effects)
+    (new : Machine) : Type 0 where
   pub noted : effects.noted ≡ OutOfMemory
   pub accepted : effects.accepted ≡ None
   pub stays : ((fails ≡ []) × (new ≡ old) × (effects.sent ≡ replies a rcode_servfail ∷ []))
-      ⊎ ((((is_full old || is_some (room_lacked old a)) ≡ true) × AreFailures true old fails × (new ≡ flushed fails old)
-      × (effects.sent ≡ flush_sends fails old ++ replies a rcode_servfail ∷ []))
+      ⊎ ((((is_full old || is_some (room_lacked old a)) ≡ true) × AreFailures true old fails
+      × (new ≡ flushed fails old) × (effects.sent ≡ flush_sends fails old ++ replies a rcode_servfail ∷ []))
       ⊎ ((lacked : ℕ × ℕ) × (first : machine.Effects) × (room_lacked old a ≡ Some lacked)
-      × IsBegun fails old (Some lacked) first new × (effects.sent ≡ first.sent ++ replies a rcode_servfail ∷ [])))
+      × IsBegun fails old (Some lacked) first new
+      × (effects.sent ≡ first.sent ++ replies a rcode_servfail ∷ [])))
 
 abbrev pub IsUpdatedOrLacks : Machine → Asked → List Bool → machine.Effects → Machine → Type 0
-IsUpdatedOrLacks old a fails effects new = IsUpdated fails old a effects new ⊎ LacksUpdate fails old a effects new
+IsUpdatedOrLacks old a fails effects new =
+    IsUpdated fails old a effects new ⊎ LacksUpdate fails old a effects new
 
 -- Memory was refused to a request, which is an update or none.
-pub record LacksRequest (fails : List Bool) (old : Machine) (to : To) (updates : Bool) (lacked : Option (ℕ × ℕ)) (octets : List ℕ)
-    (effects : machine.Effects) (new : Machine) : Type 0 where
+pub record LacksRequest (fails : List Bool) (old : Machine) (to : To) (updates : Bool)
+    (lacked : Option (ℕ × ℕ)) (octets : List ℕ) (effects : machine.Effects) (new : Machine) : Type 0 where
   pub noted : effects.noted ≡ OutOfMemory
   pub accepted : effects.accepted ≡ None
   pub stays : ((fails ≡ []) × (new ≡ old) × (effects.sent ≡ failure to octets))
@@ -173,20 +186,24 @@ pub record LacksRequest (fails : List Bool) (old : Machine) (to : To) (updates :
       × IsBegun fails old (Some room) first new × (effects.sent ≡ first.sent ++ failure to octets)))
 
 -- What becomes of octets that came from a peer by a transport, their reply going there.
-abbrev pub IsServedOrLacks : Machine → Peer → To → List ℕ → Transport → List Bool → machine.Effects → Machine → Type 0
+abbrev pub IsServedOrLacks : Machine → Peer → To → List ℕ → Transport → List Bool → machine.Effects
+    → Machine → Type 0
 IsServedOrLacks old peer to octets transport fails effects new =
     IsServed fails old to peer (handled (shown_zones old) octets transport) effects new
     ⊎ LacksRequest fails old to (is_update (handled (shown_zones old) octets transport))
     (request_lacks old to peer (handled (shown_zones old) octets transport)) octets effects new
 
 -- Memory was refused to a request that changes nothing then.
-pub record LacksAlone (fails : List Bool) (old : Machine) (to : To) (header : Header) (effects : machine.Effects) (new : Machine)
-    : Type 0 where
+pub record LacksAlone (fails : List Bool) (old : Machine) (to : To) (header : Header)
+    (effects : machine.Effects) (new : Machine) : Type 0 where
   pub nothing : fails ≡ []
   pub stays : new ≡ old
-  pub is : effects ≡ record (one_reply (Replied to (text (bare_reply header rcode_servfail)))) { noted = OutOfMemory }
+  pub is : effects
+      ≡ record (one_reply (Replied to (text (bare_reply header rcode_servfail)))) { noted = OutOfMemory }
 
 -- What becomes of a request for a transfer.
-abbrev pub IsTransferredOrLacks : Machine → Peer → To → List ℕ → Message → Question → List Bool → machine.Effects → Machine → Type 0
+abbrev pub IsTransferredOrLacks : Machine → Peer → To → List ℕ → Message → Question → List Bool
+    → machine.Effects → Machine → Type 0
 IsTransferredOrLacks old peer to octets message question fails effects new =
-    IsServed fails old to peer (Transfer octets message question) effects new ⊎ LacksAlone fails old to message.header effects new
+    IsServed fails old to peer (Transfer octets message question) effects new
+    ⊎ LacksAlone fails old to message.header effects new

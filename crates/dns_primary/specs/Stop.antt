@@ -12,11 +12,12 @@ Checkpoints m event place room = base_moved m event ≡ Some (place, room)
 
 -- The base that the event is making of the zone at this place.
 abbrev pub IsMaking : Machine → Event → ℕ → ZoneState → ℕ → Type 0
-IsMaking m event place z base = (room : ℕ) × Checkpoints m event place room × IsNextBase z.setting.keep room (kept_of z) base
+IsMaking m event place z base =
+    (room : ℕ) × Checkpoints m event place room × IsNextBase z.setting.keep room (kept_of z) base
 
--- A zone as it is opened again: it shows the version that was shown and some of the updates staged behind it, in order, and begins at
--- its base, at the second one that a checkpoint left that failed, or at one that is being made. Nothing is staged of it. Its store was
--- opened at least and at most so often since.
+-- A zone as it is opened again: it shows the version that was shown and some of the updates staged behind it,
+-- in order, and begins at its base, at the second one that a checkpoint left that failed, or at one that is
+-- being made. Nothing is staged of it. Its store was opened at least and at most so often since.
 pub record IsRecovered (least most : ℕ) (making : ℕ → Type 0) (old new : ZoneState) : Type 0 where
   pub setting : new.setting ≡ old.setting
   pub loaded : new.loaded ≡ old.loaded
@@ -36,11 +37,13 @@ pub record IsRecovered (least most : ℕ) (making : ℕ → Type 0) (old new : Z
 abbrev pub AreRecovered : ℕ → ℕ → Machine → Event → ℕ → List ZoneState → List ZoneState → Type 0
 AreRecovered least most m event place [] [] = Unit {0}
 AreRecovered least most m event place (z ∷ old) (w ∷ new) =
-    IsRecovered least most (IsMaking m event place z) z w × AreRecovered least most m event (suc place) old new
+    IsRecovered least most (IsMaking m event place z) z w
+    × AreRecovered least most m event (suc place) old new
 AreRecovered least most m event place [] (w ∷ new) = ⊥
 AreRecovered least most m event place (z ∷ old) [] = ⊥
 
--- The machine stopped within the event, which has no effects, and was opened again, after so many tries that were stopped or refused.
+-- The machine stopped within the event, which has no effects, and was opened again, after so many tries that
+-- were stopped or refused.
 pub record IsStopped (tries : ℕ) (old : Machine) (event : Event) (new : Machine) : Type 0 where
   pub zones : AreRecovered 1 (suc tries) old event 0 old.zones new.zones
   pub waiting : new.waiting ≡ []
@@ -48,9 +51,12 @@ pub record IsStopped (tries : ℕ) (old : Machine) (event : Event) (new : Machin
 
 -- What a zone's device opens as where nothing of the zone is staged.
 abbrev pub opened_of : ZoneState → Opened
-opened_of z = record { loaded = z.loaded; versions = versions_of z.shown; base = z.base; openings = z.openings }
+opened_of z =
+    record { loaded = z.loaded; versions = versions_of z.shown; base = z.base; openings = z.openings }
 
--- The content of a device opens as a zone that this one may be recovered as, whose store was opened at most so often since.
-abbrev pub OpensAsRecovered : (Shape → Opened → Content → Type 0) → ℕ → (ℕ → Type 0) → ZoneState → Content → Type 0
+-- The content of a device opens as a zone that this one may be recovered as, whose store was opened at most
+-- so often since.
+abbrev pub OpensAsRecovered : (Shape → Opened → Content → Type 0) → ℕ → (ℕ → Type 0) → ZoneState
+    → Content → Type 0
 OpensAsRecovered opens tries making z c =
     (w : ZoneState) × IsRecovered 0 tries making z w × opens w.setting.shape (opened_of w) c

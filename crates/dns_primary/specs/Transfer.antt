@@ -1,5 +1,7 @@
 -- Transfers of zones: what a request opens, and what goes out (RFC 5936, RFC 1995).
-use Rattle.std.specs.Prelude.{◌≡◌, ℕ, Bool, true, false, ◌&&◌, ◌==◌, List, [], ◌∷◌, ◌++◌, map, drop, slice_get, Option, Some, None, option_map, is_none, Result, Ok, Err, if◌then◌else◌}
+use Rattle.std.specs.Prelude.{◌≡◌, ℕ, Bool, true, false, ◌&&◌, ◌==◌, List, [], ◌∷◌, ◌++◌, map, drop}
+use Rattle.std.specs.Prelude.{slice_get, Option, Some, None, option_map, is_none, Result, Ok, Err}
+use Rattle.std.specs.Prelude.{if◌then◌else◌}
 use Rattle.std.specs.declared.net.ip_addr.IpAddr.{IpAddr}
 use Rattle.dns_names.specs.Name.{Labels}
 use Rattle.dns_records.specs.Record.{Record}
@@ -75,8 +77,10 @@ OpensFrom m to peer octets message question opened =
 
 -- The reply where it is refused: FORMERR as a header alone, else with the question.
 abbrev pub refusal_of : Transport → List ℕ → Message → Question → Rcode → List ℕ
-refusal_of transport octets message question FormErr = text (bare_reply message.header (number_of_rcode FormErr))
-refusal_of transport octets message question rcode = fitted transport (with_question octets message question (number_of_rcode rcode))
+refusal_of transport octets message question FormErr =
+    text (bare_reply message.header (number_of_rcode FormErr))
+refusal_of transport octets message question rcode =
+    fitted transport (with_question octets message question (number_of_rcode rcode))
 
 -- This transfer, or none, is open on the connection with that number.
 abbrev pub set_transfer : ℕ → Option Sending → machine.Connection → machine.Connection
@@ -89,10 +93,12 @@ with_transfer number s m = record m { connections = map (set_transfer number s) 
 abbrev pub TransferBegins : Machine → To → Sending → List Sent → Machine → Type 0
 TransferBegins m (Connection number) s out next = (out ≡ []) × (next ≡ with_transfer number (Some s) m)
 TransferBegins m (Address peer) s out next =
-    (message : List ℕ) × (rest : Sending) × Sends s message rest × (out ≡ Replied (Address peer) message ∷ []) × (next ≡ m)
+    (message : List ℕ) × (rest : Sending) × Sends s message rest
+    × (out ≡ Replied (Address peer) message ∷ []) × (next ≡ m)
 TransferBegins m Nowhere s out next = (out ≡ []) × (next ≡ m)
 
-abbrev pub IsStarted : Machine → To → List ℕ → Message → Question → Result Sending Rcode → List Sent → Machine → Type 0
+abbrev pub IsStarted : Machine → To → List ℕ → Message → Question → Result Sending Rcode → List Sent
+    → Machine → Type 0
 IsStarted m to octets message question (Ok s) out next = TransferBegins m to s out next
 IsStarted m to octets message question (Err rcode) out next =
     (out ≡ Replied to (refusal_of (transport_of to) octets message question rcode) ∷ []) × (next ≡ m)
@@ -112,7 +118,8 @@ open_still (r ∷ rest) s = Some s
 abbrev pub IsSentOn : Machine → ℕ → Sending → List Record → List Sent → Machine → Type 0
 IsSentOn m number s [] out next = (out ≡ []) × (next ≡ with_transfer number None m)
 IsSentOn m number s (r ∷ left) out next =
-    (message : List ℕ) × (rest : Sending) × Sends s message rest × (out ≡ Replied (Connection number) message ∷ [])
+    (message : List ℕ) × (rest : Sending) × Sends s message rest
+    × (out ≡ Replied (Connection number) message ∷ [])
     × (next ≡ with_transfer number (open_still rest.left rest) m)
 
 abbrev pub IsPumped : Machine → ℕ → Option Sending → List Sent → Machine → Type 0

@@ -1,5 +1,6 @@
 -- What becomes of an update (RFC 2136 3).
-use Rattle.std.specs.Prelude.{ℕ, suc, Bool, not, ◌==◌, nat_le, nat_lt, List, [], ◌∷◌, ◌++◌, length, slice_get, slice_set, Option, Some, None, option_map, if◌then◌else◌}
+use Rattle.std.specs.Prelude.{ℕ, suc, Bool, not, ◌==◌, nat_le, nat_lt, List, [], ◌∷◌, ◌++◌, length, slice_get}
+use Rattle.std.specs.Prelude.{slice_set, Option, Some, None, option_map, if◌then◌else◌}
 use Rattle.std.specs.declared.net.ip_addr.IpAddr.{IpAddr}
 use Rattle.dns_names.specs.Name.{Labels, names_eq}
 use Rattle.dns_records.specs.Types.{type_soa, class_in}
@@ -26,7 +27,8 @@ rcode_notauth = 9
 abbrev pub most_waiting : ℕ
 most_waiting = 32
 
--- An update that came: where its reply goes, the address that it came from, its message and the zone that it names.
+-- An update that came: where its reply goes, the address that it came from, its message and the zone that it
+-- names.
 pub record Asked : Type 0 where
   pub to : To
   pub address : IpAddr
@@ -36,9 +38,11 @@ pub record Asked : Type 0 where
 -- The place of the first zone with this apex.
 abbrev pub place_of : Labels → List ZoneState → Option ℕ
 place_of apex [] = None
-place_of apex (z ∷ rest) = if names_eq z.setting.shape.apex apex then Some 0 else option_map suc (place_of apex rest)
+place_of apex (z ∷ rest) =
+    if names_eq z.setting.shape.apex apex then Some 0 else option_map suc (place_of apex rest)
 
--- What is tested before the update is judged (RFC 2136 3.1, 3.3): it is refused at once, or it is for the zone at a place.
+-- What is tested before the update is judged (RFC 2136 3.1, 3.3): it is refused at once, or it is for the
+-- zone at a place.
 pub data Admission : Type 0 where
   Rejects : ℕ → Admission
   Admits : ℕ → ZoneState → Admission
@@ -67,7 +71,8 @@ abbrev pub waits : Machine → Asked → ℕ → ℕ → List Made → Machine
 waits m a place rcode updates =
     record m {
       waiting = m.waiting
-          ++ record { to = a.to; header = a.message.header; rcode = rcode; zone = place; updates = updates } ∷ [];
+          ++ record { to = a.to; header = a.message.header; rcode = rcode; zone = place; updates = updates }
+          ∷ [];
     }
 
 abbrev pub with_staged : Made → ZoneState → ZoneState
@@ -77,18 +82,21 @@ with_staged made z = record z { staged = z.staged ++ made ∷ [] }
 abbrev pub stages : Machine → Asked → ℕ → ZoneState → List Record → Machine
 stages m a place z records =
     let made : Made = record { update = a.message; records = records } in
-    waits (record m { zones = slice_set m.zones place (with_staged made z) }) a place 0 (updates_of (with_staged made z))
+    waits (record m { zones = slice_set m.zones place (with_staged made z) }) a place 0
+    (updates_of (with_staged made z))
 
 -- The reply goes out at once.
 abbrev pub replies : Asked → ℕ → Sent
 replies a rcode = Replied a.to (text (bare_reply a.message.header rcode))
 
--- An accepted update is staged. One for which there is no room is refused, and its reply waits. One whose entry is over what is
--- left of the journal is refused at once: a checkpoint came before, and could not leave that room.
+-- An accepted update is staged. One for which there is no room is refused, and its reply waits. One whose
+-- entry is over what is left of the journal is refused at once: a checkpoint came before, and could not leave
+-- that room.
 abbrev pub accepted_in : Machine → Asked → ℕ → ZoneState → List Record → Machine × List Sent
 accepted_in m a place z records =
     if not (has_room (kept_of z) records) then (waits m a place rcode_servfail (updates_of z), [])
-    else if nat_le (entry_between (newest_of (kept_of z)) records) (sectors_left (kept_of z)) then (stages m a place z records, [])
+    else if nat_le (entry_between (newest_of (kept_of z)) records) (sectors_left (kept_of z))
+    then (stages m a place z records, [])
     else (m, replies a rcode_servfail ∷ [])
 
 -- What is judged waits, whether or not it changes the zone.
@@ -100,7 +108,8 @@ judged_in m a place z (Leaves records) = accepted_in m a place z records
 -- It is judged on the newest version.
 abbrev pub admitted : Machine → Asked → Admission → Machine × List Sent
 admitted m a (Rejects rcode) = (m, replies a rcode ∷ [])
-admitted m a (Admits place z) = judged_in m a place z (verdict (newest_zone (kept_of z)) a.message.answers a.message.authorities)
+admitted m a (Admits place z) =
+    judged_in m a place z (verdict (newest_zone (kept_of z)) a.message.answers a.message.authorities)
 
 -- As many wait as may.
 abbrev pub is_full : Machine → Bool
@@ -110,15 +119,15 @@ is_full m = not (nat_lt (length m.waiting) most_waiting)
 abbrev pub made_place : List Bool → Machine → Machine × List Sent
 made_place fails m = if is_full m then (flushed fails m, flush_sends fails m) else (m, [])
 
--- How many sectors an update lacks that is judged so: those of its entry, where there is room for its version, but not in what is
--- left of the journal.
+-- How many sectors an update lacks that is judged so: those of its entry, where there is room for its
+-- version, but not in what is left of the journal.
 abbrev pub lacked_by : Kept → Verdict → Option ℕ
 lacked_by k (Refuses rcode) = None
 lacked_by k Keeps = None
 lacked_by k (Leaves records) = sectors_lacked k records
 
--- The place of the zone whose journal lacks room for the update, and how many sectors. Then a checkpoint comes first that leaves
--- them. No flush before it changes the newest version or what is left.
+-- The place of the zone whose journal lacks room for the update, and how many sectors. Then a checkpoint
+-- comes first that leaves them. No flush before it changes the newest version or what is left.
 abbrev pub lacked_at : Asked → Admission → Option (ℕ × ℕ)
 lacked_at a (Rejects rcode) = None
 lacked_at a (Admits place z) =

@@ -34,8 +34,8 @@ pub(crate) fn place_of<I: ZoneIndex>(zones: &[Zone<I>], apex: &NameRef<'_>) -> O
     zones.iter().position(|zone| has_apex(zone, apex))
 }
 
-/// Whether a zone may be updated from that address now: REFUSED for an address that its list doesn't allow, then SERVFAIL where it
-/// is closed.
+/// Whether a zone may be updated from that address now: REFUSED for an address that its list doesn't allow,
+/// then SERVFAIL where it is closed.
 fn admit_in<I: ZoneIndex, S: ZoneStore>(
     behind: &Behind<I, S>,
     settings: &ZoneSettings,

@@ -27,9 +27,12 @@ fn move_base<I: ZoneIndex, S: ZoneStore>(
         → HasVersions S.keeps zone behind.old (kept_of z)
         → keep ≡ z.setting.keep
         → IsSettled z
-        → (new : ZoneState) × IsMovedBy room z result new × HasVersions S.keeps zone behind.new (kept_of new) }
-    ensures any_moment { (k : Kept) (n : ℕ) → S.keeps behind.old.store k → k.staged ≡ [] → IsKeptNumber k keep room n
-        → LeavesOnly S.moment S.left_since behind.old.store behind.new.store (OpensAsEither S.opens k (length k.shown - n)) }
+        → (new : ZoneState) × IsMovedBy room z result new
+        × HasVersions S.keeps zone behind.new (kept_of new) }
+    ensures any_moment { (k : Kept) (n : ℕ) → S.keeps behind.old.store k → k.staged ≡ []
+        → IsKeptNumber k keep room n
+        → LeavesOnly S.moment S.left_since behind.old.store behind.new.store
+        (OpensAsEither S.opens k (length k.shown - n)) }
     ensures still { (k : Kept) → S.keeps behind.old.store k → k.closed ≡ true
         → StandsStill S.moment S.left_since behind.old.store behind.new.store }
     ensures grows { S.failed behind.old.store ≤ S.failed behind.new.store }
@@ -62,12 +65,13 @@ fn noted_behind(noted: Noted, place: usize, moved: Result<(), CheckpointError>) 
 }
 
 impl<I: ZoneIndex, S: ZoneStore> Primary<I, S> {
-    /// Flushes all zones, and then moves the base of the one at a place to the version shown less as many changes as it is to keep,
-    /// where their entries leave so many sectors of its journal.
+    /// Flushes all zones, and then moves the base of the one at a place to the version shown less as many
+    /// changes as it is to keep, where their entries leave so many sectors of its journal.
     pub(crate) fn make_room(&mut self, place: usize, room: usize) -> Effects
         requires inside { place < length self.old.behind.items }
         ensures step { (old : Machine) → IsKept self.old old
-            → SteppedOn old (Some (place, room)) self.old self.new result (IsBegunOrLacks old (Some (place, room))) }
+            → SteppedOn old (Some (place, room)) self.old self.new result
+            (IsBegunOrLacks old (Some (place, room))) }
         ensures room { length self.new.waiting.items < 32 }
         ensures bare { result.reply ≡ None }
         ensures as_many { length self.new.behind.items ≡ length self.old.behind.items }
@@ -81,10 +85,12 @@ impl<I: ZoneIndex, S: ZoneStore> Primary<I, S> {
         effects
     }
 
-    /// Flushes all zones, and then moves the base of the one at a place to the version shown less as many changes as it is to keep,
-    /// where their entries fit in its journal. Where there is no such zone nothing happens.
+    /// Flushes all zones, and then moves the base of the one at a place to the version shown less as many
+    /// changes as it is to keep, where their entries fit in its journal. Where there is no such zone nothing
+    /// happens.
     pub(crate) fn checkpoint(&mut self, place: usize) -> Effects
-        ensures step { (old : Machine) → IsKept self.old old → SteppedBy old (Checkpoint place) self.old self.new result }
+        ensures step { (old : Machine) → IsKept self.old old
+            → SteppedBy old (Checkpoint place) self.old self.new result }
         ensures bare { result.reply ≡ None }
     {
         if place >= self.behind.len() {

@@ -35,7 +35,8 @@ fn without_connection(to: To, number: usize) -> To
 
 /// What was to go to the connection with that number goes nowhere.
 fn redirect(waiting: &mut [Waiting], number: usize)
-    ensures { waiting.new ≡ map (λ (w : Stated). record w { to = without_connection number w.to }) waiting.old }
+    ensures { waiting.new
+        ≡ map (λ (w : Stated). record w { to = without_connection number w.to }) waiting.old }
 {
     for one in waiting.iter_mut() {
         one.to = without_connection(one.to, number);
@@ -46,7 +47,8 @@ impl<I: ZoneIndex, S: ZoneStore> Primary<I, S> {
     /// A peer connects: it gets a number that no other has, or none where there are as many as may be.
     pub(crate) fn connect(&mut self, peer: Peer) -> Effects
         ensures step { (old : Machine) → IsKept self.old old
-            → Stepped old self.old self.new result (λ fails stated next. Step fails old (Connect peer) stated next) }
+            → Stepped old self.old self.new result
+            (λ fails stated next. Step fails old (Connect peer) stated next) }
     {
         let mut effects = Effects::nothing(*self.places.allocator());
         if self.connections.len() >= MOST_CONNECTIONS {
@@ -64,10 +66,12 @@ impl<I: ZoneIndex, S: ZoneStore> Primary<I, S> {
         }
     }
 
-    /// A connection is closed. What waits to go to it keeps its place, and goes nowhere; the transfer that is open on it is forgotten.
+    /// A connection is closed. What waits to go to it keeps its place, and goes nowhere; the transfer that is
+    /// open on it is forgotten.
     pub(crate) fn close(&mut self, number: usize) -> Effects
         ensures step { (old : Machine) → IsKept self.old old
-            → Stepped old self.old self.new result (λ fails stated next. Step fails old (Closed number) stated next) }
+            → Stepped old self.old self.new result
+            (λ fails stated next. Step fails old (Closed number) stated next) }
         ensures memory { result.noted ≢ StatedLack }
     {
         let _closed = self.connections.try_remove(number);

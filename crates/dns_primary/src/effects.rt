@@ -52,7 +52,8 @@ impl Effects {
     /// One reply alone, the header of a request with a response code.
     pub(crate) fn refusal(alloc: Heap, to: To, header: &[u8; 12], rcode: Rcode) -> Effects
         requires { is_nowhere to ≡ false }
-        ensures { AreEffects (one_reply (Replied to (text (bare_reply (header_of header.now) (number_of_rcode rcode))))) result }
+        ensures { AreEffects (one_reply
+            (Replied to (text (bare_reply (header_of header.now) (number_of_rcode rcode))))) result }
     {
         Effects::nothing(alloc).with_header(to, header_only(header, rcode))
     }
@@ -61,7 +62,8 @@ impl Effects {
     pub(crate) fn out_of_memory(alloc: Heap, to: To, header: &[u8; 12]) -> Effects
         requires { is_nowhere to ≡ false }
         ensures { AreEffects
-            (record (one_reply (Replied to (text (bare_reply (header_of header.now) rcode_servfail)))) { noted = StatedLack })
+            (record (one_reply
+            (Replied to (text (bare_reply (header_of header.now) rcode_servfail)))) { noted = StatedLack })
             result }
     {
         let mut effects = Effects::refusal(alloc, to, header, Rcode::ServFail);
@@ -80,7 +82,8 @@ impl Effects {
         ensures sent { IfOk reply.entry (λ octets. AreEffects (one_reply (Replied to octets.items)) result) }
         ensures failed { IfErr reply.entry
             (λ _. AreEffects
-            (record (one_reply (Replied to (text (bare_reply (header_of header.now) rcode_servfail)))) { noted = StatedLack })
+            (record (one_reply
+            (Replied to (text (bare_reply (header_of header.now) rcode_servfail)))) { noted = StatedLack })
             result) }
     {
         match reply {

@@ -50,7 +50,8 @@ pub enum Event<'a> {
     Message(usize, &'a [u8]),
     /// What was staged is to be made durable, and what waits for it goes out.
     Flush,
-    /// The zone at a place is to be flushed with all others, and then to get a later base, so that its journal has room again.
+    /// The zone at a place is to be flushed with all others, and then to get a later base, so that its
+    /// journal has room again.
     Checkpoint(usize),
     /// The transfer that is open on a connection is to give its next message.
     Pump(usize),
@@ -97,8 +98,8 @@ pub struct Reply {
     pub octets: ReplyOctets,
 }
 
-/// A reply to an update, which waits for the next flush: where it goes, the header of the request, the code, and the place of the
-/// zone.
+/// A reply to an update, which waits for the next flush: where it goes, the header of the request, the code,
+/// and the place of the zone.
 #[derive(Clone, Copy)]
 pub struct Waiting {
     /// Where it goes.
@@ -122,8 +123,8 @@ pub enum Noted {
     Device(usize),
 }
 
-/// What an event does to the world: at most 32 replies that waited go out, each a header alone, and then at most one to the request
-/// that came.
+/// What an event does to the world: at most 32 replies that waited go out, each a header alone, and then at
+/// most one to the request that came.
 pub struct Effects {
     /// The replies that waited.
     pub headers: Vec<HeaderTo, Heap>,

@@ -1,5 +1,6 @@
 //! The flush of all zones, and of the replies that waited for it.
-ghost use Rattle.std.specs.Prelude.{◌≡◌, ◌<◌, ◌≤◌, ◌+◌, ◌++◌, List, [], Bool, map, length, slice_get, vec_capacity, if◌then◌else◌};
+ghost use Rattle.std.specs.Prelude.{◌≡◌, ◌<◌, ◌≤◌, ◌+◌, ◌++◌, List, [], Bool, map, length, slice_get};
+ghost use Rattle.std.specs.Prelude.{vec_capacity, if◌then◌else◌};
 ghost use Rattle.dns_zone.specs.Zone.{Zone as Stated};
 ghost use Rattle.dns_sectors.specs.Device.{LeavesOnly};
 ghost use Rattle.dns_store.specs.Versions.{Kept, OpensAsLeft};
@@ -7,7 +8,8 @@ ghost use Rattle.dns_held.specs.Each.{Each2, Each3};
 ghost use Rattle.dns_held.specs.Held.{HasVersions, newest_each};
 ghost use Rattle.dns_held.specs.Flush.{FailedWhere, first_true};
 ghost use Rattle.dns_primary.specs.Machine.{Machine, ZoneState, Waits};
-ghost use Rattle.dns_primary.specs.Flush.{all_out, flush_sends, flushed, goes_out, is_closed_in, rcode_servfail, released};
+ghost use Rattle.dns_primary.specs.Flush.{all_out, flush_sends, flushed, goes_out, is_closed_in};
+ghost use Rattle.dns_primary.specs.Flush.{rcode_servfail, released};
 ghost use Rattle.dns_wire.specs.Text.{text};
 ghost use Rattle.dns_answer.specs.Answer.{bare_reply};
 ghost use Rattle.dns_primary.specs.Keeps.{HaveVersions, IsWaiting, header_out};
@@ -41,7 +43,9 @@ fn released_octets<I: ZoneIndex, S: ZoneStore>(
     ensures { (shown : List Stated) (zones : List ZoneState) (w : Waits)
         → HaveVersions S.keeps shown behind.now zones
         → IsWaiting waiting.now w
-        → result ≡ text (bare_reply w.header (if is_closed_in (slice_get zones w.zone) then rcode_servfail else w.rcode)) }
+        → result
+        ≡ text (bare_reply w.header
+        (if is_closed_in (slice_get zones w.zone) then rcode_servfail else w.rcode)) }
 {
     let rcode = if is_closed_at(behind, waiting.zone) {
         Rcode::ServFail
@@ -94,7 +98,8 @@ fn release_all<I: ZoneIndex, S: ZoneStore>(
     }
 }
 
-/// Flushes all zones, and lets go out what waited, for each of which there is a place. Gives the first zone whose device failed.
+/// Flushes all zones, and lets go out what waited, for each of which there is a place. Gives the first zone
+/// whose device failed.
 pub(crate) fn flush<I: ZoneIndex, S: ZoneStore>(
     zones: &mut [Zone<I>],
     behind: &mut [Behind<I, S>],
@@ -107,13 +112,15 @@ pub(crate) fn flush<I: ZoneIndex, S: ZoneStore>(
     ensures flushed { (m : Machine)
         → HaveVersions S.keeps zones.old behind.old m.zones
         → Each2 IsWaiting waiting.old.items m.waiting
-        → (fails : List Bool) × (length fails ≡ length m.zones) × FailedWhere (λ b. S.failed b.store) fails behind.old behind.new
+        → (fails : List Bool) × (length fails ≡ length m.zones)
+        × FailedWhere (λ b. S.failed b.store) fails behind.old behind.new
         × HaveVersions S.keeps zones.new behind.new (flushed fails m).zones
         × (map header_out headers.new.items ≡ all_out (flush_sends fails m)) × (result ≡ first_true fails) }
     ensures empty { waiting.new.items ≡ [] }
     ensures few { length headers.new.items ≤ 32 }
     ensures any_moment { (ks : List Kept) → Each3 (λ z b k. HasVersions S.keeps z b k) zones.old behind.old ks
-        → Each3 (λ a b k. LeavesOnly S.moment S.left_since a.store b.store (OpensAsLeft S.opens k)) behind.old behind.new ks }
+        → Each3 (λ a b k. LeavesOnly S.moment S.left_since a.store b.store (OpensAsLeft S.opens k))
+        behind.old behind.new ks }
     ensures newest { newest_each zones.new behind.new ≡ newest_each zones.old behind.old }
 {
     let failed = flush_all(zones, behind);

@@ -1,5 +1,6 @@
 //! Primaries over devices: the store of each zone is opened, and at the end all devices are handed out again.
-ghost use Rattle.std.specs.Prelude.{◌≡◌, ◌≤◌, ◌+◌, ◌++◌, ℕ, suc, List, length, map, vec_capacity, IfErr, IfOk, MatchResult};
+ghost use Rattle.std.specs.Prelude.{◌≡◌, ◌≤◌, ◌+◌, ◌++◌, ℕ, suc, List, length, map, vec_capacity, IfErr};
+ghost use Rattle.std.specs.Prelude.{IfOk, MatchResult};
 ghost use Rattle.dns_primary.specs.Machine.{Machine};
 ghost use Rattle.dns_names.specs.Name.{Labels};
 ghost use Rattle.dns_primary.specs.declared.event.Effects.{Effects as StatedEffects};
@@ -10,7 +11,7 @@ ghost use Rattle.dns_primary.specs.HandOut.{AreSetAs};
 ghost use Rattle.dns_primary.specs.Stop.{IsStopped};
 ghost use Rattle.dns_primary.specs.Keeps.{IsKept};
 ghost use Rattle.dns_primary.specs.Open.{AreOpened, AreRecoverable, AreRefused, IsNotOpened, IsOpened};
-ghost use Rattle.dns_primary.specs.Open.{IsRecoveryStopped, LeaveRecovered, device_behind};
+ghost use Rattle.dns_primary.specs.Open.{IsRecoveryStopped, LeaveRecovered, count_of, device_behind, devices_of};
 
 use crate::{Primary, ZoneSettings};
 use arrayvec::ArrayVec;
@@ -115,8 +116,10 @@ fn open_all<D: Sectors + Drop, I: ZoneIndex>(
     requires as_many { length devices.old.items ≡ length settings.now }
     requires named { length apexes.now ≡ length settings.now }
     ensures { MatchResult result
-        (λ r. AreOpened (length settings.now) apexes.now settings.now devices.old.items r.zones.items r.behind.items)
-        (λ e. AreRefused D.Sectors e.error e.place apexes.now settings.now devices.old.items devices.new.items) }
+        (λ r. AreOpened (length settings.now) apexes.now settings.now devices.old.items
+        r.zones.items r.behind.items)
+        (λ e. AreRefused D.Sectors e.error e.place apexes.now settings.now devices.old.items
+        devices.new.items) }
 {
     let refused = Refusal {
         place: 0,
@@ -151,10 +154,10 @@ fn open_all<D: Sectors + Drop, I: ZoneIndex>(
 impl<D: Sectors + Drop, I: ZoneIndex> Primary<I, KeptStore<D, I>> {
     /// Opens the devices of zones with these names and settings, all in one order, one after the other.
     ///
-    /// Where the store of one is refused, all devices are handed back, in the order in which they came: those before it were opened
-    /// and those behind it are as they were. On the devices of a machine that stopped, however often recovery was itself stopped or
-    /// refused before, it is refused only where that zone's device failed, where memory was refused, or where that store was opened
-    /// 2^64 - 1 times.
+    /// Where the store of one is refused, all devices are handed back, in the order in which they came: those
+    /// before it were opened and those behind it are as they were. On the devices of a machine that stopped,
+    /// however often recovery was itself stopped or refused before, it is refused only where that zone's
+    /// device failed, where memory was refused, or where that store was opened 2^64 - 1 times.
     pub fn open(
         alloc: Heap,
         devices: Vec<D, Heap>,
@@ -163,21 +166,27 @@ impl<D: Sectors + Drop, I: ZoneIndex> Primary<I, KeptStore<D, I>> {
     ) -> Result<Primary<I, KeptStore<D, I>>, NotOpened<D>>
         requires as_many { length devices.items ≡ length settings.items }
         requires named { length apexes.now ≡ length settings.items }
-        // On the devices of a machine that stopped, with so many tries since, it is a machine that recovered from that stop; refused,
-        // the devices are such devices still, and this was one try more.
+        // On the devices of a machine that stopped, with so many tries since, it is a machine that recovered
+        // from that stop; refused, the devices are such devices still, and this was one try more.
         ensures recovered { (m : Machine) (event : StatedEvent) (tries : ℕ)
-            → AreRecoverable D.Sectors tries m event 0 m.zones apexes.now settings.entry.items devices.entry.items
+            → AreRecoverable D.Sectors tries m event 0 m.zones apexes.now settings.entry.items
+            devices.entry.items
             → MatchResult result (λ p. (new : Machine) × IsStopped tries m event new × IsKept p new)
-            (λ e. AreRecoverable D.Sectors (suc tries) m event 0 m.zones apexes.now settings.entry.items e.devices.items
+            (λ e. AreRecoverable D.Sectors (suc tries) m event 0 m.zones apexes.now
+            settings.entry.items e.devices.items
             × IsRecoveryStopped tries e.error e.place m.zones) }
         // A crash at any moment of it leaves each device as one that a crash might have left before.
         ensures any_moment { (m : Machine) (event : StatedEvent) (tries : ℕ)
-            → AreRecoverable D.Sectors tries m event 0 m.zones apexes.now settings.entry.items devices.entry.items
-            → MatchResult result (λ p. LeaveRecovered D.Sectors (suc tries) m event 0 m.zones devices.entry.items
+            → AreRecoverable D.Sectors tries m event 0 m.zones apexes.now settings.entry.items
+            devices.entry.items
+            → MatchResult result
+            (λ p. LeaveRecovered D.Sectors (suc tries) m event 0 m.zones devices.entry.items
             (map (λ b. device_behind b) p.behind.items))
-            (λ e. LeaveRecovered D.Sectors (suc tries) m event 0 m.zones devices.entry.items e.devices.items) }
+            (λ e. LeaveRecovered D.Sectors (suc tries) m event 0 m.zones devices.entry.items
+            e.devices.items) }
         // Why it is refused, on any devices.
-        ensures refused { IfErr result (λ e. AreRefused D.Sectors e.error e.place apexes.now settings.entry.items
+        ensures refused { IfErr result
+            (λ e. AreRefused D.Sectors e.error e.place apexes.now settings.entry.items
             devices.entry.items e.devices.items) }
     {
         let mut devices = devices;
@@ -199,24 +208,29 @@ impl<D: Sectors + Drop, I: ZoneIndex> Primary<I, KeptStore<D, I>> {
         }
     }
 
-    /// Hands out the devices of all zones, in the order in which they came. What was staged is lost, as by a stop. Where memory for
-    /// their list is refused the primary is handed back.
-    pub fn into_devices(self) -> Result<Vec<D, Heap>, Primary<I, KeptStore<D, I>>>
-        ensures handed_out { MatchResult result (λ devices. devices.items ≡ map (λ b. device_behind b) self.behind.items)
-            (λ back. back ≡ self) }
+    /// How many zones it has, each with its device.
+    pub fn zone_count(&self) -> usize
+        ensures { result ≡ count_of self.now }
+    {
+        self.behind.len()
+    }
+
+    /// Puts the devices of all zones, in the order in which they came, at the front of this list, which has
+    /// room for them. It takes no memory. What was staged is lost, as by a stop.
+    pub fn into_devices(self, devices: &mut Vec<D, Heap>)
+        requires { count_of self + length devices.old.items ≤ vec_capacity devices.old }
+        ensures handed_out { devices.new.items ≡ devices_of self ++ devices.old.items }
         // Between two events: a machine that it keeps, which stops here.
-        ensures at_rest { IfOk result (λ devices. (m : Machine) (event : StatedEvent) (apexes : List Labels)
-            (settings : List StatedSettings) → IsKept self m → AreSetAs apexes settings m.zones
-            → AreRecoverable D.Sectors 0 m event 0 m.zones apexes settings devices.items) }
+        ensures at_rest { (m : Machine) (event : StatedEvent) (apexes : List Labels)
+            (settings : List StatedSettings)
+            → IsKept self m → AreSetAs apexes settings m.zones
+            → AreRecoverable D.Sectors 0 m event 0 m.zones apexes settings (devices_of self) }
         // Within the event that led here: the machine from which it came.
-        ensures within { IfOk result (λ devices. (m : Machine) (event : StatedEvent) (before : _) (effects : StatedEffects)
+        ensures within { (m : Machine) (event : StatedEvent) (before : _) (effects : StatedEffects)
             (apexes : List Labels) (settings : List StatedSettings)
             → SteppedBy m event before self effects → AreSetAs apexes settings m.zones
-            → AreRecoverable D.Sectors 0 m event 0 m.zones apexes settings devices.items) }
+            → AreRecoverable D.Sectors 0 m event 0 m.zones apexes settings (devices_of self) }
     {
-        let Ok(mut devices) = Vec::with_capacity(*self.places.allocator(), self.behind.len()) else {
-            return Err(self);
-        };
         let Primary {
             zones: _,
             behind,
@@ -226,7 +240,6 @@ impl<D: Sectors + Drop, I: ZoneIndex> Primary<I, KeptStore<D, I>> {
             connections: _,
             transfers: _,
         } = self;
-        take_back(&mut devices, behind);
-        Ok(devices)
+        take_back(devices, behind);
     }
 }

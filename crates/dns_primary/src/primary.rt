@@ -26,8 +26,8 @@ pub struct ZoneSettings {
     pub transfer: Vec<Prefix, Heap>,
 }
 
-/// All zones as they are shown, what stands behind each, the replies that wait, the connections, and the transfers that are open on
-/// them, at most one on each.
+/// All zones as they are shown, what stands behind each, the replies that wait, the connections, and the
+/// transfers that are open on them, at most one on each.
 #[derive(Drop)]
 pub struct Primary<I: ZoneIndex, S: ZoneStore> {
     pub(crate) zones: Vec<Zone<I>, Heap>,

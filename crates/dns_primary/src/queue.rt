@@ -7,7 +7,8 @@ ghost use Rattle.dns_primary.specs.declared.primary.ZoneSettings.{ZoneSettings a
 ghost use Rattle.dns_primary.specs.Machine.{Machine};
 ghost use Rattle.dns_primary.specs.Update.{answer};
 ghost use Rattle.dns_primary.specs.Keeps.{HaveVersions, IsSet};
-ghost use Rattle.dns_primary.specs.Queue.{Holds, HoldsStill, IsAnswered, IsReady, IsStageableAt, IsTested, IsUntouched, asked_of};
+ghost use Rattle.dns_primary.specs.Queue.{Holds, HoldsStill, IsAnswered, IsReady, IsStageableAt, IsTested};
+ghost use Rattle.dns_primary.specs.Queue.{IsUntouched, asked_of};
 
 use crate::admission::admit;
 use crate::update::{Judgement, Outcome, judge_newest, stage_judged};
@@ -66,8 +67,8 @@ pub(crate) fn admit_and_judge<I: ZoneIndex, S: ZoneStore>(
     requires as_many { length zones.now ≡ length behind.now }
     requires settled { length zones.now ≡ length settings.now }
     requires name { name.now ≡ update.now.request.question.name }
-    ensures tested { (m : Machine) → HaveVersions S.keeps zones.now behind.now m.zones → Each2 IsSet settings.now m.zones
-        → IfOk result (IsTested I.records m (asked_of update.now)) }
+    ensures tested { (m : Machine) → HaveVersions S.keeps zones.now behind.now m.zones
+        → Each2 IsSet settings.now m.zones → IfOk result (IsTested I.records m (asked_of update.now)) }
     ensures ready { IfOk result (IsReady I.records zones.now behind.now) }
 {
     let question = &update.request.question;
@@ -81,7 +82,8 @@ pub(crate) fn admit_and_judge<I: ZoneIndex, S: ZoneStore>(
     }
 }
 
-/// Stages what an update of the zone at a place makes, and lets its reply wait, unless the zone is closed: then it goes out at once.
+/// Stages what an update of the zone at a place makes, and lets its reply wait, unless the zone is closed:
+/// then it goes out at once.
 pub(crate) fn stage_at<I: ZoneIndex, S: ZoneStore>(
     zones: &[Zone<I>],
     behind: &mut [Behind<I, S>],
@@ -99,9 +101,10 @@ pub(crate) fn stage_at<I: ZoneIndex, S: ZoneStore>(
     ensures done { (settings : List Settings) (m : Machine)
         → Holds S.keeps zones.now behind.old settings waiting.old.items m.connections m
         → HoldsStill I.records m (asked_of update.now) place judged
-        → IsAnswered (Holds S.keeps zones.now behind.new settings waiting.new.items m.connections) m (asked_of update.now)
-        (answer m (asked_of update.now)) result }
-    ensures still { Each2 (λ a b. IsUntouched S.moment S.left_since S.failed a.store b.store) behind.old behind.new }
+        → IsAnswered (Holds S.keeps zones.now behind.new settings waiting.new.items m.connections) m
+        (asked_of update.now) (answer m (asked_of update.now)) result }
+    ensures still { Each2 (λ a b. IsUntouched S.moment S.left_since S.failed a.store b.store)
+        behind.old behind.new }
     ensures few { length waiting.new.items ≤ 32 }
 {
     match stage_judged(&zones[place], &mut behind[place], judged) {

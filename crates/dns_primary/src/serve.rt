@@ -10,8 +10,10 @@ ghost use Rattle.dns_primary.specs.Machine.{Machine, shown_zones};
 ghost use Rattle.dns_primary.specs.Update.{answer, room_lacked};
 ghost use Rattle.dns_primary.specs.Step.{IsBegun, request_lacks};
 ghost use Rattle.dns_primary.specs.Keeps.{IsKept, IsThere};
-ghost use Rattle.dns_primary.specs.Queue.{HoldsStill, IsAnswered, IsJudged, IsReady, IsStageableAt, IsTested, IsUntouched, asked_of};
-ghost use Rattle.dns_primary.specs.Steps.{IsBegunOrLacks, IsServedOrLacks, IsUpdatedOrLacks, Stepped, SteppedOn};
+ghost use Rattle.dns_primary.specs.Queue.{HoldsStill, IsAnswered, IsJudged, IsReady, IsStageableAt, IsTested};
+ghost use Rattle.dns_primary.specs.Queue.{IsUntouched, asked_of};
+ghost use Rattle.dns_primary.specs.Steps.{IsBegunOrLacks, IsServedOrLacks, IsUpdatedOrLacks, Stepped};
+ghost use Rattle.dns_primary.specs.Steps.{SteppedOn};
 
 use crate::queue::{Tested, UpdateRequest, admit_and_judge, header_octets, stage_at};
 use crate::update::{Judgement, Outcome};
@@ -53,8 +55,8 @@ impl<I: ZoneIndex, S: ZoneStore> Primary<I, S> {
         Effects::nothing(alloc)
     }
 
-    /// Does what comes before an update of the zone at a place is answered: where its journal lacks so many sectors for it, they are
-    /// made free, and else a place for its reply.
+    /// Does what comes before an update of the zone at a place is answered: where its journal lacks so many
+    /// sectors for it, they are made free, and else a place for its reply.
     fn begin(&mut self, alloc: Heap, place: usize, lacked: Option<usize>) -> Effects
         requires inside { place < length self.old.behind.items }
         ensures step { (old : Machine) → IsKept self.old old
@@ -80,7 +82,8 @@ impl<I: ZoneIndex, S: ZoneStore> Primary<I, S> {
         name: &Name,
     ) -> Result<Tested<I>, AllocError>
         requires name { name.now ≡ update.now.request.question.name }
-        ensures tested { (m : Machine) → IsKept self.now m → IfOk result (IsTested I.records m (asked_of update.now)) }
+        ensures tested { (m : Machine) → IsKept self.now m
+            → IfOk result (IsTested I.records m (asked_of update.now)) }
         ensures ready { IfOk result (IsReady I.records self.now.zones.items self.now.behind.items) }
     {
         admit_and_judge(
@@ -93,13 +96,16 @@ impl<I: ZoneIndex, S: ZoneStore> Primary<I, S> {
         )
     }
 
-    /// Stages what an update of the zone at a place makes, and lets its reply wait, unless it goes out at once.
+    /// Stages what an update of the zone at a place makes, and lets its reply wait, unless it goes out at
+    /// once.
     fn stage(&mut self, place: usize, update: &UpdateRequest<'_>, judged: Judgement<I>) -> Outcome
         requires inside { place < length self.old.behind.items }
         requires room { length self.old.waiting.items < 32 }
         requires header { header_of update.now.header.now ≡ update.now.request.message.message.header }
-        requires stageable { IsStageableAt I.records (newest_each self.old.zones.items self.old.behind.items) place judged }
-        ensures done { (m : Machine) → IsKept self.old m → HoldsStill I.records m (asked_of update.now) place judged
+        requires stageable { IsStageableAt I.records
+            (newest_each self.old.zones.items self.old.behind.items) place judged }
+        ensures done { (m : Machine) → IsKept self.old m
+            → HoldsStill I.records m (asked_of update.now) place judged
             → IsAnswered (IsKept self.new) m (asked_of update.now) (answer m (asked_of update.now)) result }
         ensures still { Each2 (λ a b. IsUntouched S.moment S.left_since S.failed a.store b.store)
             self.old.behind.items self.new.behind.items }
@@ -123,8 +129,10 @@ impl<I: ZoneIndex, S: ZoneStore> Primary<I, S> {
         requires inside { place < length self.old.behind.items }
         requires somewhere { is_nowhere update.now.to ≡ false }
         requires header { header_of update.now.header.now ≡ update.now.request.message.message.header }
-        requires stageable { IsStageableAt I.records (newest_each self.old.zones.items self.old.behind.items) place judged }
-        ensures step { (old : Machine) → IsKept self.old old → IsJudged I.records old (asked_of update.now) place judged
+        requires stageable { IsStageableAt I.records
+            (newest_each self.old.zones.items self.old.behind.items) place judged }
+        ensures step { (old : Machine) → IsKept self.old old
+            → IsJudged I.records old (asked_of update.now) place judged
             → SteppedOn old (room_lacked old (asked_of update.now)) self.old self.new result
             (IsUpdatedOrLacks old (asked_of update.now)) }
     {
@@ -136,8 +144,9 @@ impl<I: ZoneIndex, S: ZoneStore> Primary<I, S> {
         effects.with_outcome(update, outcome)
     }
 
-    /// Answers an update: its reply waits for the next flush, or goes out at once. Where as many wait as may, a flush comes first;
-    /// and where it is accepted and its zone's journal lacks room for it, a flush and a checkpoint.
+    /// Answers an update: its reply waits for the next flush, or goes out at once. Where as many wait as may,
+    /// a flush comes first; and where it is accepted and its zone's journal lacks room for it, a flush and a
+    /// checkpoint.
     fn update(&mut self, alloc: Heap, update: &UpdateRequest<'_>) -> Effects
         requires somewhere { is_nowhere update.now.to ≡ false }
         requires header { header_of update.now.header.now ≡ update.now.request.message.message.header }
@@ -170,8 +179,8 @@ impl<I: ZoneIndex, S: ZoneStore> Primary<I, S> {
         requires somewhere { is_nowhere to ≡ false }
         requires there { IsThere self.old.connections to }
         ensures step { (old : Machine) → IsKept self.old old
-            → SteppedOn old (request_lacks old to peer (handled (shown_zones old) octets.now transport)) self.old self.new result
-            (IsServedOrLacks old peer to octets.now transport) }
+            → SteppedOn old (request_lacks old to peer (handled (shown_zones old) octets.now transport))
+            self.old self.new result (IsServedOrLacks old peer to octets.now transport) }
     {
         match classify(octets, transport) {
             Request::Ignored => Effects::nothing(alloc),

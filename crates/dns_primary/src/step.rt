@@ -28,11 +28,11 @@ fn noted(failed: Option<usize>) -> Noted
 }
 
 impl<I: ZoneIndex, S: ZoneStore> Primary<I, S> {
-    /// Makes durable what was staged, shows it, and lets go out what waits for it: SERVFAIL where a zone's device failed. It
-    /// takes no memory.
+    /// Makes durable what was staged, shows it, and lets go out what waits for it: SERVFAIL where a zone's
+    /// device failed. It takes no memory.
     pub fn flush(&mut self) -> Effects
-        // Whatever older versions there were, it is the step of the machine, and a crash at any moment of it leaves each device so
-        // that it opens as the versions shown and the first of those staged.
+        // Whatever older versions there were, it is the step of the machine, and a crash at any moment of it
+        // leaves each device so that it opens as the versions shown and the first of those staged.
         ensures step { (old : Machine) → IsKept self.old old
             → Stepped old self.old self.new result (λ fails stated next. IsFlushed fails old stated next) }
         ensures bare { result.reply ≡ None }
@@ -58,9 +58,11 @@ impl<I: ZoneIndex, S: ZoneStore> Primary<I, S> {
         }
     }
 
-    /// Does with a message on a connection what is to be done with it. On a connection that isn't there nothing happens.
+    /// Does with a message on a connection what is to be done with it. On a connection that isn't there
+    /// nothing happens.
     fn arrive(&mut self, alloc: Heap, number: usize, octets: &[u8]) -> Effects
-        ensures step { (old : Machine) → IsKept self.old old → SteppedBy old (Arrives number octets.now) self.old self.new result }
+        ensures step { (old : Machine) → IsKept self.old old
+            → SteppedBy old (Arrives number octets.now) self.old self.new result }
     {
         match self.connections.get(number).copied() {
             Some(peer) => self.serve(alloc, peer, To::Connection(number), octets, Transport::Tcp),
@@ -70,28 +72,31 @@ impl<I: ZoneIndex, S: ZoneStore> Primary<I, S> {
 
     /// Lets an event happen, and tells what it does to the world.
     ///
-    /// - `Datagram`, `Message`: queries are answered of what is shown. An update is tested, judged on the newest version and staged,
-    ///   and its reply waits for the next flush; one that is refused before it is judged is answered at once. Where 32 wait, a flush
-    ///   comes first; where the entry is over what is left of the zone's journal, a flush and a checkpoint that leaves its sectors.
-    ///   Where that fails, or can't leave them, it is answered with SERVFAIL at once. A request for a transfer is answered at once by
+    /// - `Datagram`, `Message`: queries are answered of what is shown. An update is tested, judged on the
+    ///   newest version and staged, and its reply waits for the next flush; one that is refused before it is
+    ///   judged is answered at once. Where 32 wait, a flush comes first; where the entry is over what is left
+    ///   of the zone's journal, a flush and a checkpoint that leaves its sectors. Where that fails, or can't
+    ///   leave them, it is answered with SERVFAIL at once. A request for a transfer is answered at once by
     ///   UDP, and opens one on its connection by TCP.
-    /// - `Pump`: the transfer that is open on the connection gives its next message, and the last one ends it. Where memory is refused
-    ///   nothing goes out, and the next pump gives the same message.
+    /// - `Pump`: the transfer that is open on the connection gives its next message, and the last one ends
+    ///   it. Where memory is refused nothing goes out, and the next pump gives the same message.
     /// - `Connect`: the connection gets a number that no other has, or none where there are 64.
-    /// - `Flush`: what was staged is made durable and shown, and what waits goes out. `Closed`: what waits to go there goes nowhere,
-    ///   and the transfer that is open there is forgotten.
+    /// - `Flush`: what was staged is made durable and shown, and what waits goes out. `Closed`: what waits to
+    ///   go there goes nowhere, and the transfer that is open there is forgotten.
     ///   Neither takes memory.
-    /// - `Checkpoint`: all zones are flushed; then the one at the place, unless it is closed, gets a later base, and keeps the newest
-    ///   changes alone. One whose base would take more sectors than a snapshot has keeps its base.
+    /// - `Checkpoint`: all zones are flushed; then the one at the place, unless it is closed, gets a later
+    ///   base, and keeps the newest changes alone. One whose base would take more sectors than a snapshot has
+    ///   keeps its base.
     ///
-    /// Where memory is refused, a request is answered with SERVFAIL, and nothing has changed but by the flush and the checkpoint that
-    /// came first.
+    /// Where memory is refused, a request is answered with SERVFAIL, and nothing has changed but by the flush
+    /// and the checkpoint that came first.
     #[inline(always)]
     pub fn step(&mut self, alloc: Heap, event: Event<'_>) -> Effects
-        // Whatever older versions there were, it is the step of the machine, and a crash at any moment of it leaves each device so
-        // that it opens as the versions shown and the first of those staged, and the zone of a checkpoint, also of one that comes
-        // before an update, so or with its next base.
-        ensures step { (old : Machine) → IsKept self.old old → SteppedBy old (event_shown event.entry) self.old self.new result }
+        // Whatever older versions there were, it is the step of the machine, and a crash at any moment of it
+        // leaves each device so that it opens as the versions shown and the first of those staged, and the
+        // zone of a checkpoint, also of one that comes before an update, so or with its next base.
+        ensures step { (old : Machine) → IsKept self.old old
+            → SteppedBy old (event_shown event.entry) self.old self.new result }
         ensures memory { takes_memory (event_shown event.entry) ≡ false → result.noted ≢ StatedLack }
         ensures few { length result.headers.items ≤ 32 }
     {
@@ -111,7 +116,8 @@ impl<I: ZoneIndex, S: ZoneStore> Primary<I, S> {
     /// The version of the zone at a place that is shown: its number, the loaded one having 0, and the zone.
     pub fn shown(&self, place: usize) -> Option<(u64, &Zone<I>)>
         ensures { (m : Machine) → IsKept self.now m
-            → MatchOption result (slice_get m.zones place ≡ None) (λ shown. IsShown shown.0 shown.1.now (slice_get m.zones place)) }
+            → MatchOption result (slice_get m.zones place ≡ None)
+            (λ shown. IsShown shown.0 shown.1.now (slice_get m.zones place)) }
     {
         match self.zones.get(place) {
             Some(zone) => Some((self.behind[place].number, zone)),

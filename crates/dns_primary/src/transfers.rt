@@ -1,5 +1,7 @@
 //! Transfers: what a request for one opens, and the messages that go out (RFC 5936, RFC 1995).
-ghost use Rattle.std.specs.Prelude.{◌≡◌, ◌⊎◌, ◌<◌, ◌==◌, ◌&&◌, ◌↔◌, ◌++◌, ◌∷◌, ℕ, [], true, false, not, filter, length, slice_get, None, Some, IsTrue, IfOk, IfSome, OnErr, OnOk, MatchOption};
+ghost use Rattle.std.specs.Prelude.{◌≡◌, ◌⊎◌, ◌<◌, ◌==◌, ◌&&◌, ◌↔◌, ◌++◌, ◌∷◌, ℕ, [], true, false, not};
+ghost use Rattle.std.specs.Prelude.{filter, length, slice_get, None, Some, IsTrue, IfOk, IfSome, OnErr, OnOk};
+ghost use Rattle.std.specs.Prelude.{MatchOption};
 ghost use Rattle.std.specs.List.{position};
 ghost use Rattle.dns_wire.specs.Message.{header_of};
 ghost use Rattle.dns_wire.specs.Text.{text};
@@ -87,7 +89,8 @@ fn next_of<I: ZoneIndex>(
     ensures number { transfer.new.number ≡ transfer.old.number }
     ensures sent { IfOk result (λ r. MatchOption r.0
         ((transfer.new.session ≡ transfer.old.session) × (transfer.old.session.left ≡ []))
-        (λ octets. (transfer.old.session.left ≡ [] → ⊥) × Sends transfer.old.session octets.items transfer.new.session)) }
+        (λ octets. (transfer.old.session.left ≡ [] → ⊥)
+        × Sends transfer.old.session octets.items transfer.new.session)) }
     ensures done { IfOk result (λ r. IsTrue r.1 ↔ (transfer.new.session.left ≡ [])) }
     ensures refused { OnErr result (transfer.new.session ≡ transfer.old.session) }
 {
@@ -96,7 +99,8 @@ fn next_of<I: ZoneIndex>(
     Ok((message, is_done))
 }
 
-/// The next message of the transfer at a place, the first on the connection with that number. The last one ends it.
+/// The next message of the transfer at a place, the first on the connection with that number. The last one
+/// ends it.
 fn next_at<I: ZoneIndex>(
     alloc: Heap,
     transfers: &mut Vec<OpenTransfer<I>, Heap>,
@@ -108,7 +112,8 @@ fn next_at<I: ZoneIndex>(
     ensures sent { IfOk result
         (λ message. MatchOption message (EndsOn number transfers.old.items transfers.new.items)
         (λ octets. SendsOn number octets.items transfers.old.items transfers.new.items)) }
-    ensures refused { OnErr result ((n : ℕ) → sending_on n transfers.new.items ≡ sending_on n transfers.old.items) }
+    ensures refused { OnErr result
+        ((n : ℕ) → sending_on n transfers.new.items ≡ sending_on n transfers.old.items) }
 {
     let (message, is_done) = next_of(alloc, &mut transfers[place])?;
     if !is_done {
@@ -118,7 +123,8 @@ fn next_at<I: ZoneIndex>(
     Ok(message)
 }
 
-/// The next message of the transfer that is open on the connection with that number, if one is. The last one ends it.
+/// The next message of the transfer that is open on the connection with that number, if one is. The last one
+/// ends it.
 fn next_on<I: ZoneIndex>(
     alloc: Heap,
     transfers: &mut Vec<OpenTransfer<I>, Heap>,
@@ -127,7 +133,8 @@ fn next_on<I: ZoneIndex>(
     ensures sent { IfOk result
         (λ message. MatchOption message (EndsOn number transfers.old.items transfers.new.items)
         (λ octets. SendsOn number octets.items transfers.old.items transfers.new.items)) }
-    ensures refused { OnErr result ((n : ℕ) → sending_on n transfers.new.items ≡ sending_on n transfers.old.items) }
+    ensures refused { OnErr result
+        ((n : ℕ) → sending_on n transfers.new.items ≡ sending_on n transfers.old.items) }
 {
     match place_on(transfers, number) {
         None => Ok(None),
@@ -188,9 +195,11 @@ fn at_once<I: ZoneIndex>(alloc: Heap, to: To, header: &[u8; 12], session: Sessio
 fn refusal(alloc: Heap, to: To, request: &RequestMessage<'_>, rcode: Rcode) -> Effects
     requires { is_nowhere to ≡ false }
     ensures { AreEffects (one_reply (Replied to
-        (refusal_of (transport_of to) request.now.message.octets request.now.message.message request.now.question rcode))) result
+        (refusal_of (transport_of to) request.now.message.octets request.now.message.message
+        request.now.question rcode))) result
         ⊎ AreEffects
-        (record (one_reply (Replied to (text (bare_reply request.now.message.message.header rcode_servfail)))) { noted = StatedLack })
+        (record (one_reply
+        (Replied to (text (bare_reply request.now.message.message.header rcode_servfail)))) { noted = StatedLack })
         result }
 {
     let header = header_octets(request);
@@ -217,7 +226,8 @@ fn open_unheld<I: ZoneIndex>(
     request: &RequestMessage<'_>,
     transport: Transport,
 ) -> Result<Result<Session<I>, Rcode>, AllocError>
-    ensures opens { IfOk result (λ opened. Opens transport request.now.message.octets request.now.message.message
+    ensures opens { IfOk result
+        (λ opened. Opens transport request.now.message.octets request.now.message.message
         request.now.question None false opened) }
     ensures some { IfOk result (λ opened. IfOk opened (λ s. s.left ≡ [] → ⊥)) }
 {
@@ -239,8 +249,8 @@ impl<I: ZoneIndex, S: ZoneStore> Primary<I, S> {
         }
     }
 
-    /// What a request for a transfer of the zone at a place opens, or the response code of its refusal: the version is the one that
-    /// is shown.
+    /// What a request for a transfer of the zone at a place opens, or the response code of its refusal: the
+    /// version is the one that is shown.
     fn open_shown(
         &self,
         alloc: Heap,
@@ -250,9 +260,11 @@ impl<I: ZoneIndex, S: ZoneStore> Primary<I, S> {
         request: &RequestMessage<'_>,
     ) -> Result<Result<Session<I>, Rcode>, AllocError>
         requires inside { place < length self.now.zones.items }
-        ensures opens { (m : Machine) (z : ZoneState) → IsKept self.now m → slice_get m.zones place ≡ Some z → IfOk result
-            (λ opened. Opens (transport_of to) request.now.message.octets request.now.message.message request.now.question
-            (Some (version_of z)) (z.setting.may_transfer peer.address && is_free to m.connections) opened) }
+        ensures opens { (m : Machine) (z : ZoneState) → IsKept self.now m
+            → slice_get m.zones place ≡ Some z → IfOk result
+            (λ opened. Opens (transport_of to) request.now.message.octets request.now.message.message
+            request.now.question (Some (version_of z))
+            (z.setting.may_transfer peer.address && is_free to m.connections) opened) }
         ensures some { IfOk result (λ opened. IfOk opened (λ s. s.left ≡ [] → ⊥)) }
     {
         let version = Version {
@@ -273,7 +285,8 @@ impl<I: ZoneIndex, S: ZoneStore> Primary<I, S> {
         request: &RequestMessage<'_>,
     ) -> Result<Result<Session<I>, Rcode>, AllocError>
         ensures opens { (m : Machine) → IsKept self.now m → IfOk result
-            (λ opened. OpensFrom m to peer request.now.message.octets request.now.message.message request.now.question opened) }
+            (λ opened. OpensFrom m to peer request.now.message.octets request.now.message.message
+            request.now.question opened) }
         ensures some { IfOk result (λ opened. IfOk opened (λ s. s.left ≡ [] → ⊥)) }
     {
         let name = request.question.name().to_name(alloc)?;
@@ -295,7 +308,8 @@ impl<I: ZoneIndex, S: ZoneStore> Primary<I, S> {
         requires there { IsThere self.old.connections to }
         requires some { session.left ≡ [] → ⊥ }
         ensures step { (old : Machine) → IsKept self.old old → is_free to old.connections ≡ true
-            → Stepped old self.old self.new result (TransferBeginsOrLacks old to (header_of header.now) session) }
+            → Stepped old self.old self.new result
+            (TransferBeginsOrLacks old to (header_of header.now) session) }
     {
         match to {
             To::Connection(number) => {
@@ -309,7 +323,8 @@ impl<I: ZoneIndex, S: ZoneStore> Primary<I, S> {
         }
     }
 
-    /// Answers a request for a transfer: by TCP it is open on its connection then, by UDP its one message goes out.
+    /// Answers a request for a transfer: by TCP it is open on its connection then, by UDP its one message
+    /// goes out.
     pub(crate) fn transfer(
         &mut self,
         alloc: Heap,
@@ -320,7 +335,8 @@ impl<I: ZoneIndex, S: ZoneStore> Primary<I, S> {
         requires somewhere { is_nowhere to ≡ false }
         requires there { IsThere self.old.connections to }
         ensures step { (old : Machine) → IsKept self.old old → Stepped old self.old self.new result
-            (IsTransferredOrLacks old peer to request.now.message.octets request.now.message.message request.now.question) }
+            (IsTransferredOrLacks old peer to request.now.message.octets request.now.message.message
+            request.now.question) }
         ensures header { request.now.message.message.header ≡ header_of request.now.message.octets }
     {
         let header = header_octets(request);
@@ -333,10 +349,12 @@ impl<I: ZoneIndex, S: ZoneStore> Primary<I, S> {
         }
     }
 
-    /// The transfer that is open on a connection gives its next message, which goes out there. The last one ends it.
+    /// The transfer that is open on a connection gives its next message, which goes out there. The last one
+    /// ends it.
     pub(crate) fn pump(&mut self, alloc: Heap, number: usize) -> Effects
         ensures step { (old : Machine) → IsKept self.old old
-            → Stepped old self.old self.new result (λ fails stated next. Step fails old (Pump number) stated next) }
+            → Stepped old self.old self.new result
+            (λ fails stated next. Step fails old (Pump number) stated next) }
     {
         match next_on(alloc, &mut self.transfers, number) {
             Ok(message) => message_on(alloc, number, message),

@@ -22,8 +22,8 @@ use std::alloc::AllocError;
 pub(crate) enum Judgement<I: ZoneIndex> {
     /// It changes nothing, and is answered with this code.
     Unchanged(Rcode),
-    /// It is accepted: the change, the records that it leads to, and how many sectors its entry takes where they are more than are
-    /// left of the journal.
+    /// It is accepted: the change, the records that it leads to, and how many sectors its entry takes where
+    /// they are more than are left of the journal.
     Accepted(Change, I, Option<usize>),
 }
 
@@ -71,7 +71,8 @@ pub(crate) fn judge_newest<I: ZoneIndex, S: ZoneStore>(
 ) -> Result<Judgement<I>, AllocError>
     ensures judged { (k : Kept) → HasVersions S.keeps zone.now behind.now k
         → IfOk result
-        (IsVerdictOf I.records (verdict (newest_zone k) message.now.message.answers message.now.message.authorities)) }
+        (IsVerdictOf I.records
+        (verdict (newest_zone k) message.now.message.answers message.now.message.authorities)) }
     ensures lacks { (k : Kept) → HasVersions S.keeps zone.now behind.now k
         → IfOk result (λ j. lacked_of j
         ≡ lacked_by k (verdict (newest_zone k) message.now.message.answers message.now.message.authorities)) }
@@ -88,7 +89,8 @@ pub(crate) fn judge_newest<I: ZoneIndex, S: ZoneStore>(
     }
 }
 
-/// Stages the version that an update makes behind the newest one, unless the zone is closed. No device is touched.
+/// Stages the version that an update makes behind the newest one, unless the zone is closed. No device is
+/// touched.
 pub(crate) fn stage_judged<I: ZoneIndex, S: ZoneStore>(
     zone: &Zone<I>,
     behind: &mut Behind<I, S>,

@@ -145,10 +145,20 @@ pub(crate) fn open_short(
     }
 }
 
+/// The devices of a primary that stops, none where memory for their list is refused.
+pub(crate) fn devices_out(heap: Heap, server: Server) -> Option<Vec<Device, Heap>> {
+    let mut devices = Vec::with_capacity(heap, server.zone_count()).ok()?;
+    server.into_devices(&mut devices);
+    Some(devices)
+}
+
 /// The devices of a primary that stops, or of one that was not opened.
-pub(crate) fn devices_of(opened: Result<Server, NotOpened<Device>>) -> Option<Vec<Device, Heap>> {
+pub(crate) fn devices_of(
+    heap: Heap,
+    opened: Result<Server, NotOpened<Device>>,
+) -> Option<Vec<Device, Heap>> {
     match opened {
-        Ok(server) => server.into_devices().ok(),
+        Ok(server) => devices_out(heap, server),
         Err(refused) => Some(refused.devices),
     }
 }

@@ -1,7 +1,7 @@
 //! The run over a primary.
 use crate::crashes::found_behind;
 use crate::device::Device;
-use crate::devices::{Found, Server, all_used, make_all, open_short, versions};
+use crate::devices::{Found, Server, all_used, devices_out, make_all, open_short, versions};
 use crate::requests::{Act, EVENTS, RUN, event, request};
 use crate::seen::Seen;
 use dns_memory::Heap;
@@ -117,7 +117,7 @@ fn run_opened(
     run(heap, &mut server, plan, script, seen);
     seen.is_opened = true;
     seen.shown = versions(&server).unwrap_or(UNSHOWN);
-    server.into_devices().ok()
+    devices_out(heap, server)
 }
 
 /// Opens the primary, a second time where a device fails.

@@ -95,7 +95,7 @@ fn stopped_opening(
     let opened = open_short(heap, devices, 0);
     *is_stopped = plan.stopped();
     plan.reset();
-    devices_of(opened)
+    devices_of(heap, opened)
 }
 
 /// What is found where the opening behind a crash is stopped once more, at its m-th operation, and all its pending writes are kept or

@@ -1,6 +1,7 @@
 -- The parts of a record's data in the code, and as they are stated.
 use Rattle.std.specs.Prelude.{List, [], ◌∷◌, map}
-use Rattle.dns_records.specs.Types.{Field, Values, Value, U16, U32, Ipv4, Ipv6, Name, UncompressedName, Strings}
+use Rattle.dns_records.specs.Types.{Field, Values, Value, U16, U32, Ipv4, Ipv6, Name, UncompressedName}
+use Rattle.dns_records.specs.Types.{Strings}
 use Rattle.dns_records.specs.declared.parts.Field.{Field as Part}
 use Rattle.dns_records.specs.declared.parts.Field.TheVariants as part
 use Rattle.dns_records.specs.declared.parts.Value.{Value as Kind}

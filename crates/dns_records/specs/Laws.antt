@@ -1,5 +1,7 @@
 -- Laws of data made of its parts.
-use Rattle.std.proofs.Common.{◌≡◌, ℕ, ◌<◌, ◌≤◌, zero, suc, Bool, true, false, List, [], ◌∷◌, ◌++◌, length, refl, sym, ap, subst, ◌∙◌, arith, append-nil, length-append, append_assoc, Option, cond}
+use Rattle.std.proofs.Common.{◌≡◌, ℕ, ◌<◌, ◌≤◌, zero, suc, Bool, true, false, List, [], ◌∷◌, ◌++◌, length}
+use Rattle.std.proofs.Common.{refl, sym, ap, subst, ◌∙◌, arith, append-nil, length-append, append_assoc}
+use Rattle.std.proofs.Common.{Option, cond}
 use Rattle.std.specs.Prelude.{◌==◌, ◌||◌, Some, IfSome, is_some}
 use Rattle.std.specs.List.{AllByRecursion}
 use Rattle.std.specs.Int.{Width, w16, w32, to_be_bytes, bytes_high_first, byte_at, byte_len}
@@ -9,10 +11,13 @@ use Rattle.dns_names.specs.Lower.{AreOctets}
 use Rattle.dns_names.specs.Plain.{IsPlain}
 use Rattle.dns_names.specs.PlainLaws.{plain_of, parts_same}
 use Rattle.dns_names.specs.PlainOctets.{octets-append, wire_octets}
-use Rattle.dns_records.specs.Types.{Field, Value, Values, U16, U32, Ipv4, Ipv6, octet_count, size_of, Name, UncompressedName, form, is_known, is_data_type, type_a, type_ns, type_cname, type_soa, type_ptr, type_mx, type_txt, type_aaaa, type_srv}
+use Rattle.dns_records.specs.Types.{Field, Value, Values, U16, U32, Ipv4, Ipv6, octet_count, size_of, Name}
+use Rattle.dns_records.specs.Types.{UncompressedName, form, is_known, is_data_type, type_a, type_ns}
+use Rattle.dns_records.specs.Types.{type_cname, type_soa, type_ptr, type_mx, type_txt, type_aaaa, type_srv}
 use Rattle.dns_records.specs.Fields.{StringsLast}
 use Rattle.dns_records.specs.Record.{Data, IsData, AreFields}
-use Rattle.dns_records.specs.Typed.{name_data, is_name_type, soa_data, soa_numbers, mx_data, srv_data, srv_numbers}
+use Rattle.dns_records.specs.Typed.{name_data, is_name_type, soa_data, soa_numbers, mx_data, srv_data}
+use Rattle.dns_records.specs.Typed.{srv_numbers}
 use Rattle.dns_records.specs.declared.typed.Soa.{Soa}
 use Rattle.dns_records.specs.declared.typed.Mx.{Mx}
 use Rattle.dns_records.specs.declared.typed.Srv.{Srv}
@@ -42,17 +47,20 @@ formed_is_data t fields f = known_is_data t (ap is_some f)
 pub name_form : (t : ℕ) → is_name_type t ≡ true → form t ≡ Some (Name ∷ [])
 name_form t h = go (t == 2) (t == 5) (t == 12) refl refl refl h
   where
-    go : (a b c : Bool) → (t == 2) ≡ a → (t == 5) ≡ b → (t == 12) ≡ c → (a || b || c) ≡ true → form t ≡ Some (Name ∷ [])
+    go : (a b c : Bool) → (t == 2) ≡ a → (t == 5) ≡ b → (t == 12) ≡ c → (a || b || c) ≡ true
+        → form t ≡ Some (Name ∷ [])
     go true b c p q r h = ap form (eqb-true t 2 p)
     go false true c p q r h = ap form (eqb-true t 5 q)
     go false false true p q r h = ap form (eqb-true t 12 r)
     go false false false p q r h = absurd cc
 
-pub name_data-valid : (t : ℕ) (name : Labels) → is_name_type t ≡ true → IsName name → IsData (name_data t name)
+pub name_data-valid : (t : ℕ) (name : Labels) → is_name_type t ≡ true → IsName name
+    → IsData (name_data t name)
 name_data-valid t name h valid =
     let f = name_form t h in
     let short : length (wire name) ≤ 255 = valid.short in
-    let parts : AreFields (Name ∷ []) (wire name) = (wire name, [], sym (append-nil (wire name)), (name, valid, refl), refl) in
+    let parts : AreFields (Name ∷ []) (wire name) =
+    (wire name, [], sym (append-nil (wire name)), (name, valid, refl), refl) in
     record {
       rtype = formed_is_data t (Name ∷ []) f;
       octets = wire_octets name valid.labels;
@@ -66,7 +74,8 @@ name_alone o parts =
     let name = parts.3.0 in
     let front : parts.0 ≡ wire name = parts.3.2 in
     let none : parts.1 ≡ [] = parts.4 in
-    let whole : o ≡ wire name = parts.2 ∙ ap (λ (x : List ℕ). parts.0 ++ x) none ∙ append-nil parts.0 ∙ front in
+    let whole : o ≡ wire name =
+    parts.2 ∙ ap (λ (x : List ℕ). parts.0 ++ x) none ∙ append-nil parts.0 ∙ front in
     (plain_of o name parts.3.1 whole).1
 
 pub target_alone : (o : List ℕ) → AreFields (UncompressedName ∷ []) o → IsPlain o
@@ -111,7 +120,8 @@ soa_data-valid soa m r =
     let second_short : length second ≤ 255 = r.short in
     let last : AreFields (Values (U32 ∷ U32 ∷ U32 ∷ U32 ∷ U32 ∷ []) ∷ []) numbers =
     (numbers, [], sym (append-nil numbers), refl, refl) in
-    let parts : AreFields (Name ∷ Name ∷ Values (U32 ∷ U32 ∷ U32 ∷ U32 ∷ U32 ∷ []) ∷ []) (first ++ second ++ numbers) = (
+    let parts : AreFields (Name ∷ Name ∷ Values (U32 ∷ U32 ∷ U32 ∷ U32 ∷ U32 ∷ []) ∷ [])
+    (first ++ second ++ numbers) = (
       first,
       second ++ numbers,
       append_assoc first second numbers,
@@ -125,7 +135,8 @@ soa_data-valid soa m r =
     (octets-append (to_be_bytes w32 soa.serial ++ to_be_bytes w32 soa.refresh ++ to_be_bytes w32 soa.retry)
     (to_be_bytes w32 soa.expire)
     (octets-append (to_be_bytes w32 soa.serial ++ to_be_bytes w32 soa.refresh) (to_be_bytes w32 soa.retry)
-    (octets-append (to_be_bytes w32 soa.serial) (to_be_bytes w32 soa.refresh) (number soa.serial) (number soa.refresh))
+    (octets-append (to_be_bytes w32 soa.serial) (to_be_bytes w32 soa.refresh) (number soa.serial)
+    (number soa.refresh))
     (number soa.retry)) (number soa.expire)) (number soa.minimum) in
     record {
       rtype = refl;
@@ -141,11 +152,14 @@ mx_data-valid mx valid =
     let number = to_be_bytes w16 mx.preference in
     let name = wire mx.exchange in
     let name_short : length name ≤ 255 = valid.short in
-    let last : AreFields (Name ∷ []) name = (name, [], sym (append-nil name), (mx.exchange, valid, refl), refl) in
-    let parts : AreFields (Values (U16 ∷ []) ∷ Name ∷ []) (number ++ name) = (number, name, refl, refl, last) in
+    let last : AreFields (Name ∷ []) name =
+    (name, [], sym (append-nil name), (mx.exchange, valid, refl), refl) in
+    let parts : AreFields (Values (U16 ∷ []) ∷ Name ∷ []) (number ++ name) =
+    (number, name, refl, refl, last) in
     record {
       rtype = refl;
-      octets = octets-append number name (number_octets w16 mx.preference) (wire_octets mx.exchange valid.labels);
+      octets =
+          octets-append number name (number_octets w16 mx.preference) (wire_octets mx.exchange valid.labels);
       short = omega arith;
       form = parts;
     }
@@ -155,12 +169,15 @@ srv_data-valid srv valid =
     let numbers = srv_numbers srv in
     let name = wire srv.target in
     let name_short : length name ≤ 255 = valid.short in
-    let last : AreFields (UncompressedName ∷ []) name = (name, [], sym (append-nil name), (srv.target, valid, refl), refl) in
+    let last : AreFields (UncompressedName ∷ []) name =
+    (name, [], sym (append-nil name), (srv.target, valid, refl), refl) in
     let parts : AreFields (Values (U16 ∷ U16 ∷ U16 ∷ []) ∷ UncompressedName ∷ []) (numbers ++ name) =
     (numbers, name, refl, refl, last) in
     let number = number_octets w16 in
-    let fit = octets-append (to_be_bytes w16 srv.priority ++ to_be_bytes w16 srv.weight) (to_be_bytes w16 srv.port)
-    (octets-append (to_be_bytes w16 srv.priority) (to_be_bytes w16 srv.weight) (number srv.priority) (number srv.weight))
+    let fit =
+    octets-append (to_be_bytes w16 srv.priority ++ to_be_bytes w16 srv.weight) (to_be_bytes w16 srv.port)
+    (octets-append (to_be_bytes w16 srv.priority) (to_be_bytes w16 srv.weight) (number srv.priority)
+    (number srv.weight))
     (number srv.port) in
     record {
       rtype = refl;
@@ -198,7 +215,8 @@ address_whole vs o parts =
     ap length (parts.2 ∙ ap (λ (x : List ℕ). parts.0 ++ x) none ∙ append-nil parts.0) ∙ parts.3
 
 -- strings stand last in the form of each type
-chosen : (b : Bool) (f g : Option (List Field)) → IfSome f StringsLast → IfSome g StringsLast → IfSome (cond b f g) StringsLast
+chosen : (b : Bool) (f g : Option (List Field)) → IfSome f StringsLast → IfSome g StringsLast
+    → IfSome (cond b f g) StringsLast
 chosen true f g h k = h
 chosen false f g h k = k
 

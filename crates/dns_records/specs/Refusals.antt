@@ -4,16 +4,19 @@ use Rattle.dns_names.specs.Name.{IsName}
 use Rattle.dns_records.specs.Types.{is_data_type}
 use Rattle.dns_records.specs.Record.{Record, Data, data_of, plain, IsRData, IsData}
 use Rattle.dns_records.specs.declared.record.RecordError.{RecordError}
-use Rattle.dns_records.specs.declared.record.RecordError.TheVariants.{OutOfMemory, BadData, TooLong, UnknownType}
+use Rattle.dns_records.specs.declared.record.RecordError.TheVariants.{OutOfMemory, BadData, TooLong}
+use Rattle.dns_records.specs.declared.record.RecordError.TheVariants.{UnknownType}
 
 -- The first that applies: the type, the length, the form. Memory is refused to data that is valid.
 abbrev pub RefusesData : Data → RecordError → Type 0
 RefusesData d OutOfMemory = IsData d
 RefusesData d UnknownType = is_data_type d.rtype ≡ false
 RefusesData d TooLong = (is_data_type d.rtype ≡ true) × (4096 < length d.octets)
-RefusesData d BadData = (is_data_type d.rtype ≡ true) × (length d.octets ≤ 4096) × (IsRData d.rtype d.octets → ⊥)
+RefusesData d BadData =
+    (is_data_type d.rtype ≡ true) × (length d.octets ≤ 4096) × (IsRData d.rtype d.octets → ⊥)
 
--- Octets begin as a plain record does: an owner, a type, a TTL, a length, and so many octets, whatever they are.
+-- Octets begin as a plain record does: an owner, a type, a TTL, a length, and so many octets, whatever they
+-- are.
 pub record IsFramed (octets : List ℕ) (r : Record) (rest : List ℕ) : Type 0 where
   pub owner : IsName r.owner
   pub rtype : r.rtype < 2 ^ 16

@@ -4,7 +4,8 @@ use Rattle.std.specs.List.{AllByRecursion, flat_map}
 use Rattle.dns_records.specs.Types.{type_txt}
 use Rattle.dns_records.specs.Record.{Data, string}
 use Rattle.dns_records.specs.declared.record.RecordError.{RecordError}
-use Rattle.dns_records.specs.declared.record.RecordError.TheVariants.{OutOfMemory, BadData, TooLong, UnknownType}
+use Rattle.dns_records.specs.declared.record.RecordError.TheVariants.{OutOfMemory, BadData, TooLong}
+use Rattle.dns_records.specs.declared.record.RecordError.TheVariants.{UnknownType}
 
 -- The strings that octets are: `strings_of (flat_map string strings)` is the strings.
 abbrev pub strings_within : ℕ → List ℕ → List (List ℕ)
@@ -28,7 +29,8 @@ pub record FitsTxt (strings : List (List ℕ)) : Type 0 where
   pub some : strings ≢ []
   pub short : AllByRecursion (λ s. length s < 256) strings
 
--- Why strings are no data: there is none, or one that is too long for its length octet; or they take too many octets.
+-- Why strings are no data: there is none, or one that is too long for its length octet; or they take too many
+-- octets.
 abbrev pub RefusesTxt : List (List ℕ) → RecordError → Type 0
 RefusesTxt strings OutOfMemory = Unit {0}
 RefusesTxt strings BadData = FitsTxt strings → ⊥

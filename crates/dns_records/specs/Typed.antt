@@ -1,9 +1,11 @@
 -- The data of each type, made of its parts.
-use Rattle.std.specs.Prelude.{ℕ, ◌+◌, ◌-◌, ◌<◌, ◌^◌, length, take, drop, Bool, ◌==◌, ◌||◌, List, ◌++◌, Option, Some, None, if◌then◌else◌}
+use Rattle.std.specs.Prelude.{ℕ, ◌+◌, ◌-◌, ◌<◌, ◌^◌, length, take, drop, Bool, ◌==◌, ◌||◌, List, ◌++◌, Option}
+use Rattle.std.specs.Prelude.{Some, None, if◌then◌else◌}
 use Rattle.std.specs.Int.{w16, w32, to_be_bytes}
 use Rattle.dns_names.specs.Name.{Labels, IsName, wire, labels_of}
 use Rattle.dns_records.specs.Record.{Data}
-use Rattle.dns_records.specs.Types.{type_a, type_ns, type_cname, type_soa, type_ptr, type_mx, type_aaaa, type_srv}
+use Rattle.dns_records.specs.Types.{type_a, type_ns, type_cname, type_soa, type_ptr, type_mx, type_aaaa}
+use Rattle.dns_records.specs.Types.{type_srv}
 use Rattle.dns_records.specs.declared.typed.Soa.{Soa}
 use Rattle.dns_records.specs.declared.typed.Mx.{Mx}
 use Rattle.dns_records.specs.declared.typed.Srv.{Srv}
@@ -30,8 +32,8 @@ name_of d = if is_name_type d.rtype then Some (labels_of d.octets) else None
 -- Two names and five numbers of 32 bits (RFC 1035 3.3.13).
 abbrev pub soa_numbers : Soa → List ℕ
 soa_numbers soa =
-    to_be_bytes w32 soa.serial ++ to_be_bytes w32 soa.refresh ++ to_be_bytes w32 soa.retry ++ to_be_bytes w32 soa.expire
-    ++ to_be_bytes w32 soa.minimum
+    to_be_bytes w32 soa.serial ++ to_be_bytes w32 soa.refresh ++ to_be_bytes w32 soa.retry
+    ++ to_be_bytes w32 soa.expire ++ to_be_bytes w32 soa.minimum
 
 abbrev pub soa_data : Soa → Data
 soa_data soa = record { rtype = type_soa; octets = wire soa.mname ++ wire soa.rname ++ soa_numbers soa }

@@ -1,5 +1,6 @@
 //! Numbers at the front of octets, the high octet first.
-ghost use Rattle.std.specs.Prelude.{◌≡◌, ◌+◌, ◌<◌, ◌≤◌, ◌^◌, ◌++◌, length, take, drop, IfSome, IfNone, MatchOption};
+ghost use Rattle.std.specs.Prelude.{◌≡◌, ◌+◌, ◌<◌, ◌≤◌, ◌^◌, ◌++◌, length, take, drop, IfSome, IfNone};
+ghost use Rattle.std.specs.Prelude.{MatchOption};
 ghost use Rattle.std.specs.Int.{w16, w32, to_be_bytes};
 ghost use Rattle.dns_records.specs.Record.{number_of};
 
@@ -34,7 +35,8 @@ pub(crate) fn five_u32(octets: &[u8]) -> Option<(u32, u32, u32, u32, u32)>
     requires { length octets.now ≡ 20 }
     ensures { MatchOption result ⊥
         (λ r. octets.now
-        ≡ to_be_bytes w32 r.0 ++ to_be_bytes w32 r.1 ++ to_be_bytes w32 r.2 ++ to_be_bytes w32 r.3 ++ to_be_bytes w32 r.4) }
+        ≡ to_be_bytes w32 r.0 ++ to_be_bytes w32 r.1 ++ to_be_bytes w32 r.2 ++ to_be_bytes w32 r.3
+        ++ to_be_bytes w32 r.4) }
 {
     let (first, behind) = split_u32(octets)?;
     let (second, behind) = split_u32(behind)?;

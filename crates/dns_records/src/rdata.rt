@@ -1,11 +1,13 @@
 //! The data of a record, as octets that have the form of its type.
 ghost use Rattle.std.specs.Prelude.{◌≡◌, ◌↔◌, IsTrue, IfOk, IfSome, refl};
 ghost use Rattle.std.specs.Ordering.{as_partial_cmp};
-ghost use Rattle.dns_records.specs.Compare.{same_data, same_data-per, same_data-equiv, data_cmp, data_cmp-po, data_cmp-total, data_cmp-ties};
+ghost use Rattle.dns_records.specs.Compare.{same_data, same_data-per, same_data-equiv, data_cmp, data_cmp-po};
+ghost use Rattle.dns_records.specs.Compare.{data_cmp-total, data_cmp-ties};
 ghost use Rattle.dns_names.specs.Name.{wire};
 ghost use Rattle.dns_records.specs.Record.{Data, IsData};
 ghost use Rattle.dns_records.specs.Types.{type_ns, type_cname, type_ptr};
-ghost use Rattle.dns_records.specs.Typed.{a_data, aaaa_data, name_data, mx_data, srv_data, soa_data, name_of, is_name_type};
+ghost use Rattle.dns_records.specs.Typed.{a_data, aaaa_data, name_data, mx_data, srv_data, soa_data, name_of};
+ghost use Rattle.dns_records.specs.Typed.{is_name_type};
 
 use crate::typed::{Mx, Soa, Srv};
 use crate::types;
@@ -16,8 +18,8 @@ use std::alloc::AllocError;
 use std::cmp::Ordering;
 use std::marker::Model;
 
-/// The type and the data of a record, in plain form: names in full and in lower case, and octets as they are where the type has no
-/// form (RFC 3597).
+/// The type and the data of a record, in plain form: names in full and in lower case, and octets as they are
+/// where the type has no form (RFC 3597).
 #[derive(Debug)]
 pub struct RData {
     rtype: u16,
@@ -185,7 +187,8 @@ impl RData {
 
     /// Data that is an address, which takes no memory.
     fn of_address(alloc: Heap, rtype: u16, octets: &[u8]) -> RData
-        requires form { (v : Value) × (form rtype ≡ Some (Values (v ∷ []) ∷ [])) × (length octets.now ≡ size_of v) }
+        requires form { (v : Value) × (form rtype ≡ Some (Values (v ∷ []) ∷ []))
+            × (length octets.now ≡ size_of v) }
         requires short { length octets.now ≤ 24 }
         ensures { result ≡ record { rtype = rtype; octets = octets.now } }
     {

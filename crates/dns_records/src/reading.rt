@@ -1,5 +1,6 @@
 //! Reading of data and of plain records.
-ghost use Rattle.std.specs.Prelude.{◌≡◌, ◌↔◌, IsTrue, ℕ, List, ◌++◌, ◌≤◌, length, take, IfOk, IfErr, IfSome, IfNone};
+ghost use Rattle.std.specs.Prelude.{◌≡◌, ◌↔◌, IsTrue, ℕ, List, ◌++◌, ◌≤◌, length, take, IfOk, IfErr, IfSome};
+ghost use Rattle.std.specs.Prelude.{IfNone};
 ghost use Rattle.dns_records.specs.Record.{Record as Stated, IsRData, IsRecord, plain};
 ghost use Rattle.dns_records.specs.Refusals.{RefusesData, IsFramed, RefusesPlain};
 
@@ -22,7 +23,8 @@ struct Framed<'a> {
 /// The parts of a plain record at the front of octets, whatever its data is.
 fn split_plain(octets: &[u8]) -> Option<Framed<'_>>
     ensures found { IfSome result
-        (λ f. IsFramed octets.now (record { owner = f.owner; rtype = f.rtype; ttl = f.ttl; rdata = f.rdata.now }) f.rest.now) }
+        (λ f. IsFramed octets.now
+        (record { owner = f.owner; rtype = f.rtype; ttl = f.ttl; rdata = f.rdata.now }) f.rest.now) }
     ensures none { IfNone result ((r : Stated) (rest : List ℕ) → IsFramed octets.now r rest → ⊥) }
 {
     let (owner, behind_owner) = NameRef::first(octets)?;
@@ -52,9 +54,9 @@ fn have_form(rtype: u16, octets: &[u8]) -> bool
 impl RData {
     ghost use Rattle.dns_records.specs.Record.{Data, IsData};
 
-    /// The data of a type, whose plain form the octets are. Refused are, in this order, a type of which a zone can
-    /// have no records, octets beyond 4,096, and octets that have not the form of the type. Data of a type without a form is any
-    /// octets (RFC 3597 section 3).
+    /// The data of a type, whose plain form the octets are. Refused are, in this order, a type of which a
+    /// zone can have no records, octets beyond 4,096, and octets that have not the form of the type. Data of
+    /// a type without a form is any octets (RFC 3597 section 3).
     pub fn new(alloc: Heap, rtype: u16, octets: &[u8]) -> Result<RData, RecordError>
         ensures found { IfOk result (λ d. (d ≡ record { rtype = rtype; octets = octets.now }) × IsData d) }
         ensures refused { IfErr result (RefusesData (record { rtype = rtype; octets = octets.now })) }
@@ -73,10 +75,11 @@ impl RData {
 }
 
 impl Record {
-    /// The record whose plain form stands at the front of the octets, and how many octets that has. The octets are refused
-    /// as `BadData` where they end before it does or have a capital in a name.
+    /// The record whose plain form stands at the front of the octets, and how many octets that has. The
+    /// octets are refused as `BadData` where they end before it does or have a capital in a name.
     pub fn from_wire_plain(alloc: Heap, octets: &[u8]) -> Result<(Record, usize), RecordError>
-        ensures found { IfOk result (λ r. (r.1 ≤ length octets.now) × (take r.1 octets.now ≡ plain r.0) × IsRecord r.0) }
+        ensures found { IfOk result
+            (λ r. (r.1 ≤ length octets.now) × (take r.1 octets.now ≡ plain r.0) × IsRecord r.0) }
         ensures refused { IfErr result (RefusesPlain octets.now) }
         // What is a plain record is read, unless memory runs out.
         ensures only { (r : Stated) (n : ℕ)

@@ -48,8 +48,9 @@ struct Parts {
     rdata: RData,
 }
 
-/// A record of class IN: an owner, a TTL in seconds, a type, and data (RFC 1035 section 3.2.1). It is one pointer, and its copies share
-/// what it says: to move a record and to copy it costs the same, however much that is.
+/// A record of class IN: an owner, a TTL in seconds, a type, and data (RFC 1035 section 3.2.1). It is one
+/// pointer, and its copies share what it says: to move a record and to copy it costs the same, however much
+/// that is.
 #[derive(Drop)]
 pub struct Record {
     parts: Rc<Parts, Heap>,
@@ -125,7 +126,8 @@ impl Record {
         owners.then(types.then(parts.rdata.octets().cmp(others.rdata.octets())))
     }
 
-    /// Writes the plain form at the end. Where memory is refused, what was written before stays as it was, and nothing is added.
+    /// Writes the plain form at the end. Where memory is refused, what was written before stays as it was,
+    /// and nothing is added.
     pub fn to_wire_plain(&self, out: &mut Vec<u8, Heap>) -> Result<(), AllocError>
         ensures written { OnOk result (out.new.items ≡ out.old.items ++ plain self.now) }
         ensures stays { OnErr result (out.new.items ≡ out.old.items) }

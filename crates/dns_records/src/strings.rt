@@ -56,10 +56,11 @@ impl<'a> Iterator for Strings<'a> {
 }
 
 impl RData {
-    /// Strings (RFC 1035 section 3.3.14). Refused are, as `BadData`, no string at all and one of more than 255 octets, and,
-    /// as `TooLong`, strings that take more than 4,096 octets, a length octet before each.
+    /// Strings (RFC 1035 section 3.3.14). Refused are, as `BadData`, no string at all and one of more than
+    /// 255 octets, and, as `TooLong`, strings that take more than 4,096 octets, a length octet before each.
     pub fn txt(alloc: Heap, strings: &[&[u8]]) -> Result<RData, RecordError>
-        ensures found { IfOk result (λ d. (d ≡ txt_data (map (λ s. s.now) strings.now)) × FitsTxt (map (λ s. s.now) strings.now)) }
+        ensures found { IfOk result
+            (λ d. (d ≡ txt_data (map (λ s. s.now) strings.now)) × FitsTxt (map (λ s. s.now) strings.now)) }
         ensures refused { IfErr result (RefusesTxt (map (λ s. s.now) strings.now)) }
     {
         let mut octets: SmallVec<u8, 24, Heap> = SmallVec::new(alloc);
@@ -75,7 +76,8 @@ impl RData {
 
     /// The strings of a TXT (RFC 1035 section 3.3.14).
     pub fn as_txt(&self) -> Option<Strings<'_>>
-        ensures { MatchOption result (self.now.rtype ≢ type_txt) (λ strings. (self.now ≡ txt_data strings) × FitsTxt strings) }
+        ensures { MatchOption result (self.now.rtype ≢ type_txt)
+            (λ strings. (self.now ≡ txt_data strings) × FitsTxt strings) }
     {
         if self.rtype() != types::TXT {
             return None;

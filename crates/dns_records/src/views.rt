@@ -7,7 +7,8 @@ ghost use Rattle.dns_records.specs.declared.typed.Soa.{Soa as SoaParts};
 ghost use Rattle.dns_records.specs.Types.{type_a, type_aaaa, type_mx, type_srv, type_soa};
 ghost use Rattle.dns_records.specs.Record.{host_of, serial_of, minimum_of, with_serial};
 ghost use Rattle.dns_records.specs.TextStrings.{txt_data};
-ghost use Rattle.dns_records.specs.Typed.{a_data, aaaa_data, name_data, mx_data, srv_data, soa_data, FitsMx, FitsSrv, FitsSoa};
+ghost use Rattle.dns_records.specs.Typed.{a_data, aaaa_data, name_data, mx_data, srv_data, soa_data, FitsMx};
+ghost use Rattle.dns_records.specs.Typed.{FitsSrv, FitsSoa};
 
 use crate::numbers::{five_u32, split_u16, u32_at};
 use crate::typed::{Mx, Soa, Srv};
@@ -54,7 +55,8 @@ impl RData {
 
     /// The parts of an SRV (RFC 2782).
     pub fn as_srv(&self) -> Option<Srv<'_>>
-        ensures { MatchOption result (self.now.rtype ≢ type_srv) (λ srv. (self.now ≡ srv_data srv) × FitsSrv srv) }
+        ensures { MatchOption result (self.now.rtype ≢ type_srv)
+            (λ srv. (self.now ≡ srv_data srv) × FitsSrv srv) }
     {
         if self.rtype() != types::SRV {
             return None;
@@ -73,7 +75,8 @@ impl RData {
 
     /// The parts of a SOA (RFC 1035 section 3.3.13).
     pub fn as_soa(&self) -> Option<Soa<'_>>
-        ensures { MatchOption result (self.now.rtype ≢ type_soa) (λ soa. (self.now ≡ soa_data soa) × FitsSoa soa) }
+        ensures { MatchOption result (self.now.rtype ≢ type_soa)
+            (λ soa. (self.now ≡ soa_data soa) × FitsSoa soa) }
     {
         if self.rtype() != types::SOA {
             return None;
@@ -137,7 +140,8 @@ impl Record {
 
 /// Data is made of one list of parts at most: so the views give back what the data was made of.
 pub fn parts_are_one()
-    ensures name { (rtype : ℕ) (a b : Labels) → IsName a → IsName b → name_data rtype a ≡ name_data rtype b → a ≡ b }
+    ensures name { (rtype : ℕ) (a b : Labels) → IsName a → IsName b
+        → name_data rtype a ≡ name_data rtype b → a ≡ b }
     ensures mx { (a b : MxParts) → FitsMx a → FitsMx b → mx_data a ≡ mx_data b → a ≡ b }
     ensures srv { (a b : SrvParts) → FitsSrv a → FitsSrv b → srv_data a ≡ srv_data b → a ≡ b }
     ensures soa { (a b : SoaParts) → FitsSoa a → FitsSoa b → soa_data a ≡ soa_data b → a ≡ b }

@@ -13,7 +13,8 @@ use Rattle.dns_primary.specs.Stop.{IsRecovered, opened_of}
 use Rattle.dns_script.specs.Keeps.{Keep, All, These, ZoneKeep}
 use Rattle.dns_replay.specs.Scripts.{Standing, event_in, machine_of, tries_in}
 
--- What is kept of the writes that are pending on the device of the zone at a place: none where nothing is said of it.
+-- What is kept of the writes that are pending on the device of the zone at a place: none where nothing is
+-- said of it.
 abbrev pub keep_or_none : Option ZoneKeep → Keep
 keep_or_none None = These []
 keep_or_none (Some k) = k.keep
@@ -27,9 +28,10 @@ IsToldAs All told_keep.All = Unit {0}
 IsToldAs (These numbers) (told_keep.These given) = given.now ≡ numbers
 IsToldAs _ _ = ⊥
 
--- The device after a crash that kept these of its pending writes: another crash leaves exactly them over what was durable, which is
--- among what the crash might have left.
-pub record IsLeftBy {D : Type 0} (g : Ghosts D) (kept : D → told.Keep → Content) (keep : Keep) (old new : D) : Type 0 where
+-- The device after a crash that kept these of its pending writes: another crash leaves exactly them over what
+-- was durable, which is among what the crash might have left.
+pub record IsLeftBy {D : Type 0} (g : Ghosts D) (kept : D → told.Keep → Content) (keep : Keep)
+    (old new : D) : Type 0 where
   pub honest : g.is_honest old → g.is_honest new
   pub told_as : told.Keep
   pub is : IsToldAs keep told_as
@@ -37,7 +39,8 @@ pub record IsLeftBy {D : Type 0} (g : Ghosts D) (kept : D → told.Keep → Cont
   pub left : (c : Content) → g.is_honest old → g.may_leave new c → g.may_leave old c
 
 -- The devices of zones, those from this place on.
-abbrev pub AreLeftBy : {D : Type 0} → Ghosts D → (D → told.Keep → Content) → List ZoneKeep → ℕ → List D → List D → Type 0
+abbrev pub AreLeftBy : {D : Type 0} → Ghosts D → (D → told.Keep → Content) → List ZoneKeep → ℕ → List D
+    → List D → Type 0
 AreLeftBy g kept keeps place [] [] = Unit {0}
 AreLeftBy g kept keeps place (d ∷ olds) (e ∷ news) =
     IsLeftBy g kept (keep_at keeps place) d e × AreLeftBy g kept keeps (suc place) olds news
@@ -55,11 +58,13 @@ AreOpenedOver g [] [] = Unit {0}
 AreOpenedOver g (d ∷ devices) (z ∷ zones) = IsOpenedOver g d z × AreOpenedOver g devices zones
 AreOpenedOver g _ _ = ⊥
 
-module _ {D : Type 0} (g : Ghosts D) (kept : D → told.Keep → Content) (names : List Labels) (settings : List ZoneSettings) where
+module _ {D : Type 0} (g : Ghosts D) (kept : D → told.Keep → Content) (names : List Labels)
+    (settings : List ZoneSettings) where
   -- The devices where a script stands crashed, keeping these of their pending writes, and are those now.
   pub record AreCrashed (s : Standing) (keeps : List ZoneKeep) (after : List D) : Type 0 where
     pub before : List D
-    pub stood : AreRecoverable g (tries_in s) (machine_of s) (event_in s) 0 (machine_of s).zones names settings before
+    pub stood : AreRecoverable g (tries_in s) (machine_of s) (event_in s) 0
+        (machine_of s).zones names settings before
     pub left : AreLeftBy g kept keeps 0 before after
 
   -- They did, and the machine that is there then was opened over them; or a stop fell in the opening.

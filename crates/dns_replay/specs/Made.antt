@@ -13,4 +13,5 @@ pub record IsMade {D : Type 0} (g : Ghosts D) (zone : Zone) (s : ZoneSettings) (
   pub honest : g.is_honest device
   pub leaves : (c : Content)
       → g.may_leave device c
-      → opens (record { apex = zone.apex; snapshot = s.snapshot; journal = s.journal }) (first_of zone.records) c
+      → opens (record { apex = zone.apex; snapshot = s.snapshot; journal = s.journal })
+      (first_of zone.records) c

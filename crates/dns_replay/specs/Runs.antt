@@ -21,7 +21,9 @@ use Rattle.dns_primary.specs.Runs.{Moment, Run, last_of}
 use Rattle.dns_primary.specs.Fresh.{IsFresh}
 use Rattle.dns_script.specs.Keeps.{ZoneKeep}
 use Rattle.dns_replay.specs.Crashes.{IsCrash}
-use Rattle.dns_replay.specs.Scripts.{Standing, Takes, Stands, machine_of, Said, Crashes, Reopens, Led, Leads, LineLeads, LineRefuses, IsNoCommand, MayRefuse, Runs, printed_refusal, printed_stop}
+use Rattle.dns_replay.specs.Scripts.{Standing, Takes, Stands, machine_of, Said, Crashes, Reopens, Led, Leads}
+use Rattle.dns_replay.specs.Scripts.{LineLeads, LineRefuses, IsNoCommand, MayRefuse, Runs, printed_refusal}
+use Rattle.dns_replay.specs.Scripts.{printed_stop}
 use Rattle.dns_store.specs.declared.root.OpenError.{OpenError}
 use Rattle.dns_replay.specs.declared.run.After.{After}
 use Rattle.dns_replay.specs.declared.run.After.TheVariants.{GoesOn, NoCommand, Refused}
@@ -44,8 +46,8 @@ abbrev pub crash_by : List ZoneKeep → Option ℕ → Said
 crash_by keeps None = Crashes keeps
 crash_by keeps (Some n) = Reopens keeps
 
-module _ {D I : Type 0} {g : Ghosts D} {i : index.Ghosts I} {s : store.Ghosts (KeptStore D I g)} (names : List Labels)
-    (settings : List ZoneSettings)
+module _ {D I : Type 0} {g : Ghosts D} {i : index.Ghosts I} {s : store.Ghosts (KeptStore D I g)}
+    (names : List Labels) (settings : List ZoneSettings)
   where
     -- A primary keeps the machine; or of one that stopped within an event these devices are left.
     abbrev pub IsAt : Option (Primary I (KeptStore D I g) i s) → List D → Standing → Type 0
@@ -68,31 +70,39 @@ pub record Refuses (origins : List Labels) (out out_after : Option (List ℕ)) :
   pub printed : Appends out out_after (printed_refusal (slice_get origins place) error)
 
 -- A stop fell in the opening, which was to have one, and these are the devices; or the run ends.
-abbrev pub IsRefused : {D : Type 0} → List Labels → Option ℕ → List D → List D → Option (List ℕ) → Option (List ℕ) → After → Type 0
-IsRefused names stop devices left out out_after GoesOn = IsSome stop × (left ≡ devices) × Appends out out_after printed_stop
+abbrev pub IsRefused : {D : Type 0} → List Labels → Option ℕ → List D → List D → Option (List ℕ)
+    → Option (List ℕ) → After → Type 0
+IsRefused names stop devices left out out_after GoesOn =
+    IsSome stop × (left ≡ devices) × Appends out out_after printed_stop
 IsRefused names stop devices left out out_after Refused = Refuses names out out_after
 IsRefused names stop devices left out out_after NoCommand = ⊥
 
-module _ {D I : Type 0} {g : Ghosts D} {i : index.Ghosts I} {s : store.Ghosts (KeptStore D I g)} (kept : D → told.Keep → Content) where
+module _ {D I : Type 0} {g : Ghosts D} {i : index.Ghosts I} {s : store.Ghosts (KeptStore D I g)}
+    (kept : D → told.Keep → Content) where
   -- What is said leads on, or ends the run.
-  abbrev pub DoesBy : List Labels → List ZoneSettings → Said → Option (Primary I (KeptStore D I g) i s) → List D
+  abbrev pub DoesBy : List Labels → List ZoneSettings → Said
+      → Option (Primary I (KeptStore D I g) i s) → List D
       → Option (Primary I (KeptStore D I g) i s) → List D → Option (List ℕ) → Option (List ℕ) → After → Type 0
   DoesBy names settings said p devices q left out out_after GoesOn =
-      LeadsOn names settings (λ from led. Leads names (IsCrash g kept names settings) from said led) p devices q left out out_after
-  DoesBy names settings said p devices q left out out_after Refused = MayRefuse said × Refuses names out out_after
+      LeadsOn names settings (λ from led. Leads names (IsCrash g kept names settings) from said led)
+      p devices q left out out_after
+  DoesBy names settings said p devices q left out out_after Refused =
+      MayRefuse said × Refuses names out out_after
   DoesBy names settings said p devices q left out out_after NoCommand = ⊥
 
-  abbrev pub LineDoes : List Labels → List ZoneSettings → List ℕ → Option (Primary I (KeptStore D I g) i s) → List D
+  abbrev pub LineDoes : List Labels → List ZoneSettings → List ℕ
+      → Option (Primary I (KeptStore D I g) i s) → List D
       → Option (Primary I (KeptStore D I g) i s) → List D → Option (List ℕ) → Option (List ℕ) → After → Type 0
   LineDoes names settings line p devices q left out out_after GoesOn =
-      LeadsOn names settings (λ from led. LineLeads names (IsCrash g kept names settings) from line led) p devices q left out
-      out_after
+      LeadsOn names settings (λ from led. LineLeads names (IsCrash g kept names settings) from line led)
+      p devices q left out out_after
   LineDoes names settings line p devices q left out out_after Refused =
       (text : List ℕ) × LineRefuses names line text × Appends out out_after text
   LineDoes names settings line p devices q left out out_after NoCommand =
       IsNoCommand names line × (q ≡ p) × (left ≡ devices) × Keeps out out_after
 
--- A run led to the machine from one to which nothing had happened, and whose zones were opened for these names and settings.
+-- A run led to the machine from one to which nothing had happened, and whose zones were opened for these
+-- names and settings.
 pub record IsReached (names : List Labels) (settings : List ZoneSettings) (m : Machine) : Type 0 where
   pub zones : List Zone
   pub loaded : List ZoneSettings
@@ -103,22 +113,24 @@ pub record IsReached (names : List Labels) (settings : List ZoneSettings) (m : M
   pub run : Run first before
   pub last : last_of first before ≡ m
 
--- From each such machine that the primary kept, the lines lead there, by moments that are a run of the machine.
+-- From each such machine that the primary kept, the lines lead there, by moments that are a run of the
+-- machine.
 abbrev pub RanScript : {D I : Type 0} {g : Ghosts D} {i : index.Ghosts I} {s : store.Ghosts (KeptStore D I g)}
-    → (D → told.Keep → Content) → List Labels → List ZoneSettings → List (List ℕ) → Ending → Primary I (KeptStore D I g) i s
-    → Option (List ℕ) → Option (List ℕ) → Type 0
+    → (D → told.Keep → Content) → List Labels → List ZoneSettings → List (List ℕ) → Ending
+    → Primary I (KeptStore D I g) i s → Option (List ℕ) → Option (List ℕ) → Type 0
 RanScript {g} kept names settings lines ending primary out out_after =
     (start : Machine) → IsReached names settings start → IsKept primary start
-    → (led : Led) × Runs names (IsCrash g kept names settings) (Takes start) 1 lines led ending × Run start led.moments
-    × Appends out out_after led.text
+    → (led : Led) × Runs names (IsCrash g kept names settings) (Takes start) 1 lines led ending
+    × Run start led.moments × Appends out out_after led.text
 
--- The same of zones that were loaded: they have a machine to which nothing has happened, and from each such machine the lines lead
--- there.
-pub record RunsFrom {D : Type 0} (g : Ghosts D) (kept : D → told.Keep → Content) (zones : List Zone) (settings : List ZoneSettings)
-    (lines : List (List ℕ)) (ending : Ending) (out out_after : Option (List ℕ))
+-- The same of zones that were loaded: they have a machine to which nothing has happened, and from each such
+-- machine the lines lead there.
+pub record RunsFrom {D : Type 0} (g : Ghosts D) (kept : D → told.Keep → Content) (zones : List Zone)
+    (settings : List ZoneSettings) (lines : List (List ℕ)) (ending : Ending) (out out_after : Option (List ℕ))
     : Type 0 where
   pub begins : (start : Machine) × IsFresh zones settings start
   pub leads : (start : Machine) → IsFresh zones settings start
       → (led : Led)
-      × Runs (map (λ z. z.apex) zones) (IsCrash g kept (map (λ z. z.apex) zones) settings) (Takes start) 1 lines led ending
+      × Runs (map (λ z. z.apex) zones) (IsCrash g kept (map (λ z. z.apex) zones) settings)
+      (Takes start) 1 lines led ending
       × Run start led.moments × Appends out out_after led.text

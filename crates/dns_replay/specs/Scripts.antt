@@ -1,5 +1,6 @@
 -- Scripts: what is printed of each line, and the machine that it leads to.
-use Rattle.std.specs.Prelude.{◌≡◌, ◌⊎◌, ℕ, ◌+◌, zero, suc, Bool, List, [], ◌∷◌, ◌++◌, flat_map, length, slice_get, Option, Some, None, codes, decimal}
+use Rattle.std.specs.Prelude.{◌≡◌, ◌⊎◌, ℕ, ◌+◌, zero, suc, Bool, List, [], ◌∷◌, ◌++◌, flat_map, length}
+use Rattle.std.specs.Prelude.{slice_get, Option, Some, None, codes, decimal}
 use Rattle.std.specs.declared.net.ip_addr.IpAddr.{IpAddr}
 use Rattle.hex.specs.Hex.{encode_lower}
 use Rattle.dns_names.specs.Name.{Labels}
@@ -31,8 +32,9 @@ use Rattle.dns_replay.specs.declared.run.Ending.TheVariants.{Done, Syntax, Refus
 abbrev pub peer_of : IpAddr → Peer
 peer_of address = record { address = address; port = 0 }
 
--- What a command says: nothing; an event; that a write or a sync is to fail; that a crash comes which keeps these of the writes that
--- are pending, all stores are opened anew, and that a write or a sync of the opening may be the last.
+-- What a command says: nothing; an event; that a write or a sync is to fail; that a crash comes which keeps
+-- these of the writes that are pending, all stores are opened anew, and that a write or a sync of the opening
+-- may be the last.
 pub data Said : Type 0 where
   Nothing : Said
   Happens : Event → Said
@@ -110,7 +112,8 @@ shown_version (Some z) = Some (length z.shown, first_serial (soas (shown_zone (k
 
 abbrev pub recovered_line : Labels → ℕ → ℕ → List ℕ
 recovered_line origin number serial =
-    codes "recovered " ++ printed_name origin ++ codes " version " ++ decimal number ++ codes " serial " ++ decimal serial ++ 10 ∷ []
+    codes "recovered " ++ printed_name origin ++ codes " version " ++ decimal number ++ codes " serial "
+    ++ decimal serial ++ 10 ∷ []
 
 -- A zone behind a crash.
 abbrev pub recovered_version : Labels → Option (ℕ × ℕ) → List ℕ
@@ -136,19 +139,21 @@ refusal_word refused.Geometry = codes "Geometry"
 refusal_word refused.OutOfMemory = codes "OutOfMemory"
 
 abbrev pub refused_line : Labels → OpenError → List ℕ
-refused_line origin error = codes "refused " ++ printed_name origin ++ codes " " ++ refusal_word error ++ 10 ∷ []
+refused_line origin error =
+    codes "refused " ++ printed_name origin ++ codes " " ++ refusal_word error ++ 10 ∷ []
 
 abbrev pub printed_refusal : Option Labels → OpenError → List ℕ
 printed_refusal None error = []
 printed_refusal (Some origin) error = refused_line origin error
 
--- Where a script stands: a machine takes events; or one stopped within an event, and its devices alone are left, after so many tries
--- to open them again.
+-- Where a script stands: a machine takes events; or one stopped within an event, and its devices alone are
+-- left, after so many tries to open them again.
 pub data Standing : Type 0 where
   Takes : Machine → Standing
   Stands : Machine → Event → ℕ → Standing
 
--- The machine that a crash comes to, and the event that it comes in. Between two events it is as in a flush that has not begun.
+-- The machine that a crash comes to, and the event that it comes in. Between two events it is as in a flush
+-- that has not begun.
 abbrev pub machine_of : Standing → Machine
 machine_of (Takes m) = m
 machine_of (Stands m event tries) = m
@@ -181,8 +186,8 @@ EventLeads origins (Takes m) event led =
     ⊎ (led ≡ halted m event 0)
 EventLeads origins (Stands m stopped tries) event led = led ≡ halted m stopped tries
 
--- What a crash that keeps these of the pending writes leads to from where a script stands: a machine, whose zones are what is left on
--- their devices; or, where a stop falls in the opening, devices alone.
+-- What a crash that keeps these of the pending writes leads to from where a script stands: a machine, whose
+-- zones are what is left on their devices; or, where a stop falls in the opening, devices alone.
 abbrev pub Crash : Type 1
 Crash = Standing → List ZoneKeep → Option Machine → Type 0
 
@@ -207,7 +212,8 @@ Leads origins crash s (Happens event) led = EventLeads origins s event led
 Leads origins crash s Plans led = PlanLeads s led
 Leads origins crash s (Crashes keeps) led = Recovers origins crash s keeps led
 Leads origins crash s (Reopens keeps) led =
-    Recovers origins crash s keeps led ⊎ (crash s keeps None × (led ≡ halted (machine_of s) (event_in s) (suc (tries_in s))))
+    Recovers origins crash s keeps led
+    ⊎ (crash s keeps None × (led ≡ halted (machine_of s) (event_in s) (suc (tries_in s))))
 
 -- What a command may end: a store is refused behind a crash.
 abbrev pub MayRefuse : Said → Type 0
@@ -216,7 +222,8 @@ MayRefuse (Reopens keeps) = Unit {0}
 MayRefuse _ = ⊥
 
 -- A line that is a command leads on.
-pub record LineLeads (origins : List Labels) (crash : Crash) (s : Standing) (line : List ℕ) (led : Led) : Type 0 where
+pub record LineLeads (origins : List Labels) (crash : Crash) (s : Standing) (line : List ℕ)
+    (led : Led) : Type 0 where
   pub command : Command
   pub says : Says origins line command
   pub leads : Leads origins crash s (said_by command) led
@@ -233,12 +240,14 @@ pub record LineRefuses (origins : List Labels) (line text : List ℕ) : Type 0 w
 abbrev pub IsNoCommand : List Labels → List ℕ → Type 0
 IsNoCommand origins line = (c : Command) → ¬ (Says origins line c)
 
--- What lines lead to, the first of which has that number, and how the run ends: where all are commands, at the first that is none, or
--- at one behind which a store is refused.
+-- What lines lead to, the first of which has that number, and how the run ends: where all are commands, at
+-- the first that is none, or at one behind which a store is refused.
 abbrev pub Runs : List Labels → Crash → Standing → ℕ → List (List ℕ) → Led → Ending → Type 0
 Runs origins crash s number [] led ending = (led ≡ idle s) × (ending ≡ Done)
 Runs origins crash s number (line ∷ rest) led ending =
-    ((first more : Led) × LineLeads origins crash s line first × Runs origins crash first.standing (number + 1) rest more ending
+    ((first more : Led) × LineLeads origins crash s line first
+    × Runs origins crash first.standing (number + 1) rest more ending
     × (led ≡ record { moments = first.moments ++ more.moments; text = first.text ++ more.text; standing = more.standing }))
     ⊎ (IsNoCommand origins line × (led ≡ idle s) × (ending ≡ Syntax number))
-    ⊎ ((text : List ℕ) × LineRefuses origins line text × (led ≡ record (idle s) { text = text }) × (ending ≡ Refused))
+    ⊎ ((text : List ℕ) × LineRefuses origins line text × (led ≡ record (idle s) { text = text })
+    × (ending ≡ Refused))

@@ -24,7 +24,8 @@ pub trait ScriptDevice: Sectors + Drop {
     fn after_crash(self, keep: Keep<'_>) -> Self
         ensures honest { Self.is_honest self → Self.is_honest result }
         ensures kept { Self.is_honest self → Only (left_by self keep.entry) (Self.may_leave result) }
-        ensures left { (c : List (List ℕ)) → Self.is_honest self → Self.may_leave result c → Self.may_leave self c };
+        ensures left { (c : List (List ℕ)) → Self.is_honest self → Self.may_leave result c
+            → Self.may_leave self c };
 }
 
 /// How many writes and syncs a device in memory can record for each of its sectors, and how many more.
@@ -33,7 +34,8 @@ const CALLS_A_SECTOR: usize = 2;
 const MORE_CALLS: usize = 4096;
 
 impl ScriptDevice for MemorySectors {
-    ghost left_by = { λ device keep. applied (kept keep 1 (disk_of device).pending) (disk_of device).durable };
+    ghost left_by = { λ device keep. applied (kept keep 1 (disk_of device).pending)
+        (disk_of device).durable };
 
     fn make(alloc: Heap, len: usize, plan: Rc<Plan, Heap>) -> Result<MemorySectors, AllocError> {
         let calls = len

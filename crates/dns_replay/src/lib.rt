@@ -1,4 +1,5 @@
-//! Scripts run over a primary and its devices: each line an event, a plan or a crash, and what it does in print.
+//! Scripts run over a primary and its devices: each line an event, a plan or a crash, and what it does in
+//! print.
 #![tactic(auto)]
 
 mod device;

@@ -1,4 +1,5 @@
-//! A script over zones that were loaded: a device is made for each, with its store, and the primary is opened over them.
+//! A script over zones that were loaded: a device is made for each, with its store, and the primary is opened
+//! over them.
 ghost use Rattle.std.specs.Prelude.{◌≡◌, ◌≢◌, ◌∷◌, ◌++◌, [], length, map, IfErr, IfOk, OnOk};
 ghost use Rattle.dns_held.specs.Each.{Each2, Each3};
 ghost use Rattle.dns_script.specs.Lines.{lines};
@@ -93,8 +94,8 @@ fn make_all<D: ScriptDevice, I: ZoneIndex>(
     Ok(devices)
 }
 
-/// Opens the primary over devices that were made for zones, and runs a script. The world's names and settings are those of the zones,
-/// in one order, and the settings come twice.
+/// Opens the primary over devices that were made for zones, and runs a script. The world's names and settings
+/// are those of the zones, in one order, and the settings come twice.
 fn replay_over<D: ScriptDevice, I: ZoneIndex, W: Write>(
     world: World<'_>,
     zones: &[Zone<I>],
@@ -115,8 +116,9 @@ fn replay_over<D: ScriptDevice, I: ZoneIndex, W: Write>(
     }
 }
 
-/// Makes a device for each zone, with its store, opens the primary over them, and runs a script: see `run_script`. The zones and their
-/// settings stand in one order. Refused where no store can be made of a zone.
+/// Makes a device for each zone, with its store, opens the primary over them, and runs a script: see
+/// `run_script`. The zones and their settings stand in one order. Refused where no store can be made of a
+/// zone.
 pub fn replay_zones<D: ScriptDevice, I: ZoneIndex, W: Write>(
     alloc: Heap,
     zones: Vec<Zone<I>, Heap>,
@@ -126,8 +128,8 @@ pub fn replay_zones<D: ScriptDevice, I: ZoneIndex, W: Write>(
 ) -> Result<Ending, NotMade>
     requires { length zones.items ≡ length settings.items }
     ensures ran { IfOk result (λ ending. ending ≢ Ending.Failed
-        → RunsFrom D.Sectors D.left_by zones.entry.items settings.entry.items (lines script.now) ending (W.contents out.old)
-        (W.contents out.new)) }
+        → RunsFrom D.Sectors D.left_by zones.entry.items settings.entry.items (lines script.now) ending
+        (W.contents out.old) (W.contents out.new)) }
     ensures refused { IfErr result (λ _. W.contents out.new ≡ W.contents out.old) }
 {
     let no_memory = NotMade {

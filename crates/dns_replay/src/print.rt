@@ -6,8 +6,10 @@ ghost use Rattle.dns_primary.specs.Step.{Effects as Stated};
 ghost use Rattle.dns_primary.specs.Steps.{event_shown};
 ghost use Rattle.dns_primary.specs.Machine.{Machine};
 ghost use Rattle.dns_primary.specs.Keeps.{IsKept};
-ghost use Rattle.dns_replay.specs.Scripts.{printed_effects, printed_noted, printed_number, printed_refusal, printed_reply, printed_stop};
-ghost use Rattle.dns_replay.specs.Scripts.{printed_to, recovered_line, recovered_zone, recovered_zones, refusal_word, refused_line};
+ghost use Rattle.dns_replay.specs.Scripts.{printed_effects, printed_noted, printed_number, printed_refusal};
+ghost use Rattle.dns_replay.specs.Scripts.{printed_reply, printed_stop};
+ghost use Rattle.dns_replay.specs.Scripts.{printed_to, recovered_line, recovered_zone, recovered_zones};
+ghost use Rattle.dns_replay.specs.Scripts.{refusal_word, refused_line};
 ghost use Rattle.dns_replay.specs.Runs.{replies_out};
 
 use crate::device::ScriptDevice;
@@ -39,7 +41,8 @@ impl fmt::Display for Destination {
 
 /// Prints a reply: where it goes, and its octets.
 fn print_reply<W: Write>(alloc: Heap, to: To, octets: &[u8], out: &mut W) -> io::Result<()>
-    ensures { OnOk result (Appends (W.contents out.old) (W.contents out.new) (printed_reply (to, octets.now))) }
+    ensures { OnOk result
+        (Appends (W.contents out.old) (W.contents out.new) (printed_reply (to, octets.now))) }
 {
     let text = hex::encode(alloc, octets)?;
     writeln!(out, "{} {text}", Destination(to))
@@ -48,7 +51,8 @@ fn print_reply<W: Write>(alloc: Heap, to: To, octets: &[u8], out: &mut W) -> io:
 /// Prints replies that are a header alone.
 fn print_headers<W: Write>(alloc: Heap, headers: &[HeaderTo], out: &mut W) -> io::Result<()>
     ensures { OnOk result
-        (Appends (W.contents out.old) (W.contents out.new) (flat_map printed_reply (map header_out headers.now))) }
+        (Appends (W.contents out.old) (W.contents out.new)
+        (flat_map printed_reply (map header_out headers.now))) }
 {
     for header in headers {
         print_reply(alloc, header.to, &header.octets, out)?;
@@ -68,7 +72,8 @@ fn print_number<W: Write>(accepted: Option<usize>, out: &mut W) -> io::Result<()
 
 /// Prints the zone whose device failed first, if one did.
 fn print_noted<W: Write>(origins: &[Name], noted: Noted, out: &mut W) -> io::Result<()>
-    ensures { OnOk result (Appends (W.contents out.old) (W.contents out.new) (printed_noted origins.now noted)) }
+    ensures { OnOk result
+        (Appends (W.contents out.old) (W.contents out.new) (printed_noted origins.now noted)) }
 {
     let Noted::Device(place) = noted else {
         return Ok(());
@@ -81,7 +86,9 @@ fn print_noted<W: Write>(origins: &[Name], noted: Noted, out: &mut W) -> io::Res
 
 /// Prints the replies of an event: those that waited, and then the one to what came.
 fn print_replies<W: Write>(alloc: Heap, effects: &Effects, out: &mut W) -> io::Result<()>
-    ensures { OnOk result (Appends (W.contents out.old) (W.contents out.new) (flat_map printed_reply (replies_out effects.now))) }
+    ensures { OnOk result
+        (Appends (W.contents out.old) (W.contents out.new)
+        (flat_map printed_reply (replies_out effects.now))) }
 {
     print_headers(alloc, effects.headers.as_slice(), out)?;
     match &effects.reply {
@@ -101,7 +108,8 @@ pub(crate) fn print_effects<W: Write>(
     ensures { OnOk result
         ((stated : Stated)
         → AreEffects stated effects.now
-        → Appends (W.contents out.old) (W.contents out.new) (printed_effects origins.now (event_shown event.entry) stated)) }
+        → Appends (W.contents out.old) (W.contents out.new)
+        (printed_effects origins.now (event_shown event.entry) stated)) }
 {
     print_replies(alloc, effects, out)?;
     if let Event::Connect(_) = event {
@@ -124,7 +132,8 @@ fn print_recovered_zone<W: Write>(
     serial: u32,
     out: &mut W,
 ) -> io::Result<()>
-    ensures { OnOk result (Appends (W.contents out.old) (W.contents out.new) (recovered_line origin.now number serial)) }
+    ensures { OnOk result
+        (Appends (W.contents out.old) (W.contents out.new) (recovered_line origin.now number serial)) }
 {
     writeln!(out, "recovered {origin} version {number} serial {serial}")
 }
@@ -136,7 +145,8 @@ fn print_recovered_at<D: ScriptDevice, I: ZoneIndex, W: Write>(
     place: usize,
     out: &mut W,
 ) -> io::Result<()>
-    ensures { OnOk result ((m : Machine) → IsKept primary.now m → Appends (W.contents out.old) (W.contents out.new)
+    ensures { OnOk result
+        ((m : Machine) → IsKept primary.now m → Appends (W.contents out.old) (W.contents out.new)
         (recovered_zone (slice_get origins.now place) (slice_get m.zones place))) }
 {
     let Some(origin) = origins.get(place) else {
@@ -154,7 +164,8 @@ pub(crate) fn print_recovered<D: ScriptDevice, I: ZoneIndex, W: Write>(
     primary: &Primary<I, KeptStore<D, I>>,
     out: &mut W,
 ) -> io::Result<()>
-    ensures { OnOk result ((m : Machine) → IsKept primary.now m → Appends (W.contents out.old) (W.contents out.new)
+    ensures { OnOk result
+        ((m : Machine) → IsKept primary.now m → Appends (W.contents out.old) (W.contents out.new)
         (recovered_zones origins.now m.zones (length origins.now))) }
 {
     for place in 0..origins.len() {
@@ -183,7 +194,8 @@ impl fmt::Display for Refusal {
 
 /// Prints that the store of a zone is refused.
 fn print_refused_zone<W: Write>(origin: &Name, error: OpenError, out: &mut W) -> io::Result<()>
-    ensures { OnOk result (Appends (W.contents out.old) (W.contents out.new) (refused_line origin.now error)) }
+    ensures { OnOk result
+        (Appends (W.contents out.old) (W.contents out.new) (refused_line origin.now error)) }
 {
     writeln!(out, "refused {origin} {}", Refusal(error))
 }
@@ -196,7 +208,8 @@ pub(crate) fn print_refusal<W: Write>(
     out: &mut W,
 ) -> io::Result<()>
     ensures { OnOk result
-        (Appends (W.contents out.old) (W.contents out.new) (printed_refusal (slice_get origins.now place) error)) }
+        (Appends (W.contents out.old) (W.contents out.new)
+        (printed_refusal (slice_get origins.now place) error)) }
 {
     match origins.get(place) {
         Some(origin) => print_refused_zone(origin, error, out),

@@ -95,7 +95,8 @@ fn run_command<D: ScriptDevice, I: ZoneIndex, W: Write>(
     command: &Command,
     out: &mut W,
 ) -> io::Result<After>
-    ensures { IfOk result (DoesBy D.left_by world.entry.origins.now world.entry.settings.now (said_by (said command.now))
+    ensures { IfOk result
+        (DoesBy D.left_by world.entry.origins.now world.entry.settings.now (said_by (said command.now))
         primary.old devices.old.items primary.new devices.new.items
         (W.contents out.old) (W.contents out.new)) }
 {
@@ -151,8 +152,9 @@ fn run_line<D: ScriptDevice, I: ZoneIndex, W: Write>(
     }
 }
 
-/// Runs a script over a primary, whose zones have the names and the settings of the world and whose devices have its plan, and writes
-/// the effects of each line in order. What was written before a line that ends the run stays. A line ends with LF or CR LF.
+/// Runs a script over a primary, whose zones have the names and the settings of the world and whose devices
+/// have its plan, and writes the effects of each line in order. What was written before a line that ends the
+/// run stays. A line ends with LF or CR LF.
 pub fn run_script<D: ScriptDevice, I: ZoneIndex, W: Write>(
     world: World<'_>,
     primary: Primary<I, KeptStore<D, I>>,
@@ -160,8 +162,8 @@ pub fn run_script<D: ScriptDevice, I: ZoneIndex, W: Write>(
     out: &mut W,
 ) -> Ending
     ensures { result ≢ Ending.Failed
-        → RanScript D.left_by world.entry.origins.now world.entry.settings.now (lines script.now) result primary
-        (W.contents out.old) (W.contents out.new) }
+        → RanScript D.left_by world.entry.origins.now world.entry.settings.now
+        (lines script.now) result primary (W.contents out.old) (W.contents out.new) }
 {
     let mut running = Some(primary);
     let mut devices = Vec::new(world.heap);

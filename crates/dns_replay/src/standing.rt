@@ -1,5 +1,6 @@
 //! What a script runs over, and crashes of it.
-ghost use Rattle.std.specs.Prelude.{◌≡◌, ◌==◌, ℕ, suc, true, List, Some, None, find, map, IsSome, IfOk, MatchResult};
+ghost use Rattle.std.specs.Prelude.{◌≡◌, ◌==◌, ℕ, suc, true, List, Some, None, find, map, IsSome, IfOk};
+ghost use Rattle.std.specs.Prelude.{MatchResult};
 ghost use Rattle.std.specs.Option.{option_copied};
 ghost use Rattle.dns_names.specs.Name.{Labels};
 ghost use Rattle.dns_held.specs.Each.{Each2};
@@ -32,7 +33,8 @@ use std::alloc::AllocError;
 use std::io::{self, Write};
 use std::mem;
 
-/// What memory comes from, the names of the zones and their settings, in one order, and the plan by which their devices fail and stop.
+/// What memory comes from, the names of the zones and their settings, in one order, and the plan by which
+/// their devices fail and stop.
 #[derive(Clone, Copy)]
 pub struct World<'w> {
     /// What memory comes from.
@@ -86,7 +88,8 @@ fn said_of(keeps: &[ZoneKeep], place: usize) -> Option<&ZoneKeep>
     keeps.iter().find(|one| one.zone == place)
 }
 
-/// What is kept of the writes that are pending on the device of the zone at a place: none where nothing is said of it.
+/// What is kept of the writes that are pending on the device of the zone at a place: none where nothing is
+/// said of it.
 fn keep_at(keeps: &[ZoneKeep], place: usize) -> dns_sectors::Keep<'_>
     ensures { IsToldAs (keep_at (map said_zone_keep keeps.now) place) result }
 {
@@ -103,7 +106,8 @@ fn crash_all<D: ScriptDevice>(
     keeps: &[ZoneKeep],
 ) -> Result<Vec<D, Heap>, AllocError>
     ensures { IfOk result
-        (λ left. AreLeftBy D.Sectors D.left_by (map said_zone_keep keeps.now) 0 devices.entry.items left.items) }
+        (λ left. AreLeftBy D.Sectors D.left_by (map said_zone_keep keeps.now) 0
+        devices.entry.items left.items) }
 {
     let mut devices = devices;
     let count = devices.len();
@@ -121,9 +125,11 @@ fn open_again<D: ScriptDevice, I: ZoneIndex>(
     devices: Vec<D, Heap>,
 ) -> Result<Result<Primary<I, KeptStore<D, I>>, NotOpened<D>>, AllocError>
     ensures { IfOk result (λ opened. (m : Machine) (event : StatedEvent) (tries : ℕ)
-        → AreRecoverable D.Sectors tries m event 0 m.zones world.entry.origins.now world.entry.settings.now devices.entry.items
+        → AreRecoverable D.Sectors tries m event 0 m.zones world.entry.origins.now world.entry.settings.now
+        devices.entry.items
         → MatchResult opened (λ p. (new : Machine) × IsStopped tries m event new × IsKept p new)
-        (λ e. AreRecoverable D.Sectors (suc tries) m event 0 m.zones world.entry.origins.now world.entry.settings.now e.devices.items)) }
+        (λ e. AreRecoverable D.Sectors (suc tries) m event 0 m.zones world.entry.origins.now
+        world.entry.settings.now e.devices.items)) }
 {
     let settings = settings_again(world.heap, world.settings)?;
     if devices.len() != settings.len() || world.origins.len() != settings.len() {
@@ -132,8 +138,8 @@ fn open_again<D: ScriptDevice, I: ZoneIndex>(
     Ok(Primary::open(world.heap, devices, world.origins, settings))
 }
 
-/// Lets an event happen to a primary that takes events, and prints what it does; where a stop falls in it, it prints that alone, and
-/// the devices are left.
+/// Lets an event happen to a primary that takes events, and prints what it does; where a stop falls in it, it
+/// prints that alone, and the devices are left.
 fn run_step<D: ScriptDevice, I: ZoneIndex, W: Write>(
     world: World<'_>,
     running: Primary<I, KeptStore<D, I>>,
@@ -149,7 +155,7 @@ fn run_step<D: ScriptDevice, I: ZoneIndex, W: Write>(
     let mut running = running;
     let effects = happen(&mut running, world.heap, event);
     if world.plan.stopped() {
-        let left = devices_of(running)?;
+        let left = devices_of(world.heap, running)?;
         print_stop(out)?;
         *devices = left;
         return Ok(None);
@@ -158,8 +164,8 @@ fn run_step<D: ScriptDevice, I: ZoneIndex, W: Write>(
     Ok(Some(running))
 }
 
-/// Lets an event happen, and prints what it does; where a stop falls in it, or fell before, it prints that alone. A script stands with a
-/// primary that takes events, or, behind a stop, with its devices alone.
+/// Lets an event happen, and prints what it does; where a stop falls in it, or fell before, it prints that
+/// alone. A script stands with a primary that takes events, or, behind a stop, with its devices alone.
 pub(crate) fn run_event<D: ScriptDevice, I: ZoneIndex, W: Write>(
     world: World<'_>,
     primary: &mut Option<Primary<I, KeptStore<D, I>>>,
@@ -193,22 +199,24 @@ fn take_devices<D: ScriptDevice, I: ZoneIndex>(
     devices: &mut Vec<D, Heap>,
 ) -> Result<Vec<D, Heap>, AllocError>
     ensures taken { primary.new ≡ None }
-    ensures recoverable { IfOk result (λ left. (names : List Labels) (settings : List StatedSettings) (s : Stated)
+    ensures recoverable { IfOk result
+        (λ left. (names : List Labels) (settings : List StatedSettings) (s : Stated)
         → IsAt names settings primary.old devices.old.items s
         → AreSetAs names settings (machine_of s).zones
-        → AreRecoverable D.Sectors (tries_in s) (machine_of s) (event_in s) 0 (machine_of s).zones names settings left.items) }
+        → AreRecoverable D.Sectors (tries_in s) (machine_of s) (event_in s) 0
+        (machine_of s).zones names settings left.items) }
 {
     match primary.take() {
         Some(running) => {
-            let left = devices_of(running)?;
+            let left = devices_of(alloc, running)?;
             Ok(left)
         }
         None => Ok(mem::replace(devices, Vec::new(alloc))),
     }
 }
 
-/// Lets all devices crash, and opens the stores; with a number, the write or sync of the opening that has it is the last. Says what
-/// becomes of the run.
+/// Lets all devices crash, and opens the stores; with a number, the write or sync of the opening that has it
+/// is the last. Says what becomes of the run.
 pub(crate) fn crash<D: ScriptDevice, I: ZoneIndex, W: Write>(
     world: World<'_>,
     primary: &mut Option<Primary<I, KeptStore<D, I>>>,
@@ -273,18 +281,19 @@ fn keep_refused<D: ScriptDevice, W: Write>(
 
 /// The devices of a primary that stops.
 fn devices_of<D: ScriptDevice, I: ZoneIndex>(
+    alloc: Heap,
     primary: Primary<I, KeptStore<D, I>>,
 ) -> Result<Vec<D, Heap>, AllocError>
     ensures at_rest { IfOk result (λ devices. (m : Machine) (event : StatedEvent) (names : List Labels)
         (settings : List StatedSettings) → IsKept primary m → AreSetAs names settings m.zones
         → AreRecoverable D.Sectors 0 m event 0 m.zones names settings devices.items) }
-    ensures within { IfOk result (λ devices. (m : Machine) (event : StatedEvent) (before : _) (effects : StatedEffects)
+    ensures within { IfOk result
+        (λ devices. (m : Machine) (event : StatedEvent) (before : _) (effects : StatedEffects)
         (names : List Labels) (settings : List StatedSettings)
         → SteppedBy m event before primary effects → AreSetAs names settings m.zones
         → AreRecoverable D.Sectors 0 m event 0 m.zones names settings devices.items) }
 {
-    match primary.into_devices() {
-        Ok(devices) => Ok(devices),
-        Err(_) => Err(AllocError),
-    }
+    let mut devices = Vec::with_capacity(alloc, primary.zone_count())?;
+    primary.into_devices(&mut devices);
+    Ok(devices)
 }

@@ -1,7 +1,7 @@
 //! Primaries over any store, as a script lets events happen to them and sees what they show.
 //!
-//! A call that names both a store over a device and the memory of every collection has no proof, so here the memory, the event and its
-//! effects are type parameters.
+//! A call that names both a store over a device and the memory of every collection has no proof, so here the
+//! memory, the event and its effects are type parameters.
 ghost use Rattle.std.specs.Prelude.{◌≡◌, ℕ, Option, slice_get};
 ghost use Rattle.dns_primary.specs.Machine.{Machine};
 ghost use Rattle.dns_primary.specs.Keeps.{IsKept};
@@ -24,7 +24,8 @@ pub(crate) trait TakesEvents<H, E, R> {
 }
 
 impl<'e, I: ZoneIndex, S: ZoneStore> TakesEvents<Heap, Event<'e>, Effects> for Primary<I, S> {
-    ghost stepped = { λ old new event effects. (m : Machine) → IsKept old m → SteppedBy m (event_shown event) old new effects };
+    ghost stepped = { λ old new event effects. (m : Machine) → IsKept old m
+        → SteppedBy m (event_shown event) old new effects };
 
     fn take_event(&mut self, heap: Heap, event: Event<'e>) -> Effects {
         self.step(heap, event)
@@ -49,7 +50,8 @@ pub(crate) trait ShowsVersions {
 }
 
 impl<I: ZoneIndex, S: ZoneStore> ShowsVersions for Primary<I, S> {
-    ghost shows = { λ p place version. (m : Machine) → IsKept p m → version ≡ shown_version (slice_get m.zones place) };
+    ghost shows = { λ p place version. (m : Machine) → IsKept p m
+        → version ≡ shown_version (slice_get m.zones place) };
 
     fn version_at(&self, place: usize) -> Option<(u64, u32)> {
         let (number, zone) = self.shown(place)?;

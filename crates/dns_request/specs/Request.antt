@@ -1,5 +1,6 @@
 -- What octets are as a request.
-use Rattle.std.specs.Prelude.{◌≡◌, ℕ, Bool, false, not, ◌&&◌, ◌||◌, ◌==◌, nat_lt, List, [], ◌∷◌, length, Option, Some, None, if◌then◌else◌}
+use Rattle.std.specs.Prelude.{◌≡◌, ℕ, Bool, false, not, ◌&&◌, ◌||◌, ◌==◌, nat_lt, List, [], ◌∷◌, length}
+use Rattle.std.specs.Prelude.{Option, Some, None, if◌then◌else◌}
 use Rattle.dns_records.specs.Types.{type_ixfr, type_axfr, type_mailb, type_maila, class_in}
 use Rattle.dns_wire.specs.Message.{Question, Message, header_of}
 use Rattle.dns_wire.specs.Reads.{Reads}
@@ -24,8 +25,9 @@ opcode_query = 0
 abbrev pub opcode_update : ℕ
 opcode_update = 5
 
--- What octets that came are: they get no reply; a header alone with a response code; their question back with a response code; or
--- they are a query, an update or a transfer request, each with its message and its one question.
+-- What octets that came are: they get no reply; a header alone with a response code; their question back with
+-- a response code; or they are a query, an update or a transfer request, each with its message and its one
+-- question.
 pub data Request : Type 0 where
   Ignored : Request
   Refused : ℕ → Request
@@ -47,7 +49,8 @@ question_as m q =
 abbrev pub has_counts : Message → Question → Bool
 has_counts m q =
     length m.additionals == 0
-    && (m.header.opcode == opcode_update || length m.answers == 0 && (length m.authorities == 0 || q.qtype == type_ixfr))
+    && (m.header.opcode == opcode_update
+    || length m.answers == 0 && (length m.authorities == 0 || q.qtype == type_ixfr))
 
 -- A message, given its questions.
 abbrev pub message_as : Message → List Question → Request
@@ -68,7 +71,8 @@ too_long Tcp octets = false
 abbrev pub request_as : List ℕ → Transport → Option Message → Request
 request_as octets transport read =
     if nat_lt (length octets) 12 || (header_of octets).qr then Ignored
-    else if not ((header_of octets).opcode == opcode_query || (header_of octets).opcode == opcode_update) then Refused rcode_notimp
+    else if not ((header_of octets).opcode == opcode_query || (header_of octets).opcode == opcode_update)
+    then Refused rcode_notimp
     else if too_long transport octets then Refused rcode_formerr
     else read_as read
 

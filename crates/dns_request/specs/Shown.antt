@@ -4,7 +4,8 @@ use Rattle.dns_wire.specs.Message.{header_of}
 use Rattle.dns_wire.specs.Codes.{number_of_rcode}
 use Rattle.dns_request.specs.Request as request
 use Rattle.dns_request.specs.declared.request.Request.{Request}
-use Rattle.dns_request.specs.declared.request.Request.TheVariants.{Ignored, Refused, NotServed, Query, Update, Transfer}
+use Rattle.dns_request.specs.declared.request.Request.TheVariants.{Ignored, Refused, NotServed, Query, Update}
+use Rattle.dns_request.specs.declared.request.Request.TheVariants.{Transfer}
 
 abbrev pub request_shown : Request → request.Request
 request_shown Ignored = request.Ignored

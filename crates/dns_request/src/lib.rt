@@ -1,5 +1,5 @@
-//! The one door for requests: what octets that came are, whichever transport they came by (RFC 1035 section 4.1, RFC 2136
-//! section 2).
+//! The one door for requests: what octets that came are, whichever transport they came by (RFC 1035
+//! section 4.1, RFC 2136 section 2).
 #![tactic(auto)]
 
 mod order;

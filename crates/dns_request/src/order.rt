@@ -35,8 +35,8 @@ fn opcode_number(octets: &[u8]) -> u8
     octets[2] / 8 % 16
 }
 
-/// Whether the message has the counts of a request: no additional records, and in a query no others but those of an IXFR (RFC 1995
-/// section 3).
+/// Whether the message has the counts of a request: no additional records, and in a query no others but those
+/// of an IXFR (RFC 1995 section 3).
 fn has_counts(message: &Message<'_>, question: &QuestionView<'_>) -> bool
     ensures { result ≡ has_counts message.now.message question.now }
 {
@@ -48,7 +48,8 @@ fn has_counts(message: &Message<'_>, question: &QuestionView<'_>) -> bool
 
 /// A message with its one question, by its kind, its type and its class.
 fn by_question(request: RequestMessage<'_>) -> Request<'_>
-    ensures request { request_shown result ≡ question_as request.entry.message.message request.entry.question }
+    ensures request { request_shown result
+        ≡ question_as request.entry.message.message request.entry.question }
     ensures of { IsOf request.entry.message.octets result }
 {
     if request.message.opcode() == Opcode::Update.number() {
@@ -70,7 +71,8 @@ fn by_question(request: RequestMessage<'_>) -> Request<'_>
 /// A message, by its questions and its counts.
 fn by_message<'a>(message: Message<'a>, header: &'a [u8; 12]) -> Request<'a>
     requires { header_of header.now ≡ header_of message.octets }
-    ensures request { request_shown result ≡ message_as message.entry.message message.entry.message.questions }
+    ensures request { request_shown result
+        ≡ message_as message.entry.message message.entry.message.questions }
     ensures of { IsOf message.entry.octets result }
 {
     match message.question() {
@@ -85,8 +87,8 @@ fn by_message<'a>(message: Message<'a>, header: &'a [u8; 12]) -> Request<'a>
 ///
 /// - Fewer than 12 octets, or a response: ignored.
 /// - An OPCODE other than QUERY and UPDATE: NOTIMP.
-/// - More than 512 octets by UDP; no message; another number of questions than one; additional records; in a query records in the
-///   answer section, or in the authority section unless the type is IXFR: FORMERR.
+/// - More than 512 octets by UDP; no message; another number of questions than one; additional records; in a
+///   query records in the answer section, or in the authority section unless the type is IXFR: FORMERR.
 /// - An update; a question of type IXFR or AXFR: as they are called.
 /// - A question of type MAILB or MAILA: NOTIMP. In another class than IN: REFUSED.
 /// - Else a query.

@@ -40,7 +40,8 @@ pub enum Request<'a> {
     Ignored,
     /// They get a header alone, made from theirs, with this response code.
     Refused(&'a [u8; 12], Rcode),
-    /// A query for a type or in a class that is not served: it gets its question back, with this response code.
+    /// A query for a type or in a class that is not served: it gets its question back, with this response
+    /// code.
     NotServed(RequestMessage<'a>, Rcode),
     /// A question (RFC 1035 section 4.1.2).
     Query(RequestMessage<'a>),

@@ -1,5 +1,6 @@
 -- The commands of a script, and what lines say them.
-use Rattle.std.specs.Prelude.{◌≡◌, ◌^◌, ◌<◌, ◌≤◌, ◌==◌, ℕ, Bool, false, List, [], ◌∷◌, length, map, Ok, Some, codes, if◌then◌else◌}
+use Rattle.std.specs.Prelude.{◌≡◌, ◌^◌, ◌<◌, ◌≤◌, ◌==◌, ℕ, Bool, false, List, [], ◌∷◌, length, map, Ok, Some}
+use Rattle.std.specs.Prelude.{codes, if◌then◌else◌}
 use Rattle.std.specs.declared.net.ip_addr.IpAddr.{IpAddr}
 use Rattle.hex.specs.Hex.{decode_of}
 use Rattle.dns_policy.specs.Address.{IsAddress}
@@ -42,17 +43,23 @@ pub record IsCount (text : List ℕ) (n : ℕ) : Type 0 where
   pub number : IsNumber text n
   pub some : 0 < n
 
--- A blank line or a comment; `udp ADDR HEX`, `connect ADDR`, `tcp N HEX`, `pump N`, `close N`, `flush`, `checkpoint ORIGIN`,
--- `fail N`, `stop N`, `crash [ORIGIN=LIST ..]`, `reopen N [ORIGIN=LIST ..]`, each ORIGIN the name of one of these zones.
+-- A blank line or a comment; `udp ADDR HEX`, `connect ADDR`, `tcp N HEX`, `pump N`, `close N`, `flush`,
+-- `checkpoint ORIGIN`, `fail N`, `stop N`, `crash [ORIGIN=LIST ..]`, `reopen N [ORIGIN=LIST ..]`, each ORIGIN
+-- the name of one of these zones.
 abbrev pub AreWordsOf : List Labels → List (List ℕ) → Command → Type 0
 AreWordsOf origins line Nothing = line ≡ []
 AreWordsOf origins line (Datagram peer octets) =
-    (address hex : List ℕ) × (line ≡ codes "udp" ∷ address ∷ hex ∷ []) × IsAddress address peer × HasOctets hex octets
-AreWordsOf origins line (Connect peer) = (address : List ℕ) × (line ≡ codes "connect" ∷ address ∷ []) × IsAddress address peer
+    (address hex : List ℕ) × (line ≡ codes "udp" ∷ address ∷ hex ∷ []) × IsAddress address peer
+    × HasOctets hex octets
+AreWordsOf origins line (Connect peer) =
+    (address : List ℕ) × (line ≡ codes "connect" ∷ address ∷ []) × IsAddress address peer
 AreWordsOf origins line (Message number octets) =
-    (digits hex : List ℕ) × (line ≡ codes "tcp" ∷ digits ∷ hex ∷ []) × IsNumber digits number × HasOctets hex octets
-AreWordsOf origins line (Pump number) = (digits : List ℕ) × (line ≡ codes "pump" ∷ digits ∷ []) × IsNumber digits number
-AreWordsOf origins line (Close number) = (digits : List ℕ) × (line ≡ codes "close" ∷ digits ∷ []) × IsNumber digits number
+    (digits hex : List ℕ) × (line ≡ codes "tcp" ∷ digits ∷ hex ∷ []) × IsNumber digits number
+    × HasOctets hex octets
+AreWordsOf origins line (Pump number) =
+    (digits : List ℕ) × (line ≡ codes "pump" ∷ digits ∷ []) × IsNumber digits number
+AreWordsOf origins line (Close number) =
+    (digits : List ℕ) × (line ≡ codes "close" ∷ digits ∷ []) × IsNumber digits number
 AreWordsOf origins line Flush = line ≡ codes "flush" ∷ []
 AreWordsOf origins line (Checkpoint zone) =
     (origin : List ℕ) × (line ≡ codes "checkpoint" ∷ origin ∷ []) × (place_named origins origin ≡ Some zone)

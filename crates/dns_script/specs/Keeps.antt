@@ -1,5 +1,6 @@
 -- What a crash keeps of the writes that are pending on the devices of zones, as words say it.
-use Rattle.std.specs.Prelude.{ℕ, ◌^◌, ◌==◌, Bool, false, ◌||◌, nat_lt, List, [], ◌∷◌, ◌++◌, position, Option, Some, None, Result, Ok, Err, option_map, bytes_eq, codes, if◌then◌else◌}
+use Rattle.std.specs.Prelude.{ℕ, ◌^◌, ◌==◌, Bool, false, ◌||◌, nat_lt, List, [], ◌∷◌, ◌++◌, position, Option}
+use Rattle.std.specs.Prelude.{Some, None, Result, Ok, Err, option_map, bytes_eq, codes, if◌then◌else◌}
 use Rattle.std.specs.List.{after_first, before_first, slice_split}
 use Rattle.dns_names.specs.Name.{Labels, names_eq}
 use Rattle.dns_names.specs.Text.{name_of_text}
@@ -37,7 +38,8 @@ numbers_behind before last (text ∷ rest) = elim (if_greater last (number_of_te
 -- `all`, or numbers from 1, rising, with commas between.
 abbrev pub keep_of : List ℕ → Option Keep
 keep_of text =
-    if bytes_eq text (codes "all") then Some All else option_map These (numbers_behind [] 0 (slice_split is_comma text))
+    if bytes_eq text (codes "all") then Some All
+    else option_map These (numbers_behind [] 0 (slice_split is_comma text))
 
 -- The place of the first zone of that name.
 abbrev pub place_under : List Labels → Result Labels NameError → Option ℕ
@@ -57,7 +59,8 @@ kept_at (Some zone) (Some keep) = Some (record { zone = zone; keep = keep })
 abbrev pub zone_keep_of : List Labels → List ℕ → Option ZoneKeep
 zone_keep_of origins word = elim (position is_equals word) [
   | None ↦ None
-  | Some at ↦ kept_at (place_named origins (before_first is_equals word)) (keep_of (after_first is_equals word))
+  | Some at ↦
+      kept_at (place_named origins (before_first is_equals word)) (keep_of (after_first is_equals word))
 ]
 
 abbrev pub is_among : ℕ → List ZoneKeep → Bool

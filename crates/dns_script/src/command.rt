@@ -1,7 +1,8 @@
 //! The commands of a script, one a line.
 ghost use Rattle.std.specs.Prelude.{◌≡◌, ℕ, List, [], ◌∷◌, length, MatchOption, IfOk, Some, codes};
 ghost use Rattle.dns_names.specs.Name.{Labels};
-ghost use Rattle.dns_script.specs.Commands.{AreWordsOf, Command as Stated, HasOctets, IsCount, IsNumber, Says, is_comment, said};
+ghost use Rattle.dns_script.specs.Commands.{AreWordsOf, Command as Stated, HasOctets, IsCount, IsNumber};
+ghost use Rattle.dns_script.specs.Commands.{Says, is_comment, said};
 ghost use Rattle.dns_script.specs.Lines.{words};
 
 use crate::keeps::{ZoneKeep, keeps, place_named};
@@ -97,7 +98,8 @@ fn message(alloc: Heap, rest: &[u8]) -> Result<Option<Command>, AllocError>
 
 /// The command whose words are `connect` and these.
 fn connect(rest: &[u8]) -> Option<Command>
-    ensures { (origins : List Labels) → MatchOption result ((c : Stated) → ¬ (AreWordsOf origins (codes "connect" ∷ words rest.now) c))
+    ensures { (origins : List Labels)
+        → MatchOption result ((c : Stated) → ¬ (AreWordsOf origins (codes "connect" ∷ words rest.now) c))
         (λ c. AreWordsOf origins (codes "connect" ∷ words rest.now) (said c)) }
 {
     let peer = address(only_word(rest)?)?;
@@ -106,7 +108,8 @@ fn connect(rest: &[u8]) -> Option<Command>
 
 /// The command whose words are `close` and these.
 fn close(rest: &[u8]) -> Option<Command>
-    ensures { (origins : List Labels) → MatchOption result ((c : Stated) → ¬ (AreWordsOf origins (codes "close" ∷ words rest.now) c))
+    ensures { (origins : List Labels)
+        → MatchOption result ((c : Stated) → ¬ (AreWordsOf origins (codes "close" ∷ words rest.now) c))
         (λ c. AreWordsOf origins (codes "close" ∷ words rest.now) (said c)) }
 {
     let connection = number(only_word(rest)?)?;
@@ -115,7 +118,8 @@ fn close(rest: &[u8]) -> Option<Command>
 
 /// The command whose words are `pump` and these.
 fn pump(rest: &[u8]) -> Option<Command>
-    ensures { (origins : List Labels) → MatchOption result ((c : Stated) → ¬ (AreWordsOf origins (codes "pump" ∷ words rest.now) c))
+    ensures { (origins : List Labels)
+        → MatchOption result ((c : Stated) → ¬ (AreWordsOf origins (codes "pump" ∷ words rest.now) c))
         (λ c. AreWordsOf origins (codes "pump" ∷ words rest.now) (said c)) }
 {
     let connection = number(only_word(rest)?)?;
@@ -124,7 +128,8 @@ fn pump(rest: &[u8]) -> Option<Command>
 
 /// The command whose words are `flush` and these.
 fn flush(rest: &[u8]) -> Option<Command>
-    ensures { (origins : List Labels) → MatchOption result ((c : Stated) → ¬ (AreWordsOf origins (codes "flush" ∷ words rest.now) c))
+    ensures { (origins : List Labels)
+        → MatchOption result ((c : Stated) → ¬ (AreWordsOf origins (codes "flush" ∷ words rest.now) c))
         (λ c. AreWordsOf origins (codes "flush" ∷ words rest.now) (said c)) }
 {
     match first_word(rest) {
@@ -146,7 +151,8 @@ fn count(text: &[u8]) -> Option<u32>
 
 /// The command whose words are `fail` and these.
 fn fail(rest: &[u8]) -> Option<Command>
-    ensures { (origins : List Labels) → MatchOption result ((c : Stated) → ¬ (AreWordsOf origins (codes "fail" ∷ words rest.now) c))
+    ensures { (origins : List Labels)
+        → MatchOption result ((c : Stated) → ¬ (AreWordsOf origins (codes "fail" ∷ words rest.now) c))
         (λ c. AreWordsOf origins (codes "fail" ∷ words rest.now) (said c)) }
 {
     let n = count(only_word(rest)?)?;
@@ -155,7 +161,8 @@ fn fail(rest: &[u8]) -> Option<Command>
 
 /// The command whose words are `stop` and these.
 fn stop(rest: &[u8]) -> Option<Command>
-    ensures { (origins : List Labels) → MatchOption result ((c : Stated) → ¬ (AreWordsOf origins (codes "stop" ∷ words rest.now) c))
+    ensures { (origins : List Labels)
+        → MatchOption result ((c : Stated) → ¬ (AreWordsOf origins (codes "stop" ∷ words rest.now) c))
         (λ c. AreWordsOf origins (codes "stop" ∷ words rest.now) (said c)) }
 {
     let n = count(only_word(rest)?)?;
@@ -165,7 +172,8 @@ fn stop(rest: &[u8]) -> Option<Command>
 /// The command whose words are `checkpoint` and these.
 fn checkpoint(alloc: Heap, origins: &[Name], rest: &[u8]) -> Result<Option<Command>, AllocError>
     ensures { IfOk result
-        (λ read. MatchOption read ((c : Stated) → ¬ (AreWordsOf origins.now (codes "checkpoint" ∷ words rest.now) c))
+        (λ read. MatchOption read
+        ((c : Stated) → ¬ (AreWordsOf origins.now (codes "checkpoint" ∷ words rest.now) c))
         (λ c. AreWordsOf origins.now (codes "checkpoint" ∷ words rest.now) (said c))) }
 {
     let Some(origin) = only_word(rest) else {
@@ -180,7 +188,8 @@ fn checkpoint(alloc: Heap, origins: &[Name], rest: &[u8]) -> Result<Option<Comma
 /// The command whose words are `crash` and these.
 fn crash(alloc: Heap, origins: &[Name], rest: &[u8]) -> Result<Option<Command>, AllocError>
     ensures { IfOk result
-        (λ read. MatchOption read ((c : Stated) → ¬ (AreWordsOf origins.now (codes "crash" ∷ words rest.now) c))
+        (λ read. MatchOption read
+        ((c : Stated) → ¬ (AreWordsOf origins.now (codes "crash" ∷ words rest.now) c))
         (λ c. AreWordsOf origins.now (codes "crash" ∷ words rest.now) (said c))) }
 {
     match keeps(alloc, origins, rest)? {
@@ -192,7 +201,8 @@ fn crash(alloc: Heap, origins: &[Name], rest: &[u8]) -> Result<Option<Command>, 
 /// The command whose words are `reopen` and these.
 fn reopen(alloc: Heap, origins: &[Name], rest: &[u8]) -> Result<Option<Command>, AllocError>
     ensures { IfOk result
-        (λ read. MatchOption read ((c : Stated) → ¬ (AreWordsOf origins.now (codes "reopen" ∷ words rest.now) c))
+        (λ read. MatchOption read
+        ((c : Stated) → ¬ (AreWordsOf origins.now (codes "reopen" ∷ words rest.now) c))
         (λ c. AreWordsOf origins.now (codes "reopen" ∷ words rest.now) (said c))) }
 {
     let Some((digits, behind)) = first_word(rest) else {
@@ -261,14 +271,16 @@ fn is_comment(line: &[u8]) -> bool
     line.first() == Some(&b'#')
 }
 
-/// The command that a line is, if it is one, where the zones have these names. Words are separated by spaces or tabs.
+/// The command that a line is, if it is one, where the zones have these names. Words are separated by spaces
+/// or tabs.
 pub fn read_command(
     alloc: Heap,
     origins: &[Name],
     line: &[u8],
 ) -> Result<Option<Command>, AllocError>
     ensures { IfOk result
-        (λ read. MatchOption read ((c : Stated) → ¬ (Says origins.now line.now c)) (λ c. Says origins.now line.now (said c))) }
+        (λ read. MatchOption read ((c : Stated) → ¬ (Says origins.now line.now c))
+        (λ c. Says origins.now line.now (said c))) }
 {
     if is_comment(line) {
         return Ok(Some(Command::Nothing));

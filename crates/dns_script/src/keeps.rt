@@ -1,9 +1,11 @@
-//! What a crash keeps of the writes that are pending on the devices of zones: the words behind `crash` and `reopen`.
+//! What a crash keeps of the writes that are pending on the devices of zones: the words behind `crash` and
+//! `reopen`.
 ghost use Rattle.std.specs.Prelude.{◌≡◌, ◌==◌, ◌∷◌, [], map, option_map, position, IfOk};
 ghost use Rattle.std.specs.List.{slice_split};
 ghost use Rattle.dns_names.specs.Name.{names_eq};
 ghost use Rattle.dns_script.specs.Commands.{said_keep, said_zone_keep};
-ghost use Rattle.dns_script.specs.Keeps.{is_among, is_comma, keep_of, keeps_of, numbers_behind, place_named, zone_keep_of};
+ghost use Rattle.dns_script.specs.Keeps.{is_among, is_comma, keep_of, keeps_of, numbers_behind, place_named};
+ghost use Rattle.dns_script.specs.Keeps.{zone_keep_of};
 ghost use Rattle.dns_script.specs.Lines.{words};
 
 use crate::lines::{cut_at, first_word};
@@ -33,7 +35,8 @@ pub struct ZoneKeep {
 /// The numbers that a text says: in decimal digits, rising from 1, with commas between.
 fn numbers(alloc: Heap, text: &[u8]) -> Result<Option<Vec<u64, Heap>>, AllocError>
     ensures { IfOk result
-        (λ read. option_map (λ numbers. numbers.items) read ≡ numbers_behind [] 0 (slice_split is_comma text.now)) }
+        (λ read. option_map (λ numbers. numbers.items) read
+        ≡ numbers_behind [] 0 (slice_split is_comma text.now)) }
 {
     let mut numbers = Vec::new(alloc);
     let mut last = 0;
@@ -87,7 +90,8 @@ pub(crate) fn place_named(
     }
 }
 
-/// What a word says of one zone: its name and what is kept, with `=` between. An `=` within the name is written `\061`.
+/// What a word says of one zone: its name and what is kept, with `=` between. An `=` within the name is
+/// written `\061`.
 fn zone_keep(alloc: Heap, origins: &[Name], word: &[u8]) -> Result<Option<ZoneKeep>, AllocError>
     ensures { IfOk result (λ read. option_map said_zone_keep read ≡ zone_keep_of origins.now word.now) }
 {
@@ -122,7 +126,8 @@ pub(crate) fn keeps(
     text: &[u8],
 ) -> Result<Option<Vec<ZoneKeep, Heap>>, AllocError>
     ensures { IfOk result
-        (λ read. option_map (λ keeps. map said_zone_keep keeps.items) read ≡ keeps_of origins.now (words text.now)) }
+        (λ read. option_map (λ keeps. map said_zone_keep keeps.items) read
+        ≡ keeps_of origins.now (words text.now)) }
 {
     let mut keeps = Vec::new(alloc);
     let mut rest = text;

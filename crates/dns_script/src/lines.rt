@@ -1,5 +1,6 @@
 //! Lines and words of a script.
-ghost use Rattle.std.specs.Prelude.{◌≡◌, ◌≢◌, ◌==◌, ◌<◌, ◌≤◌, ℕ, List, [], ◌∷◌, length, position, MatchOption, Some, None};
+ghost use Rattle.std.specs.Prelude.{◌≡◌, ◌≢◌, ◌==◌, ◌<◌, ◌≤◌, ℕ, List, [], ◌∷◌, length, position};
+ghost use Rattle.std.specs.Prelude.{MatchOption, Some, None};
 ghost use Rattle.std.specs.Option.{option_copied};
 ghost use Rattle.std.specs.Str.Lines.{strip_carriage_return};
 ghost use Rattle.std.specs.List.{after_first, before_first, slice_split};
@@ -22,7 +23,8 @@ fn first_blank(text: &[u8]) -> Option<usize>
 /// What stands before the first blank, and behind it.
 fn cut_at_blank(text: &[u8]) -> (&[u8], &[u8])
     ensures parts { MatchOption (position is_blank text.now) ((result.0.now ≡ text.now) × (result.1.now ≡ []))
-        (λ _. (result.0.now ≡ before_first is_blank text.now) × (result.1.now ≡ after_first is_blank text.now)) }
+        (λ _. (result.0.now ≡ before_first is_blank text.now)
+        × (result.1.now ≡ after_first is_blank text.now)) }
     ensures shorter { 0 < length text.now → length result.1.now < length text.now }
 {
     match first_blank(text) {
@@ -111,7 +113,8 @@ fn without_return(line: &[u8]) -> &[u8]
     }
 }
 
-/// The first line of a script, without what ends it, and what stands behind it if a line feed does. A line ends with LF or CR LF.
+/// The first line of a script, without what ends it, and what stands behind it if a line feed does. A line
+/// ends with LF or CR LF.
 pub fn split_line(script: &[u8]) -> (&[u8], Option<&[u8]>)
     ensures line { lines script.now ≡ result.0.now ∷ lines_left (option_copied result.1) }
     ensures less { room (option_copied result.1) ≤ length script.now }

@@ -26,7 +26,8 @@ soas_held (Some z) = soas z.records
 -- A query with no flag, with that question, and those records in its authority section (RFC 1035 4.1).
 abbrev pub query_with : Question → ℕ → List Record → Message
 query_with q id authority = record {
-  header = record { id = id; qr = false; opcode = opcode_query; aa = false; tc = false; rd = false; rcode = 0 };
+  header =
+      record { id = id; qr = false; opcode = opcode_query; aa = false; tc = false; rd = false; rcode = 0 };
   questions = q ∷ [];
   answers = [];
   authorities = map item_of authority;
@@ -41,10 +42,12 @@ request_message apex held id = query_with (question_asked apex held) id (soas_he
 abbrev pub asked_octets : Question → List ℕ
 asked_octets q = wire q.name ++ to_be_bytes w16 q.qtype ++ to_be_bytes w16 q.qclass
 
--- The header as octets: the number, no flag, one question, and so many records in the authority section (RFC 1035 4.1.1).
+-- The header as octets: the number, no flag, one question, and so many records in the authority section
+-- (RFC 1035 4.1.1).
 abbrev pub heading_octets : ℕ → ℕ → List ℕ
 heading_octets id authorities =
-    to_be_bytes w16 id ++ 0 ∷ 0 ∷ [] ++ to_be_bytes w16 1 ++ to_be_bytes w16 0 ++ to_be_bytes w16 authorities ++ to_be_bytes w16 0
+    to_be_bytes w16 id ++ 0 ∷ 0 ∷ [] ++ to_be_bytes w16 1 ++ to_be_bytes w16 0 ++ to_be_bytes w16 authorities
+    ++ to_be_bytes w16 0
 
 -- The octets of that query, its names compressed (RFC 1035 4.1.4).
 abbrev pub octets_with : Question → ℕ → List Record → List ℕ

@@ -9,7 +9,8 @@ pub data State : Type 0 where
   Led : (soa : Record) → State
   -- within a whole zone: the SOA that leads, and the records so far, with it
   Whole : (soa : Record) (set : List Record) → State
-  -- within a sequence, in the records that go: the SOA that leads, and the set reached, without the old SOA and what went
+  -- within a sequence, in the records that go: the SOA that leads, and the set reached, without the old SOA
+  -- and what went
   Removing : (soa : Record) (set : List Record) → State
   -- within a sequence, in the records that come: the same with its new SOA, and what came
   Adding : (soa : Record) (set : List Record) (reached : Record) → State

@@ -1,5 +1,6 @@
 -- What one record of an answer does, or the fault that it is.
-use Rattle.std.specs.Prelude.{◌≡◌, ◌⊎◌, not, ◌&&◌, ◌==◌, List, [], ◌∷◌, Option, Some, None, Result, Ok, Err, if◌then◌else◌}
+use Rattle.std.specs.Prelude.{◌≡◌, ◌⊎◌, not, ◌&&◌, ◌==◌, List, [], ◌∷◌, Option, Some, None, Result, Ok, Err}
+use Rattle.std.specs.Prelude.{if◌then◌else◌}
 use Rattle.dns_names.specs.Name.{Labels, names_eq}
 use Rattle.dns_records.specs.Record.{Record, IsData, serial_of}
 use Rattle.dns_records.specs.Types.{class_in}
@@ -9,7 +10,8 @@ use Rattle.dns_changes.specs.Change.{is_soa}
 use Rattle.dns_wire.specs.Message.{ResourceRecord, data_of_item, record_of_item}
 use Rattle.dns_secondary.specs.State.{State, Begun, Led, Whole, Removing, Adding, Ended}
 use Rattle.dns_secondary.specs.declared.fault.Fault.{Fault}
-use Rattle.dns_secondary.specs.declared.fault.Fault.TheVariants.{BadSequence, RemovesAbsent, AddsPresent, InvalidZone}
+use Rattle.dns_secondary.specs.declared.fault.Fault.TheVariants.{BadSequence, RemovesAbsent, AddsPresent}
+use Rattle.dns_secondary.specs.declared.fault.Fault.TheVariants.{InvalidZone}
 
 -- A record of a whole zone. One that comes twice counts once; with two TTLs the zone is none (RFC 2181 5).
 abbrev pub collect : Record → List Record → Record → Result State Fault
@@ -39,7 +41,8 @@ sequence_from soa set reached r = if same r reached then remove soa set r else E
 
 -- A new SOA that has the serial of the leading one is that one.
 abbrev pub new_soa : Record → List Record → Record → Result State Fault
-new_soa soa set r = if serial_of r == serial_of soa && not (same r soa) then Err BadSequence else add soa set r r
+new_soa soa set r =
+    if serial_of r == serial_of soa && not (same r soa) then Err BadSequence else add soa set r r
 
 -- The first sequence begins with the SOA of the version that is held, whose serial is not the leading one.
 abbrev pub first_sequence : Record → List Record → List Record → Record → Result State Fault
@@ -50,7 +53,8 @@ first_sequence soa set (reached ∷ rest) r =
 -- The second record: where a version is held, a SOA marks changes of it (RFC 1995 4).
 abbrev pub second : Option Zone → Record → Record → Result State Fault
 second None soa r = within_whole soa (soa ∷ []) r
-second (Some z) soa r = if is_soa r then first_sequence soa z.records (soas z.records) r else collect soa (soa ∷ []) r
+second (Some z) soa r =
+    if is_soa r then first_sequence soa z.records (soas z.records) r else collect soa (soa ∷ []) r
 
 -- The first record is a SOA at the apex (RFC 5936 2.2).
 abbrev pub begin : Labels → Record → Result State Fault
@@ -75,16 +79,19 @@ step apex held (Removing soa set) r = removing soa set r
 step apex held (Adding soa set reached) r = adding soa set reached r
 step apex held (Ended set) r = Err BadSequence
 
--- A record of a message that a zone can have: its class is IN, and its data has its form, so none of a known type is empty.
+-- A record of a message that a zone can have: its class is IN, and its data has its form, so none of a known
+-- type is empty.
 pub record IsFit (i : ResourceRecord) : Type 0 where
   pub class : i.class ≡ class_in
   pub data_is : IsData (data_of_item i)
 
 -- A record of a message leads from a state to the next, or is a fault.
-pub record Takes (apex : Labels) (held : Option Zone) (state : State) (i : ResourceRecord) (next : State) : Type 0 where
+pub record Takes (apex : Labels) (held : Option Zone) (state : State) (i : ResourceRecord)
+    (next : State) : Type 0 where
   pub fit : IsFit i
   pub steps : step apex held state (record_of_item i) ≡ Ok next
 
 abbrev pub Refuses : Labels → Option Zone → State → ResourceRecord → Fault → Type 0
 Refuses apex held state i fault =
-    ((IsFit i → ⊥) × (fault ≡ BadSequence)) ⊎ (IsFit i × (step apex held state (record_of_item i) ≡ Err fault))
+    ((IsFit i → ⊥) × (fault ≡ BadSequence))
+    ⊎ (IsFit i × (step apex held state (record_of_item i) ≡ Err fault))

@@ -70,8 +70,8 @@ pub record Applies (c : Change) (set result : List Record) : Type 0 where
   pub goes : Removes set (c.old_soa ∷ c.removed) left
   pub comes : Adds left (c.new_soa ∷ c.added) result
 
--- Sequences lead from a set to another, each from the SOA that was reached. The new SOA of the last is the leading one, and no new
--- SOA before has its serial (RFC 1995 4).
+-- Sequences lead from a set to another, each from the SOA that was reached. The new SOA of the last is the
+-- leading one, and no new SOA before has its serial (RFC 1995 4).
 abbrev pub Leads : (soa reached : Record) → List Record → List Change → List Record → Type 0
 Leads soa reached set [] result = ⊥
 Leads soa reached set (c ∷ []) result = (c.old_soa ≡ reached) × (c.new_soa ≡ soa) × Applies c set result
@@ -82,8 +82,8 @@ Leads soa reached set (c ∷ d ∷ rest) result =
     × Applies c set mid
     × Leads soa c.new_soa mid (d ∷ rest) result
 
--- A SOA whose serial is not that of the version that is held, sequences from that version on, and the same SOA, with the set
--- that the sequences lead to.
+-- A SOA whose serial is not that of the version that is held, sequences from that version on, and the same
+-- SOA, with the set that the sequences lead to.
 pub record HasChangedForm (apex : Labels) (held : Option Zone) (answer set : List Record) : Type 0 where
   pub soa : Record
   pub changes : List Change
@@ -103,7 +103,8 @@ pub record IsChanged (apex : Labels) (held : Option Zone) (answer set : List Rec
   pub valid : IsZone (record { apex = apex; records = set })
 
 -- The records of a message are records that a zone can have, and one of the three forms.
-pub record Taken (apex : Labels) (held : Option Zone) (answer : List ResourceRecord) (set : List Record) : Type 0 where
+pub record Taken (apex : Labels) (held : Option Zone) (answer : List ResourceRecord)
+    (set : List Record) : Type 0 where
   pub fit : AllByRecursion IsFit answer
   pub form : IsCurrent apex held (map record_of_item answer) set
       ⊎ IsWhole apex (map record_of_item answer) set

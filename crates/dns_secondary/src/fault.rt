@@ -13,7 +13,8 @@ pub enum Progress {
     Done,
     /// The version that is held is current (RFC 1995 section 2).
     UpToDate,
-    /// By UDP a newer SOA came alone: the answer is too long, and is to be asked for by TCP (RFC 1995 section 2).
+    /// By UDP a newer SOA came alone: the answer is too long, and is to be asked for by TCP (RFC 1995
+    /// section 2).
     RetryTcp,
 }
 

@@ -29,7 +29,8 @@ fn fault_of(error: RecordError) -> Fault
 /// A record of a message as a record of a zone.
 fn fit_record(alloc: Heap, item: &RecordView<'_>) -> Result<Record, Fault>
     ensures fit { IfOk result (λ r. IsFit item.now × (r ≡ record_of_item item.now)) }
-    ensures refused { IfErr result (λ e. (e ≡ Fault.OutOfMemory) ⊎ ((IsFit item.now → ⊥) × (e ≡ Fault.BadSequence))) }
+    ensures refused { IfErr result
+        (λ e. (e ≡ Fault.OutOfMemory) ⊎ ((IsFit item.now → ⊥) × (e ≡ Fault.BadSequence))) }
 {
     if item.class() != CLASS_IN {
         return Err(Fault::BadSequence);

@@ -14,16 +14,17 @@ ghost use Rattle.dns_secondary.specs.Receiving.{Receiving};
 ghost use Rattle.dns_secondary.specs.Told.{IsMore, Tells};
 ghost use Rattle.dns_secondary.specs.declared.fault.Progress.TheVariants.{More};
 
-/// What a whole answer means when it is read record by record is what it means by its form alone: the SOA of the version that is
-/// held, a whole zone, or changes of that version (RFC 1995 sections 2 and 4, RFC 5936 section 2.2).
+/// What a whole answer means when it is read record by record is what it means by its form alone: the SOA of
+/// the version that is held, a whole zone, or changes of that version (RFC 1995 sections 2 and 4, RFC 5936
+/// section 2.2).
 pub fn taken_law()
     ensures { (apex : Labels) (held : Option Zone) (answer : List ResourceRecord) (set : List Record)
         → (Taken apex held answer set ↔ Rest apex held Begun answer set) }
 {}
 
-/// `More` is told of a message exactly where the records of the answer so far, with its own, begin a longer list of one
-/// of the three forms, whether the set that such a list leads to is a zone or not; but of a SOA alone only where that is
-/// newer, and comes by TCP (RFC 1995 section 2).
+/// `More` is told of a message exactly where the records of the answer so far, with its own, begin a longer
+/// list of one of the three forms, whether the set that such a list leads to is a zone or not; but of a SOA
+/// alone only where that is newer, and comes by TCP (RFC 1995 section 2).
 pub fn more_law()
     ensures { (s : Receiving) (before records : List ResourceRecord) (at : State)
         → IfSome s.held IsZone

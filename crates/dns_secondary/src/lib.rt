@@ -1,4 +1,5 @@
-//! The receiving side of transfers of zones: what the messages of an answer make of the version that is held (RFC 5936, RFC 1995).
+//! The receiving side of transfers of zones: what the messages of an answer make of the version that is held
+//! (RFC 5936, RFC 1995).
 #![tactic(auto)]
 
 mod fault;

@@ -19,7 +19,8 @@ pub(crate) enum Phase {
     Whole(Record),
     /// Within the records that go of a sequence. The SOA leads the answer.
     Removing(Record),
-    /// Within the records that come of a sequence. The first SOA leads the answer, the second the records that come.
+    /// Within the records that come of a sequence. The first SOA leads the answer, the second the records
+    /// that come.
     Adding(Record, Record),
     /// Behind the last record.
     Ended,

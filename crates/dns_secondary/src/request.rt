@@ -1,5 +1,5 @@
-//! The request for a transfer: for a whole zone, or for the changes of a version that is held (RFC 5936 section 2.1, RFC 1995
-//! section 3).
+//! The request for a transfer: for a whole zone, or for the changes of a version that is held (RFC 5936
+//! section 2.1, RFC 1995 section 3).
 ghost use Rattle.std.specs.Prelude.{◌≡◌, ◌<◌, ◌≤◌, ◌^◌, length, IfOk, IfErr};
 ghost use Rattle.std.specs.List.{AllByRecursion};
 ghost use Rattle.dns_names.specs.Name.{IsName};
@@ -11,7 +11,8 @@ ghost use Rattle.dns_wire.specs.Reads.{Reads};
 ghost use Rattle.dns_wire.specs.Reply.{stated};
 ghost use Rattle.dns_request.specs.Request.{IsRequest, Transfer};
 ghost use Rattle.dns_secondary.specs.Receiving.{type_asked};
-ghost use Rattle.dns_secondary.specs.Request.{asked_octets, question_asked, soas_held, request_octets, request_message, most_by, as_reply};
+ghost use Rattle.dns_secondary.specs.Request.{asked_octets, question_asked, soas_held, request_octets};
+ghost use Rattle.dns_secondary.specs.Request.{request_message, most_by, as_reply};
 
 use dns_memory::Heap;
 use dns_names::Name;
@@ -49,7 +50,8 @@ fn most_by(transport: Transport) -> usize
 /// The octets of the question (RFC 1035 section 4.1.2).
 fn asked_octets(alloc: Heap, apex: &Name, qtype: u16) -> Result<Vec<u8, Heap>, AllocError>
     ensures { IfOk result
-        (λ octets. octets.items ≡ asked_octets (record { name = apex.now; qtype = qtype; qclass = class_in })) }
+        (λ octets. octets.items
+        ≡ asked_octets (record { name = apex.now; qtype = qtype; qclass = class_in })) }
 {
     let mut octets = Vec::new(alloc);
     octets.extend_from_slice(apex.as_wire())?;
@@ -123,7 +125,8 @@ pub(crate) fn request<I: ZoneIndex>(
         (λ octets. IsRequest octets.items transport
         (Transfer (request_message apex.now held.now id) (question_asked apex.now held.now))) }
     ensures fits { IfOk result (λ octets. length octets.items ≤ most_by transport) }
-    ensures refused { IfErr result (RefusesUpTo (most_by transport) (length (request_octets apex.now held.now id))) }
+    ensures refused { IfErr result
+        (RefusesUpTo (most_by transport) (length (request_octets apex.now held.now id))) }
 {
     let octets = asked_octets(alloc, apex, type_asked(held))?;
     let question = EchoedQuestion {

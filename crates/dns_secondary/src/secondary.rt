@@ -1,5 +1,7 @@
-//! One who holds a version of a zone, or nothing, and reads the answer to a request for a newer one (RFC 1995, RFC 5936).
-ghost use Rattle.std.specs.Prelude.{◌≡◌, ◌≢◌, ◌≤◌, ◌⊎◌, length, ◌==◌, ◌&&◌, true, Some, None, IfOk, IfErr, OnOk, OnErr};
+//! One who holds a version of a zone, or nothing, and reads the answer to a request for a newer one
+//! (RFC 1995, RFC 5936).
+ghost use Rattle.std.specs.Prelude.{◌≡◌, ◌≢◌, ◌≤◌, ◌⊎◌, length, ◌==◌, ◌&&◌, true, Some, None, IfOk, IfErr};
+ghost use Rattle.std.specs.Prelude.{OnOk, OnErr};
 ghost use Rattle.std.specs.Option.{option_copied};
 ghost use Rattle.dns_names.specs.Name.{names_eq};
 ghost use Rattle.dns_records.specs.Types.{class_in};
@@ -12,7 +14,8 @@ ghost use Rattle.dns_secondary.specs.State.{Begun, Led};
 ghost use Rattle.dns_secondary.specs.Rest.{is_current, Reaches, FailsBy};
 ghost use Rattle.dns_secondary.specs.Receiving.{header_fault, is_answer, repeats_question, type_asked};
 ghost use Rattle.dns_secondary.specs.Request.{question_asked, request_octets, request_message, most_by};
-ghost use Rattle.dns_secondary.specs.Told.{verdict, Concludes, Feeds, Hears, Tells, Fails, RefusesMessage, RefusesFrom, RefusesFeed, Ends, holding, after_fault};
+ghost use Rattle.dns_secondary.specs.Told.{verdict, Concludes, Feeds, Hears, Tells, Fails, RefusesMessage};
+ghost use Rattle.dns_secondary.specs.Told.{RefusesFrom, RefusesFeed, Ends, holding, after_fault};
 
 use crate::reading::{Phase, Reading};
 use crate::request::{request, type_asked};
@@ -28,8 +31,9 @@ use dns_zone::{Zone, ZoneIndex};
 use std::alloc::AllocError;
 use std::marker::Model;
 
-/// One who asked for a transfer of a zone: the version that is held, if one is, and how far the answer was read. The records
-/// of a message are applied to a fork of the set that was reached, beside the version that is held, and no message is kept.
+/// One who asked for a transfer of a zone: the version that is held, if one is, and how far the answer was
+/// read. The records of a message are applied to a fork of the set that was reached, beside the version that
+/// is held, and no message is kept.
 pub struct Secondary<I: ZoneIndex> {
     apex: Name,
     held: Option<Zone<I>>,
@@ -57,7 +61,8 @@ impl<I: ZoneIndex> Model for Secondary<I> {
 
     ghost Value = { Receiving };
 
-    ghost view = { λ s. record { apex = s.apex; held = s.held; id = s.id; transport = s.transport; state = s.reading } };
+    ghost view = { λ s.
+        record { apex = s.apex; held = s.held; id = s.id; transport = s.transport; state = s.reading } };
 }
 
 /// Whether a message has the question of the request, or none.
@@ -79,7 +84,9 @@ fn repeats_question<I: ZoneIndex>(
 
 /// Whether the question is for the zone of that apex, and that type.
 fn is_asked(apex: &Name, rtype: u16, question: &QuestionView<'_>) -> bool
-    ensures { result ≡ (names_eq question.now.name apex.now && question.now.qtype == rtype && question.now.qclass == class_in) }
+    ensures { result
+        ≡ (names_eq question.now.name apex.now && question.now.qtype == rtype
+        && question.now.qclass == class_in) }
 {
     let is_named = question.name().is(&apex.lend());
     is_named & (question.qtype() == rtype) & (question.qclass() == CLASS_IN)
@@ -111,8 +118,8 @@ fn is_current<I: ZoneIndex>(held: &Option<Zone<I>>, soa: &Record) -> bool
 }
 
 impl<I: ZoneIndex> Secondary<I> {
-    /// One who asks for the zone of that apex, by a request with that number: for the changes of the version that is held, or for
-    /// the whole zone where none is.
+    /// One who asks for the zone of that apex, by a request with that number: for the changes of the version
+    /// that is held, or for the whole zone where none is.
     pub fn new(
         alloc: Heap,
         apex: Name,
@@ -121,7 +128,8 @@ impl<I: ZoneIndex> Secondary<I> {
         transport: Transport,
     ) -> Result<Secondary<I>, AllocError>
         ensures { IfOk result
-            (λ s. s ≡ record { apex = apex; held = held; id = id; transport = transport; state = Some Begun }) }
+            (λ s. s
+            ≡ record { apex = apex; held = held; id = id; transport = transport; state = Some Begun }) }
     {
         match I::empty(alloc) {
             Ok(set) => Ok(Secondary {
@@ -148,19 +156,23 @@ impl<I: ZoneIndex> Secondary<I> {
         self.held.as_ref()
     }
 
-    /// The octets of the request: a query for the changes of the version that is held, whose SOA stands in its authority section, or
-    /// for the whole zone where none is (RFC 1995 section 3, RFC 5936 section 2.1). A server's door takes them for the request of a
-    /// transfer. It refuses with `DoesNotFit` where they are more than a message by that transport has, and with `OutOfMemory` where
-    /// memory is wanting.
+    /// The octets of the request: a query for the changes of the version that is held, whose SOA stands in
+    /// its authority section, or for the whole zone where none is (RFC 1995 section 3, RFC 5936 section 2.1).
+    /// A server's door takes them for the request of a transfer. It refuses with `DoesNotFit` where they are
+    /// more than a message by that transport has, and with `OutOfMemory` where memory is wanting.
     pub fn request(&self, alloc: Heap) -> Result<Vec<u8, Heap>, WriteError>
-        ensures asked { IfOk result (λ octets. octets.items ≡ request_octets self.now.apex self.now.held self.now.id) }
-        ensures read { IfOk result (λ octets. Reads octets.items (request_message self.now.apex self.now.held self.now.id)) }
+        ensures asked { IfOk result
+            (λ octets. octets.items ≡ request_octets self.now.apex self.now.held self.now.id) }
+        ensures read { IfOk result
+            (λ octets. Reads octets.items (request_message self.now.apex self.now.held self.now.id)) }
         ensures door { IfOk result
             (λ octets. IsRequest octets.items self.now.transport
-            (Transfer (request_message self.now.apex self.now.held self.now.id) (question_asked self.now.apex self.now.held))) }
+            (Transfer (request_message self.now.apex self.now.held self.now.id)
+            (question_asked self.now.apex self.now.held))) }
         ensures fits { IfOk result (λ octets. length octets.items ≤ most_by self.now.transport) }
         ensures refused { IfErr result
-            (RefusesUpTo (most_by self.now.transport) (length (request_octets self.now.apex self.now.held self.now.id))) }
+            (RefusesUpTo (most_by self.now.transport)
+            (length (request_octets self.now.apex self.now.held self.now.id))) }
     {
         request(alloc, &self.apex, &self.held, self.id, self.transport)
     }
@@ -192,7 +204,8 @@ impl<I: ZoneIndex> Secondary<I> {
 
     /// The message that octets are, if it is accepted.
     fn accept<'m>(&self, octets: &'m [u8]) -> Result<Message<'m>, Fault>
-        ensures read { IfOk result (λ m. Reads octets.now m.message × (header_fault self.now m.message ≡ None)) }
+        ensures read { IfOk result
+            (λ m. Reads octets.now m.message × (header_fault self.now m.message ≡ None)) }
         ensures refused { IfErr result (RefusesMessage self.now octets.now) }
     {
         match Message::read(octets) {
@@ -235,7 +248,8 @@ impl<I: ZoneIndex> Secondary<I> {
         ensures held { OnOk result (self.new ≡ holding self.old (I.records set)) }
         ensures valid { OnOk result (IsZone (record { apex = self.old.apex; records = I.records set })) }
         ensures refused { IfErr result
-            (λ e. (e ≡ Fault.OutOfMemory) ⊎ ((zone_fault self.old.apex (I.records set) ≢ None) × (e ≡ Fault.InvalidZone))) }
+            (λ e. (e ≡ Fault.OutOfMemory)
+            ⊎ ((zone_fault self.old.apex (I.records set) ≢ None) × (e ≡ Fault.InvalidZone))) }
         ensures stays { OnErr result (self.new ≡ self.old) }
     {
         match Zone::from_index(self.apex.clone()?, set) {
@@ -333,17 +347,19 @@ impl<I: ZoneIndex> Secondary<I> {
         }
     }
 
-    /// Reads the next message of the answer, and applies its records as they come. `More` is answered where they lead to a
-    /// state that is not at the answer's end, from which the next message is read. The tests are made in this order:
+    /// Reads the next message of the answer, and applies its records as they come. `More` is answered where
+    /// they lead to a state that is not at the answer's end, from which the next message is read. The tests
+    /// are made in this order:
     ///
     /// - `AfterEnd`: the answer is at its end, or was refused before.
     /// - `BadMessage`, `WrongId`, `Refused`: of the message's header and its question.
-    /// - `BadSequence`, `RemovesAbsent`, `AddsPresent`, `InvalidZone`: of its records, the first that is a fault; at the
-    ///   end of the answer, after the last record of the message, the set that is no valid zone.
+    /// - `BadSequence`, `RemovesAbsent`, `AddsPresent`, `InvalidZone`: of its records, the first that is a
+    ///   fault; at the end of the answer, after the last record of the message, the set that is no valid
+    ///   zone.
     ///
-    /// Where it is refused, the version that is held stays, and every later call answers `AfterEnd`, as after `Done`,
-    /// `UpToDate` and `RetryTcp`. `OutOfMemory`, which may come at any call, changes nothing: the same message can be fed
-    /// again.
+    /// Where it is refused, the version that is held stays, and every later call answers `AfterEnd`, as after
+    /// `Done`, `UpToDate` and `RetryTcp`. `OutOfMemory`, which may come at any call, changes nothing: the
+    /// same message can be fed again.
     pub fn feed(&mut self, alloc: Heap, octets: &[u8]) -> Result<Progress, Fault>
         ensures fed { IfOk result (λ progress. Feeds self.old octets.now progress self.new) }
         ensures refused { IfErr result (λ e. (e ≡ Fault.OutOfMemory) ⊎ RefusesFeed self.old octets.now e) }

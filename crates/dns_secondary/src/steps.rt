@@ -5,7 +5,8 @@ ghost use Rattle.dns_records.specs.Record.{serial_of};
 ghost use Rattle.dns_zone.specs.Zone.{soas};
 ghost use Rattle.dns_zone.specs.Records.{put, same};
 ghost use Rattle.dns_changes.specs.Change.{is_soa};
-ghost use Rattle.dns_secondary.specs.Step.{begin, collect, last, within_whole, remove, removing, add, adding, sequence_from, new_soa, first_sequence, second, step};
+ghost use Rattle.dns_secondary.specs.Step.{begin, collect, last, within_whole, remove, removing, add, adding};
+ghost use Rattle.dns_secondary.specs.Step.{sequence_from, new_soa, first_sequence, second, step};
 
 use crate::Fault;
 use crate::reading::{Phase, Reading};
@@ -89,7 +90,8 @@ fn end<I: ZoneIndex>(set: I, soa: &Record, r: &Record) -> Result<Reading<I>, Fau
 fn go_on<I: ZoneIndex>(set: I, soa: Record, r: Record) -> Result<Reading<I>, Fault>
     requires { is_soa soa ≡ true }
     ensures taken { IfOk result (λ next. within_whole soa (I.records set) r ≡ Ok next) }
-    ensures refused { IfErr result (λ e. (e ≡ Fault.OutOfMemory) ⊎ (within_whole soa (I.records set) r ≡ Err e)) }
+    ensures refused { IfErr result
+        (λ e. (e ≡ Fault.OutOfMemory) ⊎ (within_whole soa (I.records set) r ≡ Err e)) }
 {
     if is_soa(&r) {
         return end(set, &soa, &r);
@@ -101,7 +103,8 @@ fn go_on<I: ZoneIndex>(set: I, soa: Record, r: Record) -> Result<Reading<I>, Fau
 fn remove<I: ZoneIndex>(set: I, soa: Record, r: &Record) -> Result<Reading<I>, Fault>
     requires { is_soa soa ≡ true }
     ensures taken { IfOk result (λ next. remove soa (I.records set) r.now ≡ Ok next) }
-    ensures refused { IfErr result (λ e. (e ≡ Fault.OutOfMemory) ⊎ (remove soa (I.records set) r.now ≡ Err e)) }
+    ensures refused { IfErr result
+        (λ e. (e ≡ Fault.OutOfMemory) ⊎ (remove soa (I.records set) r.now ≡ Err e)) }
 {
     let mut set = set;
     if !take_out(&mut set, r)? {
@@ -118,7 +121,8 @@ fn add<I: ZoneIndex>(set: I, soa: Record, reached: Record, r: Record) -> Result<
     requires leading { is_soa soa ≡ true }
     requires new { is_soa reached ≡ true }
     ensures taken { IfOk result (λ next. add soa (I.records set) reached r ≡ Ok next) }
-    ensures refused { IfErr result (λ e. (e ≡ Fault.OutOfMemory) ⊎ (add soa (I.records set) reached r ≡ Err e)) }
+    ensures refused { IfErr result
+        (λ e. (e ≡ Fault.OutOfMemory) ⊎ (add soa (I.records set) reached r ≡ Err e)) }
 {
     let mut set = set;
     if holds_key(&set, &r) {
@@ -264,7 +268,8 @@ fn go_on_adding<I: ZoneIndex>(
     requires leading { is_soa soa ≡ true }
     requires new { is_soa reached ≡ true }
     ensures taken { IfOk result (λ next. adding soa (I.records set) reached r ≡ Ok next) }
-    ensures refused { IfErr result (λ e. (e ≡ Fault.OutOfMemory) ⊎ (adding soa (I.records set) reached r ≡ Err e)) }
+    ensures refused { IfErr result
+        (λ e. (e ≡ Fault.OutOfMemory) ⊎ (adding soa (I.records set) reached r ≡ Err e)) }
 {
     if !is_soa(&r) {
         return add(set, soa, reached, r);

@@ -1,5 +1,5 @@
-//! One exchange by UDP, each fault by one change of it, and each allocation refused.
-use crate::given::{ANSWERS, CHANGES, EXAMPLE};
+//! One exchange by UDP, each allocation refused.
+use crate::given::{CHANGES, EXAMPLE};
 use dns_masterfile::read_zone;
 use dns_memory::{Heap, heap};
 use dns_names::Name;
@@ -42,7 +42,7 @@ fn asking(alloc: Heap) -> Option<Secondary<RecordList>> {
 }
 
 /// What an answer tells, the serial of the version that is held behind it, and how many records that has.
-pub(crate) type Told = (Result<Progress, Fault>, u32, usize);
+type Told = (Result<Progress, Fault>, u32, usize);
 
 /// What octets tell, where their n-th allocation is refused; 0 refuses none.
 fn told(alloc: Heap, secondary: &mut Secondary<RecordList>, octets: &[u8], n: u64) -> Option<Told> {
@@ -69,21 +69,6 @@ fn told_to(alloc: Heap, answer: &str, n: u64) -> Option<(Told, Told)> {
     let told = told_twice(alloc, octets.as_slice(), n);
     drop(octets);
     told
-}
-
-// The exchange itself, a SOA alone that is newer, and each fault by one change of the answer: what was held stays, and nothing more is
-// taken.
-#[test]
-fn an_exchange_and_its_faults(rt: HostRuntime) -> Result<(), Fail> {
-    let alloc = heap(rt.alloc())?;
-    for (answer, told) in ANSWERS {
-        let after = (Err(Fault::AfterEnd), told.1, told.2);
-        assert!(rt;
-            told_to(alloc, answer, 0) == Some((*told, after)),
-            "{answer}"
-        );
-    }
-    Ok(())
 }
 
 /// How many allocations of the answer are refused, each in turn, and leave what was held, and the same answer is taken

@@ -1,4 +1,4 @@
-//! Tests of the receiving side of a transfer: faults, answers that were made up, memory that is refused, and answers of other servers.
+//! Tests of the receiving side of a transfer: answers that were made up, memory that is refused, and a zone of many records.
 #![tactic(auto)]
 
 #[cfg(test)]
@@ -13,5 +13,3 @@ mod large;
 mod letters;
 #[cfg(test)]
 mod made_up;
-#[cfg(test)]
-mod peers;

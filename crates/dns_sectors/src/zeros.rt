@@ -6,8 +6,9 @@ ghost use Rattle.dns_sectors.specs.Phase.{zeros_from};
 
 use crate::{DeviceError, Sectors};
 
-/// Writes zeros over the sectors from a place up to another, in order, up to the first write that fails, which is answered. A crash at
-/// any moment of it leaves any of these zeros over what a crash before it might have left.
+/// Writes zeros over the sectors from a place up to another, in order, up to the first write that fails,
+/// which is answered. A crash at any moment of it leaves any of these zeros over what a crash before it might
+/// have left.
 pub fn write_zeros<D: Sectors>(device: &mut D, from: usize, until: usize) -> Result<(), DeviceError>
     requires range { from ≤ until }
     requires within { until ≤ D.count device.old }

@@ -9,8 +9,8 @@ ghost use Rattle.dns_serial.specs.Serial.{advance, distance, greater, next_seria
 pub struct Serial(pub u32);
 
 impl Serial {
-    /// How far it is from the one serial on to the other: what has to be added to the first to give the second, modulo 2^32 (RFC
-    /// 1982 section 3.1).
+    /// How far it is from the one serial on to the other: what has to be added to the first to give the
+    /// second, modulo 2^32 (RFC 1982 section 3.1).
     pub fn advance(from: Serial, to: Serial) -> u32
         ensures value { result ≡ advance from.0 to.0 }
         ensures reaches { (from.0 + result) % 2 ^ 32 ≡ to.0 }
@@ -26,8 +26,8 @@ impl Serial {
         Serial::advance(self, other).min(Serial::advance(other, self))
     }
 
-    /// Whether the serial is greater than the other (RFC 1982 section 3.2): it is ahead of it by 1 to 2^31 - 1. Where the serials
-    /// are 2^31 apart neither is greater.
+    /// Whether the serial is greater than the other (RFC 1982 section 3.2): it is ahead of it by 1 to
+    /// 2^31 - 1. Where the serials are 2^31 apart neither is greater.
     pub fn greater(self, than: Serial) -> bool
         ensures value { result ≡ greater self.0 than.0 }
         // In the standard's own words.

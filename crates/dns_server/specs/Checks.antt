@@ -1,5 +1,6 @@
 -- What `check` says of a file.
-use Rattle.std.specs.Prelude.{◌≡◌, ◌⊎◌, ℕ, ◌≤◌, List, [], ◌++◌, length, Option, Ok, Err, Contains, codes, decimal}
+use Rattle.std.specs.Prelude.{◌≡◌, ◌⊎◌, ℕ, ◌≤◌, List, [], ◌++◌, length, Option, Ok, Err, Contains, codes}
+use Rattle.std.specs.Prelude.{decimal}
 use Rattle.std.specs.Io.KnownBytes.{Appends, Keeps}
 use Rattle.dns_names.specs.Name.{Labels}
 use Rattle.dns_names.specs.declared.NameError.{NameError}
@@ -14,7 +15,8 @@ use Rattle.dns_configuration.specs.Faults.{fault_text, line, loaded}
 abbrev pub ok_text : ℕ → ℕ → List ℕ
 ok_text count serial = codes "ok " ++ decimal count ++ codes " records serial " ++ decimal serial
 
--- The file holds a zone of that origin, and the text says how many records it has and the serial of their SOA.
+-- The file holds a zone of that origin, and the text says how many records it has and the serial of their
+-- SOA.
 pub record IsGood (octets : Option (List ℕ)) (origin text : List ℕ) : Type 0 where
   pub apex : Labels
   pub records : List Record
@@ -38,10 +40,12 @@ pub record IsBad (octets : Option (List ℕ)) (path origin text : List ℕ) : Ty
   pub refused : loaded octets apex ≡ Err fault
   pub says : text ≡ fault_text path fault
 
--- What a run of `check` wrote to the two writers, by its exit status. With status 3 a writer failed or memory was refused.
-pub record CheckEnds (octets : Option (List ℕ)) (path origin : List ℕ) (out out_after err err_after : Option (List ℕ)) (status : ℕ)
-    : Type 0 where
-  pub done : status ≡ 0 → (text : List ℕ) × IsGood octets origin text × Appends out out_after (line text) × Keeps err err_after
+-- What a run of `check` wrote to the two writers, by its exit status. With status 3 a writer failed or memory
+-- was refused.
+pub record CheckEnds (octets : Option (List ℕ)) (path origin : List ℕ)
+    (out out_after err err_after : Option (List ℕ)) (status : ℕ) : Type 0 where
+  pub done : status ≡ 0
+      → (text : List ℕ) × IsGood octets origin text × Appends out out_after (line text) × Keeps err err_after
   pub refused : status ≡ 1
       → (text : List ℕ)
       × (IsUnnamed origin text ⊎ IsBad octets path origin text)

@@ -1,5 +1,6 @@
 -- How a run of a script over the zones of a configuration ends.
-use Rattle.std.specs.Prelude.{◌≡◌, ◌⊎◌, ◌↔◌, IsTrue, ℕ, ◌≤◌, false, List, [], map, slice_get, Option, Some, None, Ok, Err}
+use Rattle.std.specs.Prelude.{◌≡◌, ◌⊎◌, ◌↔◌, IsTrue, ℕ, ◌≤◌, false, List, [], map, slice_get, Option, Some}
+use Rattle.std.specs.Prelude.{None, Ok, Err}
 use Rattle.std.specs.List.{AllZip}
 use Rattle.std.specs.declared.net.ip_addr.IpAddr.{IpAddr}
 use Rattle.std.specs.Option.{option_copied}
@@ -31,7 +32,8 @@ use Rattle.dns_script.specs.Lines.{lines}
 use Rattle.dns_replay.specs.Crashes.{IsCrash}
 use Rattle.dns_replay.specs.Scripts.{Crash, Led, Runs, Takes}
 
--- A zone as it was loaded, with what is configured of it: no update was accepted, and its store was opened once.
+-- A zone as it was loaded, with what is configured of it: no update was accepted, and its store was opened
+-- once.
 pub record IsBegun (settings : ZoneSettings) (zone : Zone) (z : ZoneState) : Type 0 where
   pub shape : z.setting.shape
       ≡ record { apex = zone.apex; snapshot = settings.snapshot_sectors; journal = settings.journal_sectors }
@@ -57,21 +59,27 @@ abbrev pub devices_of : List ZoneSettings → List (List ℕ)
 devices_of settings = map (λ (z : ZoneSettings). string_bytes z.device) settings
 
 -- The lines of a script lead there, from this machine on, by a run of the machine; and the run ends so.
-abbrev pub RunsInto : List Labels → Crash → Machine → List (List ℕ) → Ending → Option (List ℕ) → Option (List ℕ) → Type 0
+abbrev pub RunsInto : List Labels → Crash → Machine → List (List ℕ) → Ending → Option (List ℕ)
+    → Option (List ℕ) → Type 0
 RunsInto origins crash m lines ending out out_after =
-    (led : Led) × Runs origins crash (Takes m) 1 lines led ending × Run m led.moments × Appends out out_after led.text
+    (led : Led) × Runs origins crash (Takes m) 1 lines led ending × Run m led.moments
+    × Appends out out_after led.text
 
-abbrev pub Ran : List Labels → Crash → Machine → Ending → Option (List ℕ) → Option (List ℕ) → Option (List ℕ) → Type 0
+abbrev pub Ran : List Labels → Crash → Machine → Ending → Option (List ℕ) → Option (List ℕ)
+    → Option (List ℕ) → Type 0
 Ran origins crash m ending None out out_after = ⊥
-Ran origins crash m ending (Some octets) out out_after = RunsInto origins crash m (lines octets) ending out out_after
+Ran origins crash m ending (Some octets) out out_after =
+    RunsInto origins crash m (lines octets) ending out out_after
 
-abbrev pub IsScriptFault : List Labels → Crash → Machine → Option (List ℕ) → Fault → Option (List ℕ) → Option (List ℕ) → Type 0
+abbrev pub IsScriptFault : List Labels → Crash → Machine → Option (List ℕ) → Fault → Option (List ℕ)
+    → Option (List ℕ) → Type 0
 IsScriptFault origins crash m None Unreadable out out_after = Keeps out out_after
 IsScriptFault origins crash m (Some octets) (Syntax number) out out_after =
     RunsInto origins crash m (lines octets) (ending.Syntax number) out out_after
 IsScriptFault origins crash m octets fault out out_after = ⊥
 
--- A fault of the script is told: that it can't be read, or the first line that is no command, behind what the lines before it print.
+-- A fault of the script is told: that it can't be read, or the first line that is no command, behind what the
+-- lines before it print.
 pub record IsScriptTold (origins : List Labels) (crash : Crash) (m : Machine) (script : File)
     (out out_after err err_after : Option (List ℕ))
     : Type 0 where
@@ -87,25 +95,26 @@ pub record IsUnmadeTold (devices : List (List ℕ)) (err err_after : Option (Lis
   pub error : FormatError
   pub told : Appends err err_after (line (device_text path (fault_of_format error) false))
 
--- What a run of a script over zones wrote, by its exit status. With 0 what all its lines print. With 1 what those before the first
--- print that is no command, and that line is told, or that the script can't be read; or what the lines print up to the one behind
--- which a store is refused; or nothing, and the device is told on which no store can be made. With 3 a writer or a device failed, or
--- memory was refused.
-pub record ScriptEnds (origins : List Labels) (crash : Crash) (devices : List (List ℕ)) (m : Machine) (script : File)
-    (out out_after err err_after : Option (List ℕ)) (status : ℕ)
+-- What a run of a script over zones wrote, by its exit status. With 0 what all its lines print. With 1 what
+-- those before the first print that is no command, and that line is told, or that the script can't be read;
+-- or what the lines print up to the one behind which a store is refused; or nothing, and the device is told
+-- on which no store can be made. With 3 a writer or a device failed, or memory was refused.
+pub record ScriptEnds (origins : List Labels) (crash : Crash) (devices : List (List ℕ))
+    (m : Machine) (script : File) (out out_after err err_after : Option (List ℕ)) (status : ℕ)
     : Type 0 where
-  pub done : status ≡ 0 → Ran origins crash m ending.Done (option_copied script.octets) out out_after × Keeps err err_after
+  pub done : status ≡ 0
+      → Ran origins crash m ending.Done (option_copied script.octets) out out_after × Keeps err err_after
   pub refused : status ≡ 1
       → IsScriptTold origins crash m script out out_after err err_after
       ⊎ (Ran origins crash m ending.Refused (option_copied script.octets) out out_after × Keeps err err_after)
       ⊎ (IsUnmadeTold devices err err_after × Keeps out out_after)
   pub others : status ≤ 1 ⊎ (status ≡ 3)
 
--- The zones of the configuration that a file holds, what a primary is told of each, and how a run of a script ends that begins with
--- them: there is a machine of these zones to which nothing has happened, and from each such machine it ends so. A crash keeps of the
--- pending writes on each device those that the script says.
-pub record RunsOver {D : Type 0} (g : Ghosts D) (kept : D → told.Keep → Content) (config : Option (List ℕ)) (files : List File)
-    (script : File) (out out_after err err_after : Option (List ℕ)) (status : ℕ)
+-- The zones of the configuration that a file holds, what a primary is told of each, and how a run of a script
+-- ends that begins with them: there is a machine of these zones to which nothing has happened, and from each
+-- such machine it ends so. A crash keeps of the pending writes on each device those that the script says.
+pub record RunsOver {D : Type 0} (g : Ghosts D) (kept : D → told.Keep → Content) (config : Option (List ℕ))
+    (files : List File) (script : File) (out out_after err err_after : Option (List ℕ)) (status : ℕ)
     : Type 0 where
   pub configuration : Configuration
   pub zones : List Zone
@@ -116,20 +125,23 @@ pub record RunsOver {D : Type 0} (g : Ghosts D) (kept : D → told.Keep → Cont
   pub begins : (m : Machine) × Begins configuration.zones.items zones m
   pub ends : (m : Machine)
       → Begins configuration.zones.items zones m
-      → ScriptEnds (origins_of configuration.zones.items) (IsCrash g kept (origins_of configuration.zones.items) known)
+      → ScriptEnds (origins_of configuration.zones.items)
+      (IsCrash g kept (origins_of configuration.zones.items) known)
       (devices_of configuration.zones.items) m script out out_after err err_after status
 
--- The fault that is told, behind a path, before the script runs: of the configuration, or else of the first master file that
--- holds no zone, in the order of the zones.
+-- The fault that is told, behind a path, before the script runs: of the configuration, or else of the first
+-- master file that holds no zone, in the order of the zones.
 abbrev pub IsFault : File → List File → List ℕ → Fault → Type 0
 IsFault config files path fault =
     ((path ≡ config.path.now) × Holds (option_copied config.octets) (Err fault))
-    ⊎ ((c : Configuration) × Holds (option_copied config.octets) (Ok c) × IsFirstFault files c.zones.items path fault)
+    ⊎ ((c : Configuration) × Holds (option_copied config.octets) (Ok c)
+    × IsFirstFault files c.zones.items path fault)
 
--- How a run with a configuration, files and a script ends: nothing runs, and the first fault is told; or the script ran over the
--- zones that are held; or, with status 3, a writer or a device failed or memory was refused.
-abbrev pub ReplayEnds : {D : Type 0} → Ghosts D → (D → told.Keep → Content) → File → List File → File → Option (List ℕ)
-    → Option (List ℕ) → Option (List ℕ) → Option (List ℕ) → ℕ → Type 0
+-- How a run with a configuration, files and a script ends: nothing runs, and the first fault is told; or the
+-- script ran over the zones that are held; or, with status 3, a writer or a device failed or memory was
+-- refused.
+abbrev pub ReplayEnds : {D : Type 0} → Ghosts D → (D → told.Keep → Content) → File → List File → File
+    → Option (List ℕ) → Option (List ℕ) → Option (List ℕ) → Option (List ℕ) → ℕ → Type 0
 ReplayEnds g kept config files script out out_after err err_after status =
     ((status ≡ 1) × Keeps out out_after
     × ((path : List ℕ) × (fault : Fault) × IsFault config files path fault

@@ -1,5 +1,6 @@
-//! What one who mends a refused master file is told beside its fault: the word that was met, or the lines of the records that are
-//! no zone together. It serves `--explain` alone, and no clause says more of it than that it ends.
+//! What one who mends a refused master file is told beside its fault: the word that was met, or the lines of
+//! the records that are no zone together. It serves `--explain` alone, and no clause says more of it than
+//! that it ends.
 use crate::files::Index;
 use dns_configuration::{Fault, File, PrintedWord, apex, load};
 use dns_masterfile::{FileError, Places, RefusedEntry, TypeWord, find_places};
@@ -56,7 +57,8 @@ fn explain_entry<E: Write>(err: &mut E, path: &str, entry: &RefusedEntry<'_>) ->
     }
 }
 
-/// A record that is refused in a zone, and the record before it that it can't stand beside, by their places in the file.
+/// A record that is refused in a zone, and the record before it that it can't stand beside, by their places
+/// in the file.
 #[derive(Clone, Copy)]
 struct Clash {
     place: usize,
@@ -201,8 +203,8 @@ fn explain_zone<E: Write>(
     Ok(true)
 }
 
-/// Tells what is wrong with the master file of a zone, in a line for one who mends it. Nothing is told of a file that is a zone, and
-/// of refused memory. Answers whether something was told.
+/// Tells what is wrong with the master file of a zone, in a line for one who mends it. Nothing is told of a
+/// file that is a zone, and of refused memory. Answers whether something was told.
 pub(crate) fn explain_file<E: Write>(
     heap: Heap,
     file: &File<'_>,

@@ -1,5 +1,5 @@
-//! What one who mends a refused file of a run is told beside its fault. It serves `--explain` alone, and no clause says more of it
-//! than that it ends.
+//! What one who mends a refused file of a run is told beside its fault. It serves `--explain` alone, and no
+//! clause says more of it than that it ends.
 use crate::explain::explain_file;
 use dns_configuration::{Configuration, File, PrintedWord, explain_configuration, origins_of};
 use dns_memory::Heap;
@@ -37,7 +37,8 @@ fn explain_script<E: Write>(
     Ok(())
 }
 
-/// Tells what is wrong where `replay` refused a file that can be read: the configuration, the first master file, or the script.
+/// Tells what is wrong where `replay` refused a file that can be read: the configuration, the first master
+/// file, or the script.
 pub fn explain_replay<E: Write>(
     alloc: Global,
     heap: Heap,

@@ -47,10 +47,10 @@ fn checked<W: Write, E: Write>(
     }
 }
 
-/// Reads the master file of a zone whose apex is the text `origin`. Prints `ok N records serial M`, or tells in one line what is
-/// wrong:
-/// `ORIGIN: BadOrigin`, `FILE: Unreadable`, `FILE:LINE: Refusal` of an entry, or `FILE: Refusal` of the zone. Gives the exit
-/// status:
+/// Reads the master file of a zone whose apex is the text `origin`. Prints `ok N records serial M`, or tells
+/// in one line what is wrong:
+/// `ORIGIN: BadOrigin`, `FILE: Unreadable`, `FILE:LINE: Refusal` of an entry, or `FILE: Refusal` of the zone.
+/// Gives the exit status:
 /// `DONE`, `REFUSED`, or `FAILED` where a writer failed or memory was refused.
 pub fn check<W: Write, E: Write>(
     alloc: Heap,
@@ -59,8 +59,8 @@ pub fn check<W: Write, E: Write>(
     out: &mut W,
     err: &mut E,
 ) -> u8
-    ensures { CheckEnds (option_copied file.now.octets) file.now.path.now origin.now (W.contents out.old) (W.contents out.new)
-        (E.contents err.old) (E.contents err.new) result }
+    ensures { CheckEnds (option_copied file.now.octets) file.now.path.now origin.now (W.contents out.old)
+        (W.contents out.new) (E.contents err.old) (E.contents err.new) result }
 {
     checked(alloc, file, origin, out, err).unwrap_or(FAILED)
 }

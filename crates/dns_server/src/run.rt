@@ -22,7 +22,8 @@ use std::io::{self, Write};
 fn tell_unmade<E: Write>(err: &mut E, own: &[ZoneSettings], unmade: NotMade) -> io::Result<u8>
     ensures { IfOk result
         (λ status. (status ≡ FAILED)
-        ⊎ ((status ≡ REFUSED) × IsUnmadeTold (devices_of own.now) (E.contents err.old) (E.contents err.new))) }
+        ⊎ ((status ≡ REFUSED)
+        × IsUnmadeTold (devices_of own.now) (E.contents err.old) (E.contents err.new))) }
 {
     match own.get(unmade.place) {
         Some(zone) => tell_device(err, &zone.device, DeviceFault::from(unmade.error), false),
@@ -47,8 +48,8 @@ fn run<W: Write, E: Write>(
         → ScriptEnds (map (λ z. z.apex) zones.entry.items)
         (IsCrash ⟦<MemorySectors as Sectors>⟧ ⟦<MemorySectors as ScriptDevice>⟧.left_by
         (map (λ z. z.apex) zones.entry.items) known.entry.items)
-        (devices_of own.now) m script.now (W.contents out.old) (W.contents out.new) (E.contents err.old) (E.contents err.new)
-        status) }
+        (devices_of own.now) m script.now (W.contents out.old) (W.contents out.new) (E.contents err.old)
+        (E.contents err.new) status) }
 {
     let Some(lines) = script.octets else {
         return tell(err, script.path, Fault::Unreadable);
@@ -73,8 +74,9 @@ fn replayed<W: Write, E: Write>(
     err: &mut E,
 ) -> io::Result<u8>
     ensures { IfOk result
-        (ReplayEnds ⟦<MemorySectors as Sectors>⟧ ⟦<MemorySectors as ScriptDevice>⟧.left_by config.now files.now script.now
-        (W.contents out.old) (W.contents out.new) (E.contents err.old) (E.contents err.new)) }
+        (ReplayEnds ⟦<MemorySectors as Sectors>⟧ ⟦<MemorySectors as ScriptDevice>⟧.left_by
+        config.now files.now script.now (W.contents out.old) (W.contents out.new)
+        (E.contents err.old) (E.contents err.new)) }
 {
     let settings = match read_configuration(alloc, heap, config) {
         Ok(configuration) => configuration.zones,
@@ -88,10 +90,11 @@ fn replayed<W: Write, E: Write>(
     }
 }
 
-/// Runs a script over the zones that a configuration names, and prints the effects of each line. Faults are told in one line, the
-/// first in this order: the configuration, the master files in the order of the zones, the script, the device on which no store can
-/// be made, the script's lines as they run. Where a store is refused behind a crash, that is printed, and the run ends. Gives the exit
-/// status: `DONE`, `REFUSED`, or `FAILED` where a writer failed, a device failed while it was made or memory was refused.
+/// Runs a script over the zones that a configuration names, and prints the effects of each line. Faults are
+/// told in one line, the first in this order: the configuration, the master files in the order of the zones,
+/// the script, the device on which no store can be made, the script's lines as they run. Where a store is
+/// refused behind a crash, that is printed, and the run ends. Gives the exit status: `DONE`, `REFUSED`, or
+/// `FAILED` where a writer failed, a device failed while it was made or memory was refused.
 pub fn replay<W: Write, E: Write>(
     alloc: Global,
     heap: Heap,
@@ -101,8 +104,9 @@ pub fn replay<W: Write, E: Write>(
     out: &mut W,
     err: &mut E,
 ) -> u8
-    ensures { ReplayEnds ⟦<MemorySectors as Sectors>⟧ ⟦<MemorySectors as ScriptDevice>⟧.left_by config.now files.now script.now
-        (W.contents out.old) (W.contents out.new) (E.contents err.old) (E.contents err.new) result }
+    ensures { ReplayEnds ⟦<MemorySectors as Sectors>⟧ ⟦<MemorySectors as ScriptDevice>⟧.left_by
+        config.now files.now script.now (W.contents out.old) (W.contents out.new)
+        (E.contents err.old) (E.contents err.new) result }
 {
     replayed(alloc, heap, config, files, script, out, err).unwrap_or(FAILED)
 }

@@ -29,9 +29,10 @@ CannotBeHad opened (z ∷ zones) (suc place) fault = CannotBeHad opened zones pl
 abbrev pub IsNotGiven : {D : Type 0} → Gives D → List ZoneSettings → ℕ → DeviceFault → Type 0
 IsNotGiven opened zones place fault = (fault ≡ OutOfMemory) ⊎ CannotBeHad opened zones place fault
 
--- A primary over the devices that were given: on those of a machine that stopped it keeps one that recovered from that stop.
-pub record IsServed {D : Type 0} (g : Ghosts D) (opened : Gives D) (zones : List ZoneSettings) (keeps : Machine → Type 0)
-    : Type 0 where
+-- A primary over the devices that were given: on those of a machine that stopped it keeps one that recovered
+-- from that stop.
+pub record IsServed {D : Type 0} (g : Ghosts D) (opened : Gives D) (zones : List ZoneSettings)
+    (keeps : Machine → Type 0) : Type 0 where
   pub devices : List D
   pub given : AreGiven opened zones devices
   pub known : List primary.ZoneSettings
@@ -40,15 +41,16 @@ pub record IsServed {D : Type 0} (g : Ghosts D) (opened : Gives D) (zones : List
       → AreRecoverable g tries m event 0 m.zones (origins_of zones) known devices
       → (new : Machine) × IsStopped tries m event new × keeps new
 
--- The fault of the device there among those that were handed back, which it left so; where there is none, that of the refusal.
+-- The fault of the device there among those that were handed back, which it left so; where there is none,
+-- that of the refusal.
 abbrev pub IsFaultAt : {D : Type 0} → Ghosts D → OpenError → List D → List D → ℕ → DeviceFault → Type 0
 IsFaultAt {D} g error devices afters place fault =
     MatchOption (slice_get devices place) (fault ≡ fault_of_open error)
     (λ device. (after : D) × (slice_get afters place ≡ Some after) × IsFaultOf g error device after fault)
 
 -- The devices were given, and that of the zone there was not opened, for this.
-pub record IsNotOpened {D : Type 0} (g : Ghosts D) (opened : Gives D) (zones : List ZoneSettings) (place : ℕ) (fault : DeviceFault)
-    : Type 0 where
+pub record IsNotOpened {D : Type 0} (g : Ghosts D) (opened : Gives D) (zones : List ZoneSettings) (place : ℕ)
+    (fault : DeviceFault) : Type 0 where
   pub devices : List D
   pub given : AreGiven opened zones devices
   pub known : List primary.ZoneSettings
@@ -60,4 +62,5 @@ pub record IsNotOpened {D : Type 0} (g : Ghosts D) (opened : Gives D) (zones : L
   pub refused : AreRefused g error place (origins_of zones) known devices back
 
 abbrev pub IsNotServed : {D : Type 0} → Ghosts D → Gives D → List ZoneSettings → ℕ → DeviceFault → Type 0
-IsNotServed g opened zones place fault = IsNotGiven opened zones place fault ⊎ IsNotOpened g opened zones place fault
+IsNotServed g opened zones place fault =
+    IsNotGiven opened zones place fault ⊎ IsNotOpened g opened zones place fault

@@ -22,8 +22,8 @@ IsPathAt (z ∷ zones) zero path = path ≡ string_bytes z.device
 IsPathAt (z ∷ zones) (suc place) path = IsPathAt zones place path
 
 -- The device of a zone is refused, and the text says so.
-pub record IsDeviceRefused {D : Type 0} (g : Ghosts D) (opened : Gives D) (zones : List ZoneSettings) (explain : Bool)
-    (text : List ℕ)
+pub record IsDeviceRefused {D : Type 0} (g : Ghosts D) (opened : Gives D) (zones : List ZoneSettings)
+    (explain : Bool) (text : List ℕ)
     : Type 0 where
   pub place : ℕ
   pub path : List ℕ
@@ -33,9 +33,9 @@ pub record IsDeviceRefused {D : Type 0} (g : Ghosts D) (opened : Gives D) (zones
   pub says : text ≡ device_text path fault explain
   pub status : status_of fault ≡ 1
 
--- How a server ends: all its turns were made, over the devices of the zones of its configuration; or nothing was served, and the
--- fault of the configuration or of the first device that is refused is told. With status 3 a device or the address can't be had, a
--- writer failed or memory was refused.
+-- How a server ends: all its turns were made, over the devices of the zones of its configuration; or nothing
+-- was served, and the fault of the configuration or of the first device that is refused is told. With status
+-- 3 a device or the address can't be had, a writer failed or memory was refused.
 pub record ServingEnds {D : Type 0} (g : Ghosts D) (opened : Gives D) (config : File) (explain : Bool)
     (err err_after : Option (List ℕ)) (status : ℕ)
     : Type 0 where
@@ -44,14 +44,18 @@ pub record ServingEnds {D : Type 0} (g : Ghosts D) (opened : Gives D) (config : 
       × ((devices : List D) × AreGiven opened c.zones.items devices)
   pub refused : status ≡ 1
       → (text : List ℕ) × Appends err err_after (line text)
-      × (((fault : Fault) × Holds (option_copied config.octets) (Err fault) × (text ≡ fault_text config.path.now fault))
+      × (((fault : Fault) × Holds (option_copied config.octets) (Err fault)
+      × (text ≡ fault_text config.path.now fault))
       ⊎ ((c : Configuration) × Holds (option_copied config.octets) (Ok c)
       × IsDeviceRefused g opened c.zones.items explain text))
   pub others : status ≤ 1 ⊎ (status ≡ 3)
 
--- What is told of a device that is refused: nothing where memory was, and nothing where there is no such zone.
-abbrev pub IsRefusalTold : List ZoneSettings → ℕ → DeviceFault → Bool → Option (List ℕ) → Option (List ℕ) → ℕ → Type 0
+-- What is told of a device that is refused: nothing where memory was, and nothing where there is no such
+-- zone.
+abbrev pub IsRefusalTold : List ZoneSettings → ℕ → DeviceFault → Bool → Option (List ℕ)
+    → Option (List ℕ) → ℕ → Type 0
 IsRefusalTold zones place fault explain err err_after status =
     (status ≡ 3)
     ⊎ ((status ≡ 1) × (status_of fault ≡ 1)
-    × ((path : List ℕ) × IsPathAt zones place path × Appends err err_after (line (device_text path fault explain))))
+    × ((path : List ℕ) × IsPathAt zones place path
+    × Appends err err_after (line (device_text path fault explain))))

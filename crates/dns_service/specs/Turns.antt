@@ -15,7 +15,8 @@ HasPaused n old new = (new ≡ old) ⊎ n.looks old new
 
 module _ {I D S N : Type 0} {i : index.Ghosts I} {d : store.Ghosts D} where
   -- Turns, one behind the other, and between them looks at what came meanwhile.
-  abbrev pub AreTurns : stream.Ghosts S → Ghosts N S → List (Served I D S N i d) → Served I D S N i d → Served I D S N i d → Type 0
+  abbrev pub AreTurns : stream.Ghosts S → Ghosts N S → List (Served I D S N i d) → Served I D S N i d
+      → Served I D S N i d → Type 0
   AreTurns s n [] old new = new ≡ old
   AreTurns s n (one ∷ rest) old new = (IsTurn s n old one ⊎ HasAsked n old one) × AreTurns s n rest one new
 
@@ -23,9 +24,11 @@ module _ {I D S N : Type 0} {i : index.Ghosts I} {d : store.Ghosts D} where
   abbrev pub begun : Primary I D i d → N → Served I D S N i d
   begun primary network = record { primary = primary; connections = replicate 64 None; network = network }
 
-  -- A primary is served over a network, from no connection on: turns are made, and nothing else is done to it.
-  pub record IsServedOn (s : stream.Ghosts S) (n : Ghosts N S) (old : Primary I D i d) (network : N) (new : Primary I D i d)
-      (network' : N) : Type 0 where
+  -- A primary is served over a network, from no connection on: turns are made, and nothing else is done to
+  -- it.
+  pub record IsServedOn (s : stream.Ghosts S) (n : Ghosts N S) (old : Primary I D i d) (network : N)
+      (new : Primary I D i d) (network' : N) : Type 0 where
     pub connections : List (Option (Connection S))
     pub turns : List (Served I D S N i d)
-    pub made : AreTurns s n turns (begun old network) (record { primary = new; connections = connections; network = network' })
+    pub made : AreTurns s n turns (begun old network)
+        (record { primary = new; connections = connections; network = network' })

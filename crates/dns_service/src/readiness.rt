@@ -36,10 +36,11 @@ impl Bits {
     }
 }
 
-/// What may be ready of all connections, each of which has a number. They share it with the one that takes up events.
+/// What may be ready of all connections, each of which has a number. They share it with the one that takes up
+/// events.
 ///
-/// The system tells each change once, and keeps it until events are taken up. So a connection of which a read said that it would wait
-/// has nothing more to read before its next event; and likewise for a write.
+/// The system tells each change once, and keeps it until events are taken up. So a connection of which a read
+/// said that it would wait has nothing more to read before its next event; and likewise for a write.
 #[derive(Drop)]
 pub(crate) struct Readiness {
     /// The numbers that connections have.
@@ -67,8 +68,8 @@ impl Readiness {
 
     /// Takes up an event of the connection with this number: it may be ready for both.
     ///
-    /// An event of an earlier connection with the same number does no harm: it only lets a call be tried that finds nothing. No event
-    /// ever says that a connection isn't ready.
+    /// An event of an earlier connection with the same number does no harm: it only lets a call be tried that
+    /// finds nothing. No event ever says that a connection isn't ready.
     pub(crate) fn wake(&self, number: usize) {
         let Ok(number) = u32::try_from(number) else {
             return;
@@ -92,7 +93,8 @@ pub(crate) struct Place {
 }
 
 impl Place {
-    /// The least number that is free. Both a read and a write may find something to do there. There is none while 128 are taken.
+    /// The least number that is free. Both a read and a write may find something to do there. There is none
+    /// while 128 are taken.
     pub(crate) fn new(readiness: Rc<Readiness, Heap>) -> Option<Place> {
         let bit = readiness.taken.free()?;
         readiness.taken.set(bit);
@@ -117,12 +119,14 @@ impl Place {
         self.readiness.may_write.has(self.bit)
     }
 
-    /// Notes that a read said that it would wait. Nothing else that a read answers says that there is nothing more.
+    /// Notes that a read said that it would wait. Nothing else that a read answers says that there is nothing
+    /// more.
     pub(crate) fn note_read_waits(&self) {
         self.readiness.may_read.clear(self.bit);
     }
 
-    /// Notes that a write said that it would wait. Nothing else that a write answers says that there is no room.
+    /// Notes that a write said that it would wait. Nothing else that a write answers says that there is no
+    /// room.
     pub(crate) fn note_write_waits(&self) {
         self.readiness.may_write.clear(self.bit);
     }

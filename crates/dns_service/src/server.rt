@@ -21,7 +21,8 @@ use std::io::{self, Write};
 use std::net::{Net, SocketAddr};
 use std::time::{Clock, Instant};
 
-/// In which turns the clock and the events of sockets are looked at, besides those behind a wait: each one of so many.
+/// In which turns the clock and the events of sockets are looked at, besides those behind a wait: each one of
+/// so many.
 const GLANCE: u32 = 32;
 
 /// Tells which version of a zone is shown.
@@ -100,7 +101,8 @@ fn run<R: Clock, I: ZoneIndex, D: ZoneStore, S: Stream + Drop, N: Network<S>, L:
     notes: &mut L,
     turns: u32,
 ) -> io::Result<()>
-    ensures { IfOk result (λ _. IsServedOn S.Stream N.Network primary.old network.old primary.new network.new) }
+    ensures { IfOk result
+        (λ _. IsServedOn S.Stream N.Network primary.old network.old primary.new network.new) }
 {
     let mut edge: Edge<S> = Edge::new(heap)?;
     let start = Instant::now(rt)?;
@@ -152,8 +154,8 @@ fn serve_primary<R: Net + Clock, I: ZoneIndex, S: ZoneStore, E: Write>(
     listen(heap, rt, &mut primary, origins, address, turns, err)
 }
 
-/// What a server has besides a primary: the names of its zones, the address on which it listens, how many turns it makes, and where its
-/// log goes.
+/// What a server has besides a primary: the names of its zones, the address on which it listens, how many
+/// turns it makes, and where its log goes.
 #[derive(Drop)]
 struct Service<'a, R, E> {
     heap: Heap,
@@ -164,8 +166,8 @@ struct Service<'a, R, E> {
     err: &'a mut E,
 }
 
-/// What can be served so. (A call that names both a store over a device and the memory of every collection has no proof, so that the
-/// service is a type parameter.)
+/// What can be served so. (A call that names both a store over a device and the memory of every collection
+/// has no proof, so that the service is a type parameter.)
 trait Servable<S> {
     /// Serves it, and gives the exit status.
     fn serve_as(self, service: &mut S) -> u8
@@ -202,7 +204,8 @@ fn tell_refusal<E: Write>(
     refusal: Refusal,
     explain: bool,
 ) -> io::Result<u8>
-    ensures { IfOk result (λ status. IsRefusalTold zones.now refusal.place refusal.fault explain (E.contents err.old)
+    ensures { IfOk result
+        (λ status. IsRefusalTold zones.now refusal.place refusal.fault explain (E.contents err.old)
         (E.contents err.new) status) }
 {
     match zones.get(refusal.place) {
@@ -222,7 +225,8 @@ fn serve_all<D: Sectors + Drop, F: Devices<D>, I: ZoneIndex, R: Net + Clock, E: 
     explain: bool,
     err: &mut E,
 ) -> io::Result<u8>
-    ensures { IfOk result (λ status. ServingEnds D.Sectors (F.opened devices.now) config.now explain (E.contents err.old)
+    ensures { IfOk result
+        (λ status. ServingEnds D.Sectors (F.opened devices.now) config.now explain (E.contents err.old)
         (E.contents err.new) status) }
 {
     let configuration = match read_configuration(alloc, heap, config) {
@@ -246,13 +250,15 @@ fn serve_all<D: Sectors + Drop, F: Devices<D>, I: ZoneIndex, R: Net + Clock, E: 
     }
 }
 
-/// Opens the stores of a configuration's zones, each in its device, and serves them on its address by UDP and TCP for so many turns. A
-/// log goes to `err`: `zone ORIGIN version V serial M` for each zone, `listening on ADDRESS`, and then `conn N open ADDRESS`,
-/// `conn N closed`, `out of memory` and `device ORIGIN` as they come.
+/// Opens the stores of a configuration's zones, each in its device, and serves them on its address by UDP and
+/// TCP for so many turns. A log goes to `err`: `zone ORIGIN version V serial M` for each zone,
+/// `listening on ADDRESS`, and then `conn N open ADDRESS`, `conn N closed`, `out of memory` and
+/// `device ORIGIN` as they come.
 ///
-/// Faults are told in one line, the first in this order: the configuration, the devices (of which, if it is wanted, a second line says
-/// what can be done), the address (`ADDRESS: Unavailable`). Gives the exit status: `DONE`, `REFUSED`, or `FAILED` where a device or the
-/// address can't be had, a writer failed or memory was refused.
+/// Faults are told in one line, the first in this order: the configuration, the devices (of which, if it is
+/// wanted, a second line says what can be done), the address (`ADDRESS: Unavailable`). Gives the exit status:
+/// `DONE`, `REFUSED`, or `FAILED` where a device or the address can't be had, a writer failed or memory was
+/// refused.
 pub fn serve<D: Sectors + Drop, F: Devices<D>, I: ZoneIndex, R: Net + Clock, E: Write>(
     alloc: Global,
     heap: Heap,
@@ -263,7 +269,8 @@ pub fn serve<D: Sectors + Drop, F: Devices<D>, I: ZoneIndex, R: Net + Clock, E: 
     explain: bool,
     err: &mut E,
 ) -> u8
-    ensures { ServingEnds D.Sectors (F.opened devices.now) config.now explain (E.contents err.old) (E.contents err.new) result }
+    ensures { ServingEnds D.Sectors (F.opened devices.now) config.now explain (E.contents err.old)
+        (E.contents err.new) result }
 {
     serve_all::<D, F, I, R, E>(alloc, heap, rt, devices, config, turns, explain, err).unwrap_or(
         FAILED,

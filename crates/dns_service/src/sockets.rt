@@ -14,7 +14,8 @@ use std::net::{Net, SocketAddr};
 use std::rc::Rc;
 use std::time::Duration;
 
-/// How many datagrams are tried where the system reports an error in place of one, as after an answer to a port that is closed.
+/// How many datagrams are tried where the system reports an error in place of one, as after an answer to a
+/// port that is closed.
 const TRIES: usize = 16;
 
 /// How many events are taken up at once.
@@ -36,7 +37,8 @@ pub(crate) struct Sockets {
     datagrams: Datagrams<Udp>,
     poll: Poll,
     events: Events<Heap>,
-    /// Whether a connection may be waiting. It is false only behind a call that found none, and up to the next event of the listener.
+    /// Whether a connection may be waiting. It is false only behind a call that found none, and up to the
+    /// next event of the listener.
     may_accept: bool,
     /// The same of each connection: whether a read or a write may find something to do.
     readiness: Rc<Readiness, Heap>,
@@ -83,8 +85,8 @@ impl Sockets {
         })
     }
 
-    /// Waits at most so long for events, and takes up what they say. The system tells each change once, and keeps those for which there
-    /// was no room.
+    /// Waits at most so long for events, and takes up what they say. The system tells each change once, and
+    /// keeps those for which there was no room.
     fn take_events(&mut self, timeout: Duration) {
         let _polled = self.poll.poll(&mut self.events, Some(timeout));
         for event in &self.events {
@@ -97,7 +99,8 @@ impl Sockets {
         }
     }
 
-    /// The connection of a peer, made ready. There is none where the system refuses that, or no number is free.
+    /// The connection of a peer, made ready. There is none where the system refuses that, or no number is
+    /// free.
     fn ready(&self, mut stream: TcpStream) -> Option<Socket> {
         let place = Place::new(self.readiness.clone().ok()?)?;
         stream.set_nodelay(true).ok()?;
@@ -149,8 +152,8 @@ impl Network<Socket> for Sockets {
         }
     }
 
-    /// Looks which sockets may be ready, and doesn't wait itself. A server that has something to do in every turn never waits, and would
-    /// see neither a new connection nor what comes on one that was silent.
+    /// Looks which sockets may be ready, and doesn't wait itself. A server that has something to do in every
+    /// turn never waits, and would see neither a new connection nor what comes on one that was silent.
     fn look(&mut self) {
         self.datagrams.send_all();
         self.take_events(Duration::ZERO);

@@ -14,11 +14,12 @@ use Rattle.dns_store.specs.Versions.{Versions, Kept, newest_after, version_at}
 use Rattle.dns_store.specs.Room.{entries_along}
 use Rattle.dns_store.specs.Opens.{keeps as keeps_versions}
 use Rattle.dns_store.specs.declared.checkpoint.CheckpointError.{CheckpointError}
-use Rattle.dns_store.specs.declared.checkpoint.CheckpointError.TheVariants.{Device, Closed, WrongChanges, OutOfMemory}
+use Rattle.dns_store.specs.declared.checkpoint.CheckpointError.TheVariants.{Device, Closed, WrongChanges}
+use Rattle.dns_store.specs.declared.checkpoint.CheckpointError.TheVariants.{OutOfMemory}
 use Rattle.dns_store.specs.Recovered.{AreLed}
 
--- Base is the number of a durable version that isn't older than the base; these octets are its snapshot, and these are the
--- changes from there to the durable version.
+-- Base is the number of a durable version that isn't older than the base; these octets are its snapshot, and
+-- these are the changes from there to the durable version.
 pub record IsBaseOf (k : Kept) (base : ℕ) (octets : List ℕ) (changes : List Change) : Type 0 where
   pub later : k.base ≤ base
   pub so_far : base ≤ length k.shown
@@ -45,8 +46,8 @@ abbrev pub IsKeptNumber : Kept → ℕ → ℕ → ℕ → Type 0
 IsKeptNumber k keep room n = IsMostKept (λ size. size) (entries_of k) keep (k.shape.journal - room) n
 
 -- Nothing is staged, and these are the base version and the changes from there to the durable one.
-pub record IsLent {D : Type 0} {g : Ghosts D} (journal : Journal D g) (base : Zone) (changes : List Change) (k : Kept)
-    : Type 0 where
+pub record IsLent {D : Type 0} {g : Ghosts D} (journal : Journal D g) (base : Zone)
+    (changes : List Change) (k : Kept) : Type 0 where
   pub keeps : keeps_versions journal k
   pub nothing_staged : k.staged ≡ []
   pub base_is : base ≡ record { apex = k.shape.apex; records = version_at k k.base }

@@ -9,8 +9,8 @@ use Rattle.dns_store.specs.Checkpoint.{newest_sectors, sectors_of_snapshot}
 abbrev pub version_from : List Record → Versions → ℕ → List Record
 version_from base vs n = newest_after base (take n vs)
 
--- The changes to so many of the newest versions can be kept: their entries fit in a journal, and each version from the one before them
--- to the newest fits in a snapshot.
+-- The changes to so many of the newest versions can be kept: their entries fit in a journal, and each version
+-- from the one before them to the newest fits in a snapshot.
 pub record MayKeep (snapshot journal : ℕ) (base : List Record) (vs : Versions) (n : ℕ) : Type 0 where
   pub there : n ≤ length vs
   pub entries : newest_sectors (λ size. size) (entries_along base vs) n ≤ journal

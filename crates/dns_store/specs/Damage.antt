@@ -1,5 +1,5 @@
--- Which sector is wrong on a device that isn't opened, and which sectors reading reaches. Words without a format are of format 2, or
--- of both.
+-- Which sector is wrong on a device that isn't opened, and which sectors reading reaches. Words without a
+-- format are of format 2, or of both.
 use Rattle.std.specs.Prelude.{◌≡◌, ◌≢◌, ◌⊎◌, ◌≤◌, ◌<◌, ℕ, ◌+◌, ◌*◌, List, [], ◌∷◌, None, length}
 use Rattle.std.specs.List.{flat_map}
 use Rattle.dns_names.specs.Name.{Labels}
@@ -22,7 +22,8 @@ use Rattle.dns_store.specs.declared.root.OpenError.TheVariants.{Device, Blank, D
 use Rattle.dns_store.specs.Versions.{Shape}
 use Rattle.dns_store.specs.Opens.{sizes_of}
 use Rattle.dns_store.specs.Root.{IsSoundIn, IsFoundRootIn}
-use Rattle.dns_store.specs.Snapshot.{parts_in, HoldsSnapshotIn, IsBadSnapshotIn, IsNoSnapshot, IsReachedPartIn}
+use Rattle.dns_store.specs.Snapshot.{parts_in, HoldsSnapshotIn, IsBadSnapshotIn, IsNoSnapshot}
+use Rattle.dns_store.specs.Snapshot.{IsReachedPartIn}
 
 -- This sector is named; or the device failed, or memory was refused.
 abbrev pub NamesSector : ℕ → OpenError → Type 0
@@ -58,8 +59,10 @@ pub record Step : Type 0 where
   pub after : List Record
   pub behind : Cursor
 
--- The entry at the cursor holds the change, which can be made of the version before and makes a valid zone of it.
-pub record IsStepAtIn (f : Format) (apex : Labels) (c : Content) (at : Cursor) (before : List Record) (s : Step) : Type 0 where
+-- The entry at the cursor holds the change, which can be made of the version before and makes a valid zone of
+-- it.
+pub record IsStepAtIn (f : Format) (apex : Labels) (c : Content) (at : Cursor) (before : List Record)
+    (s : Step) : Type 0 where
   pub found : Finds f at s.behind c (entry s.change)
   pub written : HasEntry s.change
   pub fits : change_fault s.change before ≡ None
@@ -67,7 +70,8 @@ pub record IsStepAtIn (f : Format) (apex : Labels) (c : Content) (at : Cursor) (
   pub valid : IsZone (record { apex = apex; records = s.after })
 
 -- Such entries stand one behind the other, up to that cursor and that version.
-abbrev pub AreStepsIn : Format → Labels → Content → Cursor → List Record → List Step → Cursor → List Record → Type 0
+abbrev pub AreStepsIn : Format → Labels → Content → Cursor → List Record → List Step → Cursor
+    → List Record → Type 0
 AreStepsIn f apex c from base [] at newest = (at ≡ from) × (newest ≡ base)
 AreStepsIn f apex c from base (s ∷ steps) at newest =
     IsStepAtIn f apex c from base s × AreStepsIn f apex c s.behind s.after steps at newest
@@ -83,15 +87,18 @@ IsNoStep apex before octets =
     → ⊥
 
 -- The head at the cursor is named: its entry is that of no change to a valid zone.
-pub record IsNoStepAtIn (f : Format) (apex : Labels) (c : Content) (at : Cursor) (before : List Record) (place : ℕ) : Type 0 where
+pub record IsNoStepAtIn (f : Format) (apex : Labels) (c : Content) (at : Cursor) (before : List Record)
+    (place : ℕ) : Type 0 where
   pub place_is : place ≡ at.at
   pub octets : List ℕ
   pub behind : Cursor
   pub found : Finds f at behind c octets
   pub none : IsNoStep apex before octets
 
--- Behind some entries that are right, the sector belongs to one that is wrong: a body, or the head of no such change.
-pub record IsWrongEntryIn (f : Format) (apex : Labels) (base : List Record) (from : Cursor) (c : Content) (place : ℕ) : Type 0 where
+-- Behind some entries that are right, the sector belongs to one that is wrong: a body, or the head of no such
+-- change.
+pub record IsWrongEntryIn (f : Format) (apex : Labels) (base : List Record) (from : Cursor) (c : Content)
+    (place : ℕ) : Type 0 where
   pub steps : List Step
   pub at : Cursor
   pub newest : List Record
@@ -121,20 +128,23 @@ journal_from s r = record {
 }
 
 -- The snapshot's first sector is named: its octets are those of no zone.
-pub record IsNoZoneAtIn (f : Format) (s : Shape) (x : List ℕ) (r : Root) (c : Content) (place : ℕ) : Type 0 where
+pub record IsNoZoneAtIn (f : Format) (s : Shape) (x : List ℕ) (r : Root) (c : Content)
+    (place : ℕ) : Type 0 where
   pub place_is : place ≡ bank_at s r
   pub octets : List ℕ
   pub holds : HoldsSnapshotIn f x (bank_at s r) c octets
   pub none : IsNoSnapshot s.apex octets
 
 -- The snapshot is a zone's, and the sector is wrong in the journal behind it.
-pub record IsWrongBehindIn (f : Format) (s : Shape) (x : List ℕ) (r : Root) (c : Content) (place : ℕ) : Type 0 where
+pub record IsWrongBehindIn (f : Format) (s : Shape) (x : List ℕ) (r : Root) (c : Content)
+    (place : ℕ) : Type 0 where
   pub base : List Record
   pub holds : HoldsSnapshotIn f x (bank_at s r) c (flat_map plain base)
   pub valid : IsZone (record { apex = s.apex; records = base })
   pub wrong : IsWrongEntryIn f s.apex base (journal_from s r) c place
 
--- The sector is wrong in the bank that the root x names: it is neither zeros nor its own, or not what is due there.
+-- The sector is wrong in the bank that the root x names: it is neither zeros nor its own, or not what is due
+-- there.
 abbrev pub IsWrongBankIn : Format → Shape → List ℕ → Root → Content → ℕ → Type 0
 IsWrongBankIn f s x r c place =
     IsSpoilt f c (bank_at s r) (bank_until s r) place
@@ -142,8 +152,8 @@ IsWrongBankIn f s x r c place =
     ⊎ IsNoZoneAtIn f s x r c place
     ⊎ IsWrongBehindIn f s x r c place
 
--- Damaged names the sector that is wrong: the first, which is no root that can be opened once more, or one of the bank that it
--- names.
+-- Damaged names the sector that is wrong: the first, which is no root that can be opened once more, or one of
+-- the bank that it names.
 abbrev pub NamesWrongIn : Format → Shape → Content → OpenError → Type 0
 NamesWrongIn f s c Device = Unit {0}
 NamesWrongIn f s c Blank = Unit {0}
@@ -156,10 +166,10 @@ NamesWrongIn f s c OutOfMemory = Unit {0}
 abbrev pub NamesWrong : Shape → Content → OpenError → Type 0
 NamesWrong s c e = NamesWrongIn Two s c e
 
--- Behind entries that are right, of which each sector is intact, reading reaches the sector: where the next head is due, or a body
--- that the head there announces.
-pub record IsReachedEntryIn (f : Format) (apex : Labels) (base : List Record) (from : Cursor) (c : Content) (place : ℕ)
-    : Type 0 where
+-- Behind entries that are right, of which each sector is intact, reading reaches the sector: where the next
+-- head is due, or a body that the head there announces.
+pub record IsReachedEntryIn (f : Format) (apex : Labels) (base : List Record) (from : Cursor)
+    (c : Content) (place : ℕ) : Type 0 where
   pub steps : List Step
   pub at : Cursor
   pub newest : List Record
@@ -168,26 +178,30 @@ pub record IsReachedEntryIn (f : Format) (apex : Labels) (base : List Record) (f
   pub due : at.at < at.until
   pub reached : IsReachedAt f at c place
 
--- The snapshot is a zone's and each of its sectors is intact, and the sector is reached in the journal behind it.
-pub record IsReachedBehindIn (f : Format) (s : Shape) (x : List ℕ) (r : Root) (c : Content) (place : ℕ) : Type 0 where
+-- The snapshot is a zone's and each of its sectors is intact, and the sector is reached in the journal behind
+-- it.
+pub record IsReachedBehindIn (f : Format) (s : Shape) (x : List ℕ) (r : Root) (c : Content)
+    (place : ℕ) : Type 0 where
   pub base : List Record
   pub holds : HoldsSnapshotIn f x (bank_at s r) c (flat_map plain base)
   pub own : AreIntact f c (bank_at s r) (parts_in f x)
   pub valid : IsZone (record { apex = s.apex; records = base })
   pub reached : IsReachedEntryIn f s.apex base (journal_from s r) c place
 
--- Reading reaches the sector in the bank that the root x names: it is a part of the snapshot, or of the journal behind that.
+-- Reading reaches the sector in the bank that the root x names: it is a part of the snapshot, or of the
+-- journal behind that.
 abbrev pub IsReachedBankIn : Format → Shape → List ℕ → Root → Content → ℕ → Type 0
 IsReachedBankIn f s x r c place =
     ((index : ℕ) × (place ≡ bank_at s r + index) × IsReachedPartIn f x (bank_at s r) c index)
     ⊎ IsReachedBehindIn f s x r c place
 
--- Reading a store of this shape reaches the sector: it is the first; or, behind the root of such a store, one of the bank that the
--- root names.
+-- Reading a store of this shape reaches the sector: it is the first; or, behind the root of such a store, one
+-- of the bank that the root names.
 abbrev pub IsReachedIn : Format → Shape → Content → ℕ → Type 0
 IsReachedIn f s c place =
     ((place ≡ 0) × (0 < length c))
-    ⊎ ((r : Root) × IsFoundRootIn f (sizes_of s) (length c) (sector_at c 0) r × IsReachedBankIn f s (sector_at c 0) r c place)
+    ⊎ ((r : Root) × IsFoundRootIn f (sizes_of s) (length c) (sector_at c 0) r
+    × IsReachedBankIn f s (sector_at c 0) r c place)
 
 abbrev pub IsReached : Shape → Content → ℕ → Type 0
 IsReached s c place = IsReachedIn Two s c place

@@ -25,7 +25,8 @@ pub record IsNewPart (octets : List ℕ) (index : ℕ) (x : List ℕ) : Type 0 w
   pub holds : Holds x (piece octets index)
   pub own : Own (index + 1) x
 
--- The sector that stands at this index behind the root of a new store: a part of the snapshot, or zeros behind the last.
+-- The sector that stands at this index behind the root of a new store: a part of the snapshot, or zeros
+-- behind the last.
 pub record IsLaid (octets : List ℕ) (index : ℕ) (x : List ℕ) : Type 0 where
   pub part : index < snapshot_sectors (length octets) → IsNewPart octets index x
   pub none : snapshot_sectors (length octets) ≤ index → x ≡ blank
@@ -51,7 +52,8 @@ first_of records = record { loaded = records; versions = []; base = 0; openings 
 
 -- A crash while a store is made leaves what it might have left before, a blank root, or the new store.
 abbrev pub LeftByFormat : {D : Type 0} → Ghosts D → Shape → List Record → D → Content → Type 0
-LeftByFormat g shape records device c = g.may_leave device c ⊎ HasBlankRoot c ⊎ opens shape (first_of records) c
+LeftByFormat g shape records device c =
+    g.may_leave device c ⊎ HasBlankRoot c ⊎ opens shape (first_of records) c
 
 -- the same of one step: what it might have left before, a blank root, or all of it
 abbrev pub LeftByMaking : {D : Type 0} → Ghosts D → Root → List ℕ → ℕ → D → Content → Type 0

@@ -20,7 +20,8 @@ use Rattle.dns_store.specs.declared.checkpoint.CheckpointError.TheVariants as ma
 use Rattle.dns_store.specs.declared.migrating.Migration.{Migration}
 use Rattle.dns_store.specs.declared.migrating.Migration.TheVariants.{Migrated, Already}
 use Rattle.dns_store.specs.declared.migrating.MigrateError.{MigrateError}
-use Rattle.dns_store.specs.declared.migrating.MigrateError.TheVariants.{Device, Blank, Damaged, Geometry, ZoneTooLarge, OutOfMemory}
+use Rattle.dns_store.specs.declared.migrating.MigrateError.TheVariants.{Device, Blank, Damaged, Geometry}
+use Rattle.dns_store.specs.declared.migrating.MigrateError.TheVariants.{ZoneTooLarge, OutOfMemory}
 use Rattle.dns_store.specs.Versions.{Shape, Opened, newest_after}
 use Rattle.dns_store.specs.Choosing.{IsChosen}
 use Rattle.dns_store.specs.Recovered.{AreLed}
@@ -37,30 +38,34 @@ pub record IsMigrated (shape : Shape) (before after : Opened) : Type 0 where
   pub base : after.base + kept ≡ length before.versions
   pub openings : after.openings ≡ before.openings + 1
 
--- What a device of format 1 holds, as versions, and how often it was opened. Nothing is asked of it for later writing.
+-- What a device of format 1 holds, as versions, and how often it was opened. Nothing is asked of it for later
+-- writing.
 abbrev pub old_opens : Shape → Opened → Content → Type 0
 old_opens shape o c =
     (s : Stored) × OpensAsIn One (sizes_of shape) c s × IsPartOfIn One shape.apex o s × IsOpened o.openings c
 
--- `migrate` and then `open` open the content as these versions: what format 2 holds as it is, and what format 1 holds with the base
--- that is chosen.
+-- `migrate` and then `open` open the content as these versions: what format 2 holds as it is, and what format
+-- 1 holds with the base that is chosen.
 abbrev pub opens_migrated : Shape → Opened → Content → Type 0
-opens_migrated shape o c = opens shape o c ⊎ ((before : Opened) × old_opens shape before c × IsMigrated shape before o)
+opens_migrated shape o c =
+    opens shape o c ⊎ ((before : Opened) × old_opens shape before c × IsMigrated shape before o)
 
 -- Each crash leaves a store, in one of the formats, that has room in format 2.
 abbrev pub MayMigrate : {D : Type 0} → Ghosts D → Shape → D → Type 0
 MayMigrate g shape device = (c : Content) → g.may_leave device c → (o : Opened) × opens_migrated shape o c
 
--- `migrate` and then `open` open it as they would have opened a content that a crash might have left of the device before: its version
--- and base were possible together. Which versions there were before that base stands on no device, so this holds whichever they were.
+-- `migrate` and then `open` open it as they would have opened a content that a crash might have left of the
+-- device before: its version and base were possible together. Which versions there were before that base
+-- stands on no device, so this holds whichever they were.
 abbrev pub MigratesAsPossible : {D : Type 0} → Ghosts D → Shape → D → Content → Type 0
 MigratesAsPossible g shape device c =
-    (d : Content) × g.may_leave device d × ((o : Opened) → opens_migrated shape o d → opens_migrated shape o c)
+    (d : Content) × g.may_leave device d
+    × ((o : Opened) → opens_migrated shape o d → opens_migrated shape o c)
 
--- What was read of a store of format 1 is what is stored: its root, the number of the newest version, the base, and the changes from
--- there.
-pub record IsReadOld (shape : Shape) (o : Opened) (s : Stored) (c : Content) (root : Root) (version : ℕ) (base : Zone)
-    (changes : List Change)
+-- What was read of a store of format 1 is what is stored: its root, the number of the newest version, the
+-- base, and the changes from there.
+pub record IsReadOld (shape : Shape) (o : Opened) (s : Stored) (c : Content) (root : Root)
+    (version : ℕ) (base : Zone) (changes : List Change)
     : Type 0 where
   pub opens : OpensAsIn One (sizes_of shape) c s
   pub part : IsPartOfIn One shape.apex o s
@@ -86,24 +91,27 @@ pub record IsSerialOf (records : List Record) (serial : ℕ) : Type 0 where
 -- the number and the serial of the newest version
 abbrev pub IsAnswer : Opened → Migration → Type 0
 IsAnswer o Already = Unit {0}
-IsAnswer o (Migrated version serial) = (version ≡ length o.versions) × IsSerialOf (newest_after o.loaded o.versions) serial
+IsAnswer o (Migrated version serial) =
+    (version ≡ length o.versions) × IsSerialOf (newest_after o.loaded o.versions) serial
 
--- From now on each crash leaves what `open` alone opens, as a content of the device before was opened by both; and the answer is of that.
+-- From now on each crash leaves what `open` alone opens, as a content of the device before was opened by
+-- both; and the answer is of that.
 abbrev pub TakesMigrated : {D : Type 0} → Ghosts D → Shape → D → D → Migration → Type 0
 TakesMigrated g shape before after answer =
     (d : Content) × g.may_leave before d
     × ((o : Opened) → opens_migrated shape o d
     → ((c : Content) → g.may_leave after c → opens shape o c) × IsAnswer o answer)
 
--- Why a store that could be migrated is not: the device failed, memory was refused, or it was opened too often. This opening is one of
--- so many.
+-- Why a store that could be migrated is not: the device failed, memory was refused, or it was opened too
+-- often. This opening is one of so many.
 abbrev pub IsMigrateStopped : ℕ → MigrateError → Type 0
 IsMigrateStopped openings e = (e ≡ Device) ⊎ (e ≡ OutOfMemory) ⊎ ((e ≡ Damaged 0) × (2 ^ 64 ≤ openings))
 
 -- So it is by how often a content would be opened then that a crash might have left of the device before.
 abbrev pub StopsMigrating : {D : Type 0} → Ghosts D → Shape → D → MigrateError → Type 0
 StopsMigrating g shape device e =
-    (d : Content) × g.may_leave device d × ((o : Opened) → opens_migrated shape o d → IsMigrateStopped o.openings e)
+    (d : Content) × g.may_leave device d
+    × ((o : Opened) → opens_migrated shape o d → IsMigrateStopped o.openings e)
 
 -- A refusal of reading, as one of migrating.
 abbrev pub migrate_error : OpenError → MigrateError
@@ -125,8 +133,8 @@ write_error written.Device = Device
 write_error written.Closed = Device
 write_error written.OutOfMemory = OutOfMemory
 
--- Why a device isn't migrated: reading it by the rules of format 1 was refused, for what stands there; or the newest version takes more
--- sectors of format 2 than a snapshot has.
+-- Why a device isn't migrated: reading it by the rules of format 1 was refused, for what stands there; or the
+-- newest version takes more sectors of format 2 than a snapshot has.
 pub record IsUnread (shape : Shape) (count : ℕ) (c : Content) (e : MigrateError) : Type 0 where
   pub error : OpenError
   pub named : e ≡ migrate_error error

@@ -6,7 +6,8 @@ use Rattle.dns_sectors.specs.Device.{Content}
 use Rattle.dns_layout.specs.Sector.{sector_at, number}
 use Rattle.dns_layout.specs.Forms.{SaysRootIn}
 use Rattle.dns_layout.specs.Journal.{place_behind}
-use Rattle.dns_layout.specs.Store.{Shape as Sizes, Stored, journal_place, bank_end, version_of}
+use Rattle.dns_layout.specs.Store.{Shape as Sizes, Stored, IsRootIn, all_sectors, journal_place, bank_end}
+use Rattle.dns_layout.specs.Store.{version_of}
 use Rattle.dns_layout.specs.declared.format.Format.{Format}
 use Rattle.dns_layout.specs.declared.format.Format.TheVariants.{Two}
 use Rattle.dns_layout.specs.declared.root.Root.{Root}
@@ -27,9 +28,13 @@ pub record IsInRange (snapshot journal : ℕ) : Type 0 where
   pub parts : snapshot ≤ 65536
   pub entries : journal ≤ 65536
 
+-- The first sector is a root of these sizes, and the device has as many sectors as they take.
+abbrev pub HasRootIn : Format → Sizes → ℕ → List ℕ → Type 0
+HasRootIn f sizes count first = IsRootIn f sizes first × (count ≡ all_sectors sizes)
+
 -- What was read is what is stored.
-pub record IsReadIn (f : Format) (sizes : Sizes) (c : Content) (o : Opened) (s : Stored) (root : Root) (end : Cursor)
-    (base : List Record) (changes : List Change) (newest : List Record)
+pub record IsReadIn (f : Format) (sizes : Sizes) (c : Content) (o : Opened) (s : Stored)
+    (root : Root) (end : Cursor) (base : List Record) (changes : List Change) (newest : List Record)
     : Type 0 where
   pub says : SaysRootIn f (sector_at c 0) root
   pub until_is : end.until ≡ bank_end sizes (number (sector_at c 0))
@@ -39,10 +44,12 @@ pub record IsReadIn (f : Format) (sizes : Sizes) (c : Content) (o : Opened) (s :
   pub led : AreLed (base_of o) (drop o.base o.versions) changes
   pub newest_is : newest ≡ newest_after o.loaded o.versions
 
-abbrev pub IsRead : Sizes → Content → Opened → Stored → Root → Cursor → List Record → List Change → List Record → Type 0
+abbrev pub IsRead : Sizes → Content → Opened → Stored → Root → Cursor → List Record → List Change
+    → List Record → Type 0
 IsRead sizes c o s root end base changes newest = IsReadIn Two sizes c o s root end base changes newest
 
--- Why a store that was opened so often is not opened again: the device failed, memory was refused, or it was opened too often.
+-- Why a store that was opened so often is not opened again: the device failed, memory was refused, or it was
+-- opened too often.
 abbrev pub IsStopped : ℕ → OpenError → Type 0
 IsStopped openings e = (e ≡ Device) ⊎ (e ≡ OutOfMemory) ⊎ ((e ≡ Damaged 0) × (2 ^ 64 - 1 ≤ openings))
 
@@ -50,8 +57,9 @@ IsStopped openings e = (e ≡ Device) ⊎ (e ≡ OutOfMemory) ⊎ ((e ≡ Damage
 abbrev pub MayOpen : {D : Type 0} → Ghosts D → Shape → D → Type 0
 MayOpen g shape device = (c : Content) → g.may_leave device c → (o : Opened) × opens shape o c
 
--- It opens as a content does that a crash might have left of the device before, opened as often or once more: its version and base
--- were possible together. Which versions there were before that base is on no device, so this holds whichever they were.
+-- It opens as a content does that a crash might have left of the device before, opened as often or once more:
+-- its version and base were possible together. Which versions there were before that base is on no device, so
+-- this holds whichever they were.
 abbrev pub OpensAsPossible : {D : Type 0} → Ghosts D → Shape → D → Content → Type 0
 OpensAsPossible g shape device c =
     (d : Content) × g.may_leave device d
@@ -76,12 +84,15 @@ pub record IsTaken {D I : Type 0} {g : Ghosts D} (shape : Shape) (o : Opened) (s
   pub keeps_them : keeps store (fresh shape o)
   pub newest_is : newest ≡ record { apex = shape.apex; records = newest_after o.loaded o.versions }
 
--- The store keeps from here on what a crash might have left of the device before, opened once more, whichever versions there were.
+-- The store keeps from here on what a crash might have left of the device before, opened once more, whichever
+-- versions there were.
 abbrev pub TakesPossible : {D I : Type 0} {g : Ghosts D} → Shape → D → KeptStore D I g → Zone → Type 0
 TakesPossible {g} shape device store newest =
-    (d : Content) × g.may_leave device d × ((o : Opened) → opens shape o d → IsTaken shape (opened_again o) store newest)
+    (d : Content) × g.may_leave device d
+    × ((o : Opened) → opens shape o d → IsTaken shape (opened_again o) store newest)
 
--- The answer is that for what opens as these versions: the newest one and its number, the base, and the changes from there.
+-- The answer is that for what opens as these versions: the newest one and its number, the base, and the
+-- changes from there.
 pub record AnswersAs {D I : Type 0} {g : Ghosts D} (shape : Shape) (o : Opened) (store : KeptStore D I g)
     (newest : Zone)
     : Type 0 where

@@ -1,7 +1,8 @@
 -- What stands in a device's first sector. Words without a format are of format 2, or of both.
 use Rattle.std.specs.Prelude.{◌≡◌, ◌≢◌, ◌⊎◌, ◌≤◌, ◌<◌, ◌-◌, ◌^◌, ℕ, List}
 use Rattle.dns_layout.specs.Apex.{IsPlain, apex_octets}
-use Rattle.dns_layout.specs.Sector.{blank, tag, open_count, number, snapshot_length, snapshot_room, clear_in, apex_field_in}
+use Rattle.dns_layout.specs.Sector.{blank, tag, open_count, number, snapshot_length, snapshot_room, clear_in}
+use Rattle.dns_layout.specs.Sector.{apex_field_in}
 use Rattle.dns_layout.specs.Sector.{snapshot_sectors_in, root_tag_in}
 use Rattle.dns_layout.specs.Own.{IsIntactIn}
 use Rattle.dns_layout.specs.Forms.{SaysRootIn}
@@ -41,12 +42,13 @@ RootRefusalIn f s count x (Damaged place) = (place ≡ 0) × (x ≢ blank) × (I
 RootRefusalIn f s count x Geometry = IsSoundIn f x × (IsRootIn f s x → count ≡ all_sectors s → ⊥)
 RootRefusalIn f s count x OutOfMemory = ⊥
 
--- Why a device isn't opened as a store of this shape: sizes that no store has, what its first sector is; or another sector isn't
--- what it should be, behind a root of that shape.
+-- Why a device isn't opened as a store of this shape: sizes that no store has, what its first sector is; or
+-- another sector isn't what it should be, behind a root of that shape.
 abbrev pub OpenRefusalIn : Format → Shape → ℕ → List ℕ → OpenError → Type 0
 OpenRefusalIn f s count x Device = Unit {0}
 OpenRefusalIn f s count x Blank = x ≡ blank
-OpenRefusalIn f s count x (Damaged place) = RootRefusalIn f s count x (Damaged place) ⊎ (IsRootIn f s x × (count ≡ all_sectors s))
+OpenRefusalIn f s count x (Damaged place) =
+    RootRefusalIn f s count x (Damaged place) ⊎ (IsRootIn f s x × (count ≡ all_sectors s))
 OpenRefusalIn f s count x Geometry =
     (count ≡ 0) ⊎ (65536 < s.snapshot) ⊎ (65536 < s.journal) ⊎ RootRefusalIn f s count x Geometry
 OpenRefusalIn f s count x OutOfMemory = Unit {0}

@@ -16,12 +16,13 @@ use Rattle.dns_journal.specs.declared.read.ReadError.TheVariants.{Device, Damage
 abbrev pub parts_in : Format → List ℕ → ℕ
 parts_in f x = snapshot_sectors_in f (snapshot_length x)
 
--- The parts of the snapshot that the root x names stand from this place on, with zeros behind its end, and these are its
--- octets.
+-- The parts of the snapshot that the root x names stand from this place on, with zeros behind its end, and
+-- these are its octets.
 pub record HoldsSnapshotIn (f : Format) (x : List ℕ) (at : ℕ) (c : Content) (octets : List ℕ) : Type 0 where
   pub parts : ArePartsIn f x 0 (sectors_from c at (parts_in f x))
   pub zeros : AreZeros (drop (snapshot_length x) (flat_map (payload_in f) (sectors_from c at (parts_in f x))))
-  pub octets_are : octets ≡ take (snapshot_length x) (flat_map (payload_in f) (sectors_from c at (parts_in f x)))
+  pub octets_are : octets
+      ≡ take (snapshot_length x) (flat_map (payload_in f) (sectors_from c at (parts_in f x)))
 
 -- The sector there is the first that isn't the expected part.
 pub record IsWrongPartIn (f : Format) (x : List ℕ) (at : ℕ) (c : Content) (place : ℕ) : Type 0 where
@@ -35,7 +36,8 @@ pub record IsWrongPartIn (f : Format) (x : List ℕ) (at : ℕ) (c : Content) (p
 pub record IsWrongTailIn (f : Format) (x : List ℕ) (at : ℕ) (c : Content) (place : ℕ) : Type 0 where
   pub place_is : place + 1 ≡ at + parts_in f x
   pub expected : ArePartsIn f x 0 (sectors_from c at (parts_in f x))
-  pub wrong : AreZeros (drop (snapshot_length x) (flat_map (payload_in f) (sectors_from c at (parts_in f x)))) → ⊥
+  pub wrong : AreZeros
+      (drop (snapshot_length x) (flat_map (payload_in f) (sectors_from c at (parts_in f x)))) → ⊥
 
 abbrev pub IsBadPartIn : Format → List ℕ → ℕ → Content → ReadError → Type 0
 IsBadPartIn f x at c Device = Unit {0}
@@ -47,8 +49,8 @@ IsBadSnapshotIn f x at c Device = Unit {0}
 IsBadSnapshotIn f x at c (Damaged place) = IsWrongPartIn f x at c place ⊎ IsWrongTailIn f x at c place
 IsBadSnapshotIn f x at c OutOfMemory = Unit {0}
 
--- Reading the snapshot that the root x names, from this place on, reaches this part: those before it are intact and the expected
--- ones.
+-- Reading the snapshot that the root x names, from this place on, reaches this part: those before it are
+-- intact and the expected ones.
 pub record IsReachedPartIn (f : Format) (x : List ℕ) (at : ℕ) (c : Content) (index : ℕ) : Type 0 where
   pub within : index < parts_in f x
   pub before : ArePartsIn f x 0 (sectors_from c at index)
@@ -62,4 +64,5 @@ pub record AreStored (octets : List ℕ) (records : List Record) : Type 0 where
 -- They are the records of no zone with this apex, in order.
 abbrev pub IsNoSnapshot : Labels → List ℕ → Type 0
 IsNoSnapshot apex octets =
-    (records : List Record) → IsZone (record { apex = apex; records = records }) → octets ≡ flat_map plain records → ⊥
+    (records : List Record) → IsZone (record { apex = apex; records = records })
+    → octets ≡ flat_map plain records → ⊥

@@ -23,6 +23,7 @@ pub entries_length : (first : List Record) (vs : Versions) → length (entries_a
 entries_length first [] = refl
 entries_length first (w ∷ vs) = ap suc (entries_length w vs)
 
-pub newest_append : (first : List Record) (vs : Versions) (v : List Record) → newest_after first (vs ++ v ∷ []) ≡ v
+pub newest_append : (first : List Record) (vs : Versions) (v : List Record)
+    → newest_after first (vs ++ v ∷ []) ≡ v
 newest_append first [] v = refl
 newest_append first (w ∷ vs) v = newest_append w vs v

@@ -21,7 +21,8 @@ pub enum DeviceFormat {
     Other,
 }
 
-/// The format that the device is kept in, by the tag of its first sector alone. It takes no memory, and only reads.
+/// The format that the device is kept in, by the tag of its first sector alone. It takes no memory, and only
+/// reads.
 pub fn format_of<D: Sectors>(device: &mut D) -> Result<DeviceFormat, DeviceError>
     ensures format { D.is_honest device.old → IfOk result (IsFormat (sector_at (D.seen device.old) 0)) }
     ensures none { D.count device.old ≡ 0 → result ≡ Ok DeviceFormat.Other }

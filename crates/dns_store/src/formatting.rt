@@ -1,12 +1,15 @@
 //! A store is made on a device: its root is made blank, everything behind it is written, and then the root.
-ghost use Rattle.std.specs.Prelude.{◌≡◌, ◌⊎◌, ◌≤◌, ◌<◌, ◌+◌, ◌-◌, ◌*◌, ◌^◌, ◌↔◌, ℕ, List, length, IsTrue, IfOk, OnOk};
+ghost use Rattle.std.specs.Prelude.{◌≡◌, ◌⊎◌, ◌≤◌, ◌<◌, ◌+◌, ◌-◌, ◌*◌, ◌^◌, ◌↔◌, ℕ, List, length, IsTrue};
+ghost use Rattle.std.specs.Prelude.{IfOk, OnOk};
 ghost use Rattle.std.specs.List.{flat_map};
 ghost use Rattle.dns_records.specs.Record.{plain};
 ghost use Rattle.dns_sectors.specs.Device.{Only, LeavesOnly, CountsFailure};
 ghost use Rattle.dns_layout.specs.Sector.{sector_at, snapshot_sectors as sectors_of_snapshot};
 ghost use Rattle.dns_journal.specs.Reads.{HasRisen};
+ghost use Rattle.dns_store.specs.Versions.{shape_given};
 ghost use Rattle.dns_store.specs.Opens.{opens};
-ghost use Rattle.dns_store.specs.Formatting.{IsGeometry, IsLaid, IsLaidTo, HasBlankRoot, IsMade, first_of, LeftByFormat};
+ghost use Rattle.dns_store.specs.Formatting.{IsGeometry, IsLaid, IsLaidTo, HasBlankRoot, IsMade, first_of};
+ghost use Rattle.dns_store.specs.Formatting.{LeftByFormat};
 ghost use Rattle.dns_store.specs.Formatting.{LeftByMaking};
 
 use crate::octets::snapshot_len;
@@ -74,16 +77,19 @@ pub fn format<D: Sectors, I: ZoneIndex>(
     journal: u32,
 ) -> Result<(), FormatError>
     // A crash at any moment of it leaves what it might have left before, a blank root, or the new store.
-    ensures any_moment { D.is_honest device.old → LeavesOnly D.moment D.left_since device.old device.new (LeftByFormat D.Sectors
-        (record { apex = zone.now.apex; snapshot = snapshot; journal = journal }) zone.now.records device.old) }
-    ensures made { D.is_honest device.old → OnOk result ((c : List (List ℕ)) → D.may_leave device.new c
-        → opens (record { apex = zone.now.apex; snapshot = snapshot; journal = journal }) (first_of zone.now.records) c) }
-    ensures geometry { result ≡ Err FormatError.Geometry ↔ (IsGeometry snapshot journal (D.count device.old) → ⊥) }
+    ensures any_moment { D.is_honest device.old → LeavesOnly D.moment D.left_since device.old device.new
+        (LeftByFormat D.Sectors (shape_given zone.now.apex snapshot journal) zone.now.records device.old) }
+    ensures made { D.is_honest device.old → OnOk result
+        ((c : List (List ℕ)) → D.may_leave device.new c
+        → opens (shape_given zone.now.apex snapshot journal) (first_of zone.now.records) c) }
+    ensures geometry { result ≡ Err FormatError.Geometry
+        ↔ (IsGeometry snapshot journal (D.count device.old) → ⊥) }
     ensures too_large { result ≡ Err FormatError.ZoneTooLarge
         ↔ (IsGeometry snapshot journal (D.count device.old)
         × (snapshot < sectors_of_snapshot (length (flat_map plain zone.now.records)))) }
     ensures memory { result ≡ Err FormatError.OutOfMemory → device.new ≡ device.old }
-    ensures unwritten { (result ≡ Err FormatError.Geometry) ⊎ (result ≡ Err FormatError.ZoneTooLarge) → device.new ≡ device.old }
+    ensures unwritten { (result ≡ Err FormatError.Geometry) ⊎ (result ≡ Err FormatError.ZoneTooLarge)
+        → device.new ≡ device.old }
     ensures device { result ≡ Err FormatError.Device → HasRisen (D.failed device.old) (D.failed device.new) }
     ensures grows { D.failed device.old ≤ D.failed device.new }
     ensures quiet { OnOk result (D.failed device.new ≡ D.failed device.old) }
@@ -143,8 +149,8 @@ fn make<D: Sectors>(device: &mut D, root: &Root, octets: &[u8]) -> Result<(), De
     requires small { D.count device.old ≤ 2 ^ 20 }
     ensures any_moment { D.is_honest device.old → LeavesOnly D.moment D.left_since device.old device.new
         (LeftByMaking D.Sectors root.now octets.now (D.count device.old) device.old) }
-    ensures made { D.is_honest device.old → OnOk result ((c : List (List ℕ)) → D.may_leave device.new c
-        → IsMade root.now octets.now (D.count device.old) c) }
+    ensures made { D.is_honest device.old → OnOk result
+        ((c : List (List ℕ)) → D.may_leave device.new c → IsMade root.now octets.now (D.count device.old) c) }
     ensures failed { CountsFailure result (D.failed device.old) (D.failed device.new) }
     ensures honest { D.is_honest device.new ↔ D.is_honest device.old }
     ensures count { D.count device.new ≡ D.count device.old }
@@ -166,10 +172,14 @@ fn make<D: Sectors>(device: &mut D, root: &Root, octets: &[u8]) -> Result<(), De
 // Writes each sector behind the root, in order, and makes them durable.
 fn write_behind_root<D: Sectors>(device: &mut D, octets: &[u8]) -> Result<(), DeviceError>
     requires { D.count device.old ≤ 2 ^ 20 }
-    ensures laid { D.is_honest device.old → OnOk result (IsLaidTo octets.now (D.count device.old) (D.seen device.new)) }
-    ensures root { D.is_honest device.old → OnOk result (sector_at (D.seen device.new) 0 ≡ sector_at (D.seen device.old) 0) }
-    ensures durable { D.is_honest device.old → OnOk result (Only (D.seen device.new) (D.may_leave device.new)) }
-    ensures any_moment { D.is_honest device.old → ((c : List (List ℕ)) → D.may_leave device.old c → HasBlankRoot c)
+    ensures laid { D.is_honest device.old → OnOk result
+        (IsLaidTo octets.now (D.count device.old) (D.seen device.new)) }
+    ensures root { D.is_honest device.old → OnOk result
+        (sector_at (D.seen device.new) 0 ≡ sector_at (D.seen device.old) 0) }
+    ensures durable { D.is_honest device.old → OnOk result
+        (Only (D.seen device.new) (D.may_leave device.new)) }
+    ensures any_moment { D.is_honest device.old →
+        ((c : List (List ℕ)) → D.may_leave device.old c → HasBlankRoot c)
         → LeavesOnly D.moment D.left_since device.old device.new HasBlankRoot }
     ensures failed { CountsFailure result (D.failed device.old) (D.failed device.new) }
     ensures honest { D.is_honest device.new ↔ D.is_honest device.old }

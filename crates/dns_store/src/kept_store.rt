@@ -1,6 +1,7 @@
 //! The store of a zone on a device, as the layer above sees it: a journal in versions, the zone at its base,
 //! and the changes from there.
-ghost use Rattle.std.specs.Prelude.{◌≡◌, ◌⊎◌, ◌≤◌, ◌+◌, ◌++◌, ◌*◌, ◌^◌, ◌↔◌, [], true, false, ℕ, List, length, drop, OnOk, OnErr};
+ghost use Rattle.std.specs.Prelude.{◌≡◌, ◌⊎◌, ◌≤◌, ◌+◌, ◌++◌, ◌*◌, ◌^◌, ◌↔◌, [], true, false, ℕ, List};
+ghost use Rattle.std.specs.Prelude.{length, drop, OnOk, OnErr};
 
 use crate::{CheckpointError, ZoneStore};
 use dns_changes::Change;
@@ -68,13 +69,14 @@ impl<D: Sectors, I: ZoneIndex> KeptStore<D, I> {
         ensures base { result.base ≡ base }
         ensures changes { result.changes ≡ changes.entry }
         ensures newest { newest_of result.journal ≡ next.version }
-        ensures keeps { (shape : Shape) (o : Opened) (s : Stored) (x : List ℕ) (parts : List (List ℕ)) → D.is_honest device
-            → Only (D.seen device) (D.may_leave device)
-            → OpensBy (sizes_of shape) (D.seen device) x parts s → SaysRoot x root → bank_open x ≤ open_count x
+        ensures keeps { (shape : Shape) (o : Opened) (s : Stored) (x : List ℕ) (parts : List (List ℕ))
+            → D.is_honest device → Only (D.seen device) (D.may_leave device)
+            → OpensBy (sizes_of shape) (D.seen device) x parts s → SaysRoot x root
+            → bank_open x ≤ open_count x
             → AllBehind (open_count x) (version_of s) (D.seen device) → IsPartOf shape.apex o s
             → next.until ≡ bank_end (sizes_of shape) (number x)
-            → next.at ≡ place_behind (journal_place (sizes_of shape) (number x)) s.entries → next.version ≡ version_of s
-            → next.opened ≡ open_count x → open_count x ≡ o.openings
+            → next.at ≡ place_behind (journal_place (sizes_of shape) (number x)) s.entries
+            → next.version ≡ version_of s → next.opened ≡ open_count x → open_count x ≡ o.openings
             → base ≡ record { apex = shape.apex; records = base_of o }
             → AreLed (base_of o) (drop o.base o.versions) changes.entry.items
             → keeps result (fresh shape o) }
@@ -89,7 +91,8 @@ impl<D: Sectors, I: ZoneIndex> KeptStore<D, I> {
 
     /// The version that the journal begins at.
     pub fn base(&self) -> &Zone<I>
-        ensures { (k : Kept) → keeps self.now k → result.now ≡ record { apex = k.shape.apex; records = version_at k k.base } }
+        ensures { (k : Kept) → keeps self.now k
+            → result.now ≡ record { apex = k.shape.apex; records = version_at k k.base } }
     {
         &self.base
     }

@@ -23,7 +23,7 @@ pub use device_format::{DeviceFormat, format_of};
 pub use dns_journal::{FlushError, StageError};
 pub use formatting::{FEWEST_ENTRIES, FormatError, format};
 pub use kept_store::KeptStore;
-pub use laws::store_law;
+pub use laws::{opens_law, store_law};
 pub use migrating::{MigrateError, Migration, migrate};
 pub use octets::{octets_after, snapshot_len};
 pub use recovery::{MOST_SECTORS, open};

@@ -6,7 +6,7 @@ ghost use Rattle.dns_layout.specs.Sector.{sector_at, tag, root_tag};
 ghost use Rattle.dns_journal.specs.Reads.{OnlyReads, HasRisen};
 ghost use Rattle.dns_store.specs.Opening.{IsInRange};
 ghost use Rattle.dns_layout.specs.Store.{Stored};
-ghost use Rattle.dns_store.specs.Versions.{Shape, Opened, newest_after};
+ghost use Rattle.dns_store.specs.Versions.{Shape, Opened, newest_after, shape_given};
 ghost use Rattle.dns_store.specs.Opens.{opens};
 ghost use Rattle.dns_store.specs.Checkpoint.{sectors_of_snapshot};
 ghost use Rattle.dns_store.specs.Migrating.{MayMigrate, MigratesAsPossible, TakesMigrated, StopsMigrating};
@@ -141,29 +141,26 @@ pub fn migrate<D: Sectors, I: ZoneIndex>(
     // On a device of which each crash leaves a store with room in format 2, it is migrated; or the device
     // failed, memory was refused, or it was opened too often.
     ensures migrated { D.is_honest device.old → IsInRange snapshot journal
-        → MayMigrate D.Sectors (record { apex = apex.now; snapshot = snapshot; journal = journal }) device.old
-        → MatchResult result
-        (TakesMigrated D.Sectors
-        (record { apex = apex.now; snapshot = snapshot; journal = journal }) device.old device.new)
-        (StopsMigrating D.Sectors
-        (record { apex = apex.now; snapshot = snapshot; journal = journal }) device.old) }
+        → MayMigrate D.Sectors (shape_given apex.now snapshot journal) device.old
+        → MatchResult result (TakesMigrated D.Sectors
+        (shape_given apex.now snapshot journal) device.old device.new)
+        (StopsMigrating D.Sectors (shape_given apex.now snapshot journal) device.old) }
     // A crash at any moment of it leaves what migrate and then open open as a crash might have left it
     // before.
     ensures any_moment { D.is_honest device.old → IsInRange snapshot journal
-        → LeavesOnly D.moment D.left_since device.old device.new (MigratesAsPossible D.Sectors
-        (record { apex = apex.now; snapshot = snapshot; journal = journal }) device.old) }
+        → LeavesOnly D.moment D.left_since device.old device.new
+        (MigratesAsPossible D.Sectors (shape_given apex.now snapshot journal) device.old) }
     // It answers `Already` exactly for a root of format 2.
     ensures already { D.is_honest device.old → result ≡ Ok Migration.Already
         → tag (sector_at (D.seen device.old) 0) ≡ root_tag }
     ensures old { D.is_honest device.old → 0 < D.count device.old
-        → tag (sector_at (D.seen device.old) 0) ≡ root_tag
-        → (result ≡ Ok Migration.Already) ⊎ (result ≡ Err MigrateError.Device) }
+        → tag (sector_at (D.seen device.old) 0) ≡ root_tag → (result ≡ Ok Migration.Already)
+        ⊎ (result ≡ Err MigrateError.Device) }
     // Why it is refused, on any honest device.
-    ensures refused { D.is_honest device.old → IfErr result (MigrateRefusal
-        (record { apex = apex.now; snapshot = snapshot; journal = journal }) (D.count device.old)
-        (D.seen device.old)) }
+    ensures refused { D.is_honest device.old → IfErr result
+        (MigrateRefusal (shape_given apex.now snapshot journal) (D.count device.old) (D.seen device.old)) }
     ensures too_large { D.is_honest device.old → (o : Opened)
-        → old_opens (record { apex = apex.now; snapshot = snapshot; journal = journal }) o (D.seen device.old)
+        → old_opens (shape_given apex.now snapshot journal) o (D.seen device.old)
         → IsInRange snapshot journal → result ≡ Err MigrateError.ZoneTooLarge
         → snapshot < sectors_of_snapshot (newest_after o.loaded o.versions) }
     ensures unwritten { (result ≡ Err MigrateError.Device) ⊎ IsMigratedStore result
@@ -198,8 +195,8 @@ pub fn migrate<D: Sectors, I: ZoneIndex>(
 
 // Whether the first sector is a root of format 2, by its tag.
 fn is_new<D: Sectors>(device: &mut D) -> Result<bool, DeviceError>
-    ensures new { D.is_honest device.old → IfOk result (λ b. IsTrue b
-        ↔ (tag (sector_at (D.seen device.old) 0) ≡ root_tag)) }
+    ensures new { D.is_honest device.old → IfOk result
+        (λ b. IsTrue b ↔ (tag (sector_at (D.seen device.old) 0) ≡ root_tag)) }
     ensures failed { CountsFailure result (D.failed device.old) (D.failed device.new) }
     ensures reads { OnlyReads D.Sectors device.old device.new }
 {
@@ -231,12 +228,11 @@ fn write_anew<D: Sectors, I: ZoneIndex>(
         → (shape : Shape) (o : Opened) (s : Stored)
         → IsReadOld shape o s (D.seen device.old) root version base.now changes.now
         → OnOk result ((after : Opened) → IsMigrated shape o after → (c : List (List ℕ))
-        → D.may_leave device.new c
-        → opens shape after c) }
+        → D.may_leave device.new c → opens shape after c) }
     ensures too_large { (shape : Shape) (o : Opened) (s : Stored)
         → IsReadOld shape o s (D.seen device.old) root version base.now changes.now
-        → result ≡ Err MigrateError.ZoneTooLarge
-        → shape.snapshot < sectors_of_snapshot (newest_after o.loaded o.versions) }
+        → result ≡ Err MigrateError.ZoneTooLarge → shape.snapshot < sectors_of_snapshot
+        (newest_after o.loaded o.versions) }
     ensures only { IfErr result (λ e. (e ≡ MigrateError.Device) ⊎ (e ≡ MigrateError.OutOfMemory)
         ⊎ (e ≡ MigrateError.ZoneTooLarge)) }
     ensures unwritten { OnErr result ((result ≡ Err MigrateError.Device) ⊎ (device.new ≡ device.old)) }

@@ -22,9 +22,12 @@ pub(crate) fn raise_root<D: Sectors>(device: &mut D, root: &mut Root) -> Result<
     ensures raised { (s : Shape) (k : Stored) (x : List ℕ) (parts : List (List ℕ)) → D.is_honest device.old
         → Only (D.seen device.old) (D.may_leave device.old)
         → OpensBy s (D.seen device.old) x parts k → IsTidy s (D.seen device.old) → SaysRoot x root.old
-        → OnOk result ((y : List ℕ) × SaysRoot y root.new × IsRaised x y × OpensBy s (D.seen device.new) y parts k
-        × (bank_open y ≤ open_count y) × ((version : ℕ) → AllBehind (open_count y) version (D.seen device.new))) }
-    ensures durable { D.is_honest device.old → OnOk result (Only (D.seen device.new) (D.may_leave device.new)) }
+        → OnOk result
+        ((y : List ℕ) × SaysRoot y root.new × IsRaised x y × OpensBy s (D.seen device.new) y parts k
+        × (bank_open y ≤ open_count y)
+        × ((version : ℕ) → AllBehind (open_count y) version (D.seen device.new))) }
+    ensures durable { D.is_honest device.old
+        → OnOk result (Only (D.seen device.new) (D.may_leave device.new)) }
     ensures root { root.new ≡ record root.old { open_count = root.old.open_count + 1; is_clear = true } }
     ensures failed { CountsFailure result (D.failed device.old) (D.failed device.new) }
     ensures honest { D.is_honest device.new ↔ D.is_honest device.old }

@@ -19,7 +19,8 @@ pub(crate) fn zone_of<I: ZoneIndex>(
     apex: &Name,
     octets: &[u8],
 ) -> Result<Zone<I>, ChangeError>
-    ensures found { IfOk result (λ z. IsZone z × (z.apex ≡ apex.now) × (octets.now ≡ flat_map plain z.records)) }
+    ensures found { IfOk result
+        (λ z. IsZone z × (z.apex ≡ apex.now) × (octets.now ≡ flat_map plain z.records)) }
     ensures refused { IfErr result (λ e. (e ≡ ChangeError.OutOfMemory)
         ⊎ ((e ≡ ChangeError.BadBytes) × IsNoSnapshot apex.now octets.now)) }
 {

@@ -1,5 +1,6 @@
 //! The first sector of a device, read when a store is opened.
-ghost use Rattle.std.specs.Prelude.{◌≡◌, ◌≤◌, ◌<◌, ◌+◌, ◌-◌, ◌*◌, ◌^◌, ◌⊎◌, ◌↔◌, List, ℕ, IsTrue, IfOk, IfErr, OnOk, MatchResult};
+ghost use Rattle.std.specs.Prelude.{◌≡◌, ◌≤◌, ◌<◌, ◌+◌, ◌-◌, ◌*◌, ◌^◌, ◌⊎◌, ◌↔◌, List, ℕ, IsTrue, IfOk};
+ghost use Rattle.std.specs.Prelude.{IfErr, OnOk, MatchResult};
 ghost use Rattle.dns_layout.specs.Apex.{apex_octets};
 ghost use Rattle.dns_layout.specs.Sector.{sector_at, snapshot_sectors_in as sectors_of_snapshot_in};
 ghost use Rattle.dns_layout.specs.Own.{IsIntactIn, IsAltered};
@@ -67,8 +68,8 @@ impl From<ReadError> for OpenError {
     }
 }
 
-// The root of the store of this zone and these sizes. What it finds and what it refuses is said of each content of which the
-// device's is an altered one.
+// The root of the store of this zone and these sizes. What it finds and what it refuses is said of each
+// content of which the device's is an altered one.
 pub(crate) fn read_root<D: Sectors>(
     device: &mut D,
     format: Format,
@@ -79,7 +80,8 @@ pub(crate) fn read_root<D: Sectors>(
     requires { 0 < D.count device.old }
     ensures found { D.is_honest device.old → (c : List (List ℕ)) → IsAltered format c (D.seen device.old)
         → IfOk result (IsFoundRootIn format
-        (record { snapshot = snapshot; journal = journal; apex = apex.now }) (D.count device.old) (sector_at c 0)) }
+        (record { snapshot = snapshot; journal = journal; apex = apex.now }) (D.count device.old)
+        (sector_at c 0)) }
     ensures fits { IfOk result (λ root. (sectors_of_snapshot_in format root.snapshot_length ≤ snapshot)
         × (D.count device.old ≡ 1 + 2 * (snapshot + journal)) × (root.open_count < 2 ^ 64 - 1)
         × (root.snapshot_room ≡ snapshot) × (root.journal_room ≡ journal)) }

@@ -1,5 +1,6 @@
 //! The snapshot that a root names, read from its sectors.
-ghost use Rattle.std.specs.Prelude.{◌≡◌, ◌⊎◌, ◌≤◌, ◌<◌, ◌+◌, ◌-◌, ◌*◌, ◌++◌, ◌^◌, ◌↔◌, List, ℕ, length, drop, IsTrue, IfOk, IfErr};
+ghost use Rattle.std.specs.Prelude.{◌≡◌, ◌⊎◌, ◌≤◌, ◌<◌, ◌+◌, ◌-◌, ◌*◌, ◌++◌, ◌^◌, ◌↔◌, List, ℕ, length, drop};
+ghost use Rattle.std.specs.Prelude.{IsTrue, IfOk, IfErr};
 ghost use Rattle.std.specs.Prelude.{OnOk, MatchResult};
 ghost use Rattle.std.specs.List.{flat_map};
 ghost use Rattle.dns_layout.specs.Sector.{AreZeros, sector_at, payload_in, payload_room_in};
@@ -15,8 +16,8 @@ use dns_layout::{Format, Root, SnapshotPart, are_zeros, payload, snapshot_sector
 use dns_memory::Heap;
 use dns_sectors::{Sector, Sectors};
 
-// The octets of the snapshot that the root names, which stands from this place on. What it finds and what it refuses is said
-// of each content of which the device's is an altered one.
+// The octets of the snapshot that the root names, which stands from this place on. What it finds and what it
+// refuses is said of each content of which the device's is an altered one.
 pub(crate) fn read_snapshot<D: Sectors>(
     alloc: Heap,
     device: &mut D,
@@ -95,7 +96,8 @@ fn read_parts<D: Sectors>(
 
 // Whether the sector is this part of the snapshot that the root names.
 fn is_part(format: Format, root: &Root, index: usize, sector: &Sector) -> bool
-    ensures { (x : List ℕ) → SaysRootIn format x root.now → IsTrue result ↔ IsPartIn format x index sector.now }
+    ensures { (x : List ℕ) → SaysRootIn format x root.now
+        → IsTrue result ↔ IsPartIn format x index sector.now }
 {
     let Ok(part) = SnapshotPart::decode(format, sector) else {
         return false;

@@ -14,16 +14,18 @@ use dns_records::Record;
 use dns_records::types::{CNAME, NS, SOA};
 use dns_zone::{Zone, ZoneIndex};
 
-// The zone of a set that a change made of a zone's. Where all that came may stand there, the rest is not looked at again.
+// The zone of a set that a change made of a zone's. Where all that came may stand there, the rest is not
+// looked at again.
 pub(crate) fn next_zone<I: ZoneIndex>(
     apex: Name,
     set: I,
     change: &Change,
 ) -> Result<Zone<I>, ChangeError>
-    requires { (before : List Stated) × IsZone (record { apex = apex; records = before }) × (change_fault change.now before ≡ None)
-        × (I.records set ≡ applied change.now before) }
+    requires { (before : List Stated) × IsZone (record { apex = apex; records = before })
+        × (change_fault change.now before ≡ None) × (I.records set ≡ applied change.now before) }
     ensures found { IfOk result (λ z. (z.records ≡ I.records set) × (z.apex ≡ apex) × IsZone z) }
-    ensures refused { IfErr result (λ e. (e ≡ ChangeError.BadBytes) × (zone_fault apex (I.records set) ≡ None → ⊥)) }
+    ensures refused { IfErr result
+        (λ e. (e ≡ ChangeError.BadBytes) × (zone_fault apex (I.records set) ≡ None → ⊥)) }
 {
     let _formed = change.removed();
     if stays_zone(&apex, &set, change) {
@@ -35,7 +37,8 @@ pub(crate) fn next_zone<I: ZoneIndex>(
     }
 }
 
-// Whether a zone's set with a change made of it is a zone's, by what came alone. Where it isn't, it may be one all the same.
+// Whether a zone's set with a change made of it is a zone's, by what came alone. Where it isn't, it may be
+// one all the same.
 fn stays_zone<I: ZoneIndex>(apex: &Name, set: &I, change: &Change) -> bool
     ensures { result ≡ stays_zone apex.now (I.records set.now) change.now }
 {

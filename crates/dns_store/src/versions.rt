@@ -45,8 +45,8 @@ fn next_by<I: ZoneIndex>(zone: &Zone<I>, change: &Change) -> Result<Zone<I>, Cha
     }
 }
 
-// The change with these octets, and the zone that it makes of another; an error other than `OutOfMemory` where there is
-// no such change, or it makes no zone.
+// The change with these octets, and the zone that it makes of another; an error other than `OutOfMemory`
+// where there is no such change, or it makes no zone.
 fn take_step<I: ZoneIndex>(
     alloc: Heap,
     zone: &Zone<I>,
@@ -55,10 +55,11 @@ fn take_step<I: ZoneIndex>(
     ensures found { IfOk result (λ r. HasEntry r.0 × (entry r.0 ≡ octets.now)
         × (change_fault r.0 zone.now.records ≡ None) × (applied r.0 zone.now.records ≡ r.1.records)
         × (r.1.apex ≡ zone.now.apex) × IsZone r.1) }
-    ensures only { (after : List Stated) (c : StatedChange) → IsChange zone.now.records after c → HasEntry c → entry c ≡ octets.now
-        → IsZone (record { apex = zone.now.apex; records = after })
+    ensures only { (after : List Stated) (c : StatedChange) → IsChange zone.now.records after c → HasEntry c
+        → entry c ≡ octets.now → IsZone (record { apex = zone.now.apex; records = after })
         → MatchResult result (λ r. (r.0 ≡ c) × (r.1.records ≡ after)) (λ e. e ≡ ChangeError.OutOfMemory) }
-    ensures taken { (c : StatedChange) → HasEntry c → entry c ≡ octets.now → change_fault c zone.now.records ≡ None
+    ensures taken { (c : StatedChange) → HasEntry c → entry c ≡ octets.now
+        → change_fault c zone.now.records ≡ None
         → IsZone (record { apex = zone.now.apex; records = applied c zone.now.records })
         → MatchResult result (λ r. r.0 ≡ c) (λ e. e ≡ ChangeError.OutOfMemory) }
 {
@@ -69,8 +70,8 @@ fn take_step<I: ZoneIndex>(
     }
 }
 
-// The newest version, and the changes that lead to it from the base, by the entries from the cursor on. The cursor goes
-// behind them. What it reads is said of each content of which the device's is an altered one.
+// The newest version, and the changes that lead to it from the base, by the entries from the cursor on. The
+// cursor goes behind them. What it reads is said of each content of which the device's is an altered one.
 pub(crate) fn read_versions<D: Sectors, I: ZoneIndex>(
     alloc: Heap,
     device: &mut D,

@@ -1,4 +1,5 @@
 //! The zone of RFC 4592 section 2.2.1 in a store with eight sectors for a snapshot and sixteen for a journal.
+use crate::old_format::fill;
 use crate::stores::{Device, Store, name, push_text, read, sized, zone_of};
 use dns_changes::Change;
 use dns_memory::{Heap, heap};
@@ -23,29 +24,8 @@ pub(crate) const REST: &[u8] = b"\x07example\0\0\x02\0\0\x0e\x10\0\x10\x02ns\x07
     \x06subdel\x07example\0\0\x02\0\0\x0e\x10\0\x10\x02ns\x07example\x03com\0\
     \x06subdel\x07example\0\0\x02\0\0\x0e\x10\0\x10\x02ns\x07example\x03net\0";
 
-/// A sector by what it begins with and its digest; between them are zeros.
-#[derive(Clone, Copy)]
-pub(crate) struct Sealed {
-    pub(crate) at: usize,
-    pub(crate) front: &'static [u8],
-    pub(crate) digest: [u8; 8],
-}
-
-/// The sectors of the new store that are not zeros, as another program writes them: the root and the one part.
-const FORMATTED: [Sealed; 2] = [
-    Sealed {
-        at: 0,
-        front: b"DPR2\0\0\0\0\0\0\0\0\0\0\0\0\0\0\0\0\0\0\0\0\0\0\0\0\0\0\0\0\
-\0\0\0\0\0\0\x01\xda\0\0\0\x08\0\0\0\x10\x01\x07example\0",
-        digest: [0x6d, 0x41, 0xa3, 0xd1, 0xce, 0xa8, 0x5b, 0x0f],
-    },
-    PART,
-];
-
-const PART: Sealed = Sealed {
-    at: 1,
-    front: b"DPS2\0\0\0\0\0\0\0\0\0\0\0\0\0\0\0\0\0\0\0\0\
-\x07example\0\0\x02\0\0\x0e\x10\0\x10\x02ns\x07example\x03com\0\
+/// The records of the zone in plain form, in the order of a snapshot.
+pub(crate) const ZONE: &[u8] = b"\x07example\0\0\x02\0\0\x0e\x10\0\x10\x02ns\x07example\x03com\0\
 \x07example\0\0\x02\0\0\x0e\x10\0\x10\x02ns\x07example\x03net\0\
 \x07example\0\0\x06\0\0\x0e\x10\0\x38\x02ns\x07example\x03com\0\x0ahostmaster\x07example\0\
 \0\0\0\x07\0\0\x1c\x20\0\0\x03\x84\0\x12\x75\0\0\0\x01\x2c\
@@ -56,7 +36,33 @@ const PART: Sealed = Sealed {
 \x04_ssh\x04_tcp\x05host1\x07example\0\0\x21\0\0\x0e\x10\0\x15\0\0\0\0\0\x16\x05host1\x07example\0\
 \x04_ssh\x04_tcp\x05host2\x07example\0\0\x21\0\0\x0e\x10\0\x15\0\0\0\0\0\x16\x05host2\x07example\0\
 \x06subdel\x07example\0\0\x02\0\0\x0e\x10\0\x10\x02ns\x07example\x03com\0\
-\x06subdel\x07example\0\0\x02\0\0\x0e\x10\0\x10\x02ns\x07example\x03net\0",
+\x06subdel\x07example\0\0\x02\0\0\x0e\x10\0\x10\x02ns\x07example\x03net\0";
+
+/// A sector by its first numbers, the octets after them, and its digest; between these are zeros.
+#[derive(Clone, Copy)]
+pub(crate) struct Sealed {
+    pub(crate) at: usize,
+    pub(crate) head: &'static [u8],
+    pub(crate) rest: &'static [u8],
+    pub(crate) digest: [u8; 8],
+}
+
+/// The sectors of the new store that are not zeros, as another program writes them: the root and the one part.
+const FORMATTED: [Sealed; 2] = [
+    Sealed {
+        at: 0,
+        head: b"DPR2\0\0\0\0\0\0\0\0\0\0\0\0\0\0\0\0\0\0\0\0\0\0\0\0\0\0\0\0\
+\0\0\0\0\0\0\x01\xda\0\0\0\x08\0\0\0\x10\x01\x07example\0",
+        rest: b"",
+        digest: [0x6d, 0x41, 0xa3, 0xd1, 0xce, 0xa8, 0x5b, 0x0f],
+    },
+    PART,
+];
+
+const PART: Sealed = Sealed {
+    at: 1,
+    head: b"DPS2\0\0\0\0\0\0\0\0\0\0\0\0\0\0\0\0\0\0\0\0",
+    rest: ZONE,
     digest: [0x35, 0x3b, 0xeb, 0x8d, 0xe6, 0x8b, 0xd1, 0x55],
 };
 
@@ -72,19 +78,16 @@ pub(crate) const ENTRY: &[u8] =
 const UPDATED: [Sealed; 3] = [
     Sealed {
         at: 0,
-        front: b"DPR2\0\0\0\0\0\0\0\x01\0\0\0\0\0\0\0\0\0\0\0\0\0\0\0\0\0\0\0\0\
+        head: b"DPR2\0\0\0\0\0\0\0\x01\0\0\0\0\0\0\0\0\0\0\0\0\0\0\0\0\0\0\0\0\
 \0\0\0\0\0\0\x01\xda\0\0\0\x08\0\0\0\x10\x01\x07example\0",
+        rest: b"",
         digest: [0xbf, 0xa5, 0x98, 0x7b, 0xd5, 0x6a, 0x1f, 0x59],
     },
     PART,
     Sealed {
         at: 9,
-        front: b"DPH2\0\0\0\0\0\0\0\x01\0\0\0\0\0\0\0\x01\0\0\0\0\0\0\0\xaf\
-\x07example\0\0\x06\0\0\x0e\x10\0\x38\x02ns\x07example\x03com\0\x0ahostmaster\x07example\0\
-\0\0\0\x07\0\0\x1c\x20\0\0\x03\x84\0\x12\x75\0\0\0\x01\x2c\
-\x07example\0\0\x06\0\0\x0e\x10\0\x38\x02ns\x07example\x03com\0\x0ahostmaster\x07example\0\
-\0\0\0\x08\0\0\x1c\x20\0\0\x03\x84\0\x12\x75\0\0\0\x01\x2c\
-\0\0\0\0\0\0\0\x01\x01t\x07example\0\0\x10\0\0\0\x3c\0\x02\x01x",
+        head: b"DPH2\0\0\0\0\0\0\0\x01\0\0\0\0\0\0\0\x01\0\0\0\0\0\0\0\xaf",
+        rest: ENTRY,
         digest: [0x4a, 0x3e, 0xb3, 0x0f, 0xa0, 0xfa, 0xc5, 0xf3],
     },
 ];
@@ -123,11 +126,8 @@ fn opened(heap: Heap) -> Option<Store> {
 /// The sector that this describes.
 fn sector_of(sector: &Sealed) -> Sector {
     let mut octets = [0; 512];
-    for (at, octet) in sector.front.iter().enumerate() {
-        if at < 504 {
-            octets[at] = *octet;
-        }
-    }
+    fill(&mut octets, 0, sector.head);
+    fill(&mut octets, sector.head.len(), sector.rest);
     octets[504..].copy_from_slice(&sector.digest);
     octets
 }

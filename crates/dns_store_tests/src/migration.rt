@@ -1,5 +1,5 @@
 //! A store of format 1 is migrated to format 2; what is refused; and each growth of it refused.
-use crate::example::{Sealed, first_other, made};
+use crate::example::{ENTRY, Sealed, ZONE, first_other, made};
 use crate::old_format::{OldStore, example, is_updated, updated};
 use crate::stores::{APEX, Device, Store, name, read, shared_plan, sized, write};
 use dns_memory::{Heap, heap};
@@ -93,35 +93,21 @@ fn operations(rt: HostRuntime) -> Result<(), Fail> {
 const SECTORS: [Sealed; 3] = [
     Sealed {
         at: 0,
-        front: b"DPR2\0\0\0\0\0\0\0\x02\0\0\0\0\0\0\0\0\0\0\0\x01\0\0\0\0\0\0\0\x02\
+        head: b"DPR2\0\0\0\0\0\0\0\x02\0\0\0\0\0\0\0\0\0\0\0\x01\0\0\0\0\0\0\0\x02\
 \0\0\0\0\0\0\x01\xda\0\0\0\x08\0\0\0\x10\x01\x07example\0",
+        rest: b"",
         digest: [0x60, 0x95, 0xdb, 0xd5, 0x81, 0x8f, 0x28, 0xdc],
     },
     Sealed {
         at: 25,
-        front: b"DPS2\0\0\0\0\0\0\0\x02\0\0\0\0\0\0\0\0\0\0\0\0\
-\x07example\0\0\x02\0\0\x0e\x10\0\x10\x02ns\x07example\x03com\0\
-\x07example\0\0\x02\0\0\x0e\x10\0\x10\x02ns\x07example\x03net\0\
-\x07example\0\0\x06\0\0\x0e\x10\0\x38\x02ns\x07example\x03com\0\x0ahostmaster\x07example\0\
-\0\0\0\x07\0\0\x1c\x20\0\0\x03\x84\0\x12\x75\0\0\0\x01\x2c\
-\x01*\x07example\0\0\x0f\0\0\x0e\x10\0\x11\0\x0a\x05host1\x07example\0\
-\x01*\x07example\0\0\x10\0\0\x0e\x10\0\x13\x12this is a wildcard\
-\x03sub\x01*\x07example\0\0\x10\0\0\x0e\x10\0\x17\x16this is not a wildcard\
-\x05host1\x07example\0\0\x01\0\0\x0e\x10\0\x04\xc0\0\x02\x01\
-\x04_ssh\x04_tcp\x05host1\x07example\0\0\x21\0\0\x0e\x10\0\x15\0\0\0\0\0\x16\x05host1\x07example\0\
-\x04_ssh\x04_tcp\x05host2\x07example\0\0\x21\0\0\x0e\x10\0\x15\0\0\0\0\0\x16\x05host2\x07example\0\
-\x06subdel\x07example\0\0\x02\0\0\x0e\x10\0\x10\x02ns\x07example\x03com\0\
-\x06subdel\x07example\0\0\x02\0\0\x0e\x10\0\x10\x02ns\x07example\x03net\0",
+        head: b"DPS2\0\0\0\0\0\0\0\x02\0\0\0\0\0\0\0\0\0\0\0\0",
+        rest: ZONE,
         digest: [0x53, 0x7f, 0xc9, 0xfc, 0x1f, 0xbe, 0x12, 0xfa],
     },
     Sealed {
         at: 33,
-        front: b"DPH2\0\0\0\0\0\0\0\x02\0\0\0\0\0\0\0\x01\0\0\0\0\0\0\0\xaf\
-\x07example\0\0\x06\0\0\x0e\x10\0\x38\x02ns\x07example\x03com\0\x0ahostmaster\x07example\0\
-\0\0\0\x07\0\0\x1c\x20\0\0\x03\x84\0\x12\x75\0\0\0\x01\x2c\
-\x07example\0\0\x06\0\0\x0e\x10\0\x38\x02ns\x07example\x03com\0\x0ahostmaster\x07example\0\
-\0\0\0\x08\0\0\x1c\x20\0\0\x03\x84\0\x12\x75\0\0\0\x01\x2c\
-\0\0\0\0\0\0\0\x01\x01t\x07example\0\0\x10\0\0\0\x3c\0\x02\x01x",
+        head: b"DPH2\0\0\0\0\0\0\0\x02\0\0\0\0\0\0\0\x01\0\0\0\0\0\0\0\xaf",
+        rest: ENTRY,
         digest: [0x3d, 0x4a, 0x36, 0x03, 0x70, 0xcf, 0xde, 0x14],
     },
 ];

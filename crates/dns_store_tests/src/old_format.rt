@@ -1,5 +1,5 @@
 //! Stores of format 1, by the tables of that format: no program writes one any longer.
-use crate::example::{APEX, ENTRY, REST, SOA};
+use crate::example::{APEX, ENTRY, REST, SOA, ZONE};
 use crate::stores::{Device, read, shared_plan, write};
 use dns_memory::{Heap, heap};
 use dns_sectors::{Keep, MemorySectors, Plan, Sector, Sectors};
@@ -16,7 +16,7 @@ pub(crate) struct OldStore {
 }
 
 /// Puts the octets into a sector from a place on; those that go beyond its end are left out.
-fn fill(sector: &mut Sector, from: usize, octets: &[u8]) {
+pub(crate) fn fill(sector: &mut Sector, from: usize, octets: &[u8]) {
     for (i, octet) in octets.iter().enumerate() {
         if let Some(place) = sector.get_mut(from.saturating_add(i)) {
             *place = *octet;
@@ -184,7 +184,8 @@ pub(crate) fn updated(heap: Heap, plan: Rc<Plan, Heap>, open_count: u64) -> Opti
 #[derive(Clone, Copy)]
 struct Begun {
     at: usize,
-    front: &'static [u8],
+    head: &'static [u8],
+    rest: &'static [u8],
 }
 
 /// The sectors that are not zeros of the store that was made, as another program writes them: the root and the
@@ -192,45 +193,32 @@ struct Begun {
 const FORMATTED: [Begun; 2] = [
     Begun {
         at: 0,
-        front: b"DPR1\0\0\0\0\0\0\0\0\0\0\0\0\0\0\0\0\0\0\0\0\0\0\0\0\0\0\0\0\
+        head: b"DPR1\0\0\0\0\0\0\0\0\0\0\0\0\0\0\0\0\0\0\0\0\0\0\0\0\0\0\0\0\
 \0\0\0\0\0\0\x01\xda\0\0\0\x08\0\0\0\x10\x07example\0",
+        rest: b"",
     },
     PART,
 ];
 
 const PART: Begun = Begun {
     at: 1,
-    front: b"DPS1\0\0\0\0\0\0\0\0\0\0\0\0\0\0\0\0\0\0\0\0\
-\x07example\0\0\x02\0\0\x0e\x10\0\x10\x02ns\x07example\x03com\0\
-\x07example\0\0\x02\0\0\x0e\x10\0\x10\x02ns\x07example\x03net\0\
-\x07example\0\0\x06\0\0\x0e\x10\0\x38\x02ns\x07example\x03com\0\x0ahostmaster\x07example\0\
-\0\0\0\x07\0\0\x1c\x20\0\0\x03\x84\0\x12\x75\0\0\0\x01\x2c\
-\x01*\x07example\0\0\x0f\0\0\x0e\x10\0\x11\0\x0a\x05host1\x07example\0\
-\x01*\x07example\0\0\x10\0\0\x0e\x10\0\x13\x12this is a wildcard\
-\x03sub\x01*\x07example\0\0\x10\0\0\x0e\x10\0\x17\x16this is not a wildcard\
-\x05host1\x07example\0\0\x01\0\0\x0e\x10\0\x04\xc0\0\x02\x01\
-\x04_ssh\x04_tcp\x05host1\x07example\0\0\x21\0\0\x0e\x10\0\x15\0\0\0\0\0\x16\x05host1\x07example\0\
-\x04_ssh\x04_tcp\x05host2\x07example\0\0\x21\0\0\x0e\x10\0\x15\0\0\0\0\0\x16\x05host2\x07example\0\
-\x06subdel\x07example\0\0\x02\0\0\x0e\x10\0\x10\x02ns\x07example\x03com\0\
-\x06subdel\x07example\0\0\x02\0\0\x0e\x10\0\x10\x02ns\x07example\x03net\0",
+    head: b"DPS1\0\0\0\0\0\0\0\0\0\0\0\0\0\0\0\0\0\0\0\0",
+    rest: ZONE,
 };
 
 /// Those of the store after it was opened and the change flushed, as another program writes them.
 const UPDATED: [Begun; 3] = [
     Begun {
         at: 0,
-        front: b"DPR1\0\0\0\0\0\0\0\x01\0\0\0\0\0\0\0\0\0\0\0\0\0\0\0\0\0\0\0\0\
+        head: b"DPR1\0\0\0\0\0\0\0\x01\0\0\0\0\0\0\0\0\0\0\0\0\0\0\0\0\0\0\0\0\
 \0\0\0\0\0\0\x01\xda\0\0\0\x08\0\0\0\x10\x07example\0",
+        rest: b"",
     },
     PART,
     Begun {
         at: 9,
-        front: b"DPH1\0\0\0\0\0\0\0\x01\0\0\0\0\0\0\0\x01\0\0\0\0\0\0\0\xaf\
-\x07example\0\0\x06\0\0\x0e\x10\0\x38\x02ns\x07example\x03com\0\x0ahostmaster\x07example\0\
-\0\0\0\x07\0\0\x1c\x20\0\0\x03\x84\0\x12\x75\0\0\0\x01\x2c\
-\x07example\0\0\x06\0\0\x0e\x10\0\x38\x02ns\x07example\x03com\0\x0ahostmaster\x07example\0\
-\0\0\0\x08\0\0\x1c\x20\0\0\x03\x84\0\x12\x75\0\0\0\x01\x2c\
-\0\0\0\0\0\0\0\x01\x01t\x07example\0\0\x10\0\0\0\x3c\0\x02\x01x",
+        head: b"DPH1\0\0\0\0\0\0\0\x01\0\0\0\0\0\0\0\x01\0\0\0\0\0\0\0\xaf",
+        rest: ENTRY,
     },
 ];
 
@@ -239,7 +227,8 @@ fn expected(at: usize, sectors: &[Begun]) -> Sector {
     let mut octets = [0; 512];
     for sector in sectors {
         if sector.at == at {
-            fill(&mut octets, 0, sector.front);
+            fill(&mut octets, 0, sector.head);
+            fill(&mut octets, sector.head.len(), sector.rest);
         }
     }
     octets

@@ -1,5 +1,6 @@
 -- The messages of a transfer.
-use Rattle.std.specs.Prelude.{◌≡◌, ◌≤◌, ◌<◌, ℕ, true, false, nat_le, Bool, List, [], ◌∷◌, ◌++◌, length, Option, None}
+use Rattle.std.specs.Prelude.{◌≡◌, ◌≤◌, ◌<◌, ℕ, true, false, nat_le, Bool, List, [], ◌∷◌, ◌++◌, length}
+use Rattle.std.specs.Prelude.{Option, None}
 use Rattle.dns_records.specs.Record.{Record}
 use Rattle.dns_wire.specs.Text.{EchoedQuestion, Reply, text}
 use Rattle.dns_request.specs.Request.{opcode_query}
@@ -32,8 +33,8 @@ abbrev pub message_limit : ℕ
 message_limit = 16384
 
 -- The next message: the first of the records that are left, as many as fit, and what is left then.
-pub record IsNext (h : Heading) (question : Option EchoedQuestion) (left : List Record) (message : List ℕ) (rest : List Record)
-    : Type 0
+pub record IsNext (h : Heading) (question : Option EchoedQuestion) (left : List Record) (message : List ℕ)
+    (rest : List Record) : Type 0
   where
     pub sent : List Record
     pub in_order : left ≡ sent ++ rest
@@ -44,14 +45,16 @@ pub record IsNext (h : Heading) (question : Option EchoedQuestion) (left : List 
         → rest ≡ r ∷ more
         → message_limit < length (octets_with h question (sent ++ r ∷ []))
 
--- The messages of these records, as long as some are left. The question stands in the first alone (RFC 5936 2.2.1).
+-- The messages of these records, as long as some are left. The question stands in the first alone (RFC 5936
+-- 2.2.1).
 abbrev pub AreMessages : Heading → Option EchoedQuestion → List Record → List (List ℕ) → Type 0
 AreMessages h question left [] = left ≡ []
 AreMessages h question left (message ∷ messages) =
-    (left ≡ [] → ⊥) × (rest : List Record) × IsNext h question left message rest × AreMessages h None rest messages
+    (left ≡ [] → ⊥) × (rest : List Record) × IsNext h question left message rest
+    × AreMessages h None rest messages
 
--- By UDP: the whole answer in 512 octets, else the SOA of the version that is shown, alone, else the header and the question with
--- TC (RFC 1995 2).
+-- By UDP: the whole answer in 512 octets, else the SOA of the version that is shown, alone, else the header
+-- and the question with TC (RFC 1995 2).
 abbrev pub datagram_of : Heading → Option EchoedQuestion → List Record → Record → List ℕ
 datagram_of h question records soa =
     let whole = octets_with h question records in

@@ -1,5 +1,6 @@
 -- Why a transfer is refused.
-use Rattle.std.specs.Prelude.{ℕ, Bool, true, false, not, ◌&&◌, ◌||◌, ◌==◌, List, [], ◌∷◌, length, Option, Some, None, is_none, if◌then◌else◌}
+use Rattle.std.specs.Prelude.{ℕ, Bool, true, false, not, ◌&&◌, ◌||◌, ◌==◌, List, [], ◌∷◌, length, Option}
+use Rattle.std.specs.Prelude.{Some, None, is_none, if◌then◌else◌}
 use Rattle.std.specs.Option.{option_map}
 use Rattle.dns_names.specs.Name.{names_eq}
 use Rattle.dns_records.specs.Types.{type_soa, type_ixfr, class_in}
@@ -15,7 +16,8 @@ rcode_notauth = 9
 
 -- The SOA of the client's version (RFC 1995 3).
 abbrev pub is_client_soa : Question → ResourceRecord → Bool
-is_client_soa q i = names_eq i.owner q.name && i.rtype == type_soa && i.class == class_in && not (length i.rdata == 0)
+is_client_soa q i =
+    names_eq i.owner q.name && i.rtype == type_soa && i.class == class_in && not (length i.rdata == 0)
 
 -- It stands in the authority section of an IXFR, alone.
 abbrev pub client_soa : Question → List ResourceRecord → Option ResourceRecord
@@ -35,9 +37,9 @@ is_udp Tcp = false
 abbrev pub is_malformed : Transport → Question → Option ℕ → Bool
 is_malformed transport q client = if q.qtype == type_ixfr then is_none client else is_udp transport
 
--- The response code of a transfer that is refused: the first that applies. FORMERR, for what is malformed. NOTAUTH, for a name
--- that is no apex held here, or another class (RFC 5936 2.2.1). REFUSED, for a peer that may not have the zone, or that has a
--- transfer on its connection already.
+-- The response code of a transfer that is refused: the first that applies. FORMERR, for what is malformed.
+-- NOTAUTH, for a name that is no apex held here, or another class (RFC 5936 2.2.1). REFUSED, for a peer that
+-- may not have the zone, or that has a transfer on its connection already.
 abbrev pub refusal : Transport → Question → Option ℕ → Bool → Bool → Option ℕ
 refusal transport q client held allowed =
     if is_malformed transport q client then Some rcode_formerr

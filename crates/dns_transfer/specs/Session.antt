@@ -1,5 +1,6 @@
 -- A transfer under way.
-use Rattle.std.specs.Prelude.{◌≡◌, ◌<◌, ◌≤◌, ℕ, List, [], ◌∷◌, ◌++◌, length, Bool, Option, Some, None, is_some, Result, Ok, Err}
+use Rattle.std.specs.Prelude.{◌≡◌, ◌<◌, ◌≤◌, ℕ, List, [], ◌∷◌, ◌++◌, length, Bool, Option, Some, None}
+use Rattle.std.specs.Prelude.{is_some, Result, Ok, Err}
 use Rattle.dns_records.specs.Record.{Record}
 use Rattle.dns_zone.specs.Zone.{Zone, soas}
 use Rattle.dns_changes.specs.Change.{Change}
@@ -14,8 +15,8 @@ use Rattle.dns_transfer.specs.Messages.{Heading, IsNext, datagram_of}
 use Rattle.dns_transfer.specs.Records.{transfer_of}
 use Rattle.dns_transfer.specs.Refusal.{client_serial, refusal, serial_asked}
 
--- How its messages go, what they repeat of the request, the SOA of the version that it was opened for, and the records that are
--- still to be sent. The question is there until a message has it.
+-- How its messages go, what they repeat of the request, the SOA of the version that it was opened for, and
+-- the records that are still to be sent. The question is there until a message has it.
 pub record Sending : Type 0 where
   pub transport : Transport
   pub heading : Heading
@@ -39,32 +40,37 @@ pub record Version : Type 0 where
   pub changes : List Change
 
 -- The answer to the request, from that version, is still to be sent.
-pub record IsOpened (transport : Transport) (octets : List ℕ) (m : Message) (q : Question) (version : Version) (s : Sending)
-    : Type 0 where
+pub record IsOpened (transport : Transport) (octets : List ℕ) (m : Message) (q : Question)
+    (version : Version) (s : Sending) : Type 0 where
   pub by : s.transport ≡ transport
   pub heading : s.heading ≡ record { id = m.header.id; rd = m.header.rd }
   pub question : s.question ≡ Some (echo_of octets q)
   pub soa : soas (version.zone).records ≡ s.soa ∷ []
-  pub left : s.left ≡ transfer_of (version.zone).records version.changes (serial_asked q (client_serial q m.authorities))
+  pub left : s.left
+      ≡ transfer_of (version.zone).records version.changes (serial_asked q (client_serial q m.authorities))
 
 -- What a request is answered: the session, or a refusal.
-abbrev pub Opens : Transport → List ℕ → Message → Question → Option Version → Bool → Result Sending Rcode → Type 0
+abbrev pub Opens : Transport → List ℕ → Message → Question → Option Version → Bool
+    → Result Sending Rcode → Type 0
 Opens transport octets m q version allowed (Ok s) =
     (refusal transport q (client_serial q m.authorities) (is_some version) allowed ≡ None)
     × (v : Version)
     × (version ≡ Some v)
     × IsOpened transport octets m q v s
 Opens transport octets m q version allowed (Err rcode) =
-    refusal transport q (client_serial q m.authorities) (is_some version) allowed ≡ Some (number_of_rcode rcode)
+    refusal transport q (client_serial q m.authorities) (is_some version) allowed
+    ≡ Some (number_of_rcode rcode)
 
 -- A reply with these records as its answer.
 abbrev pub with_answer : Reply → List Record → Reply
 with_answer reply records = record reply { answer = records }
 
 -- A message that begins as that reply takes the first of the records that are left, as many as fit.
-pub record IsFilled (reply : Reply) (limit : ℕ) (left : List Record) (message : List ℕ) (rest : List Record) : Type 0 where
+pub record IsFilled (reply : Reply) (limit : ℕ) (left : List Record) (message : List ℕ)
+    (rest : List Record) : Type 0 where
   pub sent : List Record
   pub in_order : left ≡ sent ++ rest
   pub packed : message ≡ text (with_answer reply sent)
   pub fits : length message ≤ limit
-  pub most : (r : Record) (more : List Record) → rest ≡ r ∷ more → limit < length (text (with_answer reply (sent ++ r ∷ [])))
+  pub most : (r : Record) (more : List Record) → rest ≡ r ∷ more
+      → limit < length (text (with_answer reply (sent ++ r ∷ [])))

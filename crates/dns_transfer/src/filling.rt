@@ -17,7 +17,8 @@ pub(crate) fn as_it_stands(record: &Record) -> ReplyRecord<'_>
     ReplyRecord::new(record.owner().lend(), record.ttl(), record)
 }
 
-/// Puts the records of an answer from a place on into a message, as many as fit: its octets, and the place behind them.
+/// Puts the records of an answer from a place on into a message, as many as fit: its octets, and the place
+/// behind them.
 pub(crate) fn fill<'a, I: ZoneIndex>(
     mut message: MessageBuilder<'a>,
     soa: &'a Record,
@@ -27,7 +28,8 @@ pub(crate) fn fill<'a, I: ZoneIndex>(
 ) -> Result<(Vec<u8, Heap>, Place), AllocError>
     requires { message.reply.answer ≡ [] }
     ensures { IfOk result
-        (λ r. IsFilled message.entry.reply message.entry.limit (left_at soa.now (I.records index.now) history.now place) r.0.items
+        (λ r. IsFilled message.entry.reply message.entry.limit
+        (left_at soa.now (I.records index.now) history.now place) r.0.items
         (left_at soa.now (I.records index.now) history.now r.1)) }
 {
     let mut rest = Rest::at(soa, index, history, place);

@@ -39,8 +39,8 @@ fn advance_of(change: &Change) -> u32
     )
 }
 
-/// The number of the change that leads on from the journalled version of a serial. It is looked for from the newest change on, as
-/// far as the serial goes less than 2^31.
+/// The number of the change that leads on from the journalled version of a serial. It is looked for from the
+/// newest change on, as far as the serial goes less than 2^31.
 fn first_since(changes: &[Change], serial: u32) -> Option<usize>
     ensures { option_map (λ first. drop first changes.now) result ≡ since serial changes.now }
 {
@@ -61,8 +61,8 @@ fn first_since(changes: &[Change], serial: u32) -> Option<usize>
     first
 }
 
-/// The form for a client that has a serial, where the version that is shown has the current one and those changes lead to it. An
-/// AXFR has no serial.
+/// The form for a client that has a serial, where the version that is shown has the current one and those
+/// changes lead to it. An AXFR has no serial.
 pub fn choose_form(current: u32, changes: &[Change], client: Option<u32>) -> Form
     ensures { stated_form changes.now result ≡ form_of current changes.now client }
 {

@@ -58,7 +58,8 @@ fn serial_of(alloc: Heap, soa: &RecordView<'_>) -> Result<u32, AllocError>
     }
 }
 
-/// The serial that the client has: that of the SOA which stands alone in the authority section of an IXFR (RFC 1995 section 3).
+/// The serial that the client has: that of the SOA which stands alone in the authority section of an IXFR
+/// (RFC 1995 section 3).
 pub fn client_serial(alloc: Heap, request: &RequestMessage<'_>) -> Result<Option<u32>, AllocError>
     ensures { IfOk result
         (λ serial. serial ≡ client_serial request.now.question request.now.message.message.authorities) }
@@ -77,7 +78,8 @@ pub fn client_serial(alloc: Heap, request: &RequestMessage<'_>) -> Result<Option
     Ok(Some(serial_of(alloc, &item)?))
 }
 
-/// Whether it is an IXFR without the SOA of the client's version (RFC 1995 section 3), or an AXFR by UDP (RFC 5936 section 4.2).
+/// Whether it is an IXFR without the SOA of the client's version (RFC 1995 section 3), or an AXFR by UDP
+/// (RFC 5936 section 4.2).
 fn is_malformed(transport: Transport, question: &QuestionView<'_>, client: Option<u32>) -> bool
     ensures { result ≡ is_malformed transport question.now client }
 {
@@ -92,7 +94,8 @@ fn is_malformed(transport: Transport, question: &QuestionView<'_>, client: Optio
 
 /// The response code of a transfer that is refused, if it is: the first that applies.
 ///
-/// - FORMERR, which goes out as a header alone: an AXFR by UDP, or an IXFR without the SOA of the client's version.
+/// - FORMERR, which goes out as a header alone: an AXFR by UDP, or an IXFR without the SOA of the client's
+///   version.
 /// - NOTAUTH: the name is no apex that is held, or the class isn't IN.
 /// - REFUSED: the peer may not have the zone, or has a transfer on its connection already.
 pub fn refusal_of(

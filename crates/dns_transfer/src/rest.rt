@@ -1,5 +1,6 @@
 //! The records of an answer that are still to be sent, in order.
-ghost use Rattle.std.specs.Prelude.{◌≡◌, ◌↔◌, ℕ, ◌∷◌, [], List, drop, length, slice_get, MatchOption, IfSome, IfNone, IsTrue};
+ghost use Rattle.std.specs.Prelude.{◌≡◌, ◌↔◌, ℕ, ◌∷◌, [], List, drop, length, slice_get, MatchOption, IfSome};
+ghost use Rattle.std.specs.Prelude.{IfNone, IsTrue};
 ghost use Rattle.std.specs.Option.{option_copied};
 ghost use Rattle.dns_records.specs.Record.{Record as Stated};
 ghost use Rattle.dns_changes.specs.Change.{Change as StatedChange};
@@ -21,7 +22,8 @@ pub enum Place {
     Opening(Form),
     /// In the full form, before the record of the zone that has this place in its order.
     Zone(usize),
-    /// In the incremental form, within the sequence of the change with the first number, behind so many of its records.
+    /// In the incremental form, within the sequence of the change with the first number, behind so many of
+    /// its records.
     Sequence(usize, usize),
     /// Behind the last record.
     End,
@@ -51,7 +53,8 @@ impl Form {
     }
 }
 
-/// The record with that number in the sequence of a change: the old SOA, what goes, the new SOA, what comes (RFC 1995 section 4).
+/// The record with that number in the sequence of a change: the old SOA, what goes, the new SOA, what comes
+/// (RFC 1995 section 4).
 fn nth_of_sequence(change: &Change, number: usize) -> Option<&Record>
     ensures { option_copied result ≡ slice_get (sequence change.now) number }
 {
@@ -105,7 +108,8 @@ fn next_other<'a, I: ZoneIndex>(
     place: usize,
 ) -> Option<(&'a Record, usize)>
     requires { ready.old ≡ drop place (I.records index.now) }
-    ensures left { MatchOption result (others ready.old ≡ []) (λ r. others ready.old ≡ r.0.now ∷ others ready.new) }
+    ensures left { MatchOption result (others ready.old ≡ [])
+        (λ r. others ready.old ≡ r.0.now ∷ others ready.new) }
     ensures ready { IfSome result (λ r. ready.new ≡ drop r.1 (I.records index.now)) }
 {
     let _len = index.len();
@@ -119,7 +123,8 @@ fn next_other<'a, I: ZoneIndex>(
     None
 }
 
-/// The records of an answer from a place on. They are lent from the zone and from the changes, and none is searched.
+/// The records of an answer from a place on. They are lent from the zone and from the changes, and none is
+/// searched.
 #[derive(Drop)]
 pub struct Rest<'a, I: ZoneIndex> {
     soa: &'a Record,
@@ -134,7 +139,8 @@ impl<'a, I: ZoneIndex> Model for Rest<'a, I> {
 
     ghost Value = { Remaining };
 
-    ghost view = { λ r. record { soa = r.soa.now; records = I.records r.index.now; changes = r.history.now; place = r.place } };
+    ghost view = { λ r.
+        record { soa = r.soa.now; records = I.records r.index.now; changes = r.history.now; place = r.place } };
 
     ghost invariant = { λ r. IsReady r.place r.ready (I.records r.index.now) };
 }
@@ -142,7 +148,8 @@ impl<'a, I: ZoneIndex> Model for Rest<'a, I> {
 impl<'a, I: ZoneIndex> Rest<'a, I> {
     /// The records from the place on of the answer for a zone of that SOA, those records and that history.
     pub fn at(soa: &'a Record, index: &'a I, history: &'a History, place: Place) -> Rest<'a, I>
-        ensures { result ≡ record { soa = soa.now; records = I.records index.now; changes = history.now; place = place } }
+        ensures { result
+            ≡ record { soa = soa.now; records = I.records index.now; changes = history.now; place = place } }
     {
         let from = match place {
             Place::Zone(at) => at,

@@ -1,6 +1,7 @@
-//! A transfer under way: the version that was shown when it was opened, and how far it was sent (RFC 5936 section 2.2, RFC 1995
-//! section 4).
-ghost use Rattle.std.specs.Prelude.{◌≡◌, ◌≤◌, ◌↔◌, [], true, length, IfOk, IsTrue, OnErr, OnSome, MatchOption};
+//! A transfer under way: the version that was shown when it was opened, and how far it was sent (RFC 5936
+//! section 2.2, RFC 1995 section 4).
+ghost use Rattle.std.specs.Prelude.{◌≡◌, ◌≤◌, ◌↔◌, [], true, length, IfOk, IsTrue, OnErr, OnSome};
+ghost use Rattle.std.specs.Prelude.{MatchOption};
 ghost use Rattle.dns_wire.specs.Echo.{echo_of};
 ghost use Rattle.dns_wire.specs.Puts.{asked};
 ghost use Rattle.dns_wire.specs.Reply.{echo, stated};
@@ -64,8 +65,8 @@ impl<'v, I: ZoneIndex> Model for Version<'v, I> {
     ghost view = { λ v. record { zone = v.zone.now; changes = v.changes.now } };
 }
 
-/// A transfer under way. It holds the version that was shown when it was opened, shared with the zone, and copies of the changes that
-/// are sent, and makes a message when it is asked for one.
+/// A transfer under way. It holds the version that was shown when it was opened, shared with the zone, and
+/// copies of the changes that are sent, and makes a message when it is asked for one.
 pub struct Session<I: ZoneIndex> {
     pub(crate) transport: Transport,
     pub(crate) id: u16,
@@ -168,7 +169,8 @@ impl<I: ZoneIndex> Session<I> {
     ) -> Result<Session<I>, AllocError>
         requires { client ≡ client_serial request.now.question request.now.message.message.authorities }
         ensures { IfOk result
-            (λ s. IsOpened transport request.now.message.octets request.now.message.message request.now.question version.now s) }
+            (λ s. IsOpened transport request.now.message.octets request.now.message.message
+            request.now.question version.now s) }
     {
         let question = kept_question(alloc, request)?;
         let soa = version.zone.soa();
@@ -187,9 +189,10 @@ impl<I: ZoneIndex> Session<I> {
         })
     }
 
-    /// The answer to a request for a transfer, or the response code of its refusal (see `refusal_of`). The version is that of the
-    /// zone whose apex is the name of the question, and none where no such zone is held; `allowed` says whether the peer may have
-    /// it. What happens to the zone later does not change the messages.
+    /// The answer to a request for a transfer, or the response code of its refusal (see `refusal_of`). The
+    /// version is that of the zone whose apex is the name of the question, and none where no such zone is
+    /// held; `allowed` says whether the peer may have it. What happens to the zone later does not change the
+    /// messages.
     pub fn open(
         alloc: Heap,
         version: Option<Version<'_, I>>,
@@ -198,8 +201,8 @@ impl<I: ZoneIndex> Session<I> {
         transport: Transport,
     ) -> Result<Result<Session<I>, Rcode>, AllocError>
         ensures { IfOk result
-            (λ opened. Opens transport request.now.message.octets request.now.message.message request.now.question version.entry
-            allowed opened) }
+            (λ opened. Opens transport request.now.message.octets request.now.message.message
+            request.now.question version.entry allowed opened) }
     {
         let client = client_serial(alloc, request)?;
         let held = version.is_some();
@@ -248,7 +251,8 @@ impl<I: ZoneIndex> Session<I> {
     /// The header and the question, with TC.
     fn truncated(&self, alloc: Heap) -> Result<Vec<u8, Heap>, AllocError>
         ensures { IfOk result
-            (λ octets. octets.items ≡ text (record (message_with self.now.heading self.now.question []) { tc = true })) }
+            (λ octets. octets.items
+            ≡ text (record (message_with self.now.heading self.now.question []) { tc = true })) }
     {
         let mut reply = self.empty();
         reply.tc = true;
@@ -259,10 +263,12 @@ impl<I: ZoneIndex> Session<I> {
         }
     }
 
-    /// The one message by UDP: the whole answer, else the SOA alone, else the header and the question with TC (RFC 1995 section 2).
+    /// The one message by UDP: the whole answer, else the SOA alone, else the header and the question with TC
+    /// (RFC 1995 section 2).
     fn datagram(&self, alloc: Heap) -> Result<Vec<u8, Heap>, AllocError>
         ensures { IfOk result
-            (λ octets. octets.items ≡ datagram_of self.now.heading self.now.question self.now.left self.now.soa) }
+            (λ octets. octets.items
+            ≡ datagram_of self.now.heading self.now.question self.now.left self.now.soa) }
     {
         let message = self.begun(alloc, MOST_BY_UDP)?;
         let (whole, place) = fill(message, &self.soa, &self.index, &self.history, self.place)?;
@@ -285,8 +291,8 @@ impl<I: ZoneIndex> Session<I> {
         self.place.is_end()
     }
 
-    /// The next message, made when it is asked for, or none behind the last. Where memory is refused the session is as it was,
-    /// so that the next call gives the same message.
+    /// The next message, made when it is asked for, or none behind the last. Where memory is refused the
+    /// session is as it was, so that the next call gives the same message.
     pub fn next_message(&mut self, alloc: Heap) -> Result<Option<Vec<u8, Heap>>, AllocError>
         ensures sent { IfOk result
             (λ message. MatchOption message ((self.new ≡ self.old) × (self.old.left ≡ []))

@@ -1,4 +1,5 @@
-//! Works on a shared tree of any size, for `bench/trees`: finds names, puts records in, takes them out, or forks it.
+//! Works on a shared tree of any size, for `bench/trees`: finds names, puts records in, takes them out, or
+//! forks it.
 #![tactic(auto)]
 
 use dns_memory::{Heap, heap};

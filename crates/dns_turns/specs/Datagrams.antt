@@ -36,7 +36,8 @@ module _ {S : Type 0} where
 
   -- A socket was asked for datagrams, and these came; if it was asked once more, none had come.
   abbrev pub AreRead : Ghosts S → List Datagram → S → S → Type 0
-  AreRead s came old new = (asked : S) × HaveCome s came old asked × ((new ≡ asked) ⊎ s.receives asked None new)
+  AreRead s came old new =
+      (asked : S) × HaveCome s came old asked × ((new ≡ asked) ⊎ s.receives asked None new)
 
   -- All that was to be sent was handed to the socket, in its order, and nothing else changed.
   pub record AllHaveGone (s : Ghosts S) (old new : Datagrams S) : Type 0 where
@@ -51,7 +52,8 @@ module _ {S : Type 0} where
     pub leaving : leaving_of old ++ one ∷ [] ≡ gone ++ leaving_of new
     pub arrived : arrived_of new ≡ arrived_of old
 
-  -- One was handed over, the first of those that had arrived and of those that came now; what was to be sent may have been sent first.
+  -- One was handed over, the first of those that had arrived and of those that came now; what was to be sent
+  -- may have been sent first.
   pub record IsHandedOver (s : Ghosts S) (one : Datagram) (old new : Datagrams S) : Type 0 where
     pub gone : List Datagram
     pub came : List Datagram

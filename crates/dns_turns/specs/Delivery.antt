@@ -21,8 +21,8 @@ abbrev pub out_of : Effects → List (To × List ℕ)
 out_of effects = map header_out effects.headers.items ++ reply_out effects.reply
 
 -- A primary took the step of an event, whichever machine it kept.
-abbrev pub Takes : {I D : Type 0} {i : index.Ghosts I} {d : store.Ghosts D} → Primary I D i d → Event → Primary I D i d → Effects
-    → Type 0
+abbrev pub Takes : {I D : Type 0} {i : index.Ghosts I} {d : store.Ghosts D} → Primary I D i d → Event
+    → Primary I D i d → Effects → Type 0
 Takes old event new effects = (m : Machine) → IsKept old m → SteppedBy m event old new effects
 
 -- What stands under each number, from 0 on.
@@ -37,7 +37,8 @@ pub record Served (I D S N : Type 0) (i : index.Ghosts I) (d : store.Ghosts D) :
 
 module _ {I D S N : Type 0} {i : index.Ghosts I} {d : store.Ghosts D} where
   abbrev pub served : Primary I D i d → Edge S → N → Served I D S N i d
-  served primary edge network = record { primary = primary; connections = connections_of edge; network = network }
+  served primary edge network =
+      record { primary = primary; connections = connections_of edge; network = network }
 
   -- A connection was closed: its stream was let go, and the primary told.
   pub record IsClosed (number : ℕ) (old new : Served I D S N i d) : Type 0 where
@@ -46,13 +47,15 @@ module _ {I D S N : Type 0} {i : index.Ghosts I} {d : store.Ghosts D} where
     pub gone : new.connections ≡ slice_set old.connections number None
     pub network : new.network ≡ old.network
 
-  -- A reply to a connection is queued there behind all that was queued before, with its length before it, or that connection is
-  -- closed; no other one is touched. One to a peer is handed to the network, and one to nowhere goes nowhere.
+  -- A reply to a connection is queued there behind all that was queued before, with its length before it, or
+  -- that connection is closed; no other one is touched. One to a peer is handed to the network, and one to
+  -- nowhere goes nowhere.
   abbrev pub IsSent : Ghosts N S → To → List ℕ → Served I D S N i d → Served I D S N i d → Type 0
   IsSent n (to.Address peer) reply old new =
       (new ≡ record old { network = new.network }) × n.sends old.network peer reply new.network
   IsSent n (to.Connection number) reply old new =
-      ((new ≡ record old { connections = new.connections }) × IsPushed number reply old.connections new.connections)
+      ((new ≡ record old { connections = new.connections })
+      × IsPushed number reply old.connections new.connections)
       ⊎ IsClosed number old new
   IsSent n to.Nowhere reply old new = new ≡ old
 

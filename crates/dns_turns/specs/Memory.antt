@@ -32,4 +32,5 @@ Receives old (Some one) new =
 -- The datagram is sent behind the others, or dropped.
 abbrev pub Sends : MemoryNetwork → Peer → List ℕ → MemoryNetwork → Type 0
 Sends old peer octets new =
-    (datagrams_from new ≡ datagrams_from old ++ (octets, peer) ∷ []) ⊎ (datagrams_from new ≡ datagrams_from old)
+    (datagrams_from new ≡ datagrams_from old ++ (octets, peer) ∷ [])
+    ⊎ (datagrams_from new ≡ datagrams_from old)

@@ -1,5 +1,6 @@
 -- What is done in a turn.
-use Rattle.std.specs.Prelude.{◌≡◌, ◌⊎◌, ◌≤◌, ◌<◌, ℕ, List, [], length, Option, Some, None, slice_get, slice_set}
+use Rattle.std.specs.Prelude.{◌≡◌, ◌⊎◌, ◌≤◌, ◌<◌, ℕ, List, [], length, Option, Some, None, slice_get}
+use Rattle.std.specs.Prelude.{slice_set}
 use Rattle.dns_edge.specs.declared.connection.Connection.{Connection}
 use Rattle.dns_edge.specs.declared.stream.Stream as stream
 use Rattle.dns_edge.specs.Connection.{HasMoved, HasHandedOver, stream_of, left_of, unhandled}
@@ -15,8 +16,8 @@ use Rattle.dns_turns.specs.declared.network.Network.{Ghosts}
 use Rattle.dns_turns.specs.Delivery.{Served, Takes, IsClosed, AreSent, out_of}
 use Rattle.dns_turns.specs.Steps.{AreSteps}
 
--- One thing that is done: the network is asked, and nothing came; octets move on the connection with a number; a peer connects; an
--- event happens, and its replies go out; the connection with a number is closed.
+-- One thing that is done: the network is asked, and nothing came; octets move on the connection with a
+-- number; a peer connects; an event happens, and its replies go out; the connection with a number is closed.
 pub data Moment : Type 0 where
   Asks : Moment
   Moves : ℕ → Moment
@@ -25,14 +26,15 @@ pub data Moment : Type 0 where
   Closes : ℕ → Moment
 
 module _ {S : Type 0} where
-  -- A connection on which nothing came and to which nothing goes yet is put in the place with the number that the peer got, if it got
-  -- one and there is such a place.
+  -- A connection on which nothing came and to which nothing goes yet is put in the place with the number that
+  -- the peer got, if it got one and there is such a place.
   abbrev pub IsPlaced : S → Option ℕ → List (Option (Connection S)) → List (Option (Connection S)) → Type 0
   IsPlaced stream None old new = new ≡ old
   IsPlaced stream (Some number) old new =
       ((length old ≤ number) × (new ≡ old))
       ⊎ ((number < length old)
-      × ((c : Connection S) × (stream_of c ≡ stream) × (left_of c ≡ []) × (unhandled c ≡ []) × (new ≡ slice_set old number (Some c))))
+      × ((c : Connection S) × (stream_of c ≡ stream) × (left_of c ≡ []) × (unhandled c ≡ [])
+      × (new ≡ slice_set old number (Some c))))
 
 -- Whichever machine a primary kept, no reply waits for a flush.
 abbrev pub NoneWaits : {I D : Type 0} {i : index.Ghosts I} {d : store.Ghosts D} → Primary I D i d → Type 0
@@ -40,22 +42,27 @@ NoneWaits primary = (m : Machine) → IsKept primary m → m.waiting ≡ []
 
 module _ {I D S : Type 0} {i : index.Ghosts I} {d : store.Ghosts D} where
   -- The connection of a peer is taken up: the primary is told of it, and it is put in its place.
-  pub record IsTakenUp (stream : S) (peer : Peer) (before after : Primary I D i d) (old new : List (Option (Connection S))) : Type 0 where
+  pub record IsTakenUp (stream : S) (peer : Peer) (before after : Primary I D i d)
+      (old new : List (Option (Connection S))) : Type 0 where
     pub effects : Effects
     pub told : Takes before (Connect peer) after effects
     pub placed : IsPlaced stream effects.accepted old new
 
   -- It is, or it is and then it is closed again.
-  abbrev pub IsWelcomed : S → Peer → Primary I D i d → Primary I D i d → List (Option (Connection S)) → List (Option (Connection S)) → Type 0
+  abbrev pub IsWelcomed : S → Peer → Primary I D i d → Primary I D i d → List (Option (Connection S))
+      → List (Option (Connection S)) → Type 0
   IsWelcomed stream peer before after old new =
       IsTakenUp stream peer before after old new
-      ⊎ ((between : Primary I D i d) × (place : List (Option (Connection S))) × (number : ℕ) × (effects : Effects)
-      × IsTakenUp stream peer before between old place × Takes between (Closed number) after effects × (new ≡ slice_set place number None))
+      ⊎ ((between : Primary I D i d) × (place : List (Option (Connection S))) × (number : ℕ)
+      × (effects : Effects) × IsTakenUp stream peer before between old place
+      × Takes between (Closed number) after effects
+      × (new ≡ slice_set place number None))
 
 module _ {I D S N : Type 0} {i : index.Ghosts I} {d : store.Ghosts D} where
   pub record HasAsked (n : Ghosts N S) (old new : Served I D S N i d) : Type 0 where
     pub rest : new ≡ record old { network = new.network }
-    pub nothing : n.accepts old.network None new.network ⊎ (n.receives old.network None new.network ⊎ n.looks old.network new.network)
+    pub nothing : n.accepts old.network None new.network
+        ⊎ (n.receives old.network None new.network ⊎ n.looks old.network new.network)
 
   pub record MovedOn (s : stream.Ghosts S) (number : ℕ) (old new : Served I D S N i d) : Type 0 where
     pub before : Connection S
@@ -69,13 +76,14 @@ module _ {I D S N : Type 0} {i : index.Ghosts I} {d : store.Ghosts D} where
     pub came : n.accepts old.network (Some (stream, peer)) new.network
     pub taken : IsTakenUp stream peer old.primary new.primary old.connections new.connections
 
-  -- How an event comes: a datagram from the network, a message from the connection with its number; a pump and a flush come of
-  -- themselves, and no others do.
+  -- How an event comes: a datagram from the network, a message from the connection with its number; a pump
+  -- and a flush come of themselves, and no others do.
   abbrev pub IsGiven : Ghosts N S → Event → Served I D S N i d → Served I D S N i d → Type 0
   IsGiven n (Datagram peer octets) old new =
       (new ≡ record old { network = new.network }) × n.receives old.network (Some (octets, peer)) new.network
   IsGiven n (Arrives number message) old new =
-      (c : Connection S) × (e : Connection S) × (slice_get old.connections number ≡ Some (Some c)) × HasHandedOver message c e
+      (c : Connection S) × (e : Connection S) × (slice_get old.connections number ≡ Some (Some c))
+      × HasHandedOver message c e
       × (new ≡ record old { connections = slice_set old.connections number (Some e) })
   IsGiven n (Pump number) old new = new ≡ old
   IsGiven n Flush old new = new ≡ old
@@ -92,14 +100,16 @@ module _ {I D S N : Type 0} {i : index.Ghosts I} {d : store.Ghosts D} where
     pub rest : told ≡ record given { primary = told.primary }
     pub sent : AreSent n (out_of effects) told new
 
-  abbrev pub IsMoment : stream.Ghosts S → Ghosts N S → Moment → Served I D S N i d → Served I D S N i d → Type 0
+  abbrev pub IsMoment : stream.Ghosts S → Ghosts N S → Moment → Served I D S N i d
+      → Served I D S N i d → Type 0
   IsMoment s n Asks old new = HasAsked n old new
   IsMoment s n (Moves number) old new = MovedOn s number old new
   IsMoment s n (Connects peer) old new = HasConnected n peer old new
   IsMoment s n (Happens event) old new = HasHappened n event old new
   IsMoment s n (Closes number) old new = IsClosed number old new
 
-  abbrev pub AreMoments : stream.Ghosts S → Ghosts N S → List Moment → Served I D S N i d → Served I D S N i d → Type 0
+  abbrev pub AreMoments : stream.Ghosts S → Ghosts N S → List Moment → Served I D S N i d
+      → Served I D S N i d → Type 0
   AreMoments s n = AreSteps (λ old one new. IsMoment s n one old new)
 
   -- Nothing else is done from here to there.

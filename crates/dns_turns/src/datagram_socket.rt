@@ -5,7 +5,8 @@ ghost use Rattle.dns_primary.specs.declared.event.Peer.{Peer as StatedPeer};
 
 use dns_primary::Peer;
 
-/// A socket of datagrams, none of whose calls waits. Its calls are told by how it may go on behind each of them.
+/// A socket of datagrams, none of whose calls waits. Its calls are told by how it may go on behind each of
+/// them.
 pub trait DatagramSocket {
     /// It may go on so where it was asked for a datagram, and this one had come, or none;
     ghost receives: { Self → Option (List ℕ × StatedPeer) → Self → Type 0 };
@@ -13,7 +14,8 @@ pub trait DatagramSocket {
     /// and where this datagram was handed to it for a peer.
     ghost sends: { Self → List ℕ × StatedPeer → Self → Type 0 };
 
-    /// The next datagram that came, read into a buffer: how many octets it has there, and its peer. What doesn't fit is cut off.
+    /// The next datagram that came, read into a buffer: how many octets it has there, and its peer. What
+    /// doesn't fit is cut off.
     fn receive(&mut self, into: &mut [u8]) -> Option<(usize, Peer)>
         ensures few { IfSome result (λ r. r.0 ≤ length into.new) }
         ensures came { receives self.old (option_map (λ r. (take r.0 into.new, r.1)) result) self.new };

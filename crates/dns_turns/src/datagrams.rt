@@ -1,7 +1,11 @@
-//! Datagrams of a socket. Where many wait, some are read before the first of them is handed over, and replies are held back until the last
-//! of them is answered: a call of the system takes less time behind another of its kind, and a peer that waits is woken once for many.
-ghost use Rattle.std.specs.Prelude.{◌≡◌, ◌≤◌, ◌<◌, ◌++◌, ◌∷◌, [], List, ℕ, length, take, drop, IfOk, IfSome, IfNone, MatchOption, None, Some, true, false};
-ghost use Rattle.dns_turns.specs.Datagrams.{Datagram as Stated, AllHaveGone, AreRead, HaveGone, HaveCome, IsHandedOver, HasNone, IsLeaving, arrived_of, leaving_of, socket_of, stands_in};
+//! Datagrams of a socket. Where many wait, some are read before the first of them is handed over, and replies
+//! are held back until the last of them is answered: a call of the system takes less time behind another of
+//! its kind, and a peer that waits is woken once for many.
+ghost use Rattle.std.specs.Prelude.{◌≡◌, ◌≤◌, ◌<◌, ◌++◌, ◌∷◌, [], List, ℕ, length, take, drop, IfOk, IfSome};
+ghost use Rattle.std.specs.Prelude.{IfNone, MatchOption, None, Some, true, false};
+ghost use Rattle.dns_turns.specs.Datagrams.{Datagram as Stated, AllHaveGone, AreRead, HaveGone, HaveCome};
+ghost use Rattle.dns_turns.specs.Datagrams.{IsHandedOver, HasNone, IsLeaving, arrived_of, leaving_of};
+ghost use Rattle.dns_turns.specs.Datagrams.{socket_of, stands_in};
 
 use crate::DatagramSocket;
 use dns_memory::Heap;
@@ -13,11 +17,12 @@ use std::net::{IpAddr, Ipv4Addr};
 /// How many datagrams are read before the first of them is handed over, and how many are held back, at most.
 const MOST: usize = 64;
 
-/// Behind how many that came one behind the other more are read ahead. So who asks one question after the other costs no call in vain.
+/// Behind how many that came one behind the other more are read ahead. So who asks one question after the
+/// other costs no call in vain.
 const FEW: usize = 8;
 
-/// How many octets of a datagram are read: as many as the longest message has (RFC 1035 section 2.3.4), and one that tells a longer one
-/// from it.
+/// How many octets of a datagram are read: as many as the longest message has (RFC 1035 section 2.3.4), and
+/// one that tells a longer one from it.
 const ROOM: usize = 513;
 
 /// A place for a datagram, and the peer from which it came or to which it goes.
@@ -97,7 +102,8 @@ impl Model for Queue {
 
     ghost view = { λ q. map stands_in (drop q.done (take q.end q.places.items)) };
 
-    ghost invariant = { λ q. (q.done ≤ q.end) × (q.end ≤ length q.places.items) × (0 < length q.places.items) };
+    ghost invariant = { λ q. (q.done ≤ q.end) × (q.end ≤ length q.places.items)
+        × (0 < length q.places.items) };
 }
 
 impl Queue {
@@ -132,7 +138,8 @@ impl Queue {
 
     /// The first.
     fn first(&self) -> Option<&Datagram>
-        ensures { MatchOption result (self.now ≡ []) (λ d. (rest : List Stated) × (self.now ≡ stands_in d.now ∷ rest)) }
+        ensures { MatchOption result (self.now ≡ [])
+            (λ d. (rest : List Stated) × (self.now ≡ stands_in d.now ∷ rest)) }
     {
         if self.is_empty() {
             return None;
@@ -167,7 +174,8 @@ impl Queue {
     /// Reads the next datagram of a socket in place of all others, and tells whether one had come.
     fn read_first<S: DatagramSocket>(&mut self, socket: &mut S) -> bool
         ensures came { result ≡ true
-            → (one : Stated) × (self.new ≡ one ∷ []) × HaveCome S.DatagramSocket (one ∷ []) socket.old socket.new }
+            → (one : Stated) × (self.new ≡ one ∷ [])
+            × HaveCome S.DatagramSocket (one ∷ []) socket.old socket.new }
         ensures none { result ≡ false → (self.new ≡ []) × S.receives socket.old None socket.new }
     {
         self.end = 0;
@@ -182,11 +190,14 @@ impl Queue {
         true
     }
 
-    /// Reads the next datagram of a socket behind the others, and tells whether one had come and there was room.
+    /// Reads the next datagram of a socket behind the others, and tells whether one had come and there was
+    /// room.
     fn read<S: DatagramSocket>(&mut self, socket: &mut S) -> bool
         ensures came { result ≡ true
-            → (one : Stated) × (self.new ≡ self.old ++ one ∷ []) × HaveCome S.DatagramSocket (one ∷ []) socket.old socket.new }
-        ensures none { result ≡ false → (self.new ≡ self.old) × AreRead S.DatagramSocket [] socket.old socket.new }
+            → (one : Stated) × (self.new ≡ self.old ++ one ∷ [])
+            × HaveCome S.DatagramSocket (one ∷ []) socket.old socket.new }
+        ensures none { result ≡ false
+            → (self.new ≡ self.old) × AreRead S.DatagramSocket [] socket.old socket.new }
     {
         let Some(place) = self.places.get_mut(self.end) else {
             return false;
@@ -255,9 +266,11 @@ impl<S: DatagramSocket + Drop> Datagrams<S> {
         self.leaving.send(&mut self.socket);
     }
 
-    /// Reads one datagram, or where many came as many as there are and there is room for, in place of those that were read before.
+    /// Reads one datagram, or where many came as many as there are and there is room for, in place of those
+    /// that were read before.
     fn read_ahead(&mut self)
-        ensures read { AreRead S.DatagramSocket (arrived_of self.new) (socket_of self.old) (socket_of self.new) }
+        ensures read { AreRead S.DatagramSocket (arrived_of self.new) (socket_of self.old)
+            (socket_of self.new) }
         ensures none { arrived_of self.new ≡ [] → S.receives (socket_of self.old) None (socket_of self.new) }
         ensures leaving { leaving_of self.new ≡ leaving_of self.old }
     {
@@ -275,11 +288,13 @@ impl<S: DatagramSocket + Drop> Datagrams<S> {
         self.full = full.saturating_add(1);
     }
 
-    /// The next datagram that came, put into a buffer: how many octets it has there, and its peer. What doesn't fit is cut off. Where
-    /// none is left of those that were read ahead, what is to be sent is sent, and some are read.
+    /// The next datagram that came, put into a buffer: how many octets it has there, and its peer. What
+    /// doesn't fit is cut off. Where none is left of those that were read ahead, what is to be sent is sent,
+    /// and some are read.
     pub fn receive(&mut self, into: &mut [u8]) -> Option<(usize, Peer)>
         ensures few { IfSome result (λ r. r.0 ≤ length into.new) }
-        ensures handed { IfSome result (λ r. (octets : List ℕ) × (take r.0 into.new ≡ take (length into.new) octets)
+        ensures handed { IfSome result
+            (λ r. (octets : List ℕ) × (take r.0 into.new ≡ take (length into.new) octets)
             × IsHandedOver S.DatagramSocket (octets, r.1) self.old self.new) }
         ensures none { IfNone result (HasNone S.DatagramSocket self.old self.new) }
     {

@@ -86,7 +86,8 @@ impl<S: Stream + Drop> Edge<S> {
         notes.note(Note::Closed(number));
     }
 
-    /// Sends a reply to where it goes, or queues it there. A connection whose reply can't be queued is closed.
+    /// Sends a reply to where it goes, or queues it there. A connection whose reply can't be queued is
+    /// closed.
     #[inline(always)]
     fn send<I: ZoneIndex, D: ZoneStore, N: Network<S>, L: Notes>(
         &mut self,
@@ -124,8 +125,8 @@ impl<S: Stream + Drop> Edge<S> {
         notes: &mut L,
         headers: &[HeaderTo],
     )
-        ensures { AreSent N.Network (map (λ h. header_out h) headers.now) (served primary.old self.old network.old)
-            (served primary.new self.new network.new) }
+        ensures { AreSent N.Network (map (λ h. header_out h) headers.now)
+            (served primary.old self.old network.old) (served primary.new self.new network.new) }
     {
         for header in headers {
             self.send(alloc, network, primary, notes, header.to, &header.octets);
@@ -151,7 +152,8 @@ impl<S: Stream + Drop> Edge<S> {
         }
     }
 
-    /// Lets the effects of an event happen: the replies that waited in their order, then the one to what came; and tells the rest.
+    /// Lets the effects of an event happen: the replies that waited in their order, then the one to what
+    /// came; and tells the rest.
     #[inline(always)]
     fn deliver<I: ZoneIndex, D: ZoneStore, N: Network<S>, L: Notes>(
         &mut self,
@@ -169,8 +171,8 @@ impl<S: Stream + Drop> Edge<S> {
         tell(notes, effects.noted);
     }
 
-    /// Takes up a connection that a peer made: the primary is told, and it gets its place. One that gets no number is closed at once. It
-    /// is compiled apart, so that a turn in which none comes doesn't pay for it.
+    /// Takes up a connection that a peer made: the primary is told, and it gets its place. One that gets no
+    /// number is closed at once. It is compiled apart, so that a turn in which none comes doesn't pay for it.
     #[inline(never)]
     fn welcome<I: ZoneIndex, D: ZoneStore, L: Notes>(
         &mut self,
@@ -181,7 +183,8 @@ impl<S: Stream + Drop> Edge<S> {
         peer: Peer,
         now: u64,
     )
-        ensures { IsWelcomed stream peer primary.old primary.new (connections_of self.old) (connections_of self.new) }
+        ensures { IsWelcomed stream peer primary.old primary.new (connections_of self.old)
+            (connections_of self.new) }
     {
         let effects = primary.step(alloc, Event::Connect(peer));
         tell(notes, effects.noted);
@@ -235,8 +238,8 @@ impl<S: Stream + Drop> Edge<S> {
         true
     }
 
-    /// Queues the next message of the transfer that is open on a connection, and answers whether there was one. Where memory is
-    /// refused there was none, and a later pump gives it.
+    /// Queues the next message of the transfer that is open on a connection, and answers whether there was
+    /// one. Where memory is refused there was none, and a later pump gives it.
     fn pump<I: ZoneIndex, D: ZoneStore, N: Network<S>, L: Notes>(
         &mut self,
         alloc: Heap,
@@ -284,8 +287,8 @@ impl<S: Stream + Drop> Edge<S> {
         moved != Moved::Later
     }
 
-    /// Gives a connection its part of a turn: what is left to write is written; else the next message of a transfer is queued; else a
-    /// piece is read, and a message handled.
+    /// Gives a connection its part of a turn: what is left to write is written; else the next message of a
+    /// transfer is queued; else a piece is read, and a message handled.
     fn visit<I: ZoneIndex, D: ZoneStore, N: Network<S>, L: Notes>(
         &mut self,
         alloc: Heap,
@@ -315,10 +318,12 @@ impl<S: Stream + Drop> Edge<S> {
         self.hear(alloc, network, primary, notes, number, now)
     }
 
-    /// Makes one turn, in the second `now`, and answers whether anything was done in it: at most one connection is accepted and at
-    /// most one datagram read; each connection has its part, by rising number; then there is a flush if a reply waits for one.
+    /// Makes one turn, in the second `now`, and answers whether anything was done in it: at most one
+    /// connection is accepted and at most one datagram read; each connection has its part, by rising number;
+    /// then there is a flush if a reply waits for one.
     ///
-    /// A read or a write that would wait does nothing, and one that fails closes its connection. So does refused memory.
+    /// A read or a write that would wait does nothing, and one that fails closes its connection. So does
+    /// refused memory.
     pub fn turn<I: ZoneIndex, D: ZoneStore, N: Network<S>, L: Notes>(
         &mut self,
         alloc: Heap,

@@ -1,4 +1,5 @@
-//! A server on a network, by turns: what comes is read and handled, and what goes out is written, one piece at a time.
+//! A server on a network, by turns: what comes is read and handled, and what goes out is written, one piece
+//! at a time.
 #![tactic(auto)]
 
 mod datagram_socket;

@@ -71,7 +71,8 @@ impl MemoryNetwork {
 
     // Keeps a datagram that is sent.
     fn keep(&mut self, octets: &[u8], peer: Peer) -> Result<(), AllocError>
-        ensures kept { OnOk result (datagrams_from self.new ≡ datagrams_from self.old ++ (octets.now, peer) ∷ []) }
+        ensures kept { OnOk result
+            (datagrams_from self.new ≡ datagrams_from self.old ++ (octets.now, peer) ∷ []) }
         ensures refused { OnErr result (datagrams_from self.new ≡ datagrams_from self.old) }
     {
         let octets = Vec::from_slice(self.alloc, octets)?;

@@ -5,7 +5,8 @@ ghost use Rattle.dns_primary.specs.declared.event.Peer.{Peer as StatedPeer};
 
 use dns_primary::Peer;
 
-/// A network of datagrams and streams, of which no call waits but `wait`. Its calls are told by how it may go on behind each of them.
+/// A network of datagrams and streams, of which no call waits but `wait`. Its calls are told by how it may go
+/// on behind each of them.
 pub trait Network<S> {
     /// It may go on so where it was asked for a connection, and a peer had made this one, or none had;
     ghost accepts: { Self → Option (S × StatedPeer) → Self → Type 0 };
@@ -23,7 +24,8 @@ pub trait Network<S> {
     fn accept(&mut self) -> Option<(S, Peer)>
         ensures { accepts self.old result self.new };
 
-    /// The next datagram that came, read into a buffer: how many octets it has there, and its peer. What doesn't fit is cut off.
+    /// The next datagram that came, read into a buffer: how many octets it has there, and its peer. What
+    /// doesn't fit is cut off.
     fn receive(&mut self, into: &mut [u8]) -> Option<(usize, Peer)>
         ensures few { IfSome result (λ r. r.0 ≤ length into.new) }
         ensures came { receives self.old (option_map (λ r. (take r.0 into.new, r.1)) result) self.new };
@@ -36,7 +38,8 @@ pub trait Network<S> {
     fn look(&mut self)
         ensures { looks self.old self.new };
 
-    /// Waits until something may have come, or about a second has passed. It is called where nothing was to be done.
+    /// Waits until something may have come, or about a second has passed. It is called where nothing was to
+    /// be done.
     fn wait(&mut self)
         ensures { looks self.old self.new };
 }

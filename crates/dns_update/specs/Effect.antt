@@ -25,11 +25,12 @@ owns_other records name t = list_any (λ s. names_eq s.owner name && not (s.rtyp
 abbrev pub succeeds : Record → Record → Bool
 succeeds r s = names_eq s.owner r.owner && s.rtype == type_soa && greater (serial_of r) (serial_of s)
 
--- A record is added (RFC 2136 3.4.2.2). A CNAME and another type don't come together; a CNAME replaces a CNAME, a SOA one of a
--- lesser serial, and a record that of equal owner, type and data, whose TTL may differ.
+-- A record is added (RFC 2136 3.4.2.2). A CNAME and another type don't come together; a CNAME replaces a
+-- CNAME, a SOA one of a lesser serial, and a record that of equal owner, type and data, whose TTL may differ.
 abbrev pub added : List Record → Record → List Record
 added records r =
-    if r.rtype == type_cname then (if owns_other records r.owner type_cname then records else replaced records r)
+    if r.rtype == type_cname
+    then (if owns_other records r.owner type_cname then records else replaced records r)
     else if owns_type records r.owner type_cname then records
     else if r.rtype == type_soa then (if list_any (succeeds r) records then replaced records r else records)
     else put r records
@@ -45,7 +46,8 @@ deleted_set apex records name t = filter (λ r. not (is_of name t r && not (is_v
 -- A SOA stays, and so does the last NS of the apex.
 abbrev pub is_spared : Labels → List Record → Record → Bool
 is_spared apex records r =
-    r.rtype == type_soa || r.rtype == type_ns && names_eq r.owner apex && length (rrset records apex type_ns) == 1
+    r.rtype == type_soa
+    || r.rtype == type_ns && names_eq r.owner apex && length (rrset records apex type_ns) == 1
 
 -- One record is deleted (RFC 2136 3.4.2.4).
 abbrev pub deleted : Labels → List Record → Record → List Record

@@ -15,7 +15,8 @@ listed records items = filter (λ r. list_any (lists r) items) records
 -- The item's record is there, and of its RRset as many are among the listed as there are.
 abbrev pub is_counted : (listed records : List Record) → ResourceRecord → Bool
 is_counted listed records i =
-    has (as_record i) records && length (rrset listed i.owner i.rtype) == length (rrset records i.owner i.rtype)
+    has (as_record i) records
+    && length (rrset listed i.owner i.rtype) == length (rrset records i.owner i.rtype)
 
 -- The item is not of class IN, or its RRset is listed.
 abbrev pub is_met : (listed records : List Record) → ResourceRecord → Bool

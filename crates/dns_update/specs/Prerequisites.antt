@@ -9,7 +9,8 @@ use Rattle.dns_zone.specs.Zone.{Zone}
 use Rattle.dns_wire.specs.Message.{ResourceRecord}
 use Rattle.dns_update.specs.ResourceRecord.{as_record, is_empty, first_fault, otherwise}
 use Rattle.dns_wire.specs.declared.codes.Rcode.{Rcode}
-use Rattle.dns_wire.specs.declared.codes.Rcode.TheVariants.{FormErr, NxDomain, YxDomain, YxRrset, NxRrset, NotZone}
+use Rattle.dns_wire.specs.declared.codes.Rcode.TheVariants.{FormErr, NxDomain, YxDomain, YxRrset, NxRrset}
+use Rattle.dns_wire.specs.declared.codes.Rcode.TheVariants.{NotZone}
 
 -- Class ANY: the name is in use, or the RRset exists (RFC 2136 3.2.1). An empty nonterminal owns no record.
 abbrev pub in_use_fault : List Record → ResourceRecord → Option Rcode
@@ -27,8 +28,8 @@ unused_fault records i =
     else if owns_type records i.owner i.rtype then Some YxRrset
     else None
 
--- What fails a prerequisite by itself (RFC 2136 3.2). One of class IN lists a record of an RRset, and has data where its type is
--- known.
+-- What fails a prerequisite by itself (RFC 2136 3.2). One of class IN lists a record of an RRset, and has
+-- data where its type is known.
 abbrev pub prerequisite_fault : Zone → ResourceRecord → Option Rcode
 prerequisite_fault z i =
     if not (i.ttl == 0) then Some FormErr
@@ -44,7 +45,8 @@ lists r i = i.class == class_in && alike (as_record i) r
 
 -- What is listed of the item's name and type is the RRset, no more and no less (RFC 2136 3.2.3).
 abbrev pub is_rrset : List Record → List ResourceRecord → ResourceRecord → Bool
-is_rrset records items i = has (as_record i) records && list_all (λ r. list_any (lists r) items) (rrset records i.owner i.rtype)
+is_rrset records items i =
+    has (as_record i) records && list_all (λ r. list_any (lists r) items) (rrset records i.owner i.rtype)
 
 abbrev pub are_rrsets : List Record → List ResourceRecord → Bool
 are_rrsets records items = list_all (λ i. not (i.class == class_in) || is_rrset records items i) items
@@ -52,4 +54,5 @@ are_rrsets records items = list_all (λ i. not (i.class == class_in) || is_rrset
 -- What fails the prerequisites: the first that fails by itself, else a list that is not its RRset.
 abbrev pub prerequisites_fault : Zone → List ResourceRecord → Option Rcode
 prerequisites_fault z items =
-    otherwise (first_fault (prerequisite_fault z) items) (if are_rrsets z.records items then None else Some NxRrset)
+    otherwise (first_fault (prerequisite_fault z) items)
+    (if are_rrsets z.records items then None else Some NxRrset)

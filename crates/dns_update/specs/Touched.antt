@@ -5,7 +5,8 @@ use Rattle.std.specs.List.Sorted.{IsStrictlySortedBy}
 use Rattle.dns_names.specs.Name.{Labels, names_eq, name_cmp}
 use Rattle.dns_wire.specs.Message.{ResourceRecord}
 
--- The names are in order, each once, and among them are the apex, whose serial is advanced, and the owner of each item.
+-- The names are in order, each once, and among them are the apex, whose serial is advanced, and the owner of
+-- each item.
 pub record AreTouched (apex : Labels) (items : List ResourceRecord) (names : List Labels) : Type 0 where
   pub rise : IsStrictlySortedBy name_cmp names
   pub top : list_any (names_eq apex) names ≡ true

@@ -1,5 +1,6 @@
 -- What becomes of an update (RFC 2136 3.2 to 3.6).
-use Rattle.std.specs.Prelude.{◌≡◌, Bool, true, false, ◌&&◌, ◌==◌, List, [], ◌∷◌, Option, Some, None, if◌then◌else◌}
+use Rattle.std.specs.Prelude.{◌≡◌, Bool, true, false, ◌&&◌, ◌==◌, List, [], ◌∷◌, Option, Some, None}
+use Rattle.std.specs.Prelude.{if◌then◌else◌}
 use Rattle.dns_records.specs.Record.{Record, serial_of, with_serial}
 use Rattle.dns_zone.specs.Records.{put, without, same}
 use Rattle.dns_zone.specs.Zone.{Zone, soas}
@@ -32,14 +33,17 @@ same_set (a ∷ as') (b ∷ bs) = same a b && same_set as' bs
 -- The records with the next serial in their SOA.
 abbrev pub with_next_serial : List Record → List Record → List Record
 with_next_serial [] records = records
-with_next_serial (soa ∷ rest) records = put (with_serial soa (next_serial (serial_of soa))) (without soa records)
+with_next_serial (soa ∷ rest) records =
+    put (with_serial soa (next_serial (serial_of soa))) (without soa records)
 
--- What the items did becomes a version: nothing where the set is the same, else a set with a greater serial. A serial that the
--- items left is advanced by one (RFC 2136 3.6); one that isn't greater than before is refused (RFC 1982).
+-- What the items did becomes a version: nothing where the set is the same, else a set with a greater serial.
+-- A serial that the items left is advanced by one (RFC 2136 3.6); one that isn't greater than before is
+-- refused (RFC 1982).
 abbrev pub versioned : List Record → List Record → Verdict
 versioned before after =
     if same_set before after then Keeps
-    else if serial_in (soas after) == serial_in (soas before) then Leaves (with_next_serial (soas after) after)
+    else if serial_in (soas after) == serial_in (soas before)
+    then Leaves (with_next_serial (soas after) after)
     else if greater (serial_in (soas after)) (serial_in (soas before)) then Leaves after
     else Refuses Refused
 
@@ -53,13 +57,17 @@ verdict z prerequisites items =
     unless (otherwise (prerequisites_fault z prerequisites) (first_fault (prescan_fault z.apex) items))
     (versioned z.records (effects z.apex z.records items))
 
--- The judgement is this verdict: with the set that is left stands the change to it. `records` is what a set of the code contains.
+-- The judgement is this verdict: with the set that is left stands the change to it. `records` is what a set
+-- of the code contains.
 abbrev pub IsVerdict : {X : Type 0} → (X → List Record) → List Record → Verdict → Judged X → Type 0
 IsVerdict records before (Refuses rcode) j = j ≡ judged.Refused rcode
 IsVerdict records before Keeps j = j ≡ judged.NoChange
 IsVerdict {X} records before (Leaves after) j =
-    (c : Change) × (next : X) × (j ≡ judged.Accepted c next) × (records next ≡ after) × IsChange before after c
+    (c : Change) × (next : X) × (j ≡ judged.Accepted c next) × (records next ≡ after)
+    × IsChange before after c
 
--- The answer section of an update is its prerequisites, the authority section what is to be done (RFC 2136 2).
-abbrev pub IsJudged : {X : Type 0} → (X → List Record) → Zone → List ResourceRecord → List ResourceRecord → Judged X → Type 0
+-- The answer section of an update is its prerequisites, the authority section what is to be done (RFC 2136
+-- 2).
+abbrev pub IsJudged : {X : Type 0} → (X → List Record) → Zone → List ResourceRecord → List ResourceRecord
+    → Judged X → Type 0
 IsJudged records z prerequisites items j = IsVerdict records z.records (verdict z prerequisites items) j

@@ -1,5 +1,6 @@
 //! Changes of the records that one name owns, which stand in a list, in order.
-ghost use Rattle.std.specs.Prelude.{◌≡◌, ◌≤◌, ◌++◌, ◌&&◌, ◌==◌, nat_lt, true, not, filter, length, take, drop, OnOk, IfOk};
+ghost use Rattle.std.specs.Prelude.{◌≡◌, ◌≤◌, ◌++◌, ◌&&◌, ◌==◌, nat_lt, true, not, filter, length, take};
+ghost use Rattle.std.specs.Prelude.{drop, OnOk, IfOk};
 ghost use Rattle.std.specs.List.{list_any, list_all, find};
 ghost use Rattle.std.specs.Option.{option_copied};
 ghost use Rattle.std.specs.Ordering.{is_lt};

@@ -1,5 +1,5 @@
-//! What an update does to the records of a zone. An item says something of what its owner owns, so that the items of one name are
-//! done to that, which is taken out of the zone once for all of them.
+//! What an update does to the records of a zone. An item says something of what its owner owns, so that the
+//! items of one name are done to that, which is taken out of the zone once for all of them.
 ghost use Rattle.std.specs.Prelude.{◌≡◌, ◌==◌, true, false, None, OnOk, IfOk};
 ghost use Rattle.std.specs.List.{AllByRecursion, list_all};
 ghost use Rattle.dns_names.specs.Name.{names_eq};
@@ -37,7 +37,8 @@ fn is_same(name: &NameRef<'_>, other: &NameRef<'_>) -> bool
     name.is(other)
 }
 
-/// Takes those of a type out of the records of a name, or all where the type is ANY; but the SOA and the NS of the apex stay.
+/// Takes those of a type out of the records of a name, or all where the type is ANY; but the SOA and the NS
+/// of the apex stay.
 fn take_deleted<H: Held>(held: &mut H, apex: &NameRef<'_>, name: &NameRef<'_>, rtype: u16)
     requires order { is_ordered (H.records held.old) ≡ true }
     requires owned { are_of name.now (H.records held.old) ≡ true }
@@ -197,7 +198,8 @@ const LONG: usize = 1024;
 /// The items that the parts are made for are at least so many.
 const SEVERAL: usize = 8;
 
-/// Does what items of one name say to the records of the name, in order. Of a long name a part of the records moves for an item.
+/// Does what items of one name say to the records of the name, in order. Of a long name a part of the records
+/// moves for an item.
 fn take_owned(
     alloc: Heap,
     owned: Vec<Record, Heap>,
@@ -223,7 +225,8 @@ fn take_owned(
 /// Of a name that owns fewer records, copies are changed, and not those that stand in the zone.
 const MANY: usize = 8;
 
-/// What a name owns, to be changed and put back. Many records are taken out, so that none is copied but what another set shares.
+/// What a name owns, to be changed and put back. Many records are taken out, so that none is copied but what
+/// another set shares.
 fn hold<I: ZoneIndex>(
     alloc: Heap,
     set: &mut I,
@@ -247,7 +250,8 @@ fn put_back<I: ZoneIndex>(
 ) -> Result<(), AllocError>
     requires order { is_ordered held.items ≡ true }
     requires owned { are_of name.now held.items ≡ true }
-    ensures { OnOk result (I.records set.new ≡ united (others (I.records set.old) name.now) held.entry.items) }
+    ensures { OnOk result
+        (I.records set.new ≡ united (others (I.records set.old) name.now) held.entry.items) }
 {
     if set.records_at(name) == held.as_slice() {
         drop(held);

@@ -1,5 +1,6 @@
 //! The records that one name owns, while the items of an update are done to them.
-ghost use Rattle.std.specs.Prelude.{◌≡◌, ◌≤◌, ◌==◌, ◌++◌, nat_lt, List, [], true, not, filter, length, OnOk, IfOk};
+ghost use Rattle.std.specs.Prelude.{◌≡◌, ◌≤◌, ◌==◌, ◌++◌, nat_lt, List, [], true, not, filter, length, OnOk};
+ghost use Rattle.std.specs.Prelude.{IfOk};
 ghost use Rattle.std.specs.List.{list_any, list_all};
 ghost use Rattle.std.specs.Ordering.{is_lt};
 ghost use Rattle.dns_records.specs.Record.{Record as Stated, record_cmp};
@@ -19,7 +20,8 @@ use dns_names::NameRef;
 use dns_records::Record;
 use std::alloc::AllocError;
 
-/// The records of a name in order, to be changed. What a change costs is up to the form that they are held in.
+/// The records of a name in order, to be changed. What a change costs is up to the form that they are held
+/// in.
 pub(crate) trait Held: Drop {
     /// What they are.
     ghost records: { Self → List Stated };

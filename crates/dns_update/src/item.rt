@@ -47,7 +47,8 @@ impl Model for ResourceRecord {
 
     ghost Value = { Stated };
 
-    ghost view = { λ i. record { owner = i.owner; rtype = i.rtype; class = i.class; ttl = i.ttl; rdata = i.rdata.items } };
+    ghost view = { λ i.
+        record { owner = i.owner; rtype = i.rtype; class = i.class; ttl = i.ttl; rdata = i.rdata.items } };
 }
 
 impl ResourceRecord {

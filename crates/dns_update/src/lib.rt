@@ -1,4 +1,5 @@
-//! The verdict on an update of a zone (RFC 2136 section 3): its prerequisites, what it would do, and the change that it is.
+//! The verdict on an update of a zone (RFC 2136 section 3): its prerequisites, what it would do, and the
+//! change that it is.
 #![tactic(auto)]
 
 mod among;

@@ -6,7 +6,8 @@ ghost use Rattle.dns_records.specs.Types.{class_in};
 ghost use Rattle.dns_zone.specs.Records.{alike, owns};
 ghost use Rattle.dns_update.specs.ResourceRecord.{as_record, first_fault};
 ghost use Rattle.dns_update.specs.Listed.{is_counted, is_met, listed};
-ghost use Rattle.dns_update.specs.Prerequisites.{are_rrsets, in_use_fault, prerequisite_fault, prerequisites_fault, unused_fault};
+ghost use Rattle.dns_update.specs.Prerequisites.{are_rrsets, in_use_fault, prerequisite_fault};
+ghost use Rattle.dns_update.specs.Prerequisites.{prerequisites_fault, unused_fault};
 
 use crate::item::{ResourceRecord, find_named};
 use dns_memory::Heap;
@@ -24,7 +25,8 @@ fn owns<I: ZoneIndex>(index: &I, name: &NameRef<'_>) -> bool
     !index.records_at(name).is_empty()
 }
 
-/// What fails a prerequisite of class ANY: that the name is in use, or that the RRset exists (RFC 2136 section 3.2.1).
+/// What fails a prerequisite of class ANY: that the name is in use, or that the RRset exists (RFC 2136
+/// section 3.2.1).
 fn in_use_fault<I: ZoneIndex>(index: &I, item: &ResourceRecord) -> Option<Rcode>
     ensures { result ≡ in_use_fault (I.records index.now) item.now }
 {
@@ -38,7 +40,8 @@ fn in_use_fault<I: ZoneIndex>(index: &I, item: &ResourceRecord) -> Option<Rcode>
     }
 }
 
-/// What fails a prerequisite of class NONE: that the name is not in use, or that the RRset doesn't exist (RFC 2136 section 3.2.2).
+/// What fails a prerequisite of class NONE: that the name is not in use, or that the RRset doesn't exist
+/// (RFC 2136 section 3.2.2).
 fn unused_fault<I: ZoneIndex>(index: &I, item: &ResourceRecord) -> Option<Rcode>
     ensures { result ≡ unused_fault (I.records index.now) item.now }
 {
@@ -86,7 +89,8 @@ fn first_fault<I: ZoneIndex>(zone: &Zone<I>, items: &[ResourceRecord]) -> Option
 /// The record that the item lists: one of class IN lists that of its owner, type and data.
 fn listed_record<'s, I: ZoneIndex>(index: &'s I, item: &ResourceRecord) -> Option<&'s Record>
     ensures { option_copied result
-        ≡ (if item.now.class == class_in then find (alike (as_record item.now)) (I.records index.now) else None) }
+        ≡ (if item.now.class == class_in
+        then find (alike (as_record item.now)) (I.records index.now) else None) }
 {
     if item.class() != CLASS_IN {
         return None;
@@ -134,9 +138,10 @@ fn all_met<I: ZoneIndex, L: ZoneIndex>(index: &I, listed: &L, items: &[ResourceR
     items.iter().all(|item| is_met(index, listed, item))
 }
 
-/// Whether what is listed is the RRset, no more and no less, for each name and type (RFC 2136 section 3.2.3). What is listed is
-/// gathered as a set, so that two counts tell whether it is the whole of an RRset: in one list, since a tree keeps what a name owns in
-/// a list of its own, which it copies for each record that comes.
+/// Whether what is listed is the RRset, no more and no less, for each name and type (RFC 2136 section 3.2.3).
+/// What is listed is gathered as a set, so that two counts tell whether it is the whole of an RRset: in one
+/// list, since a tree keeps what a name owns in a list of its own, which it copies for each record that
+/// comes.
 fn are_rrsets<I: ZoneIndex>(
     alloc: Heap,
     index: &I,

@@ -11,11 +11,13 @@ use dns_memory::Heap;
 use dns_names::NameRef;
 use std::alloc::AllocError;
 
-/// Puts the items in order of their owners, so that each name has one run. Those of one name stay in the order that they have.
+/// Puts the items in order of their owners, so that each name has one run. Those of one name stay in the
+/// order that they have.
 pub(crate) fn sort_by_owner(items: &mut Vec<ResourceRecord, Heap>) -> Result<(), AllocError>
     ensures moved { IsPermutation items.old.items items.new.items }
     ensures stay { (n : Labels)
-        → filter (λ i. names_eq i.owner n) items.new.items ≡ filter (λ i. names_eq i.owner n) items.old.items }
+        → filter (λ i. names_eq i.owner n) items.new.items
+        ≡ filter (λ i. names_eq i.owner n) items.old.items }
     ensures sorted { OnOk result (IsSortedBy (λ i j. is_lt (name_cmp i.owner j.owner)) items.new.items) }
 {
     items.sort_by(|a, b| a.owner().cmp(b.owner()))

@@ -13,7 +13,8 @@ ghost use Rattle.dns_update.specs.Prescan.{prescan_fault};
 ghost use Rattle.dns_update.specs.Effect.{effects};
 ghost use Rattle.dns_zone.specs.Soa.{HasSoa};
 ghost use Rattle.dns_changes.specs.Version.{IsNext};
-ghost use Rattle.dns_update.specs.Verdict.{IsVerdict, IsJudged, Leaves, same_set, versioned, with_next_serial};
+ghost use Rattle.dns_update.specs.Verdict.{IsVerdict, IsJudged, Leaves, same_set, versioned};
+ghost use Rattle.dns_update.specs.Verdict.{with_next_serial};
 
 use crate::Judged;
 use crate::effect::take_effects;
@@ -33,14 +34,17 @@ use std::alloc::AllocError;
 
 /// Whether the name owns the same records in two sets, with all TTLs.
 fn owns_same<I: ZoneIndex>(a: &I, b: &I, name: &NameRef<'_>) -> bool
-    ensures { result ≡ same_set (records_at (I.records a.now) name.now) (records_at (I.records b.now) name.now) }
+    ensures { result
+        ≡ same_set (records_at (I.records a.now) name.now) (records_at (I.records b.now) name.now) }
 {
     a.records_at(name) == b.records_at(name)
 }
 
 /// Whether each of the names owns the same records in two sets, with all TTLs.
 fn own_same<I: ZoneIndex>(a: &I, b: &I, names: &[Name]) -> bool
-    ensures { result ≡ list_all (λ n. same_set (records_at (I.records a.now) n) (records_at (I.records b.now) n)) names.now }
+    ensures { result
+        ≡ list_all (λ n. same_set (records_at (I.records a.now) n) (records_at (I.records b.now) n))
+        names.now }
 {
     names.iter().all(|name| owns_same(a, b, &name.lend()))
 }
@@ -57,7 +61,8 @@ fn is_same_set<I: ZoneIndex>(a: &I, b: &I, names: &[Name]) -> bool
 fn advance<I: ZoneIndex>(alloc: Heap, set: &mut I, soa: &Record) -> Result<(), AllocError>
     requires one { soas (I.records set.old) ≡ soa.now ∷ [] }
     requires soa { soa.now.rtype ≡ type_soa }
-    ensures { OnOk result (I.records set.new ≡ with_next_serial (soas (I.records set.old)) (I.records set.old)) }
+    ensures { OnOk result
+        (I.records set.new ≡ with_next_serial (soas (I.records set.old)) (I.records set.old)) }
 {
     let next = soa.with_serial(alloc, Serial(soa.serial()).next().0)?;
     set.remove(soa)?;
@@ -93,7 +98,8 @@ fn advanced_change<I: ZoneIndex>(
     requires touched { DifferAt names.now zone.now.records (I.records after) }
     requires apex { list_any (names_eq zone.now.apex) names.now ≡ true }
     ensures { IfOk result
-        (IsVerdict I.records zone.now.records (Leaves (with_next_serial (soas (I.records after)) (I.records after)))) }
+        (IsVerdict I.records zone.now.records
+        (Leaves (with_next_serial (soas (I.records after)) (I.records after)))) }
 {
     let mut after = after;
     let soa = soa_of(&after, &zone.apex().lend()).clone()?;
@@ -112,7 +118,8 @@ fn versioned<I: ZoneIndex>(
     requires few { length (I.records after) + 1 < 2 ^ 32 }
     requires touched { DifferAt names.now zone.now.records (I.records after) }
     requires apex { list_any (names_eq zone.now.apex) names.now ≡ true }
-    ensures { IfOk result (IsVerdict I.records zone.now.records (versioned zone.now.records (I.records after))) }
+    ensures { IfOk result
+        (IsVerdict I.records zone.now.records (versioned zone.now.records (I.records after))) }
 {
     if is_same_set(zone.index(), &after, names) {
         return Ok(Judged::NoChange);
@@ -137,7 +144,8 @@ fn fault<I: ZoneIndex>(
 ) -> Result<Option<Rcode>, AllocError>
     ensures { IfOk result
         (λ fault. fault
-        ≡ otherwise (prerequisites_fault zone.now prerequisites.now) (first_fault (prescan_fault zone.now.apex) items.now)) }
+        ≡ otherwise (prerequisites_fault zone.now prerequisites.now)
+        (first_fault (prescan_fault zone.now.apex) items.now)) }
 {
     let first = prerequisites_fault(alloc, zone, prerequisites)?;
     if first.is_some() {
@@ -169,7 +177,8 @@ fn judge_passed<I: ZoneIndex>(
     versioned(alloc, zone, after, &names)
 }
 
-/// What becomes of an update of these prerequisites and items. The items are scanned in their order, and done name by name.
+/// What becomes of an update of these prerequisites and items. The items are scanned in their order, and done
+/// name by name.
 fn judge_items<I: ZoneIndex>(
     alloc: Heap,
     zone: &Zone<I>,
@@ -194,15 +203,16 @@ fn judge_items<I: ZoneIndex>(
     judge_passed(alloc, zone, &items)
 }
 
-/// What becomes of an update of the zone, which stays as it is (RFC 2136 sections 3.2 to 3.6). What is accepted is the change and
-/// the records that it leads to: a valid zone with a greater serial, but that the caller sees to its room, as there may be more
-/// than 65,536 of them.
+/// What becomes of an update of the zone, which stays as it is (RFC 2136 sections 3.2 to 3.6). What is
+/// accepted is the change and the records that it leads to: a valid zone with a greater serial, but that the
+/// caller sees to its room, as there may be more than 65,536 of them.
 pub fn judge<I: ZoneIndex>(
     alloc: Heap,
     zone: &Zone<I>,
     message: &Message<'_>,
 ) -> Result<Judged<I>, AllocError>
-    ensures verdict { IfOk result (IsJudged I.records zone.now message.now.message.answers message.now.message.authorities) }
+    ensures verdict { IfOk result
+        (IsJudged I.records zone.now message.now.message.answers message.now.message.authorities) }
     ensures next { IfOk result
         (λ judged. (change : StatedChange) (next : I)
         → judged ≡ Judged.Accepted change next

@@ -22,7 +22,8 @@ pub record HasNoRecord (reply : Reply) : Type 0 where
 
 -- The answer of a reply, compressed behind its question.
 abbrev pub compressed_answer : Reply → Compressing
-compressed_answer reply = compressed_all (question_places reply) (12 + length (question_octets reply)) reply.answer
+compressed_answer reply =
+    compressed_all (question_places reply) (12 + length (question_octets reply)) reply.answer
 
 -- Behind 12 octets for the header, the octets are those of the reply.
 pub record IsBuilt (reply : Reply) (octets : List ℕ) : Type 0 where

@@ -1,9 +1,11 @@
 -- Compressing computed: the plain program beside the property of Compressed.
-use Rattle.std.specs.Prelude.{ℕ, ◌+◌, ◌/◌, ◌%◌, List, [], ◌∷◌, ◌++◌, length, take, drop, Option, Some, None, nat_lt, if◌then◌else◌}
+use Rattle.std.specs.Prelude.{ℕ, ◌+◌, ◌/◌, ◌%◌, List, [], ◌∷◌, ◌++◌, length, take, drop, Option, Some, None}
+use Rattle.std.specs.Prelude.{nat_lt, if◌then◌else◌}
 use Rattle.std.specs.List.{find}
 use Rattle.std.specs.Int.{w16, w32, to_be_bytes}
 use Rattle.dns_names.specs.Name.{Labels, names_eq, wire, labels_of}
-use Rattle.dns_records.specs.Types.{Field, Values, octet_count, Name, UncompressedName, Strings, form, class_in}
+use Rattle.dns_records.specs.Types.{Field, Values, octet_count, Name, UncompressedName, Strings, form}
+use Rattle.dns_records.specs.Types.{class_in}
 use Rattle.dns_records.specs.Record.{Record}
 
 -- Where a suffix of an earlier name stands, the least offset first.
@@ -30,7 +32,8 @@ abbrev pub new_places : List Place → ℕ → Labels → List Place
 new_places places at [] = []
 new_places places at (label ∷ rest) = elim (place_of places (label ∷ rest)) [
   | Some p ↦ []
-  | None ↦ if nat_lt at 16384 then (record { offset = at; suffix = label ∷ rest }) ∷ new_places places (at + 1 + length label) rest
+  | None ↦ if nat_lt at 16384
+      then (record { offset = at; suffix = label ∷ rest }) ∷ new_places places (at + 1 + length label) rest
       else []
 ]
 
@@ -40,7 +43,8 @@ pub record Compressing : Type 0 where
   pub places : List Place
 
 abbrev pub compressed_name : List Place → ℕ → Labels → Compressing
-compressed_name places at name = record { octets = compress_name places name; places = places ++ new_places places at name }
+compressed_name places at name =
+    record { octets = compress_name places name; places = places ++ new_places places at name }
 
 -- The data of a record, by its parts. Uncompressed names stand in full, and no pointer names them (RFC 2782).
 abbrev pub compressed_fields : List Place → ℕ → List Field → List ℕ → Compressing
@@ -51,7 +55,8 @@ compressed_fields places at (Values vs ∷ fields) rdata =
 compressed_fields places at (Name ∷ fields) rdata =
     let name = labels_of rdata in
     let here = compressed_name places at name in
-    let after = compressed_fields here.places (at + length here.octets) fields (drop (length (wire name)) rdata) in
+    let after =
+    compressed_fields here.places (at + length here.octets) fields (drop (length (wire name)) rdata) in
     record { octets = here.octets ++ after.octets; places = after.places }
 compressed_fields places at (UncompressedName ∷ fields) rdata = record { octets = rdata; places = places }
 compressed_fields places at (Strings ∷ fields) rdata = record { octets = rdata; places = places }

@@ -21,4 +21,5 @@ bucket_of suffix = fold summed 0 suffix % 128
 -- Each suffix has in its bucket the least offset at which it stands.
 pub record IsIndexed (places : List Place) (buckets : List (List Place)) : Type 0 where
   pub at : (suffix : List ℕ) → IsPlain suffix
-      → offset_at (get_or buckets (bucket_of suffix) []) (labels_of suffix) ≡ offset_at places (labels_of suffix)
+      → offset_at (get_or buckets (bucket_of suffix) []) (labels_of suffix)
+      ≡ offset_at places (labels_of suffix)

@@ -1,5 +1,6 @@
 -- What an attempt to write more octets of a message does.
-use Rattle.std.specs.Prelude.{Bool, true, false, ◌≡◌, ℕ, ◌+◌, ◌<◌, ◌≤◌, List, [], ◌∷◌, ◌++◌, length, nat_lt, if◌then◌else◌, Option, Some, None}
+use Rattle.std.specs.Prelude.{Bool, true, false, ◌≡◌, ℕ, ◌+◌, ◌<◌, ◌≤◌, List, [], ◌∷◌, ◌++◌, length, nat_lt}
+use Rattle.std.specs.Prelude.{if◌then◌else◌, Option, Some, None}
 use Rattle.std.specs.Int.{w16, w32, to_be_bytes}
 use Rattle.dns_records.specs.Types.{Field, Values, Name, UncompressedName, Strings, class_in}
 use Rattle.dns_names.specs.Name.{Labels, IsName, wire}
@@ -10,7 +11,8 @@ use Rattle.dns_wire.specs.declared.WriteError.{WriteError}
 use Rattle.dns_wire.specs.declared.WriteError.TheVariants.{OutOfMemory, DoesNotFit}
 
 -- More octets stand behind those that stood, within the limit, and the table of places is as said.
-pub record Wrote (limit : ℕ) (before after : List ℕ) (limit' : ℕ) (places' : List Place) (more : Compressing) : Type 0 where
+pub record Wrote (limit : ℕ) (before after : List ℕ) (limit' : ℕ) (places' : List Place)
+    (more : Compressing) : Type 0 where
   pub octets : after ≡ before ++ more.octets
   pub places : places' ≡ more.places
   pub fits : length after ≤ limit
@@ -49,7 +51,8 @@ is_name Strings = false
 
 -- What stands between the owner and the data of a record, with no length of the data yet.
 abbrev pub fixed_octets : ℕ → ℕ → List ℕ
-fixed_octets rtype ttl = to_be_bytes w16 rtype ++ to_be_bytes w16 class_in ++ to_be_bytes w32 ttl ++ 0 ∷ 0 ∷ []
+fixed_octets rtype ttl =
+    to_be_bytes w16 rtype ++ to_be_bytes w16 class_in ++ to_be_bytes w32 ttl ++ 0 ∷ 0 ∷ []
 
 -- The place of a suffix, if a pointer can name it.
 abbrev pub noted : ℕ → Labels → List Place

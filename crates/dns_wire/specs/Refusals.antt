@@ -1,5 +1,6 @@
 -- Why octets are no message: the first fault in the order of the octets.
-use Rattle.std.specs.Prelude.{◌≡◌, ℕ, zero, suc, ◌+◌, ◌-◌, ◌<◌, ◌≤◌, ◌⊎◌, List, [], ◌∷◌, length, Some, slice_get, slice_range}
+use Rattle.std.specs.Prelude.{◌≡◌, ℕ, zero, suc, ◌+◌, ◌-◌, ◌<◌, ◌≤◌, ◌⊎◌, List, [], ◌∷◌, length, Some}
+use Rattle.std.specs.Prelude.{slice_get, slice_range}
 use Rattle.dns_names.specs.Name.{Labels}
 use Rattle.dns_names.specs.Octets.{LabelsAt, IsCutAt}
 use Rattle.dns_records.specs.Types.{Field, Values, octet_count, Name, UncompressedName, Strings, form}
@@ -9,7 +10,8 @@ use Rattle.dns_wire.specs.Reads.{NumberAt}
 use Rattle.dns_wire.specs.Fields.{SomeField}
 use Rattle.dns_wire.specs.Walk.{SomeQuestion, SomeItem, Times}
 use Rattle.dns_wire.specs.declared.ReadError.{ReadError}
-use Rattle.dns_wire.specs.declared.ReadError.TheVariants.{Short, BadPointer, ReservedLabel, NameTooLong, Cut, Trailing, BadData}
+use Rattle.dns_wire.specs.declared.ReadError.TheVariants.{Short, BadPointer, ReservedLabel, NameTooLong, Cut}
+use Rattle.dns_wire.specs.declared.ReadError.TheVariants.{Trailing, BadData}
 
 -- The octets end in a label or where one is due, or in a pointer.
 abbrev pub IsCut : List ℕ → ℕ → Type 0
@@ -17,7 +19,8 @@ IsCut message stop =
     ((octet : ℕ) × IsCutAt message stop octet)
     ⊎ ((high : ℕ) × (slice_get message stop ≡ Some high) × (192 ≤ high) × (length message ≤ stop + 1))
 
--- What stands behind the labels of a run that begins at an offset and may take so many octets (RFC 1035 2.3.4 and 4.1.4).
+-- What stands behind the labels of a run that begins at an offset and may take so many octets (RFC 1035 2.3.4
+-- and 4.1.4).
 abbrev pub EndRefused : List ℕ → ℕ → ℕ → ℕ → ReadError → Type 0
 EndRefused message run room stop NameTooLong = run + room < stop
 EndRefused message run room stop Cut = (stop ≤ run + room) × IsCut message stop
@@ -54,7 +57,8 @@ NoName message at e = NameRefused message e at 254
 -- A name that stands in data that ends at an offset, and doesn't end there.
 abbrev pub NoNamePart : List ℕ → ℕ → ℕ → ReadError → Type 0
 NoNamePart message at stop e =
-    NoName message at e ⊎ ((name : Labels) × (end : ℕ) × FullNameAt message at name end × (stop < end) × (e ≡ BadData))
+    NoName message at e
+    ⊎ ((name : Labels) × (end : ℕ) × FullNameAt message at name end × (stop < end) × (e ≡ BadData))
 
 abbrev pub FieldRefused : List ℕ → ℕ → Field → ℕ → ReadError → Type 0
 FieldRefused message at (Values vs) stop e = (stop < at + octet_count vs) × (e ≡ BadData)
@@ -66,11 +70,13 @@ FieldRefused message at Strings stop e = (IsField Strings (slice_range message a
 abbrev pub FieldsRefused : List ℕ → ℕ → List Field → ℕ → ReadError → Type 0
 FieldsRefused message at [] stop e = (at < stop) × (e ≡ BadData)
 FieldsRefused message at (f ∷ fields) stop e =
-    FieldRefused message at f stop e ⊎ ((mid : ℕ) × SomeField message at f mid stop × FieldsRefused message mid fields stop e)
+    FieldRefused message at f stop e
+    ⊎ ((mid : ℕ) × SomeField message at f mid stop × FieldsRefused message mid fields stop e)
 
 abbrev pub RDataRefused : List ℕ → ℕ → ℕ → ℕ → ReadError → Type 0
 RDataRefused message at rtype size e =
-    (0 < size) × (fields : List Field) × (form rtype ≡ Some fields) × FieldsRefused message at fields (at + size) e
+    (0 < size) × (fields : List Field) × (form rtype ≡ Some fields)
+    × FieldsRefused message at fields (at + size) e
 
 abbrev pub QuestionRefused : List ℕ → ℕ → ReadError → Type 0
 QuestionRefused message at e =
@@ -94,7 +100,8 @@ ResourceRecordRefused message at e =
 -- Of so many, one behind the other, the first that doesn't stand.
 abbrev pub TimesRefused : (ℕ → ℕ → Type 0) → (ℕ → ReadError → Type 0) → ℕ → ℕ → ReadError → Type 0
 TimesRefused One Refused zero at e = ⊥
-TimesRefused One Refused (suc n) at e = Refused at e ⊎ ((mid : ℕ) × One at mid × TimesRefused One Refused n mid e)
+TimesRefused One Refused (suc n) at e =
+    Refused at e ⊎ ((mid : ℕ) × One at mid × TimesRefused One Refused n mid e)
 
 -- The sections: so many questions or records each, and no octet behind the last (RFC 1035 4.1).
 pub data Kind : Type 0 where
@@ -124,7 +131,8 @@ pub record CountsRefused (octets : List ℕ) (e : ReadError) : Type 0 where
   pub answers : NumberAt octets 6 2 ancount
   pub authorities : NumberAt octets 8 2 nscount
   pub additionals : NumberAt octets 10 2 arcount
-  pub fault : SectionsRefused octets ((Questions, qdcount) ∷ (Records, ancount) ∷ (Records, nscount) ∷ (Records, arcount) ∷ []) 12 e
+  pub fault : SectionsRefused octets
+      ((Questions, qdcount) ∷ (Records, ancount) ∷ (Records, nscount) ∷ (Records, arcount) ∷ []) 12 e
 
 -- There is no header, or what behind it is not what it counts.
 abbrev pub MessageRefused : List ℕ → ReadError → Type 0

@@ -1,5 +1,6 @@
 -- A reply that can be written so that it reads back.
-use Rattle.std.specs.Prelude.{◌≡◌, ◌+◌, ◌<◌, ◌^◌, true, List, [], ◌∷◌, ◌++◌, length, map, take, slice_range, Option, Some, None, IfSome}
+use Rattle.std.specs.Prelude.{◌≡◌, ◌+◌, ◌<◌, ◌^◌, true, List, [], ◌∷◌, ◌++◌, length, map, take, slice_range}
+use Rattle.std.specs.Prelude.{Option, Some, None, IfSome}
 use Rattle.std.specs.List.{AllByRecursion}
 use Rattle.std.specs.Char.{to_ascii_lowercase}
 use Rattle.dns_names.specs.Name.{IsName, wire}
@@ -46,7 +47,8 @@ questions_of (Some e) = question_of e ∷ []
 
 abbrev pub message_of_reply : Reply → Message
 message_of_reply r = record {
-  header = record { id = r.id; qr = true; opcode = r.opcode; aa = r.aa; tc = r.tc; rd = r.rd; rcode = r.rcode };
+  header =
+      record { id = r.id; qr = true; opcode = r.opcode; aa = r.aa; tc = r.tc; rd = r.rd; rcode = r.rcode };
   questions = questions_of r.question;
   answers = map item_of r.answer;
   authorities = map item_of r.authority;

@@ -19,7 +19,8 @@ use std::marker::Model;
 /// The octets that a message and one record more have room in, whatever the record.
 const ROOM: usize = 65535;
 
-/// So many places are looked through one by one, behind those of the apex, under which most names of a transfer are.
+/// So many places are looked through one by one, behind those of the apex, under which most names of a
+/// transfer are.
 const FEW_PLACES: usize = 2;
 
 /// What a message says so far, and its octets.
@@ -32,8 +33,8 @@ struct Contents<'a> {
     limit: usize,
 }
 
-/// A message that takes records into its answer, one behind the other, while they fit. It stands on the heap, so that it is handed
-/// on at the cost of a pointer.
+/// A message that takes records into its answer, one behind the other, while they fit. It stands on the heap,
+/// so that it is handed on at the cost of a pointer.
 #[derive(Drop)]
 pub struct MessageBuilder<'a> {
     contents: Box<Contents<'a>, Heap>,
@@ -68,8 +69,8 @@ fn put_any<'a>(compressor: &mut Compressor<'a>, one: &ReplyRecord<'a>) -> Result
     requires low { length compressor.old.octets.items ≤ 16384 }
     requires room { compressor.old.limit ≡ 65535 }
     ensures { OnOk result
-        (Wrote compressor.old.limit compressor.old.octets.items compressor.new.octets.items compressor.new.limit
-        compressor.new.places
+        (Wrote compressor.old.limit compressor.old.octets.items compressor.new.octets.items
+        compressor.new.limit compressor.new.places
         (compressed_record compressor.old.places (length compressor.old.octets.items) one.now)) }
 {
     let _data = one.rdata();
@@ -132,8 +133,8 @@ impl<'a> MessageBuilder<'a> {
         })
     }
 
-    /// A message with what the reply says but for records, of at most so many octets. It refuses with `DoesNotFit` where it is
-    /// longer already, and with `OutOfMemory` where memory is wanting.
+    /// A message with what the reply says but for records, of at most so many octets. It refuses with
+    /// `DoesNotFit` where it is longer already, and with `OutOfMemory` where memory is wanting.
     pub fn new(
         alloc: Heap,
         reply: Reply<'a, 'a>,

@@ -24,7 +24,8 @@ impl<'a> Compressor<'a> {
         ensures written { OnOk result
             (Wrote self.old.limit self.old.octets.items self.new.octets.items self.new.limit self.new.places
             (plain_octets self.old.places octets.now)) }
-        ensures refused { IfErr result (RefusesUpTo self.old.limit (length self.old.octets.items + length octets.now)) }
+        ensures refused { IfErr result
+            (RefusesUpTo self.old.limit (length self.old.octets.items + length octets.now)) }
     {
         if self.limit - self.octets.len() < octets.len() {
             return Err(WriteError::DoesNotFit);
@@ -33,7 +34,8 @@ impl<'a> Compressor<'a> {
         Ok(())
     }
 
-    /// Writes a name: the fewest labels, and a pointer to the rest where some rest stands earlier (RFC 1035 section 4.1.4).
+    /// Writes a name: the fewest labels, and a pointer to the rest where some rest stands earlier (RFC 1035
+    /// section 4.1.4).
     #[inline(always)]
     pub(crate) fn put_name(&mut self, name: &'a [u8]) -> Result<(), WriteError>
         requires plain { IsPlain name.now }
@@ -43,7 +45,8 @@ impl<'a> Compressor<'a> {
             (compressed_name self.old.places (length self.old.octets.items) (labels_of name.now))) }
         ensures refused { IfErr result
             (RefusesUpTo self.old.limit
-            (length self.old.octets.items + length (compressed_name self.old.places (length self.old.octets.items)
+            (length self.old.octets.items
+            + length (compressed_name self.old.places (length self.old.octets.items)
             (labels_of name.now)).octets)) }
     {
         let mut rest = name;

@@ -1,5 +1,6 @@
 //! The places that pointers can name: where a suffix was written before (RFC 1035 section 4.1.4).
-ghost use Rattle.std.specs.Prelude.{◌≡◌, ◌<◌, List, [], ◌∷◌, ◌++◌, length, get_or, IfOk, IfSome, MatchOption, OnErr, OnOk};
+ghost use Rattle.std.specs.Prelude.{◌≡◌, ◌<◌, List, [], ◌∷◌, ◌++◌, length, get_or, IfOk, IfSome, MatchOption};
+ghost use Rattle.std.specs.Prelude.{OnErr, OnOk};
 ghost use Rattle.dns_names.specs.Name.{labels_of, names_eq};
 ghost use Rattle.dns_names.specs.Plain.{IsPlain};
 ghost use Rattle.dns_wire.specs.Compress.{Place, new_places};
@@ -113,7 +114,8 @@ impl<'a> Bucket<'a> {
     }
 }
 
-/// The number of the bucket in which a suffix is looked for: of its octets, so that most have one of their own.
+/// The number of the bucket in which a suffix is looked for: of its octets, so that most have one of their
+/// own.
 fn bucket_of(suffix: &[u8]) -> usize
     ensures { result ≡ bucket_of suffix.now }
 {
@@ -138,7 +140,8 @@ fn places_in<'b, 'a>(buckets: &'b [Bucket<'a>], number: usize) -> &'b [Target<'a
 /// Puts empty buckets behind the others until there is one with that number.
 fn reach(alloc: Heap, buckets: &mut Vec<Bucket<'_>, Heap>, number: usize) -> Result<(), AllocError>
     ensures there { OnOk result (number < length buckets.new.items) }
-    ensures same { (places : List Place) → IsIndexed places buckets.old.items → IsIndexed places buckets.new.items }
+    ensures same { (places : List Place) → IsIndexed places buckets.old.items
+        → IsIndexed places buckets.new.items }
 {
     'buckets: while buckets.len() <= number {
         buckets.push(Bucket::new(alloc))?;
@@ -158,7 +161,8 @@ fn keep_later<'a>(
     requires plain { IsPlain suffix.now }
     requires low { offset < 16384 }
     ensures kept { OnOk result ((places : List Place) → IsIndexed places buckets.old.items
-        → IsIndexed (places ++ record { offset = offset; suffix = labels_of suffix.now } ∷ []) buckets.new.items) }
+        → IsIndexed (places ++ record { offset = offset; suffix = labels_of suffix.now } ∷ [])
+        buckets.new.items) }
     ensures refused { OnErr result ((places : List Place) → IsIndexed places buckets.old.items
         → IsIndexed places buckets.new.items) }
 {
@@ -200,7 +204,8 @@ impl<'a> Model for Listed<'a> {
 }
 
 impl<'a> Listed<'a> {
-    /// No place. So many will be looked through one by one, and the others by a number of theirs: what is found is the same.
+    /// No place. So many will be looked through one by one, and the others by a number of theirs: what is
+    /// found is the same.
     fn new(alloc: Heap, looked_through: usize) -> Listed<'a>
         ensures { result ≡ [] }
     {
@@ -211,14 +216,15 @@ impl<'a> Listed<'a> {
         }
     }
 
-    /// The least offset at which a suffix stands here. Where it stands nowhere, it is kept that it stands at this one, if a pointer
-    /// can name that.
+    /// The least offset at which a suffix stands here. Where it stands nowhere, it is kept that it stands at
+    /// this one, if a pointer can name that.
     #[inline(never)]
     fn find_or_keep(&mut self, offset: usize, suffix: &'a [u8]) -> Result<Option<usize>, AllocError>
         requires { IsPlain suffix.now }
         ensures place { IfOk result (λ found. found ≡ offset_at self.old (labels_of suffix.now)) }
         ensures low { IfOk result (λ found. IfSome found (λ place. place < 16384)) }
-        ensures kept { IfOk result (λ found. MatchOption found (self.new ≡ self.old ++ noted offset (labels_of suffix.now))
+        ensures kept { IfOk result
+            (λ found. MatchOption found (self.new ≡ self.old ++ noted offset (labels_of suffix.now))
             (λ _. self.new ≡ self.old)) }
         ensures refused { OnErr result (self.new ≡ self.old) }
     {
@@ -246,8 +252,8 @@ impl<'a> Listed<'a> {
     }
 }
 
-/// The places of a message, in the order of their offsets: those of the name behind the header, and the others. Most replies have
-/// none but those of the question's name, and they take no memory.
+/// The places of a message, in the order of their offsets: those of the name behind the header, and the
+/// others. Most replies have none but those of the question's name, and they take no memory.
 #[derive(Drop)]
 pub(crate) struct Places<'a> {
     /// The name that stands in full behind the header: the root, where there is none.
@@ -269,8 +275,8 @@ impl<'a> Model for Places<'a> {
 }
 
 impl<'a> Places<'a> {
-    /// No place. So many behind the first name's will be looked through one by one, and the others by a number of theirs: what is
-    /// found is the same.
+    /// No place. So many behind the first name's will be looked through one by one, and the others by a
+    /// number of theirs: what is found is the same.
     pub(crate) fn new(alloc: Heap, looked_through: usize) -> Places<'a>
         ensures { result ≡ [] }
     {
@@ -289,8 +295,8 @@ impl<'a> Places<'a> {
         self.first = name;
     }
 
-    /// The least offset at which a suffix stands. Where it stands nowhere, it is kept that it stands at this one, if a pointer can
-    /// name that.
+    /// The least offset at which a suffix stands. Where it stands nowhere, it is kept that it stands at this
+    /// one, if a pointer can name that.
     pub(crate) fn find_or_keep(
         &mut self,
         offset: usize,
@@ -299,7 +305,8 @@ impl<'a> Places<'a> {
         requires { IsPlain suffix.now }
         ensures place { IfOk result (λ found. found ≡ offset_at self.old (labels_of suffix.now)) }
         ensures low { IfOk result (λ found. IfSome found (λ place. place < 16384)) }
-        ensures kept { IfOk result (λ found. MatchOption found (self.new ≡ self.old ++ noted offset (labels_of suffix.now))
+        ensures kept { IfOk result
+            (λ found. MatchOption found (self.new ≡ self.old ++ noted offset (labels_of suffix.now))
             (λ _. self.new ≡ self.old)) }
         ensures refused { OnErr result (self.new ≡ self.old) }
     {

@@ -16,7 +16,8 @@ use std::alloc::AllocError;
 fn append_name(message: &[u8], at: usize, out: &mut Vec<u8, Heap>) -> Result<usize, AllocError>
     requires { (name : Labels) × (end : ℕ) × FullNameAt message.now at name end }
     ensures { IfOk result
-        (λ end. (name : Labels) × FullNameAt message.now at name end × (out.new.items ≡ out.old.items ++ wire name)) }
+        (λ end. (name : Labels) × FullNameAt message.now at name end
+        × (out.new.items ≡ out.old.items ++ wire name)) }
 {
     let mut octets = [0; 255];
     let size = copy_plain(message, at, &mut octets);
@@ -40,7 +41,8 @@ fn append_field(
     requires up { at ≤ stop }
     requires inside { stop ≤ length message.now }
     ensures { IfOk result
-        (λ mid. (part : SomeField message.now at (stated_field field) mid stop) × (out.new.items ≡ out.old.items ++ part.plain)) }
+        (λ mid. (part : SomeField message.now at (stated_field field) mid stop)
+        × (out.new.items ≡ out.old.items ++ part.plain)) }
 {
     match field {
         Field::Values(values) => match count_within(values, stop - at) {
@@ -93,7 +95,8 @@ pub(crate) fn append_data(
 ) -> Result<(), AllocError>
     requires there { (plain : List ℕ) × RDataAt message.now at rtype size plain }
     requires inside { at + size ≤ length message.now }
-    ensures { OnOk result ((plain : List ℕ) × RDataAt message.now at rtype size plain × (out.new.items ≡ out.old.items ++ plain)) }
+    ensures { OnOk result ((plain : List ℕ) × RDataAt message.now at rtype size plain
+        × (out.new.items ≡ out.old.items ++ plain)) }
 {
     if size == 0 {
         return Ok(());

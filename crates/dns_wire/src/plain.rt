@@ -9,7 +9,8 @@ use crate::name::{RunEnd, step};
 /// Writes octets in lower case over those from an offset on.
 fn copy_lower(text: &[u8], out: &mut [u8], at: usize)
     requires { at + length text.now ≤ length out.old }
-    ensures { out.new ≡ take at out.old ++ map to_ascii_lowercase text.now ++ drop (at + length text.now) out.old }
+    ensures { out.new
+        ≡ take at out.old ++ map to_ascii_lowercase text.now ++ drop (at + length text.now) out.old }
 {
     let field = &mut out[at..at + text.len()];
     field.copy_from_slice(text);

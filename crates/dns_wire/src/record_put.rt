@@ -7,7 +7,8 @@ ghost use Rattle.dns_records.specs.Record.{AreFields};
 ghost use Rattle.std.specs.List.{list_any};
 ghost use Rattle.dns_records.specs.Fields.{stated_field, stated_fields};
 ghost use Rattle.dns_wire.specs.Compress.{compressed_fields, compressed_rdata, compressed_record};
-ghost use Rattle.dns_wire.specs.Puts.{Wrote, RefusesUpTo, BeginsWithName, fixed_octets, compressed_all, is_name};
+ghost use Rattle.dns_wire.specs.Puts.{Wrote, RefusesUpTo, BeginsWithName, fixed_octets, compressed_all};
+ghost use Rattle.dns_wire.specs.Puts.{is_name};
 
 use crate::compressor::Compressor;
 use crate::{ReplyRecord, WriteError};
@@ -27,7 +28,8 @@ fn split_name(octets: &[u8]) -> (&[u8], &[u8])
     octets.split_at(root + 1)
 }
 
-/// The octets of a record between its owner and its data, with 0 for the length of the data (RFC 1035 section 4.1.3).
+/// The octets of a record between its owner and its data, with 0 for the length of the data (RFC 1035
+/// section 4.1.3).
 fn fixed(rtype: u16, ttl: u32) -> [u8; 10]
     ensures { result ≡ fixed_octets rtype ttl }
 {
@@ -51,10 +53,12 @@ impl<'a> Compressor<'a> {
         requires room { length self.old.octets.items ≤ self.old.limit }
         ensures written { OnOk result
             (Wrote self.old.limit self.old.octets.items self.new.octets.items self.new.limit self.new.places
-            (compressed_fields self.old.places (length self.old.octets.items) (stated_fields fields.now) rdata.now)) }
+            (compressed_fields self.old.places (length self.old.octets.items)
+            (stated_fields fields.now) rdata.now)) }
         ensures refused { IfErr result
             (RefusesUpTo self.old.limit
-            (length self.old.octets.items + length (compressed_fields self.old.places (length self.old.octets.items)
+            (length self.old.octets.items
+            + length (compressed_fields self.old.places (length self.old.octets.items)
             (stated_fields fields.now) rdata.now).octets)) }
     {
         let mut rest = rdata;
@@ -95,7 +99,8 @@ impl<'a> Compressor<'a> {
         self.octets.as_mut_slice()[start - 2..start].copy_from_slice(&size.to_be_bytes());
     }
 
-    /// Writes the data of a record, by the form of its type: in one piece, where there is no name to compress.
+    /// Writes the data of a record, by the form of its type: in one piece, where there is no name to
+    /// compress.
     fn put_rdata(&mut self, one: &ReplyRecord<'a>) -> Result<(), WriteError>
         requires room { length self.old.octets.items ≤ self.old.limit }
         ensures written { OnOk result
@@ -103,8 +108,8 @@ impl<'a> Compressor<'a> {
             (compressed_rdata self.old.places (length self.old.octets.items) one.now)) }
         ensures refused { IfErr result
             (RefusesUpTo self.old.limit
-            (length self.old.octets.items + length (compressed_rdata self.old.places (length self.old.octets.items)
-            one.now).octets)) }
+            (length self.old.octets.items
+            + length (compressed_rdata self.old.places (length self.old.octets.items) one.now).octets)) }
     {
         let rdata = one.rdata();
         match form(one.rtype()) {
@@ -123,8 +128,8 @@ impl<'a> Compressor<'a> {
             (compressed_record self.old.places (length self.old.octets.items) one.now)) }
         ensures refused { IfErr result
             (RefusesUpTo self.old.limit
-            (length self.old.octets.items + length (compressed_record self.old.places (length self.old.octets.items)
-            one.now).octets)) }
+            (length self.old.octets.items
+            + length (compressed_record self.old.places (length self.old.octets.items) one.now).octets)) }
     {
         self.put_name(one.owner().as_wire())?;
         self.put(&fixed(one.rtype(), one.ttl()))?;
@@ -144,8 +149,8 @@ impl<'a> Compressor<'a> {
             (compressed_all self.old.places (length self.old.octets.items) records.now)) }
         ensures refused { IfErr result
             (RefusesUpTo self.old.limit
-            (length self.old.octets.items + length (compressed_all self.old.places (length self.old.octets.items)
-            records.now).octets)) }
+            (length self.old.octets.items
+            + length (compressed_all self.old.places (length self.old.octets.items) records.now).octets)) }
     {
         for one in records.iter() {
             self.put_record(one)?;

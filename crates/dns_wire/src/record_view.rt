@@ -12,8 +12,8 @@ use dns_records::{RData, Record, RecordError};
 use std::alloc::AllocError;
 use std::marker::Model;
 
-/// A record in a message, which stays where it is (RFC 1035 section 4.1.3). Any class and type can stand there, and a TTL of
-/// any 32 bits.
+/// A record in a message, which stays where it is (RFC 1035 section 4.1.3). Any class and type can stand
+/// there, and a TTL of any 32 bits.
 #[derive(Drop)]
 pub struct RecordView<'a> {
     message: &'a [u8],
@@ -61,8 +61,8 @@ impl<'a> RecordView<'a> {
         long_number(self.message, self.behind_owner + 4)
     }
 
-    /// The data in plain form, names in full and in lower case: empty where RDLENGTH is 0, and as it stands where the type
-    /// is not known (RFC 3597 section 3).
+    /// The data in plain form, names in full and in lower case: empty where RDLENGTH is 0, and as it stands
+    /// where the type is not known (RFC 3597 section 3).
     pub fn rdata(&self, alloc: Heap) -> Result<Vec<u8, Heap>, AllocError>
         ensures { IfOk result (λ octets. octets.items ≡ self.now.rdata) }
     {
@@ -78,10 +78,12 @@ impl<'a> RecordView<'a> {
         Ok(octets)
     }
 
-    /// The record of class IN with this owner, TTL, type and data, whatever the class here. It is refused as its data is.
+    /// The record of class IN with this owner, TTL, type and data, whatever the class here. It is refused as
+    /// its data is.
     pub fn to_record(&self, alloc: Heap) -> Result<Record, RecordError>
         ensures found { IfOk result (λ r. r ≡ record_of_item self.now) }
-        ensures refused { IfErr result (λ e. (e ≡ RecordError.OutOfMemory) ⊎ RefusesData (data_of_item self.now) e) }
+        ensures refused { IfErr result
+            (λ e. (e ≡ RecordError.OutOfMemory) ⊎ RefusesData (data_of_item self.now) e) }
     {
         let owner = self.owner().to_name(alloc)?;
         let octets = self.rdata(alloc)?;

@@ -21,7 +21,8 @@ impl<'a> Model for ReplyRecord<'a> {
 
     ghost Value = { Stated };
 
-    ghost view = { λ r. record { owner = r.owner; rtype = r.record.now.rtype; ttl = r.ttl; rdata = r.record.now.rdata } };
+    ghost view = { λ r.
+        record { owner = r.owner; rtype = r.record.now.rtype; ttl = r.ttl; rdata = r.record.now.rdata } };
 
     ghost invariant = { λ r. r.ttl < 2 ^ 32 };
 }

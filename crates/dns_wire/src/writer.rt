@@ -1,6 +1,7 @@
 //! Replies written as messages, within a limit (RFC 1035 section 4.1).
 ghost use Rattle.std.specs.Int.{w16, to_be_bytes as be_octets};
-ghost use Rattle.std.specs.Prelude.{◌≡◌, ℕ, List, [], ◌+◌, ◌*◌, ◌++◌, ◌<◌, ◌≤◌, Err, IfOk, IfErr, OnOk, length};
+ghost use Rattle.std.specs.Prelude.{◌≡◌, ℕ, List, [], ◌+◌, ◌*◌, ◌++◌, ◌<◌, ◌≤◌, Err, IfOk, IfErr, OnOk};
+ghost use Rattle.std.specs.Prelude.{length};
 ghost use Rattle.dns_wire.specs.Puts.{Wrote, RefusesUpTo, asked};
 ghost use Rattle.dns_wire.specs.Reply.{echo, stated};
 ghost use Rattle.dns_wire.specs.Reads.{Reads};
@@ -37,7 +38,8 @@ pub(crate) fn header(reply: &Reply<'_, '_>) -> Result<[u8; 12], WriteError>
     ensures found { IfOk result (λ octets. octets ≡ header_octets (stated reply.now)) }
     ensures refused { IfErr result
         (λ e. (e ≡ WriteError.DoesNotFit)
-        × (65535 < length reply.now.answer.now + length reply.now.authority.now + length reply.now.additional.now)) }
+        × (65535 < length reply.now.answer.now + length reply.now.authority.now
+        + length reply.now.additional.now)) }
 {
     let id = reply.id.to_be_bytes();
     let questions = if reply.question.is_some() { 1 } else { 0 };
@@ -78,7 +80,8 @@ impl<'a> Compressor<'a> {
             (Wrote self.old.limit self.old.octets.items self.new.octets.items self.new.limit self.new.places
             (asked (echo question.now))) }
         ensures refused { IfErr result
-            (RefusesUpTo self.old.limit (length self.old.octets.items + length (asked (echo question.now)).octets)) }
+            (RefusesUpTo self.old.limit
+            (length self.old.octets.items + length (asked (echo question.now)).octets)) }
     {
         if let Some(echo) = question {
             let name = echo.name.as_wire();
@@ -95,7 +98,8 @@ impl<'a> Compressor<'a> {
         requires first { self.old.places ≡ [] }
         requires small { self.old.limit < 65536 }
         ensures written { OnOk result
-            ((self.new.octets.items ≡ text (stated reply.now)) × (length self.new.octets.items ≤ self.old.limit)) }
+            ((self.new.octets.items ≡ text (stated reply.now))
+            × (length self.new.octets.items ≤ self.old.limit)) }
         ensures refused { IfErr result (RefusesUpTo self.old.limit (length (text (stated reply.now)))) }
     {
         self.put(&header(reply)?)?;
@@ -108,16 +112,18 @@ impl<'a> Compressor<'a> {
 }
 
 impl Writer {
-    /// The one compressed text of a reply (RFC 1035 section 4.1), if it has at most so many octets: a datagram takes 512,
-    /// and the length before a message on a stream tells at most 65,535 (RFC 1035 section 4.2). It refuses with `DoesNotFit`
-    /// where the text is longer, and with `OutOfMemory` where memory is wanting.
+    /// The one compressed text of a reply (RFC 1035 section 4.1), if it has at most so many octets: a
+    /// datagram takes 512, and the length before a message on a stream tells at most 65,535 (RFC 1035
+    /// section 4.2). It refuses with `DoesNotFit` where the text is longer, and with `OutOfMemory` where
+    /// memory is wanting.
     pub fn write(
         alloc: Heap,
         reply: &Reply<'_, '_>,
         limit: usize,
     ) -> Result<Vec<u8, Heap>, WriteError>
         requires { limit < 65536 }
-        ensures found { IfOk result (λ octets. (octets.items ≡ text (stated reply.now)) × (length octets.items ≤ limit)) }
+        ensures found { IfOk result
+            (λ octets. (octets.items ≡ text (stated reply.now)) × (length octets.items ≤ limit)) }
         ensures refused { IfErr result (RefusesUpTo limit (length (text (stated reply.now)))) }
     {
         let mut compressor = Compressor {
@@ -130,12 +136,14 @@ impl Writer {
     }
 }
 
-/// A reply has at most one compressed text, and the computed text is that, and reads as the reply. Each record takes ten octets or
-/// more. The computed compression writes a name as it is to be written, and keeps its table of places right.
+/// A reply has at most one compressed text, and the computed text is that, and reads as the reply. Each
+/// record takes ten octets or more. The computed compression writes a name as it is to be written, and keeps
+/// its table of places right.
 pub fn one_compressed_text()
     ensures once { (t u : List ℕ) (r : Stated) → IsCompressed t r → IsCompressed u r → t ≡ u }
     ensures compressed { (r : Stated) → IsReply r → IsCompressed (text r) r }
-    ensures long { (r : Stated) → 12 + 10 * (length r.answer + length r.authority + length r.additional) ≤ length (text r) }
+    ensures long { (r : Stated)
+        → 12 + 10 * (length r.answer + length r.authority + length r.additional) ≤ length (text r) }
     ensures reads_back { (r : Stated) → IsReply r → Reads (text r) (message_of_reply r) }
     ensures written { (earlier : List Used) (places : List Place) (name : Labels)
         → AreThePlaces (StandsAt earlier) places

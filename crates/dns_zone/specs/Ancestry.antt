@@ -30,9 +30,11 @@ pub under_with : (a n : Labels) → IsUnder a n → under a n ≡ true
 under_with a n h = subst (λ (x : Labels). under x n ≡ true) (sym h.1) (under_front h.0 n)
 
 -- a test tied to the fact is the test
-pub tied_under : (b : Bool) (a n : Labels) → (b ≡ true → IsUnder a n) → (IsUnder a n → b ≡ true) → b ≡ under a n
+pub tied_under : (b : Bool) (a n : Labels) → (b ≡ true → IsUnder a n)
+    → (IsUnder a n → b ≡ true) → b ≡ under a n
 tied_under b a n f g = both_ways b (under a n) (λ e. under_with a n (f e)) (λ e. g (under_from a n e))
 
 pub tied_same : (b : Bool) (a n : Labels) → (b ≡ true → a ≡ n) → (a ≡ n → b ≡ true) → b ≡ names_eq a n
 tied_same b a n f g =
-    both_ways b (names_eq a n) (λ e. subst (λ (x : Labels). names_eq a x ≡ true) (f e) (names_itself a)) (λ e. g (names_same a n e))
+    both_ways b (names_eq a n) (λ e. subst (λ (x : Labels). names_eq a x ≡ true) (f e) (names_itself a))
+    (λ e. g (names_same a n e))

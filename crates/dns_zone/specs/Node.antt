@@ -1,5 +1,6 @@
 -- What a zone has for a name (RFC 1034 4.3.2, step 3; RFC 4592 3.3).
-use Rattle.std.specs.Prelude.{◌≡◌, Bool, true, false, not, ◌&&◌, List, [], reverse, Option, Some, None, unwrap_or}
+use Rattle.std.specs.Prelude.{◌≡◌, Bool, true, false, not, ◌&&◌, List, [], reverse, Option, Some, None}
+use Rattle.std.specs.Prelude.{unwrap_or}
 use Rattle.std.specs.List.{find}
 use Rattle.dns_names.specs.Name.{Labels, names_eq, under, ancestors, wildcard}
 use Rattle.dns_records.specs.Types.{type_ns}
@@ -13,7 +14,8 @@ use Rattle.dns_zone.specs.declared.node.Match.TheVariants as found
 abbrev pub cuts_at : Zone → Labels → Bool
 cuts_at z a = under a z.apex && not (names_eq a z.apex) && owns_type z.records a type_ns
 
--- The cut: the shortest ancestor under the apex that owns NS, the name itself included (RFC 1034 4.3.2, step 3b).
+-- The cut: the shortest ancestor under the apex that owns NS, the name itself included (RFC 1034 4.3.2,
+-- step 3b).
 abbrev pub cut : Zone → Labels → Option Labels
 cut z name = find (cuts_at z) (reverse (ancestors name))
 

@@ -1,5 +1,6 @@
 -- The order of records, and tests of records that are the same.
-use Rattle.std.proofs.Common.{◌≡◌, ℕ, Bool, true, false, ◌&&◌, List, [], ◌∷◌, refl, sym, ap, ◌∙◌, arith, reverse}
+use Rattle.std.proofs.Common.{◌≡◌, ℕ, Bool, true, false, ◌&&◌, List, [], ◌∷◌, refl, sym, ap, ◌∙◌, arith}
+use Rattle.std.proofs.Common.{reverse}
 use Rattle.std.specs.Prelude.{◌==◌, nat_eq}
 use Rattle.std.specs.Ordering.{nat_cmp, ordering_then}
 use Rattle.std.specs.declared.cmp.Ordering.{Ordering}
@@ -21,7 +22,8 @@ name_total = name_cmp-total
 pub record_total : IsTotalOrder record_cmp
 record_total =
     then_total (on_total (λ (r : Record). reverse r.owner) (lists_total nat_list_cmp_total))
-    (then_total (on_total (λ (r : Record). r.rtype) nat_cmp_total) (on_total (λ (r : Record). r.rdata) nat_list_cmp_total))
+    (then_total (on_total (λ (r : Record). r.rtype) nat_cmp_total)
+    (on_total (λ (r : Record). r.rdata) nat_list_cmp_total))
 
 first_equal : (a b : Ordering) → ordering_then a b ≡ Equal → (a ≡ Equal) × (b ≡ Equal)
 first_equal Less b e = absurd cc
@@ -91,4 +93,5 @@ names_itself [] = refl
 names_itself (a ∷ rest) = rw (bytes_itself a) (names_itself rest)
 
 pub same_itself : (r : Record) → same r r ≡ true
-same_itself r = rw (names_itself r.owner, number_itself r.rtype, bytes_itself r.rdata, number_itself r.ttl) refl
+same_itself r =
+    rw (names_itself r.owner, number_itself r.rtype, bytes_itself r.rdata, number_itself r.ttl) refl

@@ -1,5 +1,6 @@
 -- Whether a name owns a record, by the list of what it owns.
-use Rattle.std.specs.Prelude.{◌≡◌, ℕ, suc, Bool, true, false, cond, not, ◌&&◌, ◌||◌, ◌==◌, List, [], ◌∷◌, length, filter}
+use Rattle.std.specs.Prelude.{◌≡◌, ℕ, suc, Bool, true, false, cond, not, ◌&&◌, ◌||◌, ◌==◌, List, [], ◌∷◌}
+use Rattle.std.specs.Prelude.{length, filter}
 use Rattle.std.specs.List.{list_any}
 use Rattle.std.proofs.Common.{refl, arith}
 use Rattle.std.proofs.lemmas.Bool.Decides.{nat_tests}
@@ -24,5 +25,6 @@ none_passes p (x ∷ xs) = counted p x xs (p x) (none_passes p xs)
 pub owns_none : (xs : List Record) (name : Labels) → (length (records_at xs name) == 0) ≡ not (owns xs name)
 owns_none xs name = none_passes (λ r. names_eq r.owner name) xs
 
-pub owns_no_type : (xs : List Record) (name : Labels) (t : ℕ) → (length (rrset xs name t) == 0) ≡ not (owns_type xs name t)
+pub owns_no_type : (xs : List Record) (name : Labels) (t : ℕ)
+    → (length (rrset xs name t) == 0) ≡ not (owns_type xs name t)
 owns_no_type xs name t = none_passes (λ r. names_eq r.owner name && r.rtype == t) xs

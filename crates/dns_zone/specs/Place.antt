@@ -1,5 +1,6 @@
 -- The place of a record, or of a name, in a list in order.
-use Rattle.std.specs.Prelude.{◌≡◌, ℕ, ◌-◌, ◌<◌, ◌≤◌, nat_lt, Bool, true, false, ◌&&◌, ◌||◌, List, length, insert, remove, slice_set, slice_get, Some, None}
+use Rattle.std.specs.Prelude.{◌≡◌, ℕ, ◌-◌, ◌<◌, ◌≤◌, nat_lt, Bool, true, false, ◌&&◌, ◌||◌, List, length}
+use Rattle.std.specs.Prelude.{insert, remove, slice_set, slice_get, Some, None}
 use Rattle.std.specs.List.{AllWithin, find}
 use Rattle.std.specs.Ordering.{is_eq, is_lt}
 use Rattle.dns_names.specs.Name.{Labels, name_cmp, under}
@@ -33,4 +34,5 @@ is_owned_at records place name = elim (slice_get records place) [ Some r ↦ und
 
 -- One of the two records beside a place has.
 abbrev pub is_owned_beside : List Record → ℕ → Labels → Bool
-is_owned_beside records place name = is_owned_at records place name || nat_lt 0 place && is_owned_at records (place - 1) name
+is_owned_beside records place name =
+    is_owned_at records place name || nat_lt 0 place && is_owned_at records (place - 1) name

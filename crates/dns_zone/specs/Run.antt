@@ -6,9 +6,11 @@ use Rattle.dns_zone.specs.Records.{put, without, others, records_at, rrset, exis
 use Rattle.dns_zone.specs.Zone.{Zone}
 use Rattle.dns_zone.specs.Node.{cut, encloser, source}
 use Rattle.dns_zone.specs.declared.laws.Command.{Command}
-use Rattle.dns_zone.specs.declared.laws.Command.TheVariants.{RecordsAt, Rrset, Exists, Insert, Remove, Clear, Alone, Walk, From, Match, Fork}
+use Rattle.dns_zone.specs.declared.laws.Command.TheVariants.{RecordsAt, Rrset, Exists, Insert, Remove, Clear}
+use Rattle.dns_zone.specs.declared.laws.Command.TheVariants.{Alone, Walk, From, Match, Fork}
 use Rattle.dns_zone.specs.declared.laws.Reply.{Reply}
-use Rattle.dns_zone.specs.declared.laws.Reply.TheVariants.{Held, Found, Next, Cut, Owner, Wildcard, Nothing, Done}
+use Rattle.dns_zone.specs.declared.laws.Reply.TheVariants.{Held, Found, Next, Cut, Owner, Wildcard, Nothing}
+use Rattle.dns_zone.specs.declared.laws.Reply.TheVariants.{Done}
 
 -- The set behind a call. What is put into the source of a fork isn't in the fork.
 abbrev pub set_after : List Record → Command → List Record
@@ -24,7 +26,8 @@ set_after set (From place) = set
 set_after set (Match apex name) = set
 set_after set (Fork r) = set
 
--- What is replied of a name in a zone (RFC 1034 4.3.2, step 3): a cut comes before all else, and the name before a wildcard.
+-- What is replied of a name in a zone (RFC 1034 4.3.2, step 3): a cut comes before all else, and the name
+-- before a wildcard.
 abbrev pub matched : Zone → Labels → Reply
 matched z name = elim (cut z name) [
   | Some at ↦ Cut at (records_at z.records at)

@@ -1,5 +1,6 @@
 -- Records in order: what is found by a key.
-use Rattle.std.proofs.Common.{◌≡◌, ◌≢◌, Bool, true, false, ◌||◌, ◌⊎◌, inl, inr, List, [], ◌∷◌, Option, Some, None, refl, sym, ap, subst, ◌∙◌}
+use Rattle.std.proofs.Common.{◌≡◌, ◌≢◌, Bool, true, false, ◌||◌, ◌⊎◌, inl, inr, List, [], ◌∷◌, Option, Some}
+use Rattle.std.proofs.Common.{None, refl, sym, ap, subst, ◌∙◌}
 use Rattle.std.specs.Prelude.{cond, filter}
 use Rattle.std.specs.List.{find}
 use Rattle.std.specs.Ordering.{is_eq, is_lt, ordering_reverse}
@@ -70,10 +71,12 @@ found_head x xs = ap (λ o. cond (is_eq o) (Some x) (found x xs)) (tied_itself r
 pub found_tied : (q a : Record) → ties q a ≡ true → (xs : List Record) → found q xs ≡ found a xs
 found_tied q a t [] = refl
 found_tied q a t (x ∷ xs) =
-    λ i. cond (is_eq (record_total.congr q a x (equal_is (record_cmp q a) t) i)) (Some x) (found_tied q a t xs i)
+    λ i. cond (is_eq (record_total.congr q a x (equal_is (record_cmp q a) t) i)) (Some x)
+    (found_tied q a t xs i)
 
 -- lists in order that find the same are the same
-missed : (x y : Record) (xs ys : List Record) → record_cmp x y ≡ Less → Below y ys → found x (x ∷ xs) ≢ found x (y ∷ ys)
+missed : (x y : Record) (xs ys : List Record) → record_cmp x y ≡ Less → Below y ys
+    → found x (x ∷ xs) ≢ found x (y ∷ ys)
 missed x y xs ys e h is =
     let none : found x (y ∷ ys) ≡ None = not_found x (y ∷ ys) (e, below_less x y ys e h) in
     let some : found x (x ∷ xs) ≡ Some x = found_head x xs in
@@ -88,13 +91,15 @@ tails x q xs ys g h e = elim (true_or_false (ties q x)) [
   | inl t ↦ (let tied = equal_is (record_cmp q x) t in not_found q xs (below_tied q x xs tied g)
       ∙ sym (not_found q ys (below_tied q x ys tied h)))
   | inr t ↦ (let left : found q (x ∷ xs) ≡ found q xs = ap (λ b. cond b (Some x) (found q xs)) t in
-      let right : found q (x ∷ ys) ≡ found q ys = ap (λ b. cond b (Some x) (found q ys)) t in sym left ∙ e ∙ right)
+      let right : found q (x ∷ ys) ≡ found q ys = ap (λ b. cond b (Some x) (found q ys)) t in
+      sym left ∙ e ∙ right)
 ]
 
 greater_back : (x y : Record) → record_cmp x y ≡ Greater → record_cmp y x ≡ Less
 greater_back x y e = record_total.antisymm y x ∙ ap ordering_reverse e
 
-pub same_sets : (xs ys : List Record) → Sorted xs → Sorted ys → ((q : Record) → found q xs ≡ found q ys) → xs ≡ ys
+pub same_sets : (xs ys : List Record) → Sorted xs → Sorted ys
+    → ((q : Record) → found q xs ≡ found q ys) → xs ≡ ys
 same_sets [] [] g h is = refl
 same_sets [] (y ∷ ys) g h is = (let one = is y in let two = found_head y ys in absurd cc)
 same_sets (x ∷ xs) [] g h is = (let one = is x in let two = found_head x xs in absurd cc)
@@ -117,7 +122,8 @@ shadowed : (b : Bool) (x y z : Option Record) → cond b x z ≡ cond b x (cond 
 shadowed true x y z = refl
 shadowed false x y z = refl
 
-swapped : (a b : Bool) (x y z : Option Record) → (a ≡ true → b ≡ true → ⊥) → cond a x (cond b y z) ≡ cond b y (cond a x z)
+swapped : (a b : Bool) (x y z : Option Record) → (a ≡ true → b ≡ true → ⊥)
+    → cond a x (cond b y z) ≡ cond b y (cond a x z)
 swapped true true x y z apart = absurd (apart refl refl)
 swapped true false x y z apart = refl
 swapped false b x y z apart = refl
@@ -128,13 +134,16 @@ joins q x y a b = sym (record_total.congr q x y (equal_is (record_cmp q x) a)) �
 pub found_put : (q r : Record) (xs : List Record) → found q (put r xs) ≡ cond (ties q r) (Some r) (found q xs)
 found_put q r [] = refl
 found_put q r (x ∷ xs) =
-    elim (record_cmp r x) as (λ o. record_cmp r x ≡ o → found q (by_order o (r ∷ x ∷ xs) (r ∷ xs) (x ∷ put r xs))
+    elim (record_cmp r x) as (λ o. record_cmp r x ≡ o
+    → found q (by_order o (r ∷ x ∷ xs) (r ∷ xs) (x ∷ put r xs))
     ≡ cond (ties q r) (Some r) (found q (x ∷ xs))) [
       | Less ↦ λ e. refl
       | Equal ↦ λ e. shadowed (ties q r) (Some r) (Some x) (found q xs)
-          ∙ ap (λ o. cond (ties q r) (Some r) (cond (is_eq o) (Some x) (found q xs))) (alike_right record_total r x q e)
+          ∙ ap (λ o. cond (ties q r) (Some r) (cond (is_eq o) (Some x) (found q xs)))
+          (alike_right record_total r x q e)
       | Greater ↦ λ e. ap (cond (ties q x) (Some x)) (found_put q r xs)
-          ∙ swapped (ties q x) (ties q r) (Some x) (Some r) (found q xs) (λ a b. (let tied = joins q r x b a in absurd cc))
+          ∙ swapped (ties q x) (ties q r) (Some x) (Some r) (found q xs)
+          (λ a b. (let tied = joins q r x b a in absurd cc))
     ] refl
 
 below_put : (y r : Record) (xs : List Record) → record_cmp y r ≡ Less → Below y xs → Below y (put r xs)
@@ -146,7 +155,8 @@ below_put y r (x ∷ xs) e h =
 pub sorted_put : (r : Record) (xs : List Record) → Sorted xs → Sorted (put r xs)
 sorted_put r [] h = (tt, tt)
 sorted_put r (x ∷ xs) h =
-    elim (record_cmp r x) as (λ o. record_cmp r x ≡ o → Sorted (by_order o (r ∷ x ∷ xs) (r ∷ xs) (x ∷ put r xs))) [
+    elim (record_cmp r x) as (λ o. record_cmp r x ≡ o
+    → Sorted (by_order o (r ∷ x ∷ xs) (r ∷ xs) (x ∷ put r xs))) [
       | Less ↦ λ e. ((e, below_less r x xs e h.0), h)
       | Equal ↦ λ e. (below_tied r x xs e h.0, h.1)
       | Greater ↦ λ e. (below_put x r xs (greater_back r x e) h.0, sorted_put r xs h.1)
@@ -161,7 +171,8 @@ below_filter : (y : Record) (test : Record → Bool) (xs : List Record) → Belo
 below_filter y test [] h = tt
 below_filter y test (x ∷ xs) h =
     let rest = below_filter y test xs h.1 in
-    elim (test x) as (λ b. Below y (cond b (x ∷ filter test xs) (filter test xs))) [ true ↦ (h.0, rest) | false ↦ rest ]
+    elim (test x) as (λ b. Below y (cond b (x ∷ filter test xs) (filter test xs)))
+    [ true ↦ (h.0, rest) | false ↦ rest ]
 
 pub sorted_filter : (test : Record → Bool) (xs : List Record) → Sorted xs → Sorted (filter test xs)
 sorted_filter test [] h = tt
@@ -181,7 +192,8 @@ found_passed q x test xs true true e f h is = ap (λ c. cond c (Some x) (found q
 found_passed q x test xs true false e f h is = ap (λ c. cond c (Some x) (found q (filter test xs))) f ∙ is
 found_passed q x test xs false true e f h is =
     let none : found q (filter test xs) ≡ None =
-    not_found q (filter test xs) (below_tied q x (filter test xs) (equal_is (record_cmp q x) f) (below_filter x test xs h)) in
+    not_found q (filter test xs)
+    (below_tied q x (filter test xs) (equal_is (record_cmp q x) f) (below_filter x test xs h)) in
     none ∙ sym (ap (λ c. cond c (Some x) None) e)
 found_passed q x test xs false false e f h is = is
 
@@ -189,20 +201,24 @@ pub found_filter : (q : Record) (test : Record → Bool) (xs : List Record)
     → Sorted xs
     → found q (filter test xs) ≡ only test (found q xs)
 found_filter q test [] h = refl
-found_filter q test (x ∷ xs) h = found_passed q x test xs (test x) (ties q x) refl refl h.0 (found_filter q test xs h.1)
+found_filter q test (x ∷ xs) h =
+    found_passed q x test xs (test x) (ties q x) refl refl h.0 (found_filter q test xs h.1)
 
 -- others put among them
 abbrev pub or_else : Option Record → Option Record → Option Record
 or_else None b = b
 or_else (Some a) b = Some a
 
-cond_else : (t : Bool) (r : Record) (a b : Option Record) → cond t (Some r) (or_else a b) ≡ or_else (cond t (Some r) a) b
+cond_else : (t : Bool) (r : Record) (a b : Option Record)
+    → cond t (Some r) (or_else a b) ≡ or_else (cond t (Some r) a) b
 cond_else true r a b = refl
 cond_else false r a b = refl
 
-pub found_united : (q : Record) (xs rs : List Record) → found q (united xs rs) ≡ or_else (found q rs) (found q xs)
+pub found_united : (q : Record) (xs rs : List Record)
+    → found q (united xs rs) ≡ or_else (found q rs) (found q xs)
 found_united q xs [] = refl
-found_united q xs (r ∷ rs) = found_put q r (united xs rs) ∙ ap (cond (ties q r) (Some r)) (found_united q xs rs)
+found_united q xs (r ∷ rs) =
+    found_put q r (united xs rs) ∙ ap (cond (ties q r) (Some r)) (found_united q xs rs)
     ∙ cond_else (ties q r) r (found q rs) (found q xs)
 
 pub sorted_united : (xs rs : List Record) → Sorted xs → Sorted (united xs rs)
@@ -210,7 +226,8 @@ sorted_united xs [] h = h
 sorted_united xs (r ∷ rs) h = sorted_put r (united xs rs) (sorted_united xs rs h)
 
 -- what is found is contained, and what is contained is found
-pub found_contains : (q a : Record) (xs : List Record) → found q xs ≡ Some a → (ties q a ≡ true) × (contains xs a ≡ true)
+pub found_contains : (q a : Record) (xs : List Record) → found q xs ≡ Some a
+    → (ties q a ≡ true) × (contains xs a ≡ true)
 found_contains q a [] e = absurd cc
 found_contains q a (x ∷ xs) e = elim (true_or_false (ties q x)) [
   | inl t ↦ (let at : found q (x ∷ xs) ≡ Some x = ap (λ b. cond b (Some x) (found q xs)) t in
@@ -252,13 +269,14 @@ pub filter_contains : (a : Record) (test : Record → Bool) (xs : List Record)
     → (test a ≡ true) × (contains xs a ≡ true)
 filter_contains a test [] e = absurd cc
 filter_contains a test (x ∷ xs) e =
-    elim (test x) as (λ b. test x ≡ b → contains (cond b (x ∷ filter test xs) (filter test xs)) a ≡ true → (test a ≡ true)
-    × (contains (x ∷ xs) a ≡ true)) [
+    elim (test x) as (λ b. test x ≡ b → contains (cond b (x ∷ filter test xs) (filter test xs)) a ≡ true
+    → (test a ≡ true) × (contains (x ∷ xs) a ≡ true)) [
       | true ↦ λ t c. elim (either_true (same a x) (contains (filter test xs) a) c) [
         | inl s ↦ (subst (λ r. test r ≡ true) (sym (same_is a x s)) t, ap (λ b. b || contains xs a) s)
         | inr s ↦ (let rest = filter_contains a test xs s in (rest.0, grow (same a x) (contains xs a) rest.1))
       ]
-      | false ↦ λ t c. (let rest = filter_contains a test xs c in (rest.0, grow (same a x) (contains xs a) rest.1))
+      | false ↦
+          λ t c. (let rest = filter_contains a test xs c in (rest.0, grow (same a x) (contains xs a) rest.1))
     ] refl e
   where
     grow : (b c : Bool) → c ≡ true → (b || c) ≡ true

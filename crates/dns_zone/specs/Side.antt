@@ -10,4 +10,5 @@ abbrev pub side_of : Key → Record → Ordering
 side_of (key.Owner name) r = name_cmp r.owner name
 side_of (key.Type name t) r = ordering_then (name_cmp r.owner name) (nat_cmp r.rtype t)
 side_of (key.Data q) r = record_cmp r q.now
-side_of (key.Parts name t octets) r = record_cmp r (record { owner = name; rtype = t; ttl = 0; rdata = octets.now })
+side_of (key.Parts name t octets) r =
+    record_cmp r (record { owner = name; rtype = t; ttl = 0; rdata = octets.now })

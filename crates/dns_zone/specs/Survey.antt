@@ -1,5 +1,6 @@
 -- What one pass over the records of a set tells of them, as far as the refusals of a zone go.
-use Rattle.std.specs.Prelude.{◌≡◌, ◌+◌, Bool, not, ◌&&◌, ◌||◌, ◌==◌, nat_lt, List, [], ◌∷◌, length, Option, Some, None, cond, if◌then◌else◌}
+use Rattle.std.specs.Prelude.{◌≡◌, ◌+◌, Bool, not, ◌&&◌, ◌||◌, ◌==◌, nat_lt, List, [], ◌∷◌, length, Option}
+use Rattle.std.specs.Prelude.{Some, None, cond, if◌then◌else◌}
 use Rattle.std.specs.List.{list_any, list_all}
 use Rattle.std.specs.Ordering.{is_lt}
 use Rattle.dns_names.specs.Name.{Labels, under}
@@ -9,7 +10,8 @@ use Rattle.dns_zone.specs.Records.{records_at}
 use Rattle.dns_zone.specs.Zone.{soas, is_wildcard}
 use Rattle.dns_zone.specs.declared.survey.Survey.{Survey}
 use Rattle.dns_zone.specs.declared.ZoneError.{ZoneError}
-use Rattle.dns_zone.specs.declared.ZoneError.TheVariants.{NoSoa, ManySoa, NoNs, OutOfZone, CnameAndOther, WildcardNs, TooMany}
+use Rattle.dns_zone.specs.declared.ZoneError.TheVariants.{NoSoa, ManySoa, NoNs, OutOfZone, CnameAndOther}
+use Rattle.dns_zone.specs.declared.ZoneError.TheVariants.{WildcardNs, TooMany}
 
 abbrev pub is_shared_alias : List Record → Record → Bool
 is_shared_alias records r = r.rtype == type_cname && nat_lt 1 (length (records_at records r.owner))
@@ -20,8 +22,10 @@ is_wildcard_ns r = r.rtype == type_ns && is_wildcard r.owner
 -- What is told so far, and what the rest would tell, is what all tell.
 pub record Surveys (apex : Labels) (records rest : List Record) (s : Survey) : Type 0 where
   pub soas_of : nat_lt 1 (s.soas + length (soas rest)) ≡ nat_lt 1 (length (soas records))
-  pub inside_of : (s.inside && list_all (λ r. under r.owner apex) rest) ≡ list_all (λ r. under r.owner apex) records
-  pub shared_of : (s.shared_alias || list_any (is_shared_alias records) rest) ≡ list_any (is_shared_alias records) records
+  pub inside_of : (s.inside && list_all (λ r. under r.owner apex) rest)
+      ≡ list_all (λ r. under r.owner apex) records
+  pub shared_of : (s.shared_alias || list_any (is_shared_alias records) rest)
+      ≡ list_any (is_shared_alias records) records
   pub wildcard_of : (s.wildcard_ns || list_any is_wildcard_ns rest) ≡ list_any is_wildcard_ns records
   pub count_of : nat_lt 65536 (s.count + length rest) ≡ nat_lt 65536 (length records)
 

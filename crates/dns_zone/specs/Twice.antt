@@ -12,7 +12,8 @@ use Rattle.dns_names.specs.Name.{names_eq, name_cmp}
 use Rattle.dns_records.specs.Record.{Record, record_cmp}
 use Rattle.dns_zone.specs.Records.{alike}
 use Rattle.dns_zone.specs.Zone.{has_twice}
-use Rattle.dns_zone.specs.Order.{record_total, names_same, names_itself, number_itself, bytes_same, bytes_itself, both_true, tied_key}
+use Rattle.dns_zone.specs.Order.{record_total, names_same, names_itself, number_itself, bytes_same}
+use Rattle.dns_zone.specs.Order.{bytes_itself, both_true, tied_key}
 use Rattle.dns_zone.specs.Sets.{Sorted, Below, equal_is, true_or_false}
 
 pub alike_tied : (a b : Record) → alike a b ≡ true → record_cmp a b ≡ Equal
@@ -29,7 +30,8 @@ pub none_alike : (x : Record) (xs : List Record) → Below x xs → list_any (al
 none_alike x [] h = refl
 none_alike x (y ∷ ys) h =
     let apart : alike x y ≡ false =
-    elim (true_or_false (alike x y)) [ inl e ↦ (let tied = alike_tied x y e in let less = h.0 in absurd cc) | inr e ↦ e ] in
+    elim (true_or_false (alike x y))
+    [ inl e ↦ (let tied = alike_tied x y e in let less = h.0 in absurd cc) | inr e ↦ e ] in
     ap (λ (b : Bool). b || list_any (alike x) ys) apart ∙ none_alike x ys h.1
 
 -- no record of a list in order stands twice in it
@@ -40,8 +42,10 @@ once (x ∷ xs) h = ap (λ (b : Bool). b || has_twice xs) (none_alike x xs h.0) 
 pub tied_alike : (a b : Record) → record_cmp a b ≡ Equal → alike a b ≡ true
 tied_alike a b e =
     let key = tied_key a b e in
-    let self : alike a a ≡ true = rw (names_itself a.owner, number_itself a.rtype, bytes_itself a.rdata) refl in
-    (λ i. names_eq a.owner (sym key.owner i) && a.rtype == sym key.rtype i && bytes_eq a.rdata (sym key.rdata i)) ∙ self
+    let self : alike a a ≡ true =
+    rw (names_itself a.owner, number_itself a.rtype, bytes_itself a.rdata) refl in
+    (λ i. names_eq a.owner (sym key.owner i) && a.rtype == sym key.rtype i
+    && bytes_eq a.rdata (sym key.rdata i)) ∙ self
 
 -- the two tests are one
 pub alike_is : (a b : Record) → is_eq (record_cmp a b) ≡ alike a b
@@ -56,6 +60,7 @@ pub alike_flips : (a b : Record) → alike a b ≡ alike b a
 alike_flips a b = both_ways (alike a b) (alike b a) (alike_back a b) (alike_back b a)
 
 -- tests that agree
-pub any_by : (p q : Record → Bool) → ((r : Record) → p r ≡ q r) → (xs : List Record) → list_any p xs ≡ list_any q xs
+pub any_by : (p q : Record → Bool) → ((r : Record) → p r ≡ q r) → (xs : List Record)
+    → list_any p xs ≡ list_any q xs
 any_by p q h [] = refl
 any_by p q h (x ∷ xs) = λ i. h x i || any_by p q h xs i

@@ -3,7 +3,8 @@ ghost use Rattle.std.specs.Prelude.{◌≡◌, ◌⊎◌, List, [], true, length
 ghost use Rattle.std.specs.Option.{option_copied};
 ghost use Rattle.std.specs.List.{AllByRecursion};
 ghost use Rattle.dns_records.specs.Record.{Record as Stated, IsRecord};
-ghost use Rattle.dns_zone.specs.Records.{are_of, is_ordered, put, without, others, records_at, rrset, exists, next_after, has, united};
+ghost use Rattle.dns_zone.specs.Records.{are_of, is_ordered, put, without, others, records_at, rrset, exists};
+ghost use Rattle.dns_zone.specs.Records.{next_after, has, united};
 ghost use Rattle.dns_zone.specs.Places.{IsRun};
 ghost use Rattle.dns_zone.specs.Node.{IsMatch};
 
@@ -22,7 +23,8 @@ pub trait ZoneIndex: Drop {
     fn empty(alloc: Heap) -> Result<Self, AllocError>
         ensures { IfOk result (λ set. records set ≡ []) };
 
-    /// The set of these records, which are in order, so that each stands once. It is made in one go, and no record is searched.
+    /// The set of these records, which are in order, so that each stands once. It is made in one go, and no
+    /// record is searched.
     fn from_sorted(alloc: Heap, sorted: Vec<Record, Heap>) -> Result<Self, AllocError>
         requires { is_ordered sorted.items ≡ true }
         ensures { IfOk result (λ set. records set ≡ sorted.entry.items) };
@@ -43,8 +45,8 @@ pub trait ZoneIndex: Drop {
     fn exists(&self, name: &NameRef<'_>) -> bool
         ensures { result ≡ exists (records self.now) name.now };
 
-    /// All that a lookup asks of a name in the zone of that apex: the cut above it, the name itself, or the wildcard for it (RFC
-    /// 1034 section 4.3.2, step 3; RFC 4592 section 3.3).
+    /// All that a lookup asks of a name in the zone of that apex: the cut above it, the name itself, or the
+    /// wildcard for it (RFC 1034 section 4.3.2, step 3; RFC 4592 section 3.3).
     fn find_node<'n>(&self, apex: &NameRef<'_>, name: &NameRef<'n>) -> Match<'n, '_>
         ensures { IsMatch (record { apex = apex.now; records = records self.now }) name.now result };
 
@@ -59,27 +61,31 @@ pub trait ZoneIndex: Drop {
         ensures ok { OnOk result (records self.new ≡ without removed.now (records self.old)) }
         ensures err { OnErr result (records self.new ≡ records self.old) };
 
-    /// Puts these records, which are in order and which the name owns, in place of all that it owns. It is done at once: what it
-    /// costs grows with the name's records as one `insert` does, however many come and go.
+    /// Puts these records, which are in order and which the name owns, in place of all that it owns. It is
+    /// done at once: what it costs grows with the name's records as one `insert` does, however many come and
+    /// go.
     fn replace_at(&mut self, name: &NameRef<'_>, come: Vec<Record, Heap>) -> Result<(), AllocError>
         requires order { is_ordered come.items ≡ true }
         requires owned { are_of name.now come.items ≡ true }
-        ensures ok { OnOk result (records self.new ≡ united (others (records self.old) name.now) come.entry.items) }
+        ensures ok { OnOk result
+            (records self.new ≡ united (others (records self.old) name.now) come.entry.items) }
         ensures err { OnErr result (records self.new ≡ records self.old) };
 
-    /// Takes all that the name owns out, to be changed in place and put back by `replace_at`: nothing is copied, unless others share
-    /// it. Where memory is refused, the name's records may be lost.
+    /// Takes all that the name owns out, to be changed in place and put back by `replace_at`: nothing is
+    /// copied, unless others share it. Where memory is refused, the name's records may be lost.
     fn take_at(&mut self, name: &NameRef<'_>) -> Result<Vec<Record, Heap>, AllocError>
         ensures taken { IfOk result (λ taken. taken.items ≡ records_at (records self.old) name.now) }
         ensures left { OnOk result (records self.new ≡ others (records self.old) name.now) }
         ensures err { OnErr result
-            ((records self.new ≡ records self.old) ⊎ (records self.new ≡ others (records self.old) name.now)) };
+            ((records self.new ≡ records self.old)
+            ⊎ (records self.new ≡ others (records self.old) name.now)) };
 
     /// How many records there are.
     fn len(&self) -> usize
         ensures { result ≡ length (records self.now) };
 
-    /// Records one behind another from the place-th on, as many as the set can lend in one piece, and none only where none is left.
+    /// Records one behind another from the place-th on, as many as the set can lend in one piece, and none
+    /// only where none is left.
     fn run_from(&self, place: usize) -> &[Record]
         ensures run { IsRun (records self.now) place result.now }
         ensures some { result.now ≡ [] → drop place (records self.now) ≡ [] };

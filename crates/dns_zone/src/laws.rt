@@ -37,8 +37,8 @@ pub enum Command {
     From(usize),
     /// Asks what the zone of an apex has for a name.
     Match(Name, Name),
-    /// Takes a fork, puts the record into what the fork was taken from, asks there for the records of its owner, and goes on with
-    /// the fork.
+    /// Takes a fork, puts the record into what the fork was taken from, asks there for the records of its
+    /// owner, and goes on with the fork.
     Fork(Record),
 }
 
@@ -100,7 +100,8 @@ impl Copies {
 
 /// A copy of the record behind one, or of the first.
 fn next<I: ZoneIndex>(index: &I, after: Option<&Record>) -> Result<Reply, AllocError>
-    ensures { IfOk result (λ reply. reply ≡ Reply.Next (next_after (option_copied after.entry) (I.records index.now))) }
+    ensures { IfOk result
+        (λ reply. reply ≡ Reply.Next (next_after (option_copied after.entry) (I.records index.now))) }
 {
     match index.walk(after) {
         None => Ok(Reply::Next(None)),
@@ -121,7 +122,8 @@ fn copies_from<I: ZoneIndex>(alloc: Heap, index: &I, place: usize) -> Result<Cop
 
 /// What is replied of a match.
 fn reply_of_match(alloc: Heap, found: Match<'_, '_>) -> Result<Reply, AllocError>
-    ensures { IfOk result (λ reply. (z : Stated) (name : Labels) → IsMatch z name found.entry → reply ≡ matched z name) }
+    ensures { IfOk result
+        (λ reply. (z : Stated) (name : Labels) → IsMatch z name found.entry → reply ≡ matched z name) }
 {
     Ok(match found {
         Match::Cut(cut, owned) => Reply::Cut(cut.to_name(alloc)?, Copies::of(alloc, owned)?),
@@ -156,20 +158,23 @@ fn leave_alone<I: ZoneIndex>(
     rtype: u16,
 ) -> Result<(), AllocError>
     ensures { OnOk result
-        (I.records index.new ≡ united (others (I.records index.old) name.now) (rrset (I.records index.old) name.now rtype)) }
+        (I.records index.new
+        ≡ united (others (I.records index.old) name.now) (rrset (I.records index.old) name.now rtype)) }
 {
     let kept = index.rrset(name, rtype).to_vec(alloc)?;
     index.replace_at(name, kept)
 }
 
-/// Takes a fork, puts a copy of the record into the index, copies what its owner owns there, and puts the fork in its place.
+/// Takes a fork, puts a copy of the record into the index, copies what its owner owns there, and puts the
+/// fork in its place.
 fn go_on_with_fork<I: ZoneIndex>(
     alloc: Heap,
     index: &mut I,
     added: &Record,
 ) -> Result<Copies, AllocError>
     ensures left { OnOk result (I.records index.new ≡ I.records index.old) }
-    ensures told { IfOk result (λ copies. copies ≡ records_at (put added.now (I.records index.old)) added.now.owner) }
+    ensures told { IfOk result
+        (λ copies. copies ≡ records_at (put added.now (I.records index.old)) added.now.owner) }
 {
     let fork = index.fork()?;
     insert_copy(index, added)?;

@@ -13,7 +13,8 @@ use dns_names::NameRef;
 use dns_records::Record;
 use std::alloc::AllocError;
 
-/// A set of records in one list, in order. A search takes a number of steps that grows with the logarithm of its length.
+/// A set of records in one list, in order. A search takes a number of steps that grows with the logarithm of
+/// its length.
 #[derive(Drop)]
 pub struct RecordList {
     items: Vec<Record, Heap>,
@@ -22,8 +23,8 @@ pub struct RecordList {
 }
 
 impl RecordList {
-    /// Where a search for the name begins, which makes no difference to what it finds: at the front, where the records of a zone's
-    /// apex stand, if they are the name's.
+    /// Where a search for the name begins, which makes no difference to what it finds: at the front, where
+    /// the records of a zone's apex stand, if they are the name's.
     fn near(&self, name: &NameRef<'_>) -> Option<usize> {
         if self.items.first()?.owner().lend().is(name) {
             return Some(0);
@@ -41,7 +42,8 @@ fn move_to_end(items: &mut Vec<Record, Heap>, from: usize, count: usize)
     items.slice_mut(from..).rotate_left(count);
 }
 
-/// Puts records in place of those from a place on up to another. Memory is asked for once, before anything moves.
+/// Puts records in place of those from a place on up to another. Memory is asked for once, before anything
+/// moves.
 fn replace_between(
     items: &mut Vec<Record, Heap>,
     begin: usize,
@@ -61,7 +63,8 @@ fn replace_between(
     Ok(())
 }
 
-/// Puts records of a name in place of all that it owns. A place near those is where the search for them begins.
+/// Puts records of a name in place of all that it owns. A place near those is where the search for them
+/// begins.
 fn replace_owned(
     items: &mut Vec<Record, Heap>,
     name: &NameRef<'_>,

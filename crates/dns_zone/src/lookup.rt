@@ -1,5 +1,5 @@
-//! Matching a name in a list of records in order: one search for the name's place tells by its neighbours how much of it exists,
-//! and what stands above it is found by short searches from there.
+//! Matching a name in a list of records in order: one search for the name's place tells by its neighbours how
+//! much of it exists, and what stands above it is found by short searches from there.
 ghost use Rattle.std.specs.Prelude.{◌≡◌, ◌≤◌, true, false, not, ◌&&◌, List, length, None, IfSome, IfNone};
 ghost use Rattle.dns_names.specs.Name.{Labels, wire, labels_of, wildcard, under, names_eq};
 ghost use Rattle.dns_names.specs.Plain.{IsPlain};
@@ -55,7 +55,8 @@ fn is_below(name: &NameRef<'_>, other: &NameRef<'_>) -> bool
     name.is_under(other) & !name.is(other)
 }
 
-/// The closest encloser of a name that doesn't exist, by the owners on either side of its place (RFC 4592 section 3.3.1).
+/// The closest encloser of a name that doesn't exist, by the owners on either side of its place (RFC 4592
+/// section 3.3.1).
 fn closest_encloser<'n>(records: &[Record], name: &NameRef<'n>, place: usize) -> NameRef<'n>
     requires order { is_ordered records.now ≡ true }
     requires place { IsPlaceOf name.now records.now place }
@@ -78,7 +79,8 @@ fn is_owned_beside(records: &[Record], place: usize, name: &NameRef<'_>) -> bool
     is_owned_at(records, place, name) || (place > 0 && is_owned_at(records, place - 1, name))
 }
 
-/// Whether the zone is cut at a name under its apex that owns these records: there is an NS (RFC 1034 section 4.2.1).
+/// Whether the zone is cut at a name under its apex that owns these records: there is an NS (RFC 1034
+/// section 4.2.1).
 fn has_servers(owned: &[Record]) -> bool
     ensures { (set : List Stated) (name : Labels)
         → is_ordered set ≡ true
@@ -88,8 +90,8 @@ fn has_servers(owned: &[Record]) -> bool
     !of_type(owned, types::NS).is_empty()
 }
 
-/// The cut above the name or at it, and the records that it owns: of all, the one with the fewest labels (RFC 1034 section 4.3.2,
-/// step 3b). Each ancestor is looked for near a place.
+/// The cut above the name or at it, and the records that it owns: of all, the one with the fewest labels
+/// (RFC 1034 section 4.3.2, step 3b). Each ancestor is looked for near a place.
 fn shortest_cut<'n, 's>(
     records: &'s [Record],
     apex: &NameRef<'_>,
@@ -98,7 +100,8 @@ fn shortest_cut<'n, 's>(
 ) -> Option<(NameRef<'n>, &'s [Record])>
     requires { is_ordered records.now ≡ true }
     ensures found { IfSome result
-        (λ found. EndsAtCut (record { apex = apex.now; records = records.now }) name.now found.0 found.1.now) }
+        (λ found. EndsAtCut (record { apex = apex.now; records = records.now }) name.now
+        found.0 found.1.now) }
     ensures none { IfNone result (cut (record { apex = apex.now; records = records.now }) name.now ≡ None) }
 {
     let mut shortest = None;
@@ -126,7 +129,8 @@ fn cut_above<'n, 's>(
 ) -> Option<(NameRef<'n>, &'s [Record])>
     requires { is_ordered records.now ≡ true }
     ensures found { IfSome result
-        (λ found. EndsAtCut (record { apex = apex.now; records = records.now }) name.now found.0 found.1.now) }
+        (λ found. EndsAtCut (record { apex = apex.now; records = records.now }) name.now
+        found.0 found.1.now) }
     ensures none { IfNone result (EndsAtMost (record { apex = apex.now; records = records.now }) name.now) }
 {
     match name.parent() {
@@ -189,7 +193,8 @@ fn wildcard_near<'s>(
     requires order { is_ordered records.now ≡ true }
     requires room { length (wire above.now) ≤ 253 }
     ensures found { IfSome result
-        (λ owned. (exists records.now (wildcard above.now) ≡ true) × (owned.now ≡ records_at records.now (wildcard above.now))) }
+        (λ owned. (exists records.now (wildcard above.now) ≡ true)
+        × (owned.now ≡ records_at records.now (wildcard above.now))) }
     ensures none { IfNone result (exists records.now (wildcard above.now) ≡ false) }
 {
     let octets = starred(above);

@@ -9,7 +9,8 @@ pub enum Match<'n, 's> {
     Cut(NameRef<'n>, &'s [Record]),
     /// The name exists: the records that it owns, none at an empty nonterminal.
     Name(&'s [Record]),
-    /// The name doesn't exist, and the label `*` before its closest encloser does: the encloser, and the records of the wildcard.
+    /// The name doesn't exist, and the label `*` before its closest encloser does: the encloser, and the
+    /// records of the wildcard.
     Wildcard(NameRef<'n>, &'s [Record]),
     /// Neither the name nor a wildcard for it exists.
     Nothing,

@@ -7,7 +7,8 @@ use crate::ZoneIndex;
 use dns_records::Record;
 use std::marker::Model;
 
-/// The records of a set from a place on, in order of owner, type and data. They are lent run by run, as the set keeps them.
+/// The records of a set from a place on, in order of owner, type and data. They are lent run by run, as the
+/// set keeps them.
 #[derive(Drop)]
 pub struct Records<'a, I: ZoneIndex> {
     index: &'a I,
@@ -25,7 +26,8 @@ impl<'a, I: ZoneIndex> Model for Records<'a, I> {
 
     ghost view = { λ r. drop r.place (I.records r.index.now) };
 
-    ghost invariant = { λ r. (r.len ≡ length (I.records r.index.now)) × IsRun (I.records r.index.now) r.place r.run.now };
+    ghost invariant = { λ r. (r.len ≡ length (I.records r.index.now))
+        × IsRun (I.records r.index.now) r.place r.run.now };
 }
 
 impl<'a, I: ZoneIndex> Records<'a, I> {

@@ -25,10 +25,11 @@ pub(crate) enum Key<'a> {
     Parts(NameRef<'a>, u16, &'a [u8]),
 }
 
-/// On which side of an owner, a type and data in plain form the record stands. Most records that a search looks at have the owner, so
-/// that the order of names is asked for only where the two differ.
+/// On which side of an owner, a type and data in plain form the record stands. Most records that a search
+/// looks at have the owner, so that the order of names is asked for only where the two differ.
 fn side_of_parts(r: &Record, owner: &NameRef<'_>, rtype: u16, rdata: &[u8]) -> Ordering
-    ensures { result ≡ record_cmp r.now (record { owner = owner.now; rtype = rtype; ttl = 0; rdata = rdata.now }) }
+    ensures { result
+        ≡ record_cmp r.now (record { owner = owner.now; rtype = rtype; ttl = 0; rdata = rdata.now }) }
 {
     let own = r.owner().lend();
     if own.is(owner) {
@@ -73,13 +74,14 @@ fn place_between(low: usize, high: usize, wished: usize) -> usize
     low + (high - low) / 2
 }
 
-/// How many records stand before what is looked for. A search from a place goes away from it in steps that double, and then by
-/// halves; from no place it goes by halves at once.
+/// How many records stand before what is looked for. A search from a place goes away from it in steps that
+/// double, and then by halves; from no place it goes by halves at once.
 pub(crate) fn count_before(records: &[Record], key: &Key<'_>, near: Option<usize>) -> usize
     requires { is_ordered records.now ≡ true }
     ensures bound { result ≤ length records.now }
     ensures before { AllWithin (λ r. is_lt (side_of key.now r) ≡ true) records.now 0 result }
-    ensures behind { AllWithin (λ r. is_lt (side_of key.now r) ≡ false) records.now result (length records.now) }
+    ensures behind { AllWithin (λ r. is_lt (side_of key.now r) ≡ false) records.now result
+        (length records.now) }
 {
     let mut low = 0;
     let mut high = records.len();
@@ -100,16 +102,18 @@ pub(crate) fn count_before(records: &[Record], key: &Key<'_>, near: Option<usize
     low
 }
 
-/// Where the records end that are what is looked for, none of which stands before the place. The search goes away from the place in
-/// steps that double, and then by halves.
+/// Where the records end that are what is looked for, none of which stands before the place. The search goes
+/// away from the place in steps that double, and then by halves.
 pub(crate) fn end_of_match(records: &[Record], key: &Key<'_>, begin: usize) -> usize
     requires order { is_ordered records.now ≡ true }
     requires inside { begin ≤ length records.now }
-    requires behind { AllWithin (λ r. is_lt (side_of key.now r) ≡ false) records.now begin (length records.now) }
+    requires behind { AllWithin (λ r. is_lt (side_of key.now r) ≡ false) records.now begin
+        (length records.now) }
     ensures from { begin ≤ result }
     ensures bound { result ≤ length records.now }
     ensures here { AllWithin (λ r. is_eq (side_of key.now r) ≡ true) records.now begin result }
-    ensures past { AllWithin (λ r. is_eq (side_of key.now r) ≡ false) records.now result (length records.now) }
+    ensures past { AllWithin (λ r. is_eq (side_of key.now r) ≡ false) records.now result
+        (length records.now) }
 {
     let mut low = begin;
     let mut high = records.len();
@@ -130,7 +134,8 @@ pub(crate) fn end_of_match(records: &[Record], key: &Key<'_>, begin: usize) -> u
     low
 }
 
-/// The records that are what is looked for, which stand one behind the other. A place near them is where the search begins.
+/// The records that are what is looked for, which stand one behind the other. A place near them is where the
+/// search begins.
 pub(crate) fn matching<'r>(
     records: &'r [Record],
     key: &Key<'_>,
@@ -143,8 +148,8 @@ pub(crate) fn matching<'r>(
     &records[begin..end_of_match(records, key, begin)]
 }
 
-/// Where the record of equal owner, type and data stands among records in order, or where it would go. A place near it, if one is
-/// given, is where the search begins, which makes no difference to what it finds.
+/// Where the record of equal owner, type and data stands among records in order, or where it would go. A
+/// place near it, if one is given, is where the search begins, which makes no difference to what it finds.
 pub fn find_record(records: &[Record], wanted: &Record, near: Option<usize>) -> Result<usize, usize>
     requires { is_ordered records.now ≡ true }
     ensures found { IfOk result (StandsAt wanted.now records.now) }

@@ -38,9 +38,11 @@ impl<I: ZoneIndex> Zone<I> {
         apex: Name,
         records: Vec<Record, Heap>,
     ) -> Result<Zone<I>, ZoneError>
-        ensures found { IfOk result (λ z. IsZone z × (z.apex ≡ apex) × IsSetOf records.entry.items z.records) }
+        ensures found { IfOk result
+            (λ z. IsZone z × (z.apex ≡ apex) × IsSetOf records.entry.items z.records) }
         ensures only { OnOk result (zone_fault apex records.entry.items ≡ None) }
-        ensures refused { IfErr result (λ e. (e ≡ ZoneError.OutOfMemory) ⊎ (zone_fault apex records.entry.items ≡ Some e)) }
+        ensures refused { IfErr result
+            (λ e. (e ≡ ZoneError.OutOfMemory) ⊎ (zone_fault apex records.entry.items ≡ Some e)) }
     {
         let mut records = records;
         sort(&mut records)?;
@@ -57,7 +59,8 @@ impl<I: ZoneIndex> Zone<I> {
     /// The zone of a set, which is handed back where it is none, with the lowest refusal that applies.
     pub fn from_index(apex: Name, index: I) -> Result<Zone<I>, (I, ZoneError)>
         ensures found { IfOk result (λ z. (z.records ≡ I.records index) × (z.apex ≡ apex) × IsZone z) }
-        ensures refused { IfErr result (λ e. (zone_fault apex (I.records index) ≡ Some e.1) × (I.records e.0 ≡ I.records index)) }
+        ensures refused { IfErr result
+            (λ e. (zone_fault apex (I.records index) ≡ Some e.1) × (I.records e.0 ≡ I.records index)) }
     {
         match fault(&apex, &index) {
             Some(error) => Err((index, error)),
@@ -95,8 +98,8 @@ impl<I: ZoneIndex> Zone<I> {
         Records::of(&self.index)
     }
 
-    /// All that a lookup asks of a name: the cut above it, the name itself, or the wildcard for it (RFC 1034 section 4.3.2, step
-    /// 3; RFC 4592 section 3.3).
+    /// All that a lookup asks of a name: the cut above it, the name itself, or the wildcard for it (RFC 1034
+    /// section 4.3.2, step 3; RFC 4592 section 3.3).
     #[inline(always)]
     pub fn find_node<'n>(&self, name: &NameRef<'n>) -> Match<'n, '_>
         ensures { IsMatch self.now name.now result }

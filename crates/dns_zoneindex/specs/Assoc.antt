@@ -15,4 +15,5 @@ put_child c (d ∷ rest) = by_order (label_cmp c.label d.label) (c ∷ d ∷ res
 
 abbrev pub without_child : List ℕ → List Child → List Child
 without_child label [] = []
-without_child label (d ∷ rest) = by_order (label_cmp label d.label) (d ∷ rest) rest (d ∷ without_child label rest)
+without_child label (d ∷ rest) =
+    by_order (label_cmp label d.label) (d ∷ rest) rest (d ∷ without_child label rest)

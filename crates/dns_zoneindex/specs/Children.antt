@@ -35,12 +35,15 @@ AllChildren P (x ∷ xs) = P x × AllChildren P xs
 -- Each label is below all later ones, and no name without records is kept.
 abbrev pub AreChildren : List Child → Type 0
 AreChildren [] = Unit {0}
-AreChildren (x ∷ xs) = (0 < length x.own) × AllChildren (λ y. label_cmp x.label y.label ≡ Less) xs × AreChildren xs
+AreChildren (x ∷ xs) =
+    (0 < length x.own) × AllChildren (λ y. label_cmp x.label y.label ≡ Less) xs × AreChildren xs
 
--- A branch has a record at or under its name, its children are in order, the number is that of its records, and the key that of its label.
+-- A branch has a record at or under its name, its children are in order, the number is that of its records,
+-- and the key that of its label.
 abbrev pub IsBranch : ℕ → ℕ → List ℕ → List Record → Children → Type 0
 IsBranch count key label records children =
-    (0 < length (own_of records children)) × AreChildren (items children) × (count ≡ length (own_of records children)) × IsKey key label
+    (0 < length (own_of records children)) × AreChildren (items children)
+    × (count ≡ length (own_of records children)) × IsKey key label
 
 -- No slot is empty.
 abbrev pub AllFull : List (List Child) → Type 0
@@ -61,7 +64,8 @@ AreKeys (k ∷ keys) (s ∷ slots) = IsFirstKey k s × AreKeys keys slots
 -- What holds of the slots of a group, of the number of their records, and of their keys.
 abbrev pub IsGroup : ℕ → List (List Child) → List ℕ → Type 0
 IsGroup count slots keys =
-    AreChildren (joined slots) × AllFull slots × (1 < length slots) × (count ≡ length (flat (joined slots))) × AreKeys keys slots
+    AreChildren (joined slots) × AllFull slots × (1 < length slots) × (count ≡ length (flat (joined slots)))
+    × AreKeys keys slots
 
 -- What holds of the children of a slot, the number of their records, and the key of the first.
 abbrev pub IsSlot : ℕ → ℕ → List Child → Type 0

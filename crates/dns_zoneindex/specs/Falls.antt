@@ -16,7 +16,8 @@ pub weight-append : (a b : List Entry) → weight (a ++ b) ≡ weight a + weight
 weight-append [] b = omega arith
 weight-append (e ∷ a) b = omega (arith, weight-append a b)
 
-pub weight-pushed : (l : List ℕ) (a : List Entry) → weight (map (pushed l) a) ≡ weight a + length a + length a + length a
+pub weight-pushed : (l : List ℕ) (a : List Entry)
+    → weight (map (pushed l) a) ≡ weight a + length a + length a + length a
 weight-pushed l [] = refl
 weight-pushed l (e ∷ a) = omega (arith, weight-pushed l a)
 
@@ -33,7 +34,8 @@ pub children_falls : (rs : List Record) (l : Children)
     → AreChildren (items l)
     → max (deep-Children l) 0 ≤ suc (weight (own_of rs l))
 children_falls rs Empty h = omega arith
-children_falls rs (One n) h = omega (arith, sizes_flat (n ∷ []) h, weight-append (map here rs) (flat (n ∷ [])))
+children_falls rs (One n) h =
+    omega (arith, sizes_flat (n ∷ []) h, weight-append (map here rs) (flat (n ∷ [])))
 children_falls rs (Many g) h = omega (arith, sizes_flat g.value h, weight-append (map here rs) (flat g.value))
 
 pub kind_falls : (k : Kind) → max (deep-Kind k) 0 ≤ node_size (child_in k)
@@ -55,7 +57,8 @@ most_of_all : (slots : List (List Child)) → most (λ s. slot_size s + 1) slots
 most_of_all [] = omega arith
 most_of_all (s ∷ slots) = omega (arith, most_of_all slots, sizes-append s (joined slots))
 
-pub group_falls : (count : ℕ) (slots : List (List Child)) (keys : List ℕ) → IsGroup count slots keys → max (most (λ s. slot_size s + 1) slots) 0 ≤ sizes_of (joined slots)
+pub group_falls : (count : ℕ) (slots : List (List Child)) (keys : List ℕ) → IsGroup count slots keys
+    → max (most (λ s. slot_size s + 1) slots) 0 ≤ sizes_of (joined slots)
 group_falls count [] keys h = absurd (omega (arith, h.2))
 group_falls count (s ∷ []) keys h = absurd (omega (arith, h.2))
 group_falls count (s ∷ t ∷ slots) keys h =

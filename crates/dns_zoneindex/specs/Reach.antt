@@ -1,4 +1,5 @@
--- How far the labels of a name lead, in the zone that is told by its records with the labels that lead to them.
+-- How far the labels of a name lead, in the zone that is told by its records with the labels that lead to
+-- them.
 use Rattle.std.specs.Prelude.{◌≡◌, false, List, reverse, None}
 use Rattle.dns_names.specs.Name.{Labels}
 use Rattle.dns_zone.specs.Records.{exists}

@@ -24,4 +24,5 @@ deeper e = elim (e.path) [ [] ↦ false | m ∷ rest ↦ true ]
 abbrev pub set_at : List (List ℕ) → List Record → List Entry → List Entry
 set_at [] records es = map here records ++ keep deeper es
 set_at (label ∷ path) records es =
-    keep (before label) es ++ (map (pushed label) (set_at path records (step label es)) ++ keep (behind label) es)
+    keep (before label) es
+    ++ (map (pushed label) (set_at path records (step label es)) ++ keep (behind label) es)

@@ -10,7 +10,8 @@ abbrev pub is_before : List ℕ → List Child → Bool
 is_before label [] = false
 is_before label (c ∷ rest) = is_lt (label_cmp label c.label)
 
--- All children of the slots before the place stand before the label, and all of those behind it behind the label.
+-- All children of the slots before the place stand before the label, and all of those behind it behind the
+-- label.
 pub record IsPlace (label : List ℕ) (slots : List (List Child)) (place : ℕ) : Type 0 where
   pub there : place < length slots
   pub ahead : AllChildren (λ c. label_cmp label c.label ≡ Greater) (joined (take place slots))

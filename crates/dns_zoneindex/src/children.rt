@@ -1,4 +1,5 @@
-//! The children of one name, found by label. A write makes the groups anew that lead to the child, and shares all others.
+//! The children of one name, found by label. A write makes the groups anew that lead to the child, and shares
+//! all others.
 ghost use Rattle.std.specs.Prelude.{◌≡◌, ◌++◌, ◌∷◌, [], ◌<◌, length, map, IfOk, IfSome};
 ghost use Rattle.std.specs.Option.{option_copied};
 ghost use Rattle.std.specs.List.{slice_get};
@@ -110,7 +111,8 @@ impl Children {
         }
     }
 
-    /// The children with one put in, which replaces one of equal label, in slots: few enough to stand in place of one.
+    /// The children with one put in, which replaces one of equal label, in slots: few enough to stand in
+    /// place of one.
     fn put(&self, alloc: Heap, node: Node) -> Result<Vec<Slot, Heap>, AllocError>
         requires some { 0 < length node.own }
         ensures put { IfOk result (λ slots. joined slots.items ≡ put_child node (items self.now)) }

@@ -1,5 +1,5 @@
-//! What a zone has for a name, by one walk along the name's labels from the root down (RFC 1034 section 4.3.2, step 3; RFC 4592
-//! section 3.3). It begins at `find_node`.
+//! What a zone has for a name, by one walk along the name's labels from the root down (RFC 1034
+//! section 4.3.2, step 3; RFC 4592 section 3.3). It begins at `find_node`.
 ghost use Rattle.std.specs.Prelude.{◌≡◌, true, List, ◌∷◌};
 ghost use Rattle.dns_names.specs.Name.{Labels};
 ghost use Rattle.dns_records.specs.Record.{Record as Stated};

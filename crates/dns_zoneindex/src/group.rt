@@ -1,5 +1,5 @@
-//! Slots of neighbouring children, and the groups that they make: a tree of which each group has few slots, so that few of them are
-//! looked at where a child is looked for.
+//! Slots of neighbouring children, and the groups that they make: a tree of which each group has few slots,
+//! so that few of them are looked at where a child is looked for.
 ghost use Rattle.std.specs.Prelude.{◌≡◌, ◌++◌, ◌∷◌, [], ◌<◌, suc, take, drop, length, IfOk, OnOk};
 ghost use Rattle.dns_zoneindex.specs.Children.{items, joined, AreChildren, AllFull, AreKeys};
 ghost use Rattle.dns_zoneindex.specs.Entries.{flat};
@@ -111,8 +111,9 @@ fn keys_of(slots: &[Slot]) -> [u64; MOST]
     keys
 }
 
-/// The last place whose key is at most this one, or the first where there is none. The keys rise. So three of them tell in which quarter
-/// it is, and three the place there; they are counted, so that no jump depends on one of them.
+/// The last place whose key is at most this one, or the first where there is none. The keys rise. So three of
+/// them tell in which quarter it is, and three the place there; they are counted, so that no jump depends on
+/// one of them.
 #[inline(always)]
 fn last_up_to(keys: &[u64; MOST], key: u64) -> usize {
     let quarters = usize::from(keys[4] <= key)
@@ -146,7 +147,8 @@ fn place_by_halves(slots: &[Slot], key: u64, label: &[u8]) -> usize
     place
 }
 
-/// The slot in which the child of a label stands, or would stand. The keys tell it, where the first octets of labels differ.
+/// The slot in which the child of a label stands, or would stand. The keys tell it, where the first octets of
+/// labels differ.
 #[inline(always)]
 pub(crate) fn place_of(keys: &[u64; MOST], slots: &[Slot], key: u64, label: &[u8]) -> usize
     requires keys { AreKeys keys.now slots.now }
@@ -193,7 +195,8 @@ pub(crate) fn replaced(
     come: Vec<Slot, Heap>,
 ) -> Result<Vec<Slot, Heap>, AllocError>
     requires { place < length slots.now }
-    ensures { IfOk result (λ made. made.items ≡ take place slots.now ++ (come.entry.items ++ drop (suc place) slots.now)) }
+    ensures { IfOk result
+        (λ made. made.items ≡ take place slots.now ++ (come.entry.items ++ drop (suc place) slots.now)) }
 {
     let mut come = come;
     let mut made = Vec::with_capacity(alloc, sum(slots.len(), 1)?)?;

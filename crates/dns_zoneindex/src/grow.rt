@@ -1,5 +1,7 @@
-//! The tree of names of records that are in order, made in one go: first the children of a name, each from the records under it.
-ghost use Rattle.std.specs.Prelude.{◌≡◌, ◌<◌, [], ◌↔◌, IsTrue, length, map, drop, reverse, IfOk, IfSome, IfNone, MatchOption};
+//! The tree of names of records that are in order, made in one go: first the children of a name, each from
+//! the records under it.
+ghost use Rattle.std.specs.Prelude.{◌≡◌, ◌<◌, [], ◌↔◌, IsTrue, length, map, drop, reverse, IfOk, IfSome};
+ghost use Rattle.std.specs.Prelude.{IfNone, MatchOption};
 ghost use Rattle.std.specs.List.{slice_get};
 ghost use Rattle.std.specs.Option.{option_copied};
 ghost use Rattle.dns_zoneindex.specs.Children.{items, AreChildren};
@@ -65,8 +67,8 @@ fn front_of<'r>(records: &'r [Record], depth: usize, label: &[u8]) -> &'r [Recor
     front
 }
 
-/// Takes the last records off, those that have one label at the depth, with that label. None are left but the name's own, if there
-/// is no label.
+/// Takes the last records off, those that have one label at the depth, with that label. None are left but the
+/// name's own, if there is no label.
 fn take_off(
     alloc: Heap,
     records: &mut Vec<Record, Heap>,
@@ -116,7 +118,8 @@ fn children_of(alloc: Heap, nodes: &[Node]) -> Result<Children, AllocError>
     in_levels(alloc, slots)
 }
 
-/// What stands at and under a name, by its label and by the records, whose owners' labels down to the depth lead to it.
+/// What stands at and under a name, by its label and by the records, whose owners' labels down to the depth
+/// lead to it.
 pub(crate) fn grow(
     alloc: Heap,
     label: &[u8],

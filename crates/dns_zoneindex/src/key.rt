@@ -32,8 +32,8 @@ pub(crate) fn key_of(label: &[u8]) -> u64
     ])
 }
 
-/// The order of a label and that of a node with the same key: by what that doesn't tell, which of labels of up to eight octets is
-/// their length.
+/// The order of a label and that of a node with the same key: by what that doesn't tell, which of labels of
+/// up to eight octets is their length.
 pub(crate) fn order(label: &[u8], node: &Node) -> Ordering
     requires { (key : ℕ) × IsKey key label.now × IsKey key node.now.label }
     ensures { result ≡ label_cmp label.now node.now.label }

@@ -1,5 +1,5 @@
-//! The nodes of the tree of names (RFC 1034 section 3.1): what stands at and under a name, in parts that trees share. Each is found
-//! and written by the labels that lead to it.
+//! The nodes of the tree of names (RFC 1034 section 3.1): what stands at and under a name, in parts that
+//! trees share. Each is found and written by the labels that lead to it.
 ghost use Rattle.std.specs.Prelude.{◌≡◌, ◌<◌, [], length, reverse, IfOk, IfSome};
 ghost use Rattle.std.specs.Option.{option_copied};
 ghost use Rattle.dns_zoneindex.specs.Children.{items, own_of, node_of, AreChildren};
@@ -60,7 +60,8 @@ pub(crate) struct Node {
     pub(crate) kind: Kind,
 }
 
-/// The two kinds of nodes. Most names are hosts with one record and no name below, and need no memory but the record's.
+/// The two kinds of nodes. Most names are hosts with one record and no name below, and need no memory but the
+/// record's.
 #[cycle(tree)]
 pub(crate) enum Kind {
     /// One record, and no name below: the label is the first of its owner's.
@@ -230,7 +231,8 @@ impl Slot {
 }
 
 impl Node {
-    /// What stands at and under a name: its records, and what its children have. It is a leaf where the label and what stands there allow it.
+    /// What stands at and under a name: its records, and what its children have. It is a leaf where the label
+    /// and what stands there allow it.
     pub(crate) fn new(
         alloc: Heap,
         label: &[u8],
@@ -362,7 +364,8 @@ impl Node {
         path: &[&[u8]],
         records: Records,
     ) -> Result<Option<Node>, AllocError>
-        ensures set { IfOk result (λ node. own_at node ≡ set_at (labels_in path.now) (held records) self.now.own) }
+        ensures set { IfOk result
+            (λ node. own_at node ≡ set_at (labels_in path.now) (held records) self.now.own) }
         ensures label { IfOk result (λ node. IfSome node (λ n. n.label ≡ self.now.label)) }
     {
         let children = self.share_children()?;

@@ -1,4 +1,5 @@
-//! The program: reads the words of its command line and the files that they name, and turns how a run ended into an exit status.
+//! The program: reads the words of its command line and the files that they name, and turns how a run ended
+//! into an exit status.
 #![tactic(auto)]
 
 use clap::error::ErrorKind;
@@ -186,7 +187,8 @@ fn read_words<'a>(alloc: Global, words: &'a [&'a str]) -> Result<Option<Asked<'a
     Ok(Some(Asked { task, explain }))
 }
 
-/// The octets of the file at a path, if it can be read. Refused memory is an error, and does not make a file unreadable.
+/// The octets of the file at a path, if it can be read. Refused memory is an error, and does not make a file
+/// unreadable.
 fn octets(rt: &HostRuntime, path: &str) -> io::Result<Option<Vec<u8>>> {
     match fs::read(rt, path) {
         Ok(octets) => Ok(Some(octets)),
@@ -206,8 +208,8 @@ fn file<'a>(path: &'a str, octets: &'a Option<Vec<u8>>) -> File<'a> {
     }
 }
 
-/// The paths of the master files that a configuration names, and the octets of each; none where it is refused. Refused memory is an
-/// error.
+/// The paths of the master files that a configuration names, and the octets of each; none where it is
+/// refused. Refused memory is an error.
 fn master_files(
     rt: &HostRuntime,
     heap: Heap,
@@ -433,7 +435,8 @@ fn run(rt: &HostRuntime, asked: Asked<'_>) -> io::Result<u8> {
     }
 }
 
-/// Does what the words say, and gives the exit status. An error is that of a stream, of memory, or of a word that is no UTF-8.
+/// Does what the words say, and gives the exit status. An error is that of a stream, of memory, or of a word
+/// that is no UTF-8.
 fn start(rt: &HostRuntime) -> io::Result<u8> {
     let mut words = Vec::new(rt.alloc());
     for word in env::args(rt)? {
@@ -466,7 +469,8 @@ fn start(rt: &HostRuntime) -> io::Result<u8> {
     }
 }
 
-/// Tells in one line what kept the program from its task, and gives the exit status. Of a stream that fails nothing can be told.
+/// Tells in one line what kept the program from its task, and gives the exit status. Of a stream that fails
+/// nothing can be told.
 fn tell(rt: &HostRuntime, kind: io::ErrorKind) -> u8 {
     let (line, status) = match kind {
         io::ErrorKind::InvalidData => ("a word is no UTF-8", USAGE),

@@ -1,5 +1,5 @@
-use Rattle.dns_primary.proofs.Begun.{fresh_machine}
+use Rattle.dns_primary.proofs.Begun.{fresh_machine, loaded_opened}
 use Rattle.dns_primary.proofs.laws.fresh_law.Goals as goal
 
 pub returns : goal.returns
-returns c = fresh_machine
+returns c = record { exists = fresh_machine; formatted = loaded_opened }
