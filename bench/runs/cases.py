@@ -1,6 +1,6 @@
-"""Stored runs of dns_exchanges that are made: each message of the zone's other scripts cut at each octet, counts of a header that lie,
-chains of pointers of every length that 512 octets hold and some that are longer, sweeps over stops and failures, and forty of the random
-runs. What is expected is what the plain machine of `model.py` prints. `cases.py` writes the scripts and puts their lines and what they
+"""Stored runs of dns_conformance that are made: each message of the zone's other scripts cut at each octet, counts of a header that lie,
+chains of pointers of every length that 512 octets hold and some that are longer, sweeps over stops and failures, what is largest of its
+kind, and forty of the random runs. What is expected is what the plain machine of `model.py` prints. `cases.py` writes the scripts and puts their lines and what they
 are to print at the end of `list` and `stdout`, in place of those that it made before.
 """
 import glob
@@ -13,11 +13,12 @@ import struct
 import model
 import run
 
-CRATE = os.path.join(os.path.dirname(os.path.abspath(__file__)), "../../crates/dns_exchanges")
+CRATE = os.path.join(os.path.dirname(os.path.abspath(__file__)), "../../crates/dns_conformance")
 FOLDER = f"{CRATE}/data/example"
 MADE = "by_the_model_"
 RANDOM = "random/"
 SWEEP = "sweep/"
+LARGEST = "largest/"
 TYPES = {name: number for number, name in model.NINE.items()}
 APEX = (b"example",)
 APEX_TEXT = b"\7example\0"
@@ -70,7 +71,7 @@ def cut(them):
 
 
 def lying(them):
-    """The first of them that asks and the first that updates, with each count of its header by another number."""
+    """Each of them with each count of its header by another number."""
     numbers = (0, 1, 2, 3, 4, 255, 256, 257, 32767, 65535)
     for it in them:
         for at in (4, 6, 8, 10):
@@ -111,12 +112,16 @@ def chains(make):
 def cases():
     queries, updates = messages()
     sent = lambda them: [f"udp 127.0.0.1 {it.hex()}" for it in them]
-    yield "queries_cut_at_each_octet", sent(cut(queries))
-    yield "updates_cut_at_each_octet", sent(cut(updates))
-    yield "counts_of_queries_that_lie", sent(lying(queries[:8]))
-    yield "counts_of_updates_that_lie", [line for it in sent(lying(updates[:8])) for line in (it, "flush")]
+    held = ["flush", "udp 127.0.0.1 fffe00000001000000000000076578616d706c650000060001"]
+    yield "queries_cut_at_each_octet", sent(cut(queries)) + held
+    yield "updates_cut_at_each_octet", sent(cut(updates)) + held
+    yield "counts_of_queries_that_lie", sent(lying(queries[:8])) + held
+    yield "counts_of_updates_that_lie", [line for it in sent(lying(updates[:8])) for line in (it, "flush")] + held
     yield "chains_of_pointers", chains(chained)
     yield "chains_of_pointers_without_end", chains(endless)
+    transfer = ["connect 127.0.0.1", "tcp 0 000600000001000000000000076578616d706c650000fc0001", f"udp 127.0.0.1 {updates[0].hex()}"]
+    yield "a_transfer_over_a_failed_flush", [*transfer, "fail 1", "flush", "pump 0", held[1], "crash", held[1]]
+    yield "a_transfer_over_a_stopped_flush", [*transfer, "stop 2", "flush", "pump 0", "crash", held[1]]
 
 
 class Sweep:
@@ -185,11 +190,15 @@ def sublists(count):
     return [(), tuple(numbers), *alone, *(tuple(n for n in numbers if n != it) for it in numbers)]
 
 
-def swept(sweep, prepares, event, word="stop", moments=None, opening=()):
-    """The event is stopped at each of its operations, or each fails, and a crash keeps each sublist of what is pending then."""
+def swept(sweep, prepares, event, word="stop", moments=None, opening=(), octets=8):
+    """The event is stopped at each of its operations, or each fails, and a crash keeps each sublist of what is pending then. Each case
+    begins with an update that is durable and a later base, so that none finds the journal of the one before it."""
     for moment in moments or itertools.count(1):
         done = []
         while True:
+            for it in sweep.origins:
+                for before in (sweep.update(it, octets), "flush", f"checkpoint {it}"):
+                    sweep.does(before)
             prepares()
             sweep.does(f"{word} {moment}")
             before = len(sweep.printed)
@@ -212,7 +221,7 @@ def sweeps():
     swept(one, lambda: [one.does(one.update()) for _ in range(3)], lambda: "flush")
     yield one
     one = Sweep("a_flush_of_entries_of_two_sectors", j=24)
-    swept(one, lambda: [one.does(one.update(octets=200)) for _ in range(3)], lambda: "flush")
+    swept(one, lambda: [one.does(one.update(octets=200)) for _ in range(3)], lambda: "flush", octets=200)
     yield one
     one = Sweep("a_checkpoint", keep=3, hosts=55)
     swept(one, lambda: [(one.does(one.update(octets=100)), one.does("flush")) for _ in range(2)], lambda: "checkpoint example.")
@@ -221,20 +230,56 @@ def sweeps():
     swept(one, one.fills, one.update)
     yield one
     one = Sweep("the_33rd_update", j=2048)
-    swept(one, lambda: [one.does(one.update()) for _ in range(32)], one.update, moments=(1, 32))
+    swept(one, lambda: [one.does(one.update()) for _ in range(32)], one.update, moments=(1, 32, 33))
+    yield one
+    one = Sweep("failures_of_the_33rd_update", j=2048)
+    swept(one, lambda: [one.does(one.update()) for _ in range(32)], one.update, word="fail", moments=(1, 33))
     yield one
     one = Sweep("two_zones", zones=("example.", "example.org."))
     swept(one, lambda: [one.does(one.update(it)) for it in one.origins * 2], lambda: "flush")
     yield one
     one = Sweep("openings_that_stop", keep=3)
-    swept(one, lambda: [one.does(one.update()) for _ in range(3)], lambda: "flush", opening=(1, 2))
-    swept(one, lambda: one.does(one.update()), lambda: "checkpoint example.", opening=(1, 2))
+    swept(one, lambda: [one.does(one.update()) for _ in range(3)], lambda: "flush", opening=(1, 2, 3))
+    swept(one, lambda: one.does(one.update()), lambda: "checkpoint example.", opening=(1, 2, 3))
     yield one
     one = Sweep("failures_of_a_flush")
     swept(one, lambda: [one.does(one.update()) for _ in range(3)], lambda: "flush", word="fail")
     yield one
+    one = Sweep("failures_of_two_zones", zones=("example.", "example.org."))
+    swept(one, lambda: [one.does(one.update(it)) for it in one.origins * 2], lambda: "flush", word="fail")
+    yield one
+    one = Sweep("failures_of_a_checkpoint_for_an_update", j=8, keep=2)
+    swept(one, one.fills, one.update, word="fail")
+    yield one
     one = Sweep("failures_of_a_checkpoint", keep=2)
     swept(one, lambda: [(one.does(one.update()), one.does("flush")) for _ in range(2)], lambda: "checkpoint example.", word="fail")
+    yield one
+
+
+def largest():
+    """What is largest of its kind: an update of so many items as a message holds, a journal, a number of connections."""
+    one = Sweep("an_update_of_4094_items", s=256, j=1024)
+    items = b"".join(struct.pack(">3HIHI", 0xC00C, model.A, model.IN, 60, 4, it) for it in range(4094))
+    one.does("connect 127.0.0.1")
+    one.does(f"tcp 0 {one.message(5, 'example.', model.SOA, items, 4094).hex()}")
+    one.does("flush")
+    one.does(f"tcp 0 {one.message(0, 'example.', model.AXFR).hex()}")
+    for event in ("pump 0", "pump 0", "crash"):
+        one.does(event)
+    one.asks("example.")
+    yield one
+    one = Sweep("a_journal_of_65536_sectors", s=1, j=65536)
+    for event in (one.update(), "flush", one.update(), "checkpoint example.", one.update(), "flush", "crash"):
+        one.does(event)
+    one.asks("example.")
+    yield one
+    one = Sweep("all_connections")
+    for _ in range(65):
+        one.does("connect 127.0.0.1")
+    for event in ("close 3", "connect 127.0.0.1", "connect 127.0.0.1"):
+        one.does(event)
+    for number in range(64):
+        one.does(f"tcp {number} {one.message(0, 'example.', model.SOA).hex()}")
     yield one
 
 
@@ -254,7 +299,7 @@ def random_runs():
 
 
 def main():
-    runs = [it for it in open(f"{CRATE}/data/list").read().splitlines() if f" {MADE}" not in it and f" {RANDOM}" not in it and f" {SWEEP}" not in it]
+    runs = [it for it in open(f"{CRATE}/data/list").read().splitlines() if not any(f" {made}" in it for made in (MADE, RANDOM, SWEEP, LARGEST))]
     stdout = open(f"{CRATE}/stdout").read()
     at = re.search(rf"(?m)^replay example config {MADE}", stdout)
     stdout = stdout[: at.start()] if at else stdout
@@ -266,8 +311,8 @@ def main():
         runs.append(f"replay example config {MADE}{title}")
         stdout += "".join(it + "\n" for it in (runs[-1], *printed, "status 0"))
         print(f"{title}: {len(lines)} lines, {len(printed)} printed")
-    for sweep in sweeps():
-        folder = f"{SWEEP}{sweep.title}"
+    for kind, sweep in [*((SWEEP, it) for it in sweeps()), *((LARGEST, it) for it in largest())]:
+        folder = f"{kind}{sweep.title}"
         os.makedirs(f"{CRATE}/data/{folder}", exist_ok=True)
         run.written(f"{CRATE}/data/{folder}", sweep.specs, sweep.lines)
         runs.append(f"replay {folder} config script")

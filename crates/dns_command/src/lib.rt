@@ -1,0 +1,174 @@
+//! The words of the command line.
+#![tactic(auto)]
+
+use clap::{Arg, ArgAction, ArgMatches, Command, Error};
+use std::alloc::Global;
+
+/// What the words ask for.
+#[derive(Clone, Copy)]
+pub enum Task<'a> {
+    /// `check FILE ORIGIN`
+    Check(&'a str, &'a str),
+    /// `replay CONFIG SCRIPT`
+    Replay(&'a str, &'a str),
+    /// `init CONFIG`
+    Init(&'a str),
+    /// `dump CONFIG ORIGIN`
+    Dump(&'a str, &'a str),
+    /// `migrate CONFIG`
+    Migrate(&'a str),
+    /// `serve CONFIG --turns N`
+    Serve(&'a str, u32),
+}
+
+/// What the words ask for, and whether a fault is to be explained in a second line.
+#[derive(Clone, Copy)]
+pub struct Asked<'a> {
+    pub task: Task<'a>,
+    pub explain: bool,
+}
+
+/// What a help text says first.
+const ABOUT: &str =
+    "An authoritative DNS primary. A first zone: write zone.db and dnsprim.toml, then `dnsprim check zone.db \
+ORIGIN`, `dnsprim init dnsprim.toml`, and `dnsprim serve dnsprim.toml --turns 4294967295`";
+
+/// A word that a subcommand needs.
+fn word<'a>(alloc: Global, name: &'static str, help: &'static str) -> Arg<'a> {
+    Arg::new(alloc, name)
+        .required(true)
+        .action(ArgAction::Set)
+        .help(help)
+}
+
+/// A subcommand of one word.
+fn of_one_word<'a>(
+    alloc: Global,
+    name: &'static str,
+    about: &'static str,
+    first: Arg<'a>,
+) -> Result<Command<'a>, Error> {
+    let command = Command::new(alloc, name).about(about).arg(first)?;
+    let explain = Arg::new(alloc, "explain")
+        .long("explain")
+        .action(ArgAction::SetTrue)
+        .help("Tells in a second line what is wrong with a file, and what is expected");
+    Ok(command.arg(explain)?)
+}
+
+/// The word of a configuration.
+fn config<'a>(alloc: Global) -> Arg<'a> {
+    word(
+        alloc,
+        "CONFIG",
+        "The configuration: the address to listen on, and each zone with its master file and its device",
+    )
+}
+
+/// The word of an origin.
+fn origin<'a>(alloc: Global) -> Arg<'a> {
+    word(alloc, "ORIGIN", "The name of the zone's apex, as example.")
+}
+
+fn check_command<'a>(alloc: Global) -> Result<Command<'a>, Error> {
+    let file = word(alloc, "FILE", "A master file (RFC 1035 section 5)");
+    let about = "Reads a master file and tells what is wrong with it";
+    let command = of_one_word(alloc, "check", about, file)?;
+    Ok(command.arg(origin(alloc))?)
+}
+
+fn replay_command<'a>(alloc: Global) -> Result<Command<'a>, Error> {
+    let about = "Runs a script of requests over the zones of a configuration, kept in memory";
+    let command = of_one_word(alloc, "replay", about, config(alloc))?;
+    let script = word(
+        alloc,
+        "SCRIPT",
+        "A file of commands, one a line: udp ADDR HEX, flush, ..",
+    );
+    Ok(command.arg(script)?)
+}
+
+fn init_command<'a>(alloc: Global) -> Result<Command<'a>, Error> {
+    let about =
+        "Makes the device of each zone from its master file; from then on the device is the zone";
+    of_one_word(alloc, "init", about, config(alloc))
+}
+
+fn dump_command<'a>(alloc: Global) -> Result<Command<'a>, Error> {
+    let about = "Prints the zone that a device keeps, as a master file; not while it is served";
+    let command = of_one_word(alloc, "dump", about, config(alloc))?;
+    Ok(command.arg(origin(alloc))?)
+}
+
+fn migrate_command<'a>(alloc: Global) -> Result<Command<'a>, Error> {
+    let about = "Makes each device of sector format 1 new, in format 2; not while it is served";
+    of_one_word(alloc, "migrate", about, config(alloc))
+}
+
+fn serve_command<'a>(alloc: Global) -> Result<Command<'a>, Error> {
+    let about =
+        "Answers queries and takes updates, by UDP and TCP; an update is durable before it is answered";
+    let command = of_one_word(alloc, "serve", about, config(alloc))?;
+    let turns = Arg::new(alloc, "turns")
+        .long("turns")
+        .required(true)
+        .action(ArgAction::Set)
+        .help(
+            "The server ends after so many turns, at most 4294967295; waiting takes one a second",
+        );
+    Ok(command.arg(turns)?)
+}
+
+/// The command with one more subcommand, if that was made.
+fn with<'a>(
+    command: Command<'a>,
+    subcommand: Result<Command<'a>, Error>,
+) -> Result<Command<'a>, Error> {
+    match subcommand {
+        Ok(subcommand) => Ok(command.subcommand(subcommand)?),
+        Err(error) => {
+            drop(command);
+            Err(error)
+        }
+    }
+}
+
+/// The command with all its subcommands.
+fn whole_command<'a>(alloc: Global) -> Result<Command<'a>, Error> {
+    let command = Command::new(alloc, "dnsprim").about(ABOUT);
+    let command = with(command, check_command(alloc))?;
+    let command = with(command, replay_command(alloc))?;
+    let command = with(command, init_command(alloc))?;
+    let command = with(command, dump_command(alloc))?;
+    let command = with(command, migrate_command(alloc))?;
+    with(command, serve_command(alloc))
+}
+
+/// The task of a subcommand and its words. None where one is missing, or where a number is none.
+fn task_of<'a>(name: &str, inner: &ArgMatches<'a>) -> Option<Task<'a>> {
+    match name {
+        "check" => Some(Task::Check(inner.get_str("FILE")?, inner.get_str("ORIGIN")?)),
+        "replay" => Some(Task::Replay(inner.get_str("CONFIG")?, inner.get_str("SCRIPT")?)),
+        "init" => Some(Task::Init(inner.get_str("CONFIG")?)),
+        "dump" => Some(Task::Dump(inner.get_str("CONFIG")?, inner.get_str("ORIGIN")?)),
+        "migrate" => Some(Task::Migrate(inner.get_str("CONFIG")?)),
+        "serve" => {
+            let turns = inner.get_str("turns")?.parse().ok()?;
+            Some(Task::Serve(inner.get_str("CONFIG")?, turns))
+        }
+        _ => None,
+    }
+}
+
+/// What the words ask for, if it is a task.
+pub fn read_words<'a>(alloc: Global, words: &'a [&'a str]) -> Result<Option<Asked<'a>>, Error> {
+    let matches = whole_command(alloc)?.try_get_matches_from(words)?;
+    let Some((name, inner)) = matches.subcommand() else {
+        return Ok(None);
+    };
+    let Some(task) = task_of(name, inner) else {
+        return Ok(None);
+    };
+    let explain = inner.get_flag("explain");
+    Ok(Some(Asked { task, explain }))
+}

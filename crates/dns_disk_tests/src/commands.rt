@@ -1,0 +1,264 @@
+//! Runs of `init`, `dump` and `migrate` over devices in files of the system.
+use crate::commands::Before::{First, Left, Nothing, Old, Second};
+use crate::commands::Command::{Dump, Init, Migrate};
+use crate::old_format::updated;
+use crate::stores::read;
+use dns_configuration::File;
+use dns_devices::{Disk, dump, init, migrate};
+use dns_files::{DiskFile, FileSectors};
+use dns_givens::plan;
+use dns_memory::{Heap, heap};
+use dns_sectors::Sectors;
+use dns_zone::RecordList;
+use std::fs;
+use std::test::Fail;
+
+/// A device in a file of the system.
+type Device = FileSectors<DiskFile>;
+
+/// A configuration of two zones.
+const CONFIG: &str = "listen = \"127.0.0.1:5300\"
+[[zone]]
+origin = \"example.\"
+file = \"example.zone\"
+device = \"example.device\"
+snapshot_sectors = 8
+journal_sectors = 16
+keep = 4
+update = []
+transfer = []
+[[zone]]
+origin = \"other.\"
+file = \"other.zone\"
+device = \"other.device\"
+snapshot_sectors = 1
+journal_sectors = 8
+keep = 4
+update = []
+transfer = []
+";
+
+/// The master file of the first zone, and that of the second.
+const EXAMPLE: &str = "$TTL 3600
+@ SOA ns.example.com. hostmaster 7 7200 900 1209600 300
+@ NS ns.example.com.
+host1 A 192.0.2.1
+";
+
+const OTHER: &str = "$TTL 60
+@ SOA ns.example.com. hostmaster 4294967295 7200 900 1209600 300
+@ NS ns.example.com.
+";
+
+/// One that takes two sectors.
+const LARGE: &str = "$TTL 60
+@ SOA ns.example.com. hostmaster 4294967295 7200 900 1209600 300
+@ NS ns.example.com.
+a TXT aaaaaaaaaaaaaaaaaaaaaaaaaaaaaaaaaaaaaaaaaaaaaaaaaaaaaaaaaaaaaaaaaaaaaaaaaaaaaaaaaaaaaaaaaaaaaaaa
+b TXT bbbbbbbbbbbbbbbbbbbbbbbbbbbbbbbbbbbbbbbbbbbbbbbbbbbbbbbbbbbbbbbbbbbbbbbbbbbbbbbbbbbbbbbbbbbbbbbb
+c TXT cccccccccccccccccccccccccccccccccccccccccccccccccccccccccccccccccccccccccccccccccccccccccccccccc
+d TXT dddddddddddddddddddddddddddddddddddddddddddddddddddddddddddddddddddddddddddddddddddddddddddddddd
+";
+
+/// One that is no zone.
+const NO_TTL: &str = "@ NS ns\n";
+
+/// What is printed of the first zone.
+const PRINTED: &str =
+    "example. 3600 IN SOA ns.example.com. hostmaster.example. 7 7200 900 1209600 300
+example. 3600 IN NS ns.example.com.
+host1.example. 3600 IN A 192.0.2.1
+";
+
+/// What is printed of the example with its change.
+const CHANGED: &str =
+    "example. 3600 IN SOA ns.example.com. hostmaster.example. 8 7200 900 1209600 300
+example. 3600 IN NS ns.example.com.
+example. 3600 IN NS ns.example.net.
+*.example. 3600 IN MX 10 host1.example.
+*.example. 3600 IN TXT \"this is a wildcard\"
+sub.*.example. 3600 IN TXT \"this is not a wildcard\"
+host1.example. 3600 IN A 192.0.2.1
+_ssh._tcp.host1.example. 3600 IN SRV 0 0 22 host1.example.
+_ssh._tcp.host2.example. 3600 IN SRV 0 0 22 host2.example.
+subdel.example. 3600 IN NS ns.example.com.
+subdel.example. 3600 IN NS ns.example.net.
+t.example. 60 IN TXT \"x\"
+";
+
+/// A command: `init` with this file of the second zone, and whether advice is wanted; `dump` of a zone.
+#[derive(Clone, Copy)]
+enum Command {
+    Init(&'static str, bool),
+    Dump(&'static str),
+    Migrate,
+}
+
+/// That of the first zone.
+const DUMP: Command = Dump("example.");
+
+/// A file with this text.
+fn file<'a>(path: &'a str, text: &'a str) -> File<'a> {
+    File {
+        path,
+        octets: Some(text.as_bytes()),
+    }
+}
+
+/// The exit status of a command, and what it wrote to the two writers.
+fn run(rt: &HostRuntime, heap: Heap, command: Command, out: &mut Vec<u8>, err: &mut Vec<u8>) -> u8 {
+    let (alloc, config, devices) = (rt.alloc(), file("dnsprim.toml", CONFIG), Disk(rt));
+    match command {
+        Init(other, explain) => {
+            let files = [file("example.zone", EXAMPLE), file("other.zone", other)];
+            init::<Device, _, RecordList, _, _>(
+                alloc, heap, &devices, &config, &files, explain, out, err,
+            )
+        }
+        Dump(origin) => dump::<Device, _, RecordList, _, _>(
+            alloc, heap, &devices, &config, origin, false, out, err,
+        ),
+        Migrate => {
+            migrate::<Device, _, RecordList, _, _>(alloc, heap, &devices, &config, false, out, err)
+        }
+    }
+}
+
+/// What is at the paths of the devices before a command: what the one before left, or in place of the first
+/// device one of format 1; nothing; or a file at the first or the second, which begins with these octets and
+/// then has one throughout, up to this length.
+#[derive(Clone, Copy)]
+enum Before {
+    Left,
+    Old,
+    Nothing,
+    First(&'static [u8], u8, usize),
+    Second(&'static [u8], u8, usize),
+}
+
+/// A file with these octets, and then one throughout, up to this length; in place of what is there.
+fn put(rt: &HostRuntime, path: &str, front: &[u8], rest: u8, len: usize) -> Result<(), Fail> {
+    let mut octets = Vec::from_slice(rt.alloc(), front)?;
+    octets.resize(len, rest)?;
+    let _written = fs::write(rt, path, &octets);
+    Ok(())
+}
+
+/// The octets of a device of format 1: the example with its change.
+fn old(rt: &HostRuntime, heap: Heap) -> Option<Vec<u8>> {
+    let mut device = updated(heap, plan(heap)?, 1)?;
+    let mut octets = Vec::new(rt.alloc());
+    for at in 0..device.len() {
+        octets.extend_from_slice(&read(&mut device, at)?).ok()?;
+    }
+    Some(octets)
+}
+
+/// Puts it in the place of the first device.
+fn put_old(rt: &HostRuntime, heap: Heap) -> Result<(), Fail> {
+    let octets = old(rt, heap).ok_or("a device of format 1")?;
+    let _written = fs::write(rt, "example.device", &octets);
+    Ok(())
+}
+
+/// Puts it there; each test runs in a process of its own, one after the other.
+fn prepare(rt: &HostRuntime, heap: Heap, before: Before) -> Result<(), Fail> {
+    match before {
+        Left => return Ok(()),
+        Old => return put_old(rt, heap),
+        _ => {}
+    }
+    for path in ["example.device", "other.device"] {
+        let _removed = fs::remove_file(rt, path);
+    }
+    match before {
+        First(front, rest, len) => put(rt, "example.device", front, rest, len),
+        Second(front, rest, len) => put(rt, "other.device", front, rest, len),
+        _ => Ok(()),
+    }
+}
+
+/// A root of sector format 1, of the zone `example.` with 8 and 16 sectors, up to the last octet that is not
+/// 0.
+const ROOT: &[u8] = b"DPR1\0\0\0\0\0\0\0\0\0\0\0\0\0\0\0\0\0\0\0\0\0\0\0\0\0\0\0\0\0\0\0\0\0\0\
+\x01\xda\0\0\0\x08\0\0\0\x10\x07example";
+
+const FORMATTED: &str = "formatted example. serial 7\nformatted other. serial 4294967295\n";
+
+/// What is printed and told where the device of the first zone is made, and the one of the second is taken
+/// away again.
+const TOO_LARGE: &str = "formatted example. serial 7\nother.device: ZoneTooLarge\n";
+
+const EXISTS: &str =
+    "other.device: Exists\nother.device: init makes new files alone; move the file away, or serve it\n";
+
+/// How many octets the device of the first zone has.
+const LEN: usize = 512 * 49;
+
+/// Commands, each with what is there before, the status, and what is printed and told. Faults of files come
+/// before any device is made.
+const RUNS: [(Before, Command, u8, &str); 25] = [
+    (Nothing, Init(OTHER, false), 0, FORMATTED),
+    (Left, DUMP, 0, PRINTED),
+    (Left, Init(OTHER, false), 1, "example.device: Exists\n"),
+    (Left, Migrate, 0, "example. already\nother. already\n"),
+    (Left, DUMP, 0, PRINTED),
+    (Left, Dump("none."), 1, "none.: BadOrigin\n"),
+    (Left, Dump("a..b"), 1, "a..b: BadOrigin\n"),
+    (Second(b"", 0, 1), Init(OTHER, true), 1, EXISTS),
+    (Left, DUMP, 3, "example.device: Device\n"),
+    (Nothing, Init(NO_TTL, false), 1, "other.zone:1: NoTtl\n"),
+    (Left, DUMP, 3, "example.device: Device\n"),
+    (Nothing, Init(LARGE, false), 1, TOO_LARGE),
+    (Left, Dump("other."), 3, "other.device: Device\n"),
+    (First(b"", 0, LEN), DUMP, 1, "example.device: Blank\n"),
+    (First(b"", 1, LEN), DUMP, 1, "example.device: Damaged(0)\n"),
+    (
+        First(b"", 0, LEN + 1),
+        DUMP,
+        1,
+        "example.device: Geometry\n",
+    ),
+    (Left, Migrate, 1, "example.device: Geometry\n"),
+    (First(ROOT, 0, LEN), DUMP, 1, "example.device: OldFormat\n"),
+    (Left, Migrate, 1, "example.device: Damaged(1)\n"),
+    (Nothing, Migrate, 3, "example.device: Device\n"),
+    (Nothing, Init(OTHER, false), 0, FORMATTED),
+    (Old, DUMP, 1, "example.device: OldFormat\n"),
+    (
+        Left,
+        Migrate,
+        0,
+        "migrated example. version 1 serial 8\nother. already\n",
+    ),
+    (Left, Migrate, 0, "example. already\nother. already\n"),
+    (Left, DUMP, 0, CHANGED),
+];
+
+/// Whether a command ends with this status, and writes this: what is printed before what is told, which is
+/// nothing where it is done.
+fn ends(rt: &HostRuntime, heap: Heap, command: Command, status: u8, text: &str) -> bool {
+    let (mut out, mut err) = (Vec::new(rt.alloc()), Vec::new(rt.alloc()));
+    let ended = run(rt, heap, command, &mut out, &mut err);
+    let is_told = err.is_empty() == (status == 0);
+    ended == status
+        && is_told
+        && out.extend_from_slice(&err).is_ok()
+        && out.as_slice() == text.as_bytes()
+}
+
+/// The commands in turn; and a device that is served is neither shown nor migrated.
+#[test]
+fn commands(rt: HostRuntime) -> Result<(), Fail> {
+    let heap = heap(rt.alloc())?;
+    for (i, (before, command, status, text)) in RUNS.iter().enumerate() {
+        prepare(&rt, heap, *before)?;
+        assert!(rt; ends(&rt, heap, *command, *status, text), "run {i}");
+    }
+    let served = FileSectors::open(&rt, "example.device");
+    assert!(rt; served.is_ok());
+    for command in [DUMP, Migrate] {
+        assert!(rt; ends(&rt, heap, command, 3, "example.device: Device\n"));
+    }
+    Ok(())
+}

@@ -1,0 +1,305 @@
+//! A server over loopback, each time with its clients. The octets of replies are written out from RFC 1035,
+//! RFC 2136 and RFC 5936.
+use crate::clients::{Act, Clients};
+use crate::given::device;
+use dns_configuration::{DONE, File};
+use dns_devices::Devices;
+use dns_files::OpenDeviceError;
+use dns_memory::{Heap, heap};
+use dns_sectors::{DeviceError, MemorySectors};
+use dns_service::serve;
+use dns_zone::RecordList;
+use std::io;
+use std::test::Fail;
+
+/// The zone, in a master file.
+const ZONE: &str = "$TTL 3600
+@ SOA ns.example.com. hostmaster 7 7200 900 1209600 300
+@ NS ns.example.com.
+host1 A 192.0.2.1
+";
+
+/// What a configuration says of the zone: it may be updated and transferred from this machine.
+const SETTINGS: &str = "[[zone]]
+origin = \"example.\"
+file = \"example.zone\"
+device = \"example.device\"
+snapshot_sectors = 8
+journal_sectors = 16
+keep = 4
+update = [\"127.0.0.1/32\"]
+transfer = [\"127.0.0.1/32\"]
+";
+
+/// Devices in memory. There is one with the zone at each path, made as it is opened.
+#[derive(Clone, Copy)]
+struct InMemory(Heap);
+
+impl Devices<MemorySectors> for InMemory {
+    ghost found = { λ _ _ _. Unit {0} };
+
+    ghost made = { λ _ _ _ _. Unit {0} };
+
+    ghost opened = { λ _ _ _. Unit {0} };
+
+    fn has(&self, _path: &str) -> Result<bool, DeviceError> {
+        Ok(true)
+    }
+
+    fn make(&self, _path: &str, _len: usize) -> Result<MemorySectors, DeviceError> {
+        Err(DeviceError::Device)
+    }
+
+    fn open(&self, _path: &str) -> Result<MemorySectors, OpenDeviceError> {
+        device(self.0, ZONE, 8).ok_or(OpenDeviceError::Device)
+    }
+
+    fn remove(&self, _path: &str) {}
+}
+
+/// A run of a server for so many turns: what its clients do, the datagrams that they get, what they read on
+/// each connection up to its end, and the log after the address of the server.
+struct Run {
+    name: &'static str,
+    turns: u32,
+    acts: &'static [Act],
+    received: &'static [&'static str],
+    read: &'static [&'static str],
+    log: &'static str,
+}
+
+/// A question for the address of host1.example., and its reply.
+const QUERY: &str = "12340000000100000000000005686f737431076578616d706c650000010001";
+
+const REPLY: &str =
+    "12348400000100010000000005686f737431076578616d706c650000010001c00c0001000100000e100004c0000201";
+
+/// The question with another number, and its reply.
+const OTHER: &str = "12350000000100000000000005686f737431076578616d706c650000010001";
+
+const TO_OTHER: &str =
+    "12358400000100010000000005686f737431076578616d706c650000010001c00c0001000100000e100004c0000201";
+
+/// The first question and its reply on a stream, each after its length.
+const FRAMED_QUERY: &str = "001f12340000000100000000000005686f737431076578616d706c650000010001";
+
+const FRAMED_REPLY: &str =
+    "002f12348400000100010000000005686f737431076578616d706c650000010001c00c0001000100000e100004c0000201";
+
+/// Four requests on one stream: the question; an update that adds an address to host2; a question for it; and
+/// a request for the whole zone.
+const SESSION: &str = concat!(
+    "001f12340000000100000000000005686f737431076578616d706c650000010001",
+    "002f000b28000001000000010000076578616d706c65000006000105686f737432c00c0001000100000e100004c0000202",
+    "001f000c0000000100000000000005686f737432076578616d706c650000010001",
+    "0019000d00000001000000000000076578616d706c650000fc0001"
+);
+
+/// What comes back on it. The last one is the zone, with the SOA at its front and at its end, and both hosts
+/// between.
+const ANSWERS: &str = concat!(
+    "002f12348400000100010000000005686f737431076578616d706c650000010001c00c0001000100000e100004c0000201",
+    "000c000ba8000000000000000000",
+    "002f000c8400000100010000000005686f737432076578616d706c650000010001c00c0001000100000e100004c0000202",
+    "00b4000d84000001000500000000076578616d706c650000fc0001",
+    "c00c0006000100000e100031026e73076578616d706c6503636f6d000a686f73746d6173746572c00c",
+    "0000000800001c2000000384001275000000012c",
+    "c00c0002000100000e100002c025",
+    "05686f737431c00c0001000100000e100004c0000201",
+    "05686f737432c00c0001000100000e100004c0000202",
+    "c00c0006000100000e100018c025c0350000000800001c2000000384001275000000012c"
+);
+
+/// An update of 512 octets, which adds a TXT of empty strings, with one octet after it.
+const LONGER: &str = concat!(
+    "000b28000001000000010000076578616d706c650000060001c00c0010000100000e1001db",
+    "000000000000000000000000000000000000000000000000000000000000000000000000000000000000000000000000",
+    "000000000000000000000000000000000000000000000000000000000000000000000000000000000000000000000000",
+    "000000000000000000000000000000000000000000000000000000000000000000000000000000000000000000000000",
+    "000000000000000000000000000000000000000000000000000000000000000000000000000000000000000000000000",
+    "000000000000000000000000000000000000000000000000000000000000000000000000000000000000000000000000",
+    "000000000000000000000000000000000000000000000000000000000000000000000000000000000000000000000000",
+    "000000000000000000000000000000000000000000000000000000000000000000000000000000000000000000000000",
+    "000000000000000000000000000000000000000000000000000000000000000000000000000000000000000000000000",
+    "000000000000000000000000000000000000000000000000000000000000000000000000000000000000000000000000",
+    "0000000000000000000000000000000000000000000000000000000000000000000000000000000000000000"
+);
+
+const RUNS: &[Run] = &[
+    // A datagram of one octet has no reply, and the question has its own. Of two connections that are opened
+    // at one moment each gets all its replies: the update is answered before what is asked after it, and seen
+    // there.
+    Run {
+        name: "answers on each socket",
+        turns: 16,
+        acts: &[Act {
+            line: "listening on ",
+            datagrams: &["00", QUERY],
+            opened: 2,
+            written: &[(0, SESSION), (1, FRAMED_QUERY)],
+        }],
+        received: &[REPLY],
+        read: &[ANSWERS, FRAMED_REPLY],
+        log: "conn 0 open 127.0.0.1\nconn 1 open 127.0.0.1\nconn 1 closed\nconn 0 closed\n",
+    },
+    // One turn answers one of two datagrams.
+    Run {
+        name: "answers one datagram a turn",
+        turns: 1,
+        acts: &[Act {
+            line: "listening on ",
+            datagrams: &[QUERY, QUERY],
+            opened: 0,
+            written: &[],
+        }],
+        received: &[REPLY],
+        read: &[],
+        log: "",
+    },
+    // Ten turns answer the first ten of twelve datagrams, in their order, though the others are read before
+    // the ninth is answered: the last two replies wait for those to the others, and go out when the last turn
+    // has ended.
+    Run {
+        name: "answers what was read ahead",
+        turns: 10,
+        acts: &[Act {
+            line: "listening on ",
+            datagrams: &[
+                QUERY, QUERY, QUERY, QUERY, QUERY, QUERY, QUERY, QUERY, OTHER, QUERY, "00", OTHER,
+            ],
+            opened: 0,
+            written: &[],
+        }],
+        received: &[
+            REPLY, REPLY, REPLY, REPLY, REPLY, REPLY, REPLY, REPLY, TO_OTHER, REPLY,
+        ],
+        read: &[],
+        log: "",
+    },
+    // A datagram of 513 octets is read so far that it is told from one of 512.
+    Run {
+        name: "refuses a datagram of 513 octets",
+        turns: 1,
+        acts: &[Act {
+            line: "listening on ",
+            datagrams: &[LONGER],
+            opened: 0,
+            written: &[],
+        }],
+        received: &["000ba8010000000000000000"],
+        read: &[],
+        log: "",
+    },
+    // Two hundred datagrams of one octet and a connection come; and when that is closed, a second one. A
+    // server that reads a datagram in every turn, and so never waits, accepts a connection that is opened
+    // after it found none.
+    Run {
+        name: "accepts while datagrams come",
+        turns: 190,
+        acts: &[
+            Act {
+                line: "listening on ",
+                datagrams: &["00"; 200],
+                opened: 1,
+                written: &[(0, FRAMED_QUERY)],
+            },
+            Act {
+                line: "conn 0 closed",
+                datagrams: &[],
+                opened: 1,
+                written: &[(1, FRAMED_QUERY)],
+            },
+        ],
+        received: &[],
+        read: &[FRAMED_REPLY; 2],
+        log: "conn 0 open 127.0.0.1\nconn 0 closed\nconn 0 open 127.0.0.1\nconn 0 closed\n",
+    },
+    // Two hundred datagrams of one octet come, and two connections, of which one is silent. When the other is
+    // closed, a third one; and when that is closed too, the silent one speaks. It was silent for many turns,
+    // in each of which a datagram came, so that the server never waited; and it is answered at last.
+    Run {
+        name: "hears a silent connection while datagrams come",
+        turns: 190,
+        acts: &[
+            Act {
+                line: "listening on ",
+                datagrams: &["00"; 200],
+                opened: 2,
+                written: &[(1, FRAMED_QUERY)],
+            },
+            Act {
+                line: "conn 1 closed",
+                datagrams: &[],
+                opened: 1,
+                written: &[(2, FRAMED_QUERY)],
+            },
+            Act {
+                line: "conn 1 closed",
+                datagrams: &[],
+                opened: 0,
+                written: &[(0, FRAMED_QUERY)],
+            },
+        ],
+        received: &[],
+        read: &[FRAMED_REPLY; 3],
+        log: "conn 0 open 127.0.0.1\nconn 1 open 127.0.0.1\nconn 1 closed\n\
+              conn 1 open 127.0.0.1\nconn 1 closed\nconn 0 closed\n",
+    },
+];
+
+/// A configuration with this text.
+fn configuration(text: &str) -> File<'_> {
+    File {
+        path: "dnsprim.toml",
+        octets: Some(text.as_bytes()),
+    }
+}
+
+/// Has a server run for so many turns with these clients, and gives its exit status.
+fn served(rt: &HostRuntime, heap: Heap, clients: &mut Clients<'_>, turns: u32) -> io::Result<u8> {
+    let server = clients.server;
+    let text = format!(in heap; "listen = \"{server}\"\n{SETTINGS}")?;
+    let config = configuration(&text);
+    let alloc = rt.alloc();
+    let devices = InMemory(heap);
+    Ok(serve::<MemorySectors, _, RecordList, _, _>(
+        alloc, heap, rt, &devices, &config, turns, false, clients,
+    ))
+}
+
+/// Whether the log is what a run says.
+fn has_log(heap: Heap, clients: &Clients<'_>, log: &str) -> io::Result<bool> {
+    let server = clients.server;
+    let log = format!(in heap; "zone example. version 0 serial 7\nlistening on {server}\n{log}")?;
+    Ok(clients.log.as_slice() == log.as_bytes())
+}
+
+/// Whether a run with these clients is as it says.
+fn is_so(rt: &HostRuntime, heap: Heap, clients: &mut Clients<'_>, run: &Run) -> io::Result<bool> {
+    let mut is_so = served(rt, heap, clients, run.turns)? == DONE;
+    for octets in run.received {
+        is_so = clients.has_received(octets)? && is_so;
+    }
+    is_so = clients.has_no_more() && is_so;
+    for number in 0..run.read.len() {
+        is_so = clients.has_read(number, run.read[number])? && is_so;
+    }
+    Ok(has_log(heap, clients, run.log)? && is_so)
+}
+
+/// Whether a run is as it says.
+fn holds(rt: &HostRuntime, heap: Heap, run: &Run) -> io::Result<bool> {
+    let mut clients = Clients::new(rt, heap, run.acts)?;
+    let told = is_so(rt, heap, &mut clients, run);
+    drop(clients);
+    told
+}
+
+#[test]
+fn loopback(rt: HostRuntime) -> Result<(), Fail> {
+    let heap = heap(rt.alloc())?;
+    for run in RUNS {
+        assert!(rt; holds(&rt, heap, run)?, "{}", run.name);
+    }
+    Ok(())
+}
