@@ -1,4 +1,4 @@
-// Answers each datagram with its own octets and one address behind them: what the calls of the system take at the least, where one
+// Answers each datagram with its own octets and one address after them: what the calls of the system take at the least, where one
 // datagram is read and one sent in a call, or, with the word `many`, up to 64. The words: the port, and `one` or `many`.
 #define _GNU_SOURCE
 #include <arpa/inet.h>

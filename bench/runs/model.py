@@ -32,7 +32,7 @@ def is_under(name, above):
 
 
 def read_name(octets, at):
-    """The name at a place, and the place behind it; each pointer leads below the run of labels that it ends (RFC 1035 section 4.1.4)."""
+    """The name at an offset, and the offset after it; each pointer leads below the run of labels that it ends (RFC 1035 section 4.1.4)."""
     labels, end, run, size = [], None, at, 1
     while True:
         if at >= len(octets):

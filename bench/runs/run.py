@@ -86,7 +86,7 @@ class Maker:
     # Messages.
 
     def packed(self, name, octets, places):
-        """A name in a message, now and then behind a pointer and in capitals."""
+        """A name in a message, now and then after a pointer and in capitals."""
         made, at = b"", len(octets)
         for i, label in enumerate(name):
             if name[i:] in places and self.random.random() < 0.5:

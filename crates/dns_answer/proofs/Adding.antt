@@ -12,7 +12,7 @@ use Rattle.dns_zone.specs.Records.{same, rrset}
 use Rattle.dns_zone.specs.Zone.{Zone}
 use Rattle.dns_lookup.specs.Lookup.{Found}
 use Rattle.dns_answer.specs.Sections.{Shown, from_zone, addresses_for, unseen, records_of, answer_of, authority_of}
-use Rattle.dns_answer.specs.Added.{AddsUnseen, AreSections}
+use Rattle.dns_answer.specs.Added.{AddsUnseen, AreReplySections}
 use Rattle.dns_answer.specs.Known.{stood}
 use Rattle.dns_answer.specs.declared.additional.Sections.{Sections}
 
@@ -107,7 +107,7 @@ next_addresses z rs i r inside is =
 
 -- both kinds of addresses behind both sections
 pub gathered : (t : ℕ) (fs : List Found) (bare whole : Sections) → bare.answer.items ≡ records_of (answer_of t fs) → bare.authority.items ≡ records_of (authority_of fs) → bare.additional.items ≡ []
-    → AddsUnseen bare whole (flat_map addresses_for (answer_of t fs) ++ flat_map addresses_for (authority_of fs)) → AreSections t fs whole
+    → AddsUnseen bare whole (flat_map addresses_for (answer_of t fs) ++ flat_map addresses_for (authority_of fs)) → AreReplySections t fs whole
 gathered t fs bare whole answer authority none added =
     let first = records_of (answer_of t fs) in
     let second = records_of (authority_of fs) in

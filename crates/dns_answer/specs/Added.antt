@@ -6,7 +6,7 @@ use Rattle.dns_lookup.specs.Lookup.{Found}
 use Rattle.dns_answer.specs.Sections.{unseen, records_of, answer_of, authority_of, additional_of}
 use Rattle.dns_answer.specs.declared.additional.Sections.{Sections}
 
--- Of some records, those that stood nowhere in the reply go behind its additional section, each once.
+-- Of some records, those that were nowhere in the reply are appended to its additional section, each once.
 pub record AddsUnseen (before after : Sections) (records : List Record) : Type 0 where
   pub answer : after.answer.items ≡ before.answer.items
   pub authority : after.authority.items ≡ before.authority.items
@@ -29,7 +29,7 @@ pub record AddsUpTo (most : ℕ) (before after : Sections) (records : List Recor
   pub idle : most < count_of before → first ≡ []
 
 -- The sections are those of the reply to what a question found.
-pub record AreSections (t : ℕ) (found : List Found) (s : Sections) : Type 0 where
+pub record AreReplySections (t : ℕ) (found : List Found) (s : Sections) : Type 0 where
   pub answer : s.answer.items ≡ records_of (answer_of t found)
   pub authority : s.authority.items ≡ records_of (authority_of found)
   pub additional : s.additional.items ≡ additional_of (answer_of t found ++ authority_of found)
@@ -44,7 +44,7 @@ reply_count t found =
 pub record AreSectionsUpTo (most t : ℕ) (found : List Found) (s : Sections) : Type 0 where
   pub answer : s.answer.items ≡ records_of (answer_of t found)
   pub authority : s.authority.items ≡ records_of (authority_of found)
-  pub whole : count_of s ≤ most → AreSections t found s
+  pub whole : count_of s ≤ most → AreReplySections t found s
   pub more : most < count_of s → most < reply_count t found
 
 -- One record is all that the sections of that reply have.

@@ -35,8 +35,8 @@ fn is_same(shown: &ReplyRecord<'_>, stored: &Record) -> bool
         & (stored.ttl() == shown.ttl())
 }
 
-/// Whether a record goes out already. The place, behind the record that was found last, is where it is looked
-/// for first.
+/// Whether a record goes out already. The position, after the record that was found last, is where it is
+/// looked for first.
 fn is_among(shown: &[ReplyRecord<'_>], stored: &Record, place: &mut usize) -> bool
     ensures { result ≡ list_any (same stored.now) shown.now }
 {
@@ -89,8 +89,8 @@ impl<'a> Sections<'a> {
         count.saturating_add(self.additional.len()) > most as usize
     }
 
-    /// Puts a record behind the others, unless it stands in the reply already: at the place, before others
-    /// are looked at.
+    /// Appends a record to the others, unless it is in the reply already: this is checked at the position
+    /// before others are looked at.
     fn push_record(&mut self, stored: &'a Record, place: &mut usize) -> Result<(), AllocError>
         ensures { OnOk result (AddsUnseen self.old self.new (stored.now ∷ [])) }
     {
@@ -105,7 +105,7 @@ impl<'a> Sections<'a> {
         Ok(())
     }
 
-    /// Puts records behind the others, but those that stand in the reply already, until there are more than
+    /// Appends records to the others, except those that are in the reply already, until there are more than
     /// so many.
     fn push_records(&mut self, records: &'a [Record], most: u16) -> Result<(), AllocError>
         ensures { OnOk result (AddsUpTo most self.old self.new records.now) }
@@ -120,7 +120,7 @@ impl<'a> Sections<'a> {
         Ok(())
     }
 
-    /// Puts records behind the others, none of which stands in the reply, until there are more than so many.
+    /// Appends records to the others, none of which is in the reply, until there are more than so many.
     fn push_new(&mut self, records: &'a [Record], most: u16) -> Result<(), AllocError>
         requires { none_stands (stood self.old) records.now ≡ true }
         ensures { OnOk result (AddsUpTo most self.old self.new records.now) }
@@ -135,7 +135,7 @@ impl<'a> Sections<'a> {
         Ok(())
     }
 
-    /// Puts in the addresses that stand exactly at a host of the zone.
+    /// Puts in the addresses that are exactly at a host of the zone.
     fn push_addresses_of<I: ZoneIndex>(
         &mut self,
         zone: &'a Zone<I>,
@@ -171,7 +171,7 @@ impl<'a> Sections<'a> {
     }
 
     /// Puts in the addresses that go with a record of the zone: those of the host of an NS, an MX or an SRV
-    /// (RFC 1034 section 4.3.2, step 6; RFC 2782). A host that stands among the known ones is not looked up
+    /// (RFC 1034 section 4.3.2, step 6; RFC 2782). A host that is among the known ones is not looked up
     /// again. Its addresses are looked for in the reply where it is one of the owners.
     fn push_for<'b, I: ZoneIndex>(
         &mut self,
@@ -214,7 +214,7 @@ impl<'a> Sections<'a> {
     }
 
     /// Puts in the addresses that go with records of the zone, until there are more than so many, where those
-    /// that stand already have these owners.
+    /// that are there already have these owners.
     fn push_for_each<I: ZoneIndex>(
         &mut self,
         alloc: Heap,

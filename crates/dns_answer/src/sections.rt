@@ -105,7 +105,7 @@ pub(crate) fn server_count(found: &[Found<'_>]) -> usize
     }
 }
 
-/// Puts records of a zone behind others, with the name that was asked as their owner (RFC 1034 section 4.3.2,
+/// Appends records of a zone to others, with the name that was asked as their owner (RFC 1034 section 4.3.2,
 /// step 3c).
 fn put_under<'a>(
     shown: &mut Vec<ReplyRecord<'a>, Heap>,
@@ -138,7 +138,7 @@ pub(crate) fn answer_section<'a>(
     Ok(shown)
 }
 
-/// Records as they stand in their zone.
+/// Records as they are stored in their zone.
 fn as_they_are<'a>(
     alloc: Heap,
     records: &'a [Record],

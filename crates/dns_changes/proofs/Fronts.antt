@@ -6,7 +6,7 @@ use Rattle.std.proofs.lemmas.List.{take-append-drop, get_or_default}
 use Rattle.dns_names.specs.Name.{Labels, names_eq}
 use Rattle.dns_zone.specs.Order.{names_itself}
 use Rattle.dns_zone.proofs.Searching.{told_nat}
-use Rattle.dns_changes.specs.Group.{IsGroup}
+use Rattle.dns_changes.specs.Group.{IsOwnerGroup}
 
 module _ {X : Type 0} (owner : X → Labels) where
   abbrev pub OwnedWithin : Labels → List X → ℕ → Type 0
@@ -26,7 +26,7 @@ module _ {X : Type 0} (owner : X → Labels) where
         subst (λ (s : X). names_eq (owner s) name ≡ true) there e)
   ]
 
-  pub group_is : (first : X) (others xs g rest : List X) (n m : ℕ) → xs ≡ first ∷ others → m ≡ suc n → n ≤ length others → OwnedWithin (owner first) others n → g ≡ take m xs → rest ≡ drop m xs → IsGroup owner xs first g rest
+  pub group_is : (first : X) (others xs g rest : List X) (n m : ℕ) → xs ≡ first ∷ others → m ≡ suc n → n ≤ length others → OwnedWithin (owner first) others n → g ≡ take m xs → rest ≡ drop m xs → IsOwnerGroup owner xs first g rest
   group_is first others xs g rest n m e f bound h a b =
       let size = length-drop n others in
       let front : g ≡ first ∷ take n others = a ∙ (λ i. take (f i) (e i)) in

@@ -9,7 +9,7 @@ use Rattle.dns_records.specs.Record.{Record, record_cmp}
 use Rattle.dns_names.specs.Name.{names_eq}
 use Rattle.dns_records.specs.Compare.{same_record, same_record-Decides, same_record-equiv}
 use Rattle.dns_zone.specs.Records.{is_ordered, has, put, without, united, same, alike, contains, rrset}
-use Rattle.dns_zone.specs.Place.{StandsAt, BelongsAt}
+use Rattle.dns_zone.specs.Place.{IsRecordAt, BelongsAt}
 use Rattle.dns_zone.specs.Zone.{has_twice}
 use Rattle.dns_zone.specs.Order.{record_total, both_true, same_is, same_itself, names_itself, number_itself, tied_key}
 use Rattle.dns_zone.specs.Twice.{alike_is, alike_flips, any_by}
@@ -203,7 +203,7 @@ among_none r xs h e = elim (true_or_false (contains xs r)) [
   | inl c ↦ (let some : is_some (found r xs) ≡ true = ap is_some (contains_found r xs h c) in let none = has_is r xs in absurd cc)
 ]
 
-pub ok_has : (r : Record) (xs : List Record) (at : Result ℕ ℕ) → IfOk at (StandsAt r xs) → IfErr at (BelongsAt r xs) → is_ok at ≡ has r xs
+pub ok_has : (r : Record) (xs : List Record) (at : Result ℕ ℕ) → IfOk at (IsRecordAt r xs) → IfErr at (BelongsAt r xs) → is_ok at ≡ has r xs
 ok_has r xs (Ok at) h k = sym h.there
 ok_has r xs (Err at) h k = sym k.absent
 

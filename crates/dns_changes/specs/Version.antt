@@ -23,6 +23,6 @@ pub record IsVersion (before : Zone) (after : List Record) : Type 0 where
   pub serial : greater (serial_in (soas after)) (serial_in (soas before.records)) ≡ true
 
 -- The change can be applied to the zone and gives those records, which are such a version.
-pub record IsNext (z : Zone) (c : Change) (after : List Record) : Type 0 where
+pub record IsVersionAfter (z : Zone) (c : Change) (after : List Record) : Type 0 where
   pub leads : LeadsTo c z.records after
   pub version : IsVersion z after

@@ -14,8 +14,8 @@ use dns_records::types::SOA;
 use dns_zone::ZoneIndex;
 use std::alloc::AllocError;
 
-/// Whether the record is no SOA, and not among the others with its TTL. It is searched from a place on, and
-/// the place is moved to it.
+/// Whether the record is no SOA, and not among the others with its TTL. It is searched for from a position
+/// on, and the position is moved to it.
 fn is_lone(r: &Record, others: &[Record], near: &mut usize) -> bool
     requires { is_ordered others.now ≡ true }
     ensures { result ≡ is_lone others.now r.now }

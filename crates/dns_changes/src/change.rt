@@ -163,9 +163,9 @@ impl Change {
     }
 }
 
-/// Whether the record is one of these, which stand in order, with its TTL. It is looked for at a place first,
-/// and then from there on, and the place is moved behind it, so that records that are looked for in order are
-/// found soon.
+/// Whether the record is one of these, which are in order, with its TTL. It is looked for at a position
+/// first, and then from there on, and the position is moved past it, so that records that are looked for in
+/// order are found soon.
 pub(crate) fn is_among(records: &[Record], wanted: &Record, near: &mut usize) -> bool
     requires { is_ordered records.now ≡ true }
     ensures { result ≡ contains records.now wanted.now }

@@ -1,4 +1,4 @@
-//! The octets of a change in a journal: the old SOA and the new one in plain form, and each list behind its
+//! The octets of a change in a journal: the old SOA and the new one in plain form, and each list after its
 //! count.
 ghost use Rattle.std.specs.Prelude.{◌≡◌, ℕ, ◌⊎◌, ◌+◌, ◌*◌, ◌<◌, ◌≤◌, ◌^◌, List, ◌++◌, length, IfOk, IfErr};
 ghost use Rattle.std.specs.Prelude.{OnOk, IfSome, IfNone, MatchResult};
@@ -74,7 +74,7 @@ fn write_counted(out: &mut Vec<u8, Heap>, records: &[Record]) -> Result<(), Allo
     Ok(())
 }
 
-/// The record in plain form at the front of octets, and what is behind it.
+/// The record in plain form at the front of octets, and what follows it.
 pub fn split_record(alloc: Heap, octets: &[u8]) -> Result<(Record, &[u8]), ChangeError>
     ensures found { IfOk result (λ r. IsRecord r.0 × (octets.now ≡ plain r.0 ++ r.1.now)) }
     ensures refused { IfErr result (λ e. (e ≡ ChangeError.OutOfMemory) ⊎ (e ≡ ChangeError.BadBytes)) }
@@ -102,7 +102,7 @@ fn fault_of(error: RecordError) -> ChangeError
     }
 }
 
-/// A number of 32 bits, the high octet first, and the octets behind it.
+/// A number of 32 bits, the high octet first, and the octets after it.
 fn split_count(octets: &[u8]) -> Option<(u32, &[u8])>
     ensures found { IfSome result (λ r. (r.0 < 2 ^ 32) × (octets.now ≡ to_be_bytes w32 r.0 ++ r.1.now)) }
     ensures none { IfNone result (length octets.now < 4) }
@@ -111,7 +111,7 @@ fn split_count(octets: &[u8]) -> Option<(u32, &[u8])>
     Some((u32::from_be_bytes(*number), rest))
 }
 
-/// The records behind their count at the front of octets, and what is behind them.
+/// The records after their count at the front of octets, and what follows them.
 fn split_counted(alloc: Heap, octets: &[u8]) -> Result<(Vec<Record, Heap>, &[u8]), ChangeError>
     ensures found { IfOk result
         (λ r. AllByRecursion IsRecord r.0.items × (length r.0.items < 2 ^ 32)

@@ -4,7 +4,7 @@ ghost use Rattle.std.specs.List.{AllWithin, list_all, list_any};
 ghost use Rattle.dns_names.specs.Name.{names_eq};
 ghost use Rattle.dns_zone.specs.Records.{are_of, contains, has, is_ordered, put, united};
 ghost use Rattle.dns_changes.specs.Change.{are_present, are_new, removed_from};
-ghost use Rattle.dns_changes.specs.Group.{IsGroup};
+ghost use Rattle.dns_changes.specs.Group.{IsOwnerGroup};
 
 use crate::change::is_among;
 use dns_memory::Heap;
@@ -29,7 +29,7 @@ fn count_owned(records: &[Record], name: &NameRef<'_>) -> usize
 fn first_group(records: &[Record]) -> Option<(&Record, &[Record], &[Record])>
     ensures { MatchOption result
         (length records.now ≡ 0)
-        (λ group. IsGroup (λ r. r.owner) records.now group.0.now group.1.now group.2.now) }
+        (λ group. IsOwnerGroup (λ r. r.owner) records.now group.0.now group.1.now group.2.now) }
 {
     let (first, others) = records.split_first()?;
     let count = count_owned(others, &first.owner().lend());
@@ -157,7 +157,7 @@ fn merged(alloc: Heap, records: &[Record], come: &[Record]) -> Result<Vec<Record
     Ok(all)
 }
 
-/// The records before one, and those behind it: one of equal owner, type and data is neither.
+/// The records before one, and those after it: one of equal owner, type and data is neither.
 fn parted<'r>(records: &'r [Record], r: &Record) -> (&'r [Record], &'r [Record])
     requires { is_ordered records.now ≡ true }
     ensures parts { put r.now records.now ≡ result.0.now ++ r.now ∷ result.1.now }

@@ -28,7 +28,7 @@ pub enum ChangeError {
     /// A record that is to go isn't there, with its TTL, or goes twice.
     #[error("a record that is to go is not there")]
     RemovesAbsent,
-    /// A record that is to come is there already behind the removal, whatever its TTL, or comes twice.
+    /// A record that is to come is there already after the removal, whatever its TTL, or comes twice.
     #[error("a record that is to come is there already")]
     AddsPresent,
     /// The octets are the entry of no change.

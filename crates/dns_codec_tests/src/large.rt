@@ -10,17 +10,20 @@ use std::io::Write;
 use std::test::Fail;
 
 /// How many addresses there are.
-const HOSTS: u32 = 40000;
+pub(crate) const HOSTS: u32 = 40000;
 
-/// A master file of a SOA, an NS and as many addresses.
-pub(crate) fn file(heap: Heap) -> Result<String<Heap>, AllocError> {
+/// A master file of a SOA, an NS and so many addresses.
+pub(crate) fn file(heap: Heap, hosts: u32) -> Result<String<Heap>, AllocError> {
     let mut text = String::new(heap);
     text.push_str("$TTL 3600\n@ SOA ns host 7 7200 900 1209600 300\n@ NS ns\n")?;
-    for host in 0..HOSTS {
+    for host in 0..hosts {
         write!(text, "h{host:05} A 192.0.2.1\n")?;
     }
     Ok(text)
 }
+
+/// A request for the whole zone `w.` (RFC 5936 section 2.1).
+const WHOLE: &[u8] = b"\0\x0c\0\0\0\x01\0\0\0\0\0\0\x01w\0\0\xfc\0\x01";
 
 /// The answer to a request, with the whole zone.
 fn answer(heap: Heap, zone: &Zone<RecordList>, request: &[u8]) -> Option<Session<RecordList>> {
@@ -79,8 +82,19 @@ fn messages(heap: Heap, zone: &Zone<RecordList>) -> Option<(u32, bool)> {
 
 /// The same of the zone of the file.
 fn messages_of_file(heap: Heap) -> Option<(u32, bool)> {
-    let text = file(heap).ok()?;
+    let text = file(heap, HOSTS).ok()?;
     messages(heap, &zone(heap, "w.", text.as_str())?)
+}
+
+/// How many calls for memory opening a transfer of a zone with so many addresses makes.
+fn calls(heap: Heap, hosts: u32) -> Option<u64> {
+    let text = file(heap, hosts).ok()?;
+    let zone = zone(heap, "w.", text.as_str())?;
+    heap.refuse(0);
+    let session = answer(heap, &zone, WHOLE)?;
+    let calls = heap.calls();
+    drop(session);
+    Some(calls)
 }
 
 #[test]
@@ -88,5 +102,6 @@ fn forty_thousand_records(rt: HostRuntime) -> Result<(), Fail> {
     let heap = heap(rt.alloc())?;
     let (count, is_held) = messages_of_file(heap).ok_or("an answer that is over")?;
     assert!(rt; is_held && count > 40, "{count} messages");
+    assert!(rt; calls(heap, 9).is_some() && calls(heap, HOSTS) <= calls(heap, 9));
     Ok(())
 }

@@ -1,5 +1,5 @@
 //! A transfer of a large zone, and what becomes of it while the zone changes (RFC 5936 section 3).
-use crate::large::file;
+use crate::large::{HOSTS, file};
 use dns_configuration::{DONE, File};
 use dns_memory::{Heap, heap};
 use dns_server::replay;
@@ -91,7 +91,7 @@ fn agreed(still: &[u8], changed: &[u8]) -> (usize, usize) {
 /// In how many lines the run with the change agrees with the one without it, and how often the update was
 /// accepted.
 fn seen(alloc: Global, heap: Heap) -> Option<(usize, usize)> {
-    let zone = file(heap).ok()?;
+    let zone = file(heap, HOSTS).ok()?;
     let still = printed(alloc, heap, zone.as_str(), "")?;
     let changed = printed(alloc, heap, zone.as_str(), CHANGED)?;
     Some(agreed(&still, &changed))

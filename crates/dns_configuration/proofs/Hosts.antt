@@ -6,10 +6,10 @@ use Rattle.std.specs.declared.net.ip_addr.IpAddr.TheVariants.{V4, V6}
 use Rattle.std.specs.declared.net.ipv4_addr.Ipv4Addr.{Ipv4Addr}
 use Rattle.std.specs.declared.net.ipv6_addr.Ipv6Addr.{Ipv6Addr}
 use Rattle.dns_policy.specs.Address.{IsAddress}
-use Rattle.dns_configuration.specs.Settings.{Finds, IsHost}
+use Rattle.dns_configuration.specs.Settings.{FindsIfAny, IsHost}
 
 -- Nothing is found.
-pub found_none : {A : Type 0} (P : A → Type 0) (o : Option A) → o ≡ None → ((x : A) → P x → ⊥) → Finds P o
+pub found_none : {A : Type 0} (P : A → Type 0) (o : Option A) → o ≡ None → ((x : A) → P x → ⊥) → FindsIfAny P o
 found_none P None e none = none
 found_none P (Some x) e none = absurd cc
 
@@ -25,6 +25,6 @@ inner_same text xs ys e f = append_cancel_right xs ys (93 ∷ []) (tails (xs ++ 
     tails : (a b : List ℕ) → 91 ∷ a ≡ 91 ∷ b → a ≡ b
     tails a b e = cc
 
-pub between : (text inner : List ℕ) (o : Option Ipv6Addr) → text ≡ 91 ∷ inner ++ 93 ∷ [] → Finds (λ a. IsAddress inner (V6 a)) o → Finds (λ a. IsHost text (V6 a)) o
+pub between : (text inner : List ℕ) (o : Option Ipv6Addr) → text ≡ 91 ∷ inner ++ 93 ∷ [] → FindsIfAny (λ a. IsAddress inner (V6 a)) o → FindsIfAny (λ a. IsHost text (V6 a)) o
 between text inner None e none = λ a h. none a (subst (λ (t : List ℕ). IsAddress t (V6 a)) (inner_same text h.0 inner h.1 e) h.2)
 between text inner (Some a) e h = (inner, e, h)

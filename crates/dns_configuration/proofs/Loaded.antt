@@ -10,7 +10,7 @@ use Rattle.dns_configuration.specs.declared.configuration.ZoneSettings.{ZoneSett
 use Rattle.dns_configuration.specs.declared.files.File.{File}
 use Rattle.dns_configuration.specs.declared.files.Fault.{Fault}
 use Rattle.dns_configuration.specs.Faults.{is_memory}
-use Rattle.dns_configuration.specs.Files.{IsFirstFault, IsLoaded, loaded_by, octets_at}
+use Rattle.dns_configuration.specs.Files.{IsFirstFault, IsLoadedFrom, loaded_by, octets_at}
 
 -- The first file with a path, from a place on.
 pub file_here : (files : List File) (path : List ℕ) (i : ℕ) (f : File) → i < length files → bytes_eq (get_or files i f).path.now path ≡ true → octets_at (drop i files) path ≡ option_copied (get_or files i f).octets
@@ -28,12 +28,12 @@ zip_more R (x ∷ xs) (suc n) d [] y inside h r = absurd h
 zip_more R (x ∷ xs) (suc n) d (w ∷ ws) y inside h r = (h.0, zip_more R xs n d ws y (omega (arith, inside)) h.1 r)
 
 -- The first zone whose file holds none.
-pub first_fault : (files : List File) (all : List ZoneSettings) (n : ℕ) (z : ZoneSettings) (zones : List Zone) (path : List ℕ) (fault : Fault) → n < length all → AllZip (IsLoaded files) (take n all) zones → path ≡ string_bytes (get_or all n z).file → loaded_by files (get_or all n z) ≡ Err fault → IsFirstFault files all path fault
+pub first_fault : (files : List File) (all : List ZoneSettings) (n : ℕ) (z : ZoneSettings) (zones : List Zone) (path : List ℕ) (fault : Fault) → n < length all → AllZip (IsLoadedFrom files) (take n all) zones → path ≡ string_bytes (get_or all n z).file → loaded_by files (get_or all n z) ≡ Err fault → IsFirstFault files all path fault
 first_fault files [] n z zones path fault inside h p k = absurd (omega (arith, inside))
 first_fault files (x ∷ xs) zero z zones path fault inside h p k = inl (p, k)
 first_fault files (x ∷ xs) (suc n) z [] path fault inside h p k = absurd h
 first_fault files (x ∷ xs) (suc n) z (w ∷ ws) path fault inside h p k = inr (h.0.records, h.0.read, first_fault files xs n z ws path fault (omega (arith, inside)) h.1 p k)
 
-pub fault_or_memory : (files : List File) (all : List ZoneSettings) (n : ℕ) (z : ZoneSettings) (zones : List Zone) (path : List ℕ) (fault : Fault) → n < length all → AllZip (IsLoaded files) (take n all) zones → path ≡ string_bytes (get_or all n z).file → ((is_memory fault ≡ true) ⊎ (loaded_by files (get_or all n z) ≡ Err fault)) → (is_memory fault ≡ true) ⊎ IsFirstFault files all path fault
+pub fault_or_memory : (files : List File) (all : List ZoneSettings) (n : ℕ) (z : ZoneSettings) (zones : List Zone) (path : List ℕ) (fault : Fault) → n < length all → AllZip (IsLoadedFrom files) (take n all) zones → path ≡ string_bytes (get_or all n z).file → ((is_memory fault ≡ true) ⊎ (loaded_by files (get_or all n z) ≡ Err fault)) → (is_memory fault ≡ true) ⊎ IsFirstFault files all path fault
 fault_or_memory files all n z zones path fault inside h p (inl memory) = inl memory
 fault_or_memory files all n z zones path fault inside h p (inr k) = inr (first_fault files all n z zones path fault inside h p k)

@@ -9,7 +9,7 @@ use Rattle.std.specs.Str.Pattern.{RFindsChar, SplitsAroundMatch}
 use Rattle.std.proofs.lemmas.Str.Pattern.{NoCharPasses-char, drop_at_char}
 use Rattle.std.specs.Net.Socket.{socket_ip, socket_port}
 use Rattle.std.specs.declared.net.socket_addr.SocketAddr.{SocketAddr}
-use Rattle.dns_configuration.specs.Settings.{Finds, HasNone, IsLastParted, IsListener, IsHost, IsPort}
+use Rattle.dns_configuration.specs.Settings.{FindsIfAny, HasNone, IsLastParted, IsListener, IsHost, IsPort}
 
 own : IsNumeralModel (AllDigits 10) (digits_value 10)
 own = numerals_by_value (AllDigits 10) tells_digits
@@ -34,7 +34,7 @@ no_port_behind text n low h =
     absurd (omega (arith, first, same, low))
 
 -- A number in text whose first octet is none of `0` and `+` is a port, and what is read as no number is none.
-pub port_is : {E : Type 0} (text : List ℕ) (r : Result ℕ E) → ParsesUnsigned 16 10 text r → get_or text 0 0 ≢ 48 → get_or text 0 0 ≢ 43 → Finds (IsPort text) (result_ok r)
+pub port_is : {E : Type 0} (text : List ℕ) (r : Result ℕ E) → ParsesUnsigned 16 10 text r → get_or text 0 0 ≢ 48 → get_or text 0 0 ≢ 43 → FindsIfAny (IsPort text) (result_ok r)
 port_is text (Err e) h no_zero no_plus = λ n p. (let read = parse-decimal 16 n text (Err e) p.1 (omega (arith, p.1)) p.2 h in absurd cc)
 port_is text (Ok n) h no_zero no_plus =
     let plain : without_leading_plus text ≡ text = without_leading_plus_none text no_plus in

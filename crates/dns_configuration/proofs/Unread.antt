@@ -13,7 +13,7 @@ use Rattle.dns_names.specs.Text.{name_of_text}
 use Rattle.std.specs.Str.{IsUtf8}
 use Rattle.std.specs.declared.net.ip_addr.IpAddr.{IpAddr}
 use Rattle.std.specs.declared.net.socket_addr.SocketAddr.{SocketAddr}
-use Rattle.dns_policy.specs.Prefix.{Explains, IsPrefix}
+use Rattle.dns_policy.specs.Prefix.{ExplainsPrefix, IsPrefix}
 use Rattle.dns_policy.specs.declared.PrefixError.{PrefixError}
 use Rattle.dns_policy.proofs.Prefixes.{no_prefix}
 use Rattle.toml.specs.Parse.{parse_document}
@@ -21,7 +21,7 @@ use Rattle.toml.specs.Data.{Data, Items, Members, as_str, as_table, item, string
 use Rattle.toml.specs.View.{items_of, items_view, members_of, members_view, view}
 use Rattle.toml.specs.declared.value.Value.{Value}
 use Rattle.dns_configuration.specs.declared.configuration.ZoneSettings.{ZoneSettings}
-use Rattle.dns_configuration.specs.Settings.{ArePrefixes, AreSettings, Describes, IsListener, HasPrefix, HasPrefixes, IsDescribedBy, IsSettings, Reads, are_alike, has_keys, key_count, list_at, text_at}
+use Rattle.dns_configuration.specs.Settings.{ArePrefixes, AreSettings, Describes, IsListener, HasPrefix, HasPrefixes, IsDescribedBy, IsSettings, ReadsOrFails, are_alike, has_keys, key_count, list_at, text_at}
 use Rattle.dns_configuration.specs.declared.configuration.Configuration.{Configuration}
 use Rattle.dns_configuration.specs.declared.configuration.ConfigurationError.{ConfigurationError}
 use Rattle.dns_configuration.specs.declared.configuration.ConfigurationError.TheVariants.{OutOfMemory, BadConfig}
@@ -66,7 +66,7 @@ keys_of_table (array x) xs n count e long = absurd cc
 pub no_text : (d : Data) (p : IpAddr × ℕ) → None ≡ as_str d → HasPrefix d p → ⊥
 no_text d p e h = (let there = h.1 in absurd cc)
 
-pub no_prefix_there : (d : Data) (text bytes : List ℕ) (error : PrefixError) (p : IpAddr × ℕ) → Some text ≡ as_str d → bytes ≡ text → Explains bytes error → HasPrefix d p → ⊥
+pub no_prefix_there : (d : Data) (text bytes : List ℕ) (error : PrefixError) (p : IpAddr × ℕ) → Some text ≡ as_str d → bytes ≡ text → ExplainsPrefix bytes error → HasPrefix d p → ⊥
 no_prefix_there d text bytes error p e same why h = no_prefix bytes error why p (subst (λ (t : List ℕ). IsPrefix t p) (one h.0 h.1) h.2)
   where
     one : (t : List ℕ) → as_str d ≡ Some t → t ≡ bytes
@@ -85,7 +85,7 @@ same_items (x ∷ xs) (y ∷ ys) e = (λ i. head_same e i ∷ same_items xs ys (
     tail_same : {x y : Data} {a b : Items} → item x a ≡ item y b → a ≡ b
     tail_same e = cc
 
-pub prefixes_there : (key : List ℕ) (d : Data) (vs : List Value) (slice : List Value) (r : Result (Vec (IpAddr × ℕ) Global) ConfigurationError) → Some (items_view vs) ≡ list_at key d → slice ≡ vs → Reads (λ ps. ArePrefixes (map view slice) ps.items) r → Reads (HasPrefixes key d) r
+pub prefixes_there : (key : List ℕ) (d : Data) (vs : List Value) (slice : List Value) (r : Result (Vec (IpAddr × ℕ) Global) ConfigurationError) → Some (items_view vs) ≡ list_at key d → slice ≡ vs → ReadsOrFails (λ ps. ArePrefixes (map view slice) ps.items) r → ReadsOrFails (HasPrefixes key d) r
 prefixes_there key d vs slice (Ok ps) e same h = record { texts = map view vs; stand = sym e; are = subst (λ (v : List Value). ArePrefixes (map view v) ps.items) same h }
 prefixes_there key d vs slice (Err OutOfMemory) e same h = tt
 prefixes_there key d vs slice (Err BadConfig) e same none = λ ps h. none ps (subst (λ (t : List Data). ArePrefixes t ps.items) (same_items h.texts (map view slice) (one h.texts h.stand)) h.are)
@@ -93,7 +93,7 @@ prefixes_there key d vs slice (Err BadConfig) e same none = λ ps h. none ps (su
     one : (texts : List Data) → list_at key d ≡ Some (items_of texts) → items_of texts ≡ items_of (map view slice)
     one texts stand = (let there : items_of (map view slice) ≡ items_of (map view vs) = ap (λ (v : List Value). items_of (map view v)) same in cc)
 
-passed : {A B : Type 0} (P : A → Type 0) (Q : B → Type 0) (e : ConfigurationError) (r : Result B ConfigurationError) → r ≡ Err e → Reads P (Err e) → (((x : A) → P x → ⊥) → (y : B) → Q y → ⊥) → Reads Q r
+passed : {A B : Type 0} (P : A → Type 0) (Q : B → Type 0) (e : ConfigurationError) (r : Result B ConfigurationError) → r ≡ Err e → ReadsOrFails P (Err e) → (((x : A) → P x → ⊥) → (y : B) → Q y → ⊥) → ReadsOrFails Q r
 passed P Q OutOfMemory (Err OutOfMemory) is h none = tt
 passed P Q OutOfMemory (Err BadConfig) is h none = absurd cc
 passed P Q BadConfig (Err OutOfMemory) is h none = tt
@@ -101,7 +101,7 @@ passed P Q BadConfig (Err BadConfig) is h none = none h
 passed P Q e (Ok y) is h none = absurd cc
 
 -- A refusal that is passed on.
-pub passed_on : {A B : Type 0} (P : A → Type 0) (Q : B → Type 0) (e : ConfigurationError) (r : Result B ConfigurationError) → IsErrAnd r (λ x. x ≡ e) → Reads P (Err e) → (((x : A) → P x → ⊥) → (y : B) → Q y → ⊥) → Reads Q r
+pub passed_on : {A B : Type 0} (P : A → Type 0) (Q : B → Type 0) (e : ConfigurationError) (r : Result B ConfigurationError) → IsErrAnd r (λ x. x ≡ e) → ReadsOrFails P (Err e) → (((x : A) → P x → ⊥) → (y : B) → Q y → ⊥) → ReadsOrFails Q r
 passed_on P Q e r is h none = (let p = err_from_is_err_and r is in passed P Q e r (p.1 ∙ ap Err p.2) h none)
 
 -- Where the tables are those that are read, no list of settings is theirs.
@@ -126,7 +126,7 @@ pub as_many : (tables : List Value) (zs ws : List ZoneSettings) → AreSettings 
 as_many tables zs ws h k = zip_length view IsSettings tables zs h.each ∙ sym (zip_length view IsSettings tables ws k.each)
 
 -- The document of the text.
-pub described : (octets : List ℕ) (ms : Members) (r : Result Configuration ConfigurationError) → IsUtf8 octets → parse_document octets ≡ Some ms → Reads (Describes (table ms)) r → Reads (IsDescribedBy octets) r
+pub described : (octets : List ℕ) (ms : Members) (r : Result Configuration ConfigurationError) → IsUtf8 octets → parse_document octets ≡ Some ms → ReadsOrFails (Describes (table ms)) r → ReadsOrFails (IsDescribedBy octets) r
 described octets ms (Ok c) utf8 e h = (ms, utf8, e, h)
 described octets ms (Err OutOfMemory) utf8 e h = tt
 described octets ms (Err BadConfig) utf8 e none = λ c h. none c (subst (λ (m : Members). Describes (table m) c) (one h.0 h.2) h.3)

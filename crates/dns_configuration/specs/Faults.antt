@@ -1,4 +1,4 @@
--- What is wrong with a file or a word, and the line that tells it.
+-- What is wrong with a file or a word, and the line that reports it.
 use Rattle.std.specs.Prelude.{◌≡◌, ℕ, Bool, true, false, ◌||◌, nat_lt, List, [], ◌∷◌, ◌++◌, flat_map, Option}
 use Rattle.std.specs.Prelude.{Some, None, Result, Ok, Err, codes, decimal, if◌then◌else◌}
 use Rattle.std.specs.Bool.{MatchBool}
@@ -39,14 +39,14 @@ zone_word zone.CnameAndOther = codes "CnameAndOther"
 zone_word zone.WildcardNs = codes "WildcardNs"
 zone_word zone.TooMany = codes "TooMany"
 
--- Memory was refused, of which nothing is told.
+-- Memory was refused, of which nothing is reported.
 abbrev pub is_memory : Fault → Bool
 is_memory OutOfMemory = true
 is_memory (Entry line file.OutOfMemory) = true
 is_memory (NoZone zone.OutOfMemory) = true
 is_memory _ = false
 
--- What is wrong, behind the path or the text that it is of.
+-- What is wrong, after the path or the text that it is of.
 abbrev pub fault_words : Fault → List ℕ
 fault_words OutOfMemory = codes ": OutOfMemory"
 fault_words Unreadable = codes ": Unreadable"
@@ -71,20 +71,20 @@ line text = text ++ 10 ∷ []
 
 -- The records of a master file that are a zone of that apex, or the fault: that it can't be read, that of the
 -- first entry which is refused, or the lowest of the zone.
-abbrev pub unless : List Record → Option ZoneError → Result (List Record) Fault
-unless records None = Ok records
-unless records (Some e) = Err (NoZone e)
+abbrev pub records_unless : List Record → Option ZoneError → Result (List Record) Fault
+records_unless records None = Ok records
+records_unless records (Some e) = Err (NoZone e)
 
 abbrev pub as_zone : Labels → Result (List Record) (ℕ × FileError) → Result (List Record) Fault
-as_zone apex (Ok records) = unless records (zone_fault apex records)
+as_zone apex (Ok records) = records_unless records (zone_fault apex records)
 as_zone apex (Err e) = Err (Entry e.0 e.1)
 
 abbrev pub loaded : Option (List ℕ) → Labels → Result (List Record) Fault
 loaded None apex = Err Unreadable
 loaded (Some octets) apex = as_zone apex (read_file octets apex)
 
--- How a run that told a fault goes on: of refused memory nothing is told, and the status is 3; else the line
--- of the fault is, and it is 1.
+-- How a run that met a fault goes on: of refused memory nothing is reported, and the status is 3; else the
+-- line of the fault is, and it is 1.
 abbrev pub IsTold : List ℕ → Fault → Option (List ℕ) → Option (List ℕ) → ℕ → Type 0
 IsTold what fault err err_after status =
     MatchBool (is_memory fault) (status ≡ 3)

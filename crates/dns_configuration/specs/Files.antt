@@ -15,12 +15,12 @@ use Rattle.dns_configuration.specs.Faults.{loaded}
 use Rattle.dns_configuration.specs.Settings.{IsDescribedBy}
 
 -- The configuration that a file holds, or why it holds none.
-abbrev pub Holds : Option (List ℕ) → Result Configuration Fault → Type 0
-Holds None (Err Unreadable) = ⊤
-Holds (Some octets) (Ok c) = IsDescribedBy octets c
-Holds (Some octets) (Err BadConfig) = (c : Configuration) → ¬ (IsDescribedBy octets c)
-Holds octets (Err OutOfMemory) = ⊤
-Holds octets r = ⊥
+abbrev pub HoldsConfiguration : Option (List ℕ) → Result Configuration Fault → Type 0
+HoldsConfiguration None (Err Unreadable) = ⊤
+HoldsConfiguration (Some octets) (Ok c) = IsDescribedBy octets c
+HoldsConfiguration (Some octets) (Err BadConfig) = (c : Configuration) → ¬ (IsDescribedBy octets c)
+HoldsConfiguration octets (Err OutOfMemory) = ⊤
+HoldsConfiguration octets r = ⊥
 
 -- The octets of the first file with that path, if it is given and can be read.
 abbrev pub octets_at : List File → List ℕ → Option (List ℕ)
@@ -31,7 +31,7 @@ octets_at (f ∷ files) path = if bytes_eq f.path.now path then option_copied f.
 abbrev pub loaded_by : List File → ZoneSettings → Result (List Record) Fault
 loaded_by files z = loaded (octets_at files (string_bytes z.file)) z.origin
 
-pub record IsLoaded (files : List File) (settings : ZoneSettings) (zone : Zone) : Type 0 where
+pub record IsLoadedFrom (files : List File) (settings : ZoneSettings) (zone : Zone) : Type 0 where
   pub records : List Record
   pub read : loaded_by files settings ≡ Ok records
   pub apex : zone.apex ≡ settings.origin

@@ -86,14 +86,14 @@ has_keys n (table ms) = key_count ms == n
 has_keys n _ = false
 
 -- What is read is such a thing; where nothing is, there is no such thing.
-abbrev pub Finds : {A : Type 0} → (A → Type 0) → Option A → Type 0
-Finds {A} P None = (x : A) → ¬ (P x)
-Finds P (Some x) = P x
+abbrev pub FindsIfAny : {A : Type 0} → (A → Type 0) → Option A → Type 0
+FindsIfAny {A} P None = (x : A) → ¬ (P x)
+FindsIfAny P (Some x) = P x
 
-abbrev pub Reads : {A : Type 0} → (A → Type 0) → Result A ConfigurationError → Type 0
-Reads P (Ok x) = P x
-Reads P (Err OutOfMemory) = ⊤
-Reads {A} P (Err BadConfig) = (x : A) → ¬ (P x)
+abbrev pub ReadsOrFails : {A : Type 0} → (A → Type 0) → Result A ConfigurationError → Type 0
+ReadsOrFails P (Ok x) = P x
+ReadsOrFails P (Err OutOfMemory) = ⊤
+ReadsOrFails {A} P (Err BadConfig) = (x : A) → ¬ (P x)
 
 -- The values at the keys of a table.
 abbrev pub text_at : List ℕ → Data → Option (List ℕ)

@@ -8,10 +8,10 @@ ghost use Rattle.dns_names.specs.Text.{name_of_text};
 ghost use Rattle.dns_policy.specs.Address.{IsAddress};
 ghost use Rattle.std.specs.declared.net.ip_addr.IpAddr.TheVariants.{V4, V6};
 ghost use Rattle.dns_configuration.specs.declared.configuration.ConfigurationError.TheVariants as told;
-ghost use Rattle.dns_configuration.specs.Settings.{ArePrefixes, AreSettings, Describes, Finds, HasCount};
+ghost use Rattle.dns_configuration.specs.Settings.{ArePrefixes, AreSettings, Describes, FindsIfAny, HasCount};
 ghost use Rattle.dns_configuration.specs.Settings.{HasName, HasNone, HasPath, HasPrefixes, IsConfiguration};
 ghost use Rattle.dns_configuration.specs.Settings.{IsDescribedBy, IsHost, IsLastParted, IsListener, IsPort};
-ghost use Rattle.dns_configuration.specs.Settings.{IsSettings, Reads, are_alike, has_keys, list_at};
+ghost use Rattle.dns_configuration.specs.Settings.{IsSettings, ReadsOrFails, are_alike, has_keys, list_at};
 ghost use Rattle.dns_configuration.specs.Settings.{number_at, text_at};
 
 use dns_memory::Heap;
@@ -93,7 +93,7 @@ impl<T: Drop> From<AllocFailed<T>> for ConfigurationError {
 
 /// A port: a decimal number from 1 to 65,535, without leading zeros.
 fn port(text: &str) -> Option<u16>
-    ensures { Finds (IsPort text.now) result }
+    ensures { FindsIfAny (IsPort text.now) result }
 {
     let first = *text.as_bytes().first()?;
     if first == b'0' || first == b'+' {
@@ -102,7 +102,7 @@ fn port(text: &str) -> Option<u16>
     text.parse().ok()
 }
 
-/// What stands between brackets.
+/// What is between brackets.
 fn between_brackets(text: &[u8]) -> Option<&[u8]>
     ensures { MatchOption result ((inner : List ℕ) → text.now ≢ 91 ∷ inner ++ 93 ∷ [])
         (λ inner. text.now ≡ 91 ∷ inner.now ++ 93 ∷ []) }
@@ -115,7 +115,7 @@ fn between_brackets(text: &[u8]) -> Option<&[u8]>
 
 /// An IPv4 address.
 fn ipv4(text: &[u8]) -> Option<Ipv4Addr>
-    ensures { Finds (λ a. IsHost text.now (V4 a)) result }
+    ensures { FindsIfAny (λ a. IsHost text.now (V4 a)) result }
 {
     match address(text) {
         Some(IpAddr::V4(ip)) => Some(ip),
@@ -125,7 +125,7 @@ fn ipv4(text: &[u8]) -> Option<Ipv4Addr>
 
 /// An IPv6 address.
 fn ipv6(text: &[u8]) -> Option<Ipv6Addr>
-    ensures { Finds (λ a. IsAddress text.now (V6 a)) result }
+    ensures { FindsIfAny (λ a. IsAddress text.now (V6 a)) result }
 {
     match address(text) {
         Some(IpAddr::V6(ip)) => Some(ip),
@@ -135,7 +135,7 @@ fn ipv6(text: &[u8]) -> Option<Ipv6Addr>
 
 /// An IPv6 address between brackets.
 fn bracketed_ipv6(text: &[u8]) -> Option<Ipv6Addr>
-    ensures { Finds (λ a. IsHost text.now (V6 a)) result }
+    ensures { FindsIfAny (λ a. IsHost text.now (V6 a)) result }
 {
     match between_brackets(text) {
         Some(inner) => ipv6(inner),
@@ -145,7 +145,7 @@ fn bracketed_ipv6(text: &[u8]) -> Option<Ipv6Addr>
 
 /// An IPv4 address, or an IPv6 address between brackets.
 fn host(text: &[u8]) -> Option<IpAddr>
-    ensures { Finds (IsHost text.now) result }
+    ensures { FindsIfAny (IsHost text.now) result }
 {
     match ipv4(text) {
         Some(ip) => Some(IpAddr::V4(ip)),
@@ -156,7 +156,7 @@ fn host(text: &[u8]) -> Option<IpAddr>
     }
 }
 
-/// What stands before the last colon, and behind it.
+/// What is before the last colon, and after it.
 fn split_at_last_colon(text: &str) -> Option<(&str, &str)>
     ensures { MatchOption result (HasNone 58 text.now)
         (λ parts. IsLastParted 58 text.now (parts.0.now, parts.1.now)) }
@@ -164,9 +164,9 @@ fn split_at_last_colon(text: &str) -> Option<(&str, &str)>
     text.rsplit_once(':')
 }
 
-/// An address, and behind a colon a port.
+/// An address, and after a colon a port.
 pub(crate) fn listener(text: &str) -> Option<SocketAddr>
-    ensures { Finds (IsListener text.now) result }
+    ensures { FindsIfAny (IsListener text.now) result }
 {
     let (front, digits) = split_at_last_colon(text)?;
     let ip = host(front.as_bytes())?;
@@ -216,7 +216,7 @@ pub(crate) fn has_keys(table: &Value, count: usize) -> bool
 
 /// The prefixes of a list of texts.
 fn prefixes(alloc: Global, texts: &[Value]) -> Result<Vec<Prefix>, ConfigurationError>
-    ensures { Reads (λ ps. ArePrefixes (map view texts.now) ps.items) result }
+    ensures { ReadsOrFails (λ ps. ArePrefixes (map view texts.now) ps.items) result }
 {
     let mut prefixes = Vec::new(alloc);
     'texts: for value in texts {
@@ -237,7 +237,7 @@ pub(crate) fn prefixes_at(
     table: &Value,
     key: &str,
 ) -> Result<Vec<Prefix>, ConfigurationError>
-    ensures { Reads (HasPrefixes key.now (view table.now)) result }
+    ensures { ReadsOrFails (HasPrefixes key.now (view table.now)) result }
 {
     match list_at(table, key) {
         Some(texts) => prefixes(alloc, texts.as_slice()),
@@ -247,7 +247,7 @@ pub(crate) fn prefixes_at(
 
 /// The path at a key of a table.
 pub(crate) fn path_at(alloc: Global, table: &Value, key: &str) -> Result<String, ConfigurationError>
-    ensures { Reads (HasPath key.now (view table.now)) result }
+    ensures { ReadsOrFails (HasPath key.now (view table.now)) result }
 {
     match text_at(table, key) {
         Some(path) => Ok(String::from_str(alloc, path)?),
@@ -262,7 +262,7 @@ pub(crate) fn count_at(
     low: u32,
     high: u32,
 ) -> Result<u32, ConfigurationError>
-    ensures { Reads (HasCount key.now (view table.now) low high) result }
+    ensures { ReadsOrFails (HasCount key.now (view table.now) low high) result }
 {
     match number_at(table, key) {
         Some(number) if low <= number && number <= high => Ok(number),
@@ -272,7 +272,7 @@ pub(crate) fn count_at(
 
 /// The name of a text, under the root if no dot ends it.
 fn name(heap: Heap, text: &str) -> Result<Name, ConfigurationError>
-    ensures { Reads (λ name. name_of_text [] text.now ≡ Ok name) result }
+    ensures { ReadsOrFails (λ name. name_of_text [] text.now ≡ Ok name) result }
 {
     match Name::from_text(heap, text.as_bytes(), &Name::root(heap)) {
         Ok(name) => Ok(name),
@@ -283,7 +283,7 @@ fn name(heap: Heap, text: &str) -> Result<Name, ConfigurationError>
 
 /// The name at a key of a table, under the root if no dot ends it.
 pub(crate) fn name_at(heap: Heap, table: &Value, key: &str) -> Result<Name, ConfigurationError>
-    ensures { Reads (HasName key.now (view table.now)) result }
+    ensures { ReadsOrFails (HasName key.now (view table.now)) result }
 {
     match text_at(table, key) {
         Some(text) => name(heap, text),
@@ -293,7 +293,7 @@ pub(crate) fn name_at(heap: Heap, table: &Value, key: &str) -> Result<Name, Conf
 
 /// The settings of a zone by its table.
 fn settings(alloc: Global, heap: Heap, zone: &Value) -> Result<ZoneSettings, ConfigurationError>
-    ensures { Reads (IsSettings (view zone.now)) result }
+    ensures { ReadsOrFails (IsSettings (view zone.now)) result }
 {
     if !has_keys(zone, ZONE_KEYS) {
         return Err(ConfigurationError::BadConfig);
@@ -330,7 +330,7 @@ fn all_settings(
     heap: Heap,
     tables: &[Value],
 ) -> Result<Vec<ZoneSettings>, ConfigurationError>
-    ensures { Reads (λ zones. AreSettings (map view tables.now) zones.items) result }
+    ensures { ReadsOrFails (λ zones. AreSettings (map view tables.now) zones.items) result }
 {
     let mut zones = Vec::new(alloc);
     'zones: for table in tables {
@@ -352,7 +352,7 @@ fn configuration_of(
     heap: Heap,
     document: &Value,
 ) -> Result<Configuration, ConfigurationError>
-    ensures { Reads (Describes (view document.now)) result }
+    ensures { ReadsOrFails (Describes (view document.now)) result }
 {
     if !has_keys(document, 2) {
         return Err(ConfigurationError::BadConfig);
@@ -381,7 +381,7 @@ impl Configuration {
         heap: Heap,
         octets: &[u8],
     ) -> Result<Configuration, ConfigurationError>
-        ensures described { Reads (IsDescribedBy octets.now) result }
+        ensures described { ReadsOrFails (IsDescribedBy octets.now) result }
         ensures valid { IfOk result IsConfiguration }
     {
         let Ok(text) = std::str::from_utf8(octets) else {

@@ -113,7 +113,7 @@ fn explain_document<E: Write>(
     )
 }
 
-/// The line on which an octet stands, the first being 1.
+/// The line that an octet is on, the first being 1.
 fn line_of(octets: &[u8], place: usize) -> usize {
     let mut line = 1usize;
     for octet in octets.iter().take(place) {

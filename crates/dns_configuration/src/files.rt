@@ -1,11 +1,11 @@
-//! Files that a run is given, and the faults that are told of them.
+//! Files that a run is given, and the faults that are reported of them.
 ghost use Rattle.std.specs.Prelude.{◌≡◌, ◌⊎◌, [], Some, Ok, Err, IfOk, MatchResult};
 ghost use Rattle.std.specs.Option.{option_copied};
 ghost use Rattle.dns_names.specs.Text.{name_of_text};
 ghost use Rattle.dns_names.specs.declared.NameError.{NameError as StatedError};
 ghost use Rattle.dns_configuration.specs.Faults.{IsTold, entry_word, is_memory, fault_text, zone_word};
 ghost use Rattle.dns_configuration.specs.Faults.{printed_word, word_octet};
-ghost use Rattle.dns_configuration.specs.Files.{Holds};
+ghost use Rattle.dns_configuration.specs.Files.{HoldsConfiguration};
 ghost use Rattle.dns_configuration.specs.Settings.{IsConfiguration};
 
 use crate::configuration::{Configuration, ConfigurationError};
@@ -99,7 +99,8 @@ fn is_memory(fault: Fault) -> bool
     }
 }
 
-/// An octet of a path or of a word, as a fault tells it: what is neither a blank nor visible ASCII is `\DDD`.
+/// An octet of a path or of a word, as a fault reports it: what is neither a blank nor visible ASCII is
+/// `\DDD`.
 #[derive(Drop)]
 struct PrintedOctet(u8);
 
@@ -130,7 +131,7 @@ impl fmt::Display for PrintedWord<'_> {
     }
 }
 
-/// What is wrong with a file or a word, behind its path or its text.
+/// What is wrong with a file or a word, after its path or its text.
 #[derive(Drop)]
 struct FaultText<'a>(&'a str, Fault);
 
@@ -152,7 +153,7 @@ impl fmt::Display for FaultText<'_> {
 }
 
 /// Tells in one line what is wrong with the file or the word, and gives the exit status. Of refused memory
-/// nothing is told.
+/// nothing is reported.
 pub fn tell<E: Write>(err: &mut E, what: &str, fault: Fault) -> io::Result<u8>
     ensures { IfOk result (λ status. IsTold what.now fault (E.contents err.old) (E.contents err.new) status) }
 {
@@ -182,7 +183,7 @@ pub fn read_configuration(
     heap: Heap,
     file: &File<'_>,
 ) -> Result<Configuration, Fault>
-    ensures held { Holds (option_copied file.now.octets) result }
+    ensures held { HoldsConfiguration (option_copied file.now.octets) result }
     ensures valid { IfOk result IsConfiguration }
 {
     let Some(octets) = file.octets else {

@@ -1,5 +1,5 @@
 //! What a server is given: its configuration, the files that it names, the zones that they hold, and how a
-//! fault in one is told.
+//! fault in one is reported.
 #![tactic(auto)]
 
 mod configuration;

@@ -5,7 +5,7 @@ ghost use Rattle.std.specs.Option.{option_copied};
 ghost use Rattle.dns_records.specs.Record.{Record};
 ghost use Rattle.dns_zone.specs.Made.{IsSetOf};
 ghost use Rattle.dns_configuration.specs.Faults.{is_memory, loaded};
-ghost use Rattle.dns_configuration.specs.Files.{IsFirstFault, IsLoaded, loaded_by, octets_at};
+ghost use Rattle.dns_configuration.specs.Files.{IsFirstFault, IsLoadedFrom, loaded_by, octets_at};
 
 use crate::configuration::ZoneSettings;
 use crate::files::{Fault, File};
@@ -61,7 +61,7 @@ fn load_one<I: ZoneIndex>(
     files: &[File<'_>],
     own: &ZoneSettings,
 ) -> Result<Zone<I>, Fault>
-    ensures { MatchResult result (IsLoaded files.now own.now)
+    ensures { MatchResult result (IsLoadedFrom files.now own.now)
         (λ f. (is_memory f ≡ true) ⊎ (loaded_by files.now own.now ≡ Err f)) }
 {
     let Ok(apex) = own.origin.clone() else {
@@ -80,7 +80,7 @@ pub fn load_all<'s, I: ZoneIndex>(
     files: &[File<'_>],
     settings: &'s [ZoneSettings],
 ) -> Result<Vec<Zone<I>, Heap>, (&'s str, Fault)>
-    ensures { MatchResult result (λ zones. AllZip (IsLoaded files.now) settings.now zones.items)
+    ensures { MatchResult result (λ zones. AllZip (IsLoadedFrom files.now) settings.now zones.items)
         (λ e. (is_memory e.1 ≡ true) ⊎ IsFirstFault files.now settings.now e.0.now e.1) }
 {
     let mut zones = Vec::new(heap);

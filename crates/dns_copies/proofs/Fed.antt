@@ -17,14 +17,14 @@ use Rattle.dns_wire.proofs.Whole.{message_unique}
 use Rattle.dns_request.specs.declared.request.Transport.{Transport}
 use Rattle.dns_request.specs.declared.request.Transport.TheVariants.{Udp, Tcp}
 use Rattle.dns_transfer.specs.Form.{Form, Current, Incremental, Full, form_of}
-use Rattle.dns_transfer.specs.Messages.{Heading, IsNext, AreMessages, message_with, octets_with, datagram_of}
-use Rattle.dns_transfer.specs.Records.{answer_of, transfer_from, transfer_of, others, sequences}
+use Rattle.dns_transfer.specs.Messages.{Heading, IsNextMessage, AreMessages, message_with, octets_with, datagram_of}
+use Rattle.dns_transfer.specs.Records.{transfer_answer, transfer_from, transfer_of, others, sequences}
 use Rattle.dns_transfer.specs.Session.{Sending}
 use Rattle.dns_secondary.specs.Receiving.{Receiving, header_fault, is_answer, repeats_question, type_asked}
 use Rattle.dns_secondary.specs.Request.{question_asked}
 use Rattle.dns_secondary.specs.Rest.{Rest, Reaches, is_current}
 use Rattle.dns_secondary.specs.State.{State, Begun, Led}
-use Rattle.dns_secondary.specs.Told.{Feeds, RefusesFeed, RefusesFrom, Fails, Tells, holding}
+use Rattle.dns_secondary.specs.Told.{Feeds, RefusesFeed, RefusesFrom, Fails, TellsProgress, holding}
 use Rattle.dns_secondary.specs.declared.fault.Fault.{Fault}
 use Rattle.dns_secondary.specs.declared.fault.Fault.TheVariants.{BadMessage, WrongId}
 use Rattle.dns_secondary.specs.declared.fault.Progress.{Progress}
@@ -34,7 +34,7 @@ use Rattle.dns_secondary.proofs.Forms.{goes_of, taken_rest}
 use Rattle.dns_secondary.proofs.Mores.{held_of}
 use Rattle.dns_secondary.proofs.Shapes.{led_at}
 use Rattle.dns_secondary.proofs.Runs.{rest_of}
-use Rattle.dns_copies.specs.Copies.{GoesOn, Follows, TransferIsFollowed, answer_for, serial_held}
+use Rattle.dns_copies.specs.Copies.{AllTellMore, FollowsInOrder, TransferIsFollowed, answer_for, serial_held}
 use Rattle.dns_copies.proofs.Forms.{Means, IsNewer, all_fit, back_again, is_good}
 use Rattle.dns_copies.proofs.Sessions.{IsOpenedFor, opened_for, as_messages, only_sent}
 use Rattle.dns_secondary.proofs.Ends.{rest_once}
@@ -103,7 +103,7 @@ pub record Feeding (s : Receiving) (transport : Transport) (h : Heading) (questi
 -- one message of it
 pub record Fed (s : Receiving) (message : List ℕ) (at : State) (sent : List Record) : Type 0 where
   pub refuses : (fault : Fault) → RefusesFeed s message fault → Fails s at (map item_of sent) fault
-  pub tells : (progress : Progress) (next : Receiving) → Feeds s message progress next → Tells s at (map item_of sent) progress next
+  pub tells : (progress : Progress) (next : Receiving) → Feeds s message progress next → TellsProgress s at (map item_of sent) progress next
 
 some_is : (a b : State) → ◌≡◌ {A = Option State} (Some a) (Some b) → a ≡ b
 some_is a b e = cc
@@ -136,8 +136,8 @@ message_fed s h question message at sent is id small echoed asks each n =
       tells = λ progress next fed.
           (let same : fed.0 ≡ at = some_is fed.0 at (sym fed.1 ∙ is) in
           let hears = fed.2 in
-          subst (λ (m : Message). Tells s at m.answers progress next) (once hears.message hears.stands)
-          (subst (λ (a : State). Tells s a (hears.message).answers progress next) same hears.tells));
+          subst (λ (m : Message). TellsProgress s at m.answers progress next) (once hears.message hears.stands)
+          (subst (λ (a : State). TellsProgress s a (hears.message).answers progress next) same hears.tells));
     }
 
 no_message : (h : Heading) (messages : List (List ℕ)) → AreMessages h None [] messages → messages ≡ []
@@ -211,7 +211,7 @@ module _ (s : Receiving) (transport : Transport) (h : Heading) (question : Optio
     never_more ends next feeds = (let told = fed.tells More next feeds in told.5 shown (all_sent ends))
 
     pub follows : (rest ≡ [] → behind ≡ []) → ((next : Receiving) → Feeds s message More next → behind ≡ [] → ⊥) → (s.transport ≡ Udp → behind ≡ [])
-        → Follows s message behind shown
+        → FollowsInOrder s message behind shown
     follows last more alone = record {
       refused = λ fault refused. (fed.refuses fault refused).lost (map item_of rest) shown rest_split;
       more = more;
@@ -258,14 +258,14 @@ module _ (s : Receiving) (transport : Transport) (h : Heading) (question : Optio
         })
 
 sent_of : (h : Heading) (question : Option EchoedQuestion) (left : List Record) (message : List ℕ) (rest : List Record)
-    → (n : IsNext h question left message rest) → IsSent h question message n.sent
+    → (n : IsNextMessage h question left message rest) → IsSent h question message n.sent
 sent_of h question left message rest n = record { packed = n.packed; fits = n.fits }
 
 not_udp : (s : Receiving) (behind : List (List ℕ)) → s.transport ≡ Tcp → s.transport ≡ Udp → behind ≡ []
 not_udp s behind tcp udp = absurd cc
 
 -- by UDP: the whole answer, or its SOA alone
-leads_with : (soa : Record) (records : List Record) (form : Form) → (more : List Record) × (answer_of soa records form ≡ soa ∷ more)
+leads_with : (soa : Record) (records : List Record) (form : Form) → (more : List Record) × (transfer_answer soa records form ≡ soa ∷ more)
 leads_with soa records Current = ([], refl)
 leads_with soa records (Incremental changes) = (sequences changes ++ soa ∷ [], refl)
 leads_with soa records Full = (others records ++ soa ∷ [], refl)
@@ -324,13 +324,13 @@ which h question whole soa message small echoed is tc =
 
 module _ (s : Receiving) (h : Heading) (question : Option EchoedQuestion) (whole shown : List Record) (soa : Record) (message : List ℕ)
     (behind : List (List ℕ)) (f : Feeding s Udp h question whole whole shown) (last : behind ≡ []) where
-  whole_followed : IsSent h question message whole → Follows s message behind shown
+  whole_followed : IsSent h question message whole → FollowsInOrder s message behind shown
   whole_followed n =
       follows s Udp h question whole whole shown f message behind whole [] (sym (append-nil whole)) n (λ e. last)
       (λ next feeds ends. never_more s Udp h question whole whole shown f message behind whole [] (sym (append-nil whole)) n refl next feeds) (λ udp. last)
 
   -- by UDP a SOA alone is not the beginning of more
-  lone_followed : (more : List Record) → f.at ≡ Begun → whole ≡ soa ∷ more → IsSent h question message (soa ∷ []) → Follows s message behind shown
+  lone_followed : (more : List Record) → f.at ≡ Begun → whole ≡ soa ∷ more → IsSent h question message (soa ∷ []) → FollowsInOrder s message behind shown
   lone_followed more begun starts n =
       follows s Udp h question whole whole shown f message behind (soa ∷ []) more starts n (λ e. last)
       (λ next feeds ends.
@@ -344,7 +344,7 @@ module _ (s : Receiving) (h : Heading) (question : Option EchoedQuestion) (whole
 
 datagram_followed : (s : Receiving) (h : Heading) (question : Option EchoedQuestion) (whole shown : List Record) (soa : Record) (message : List ℕ) (behind : List (List ℕ))
     → (f : Feeding s Udp h question whole whole shown) → f.at ≡ Begun → behind ≡ [] → (more : List Record) × (whole ≡ soa ∷ more)
-    → message ≡ datagram_of h question whole soa → (header_of message).tc ≡ false → Follows s message behind shown
+    → message ≡ datagram_of h question whole soa → (header_of message).tc ≡ false → FollowsInOrder s message behind shown
 datagram_followed s h question whole shown soa message behind f begun last starts is tc = elim (which h question whole soa message f.small f.echoed is tc) [
   | inl n ↦ whole_followed s h question whole shown soa message behind f last n
   | inr n ↦ lone_followed s h question whole shown soa message behind f last starts.0 begun starts.1 n
@@ -352,11 +352,11 @@ datagram_followed s h question whole shown soa message behind f begun last start
 
 -- by TCP
 go_on : (h : Heading) (whole shown : List Record) (before : List (List ℕ)) (message : List ℕ) (behind : List (List ℕ)) (s now : Receiving) (question : Option EchoedQuestion) (left : List Record)
-    → Feeding s Tcp h question whole left shown → AreMessages h question left (before ++ message ∷ behind) → GoesOn s before now → Follows now message behind shown
+    → Feeding s Tcp h question whole left shown → AreMessages h question left (before ++ message ∷ behind) → AllTellMore s before now → FollowsInOrder now message behind shown
 go_on h whole shown [] message behind s now question left f m on =
     let n = m.2 in
     let sent = sent_of h question left message m.1 n in
-    subst (λ (r : Receiving). Follows r message behind shown) (sym on)
+    subst (λ (r : Receiving). FollowsInOrder r message behind shown) (sym on)
     (follows s Tcp h question whole left shown f message behind n.sent m.1 n.in_order sent
     (λ e. no_message h behind (subst (λ (xs : List Record). AreMessages h None xs behind) e m.3))
     (λ next feeds ends. never_more s Tcp h question whole left shown f message behind n.sent m.1 n.in_order sent (some_left h m.1 behind ends m.3) next feeds)
@@ -403,25 +403,25 @@ transfer_is_followed s base kept shown before message behind now begun leads fol
           reads = λ more set. (λ r. r, λ r. r);
         }
 
-    by_tcp : s.transport ≡ Tcp → Follows now message behind shown
+    by_tcp : s.transport ≡ Tcp → FollowsInOrder now message behind shown
     by_tcp tcp =
         go_on h whole shown before message behind s now question whole (feeding Tcp tcp)
         (as_messages s.apex s.held s.id kept shown sending (subst (λ t. IsOpenedFor t s.apex s.held s.id kept shown sending) tcp opened)
         (before ++ message ∷ behind) answers.all) on
 
-    by_udp : s.transport ≡ Udp → Follows now message behind shown
+    by_udp : s.transport ≡ Udp → FollowsInOrder now message behind shown
     by_udp udp =
         let one = only_sent sending before message behind (opened.by ∙ udp) answers.all in
-        let is : now ≡ s = subst (λ (ms : List (List ℕ)). GoesOn s ms now) one.first on in
+        let is : now ≡ s = subst (λ (ms : List (List ℕ)). AllTellMore s ms now) one.first on in
         let uncut = answers.not_cut udp in
         let tc : (header_of message).tc ≡ false =
         (subst (λ (ms : List (List ℕ)). AllByRecursion (λ m. (header_of m).tc ≡ false) (ms ++ message ∷ behind)) one.first uncut).0 in
         let datagram : message ≡ datagram_of h question whole sending.soa =
         one.is ∙ (λ i. datagram_of (opened.heading i) (opened.question i) (opened.left i) sending.soa) in
-        subst (λ (r : Receiving). Follows r message behind shown) (sym is)
+        subst (λ (r : Receiving). FollowsInOrder r message behind shown) (sym is)
         (datagram_followed s h question whole shown sending.soa message behind (feeding Udp udp) refl one.last
         (led_by shown kept (serial_held s.held) sending.soa opened.soa) datagram tc)
 
-    by : (transport : Transport) → s.transport ≡ transport → Follows now message behind shown
+    by : (transport : Transport) → s.transport ≡ transport → FollowsInOrder now message behind shown
     by Tcp e = by_tcp e
     by Udp e = by_udp e

@@ -13,11 +13,11 @@ use Rattle.dns_changes.specs.Version.{serial_in}
 use Rattle.dns_wire.specs.Message.{record_of_item}
 use Rattle.dns_wire.specs.Valid.{item_of}
 use Rattle.dns_transfer.specs.Form.{Current, Incremental, Full, advances, since, form_since, form_of}
-use Rattle.dns_transfer.specs.Records.{answer_of, transfer_from, transfer_of, others, sequences}
+use Rattle.dns_transfer.specs.Records.{transfer_answer, transfer_from, transfer_of, others, sequences}
 use Rattle.dns_transfer.proofs.Since.{same_number, other_number}
 use Rattle.dns_secondary.specs.Step.{IsFit}
 use Rattle.dns_secondary.specs.Rest.{is_current}
-use Rattle.dns_secondary.specs.Taken.{IsCurrent, IsWhole, IsChanged}
+use Rattle.dns_secondary.specs.Taken.{IsCurrent, IsWholeZone, IsChanged}
 use Rattle.dns_copies.specs.Versions.{LeadTo, EndAlike}
 use Rattle.dns_copies.specs.Copies.{IsFollowed, answer_for, TransferIsTaken}
 use Rattle.dns_copies.proofs.Serials.{not_itself, zone_small, greater_by, not_greater_by}
@@ -35,7 +35,7 @@ all_fit (r ∷ rs) h =
     (record { class = refl; data_is = record { rtype = h.0.rtype; octets = h.0.octets; short = h.0.short; form = h.0.rdata } }, all_fit rs h.1)
 
 abbrev pub Means : Labels → Option Zone → List Record → List Record → Type 0
-Means apex held answer set = IsCurrent apex held answer set ⊎ IsWhole apex answer set ⊎ IsChanged apex held answer set
+Means apex held answer set = IsCurrent apex held answer set ⊎ IsWholeZone apex answer set ⊎ IsChanged apex held answer set
 
 -- an answer longer than its SOA is of one who is behind
 abbrev pub IsNewer : Option Zone → List Record → Type 0
@@ -56,15 +56,15 @@ good_at : (apex : Labels) (held : Option Zone) (a b set : List Record) → a ≡
 good_at apex held a b set e h = subst (λ (xs : List Record). IsGood apex held xs set) e h
 
 full_good : (apex : Labels) (held : Option Zone) (v : List Record) (h : HasSoa apex v) → IsZone (record { apex = apex; records = v })
-    → is_current held h.soa ≡ false → IsGood apex held (answer_of h.soa v Full) v
+    → is_current held h.soa ≡ false → IsGood apex held (transfer_answer h.soa v Full) v
 full_good apex held v h z behind = record { means = inr (inl (is_whole apex v h z)); newer = longer held h.soa (others v ++ h.soa ∷ []) behind }
 
-with_soa : (v : List Record) (kept : List Change) (client : Option ℕ) (soa : Record) → soas v ≡ soa ∷ [] → answer_of soa v (form_of (serial_of soa) kept client) ≡ transfer_of v kept client
+with_soa : (v : List Record) (kept : List Change) (client : Option ℕ) (soa : Record) → soas v ≡ soa ∷ [] → transfer_answer soa v (form_of (serial_of soa) kept client) ≡ transfer_of v kept client
 with_soa v kept client soa one = sym (ap (λ (xs : List Record). transfer_from xs v kept client) one)
 
 -- the version that is shown is held
 same_good : (apex : Labels) (z : Zone) (kept : List Change) (shown : List Record) (h : HasSoa apex shown) → IsZone (record { apex = apex; records = shown })
-    → shown ≡ z.records → IsGood apex (Some z) (answer_of h.soa shown (form_of (serial_of h.soa) kept (Some (serial_in (soas z.records))))) shown
+    → shown ≡ z.records → IsGood apex (Some z) (transfer_answer h.soa shown (form_of (serial_of h.soa) kept (Some (serial_in (soas z.records))))) shown
 same_good apex z kept shown h valid is =
     let soa = h.soa in
     let held_soa : soas z.records ≡ soa ∷ [] = sym (ap soas is) ∙ h.one in
@@ -75,7 +75,7 @@ same_good apex z kept shown h valid is =
     let s = serial_in (soas z.records) in
     let form : form_of (serial_of soa) kept (Some s) ≡ Current =
     ap (λ b. if b || greater s (serial_of soa) then Current else if not (greater (serial_of soa) s) then Full else form_since (since s kept)) one in
-    good_at apex (Some z) (soa ∷ []) _ shown (ap (answer_of soa shown) (sym form))
+    good_at apex (Some z) (soa ∷ []) _ shown (ap (transfer_answer soa shown) (sym form))
     (record { means = inl (record { soa = soa; alone = refl; at_apex = soa_at apex shown h; not_newer = not_newer; stays = is }); newer = tt })
 
 module _ (apex : Labels) (z : Zone) (base shown : List Record) (kept : List Change) (c : Change) (rest : List Change) (h : HasSoa apex shown)
@@ -118,7 +118,7 @@ module _ (apex : Labels) (z : Zone) (base shown : List Record) (kept : List Chan
       (λ i. if not_same i || not_back i then Current else if not (is_greater i) then Full else form_since (since s kept))
       ∙ ap (λ n. form_since (since n kept)) old_serial
 
-  changed_good : IsGood apex (Some z) (answer_of h.soa shown (Incremental (c ∷ rest))) shown
+  changed_good : IsGood apex (Some z) (transfer_answer h.soa shown (Incremental (c ∷ rest))) shown
   changed_good = record {
     means = inr (inr (record {
       form = record {
@@ -139,13 +139,13 @@ module _ (apex : Labels) (z : Zone) (base shown : List Record) (kept : List Chan
     newer = longer (Some z) h.soa (sequences (c ∷ rest) ++ h.soa ∷ []) is_behind;
   }
 
-  pub later_good : EndAlike (c ∷ rest) kept → IsGood apex (Some z) (answer_of h.soa shown (form_of (serial_of h.soa) kept (Some (serial_in (soas z.records))))) shown
-  later_good ends = good_at apex (Some z) _ _ shown (ap (answer_of h.soa shown) (sym form_is)) (at (since_is apex base z.records kept c rest shown h.soa from_base from less h.one ends))
+  pub later_good : EndAlike (c ∷ rest) kept → IsGood apex (Some z) (transfer_answer h.soa shown (form_of (serial_of h.soa) kept (Some (serial_in (soas z.records))))) shown
+  later_good ends = good_at apex (Some z) _ _ shown (ap (transfer_answer h.soa shown) (sym form_is)) (at (since_is apex base z.records kept c rest shown h.soa from_base from less h.one ends))
     where
       at : (since (serial_of c.old_soa) kept ≡ Some (c ∷ rest)) ⊎ (since (serial_of c.old_soa) kept ≡ None)
-          → IsGood apex (Some z) (answer_of h.soa shown (form_since (since (serial_of c.old_soa) kept))) shown
-      at (inl e) = good_at apex (Some z) _ _ shown (ap (λ o. answer_of h.soa shown (form_since o)) (sym e)) changed_good
-      at (inr e) = good_at apex (Some z) _ _ shown (ap (λ o. answer_of h.soa shown (form_since o)) (sym e)) (full_good apex (Some z) shown h valid is_behind)
+          → IsGood apex (Some z) (transfer_answer h.soa shown (form_since (since (serial_of c.old_soa) kept))) shown
+      at (inl e) = good_at apex (Some z) _ _ shown (ap (λ o. transfer_answer h.soa shown (form_since o)) (sym e)) changed_good
+      at (inr e) = good_at apex (Some z) _ _ shown (ap (λ o. transfer_answer h.soa shown (form_since o)) (sym e)) (full_good apex (Some z) shown h valid is_behind)
 
 pub is_good : (apex : Labels) (held : Option Zone) (base : List Record) (kept : List Change) (shown : List Record) → LeadTo apex base kept shown → IsFollowed apex held kept shown
     → IsGood apex held (answer_for held kept shown) shown
@@ -159,7 +159,7 @@ is_good apex (Some z) base kept shown k f =
     good_at apex (Some z) _ _ shown (with_soa shown kept (Some (serial_in (soas z.records))) h.soa h.one) (at h valid f.0 f.1 f.2 f.3)
   where
     at : (h : HasSoa apex shown) → IsZone (record { apex = apex; records = shown }) → (later : List Change) → LeadTo apex z.records later shown → advances later < 2 ^ 31 → EndAlike later kept
-        → IsGood apex (Some z) (answer_of h.soa shown (form_of (serial_of h.soa) kept (Some (serial_in (soas z.records))))) shown
+        → IsGood apex (Some z) (transfer_answer h.soa shown (form_of (serial_of h.soa) kept (Some (serial_in (soas z.records))))) shown
     at h valid [] from less ends = same_good apex z kept shown h valid from.1
     at h valid (c ∷ rest) from less ends = later_good apex z base shown kept c rest h valid k from less ends
 

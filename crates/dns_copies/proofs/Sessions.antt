@@ -21,10 +21,10 @@ use Rattle.dns_wire.specs.Text.{EchoedQuestion}
 use Rattle.dns_wire.specs.Valid.{item_of}
 use Rattle.dns_request.specs.declared.request.Transport.{Transport}
 use Rattle.dns_request.specs.declared.request.Transport.TheVariants.{Udp, Tcp}
-use Rattle.dns_transfer.specs.Messages.{Heading, IsNext, AreMessages, datagram_of}
+use Rattle.dns_transfer.specs.Messages.{Heading, IsNextMessage, AreMessages, datagram_of}
 use Rattle.dns_transfer.specs.Records.{transfer_of}
 use Rattle.dns_transfer.specs.Refusal.{is_client_soa, client_serial, serial_asked}
-use Rattle.dns_transfer.specs.Session.{Sending, SendsBy, IsOpened}
+use Rattle.dns_transfer.specs.Session.{Sending, SendsBy, IsTransferOpened}
 use Rattle.dns_secondary.specs.Request.{question_asked, soas_held, heading_octets, asked_octets, request_octets, request_message}
 use Rattle.dns_secondary.proofs.Asked.{asked, four, octets_are}
 use Rattle.dns_update.proofs.Serials.{soa_long}
@@ -86,7 +86,7 @@ pub record IsOpenedFor (transport : Transport) (apex : Labels) (held : Option Zo
   pub left : s.left ≡ answer_for held kept shown
 
 pub opened_for : (transport : Transport) (apex : Labels) (held : Option Zone) (id : ℕ) (kept : List Change) (shown : List Record) (s : Sending) → IsName apex → IsFollowed apex held kept shown
-    → IsOpened transport (request_octets apex held id) (request_message apex held id) (question_asked apex held) (record { zone = record { apex = apex; records = shown }; changes = kept }) s
+    → IsTransferOpened transport (request_octets apex held id) (request_message apex held id) (question_asked apex held) (record { zone = record { apex = apex; records = shown }; changes = kept }) s
     → IsOpenedFor transport apex held id kept shown s
 opened_for transport apex held id kept shown s named f opened = record {
   by = opened.by;
@@ -102,7 +102,7 @@ sent_messages s [] by all = all
 sent_messages s (message ∷ messages) by all =
     let next = all.1 in
     let sends = all.2 in
-    let one : IsNext s.heading s.question s.left message next.left = subst (λ t. SendsBy t s message next.left) by sends.1 in
+    let one : IsNextMessage s.heading s.question s.left message next.left = subst (λ t. SendsBy t s message next.left) by sends.1 in
     let by_next : next.transport ≡ Tcp = ap (λ (x : Sending). x.transport) sends.0 ∙ by in
     let heading : next.heading ≡ s.heading = ap (λ (x : Sending). x.heading) sends.0 in
     let question : next.question ≡ None = ap (λ (x : Sending). x.question) sends.0 in

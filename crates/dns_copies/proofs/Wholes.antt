@@ -13,7 +13,7 @@ use Rattle.dns_changes.specs.Applied.{one_is, one_in, soa_tied, not_true}
 use Rattle.dns_changes.specs.Change.{is_soa}
 use Rattle.dns_changes.proofs.Steps.{has_is}
 use Rattle.dns_transfer.specs.Records.{others}
-use Rattle.dns_secondary.specs.Taken.{AreOthers, Collects, IsSoaAt, IsWhole}
+use Rattle.dns_secondary.specs.Taken.{AreOthers, Collects, IsSoaAt, IsWholeZone}
 
 pub record IsJoined (set rs : List Record) : Type 0 where
   pub result : List Record
@@ -104,7 +104,7 @@ soa_at apex xs h = λ i. is_one apex xs h i && owned i
     owned : names_eq (h.soa).owner apex ≡ true
     owned = ap (λ n. names_eq n apex) h.owner ∙ names_itself apex
 
-pub is_whole : (apex : Labels) (v : List Record) (h : HasSoa apex v) → IsZone (record { apex = apex; records = v }) → IsWhole apex (h.soa ∷ others v ++ h.soa ∷ []) v
+pub is_whole : (apex : Labels) (v : List Record) (h : HasSoa apex v) → IsZone (record { apex = apex; records = v }) → IsWholeZone apex (h.soa ∷ others v ++ h.soa ∷ []) v
 is_whole apex v h z = record {
   form = record {
     soa = h.soa;

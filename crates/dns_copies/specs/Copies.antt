@@ -11,7 +11,7 @@ use Rattle.dns_wire.specs.Valid.{item_of}
 use Rattle.dns_request.specs.declared.request.Transport.TheVariants.{Udp}
 use Rattle.dns_transfer.specs.Form.{advances}
 use Rattle.dns_transfer.specs.Records.{transfer_of}
-use Rattle.dns_transfer.specs.Session.{Sending, Sends, IsOpened}
+use Rattle.dns_transfer.specs.Session.{Sending, SendsMessage, IsTransferOpened}
 use Rattle.dns_secondary.specs.Receiving.{Receiving}
 use Rattle.dns_secondary.specs.Request.{question_asked, request_message, request_octets}
 use Rattle.dns_secondary.specs.Rest.{AreHeld}
@@ -51,7 +51,7 @@ TransferIsTaken =
 abbrev pub SendsAll : Sending → List (List ℕ) → Type 0
 SendsAll s [] = s.left ≡ []
 SendsAll s (message ∷ messages) =
-    (s.left ≡ [] → ⊥) × (next : Sending) × Sends s message next × SendsAll next messages
+    (s.left ≡ [] → ⊥) × (next : Sending) × SendsMessage s message next × SendsAll next messages
 
 -- The messages of the session that is opened for a request, for the version that is shown. By UDP none is cut
 -- off, with the bit TC (RFC 1035 4.1.1).
@@ -60,22 +60,24 @@ pub record AreAnswers (s : Receiving) (kept : List Change) (shown : List Record)
   pub named : IsName s.apex
   pub number : s.id < 2 ^ 16
   pub sending : Sending
-  pub opened : IsOpened s.transport (request_octets s.apex s.held s.id) (request_message s.apex s.held s.id)
+  pub opened : IsTransferOpened s.transport (request_octets s.apex s.held s.id)
+      (request_message s.apex s.held s.id)
       (question_asked s.apex s.held)
       (record { zone = record { apex = s.apex; records = shown }; changes = kept }) sending
   pub each : AllByRecursion IsRecord sending.left
   pub all : SendsAll sending messages
   pub not_cut : s.transport ≡ Udp → AllByRecursion (λ message. (header_of message).tc ≡ false) messages
 
--- Messages are fed, of each of which it is told that more is to come.
-abbrev pub GoesOn : Receiving → List (List ℕ) → Receiving → Type 0
-GoesOn s [] now = now ≡ s
-GoesOn s (message ∷ rest) now = (next : Receiving) × Feeds s message More next × GoesOn next rest now
+-- Messages are fed, of each of which it is reported that more is to come.
+abbrev pub AllTellMore : Receiving → List (List ℕ) → Receiving → Type 0
+AllTellMore s [] now = now ≡ s
+AllTellMore s (message ∷ rest) now = (next : Receiving) × Feeds s message More next
+    × AllTellMore next rest now
 
 -- The next message of a transfer of the version that is shown is not refused. More is to come only where a
--- message is left; after the last the version that is shown is held, anew or as before, and it is told after
--- no other. By UDP there is one message, and it may be told to ask again by TCP.
-pub record Follows (s : Receiving) (message : List ℕ) (behind : List (List ℕ))
+-- message is left; after the last the version that is shown is held, anew or as before, and that is reported
+-- after no other. By UDP there is one message, and what is reported of it may be to ask again by TCP.
+pub record FollowsInOrder (s : Receiving) (message : List ℕ) (behind : List (List ℕ))
     (shown : List Record) : Type 0 where
   pub refused : (fault : Fault) → RefusesFeed s message fault → ⊥
   pub more : (next : Receiving) → Feeds s message More next → behind ≡ [] → ⊥
@@ -94,5 +96,5 @@ TransferIsFollowed =
     → LeadTo s.apex base kept shown
     → IsFollowed s.apex s.held kept shown
     → AreAnswers s kept shown (before ++ message ∷ behind)
-    → GoesOn s before now
-    → Follows now message behind shown
+    → AllTellMore s before now
+    → FollowsInOrder now message behind shown

@@ -13,10 +13,10 @@ use Rattle.dns_configuration.specs.declared.configuration.Configuration.{Configu
 use Rattle.dns_configuration.specs.declared.files.File.{File}
 use Rattle.dns_configuration.specs.declared.files.Fault.{Fault}
 use Rattle.dns_configuration.specs.Faults.{fault_text, is_memory, line}
-use Rattle.dns_configuration.specs.Files.{Holds, IsFirstFault}
+use Rattle.dns_configuration.specs.Files.{HoldsConfiguration, IsFirstFault}
 use Rattle.dns_devices.specs.declared.faults.DeviceFault.{DeviceFault}
 use Rattle.dns_devices.specs.Faults.{device_text, status_of}
-use Rattle.dns_devices.specs.Making.{Finds, HasDevice, InitEnds, IsFirstFound, IsFound, IsGiven, IsInitRefused, IsNotMade, Makes, MakingEnds, StopsAt, formatted, is_absent}
+use Rattle.dns_devices.specs.Making.{Finds, HasDevice, InitEnds, IsFirstFound, IsFound, IsGiven, IsInitRefused, IsNotMade, Makes, MakingEnds, MakingStopsAt, formatted, is_absent}
 
 -- The first device where there is something already.
 pub found_at : (found : Finds) (all : List ZoneSettings) (n : ℕ) (z : ZoneSettings) (path : List ℕ) (fault : DeviceFault) → n < length all → All (is_absent found) (take n all) → path ≡ string_bytes (get_or all n z).device → IsFound found (get_or all n z) fault → IsFirstFound found all path fault
@@ -48,7 +48,7 @@ pub lines_more : (zones : List Zone) (n : ℕ) (z : Zone) (a b c : Option (List 
 lines_more zones n z a b c inside h k = subst (Appends a c) (sym (printed_more formatted zones n z inside)) (Appends-trans a b c (flat_map formatted (take n zones)) (formatted (get_or zones n z)) h k)
 
 -- The devices of the first zones were made, and that of the next one was not.
-pub stops_at : {D : Type 0} (g : Ghosts D) (made : Makes D) (settings : List ZoneSettings) (zones : List Zone) (n : ℕ) (d : ZoneSettings) (e : Zone) (path : List ℕ) (fault : DeviceFault) → n < length settings → n < length zones → AllZip (HasDevice g made) (take n settings) (take n zones) → path ≡ string_bytes (get_or settings n d).device → IsNotMade g made (get_or settings n d) (get_or zones n e) fault → StopsAt g made settings zones path fault (flat_map formatted (take n zones))
+pub stops_at : {D : Type 0} (g : Ghosts D) (made : Makes D) (settings : List ZoneSettings) (zones : List Zone) (n : ℕ) (d : ZoneSettings) (e : Zone) (path : List ℕ) (fault : DeviceFault) → n < length settings → n < length zones → AllZip (HasDevice g made) (take n settings) (take n zones) → path ≡ string_bytes (get_or settings n d).device → IsNotMade g made (get_or settings n d) (get_or zones n e) fault → MakingStopsAt g made settings zones path fault (flat_map formatted (take n zones))
 stops_at g made [] zones n d e path fault inside within h p k = absurd (omega (arith, inside))
 stops_at g made (x ∷ xs) [] n d e path fault inside within h p k = absurd (omega (arith, within))
 stops_at g made (x ∷ xs) (y ∷ ys) zero d e path fault inside within h p k = inl (p, k, refl)
@@ -83,7 +83,7 @@ making_done g made settings zones explain out out_after err n all whole h k = re
 }
 
 -- A device was not made.
-pub making_refused : {D : Type 0} (g : Ghosts D) (made : Makes D) (settings : List ZoneSettings) (zones : List Zone) (explain : Bool) (out out_after err err_after : Option (List ℕ)) (path : List ℕ) (fault : DeviceFault) (printed : List ℕ) → StopsAt g made settings zones path fault printed → Appends out out_after printed → status_of fault ≡ 1 → Appends err err_after (line (device_text path fault explain)) → MakingEnds g made settings zones explain out out_after err err_after 1
+pub making_refused : {D : Type 0} (g : Ghosts D) (made : Makes D) (settings : List ZoneSettings) (zones : List Zone) (explain : Bool) (out out_after err err_after : Option (List ℕ)) (path : List ℕ) (fault : DeviceFault) (printed : List ℕ) → MakingStopsAt g made settings zones path fault printed → Appends out out_after printed → status_of fault ≡ 1 → Appends err err_after (line (device_text path fault explain)) → MakingEnds g made settings zones explain out out_after err err_after 1
 making_refused g made settings zones explain out out_after err err_after path fault printed stops shown status said = record {
   done = λ e. absurd (omega (arith, e));
   refused = λ _. (path, fault, printed, stops, status, shown, said);
@@ -112,7 +112,7 @@ init_made_ok g found made config files settings zones explain out out_after err 
 init_made_ok g found made config files settings zones explain out out_after err err_after (Ok status) given absent h = init_made g found made config files settings zones explain out out_after err err_after status given absent h
 
 -- A master file that holds no zone.
-pub files_refused : {D : Type 0} (g : Ghosts D) (found : Finds) (made : Makes D) (config : File) (files : List File) (c : Configuration) (settings : List ZoneSettings) (path : List ℕ) (fault : Fault) (explain : Bool) → Holds (option_copied config.octets) (Ok c) → settings ≡ c.zones.items → ((is_memory fault ≡ true) ⊎ IsFirstFault files settings path fault) → is_memory fault ≡ false → IsInitRefused g found made config files [] (fault_text path fault) explain
+pub files_refused : {D : Type 0} (g : Ghosts D) (found : Finds) (made : Makes D) (config : File) (files : List File) (c : Configuration) (settings : List ZoneSettings) (path : List ℕ) (fault : Fault) (explain : Bool) → HoldsConfiguration (option_copied config.octets) (Ok c) → settings ≡ c.zones.items → ((is_memory fault ≡ true) ⊎ IsFirstFault files settings path fault) → is_memory fault ≡ false → IsInitRefused g found made config files [] (fault_text path fault) explain
 files_refused g found made config files c settings path fault explain holds same (inl memory) is = absurd (let none : true ≡ false = sym memory ∙ is in cc)
 files_refused g found made config files c settings path fault explain holds same (inr first) is = inl (path, fault, inr (c, holds, subst (λ (ss : List ZoneSettings). IsFirstFault files ss path fault) same first), refl, refl)
 

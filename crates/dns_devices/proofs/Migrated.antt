@@ -16,10 +16,10 @@ use Rattle.dns_configuration.specs.declared.configuration.Configuration.{Configu
 use Rattle.dns_configuration.specs.declared.files.File.{File}
 use Rattle.dns_configuration.specs.declared.files.Fault.{Fault}
 use Rattle.dns_configuration.specs.Faults.{fault_text, line}
-use Rattle.dns_configuration.specs.Files.{Holds}
+use Rattle.dns_configuration.specs.Files.{HoldsConfiguration}
 use Rattle.dns_devices.specs.declared.faults.DeviceFault.{DeviceFault}
 use Rattle.dns_devices.specs.Faults.{device_text, status_of}
-use Rattle.dns_devices.specs.Migrating.{AreMigrated, IsMigratedAs, IsNotMigrated, MigrateEnds, MigratingEnds, StopsAt, migrated}
+use Rattle.dns_devices.specs.Migrating.{AreMigrated, IsMigratedAs, IsNotMigrated, MigrateEnds, MigratingEnds, MigratingStopsAt, migrated}
 use Rattle.dns_devices.specs.Showing.{Gives}
 
 -- One that is answered as of format 2 already was only read.
@@ -43,7 +43,7 @@ migrated_more g opened (x ∷ xs) (suc n) z answer printed inside h k =
     (h.0, h.1 ++ migrated (get_or xs n z) answer, ap (λ (t : List ℕ). t ++ migrated (get_or xs n z) answer) h.2 ∙ append_assoc (migrated x h.0) h.1 (migrated (get_or xs n z) answer), h.3, migrated_more g opened xs n z answer h.1 (omega (arith, inside)) h.4 k)
 
 -- The devices of the first zones were migrated, and that of the next one was not.
-pub stops_at : {D : Type 0} (g : Ghosts D) (opened : Gives D) (all : List ZoneSettings) (n : ℕ) (z : ZoneSettings) (path : List ℕ) (fault : DeviceFault) (printed : List ℕ) → n < length all → AreMigrated g opened (take n all) printed → path ≡ string_bytes (get_or all n z).device → IsNotMigrated g opened (get_or all n z) fault → StopsAt g opened all path fault printed
+pub stops_at : {D : Type 0} (g : Ghosts D) (opened : Gives D) (all : List ZoneSettings) (n : ℕ) (z : ZoneSettings) (path : List ℕ) (fault : DeviceFault) (printed : List ℕ) → n < length all → AreMigrated g opened (take n all) printed → path ≡ string_bytes (get_or all n z).device → IsNotMigrated g opened (get_or all n z) fault → MigratingStopsAt g opened all path fault printed
 stops_at g opened [] n z path fault printed inside h p k = absurd (omega (arith, inside))
 stops_at g opened (x ∷ xs) zero z path fault printed inside h p k = inl (p, k, h)
 stops_at g opened (x ∷ xs) (suc n) z path fault printed inside h p k =
@@ -73,7 +73,7 @@ migrating_done g opened settings explain out out_after err n printed all h k = r
 }
 
 -- A device was not migrated.
-pub migrating_refused : {D : Type 0} (g : Ghosts D) (opened : Gives D) (settings : List ZoneSettings) (explain : Bool) (out out_after err err_after : Option (List ℕ)) (path : List ℕ) (fault : DeviceFault) (printed : List ℕ) → StopsAt g opened settings path fault printed → Appends out out_after printed → status_of fault ≡ 1 → Appends err err_after (line (device_text path fault explain)) → MigratingEnds g opened settings explain out out_after err err_after 1
+pub migrating_refused : {D : Type 0} (g : Ghosts D) (opened : Gives D) (settings : List ZoneSettings) (explain : Bool) (out out_after err err_after : Option (List ℕ)) (path : List ℕ) (fault : DeviceFault) (printed : List ℕ) → MigratingStopsAt g opened settings path fault printed → Appends out out_after printed → status_of fault ≡ 1 → Appends err err_after (line (device_text path fault explain)) → MigratingEnds g opened settings explain out out_after err err_after 1
 migrating_refused g opened settings explain out out_after err err_after path fault printed stops shown status said = record {
   done = λ e. absurd (omega (arith, e));
   refused = λ _. (path, fault, printed, stops, status, shown, said);
@@ -81,7 +81,7 @@ migrating_refused g opened settings explain out out_after err err_after path fau
 }
 
 -- The configuration is refused.
-pub configuration_refused : {D : Type 0} (g : Ghosts D) (opened : Gives D) (config : File) (fault : Fault) (explain : Bool) (out err err_after : Option (List ℕ)) → Holds (option_copied config.octets) (Err fault) → Appends err err_after (line (fault_text config.path.now fault)) → MigrateEnds g opened config explain out out err err_after 1
+pub configuration_refused : {D : Type 0} (g : Ghosts D) (opened : Gives D) (config : File) (fault : Fault) (explain : Bool) (out err err_after : Option (List ℕ)) → HoldsConfiguration (option_copied config.octets) (Err fault) → Appends err err_after (line (fault_text config.path.now fault)) → MigrateEnds g opened config explain out out err err_after 1
 configuration_refused g opened config fault explain out err err_after holds said = record {
   done = λ e. absurd (omega (arith, e));
   refused = λ _. ([], fault_text config.path.now fault, inl (fault, holds, refl, refl), Appends-nil out, said);
@@ -89,7 +89,7 @@ configuration_refused g opened config fault explain out err err_after holds said
 }
 
 -- All devices were migrated, or up to one that was not.
-pub migrate_ran : {D : Type 0} (g : Ghosts D) (opened : Gives D) (config : File) (c : Configuration) (explain : Bool) (out out_after err err_after : Option (List ℕ)) (status : ℕ) → Holds (option_copied config.octets) (Ok c) → MigratingEnds g opened c.zones.items explain out out_after err err_after status → MigrateEnds g opened config explain out out_after err err_after status
+pub migrate_ran : {D : Type 0} (g : Ghosts D) (opened : Gives D) (config : File) (c : Configuration) (explain : Bool) (out out_after err err_after : Option (List ℕ)) (status : ℕ) → HoldsConfiguration (option_copied config.octets) (Ok c) → MigratingEnds g opened c.zones.items explain out out_after err err_after status → MigrateEnds g opened config explain out out_after err err_after status
 migrate_ran g opened config c explain out out_after err err_after status holds h = record {
   done = λ e. (c, holds, h.done e);
   refused = λ e. let d = h.refused e in
@@ -97,6 +97,6 @@ migrate_ran g opened config c explain out out_after err err_after status holds h
   others = h.others;
 }
 
-pub migrate_ran_ok : {D E : Type 0} (g : Ghosts D) (opened : Gives D) (config : File) (c : Configuration) (explain : Bool) (out out_after err err_after : Option (List ℕ)) (r : Result ℕ E) → Holds (option_copied config.octets) (Ok c) → IfOk r (λ status. MigratingEnds g opened c.zones.items explain out out_after err err_after status) → IfOk r (λ status. MigrateEnds g opened config explain out out_after err err_after status)
+pub migrate_ran_ok : {D E : Type 0} (g : Ghosts D) (opened : Gives D) (config : File) (c : Configuration) (explain : Bool) (out out_after err err_after : Option (List ℕ)) (r : Result ℕ E) → HoldsConfiguration (option_copied config.octets) (Ok c) → IfOk r (λ status. MigratingEnds g opened c.zones.items explain out out_after err err_after status) → IfOk r (λ status. MigrateEnds g opened config explain out out_after err err_after status)
 migrate_ran_ok g opened config c explain out out_after err err_after (Err e) holds h = tt
 migrate_ran_ok g opened config c explain out out_after err err_after (Ok status) holds h = migrate_ran g opened config c explain out out_after err err_after status holds h

@@ -15,10 +15,10 @@ use Rattle.dns_configuration.specs.declared.files.File.{File}
 use Rattle.dns_configuration.specs.declared.files.Fault.{Fault}
 use Rattle.dns_configuration.specs.declared.files.Fault.TheVariants.{BadOrigin, OutOfMemory}
 use Rattle.dns_configuration.specs.Faults.{fault_text, is_memory, line}
-use Rattle.dns_configuration.specs.Files.{Holds}
+use Rattle.dns_configuration.specs.Files.{HoldsConfiguration}
 use Rattle.dns_devices.specs.declared.faults.DeviceFault.{DeviceFault}
 use Rattle.dns_devices.specs.Faults.{device_text, status_of}
-use Rattle.dns_devices.specs.Showing.{DumpEnds, Gives, IsNamed, IsNotShown, IsUnnamed, ShowingEnds, zone_named}
+use Rattle.dns_devices.specs.Showing.{DumpEnds, Gives, IsNamed, IsNotShown, IsNoZoneName, ShowingEnds, zone_configured}
 
 -- A writer failed or memory was refused.
 pub showing_failed : {D : Type 0} (g : Ghosts D) (opened : Gives D) (own : ZoneSettings) (explain : Bool) (out out_after err err_after : Option (List ℕ)) → ShowingEnds g opened own explain out out_after err err_after 3
@@ -56,7 +56,7 @@ dump_shown_ok g opened config origin own explain out out_after err err_after (Er
 dump_shown_ok g opened config origin own explain out out_after err err_after (Ok status) named h = dump_shown g opened config origin own explain out out_after err err_after status named h
 
 -- The configuration or the origin is refused.
-pub dump_unnamed : {D : Type 0} (g : Ghosts D) (opened : Gives D) (config : File) (origin : List ℕ) (explain : Bool) (out err err_after : Option (List ℕ)) (text : List ℕ) → IsUnnamed config origin text → Appends err err_after (line text) → DumpEnds g opened config origin explain out out err err_after 1
+pub dump_unnamed : {D : Type 0} (g : Ghosts D) (opened : Gives D) (config : File) (origin : List ℕ) (explain : Bool) (out err err_after : Option (List ℕ)) (text : List ℕ) → IsNoZoneName config origin text → Appends err err_after (line text) → DumpEnds g opened config origin explain out out err err_after 1
 dump_unnamed g opened config origin explain out err err_after text why said = record {
   done = λ e. absurd (omega (arith, e));
   refused = λ _. (text, said, Keeps-refl out, inl why);
@@ -64,10 +64,10 @@ dump_unnamed g opened config origin explain out err err_after text why said = re
 }
 
 -- The origin is no name.
-pub no_name : (config : File) (origin : List ℕ) (c : Configuration) (fault : Fault) → Holds (option_copied config.octets) (Ok c) → ((fault ≡ OutOfMemory) ⊎ ((fault ≡ BadOrigin) × ((e : NameError) × (name_of_text [] origin ≡ Err e)))) → is_memory fault ≡ false → IsUnnamed config origin (fault_text origin fault)
+pub no_name : (config : File) (origin : List ℕ) (c : Configuration) (fault : Fault) → HoldsConfiguration (option_copied config.octets) (Ok c) → ((fault ≡ OutOfMemory) ⊎ ((fault ≡ BadOrigin) × ((e : NameError) × (name_of_text [] origin ≡ Err e)))) → is_memory fault ≡ false → IsNoZoneName config origin (fault_text origin fault)
 no_name config origin c fault holds (inl memory) is = absurd (let none : true ≡ false = sym (ap is_memory memory) ∙ is in cc)
 no_name config origin c fault holds (inr (bad, why)) is = inr (c, holds, inl why, ap (fault_text origin) bad)
 
 -- It is that of no zone.
-pub no_zone : (config : File) (origin : List ℕ) (c : Configuration) (name : Labels) (zones : List ZoneSettings) → Holds (option_copied config.octets) (Ok c) → name_of_text [] origin ≡ Ok name → zones ≡ c.zones.items → None ≡ find (λ (z : ZoneSettings). names_eq z.origin name) zones → IsUnnamed config origin (fault_text origin BadOrigin)
-no_zone config origin c name zones holds named same none = inr (c, holds, inr (name, named, ap (zone_named name) (sym same) ∙ sym none), refl)
+pub no_zone : (config : File) (origin : List ℕ) (c : Configuration) (name : Labels) (zones : List ZoneSettings) → HoldsConfiguration (option_copied config.octets) (Ok c) → name_of_text [] origin ≡ Ok name → zones ≡ c.zones.items → None ≡ find (λ (z : ZoneSettings). names_eq z.origin name) zones → IsNoZoneName config origin (fault_text origin BadOrigin)
+no_zone config origin c name zones holds named same none = inr (c, holds, inr (name, named, ap (zone_configured name) (sym same) ∙ sym none), refl)

@@ -1,4 +1,4 @@
--- What is wrong with a device, and how it is told.
+-- What is wrong with a device, and how it is reported.
 use Rattle.std.specs.Prelude.{◌≡◌, ◌⊎◌, ℕ, Bool, true, false, List, ◌++◌, Option, codes, decimal}
 use Rattle.std.specs.Prelude.{if◌then◌else◌}
 use Rattle.std.specs.Bool.{MatchBool}
@@ -88,7 +88,7 @@ advice ZoneTooLarge =
     codes "the zone takes more sectors than snapshot_sectors allows; a sector holds 480 octets of records"
 advice OutOfMemory = codes "memory was refused"
 
--- Memory was refused, of which nothing is told.
+-- Memory was refused, of which nothing is reported.
 abbrev pub is_memory : DeviceFault → Bool
 is_memory OutOfMemory = true
 is_memory _ = false
@@ -99,7 +99,7 @@ status_of Device = 3
 status_of OutOfMemory = 3
 status_of _ = 1
 
--- What is told: the path and the fault, and in a second line, if it is wanted, what can be done.
+-- What is reported: the path and the fault, and in a second line, if it is wanted, what can be done.
 abbrev pub device_text : List ℕ → DeviceFault → Bool → List ℕ
 device_text path fault explain =
     if explain
@@ -107,8 +107,8 @@ device_text path fault explain =
     ++ codes ": " ++ advice fault
     else printed_word path ++ codes ": " ++ device_word fault
 
--- How a run that met a fault goes on: of refused memory nothing is told; else the fault is, and the status is
--- that of the fault.
+-- How a run that met a fault goes on: of refused memory nothing is reported; else the fault is, and the
+-- status is that of the fault.
 abbrev pub IsDeviceTold : List ℕ → DeviceFault → Bool → Option (List ℕ) → Option (List ℕ) → ℕ → Type 0
 IsDeviceTold path fault explain err err_after status =
     MatchBool (is_memory fault) (status ≡ 3)

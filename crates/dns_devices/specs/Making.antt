@@ -21,7 +21,7 @@ use Rattle.dns_configuration.specs.declared.configuration.Configuration.{Configu
 use Rattle.dns_configuration.specs.declared.files.File.{File}
 use Rattle.dns_configuration.specs.declared.files.Fault.{Fault}
 use Rattle.dns_configuration.specs.Faults.{line, fault_text}
-use Rattle.dns_configuration.specs.Files.{Holds, IsFirstFault, IsLoaded}
+use Rattle.dns_configuration.specs.Files.{HoldsConfiguration, IsFirstFault, IsLoadedFrom}
 use Rattle.dns_devices.specs.declared.faults.DeviceFault.{DeviceFault}
 use Rattle.dns_devices.specs.declared.faults.DeviceFault.TheVariants.{Exists, Device, Blank, Damaged}
 use Rattle.dns_devices.specs.declared.faults.DeviceFault.TheVariants.{OldFormat, Geometry, ZoneTooLarge}
@@ -40,25 +40,26 @@ Finds = List ℕ → Result Bool DeviceError → Type 0
 abbrev pub sectors_of : ZoneSettings → ℕ
 sectors_of own = 1 + 2 * (own.snapshot_sectors + own.journal_sectors)
 
-abbrev pub shape_of : ZoneSettings → Zone → Shape
-shape_of own zone =
+abbrev pub shape_made : ZoneSettings → Zone → Shape
+shape_made own zone =
     record { apex = zone.apex; snapshot = own.snapshot_sectors; journal = own.journal_sectors }
 
 -- The device was made at the zone's path, and formatted: from then on it opens as the zone, its first
 -- version; and a crash while it was made left it as it came, blank, or as that.
-pub record IsMade {D : Type 0} (g : Ghosts D) (made : Makes D) (own : ZoneSettings) (zone : Zone)
+pub record IsDeviceMade {D : Type 0} (g : Ghosts D) (made : Makes D) (own : ZoneSettings) (zone : Zone)
     (device : D) : Type 0 where
   pub blank : D
   pub came : made (string_bytes own.device) (sectors_of own) (Ok blank)
   pub honest : g.is_honest device ↔ g.is_honest blank
   pub any_moment : g.is_honest blank
-      → LeavesOnly g.moment g.left_since blank device (LeftByFormat g (shape_of own zone) zone.records blank)
+      → LeavesOnly g.moment g.left_since blank device (LeftByFormat g
+      (shape_made own zone) zone.records blank)
   pub keeps : g.is_honest blank → (c : Content) → g.may_leave device c
-      → opens (shape_of own zone) (first_of zone.records) c
+      → opens (shape_made own zone) (first_of zone.records) c
 
 -- Why it was not: no device was made; or the one that was failed, has not the sectors for these sizes, or the
 -- zone's records take more than a snapshot has.
-pub record IsRefused {D : Type 0} (made : Makes D) (own : ZoneSettings) (P : D → Type 0) : Type 0 where
+pub record IsMakingRefused {D : Type 0} (made : Makes D) (own : ZoneSettings) (P : D → Type 0) : Type 0 where
   pub blank : D
   pub came : made (string_bytes own.device) (sectors_of own) (Ok blank)
   pub why : P blank
@@ -66,11 +67,13 @@ pub record IsRefused {D : Type 0} (made : Makes D) (own : ZoneSettings) (P : D �
 abbrev pub IsNotMade : {D : Type 0} → Ghosts D → Makes D → ZoneSettings → Zone → DeviceFault → Type 0
 IsNotMade {D} g made own zone Device =
     ((e : DeviceError) × made (string_bytes own.device) (sectors_of own) (Err e))
-    ⊎ IsRefused made own (λ blank. (after : D) × HasRisen (g.failed blank) (g.failed after))
+    ⊎ IsMakingRefused made own (λ blank. (after : D) × HasRisen (g.failed blank) (g.failed after))
 IsNotMade g made own zone Geometry =
-    IsRefused made own (λ blank. IsGeometry own.snapshot_sectors own.journal_sectors (g.count blank) → ⊥)
+    IsMakingRefused made own
+    (λ blank. IsGeometry own.snapshot_sectors own.journal_sectors (g.count blank) → ⊥)
 IsNotMade g made own zone ZoneTooLarge =
-    IsRefused made own (λ _. own.snapshot_sectors < snapshot_sectors (length (flat_map plain zone.records)))
+    IsMakingRefused made own
+    (λ _. own.snapshot_sectors < snapshot_sectors (length (flat_map plain zone.records)))
 IsNotMade g made own zone OutOfMemory = Unit {0}
 IsNotMade g made own zone Exists = ⊥
 IsNotMade g made own zone Blank = ⊥
@@ -81,7 +84,8 @@ IsNotMade g made own zone OldFormat = ⊥
 abbrev pub is_absent : Finds → ZoneSettings → Type 0
 is_absent found own = found (string_bytes own.device) (Ok false)
 
--- The first device, in order, where there is something, or where that can't be told: its path and the fault.
+-- The first device, in order, where there is something, or where that can't be determined: its path and the
+-- fault.
 abbrev pub IsFound : Finds → ZoneSettings → DeviceFault → Type 0
 IsFound found own fault =
     ((fault ≡ Exists) × found (string_bytes own.device) (Ok true))
@@ -103,17 +107,18 @@ formatted zone = flat_map (λ soa. line (formatted_text zone soa)) (soas zone.re
 
 -- The zone's device was made.
 abbrev pub HasDevice : {D : Type 0} → Ghosts D → Makes D → ZoneSettings → Zone → Type 0
-HasDevice {D} g made own zone = (device : D) × IsMade g made own zone device
+HasDevice {D} g made own zone = (device : D) × IsDeviceMade g made own zone device
 
 -- The devices of the first zones were made, and that of the next one was not, for this: its path, and what
 -- was printed of those before it.
-abbrev pub StopsAt : {D : Type 0} → Ghosts D → Makes D → List ZoneSettings → List Zone → List ℕ → DeviceFault
+abbrev pub MakingStopsAt : {D : Type 0} → Ghosts D → Makes D → List ZoneSettings → List Zone → List ℕ
+    → DeviceFault
     → List ℕ → Type 0
-StopsAt g made (own ∷ settings) (zone ∷ zones) path fault printed =
+MakingStopsAt g made (own ∷ settings) (zone ∷ zones) path fault printed =
     ((path ≡ string_bytes own.device) × IsNotMade g made own zone fault × (printed ≡ []))
     ⊎ ((rest : List ℕ) × (printed ≡ formatted zone ++ rest) × HasDevice g made own zone
-    × StopsAt g made settings zones path fault rest)
-StopsAt g made _ _ path fault printed = ⊥
+    × MakingStopsAt g made settings zones path fault rest)
+MakingStopsAt g made _ _ path fault printed = ⊥
 
 -- How the making of all devices ends. With status 3 a device can't be had, a writer failed or memory was
 -- refused.
@@ -125,7 +130,7 @@ pub record MakingEnds {D : Type 0} (g : Ghosts D) (made : Makes D) (settings : L
       × Keeps err err_after
   pub refused : status ≡ 1
       → (path : List ℕ) × (fault : DeviceFault) × (printed : List ℕ)
-      × StopsAt g made settings zones path fault printed
+      × MakingStopsAt g made settings zones path fault printed
       × (status_of fault ≡ 1) × Appends out out_after printed
       × Appends err err_after (line (device_text path fault explain))
   pub others : status ≤ 1 ⊎ (status ≡ 3)
@@ -134,29 +139,29 @@ pub record MakingEnds {D : Type 0} (g : Ghosts D) (made : Makes D) (settings : L
 pub record IsGiven (config : File) (files : List File) (settings : List ZoneSettings)
     (zones : List Zone) : Type 0 where
   pub configuration : Configuration
-  pub holds : Holds (option_copied config.octets) (Ok configuration)
+  pub holds : HoldsConfiguration (option_copied config.octets) (Ok configuration)
   pub zones_are : settings ≡ configuration.zones.items
-  pub loaded : AllZip (IsLoaded files) settings zones
+  pub loaded : AllZip (IsLoadedFrom files) settings zones
 
 -- The first fault of the configuration or of a master file, in the order of the zones, and its path.
-abbrev pub IsFault : File → List File → List ℕ → Fault → Type 0
-IsFault config files path fault =
-    ((path ≡ config.path.now) × Holds (option_copied config.octets) (Err fault))
-    ⊎ ((c : Configuration) × Holds (option_copied config.octets) (Ok c)
+abbrev pub IsInitFault : File → List File → List ℕ → Fault → Type 0
+IsInitFault config files path fault =
+    ((path ≡ config.path.now) × HoldsConfiguration (option_copied config.octets) (Err fault))
+    ⊎ ((c : Configuration) × HoldsConfiguration (option_copied config.octets) (Ok c)
     × IsFirstFault files c.zones.items path fault)
 
--- How a run of `init` is refused: the first fault of a file is told, and nothing was printed or made; or else
--- that of the first device where there is something already; or else devices were made, up to one that was
--- not.
+-- How a run of `init` is refused: the first fault of a file is reported, and nothing was printed or made; or
+-- else that of the first device where there is something already; or else devices were made, up to one that
+-- was not.
 abbrev pub IsInitRefused : {D : Type 0} → Ghosts D → Finds → Makes D → File → List File → List ℕ
     → List ℕ → Bool → Type 0
 IsInitRefused g found made config files printed text explain =
-    ((path : List ℕ) × (fault : Fault) × IsFault config files path fault × (printed ≡ [])
+    ((path : List ℕ) × (fault : Fault) × IsInitFault config files path fault × (printed ≡ [])
     × (text ≡ fault_text path fault))
     ⊎ ((settings : List ZoneSettings) × (zones : List Zone) × IsGiven config files settings zones
     × (path : List ℕ) × (fault : DeviceFault) × (text ≡ device_text path fault explain)
     × ((IsFirstFound found settings path fault × (printed ≡ []))
-    ⊎ (All (is_absent found) settings × StopsAt g made settings zones path fault printed)))
+    ⊎ (All (is_absent found) settings × MakingStopsAt g made settings zones path fault printed)))
 
 -- How a run of `init` ends. With status 3 a device can't be had, a writer failed or memory was refused.
 pub record InitEnds {D : Type 0} (g : Ghosts D) (found : Finds) (made : Makes D) (config : File)

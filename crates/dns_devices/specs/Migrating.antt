@@ -23,10 +23,10 @@ use Rattle.dns_configuration.specs.declared.configuration.Configuration.{Configu
 use Rattle.dns_configuration.specs.declared.files.File.{File}
 use Rattle.dns_configuration.specs.declared.files.Fault.{Fault}
 use Rattle.dns_configuration.specs.Faults.{fault_text, line}
-use Rattle.dns_configuration.specs.Files.{Holds}
+use Rattle.dns_configuration.specs.Files.{HoldsConfiguration}
 use Rattle.dns_devices.specs.declared.faults.DeviceFault.{DeviceFault}
 use Rattle.dns_devices.specs.Faults.{device_text, fault_of_migrate, status_of}
-use Rattle.dns_devices.specs.Showing.{Gives, IsNotOpened, own_shape}
+use Rattle.dns_devices.specs.Showing.{Gives, IsDeviceNotGiven, own_shape}
 
 -- A crash at any moment of it leaves what `migrate` and then `open` open as a crash might have left the
 -- device before.
@@ -53,9 +53,9 @@ pub record IsMigratedAs {D : Type 0} (g : Ghosts D) (opened : Gives D) (own : Zo
   pub read_only : answer ≡ Already → OnlyReads g device after
 
 -- Why the device was not migrated: where each crash leaves a store with room in format 2, the device failed,
--- memory was refused, or it was opened too often; else by what stands on it. It was only read, unless it
--- failed.
-pub record IsRefused {D : Type 0} (g : Ghosts D) (opened : Gives D) (own : ZoneSettings)
+-- memory was refused, or it was opened too often; else the reason is in what is stored on it. It was only
+-- read, unless it failed.
+pub record IsMigrationRefused {D : Type 0} (g : Ghosts D) (opened : Gives D) (own : ZoneSettings)
     (fault : DeviceFault) : Type 0 where
   pub device : D
   pub after : D
@@ -78,7 +78,7 @@ pub record IsRefused {D : Type 0} (g : Ghosts D) (opened : Gives D) (own : ZoneS
 
 -- ... or none was given.
 abbrev pub IsNotMigrated : {D : Type 0} → Ghosts D → Gives D → ZoneSettings → DeviceFault → Type 0
-IsNotMigrated g opened own fault = IsNotOpened opened own fault ⊎ IsRefused g opened own fault
+IsNotMigrated g opened own fault = IsDeviceNotGiven opened own fault ⊎ IsMigrationRefused g opened own fault
 
 -- What is printed of a zone: the number and the serial of the newest version that its device keeps; or that
 -- it was of format 2.
@@ -99,13 +99,13 @@ AreMigrated g opened (own ∷ settings) printed =
 
 -- The devices of the first zones were migrated, and that of the next one was not, for this: its path, and
 -- what was printed of those before it.
-abbrev pub StopsAt : {D : Type 0} → Ghosts D → Gives D → List ZoneSettings → List ℕ → DeviceFault
+abbrev pub MigratingStopsAt : {D : Type 0} → Ghosts D → Gives D → List ZoneSettings → List ℕ → DeviceFault
     → List ℕ → Type 0
-StopsAt g opened [] path fault printed = ⊥
-StopsAt g opened (own ∷ settings) path fault printed =
+MigratingStopsAt g opened [] path fault printed = ⊥
+MigratingStopsAt g opened (own ∷ settings) path fault printed =
     ((path ≡ string_bytes own.device) × IsNotMigrated g opened own fault × (printed ≡ []))
     ⊎ ((answer : Migration) × (rest : List ℕ) × (printed ≡ migrated own answer ++ rest)
-    × IsMigratedAs g opened own answer × StopsAt g opened settings path fault rest)
+    × IsMigratedAs g opened own answer × MigratingStopsAt g opened settings path fault rest)
 
 -- How the migrating of all devices ends. With status 3 a device can't be had, a writer failed or memory was
 -- refused.
@@ -117,27 +117,27 @@ pub record MigratingEnds {D : Type 0} (g : Ghosts D) (opened : Gives D) (setting
       × Keeps err err_after
   pub refused : status ≡ 1
       → (path : List ℕ) × (fault : DeviceFault) × (printed : List ℕ)
-      × StopsAt g opened settings path fault printed
+      × MigratingStopsAt g opened settings path fault printed
       × (status_of fault ≡ 1) × Appends out out_after printed
       × Appends err err_after (line (device_text path fault explain))
   pub others : status ≤ 1 ⊎ (status ≡ 3)
 
--- How a run of `migrate` is refused: the fault of the configuration is told, and nothing was printed or
+-- How a run of `migrate` is refused: the fault of the configuration is reported, and nothing was printed or
 -- migrated; or else devices were migrated, up to one that was not.
 abbrev pub IsMigrateRefused : {D : Type 0} → Ghosts D → Gives D → File → List ℕ → List ℕ → Bool → Type 0
 IsMigrateRefused g opened config printed text explain =
-    ((fault : Fault) × Holds (option_copied config.octets) (Err fault) × (printed ≡ [])
+    ((fault : Fault) × HoldsConfiguration (option_copied config.octets) (Err fault) × (printed ≡ [])
     × (text ≡ fault_text config.path.now fault))
-    ⊎ ((c : Configuration) × Holds (option_copied config.octets) (Ok c)
+    ⊎ ((c : Configuration) × HoldsConfiguration (option_copied config.octets) (Ok c)
     × (path : List ℕ) × (fault : DeviceFault) × (text ≡ device_text path fault explain)
-    × (status_of fault ≡ 1) × StopsAt g opened c.zones.items path fault printed)
+    × (status_of fault ≡ 1) × MigratingStopsAt g opened c.zones.items path fault printed)
 
 -- How a run of `migrate` ends. With status 3 a device can't be had, a writer failed or memory was refused.
 pub record MigrateEnds {D : Type 0} (g : Ghosts D) (opened : Gives D) (config : File) (explain : Bool)
     (out out_after err err_after : Option (List ℕ)) (status : ℕ)
     : Type 0 where
   pub done : status ≡ 0
-      → (c : Configuration) × Holds (option_copied config.octets) (Ok c)
+      → (c : Configuration) × HoldsConfiguration (option_copied config.octets) (Ok c)
       × ((printed : List ℕ) × AreMigrated g opened c.zones.items printed × Appends out out_after printed
       × Keeps err err_after)
   pub refused : status ≡ 1

@@ -26,7 +26,7 @@ use Rattle.dns_configuration.specs.declared.files.File.{File}
 use Rattle.dns_configuration.specs.declared.files.Fault.{Fault}
 use Rattle.dns_configuration.specs.declared.files.Fault.TheVariants.{BadOrigin}
 use Rattle.dns_configuration.specs.Faults.{fault_text, line}
-use Rattle.dns_configuration.specs.Files.{Holds}
+use Rattle.dns_configuration.specs.Files.{HoldsConfiguration}
 use Rattle.dns_devices.specs.declared.faults.DeviceFault.{DeviceFault}
 use Rattle.dns_devices.specs.Faults.{IsFaultOf, device_text, fault_of_device, status_of}
 
@@ -35,8 +35,8 @@ abbrev pub Gives : Type 0 → Type 1
 Gives D = List ℕ → Result D OpenDeviceError → Type 0
 
 -- None was given for the zone's path, for this.
-abbrev pub IsNotOpened : {D : Type 0} → Gives D → ZoneSettings → DeviceFault → Type 0
-IsNotOpened opened own fault =
+abbrev pub IsDeviceNotGiven : {D : Type 0} → Gives D → ZoneSettings → DeviceFault → Type 0
+IsDeviceNotGiven opened own fault =
     (e : OpenDeviceError) × opened (string_bytes own.device) (Err e) × (fault ≡ fault_of_device e)
 
 abbrev pub own_shape : ZoneSettings → Shape
@@ -44,7 +44,7 @@ own_shape own = record { apex = own.origin; snapshot = own.snapshot_sectors; jou
 
 -- The zone is the newest version of what a crash might have left of the device that was given for the path,
 -- whichever versions there were before the base.
-pub record IsShown {D : Type 0} (g : Ghosts D) (opened : Gives D) (own : ZoneSettings)
+pub record IsDumped {D : Type 0} (g : Ghosts D) (opened : Gives D) (own : ZoneSettings)
     (zone : Zone) : Type 0 where
   pub device : D
   pub came : opened (string_bytes own.device) (Ok device)
@@ -57,7 +57,8 @@ pub record IsShown {D : Type 0} (g : Ghosts D) (opened : Gives D) (own : ZoneSet
       → zone ≡ record { apex = own.origin; records = newest_after o.loaded o.versions })
 
 -- Why the device shows none: where each crash leaves a store that opens, the device failed, memory was
--- refused, or it was opened too often; else by what stands on it. It was only read, unless it failed.
+-- refused, or it was opened too often; else the reason is in what is stored on it. It was only read, unless
+-- it failed.
 pub record IsClosed {D : Type 0} (g : Ghosts D) (opened : Gives D) (own : ZoneSettings)
     (fault : DeviceFault) : Type 0 where
   pub device : D
@@ -78,15 +79,15 @@ pub record IsClosed {D : Type 0} (g : Ghosts D) (opened : Gives D) (own : ZoneSe
 
 -- ... or none was given.
 abbrev pub IsNotShown : {D : Type 0} → Ghosts D → Gives D → ZoneSettings → DeviceFault → Type 0
-IsNotShown g opened own fault = IsNotOpened opened own fault ⊎ IsClosed g opened own fault
+IsNotShown g opened own fault = IsDeviceNotGiven opened own fault ⊎ IsClosed g opened own fault
 
--- How the showing of a device ends: its zone is printed, or its fault is told. With status 3 the device can't
--- be had, a writer failed or memory was refused.
+-- How the showing of a device ends: its zone is printed, or its fault is reported. With status 3 the device
+-- can't be had, a writer failed or memory was refused.
 pub record ShowingEnds {D : Type 0} (g : Ghosts D) (opened : Gives D) (own : ZoneSettings) (explain : Bool)
     (out out_after err err_after : Option (List ℕ)) (status : ℕ)
     : Type 0 where
   pub done : status ≡ 0
-      → (zone : Zone) × IsShown g opened own zone × Appends out out_after (printed_zone zone.records)
+      → (zone : Zone) × IsDumped g opened own zone × Appends out out_after (printed_zone zone.records)
       × Keeps err err_after
   pub refused : status ≡ 1
       → (fault : DeviceFault) × IsNotShown g opened own fault × (status_of fault ≡ 1)
@@ -95,27 +96,27 @@ pub record ShowingEnds {D : Type 0} (g : Ghosts D) (opened : Gives D) (own : Zon
   pub others : status ≤ 1 ⊎ (status ≡ 3)
 
 -- The zone of that name in a configuration.
-abbrev pub zone_named : Labels → List ZoneSettings → Option ZoneSettings
-zone_named name zones = find (λ z. names_eq z.origin name) zones
+abbrev pub zone_configured : Labels → List ZoneSettings → Option ZoneSettings
+zone_configured name zones = find (λ z. names_eq z.origin name) zones
 
 pub record IsNamed (config : File) (origin : List ℕ) (own : ZoneSettings) : Type 0 where
   pub configuration : Configuration
   pub name : Labels
-  pub holds : Holds (option_copied config.octets) (Ok configuration)
+  pub holds : HoldsConfiguration (option_copied config.octets) (Ok configuration)
   pub named : name_of_text [] origin ≡ Ok name
-  pub found : zone_named name configuration.zones.items ≡ Some own
+  pub found : zone_configured name configuration.zones.items ≡ Some own
 
 -- The configuration is refused, for that; or the origin is: it is no name, or that of no zone.
 abbrev pub IsNoName : List ℕ → Configuration → Type 0
 IsNoName origin c =
     ((e : NameError) × (name_of_text [] origin ≡ Err e))
-    ⊎ ((name : Labels) × (name_of_text [] origin ≡ Ok name) × (zone_named name c.zones.items ≡ None))
+    ⊎ ((name : Labels) × (name_of_text [] origin ≡ Ok name) × (zone_configured name c.zones.items ≡ None))
 
-abbrev pub IsUnnamed : File → List ℕ → List ℕ → Type 0
-IsUnnamed config origin text =
-    ((fault : Fault) × Holds (option_copied config.octets) (Err fault)
+abbrev pub IsNoZoneName : File → List ℕ → List ℕ → Type 0
+IsNoZoneName config origin text =
+    ((fault : Fault) × HoldsConfiguration (option_copied config.octets) (Err fault)
     × (text ≡ fault_text config.path.now fault))
-    ⊎ ((c : Configuration) × Holds (option_copied config.octets) (Ok c) × IsNoName origin c
+    ⊎ ((c : Configuration) × HoldsConfiguration (option_copied config.octets) (Ok c) × IsNoName origin c
     × (text ≡ fault_text origin BadOrigin))
 
 -- How a run of `dump` ends. With status 3 the device can't be had, a writer failed or memory was refused.
@@ -123,11 +124,11 @@ pub record DumpEnds {D : Type 0} (g : Ghosts D) (opened : Gives D) (config : Fil
     (explain : Bool) (out out_after err err_after : Option (List ℕ)) (status : ℕ)
     : Type 0 where
   pub done : status ≡ 0
-      → (own : ZoneSettings) × (zone : Zone) × IsNamed config origin own × IsShown g opened own zone
+      → (own : ZoneSettings) × (zone : Zone) × IsNamed config origin own × IsDumped g opened own zone
       × Appends out out_after (printed_zone zone.records) × Keeps err err_after
   pub refused : status ≡ 1
       → (text : List ℕ) × Appends err err_after (line text) × Keeps out out_after
-      × (IsUnnamed config origin text
+      × (IsNoZoneName config origin text
       ⊎ ((own : ZoneSettings) × (fault : DeviceFault) × IsNamed config origin own
       × IsNotShown g opened own fault × (text ≡ device_text (string_bytes own.device) fault explain)))
   pub others : status ≤ 1 ⊎ (status ≡ 3)

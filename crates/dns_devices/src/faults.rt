@@ -1,4 +1,4 @@
-//! What is wrong with a device, and how it is told.
+//! What is wrong with a device, and how it is reported.
 ghost use Rattle.std.specs.Prelude.{◌≡◌, Some, IfOk};
 ghost use Rattle.dns_devices.specs.Faults.{IsDeviceTold, advice, device_text, device_word, is_memory};
 ghost use Rattle.dns_devices.specs.Faults.{status_of};
@@ -89,9 +89,9 @@ impl From<MigrateError> for DeviceFault {
     }
 }
 
-/// Why a device was refused whose store was not opened, for this; it was handed back. A root of format 1,
-/// which is no root of today's format, is told as what it is. It is only read, and only where sector 0 is
-/// said to be wrong. `Device` where it fails then.
+/// Why a device was refused whose store was not opened, for this reason; it was handed back. A root of
+/// format 1, which is no root of today's format, is reported as what it is. It is only read, and only where
+/// sector 0 is said to be wrong. `Device` where it fails then.
 pub fn refusal<D: Sectors>(device: &mut D, error: OpenError) -> DeviceFault
     ensures fault { IsFaultOf D.Sectors error device.old device.new result }
     ensures reads { OnlyReads D.Sectors device.old device.new }
@@ -192,7 +192,7 @@ fn status_of(fault: DeviceFault) -> u8
 }
 
 /// Tells in one line what is wrong with a device, and in a second one, if it is wanted, what can be done;
-/// gives the exit status. Of refused memory nothing is told.
+/// gives the exit status. Of refused memory nothing is reported.
 pub fn tell_device<E: Write>(
     err: &mut E,
     path: &str,

@@ -19,7 +19,7 @@ pub trait Devices<D> {
     /// and where the one there is to be opened.
     ghost opened: { Self → List ℕ → Result D StatedOpenError → Type 0 };
 
-    /// Whether there is anything at a path. `Device` where that can't be told.
+    /// Whether there is anything at a path. `Device` where that can't be determined.
     fn has(&self, path: &str) -> Result<bool, DeviceError>
         ensures { found self.now path.now result };
 

@@ -1,7 +1,8 @@
 //! Devices that are made: the store of each zone, from its master file.
 ghost use Rattle.std.specs.Prelude.{◌≡◌, ◌+◌, ◌*◌, length, All, IfOk, OnOk, MatchOption, MatchResult, Ok};
 ghost use Rattle.std.specs.Io.KnownBytes.{Appends};
-ghost use Rattle.dns_devices.specs.Making.{InitEnds, IsFirstFound, IsFound, IsMade, IsNotMade, MakingEnds};
+ghost use Rattle.dns_devices.specs.Making.{InitEnds, IsFirstFound, IsFound, IsDeviceMade, IsNotMade};
+ghost use Rattle.dns_devices.specs.Making.{MakingEnds};
 ghost use Rattle.dns_devices.specs.Making.{formatted, is_absent, sectors_of};
 
 use crate::faults::{DeviceFault, tell_device};
@@ -30,7 +31,7 @@ fn make_store<D: Sectors + Drop, F: Devices<D>, I: ZoneIndex>(
     own: &ZoneSettings,
     zone: &Zone<I>,
 ) -> Result<D, DeviceFault>
-    ensures { MatchResult result (IsMade D.Sectors (F.made devices.now) own.now zone.now)
+    ensures { MatchResult result (IsDeviceMade D.Sectors (F.made devices.now) own.now zone.now)
         (IsNotMade D.Sectors (F.made devices.now) own.now zone.now) }
 {
     let Ok(mut device) = devices.make(&own.device, sectors_of(own)) else {
@@ -47,7 +48,8 @@ fn make_store<D: Sectors + Drop, F: Devices<D>, I: ZoneIndex>(
     }
 }
 
-/// Why the device of a zone is not to be made: there is something at its path already, or that can't be told.
+/// Why the device of a zone is not to be made: there is something at its path already, or that can't be
+/// determined.
 fn fault_at<D, F: Devices<D>>(devices: &F, own: &ZoneSettings) -> Option<DeviceFault>
     ensures { MatchOption result (is_absent (F.found devices.now) own.now)
         (IsFound (F.found devices.now) own.now) }
@@ -64,7 +66,7 @@ fn fault_at<D, F: Devices<D>>(devices: &F, own: &ZoneSettings) -> Option<DeviceF
     }
 }
 
-/// The path of the first device where there is something already, or where that can't be told.
+/// The path of the first device where there is something already, or where that can't be determined.
 fn first_found<'s, D, F: Devices<D>>(
     devices: &F,
     zones: &'s [ZoneSettings],
@@ -146,7 +148,7 @@ fn init_all<D: Sectors + Drop, F: Devices<D>, I: ZoneIndex, W: Write, E: Write>(
 }
 
 /// Makes the device of each zone of a configuration from its master file, and prints
-/// `formatted ORIGIN serial M` for each. Faults are told in one line, the first in this order: the
+/// `formatted ORIGIN serial M` for each. Faults are reported in one line, the first in this order: the
 /// configuration, the master files in the order of the zones, the devices (`DEVICE: Exists` before any is
 /// made); of a device, if it is wanted, a second line says what can be done. Gives the exit status: `DONE`,
 /// `REFUSED`, or `FAILED` where a device can't be had, a writer failed or memory was refused.

@@ -89,10 +89,10 @@ fn migrate_all<D: Sectors + Drop, F: Devices<D>, I: ZoneIndex, W: Write, E: Writ
 
 /// Makes the device of each zone of a configuration new, in sector format 2, if it is of format 1, and prints
 /// `migrated ORIGIN version V serial M` with the newest version that it keeps, or `ORIGIN already` where it
-/// is of format 2. Faults are told in one line, the first in this order: the configuration, the devices in
-/// the order of the zones, of which, if it is wanted, a second line says what can be done; the devices before
-/// a refused one stay migrated. Gives the exit status: `DONE`, `REFUSED`, or `FAILED` where a device can't be
-/// had, a writer failed or memory was refused. A run that was stopped is made again.
+/// is of format 2. Faults are reported in one line, the first in this order: the configuration, the devices
+/// in the order of the zones, of which, if it is wanted, a second line says what can be done; the devices
+/// before a refused one stay migrated. Gives the exit status: `DONE`, `REFUSED`, or `FAILED` where a device
+/// can't be had, a writer failed or memory was refused. A run that was stopped is made again.
 pub fn migrate<D: Sectors + Drop, F: Devices<D>, I: ZoneIndex, W: Write, E: Write>(
     alloc: Global,
     heap: Heap,

@@ -2,7 +2,7 @@
 ghost use Rattle.std.specs.Prelude.{◌≡◌, find, IfOk, MatchResult};
 ghost use Rattle.std.specs.Option.{option_copied};
 ghost use Rattle.dns_names.specs.Name.{names_eq};
-ghost use Rattle.dns_devices.specs.Showing.{DumpEnds, IsNotShown, IsShown, ShowingEnds};
+ghost use Rattle.dns_devices.specs.Showing.{DumpEnds, IsNotShown, IsDumped, ShowingEnds};
 
 use crate::faults::{DeviceFault, refusal, tell_device};
 use crate::folder::Devices;
@@ -22,7 +22,7 @@ fn open_zone<D: Sectors + Drop, F: Devices<D>, I: ZoneIndex>(
     devices: &F,
     own: &ZoneSettings,
 ) -> Result<Zone<I>, DeviceFault>
-    ensures { MatchResult result (IsShown D.Sectors (F.opened devices.now) own.now)
+    ensures { MatchResult result (IsDumped D.Sectors (F.opened devices.now) own.now)
         (IsNotShown D.Sectors (F.opened devices.now) own.now) }
 {
     let device = devices.open(&own.device)?;
@@ -98,9 +98,9 @@ fn dump_zone<D: Sectors + Drop, F: Devices<D>, I: ZoneIndex, W: Write, E: Write>
     }
 }
 
-/// Prints the zone that the device of a configuration's zone keeps, as a master file. Faults are told in one
-/// line, the first in this order: the configuration, the origin (`ORIGIN: BadOrigin`), the device, of which,
-/// if it is wanted, a second line says what can be done. Gives the exit status: `DONE`, `REFUSED`, or
+/// Prints the zone that the device of a configuration's zone keeps, as a master file. Faults are reported in
+/// one line, the first in this order: the configuration, the origin (`ORIGIN: BadOrigin`), the device, of
+/// which, if it is wanted, a second line says what can be done. Gives the exit status: `DONE`, `REFUSED`, or
 /// `FAILED` where the device can't be had, a writer failed or memory was refused.
 pub fn dump<D: Sectors + Drop, F: Devices<D>, I: ZoneIndex, W: Write, E: Write>(
     alloc: Global,

@@ -86,16 +86,18 @@ subdel.example. 3600 IN NS ns.example.net.
 t.example. 60 IN TXT \"x\"
 ";
 
-/// A command: `init` with this file of the second zone, and whether advice is wanted; `dump` of a zone.
+/// A command, and whether advice is wanted: `init` with this file of the second zone; `dump` of a zone.
 #[derive(Clone, Copy)]
 enum Command {
     Init(&'static str, bool),
-    Dump(&'static str),
-    Migrate,
+    Dump(&'static str, bool),
+    Migrate(bool),
 }
 
-/// That of the first zone.
-const DUMP: Command = Dump("example.");
+/// `dump` of the first zone, and `migrate`.
+const DUMP: Command = Dump("example.", false);
+
+const MIGRATE: Command = Migrate(false);
 
 /// A file with this text.
 fn file<'a>(path: &'a str, text: &'a str) -> File<'a> {
@@ -115,12 +117,12 @@ fn run(rt: &HostRuntime, heap: Heap, command: Command, out: &mut Vec<u8>, err: &
                 alloc, heap, &devices, &config, &files, explain, out, err,
             )
         }
-        Dump(origin) => dump::<Device, _, RecordList, _, _>(
-            alloc, heap, &devices, &config, origin, false, out, err,
+        Dump(origin, explain) => dump::<Device, _, RecordList, _, _>(
+            alloc, heap, &devices, &config, origin, explain, out, err,
         ),
-        Migrate => {
-            migrate::<Device, _, RecordList, _, _>(alloc, heap, &devices, &config, false, out, err)
-        }
+        Migrate(explain) => migrate::<Device, _, RecordList, _, _>(
+            alloc, heap, &devices, &config, explain, out, err,
+        ),
     }
 }
 
@@ -192,46 +194,58 @@ const TOO_LARGE: &str = "formatted example. serial 7\nother.device: ZoneTooLarge
 const EXISTS: &str =
     "other.device: Exists\nother.device: init makes new files alone; move the file away, or serve it\n";
 
+/// What can be done about a damaged sector, and about a device of format 1.
+const DAMAGED: &str =
+    "example.device: Damaged(0)\nexample.device: that sector is not what was written there; \
+a copy of the file, or its master file and init, restores it\n";
+
+const OLD_FORMAT: &str =
+    "example.device: OldFormat\nexample.device: the file was made in an older sector \
+format; migrate makes it new\n";
+
 /// How many octets the device of the first zone has.
 const LEN: usize = 512 * 49;
 
 /// Commands, each with what is there before, the status, and what is printed and told. Faults of files come
 /// before any device is made.
-const RUNS: [(Before, Command, u8, &str); 25] = [
+const RUNS: [(Before, Command, u8, &str); 28] = [
     (Nothing, Init(OTHER, false), 0, FORMATTED),
     (Left, DUMP, 0, PRINTED),
     (Left, Init(OTHER, false), 1, "example.device: Exists\n"),
-    (Left, Migrate, 0, "example. already\nother. already\n"),
+    (Left, MIGRATE, 0, "example. already\nother. already\n"),
     (Left, DUMP, 0, PRINTED),
-    (Left, Dump("none."), 1, "none.: BadOrigin\n"),
-    (Left, Dump("a..b"), 1, "a..b: BadOrigin\n"),
+    (Left, Dump("none.", false), 1, "none.: BadOrigin\n"),
+    (Left, Dump("a..b", false), 1, "a..b: BadOrigin\n"),
     (Second(b"", 0, 1), Init(OTHER, true), 1, EXISTS),
     (Left, DUMP, 3, "example.device: Device\n"),
     (Nothing, Init(NO_TTL, false), 1, "other.zone:1: NoTtl\n"),
     (Left, DUMP, 3, "example.device: Device\n"),
     (Nothing, Init(LARGE, false), 1, TOO_LARGE),
-    (Left, Dump("other."), 3, "other.device: Device\n"),
+    (Left, Dump("other.", false), 3, "other.device: Device\n"),
     (First(b"", 0, LEN), DUMP, 1, "example.device: Blank\n"),
     (First(b"", 1, LEN), DUMP, 1, "example.device: Damaged(0)\n"),
+    (Left, Dump("example.", true), 1, DAMAGED),
+    (Left, Migrate(true), 1, DAMAGED),
     (
         First(b"", 0, LEN + 1),
         DUMP,
         1,
         "example.device: Geometry\n",
     ),
-    (Left, Migrate, 1, "example.device: Geometry\n"),
+    (Left, MIGRATE, 1, "example.device: Geometry\n"),
     (First(ROOT, 0, LEN), DUMP, 1, "example.device: OldFormat\n"),
-    (Left, Migrate, 1, "example.device: Damaged(1)\n"),
-    (Nothing, Migrate, 3, "example.device: Device\n"),
+    (Left, Dump("example.", true), 1, OLD_FORMAT),
+    (Left, MIGRATE, 1, "example.device: Damaged(1)\n"),
+    (Nothing, MIGRATE, 3, "example.device: Device\n"),
     (Nothing, Init(OTHER, false), 0, FORMATTED),
     (Old, DUMP, 1, "example.device: OldFormat\n"),
     (
         Left,
-        Migrate,
+        MIGRATE,
         0,
         "migrated example. version 1 serial 8\nother. already\n",
     ),
-    (Left, Migrate, 0, "example. already\nother. already\n"),
+    (Left, MIGRATE, 0, "example. already\nother. already\n"),
     (Left, DUMP, 0, CHANGED),
 ];
 
@@ -257,7 +271,7 @@ fn commands(rt: HostRuntime) -> Result<(), Fail> {
     }
     let served = FileSectors::open(&rt, "example.device");
     assert!(rt; served.is_ok());
-    for command in [DUMP, Migrate] {
+    for command in [DUMP, MIGRATE] {
         assert!(rt; ends(&rt, heap, command, 3, "example.device: Device\n"));
     }
     Ok(())

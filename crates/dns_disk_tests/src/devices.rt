@@ -2,7 +2,7 @@
 //! and neither which one fails.
 use dns_files::{FileSectors, MemoryFile, OpenDeviceError};
 use dns_memory::{Heap, heap};
-use dns_sectors::{Keep, MemorySectors, Plan, Sectors};
+use dns_sectors::{MemorySectors, Plan, Sectors};
 use std::alloc::AllocError;
 use std::fs::{self, Files};
 use std::rc::Rc;
@@ -49,119 +49,6 @@ fn contents<D: Sectors, const N: usize>(device: &mut D) -> Option<[u8; N]> {
         *octet = read(device, at)?;
     }
     Some(octets)
-}
-
-/// A run over two devices: whether it is the second, which sector, and the octet; 0 stands for a sync.
-const OPERATIONS: [(bool, usize, u8); 8] = [
-    (false, 0, 1),
-    (true, 0, 2),
-    (false, 0, 0),
-    (true, 1, 3),
-    (true, 0, 0),
-    (false, 1, 4),
-    (true, 0, 5),
-    (false, 0, 0),
-];
-
-/// Makes an operation of the run, and says whether it succeeded.
-fn operate<D: Sectors>(device: &mut D, at: usize, octet: u8) -> bool {
-    if octet == 0 {
-        device.sync().is_ok()
-    } else {
-        write(device, at, octet)
-    }
-}
-
-/// What is seen of a run over two devices: which of its operations succeed, whether the plan stops then, and
-/// whether a device fails to be read; the failures of the devices, and after a crash that keeps all writes
-/// and a reset their sectors.
-type Seen = ([bool; 8], [bool; 2], [u64; 2], [Option<[u8; 2]>; 2]);
-
-/// What is seen of the run of which one operation fails and one is the last; 0 is none.
-fn outcome(alloc: Heap, fails: u64, stops: u64) -> Result<Seen, AllocError> {
-    let plan = Rc::new(alloc, Plan::new())?;
-    let mut first = MemorySectors::new(alloc, 2, 8, plan.clone()?)?;
-    let mut second = MemorySectors::new(alloc, 2, 8, plan.clone()?)?;
-    plan.fail_at(3);
-    plan.fail_at(fails);
-    plan.stop_at(stops);
-    let mut done = [false; 8];
-    for (place, (is_second, at, octet)) in done.iter_mut().zip(OPERATIONS.iter()) {
-        *place = if *is_second {
-            operate(&mut second, *at, *octet)
-        } else {
-            operate(&mut first, *at, *octet)
-        };
-    }
-    let stopped = [plan.stopped(), fails_to_read(&mut first, 0)];
-    let failures = [first.failures(), second.failures()];
-    plan.reset();
-    let (mut first, mut second) = (first.crash(Keep::All), second.crash(Keep::All));
-    Ok((
-        done,
-        stopped,
-        failures,
-        [contents(&mut first), contents(&mut second)],
-    ))
-}
-
-/// The failures of the two devices, and their sectors.
-type Left = ([u64; 2], [u8; 2], [u8; 2]);
-
-/// What is left where each operation fails, in order, and where none does.
-const FAILING: [Left; 9] = [
-    ([1, 0], [0, 4], [5, 3]),
-    ([0, 1], [1, 4], [5, 3]),
-    ([1, 0], [1, 4], [5, 3]),
-    ([0, 1], [1, 4], [5, 0]),
-    ([0, 1], [1, 4], [5, 3]),
-    ([1, 0], [1, 0], [5, 3]),
-    ([0, 1], [1, 4], [2, 3]),
-    ([1, 0], [1, 4], [5, 3]),
-    ([0, 0], [1, 4], [5, 3]),
-];
-
-/// What is left where each operation is the last, in order. A read of the first device failed, too.
-const STOPPING: [Left; 8] = [
-    ([5, 4], [1, 0], [0, 0]),
-    ([4, 4], [1, 0], [2, 0]),
-    ([4, 3], [1, 0], [2, 0]),
-    ([3, 3], [1, 0], [2, 3]),
-    ([3, 2], [1, 0], [2, 3]),
-    ([3, 1], [1, 4], [2, 3]),
-    ([2, 1], [1, 4], [5, 3]),
-    ([2, 0], [1, 4], [5, 3]),
-];
-
-/// Whether the run is right of which the n-th operation fails, or is the last; where it is to fail too, it
-/// stops.
-fn is_right(alloc: Heap, n: u64, is_last: bool, left: &Left) -> bool {
-    let mut done = [true; 8];
-    for (i, place) in done.iter_mut().enumerate() {
-        let at = i as u64 + 1;
-        *place = at < n || at > n && !is_last;
-    }
-    let (failures, first, second) = *left;
-    let wanted = (done, [is_last; 2], failures, [Some(first), Some(second)]);
-    outcome(alloc, n, if is_last { n } else { 0 }) == Ok(wanted)
-}
-
-#[test]
-fn fails_once_and_stops(rt: HostRuntime) -> Result<(), Fail> {
-    let alloc = heap(rt.alloc())?;
-    for (i, left) in FAILING.iter().enumerate() {
-        assert!(rt;
-            is_right(alloc, i as u64 + 1, false, left),
-            "{i} before it fails"
-        );
-    }
-    for (i, left) in STOPPING.iter().enumerate() {
-        assert!(rt;
-            is_right(alloc, i as u64 + 1, true, left),
-            "{i} before the last"
-        );
-    }
-    Ok(())
 }
 
 /// How many sectors a device of so many has whose n-th allocation is refused; none where there is no device.

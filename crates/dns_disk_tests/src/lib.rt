@@ -16,13 +16,13 @@ mod devices;
 #[cfg(test)]
 mod example;
 #[cfg(test)]
-mod memory;
-#[cfg(test)]
 mod migration;
 #[cfg(test)]
 mod migration_stops;
 #[cfg(test)]
 mod old_format;
+#[cfg(test)]
+mod openings;
 #[cfg(test)]
 mod primary;
 #[cfg(test)]

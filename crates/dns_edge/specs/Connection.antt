@@ -15,7 +15,7 @@ module _ {S : Type 0} where
   abbrev pub left_of : Connection S → List ℕ
   left_of connection = connection.outbox
 
-  -- the messages that came and were not handled yet, and what came behind them
+  -- the messages that came and were not handled yet, and what came after them
   abbrev pub held_of : Connection S → List (List ℕ)
   held_of connection = map (λ m. m.items) connection.messages.items
 
@@ -34,7 +34,7 @@ module _ {S : Type 0} where
   unhandled connection = concat (map behind_length (held_of connection)) ++ rest_of connection
 
   -- Octets may have moved: what the stream took and what is left to write are what they were, in order, and
-  -- what was read from it stands behind what was not handled yet.
+  -- what was read from it follows what was not handled yet.
   pub record HasMoved (s : Ghosts S) (old new : Connection S) : Type 0 where
     pub faithful : s.is_faithful (stream_of new) ↔ s.is_faithful (stream_of old)
     pub went : s.is_faithful (stream_of old)

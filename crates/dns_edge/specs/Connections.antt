@@ -8,7 +8,7 @@ use Rattle.dns_edge.specs.declared.stream.Moved.{Moved}
 use Rattle.dns_edge.specs.Connection.{IsQueued, MovesOn, HasHandedOver, held_of, left_of}
 
 module _ {S : Type 0} where
-  -- what stands under each number, from 0 on
+  -- what is stored under each number, from 0 on
   abbrev pub places_of : Connections S → List (Option (Connection S))
   places_of connections = connections.places.items
 
@@ -21,8 +21,8 @@ module _ {S : Type 0} where
   abbrev pub is_open : ℕ → List (Option (Connection S)) → Bool
   is_open number places = is_open_at (slice_get places number)
 
-  -- A reply was queued on the connection with that number: this one stood there, if there is such a place and
-  -- a connection in it, and nothing else is another than it was.
+  -- A reply was queued on the connection with that number: this one was there, if there is such a place and a
+  -- connection in it, and nothing else has changed.
   abbrev pub IsPushedTo : ℕ → List ℕ → Option (Option (Connection S)) → List (Option (Connection S))
       → List (Option (Connection S)) → Type 0
   IsPushedTo number reply None old new = new ≡ old
@@ -39,8 +39,7 @@ module _ {S : Type 0} where
   has_left_at (Some None) = false
   has_left_at (Some (Some c)) = not (length (left_of c) == 0)
 
-  -- Nothing is another than it was, or octets may have moved on the connection with that number, and on no
-  -- other one.
+  -- Nothing has changed, or octets may have moved on the connection with that number, and on no other one.
   abbrev pub HasMovedAt : Ghosts S → ℕ → Moved → List (Option (Connection S))
       → List (Option (Connection S)) → Type 0
   HasMovedAt s number moved old new =
@@ -48,8 +47,8 @@ module _ {S : Type 0} where
       ⊎ ((c : Connection S) × (d : Connection S) × (slice_get old number ≡ Some (Some c))
       × MovesOn s moved c d × (new ≡ slice_set old number (Some d)))
 
-  -- The connection with that number handed over its first message, and no other one is another than it was;
-  -- or it had none.
+  -- The connection with that number handed over its first message, and no other one has changed; or it had
+  -- none.
   abbrev pub HandsOver : ℕ → Option (List ℕ) → List (Option (Connection S))
       → List (Option (Connection S)) → Type 0
   HandsOver number None old new =

@@ -4,16 +4,16 @@ use Rattle.std.specs.Prelude.{map}
 use Rattle.std.specs.List.{All, concat}
 use Rattle.std.specs.Int.{w16, to_be_bytes}
 
--- A message behind its length, which is two octets, the high one first.
+-- A message after its length, which is two octets, the high one first.
 abbrev pub behind_length : List ℕ → List ℕ
 behind_length message = to_be_bytes w16 (length message) ++ message
 
--- No whole message stands at the front.
+-- No whole message is at the front.
 abbrev pub BeginsWithNone : List ℕ → Type 0
 BeginsWithNone octets =
     (message rest : List ℕ) → length message < 65536 → octets ≡ behind_length message ++ rest → ⊥
 
--- A stream is these messages, each behind its length, and a rest that is no whole message.
+-- A stream is these messages, each after its length, and a rest that is no whole message.
 pub record IsFramed (stream : List ℕ) (messages : List (List ℕ)) (rest : List ℕ) : Type 0 where
   pub short : All (λ message. length message < 65536) messages
   pub whole : stream ≡ concat (map behind_length messages) ++ rest

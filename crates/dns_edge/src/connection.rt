@@ -66,7 +66,7 @@ impl<S: Stream + Drop> Connection<S> {
         !self.outbox.is_empty()
     }
 
-    /// Puts a reply behind all that is left to write, with its length before it. Where memory is refused it
+    /// Puts a reply after all that is left to write, with its length before it. Where memory is refused it
     /// isn't there.
     pub fn push(&mut self, reply: &[u8]) -> Result<(), AllocError>
         requires { length reply.now < 65536 }
@@ -99,7 +99,7 @@ impl<S: Stream + Drop> Connection<S> {
     pub fn read(&mut self, alloc: Heap, buffer: &mut [u8], now: u64) -> Moved
         ensures writes_first { left_of self.old ≢ [] → self.new ≡ self.old }
         ensures held_first { held_of self.old ≢ [] → self.new ≡ self.old }
-        // The piece that was read is behind what was read before, and its messages are held.
+        // The piece that was read follows what was read before, and its messages are held.
         ensures came { S.is_faithful (stream_of self.old) → IfOctets result
             ((piece : List ℕ) × (S.received (stream_of self.new) ≡ S.received (stream_of self.old) ++ piece)
             × IsFramed (rest_of self.old ++ piece) (held_of self.new) (rest_of self.new)) }

@@ -1,4 +1,4 @@
-//! Messages on a stream, each behind two octets of its length (RFC 1035 section 4.2.2): `Framing::feed`.
+//! Messages on a stream, each after two octets of its length (RFC 1035 section 4.2.2): `Framing::feed`.
 ghost use Rattle.std.specs.Prelude.{◌≡◌, ℕ, ◌-◌, ◌≤◌, ◌<◌, List, [], ◌++◌, length, drop, IfOk, IfSome, OnErr};
 ghost use Rattle.std.specs.Prelude.{None, map};
 ghost use Rattle.dns_edge.specs.Framed.{behind_length, BeginsWithNone, IsFramed};
@@ -27,7 +27,7 @@ impl Model for Framing {
     ghost invariant = { λ f. BeginsWithNone f.rest.items };
 }
 
-/// The first message of a stream and what stands behind it, where a whole message stands there.
+/// The first message of a stream and what follows it, where a whole message is there.
 fn first_message(stream: &[u8]) -> Option<(&[u8], &[u8])>
     ensures found { IfSome result (λ p.
         (length p.0.now < 65536) × (stream.now ≡ behind_length p.0.now ++ p.1.now)) }
@@ -44,7 +44,7 @@ fn first_message(stream: &[u8]) -> Option<(&[u8], &[u8])>
     Some(behind.split_at(size))
 }
 
-/// The whole messages at the front of a stream, and how many octets are left behind them.
+/// The whole messages at the front of a stream, and how many octets are left after them.
 #[derive(Drop)]
 struct Taken {
     messages: Vec<Octets, Heap>,
@@ -103,7 +103,7 @@ impl Framing {
     }
 }
 
-/// The two octets that stand before a message on a stream.
+/// The two octets that precede a message on a stream.
 pub fn length_octets(message: &[u8]) -> [u8; 2]
     requires { length message.now < 65536 }
     ensures { result ++ message.now ≡ behind_length message.now }
@@ -111,7 +111,7 @@ pub fn length_octets(message: &[u8]) -> [u8; 2]
     (message.len() as u16).to_be_bytes()
 }
 
-/// A stream has one reading, and however it is cut its messages are those of its pieces, each behind what the
+/// A stream has one reading, and however it is cut its messages are those of its pieces, each after what the
 /// pieces before it left.
 pub fn framing_law()
     ensures once { (stream : List ℕ) (messages messages' : List (List ℕ)) (rest rest' : List ℕ)

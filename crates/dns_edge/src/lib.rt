@@ -1,4 +1,4 @@
-//! What stands between sockets and messages.
+//! What is between sockets and messages.
 #![tactic(auto)]
 
 mod connection;

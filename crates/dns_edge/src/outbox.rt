@@ -8,7 +8,7 @@ use dns_memory::Heap;
 use std::alloc::AllocError;
 use std::marker::Model;
 
-/// The octets that are left to write to a stream: replies in their order, each behind its length, the first
+/// The octets that are left to write to a stream: replies in their order, each after its length, the first
 /// one perhaps cut.
 #[derive(Drop)]
 pub struct Outbox {
@@ -40,7 +40,7 @@ impl Outbox {
         self.octets.is_empty()
     }
 
-    /// Puts a reply behind all that is left to write. Where memory is refused it isn't there.
+    /// Puts a reply after all that is left to write. Where memory is refused it isn't there.
     pub fn push(&mut self, reply: &[u8]) -> Result<(), AllocError>
         requires { length reply.now < 65536 }
         ensures queued { OnOk result (self.new ≡ self.old ++ behind_length reply.now) }
@@ -60,7 +60,7 @@ impl Outbox {
     /// Hands to the stream what is left to write, and keeps what it doesn't take.
     pub fn write<S: Stream>(&mut self, stream: &mut S) -> Moved
         ensures rest { self.new ≡ drop (moved result) self.old }
-        // What was taken of the stream and what is left are what they were, in order.
+        // What was taken by the stream and what is left are what they were, in order.
         ensures went { S.is_faithful stream.old
             → S.sent stream.new ++ self.new ≡ S.sent stream.old ++ self.old }
         ensures still { S.is_faithful stream.old → S.received stream.new ≡ S.received stream.old }

@@ -3,13 +3,13 @@ use Rattle.std.proofs.Common.{◌≡◌, ◌⊎◌, inl, inr, ⊎_elim, ℕ, zer
 use Rattle.std.proofs.lemmas.List.{take_all, take-append-le}
 use Rattle.dns_files.specs.Octets.{padded, written}
 use Rattle.dns_files.specs.File.{MayChange, FollowsBy, Passes}
-use Rattle.dns_files.specs.Memory.{after, after_all, HeldSince}
+use Rattle.dns_files.specs.Memory.{file_after, after_all, HeldSince}
 use Rattle.dns_files.specs.declared.memory.Change.{Change}
 use Rattle.dns_files.proofs.Arithmetic.{padded_zeros}
 
-pub after-push : (octets : List ℕ) (changes : List Change) (change : Change) → after_all octets (changes ++ change ∷ []) ≡ after (after_all octets changes) change
+pub after-push : (octets : List ℕ) (changes : List Change) (change : Change) → after_all octets (changes ++ change ∷ []) ≡ file_after (after_all octets changes) change
 after-push octets [] change = refl
-after-push octets (x ∷ changes) change = after-push (after octets x) changes change
+after-push octets (x ∷ changes) change = after-push (file_after octets x) changes change
 
 -- before the new change, or behind it
 last_or_earlier : (k n : ℕ) → k ≤ n + 1 → (k ≤ n) ⊎ (n + 1 ≤ k)
@@ -37,13 +37,13 @@ passes start changes change = record {
 
 -- What stands once the change is in the record.
 module _ (start : List ℕ) (changes changes' : List Change) (change : Change) (pushed : changes' ≡ changes ++ change ∷ []) where
-  pub changed : after_all start changes' ≡ after (after_all start changes) change
+  pub changed : after_all start changes' ≡ file_after (after_all start changes) change
   changed = ap (after_all start) pushed ∙ after-push start changes change
 
-  pub may_change : MayChange (λ octets. after octets change) (after_all start changes) (after_all start changes')
+  pub may_change : MayChange (λ octets. file_after octets change) (after_all start changes) (after_all start changes')
   may_change = inr changed
 
-  pub follows : FollowsBy (λ octets. after octets change) (λ c. c ≡ after_all start changes) (λ c. c ≡ after_all start changes')
+  pub follows : FollowsBy (λ octets. file_after octets change) (λ c. c ≡ after_all start changes) (λ c. c ≡ after_all start changes')
   follows c is = (after_all start changes, refl, inr (is ∙ changed))
 
   pub passes_by : Passes (length changes) (length changes') (HeldSince start changes) (HeldSince start changes') (λ c. c ≡ after_all start changes')

@@ -7,13 +7,13 @@ use Rattle.dns_files.specs.declared.memory.Change.{Change}
 use Rattle.dns_files.specs.declared.memory.Change.TheVariants.{Wrote, Resized}
 
 -- the octets after a change
-abbrev pub after : List ℕ → Change → List ℕ
-after octets (Wrote offset new) = written offset new octets
-after octets (Resized len) = padded len octets
+abbrev pub file_after : List ℕ → Change → List ℕ
+file_after octets (Wrote offset new) = written offset new octets
+file_after octets (Resized len) = padded len octets
 
 abbrev pub after_all : List ℕ → List Change → List ℕ
 after_all octets [] = octets
-after_all octets (change ∷ changes) = after_all (after octets change) changes
+after_all octets (change ∷ changes) = after_all (file_after octets change) changes
 
 -- what a crash since the first t changes of the record left: what the file held then or after a later one
 abbrev pub HeldSince : List ℕ → List Change → ℕ → List ℕ → Type 0

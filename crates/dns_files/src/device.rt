@@ -20,9 +20,8 @@ pub enum OpenDeviceError {
 }
 
 /// A device in a file. It is honest where the file is, and then a crash leaves of it the sectors of what it
-/// leaves of the file; octets behind the file's end count as zeros there. A call of the file that fails, or
-/// that moves fewer octets than a sector has, is a failure of the device, and so a read behind the end is
-/// one.
+/// leaves of the file; octets past the file's end count as zeros there. A call of the file that fails, or
+/// that moves fewer octets than a sector has, is a failure of the device, and so a read past the end is one.
 #[derive(Drop)]
 pub struct FileSectors<F: File> {
     file: F,

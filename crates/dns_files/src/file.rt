@@ -49,8 +49,8 @@ pub trait File {
         ensures answer { measured self.now result }
         ensures octets { is_honest self.now → IfOk result (λ len. len ≡ length (seen self.now)) };
 
-    /// Cuts the octets behind this length off, or adds zeros up to it. Where it fails the length may be
-    /// changed or not.
+    /// Cuts off the octets past this length, or adds zeros up to it. Where it fails the length may be changed
+    /// or not.
     fn set_len(&mut self, len: u64) -> Result<(), FileError>
         ensures done { is_honest self.old → OnOk result (seen self.new ≡ padded len (seen self.old)) }
         ensures undone { is_honest self.old

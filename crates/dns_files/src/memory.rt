@@ -75,7 +75,7 @@ impl Drop for MemoryFile {
     }
 }
 
-// Puts octets in the place of those that stand at an offset.
+// Puts octets in place of those at an offset.
 fn overwrite(held: &mut [u8], at: usize, octets: &Sector)
     requires { at + 512 ≤ length held.old }
     ensures { held.new ≡ take at held.old ++ (octets.now ++ drop (at + 512) held.old) }

@@ -14,7 +14,7 @@ use Rattle.dns_changes.specs.Version.{serial_in}
 use Rattle.dns_serial.specs.Serial.{greater}
 use Rattle.dns_wire.specs.Message.{ResourceRecord}
 use Rattle.dns_transfer.specs.Form.{Form, Current, Incremental, Full, advances, is_journalled, since, form_since, form_of}
-use Rattle.dns_transfer.specs.Records.{sequence, sequences, others, answer_of, transfer_from, transfer_of}
+use Rattle.dns_transfer.specs.Records.{sequence, sequences, others, transfer_answer, transfer_from, transfer_of}
 use Rattle.dns_update.proofs.Accepted.{IsSent, IsLeft, accepted}
 use Rattle.dns_copies.specs.Versions.{IsStep, LeadTo, EndAlike}
 use Rattle.dns_store.specs.Versions.{Versions, newest_after}
@@ -73,7 +73,7 @@ form_valid current cs (Some serial) h =
       ]
     ]
 
-answer_valid : (soa : Record) (records : List Record) (form : Form) → IsRecord soa → AllByRecursion IsRecord records → HasValid form → AllByRecursion IsRecord (answer_of soa records form)
+answer_valid : (soa : Record) (records : List Record) (form : Form) → IsRecord soa → AllByRecursion IsRecord records → HasValid form → AllByRecursion IsRecord (transfer_answer soa records form)
 answer_valid soa records Current s h f = (s, tt)
 answer_valid soa records (Incremental cs) s h f = (s, valid_joined (sequences cs) (soa ∷ []) (sequences_valid cs f) (s, tt))
 answer_valid soa records Full s h f = (s, valid_joined (others records) (soa ∷ []) (valid_filter (λ r. not (is_soa r)) records h) (s, tt))

@@ -19,14 +19,14 @@ use Rattle.dns_request.specs.declared.request.Transport.{Transport}
 use Rattle.dns_request.specs.declared.request.Transport.TheVariants.{Udp, Tcp}
 use Rattle.dns_answer.specs.Answer.{handled}
 use Rattle.dns_transfer.specs.Form.{Form, Current, Incremental, Full, form_of, advances}
-use Rattle.dns_transfer.specs.Records.{answer_of, transfer_from, transfer_of}
-use Rattle.dns_transfer.specs.Session.{Sending, Version, IsOpened}
+use Rattle.dns_transfer.specs.Records.{transfer_answer, transfer_from, transfer_of}
+use Rattle.dns_transfer.specs.Session.{Sending, Version, IsTransferOpened}
 use Rattle.dns_update.proofs.Accepted.{IsSent, updates_sent}
 use Rattle.dns_secondary.specs.Receiving.{Receiving, type_asked}
 use Rattle.dns_secondary.specs.Request.{question_asked, soas_held, request_message, request_octets}
 use Rattle.dns_secondary.proofs.Asked.{asked_reads, type_small}
 use Rattle.dns_copies.specs.Versions.{LeadTo, EndAlike}
-use Rattle.dns_copies.specs.Copies.{IsFollowed, AreAnswers, SendsAll, Follows, answer_for, serial_held}
+use Rattle.dns_copies.specs.Copies.{IsFollowed, AreAnswers, SendsAll, FollowsInOrder, answer_for, serial_held}
 use Rattle.dns_copies.specs.Copies as copies
 use Rattle.dns_copies.proofs.Chains.{behind, last_zone}
 use Rattle.dns_copies.proofs.Fed.{transfer_is_followed}
@@ -41,7 +41,7 @@ use Rattle.dns_primary.specs.Transfer.{changes_along, version_of, zone_at, zone_
 use Rattle.dns_primary.specs.Step.{Event, Datagram, Arrives, Connect, Flush, Checkpoint, Pump, Closed, Effects, Step}
 use Rattle.dns_primary.specs.Continues.{OpensOn, Continues}
 use Rattle.dns_primary.specs.Fresh.{IsLoaded, IsFresh}
-use Rattle.dns_primary.specs.Runs.{Moment, Took, Stopped, after, Happens, Run, last_of, IsHistory, HasHistory, Lasts, AllLast, Brings, BringsIn, CameIn, AllCameIn, Promise}
+use Rattle.dns_primary.specs.Runs.{Moment, Took, Stopped, machine_after, Happens, Run, last_of, IsHistory, HasHistory, Lasts, AllLast, Brings, BringsIn, CameIn, AllCameIn, Promise}
 use Rattle.dns_primary.proofs.Zonewise.{pair_found, all_found}
 use Rattle.dns_primary.proofs.Brought.{IsNamed, NamedAt, place_named}
 use Rattle.dns_primary.proofs.Stopping.{fresh_keeps, history_front, later_lasts}
@@ -54,11 +54,11 @@ use Rattle.dns_headline.proofs.Read.{update_reads, transfer_read}
 -- ---- runs
 pub run_parts : (m : Machine) (xs ys : List Moment) → Run m (xs ++ ys) → Run m xs × Run (last_of m xs) ys
 run_parts m [] ys r = (tt, r)
-run_parts m (t ∷ xs) ys r = (let rest = run_parts (after t) xs ys r.1 in ((r.0, rest.0), rest.1))
+run_parts m (t ∷ xs) ys r = (let rest = run_parts (machine_after t) xs ys r.1 in ((r.0, rest.0), rest.1))
 
 last_joined : (m : Machine) (xs ys : List Moment) → last_of m (xs ++ ys) ≡ last_of (last_of m xs) ys
 last_joined m [] ys = refl
-last_joined m (t ∷ xs) ys = last_joined (after t) xs ys
+last_joined m (t ∷ xs) ys = last_joined (machine_after t) xs ys
 
 -- ---- what came
 carried : (m : Machine) (event : Event) (z : ZoneState) (u : Message) → CarriesOctets event → Brings m event z u → AllByRecursion IsSent u.authorities
@@ -81,7 +81,7 @@ brought m (Stopped event tries new) z u o b = absurd b
 came_sent : (m : Machine) (run : List Moment) (z : ZoneState) (u : Message) → AllByRecursion AreOctetsIn run → CameIn m run z u → AllByRecursion IsSent u.authorities
 came_sent m [] z u o c = absurd c
 came_sent m (t ∷ rest) z u o (inl b) = brought m t z u o.0 b
-came_sent m (t ∷ rest) z u o (inr c) = came_sent (after t) rest z u o.1 c
+came_sent m (t ∷ rest) z u o (inr c) = came_sent (machine_after t) rest z u o.1 c
 
 all_sent : (m : Machine) (run : List Moment) (z : ZoneState) (made : List Made) → AllByRecursion AreOctetsIn run → AllByRecursion (λ u. CameIn m run z u.update) made → AreSent made
 all_sent m run z [] o c = tt
@@ -312,10 +312,10 @@ same_some a b e = cc
 some_left : (s : Sending) (kept : List Change) (shown : List Record) (client : Option ℕ) → soas shown ≡ s.soa ∷ [] → s.left ≡ transfer_of shown kept client → s.left ≡ [] → ⊥
 some_left s kept shown client one left none = go (form_of (serial_of s.soa) kept client) from
   where
-    from : answer_of s.soa shown (form_of (serial_of s.soa) kept client) ≡ []
+    from : transfer_answer s.soa shown (form_of (serial_of s.soa) kept client) ≡ []
     from = sym (ap (λ (ss : List Record). transfer_from ss shown kept client) one) ∙ sym left ∙ none
 
-    go : (f : Form) → answer_of s.soa shown f ≡ [] → ⊥
+    go : (f : Form) → transfer_answer s.soa shown f ≡ [] → ⊥
     go Current e = absurd cc
     go (Incremental cs) e = absurd cc
     go Full e = absurd cc
@@ -421,12 +421,12 @@ module _ (zones : List Zone) (settings : List ZoneSettings) (start : Machine) (e
   followed : IsFollowed s.apex s.held (kept w k) shown
   followed = held_is_followed w named s.held asks.held
 
-  opened_here : IsOpened Tcp (request_octets s.apex s.held s.id) (request_message s.apex s.held s.id) (question_asked s.apex s.held)
+  opened_here : IsTransferOpened Tcp (request_octets s.apex s.held s.id) (request_message s.apex s.held s.id) (question_asked s.apex s.held)
       (record { zone = record { apex = s.apex; records = shown }; changes = kept w k }) sending
   opened_here =
-      let o = subst (λ (q : Question). IsOpened Tcp (request_octets s.apex s.held s.id) (request_message s.apex s.held s.id) q (version_of w) sending) question_same
-      (subst (λ (m : Message). IsOpened Tcp (request_octets s.apex s.held s.id) m on.question (version_of w) sending) message_same
-      (subst (λ (xs : List ℕ). IsOpened Tcp xs on.message on.question (version_of w) sending) comes on.opened)) in
+      let o = subst (λ (q : Question). IsTransferOpened Tcp (request_octets s.apex s.held s.id) (request_message s.apex s.held s.id) q (version_of w) sending) question_same
+      (subst (λ (m : Message). IsTransferOpened Tcp (request_octets s.apex s.held s.id) m on.question (version_of w) sending) message_same
+      (subst (λ (xs : List ℕ). IsTransferOpened Tcp xs on.message on.question (version_of w) sending) comes on.opened)) in
       record { by = o.by; heading = o.heading; question = o.question; soa = o.soa; left = o.left }
 
   left_is : sending.left ≡ answer_for s.held (kept w k) shown
@@ -436,7 +436,7 @@ module _ (zones : List Zone) (settings : List ZoneSettings) (start : Machine) (e
   goes_on = subst (λ (o : Option Sending). Continues number later' o) opens.opens (run_goes number later' opened (sending_at number opened.connections) refl rest_run.1)
 
   follows : (taken : List (List ℕ)) (message : List ℕ) (rest : List (List ℕ)) (fed : Receiving) → IsGivenOut number (Some sending) later'
-      → pumped_in number later' ≡ taken ++ message ∷ rest → copies.GoesOn s taken fed → Follows fed message rest shown
+      → pumped_in number later' ≡ taken ++ message ∷ rest → copies.AllTellMore s taken fed → FollowsInOrder fed message rest shown
   follows taken message rest fed given messages went =
       let leads = kept_leads w k in
       let all = given_all number later' sending (some_left sending (kept w k) shown (serial_held s.held) opened_here.soa left_is) goes_on given in
@@ -447,7 +447,7 @@ module _ (zones : List Zone) (settings : List ZoneSettings) (start : Machine) (e
         named = asks.named;
         number = asks.number;
         sending = sending;
-        opened = subst (λ (t : Transport). IsOpened t (request_octets s.apex s.held s.id) (request_message s.apex s.held s.id) (question_asked s.apex s.held)
+        opened = subst (λ (t : Transport). IsTransferOpened t (request_octets s.apex s.held s.id) (request_message s.apex s.held s.id) (question_asked s.apex s.held)
             (record { zone = record { apex = s.apex; records = shown }; changes = kept w k }) sending) (sym asks.by_tcp) opened_here;
         not_cut = λ udp. (let clash : Tcp ≡ Udp = sym asks.by_tcp ∙ udp in absurd cc);
         each = subst (AllByRecursion IsRecord) (sym left_is) (transfer_valid shown (kept w k) (serial_held s.held) (whole w k).each (kept_valid w k));

@@ -5,7 +5,7 @@ use Rattle.std.specs.List.{flat_map}
 use Rattle.dns_records.specs.Record.{Record}
 use Rattle.dns_zone.specs.Order.{number_itself}
 use Rattle.dns_zone.proofs.Kept.{numbers_same}
-use Rattle.dns_transfer.specs.Session.{Sending, Sends}
+use Rattle.dns_transfer.specs.Session.{Sending, SendsMessage}
 use Rattle.dns_copies.specs.Copies.{SendsAll}
 use Rattle.dns_primary.specs.Machine.{sending_at}
 use Rattle.dns_primary.specs.Flush.{Sent}
@@ -13,7 +13,7 @@ use Rattle.dns_primary.specs.Transfer.{open_still}
 use Rattle.dns_primary.specs.Step.{Event, Datagram, Arrives, Connect, Flush, Checkpoint, Pump, Closed, Effects}
 use Rattle.dns_primary.specs.Runs.{Moment, Took, Stopped}
 use Rattle.dns_primary.specs.Continues.{GivesNext, GoesOn, Continues}
-use Rattle.dns_headline.specs.Headline.{IsGivenOut, octets_of, pumped, pumped_in}
+use Rattle.dns_headline.specs.Headline.{IsGivenOut, octets_sent, pumped, pumped_in}
 
 -- the event pumps the connection, or it gives nothing out
 abbrev IsPump : ℕ → Event → Effects → Type 0
@@ -23,7 +23,7 @@ of_pump : (number other : ℕ) (effects : Effects) (b : Bool) → (other == numb
 of_pump number other effects true e = inl (ap Pump (numbers_same other number e))
 of_pump number other effects false e = inr (
   λ is. (let same : other ≡ number = cc in let itself = number_itself number in let clash : true ≡ false = sym itself ∙ sym (ap (λ n. n == number) same) ∙ e in absurd cc),
-  ap (λ b. if b then flat_map octets_of effects.sent else []) e,
+  ap (λ b. if b then flat_map octets_sent effects.sent else []) e,
 )
 
 is_pump : (number : ℕ) (event : Event) (effects : Effects) → IsPump number event effects
@@ -35,9 +35,9 @@ is_pump number Flush effects = inr (λ e. absurd cc, refl)
 is_pump number (Checkpoint place) effects = inr (λ e. absurd cc, refl)
 is_pump number (Closed other) effects = inr (λ e. absurd cc, refl)
 
-pumped_is : (number : ℕ) (event : Event) (effects : Effects) (sent : List Sent) → event ≡ Pump number → effects.sent ≡ sent → pumped number event effects ≡ flat_map octets_of sent
+pumped_is : (number : ℕ) (event : Event) (effects : Effects) (sent : List Sent) → event ≡ Pump number → effects.sent ≡ sent → pumped number event effects ≡ flat_map octets_sent sent
 pumped_is number event effects sent e f =
-    ap (λ (x : Event). pumped number x effects) e ∙ ap (λ b. if b then flat_map octets_of effects.sent else []) (number_itself number) ∙ ap (flat_map octets_of) f
+    ap (λ (x : Event). pumped number x effects) e ∙ ap (λ b. if b then flat_map octets_sent effects.sent else []) (number_itself number) ∙ ap (flat_map octets_sent) f
 
 some_left : (r : Record) (rest : List Record) → r ∷ rest ≡ [] → ⊥
 some_left r rest e = absurd cc

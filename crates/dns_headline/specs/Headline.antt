@@ -12,7 +12,7 @@ use Rattle.dns_secondary.specs.Receiving.{Receiving}
 use Rattle.dns_secondary.specs.Request.{request_octets}
 use Rattle.dns_secondary.specs.State.{Begun}
 use Rattle.dns_copies.specs.Copies as copies
-use Rattle.dns_copies.specs.Copies.{Follows}
+use Rattle.dns_copies.specs.Copies.{FollowsInOrder}
 use Rattle.dns_store.specs.Versions.{shown_of}
 use Rattle.dns_held.specs.Held.{shown_zone}
 use Rattle.dns_primary.specs.declared.primary.ZoneSettings.{ZoneSettings}
@@ -71,13 +71,13 @@ pub record OpensFor (s : Receiving) (number : ℕ) (old : Machine) (event : Even
   pub none : sending_at number old.connections ≡ None
   pub opens : sending_at number new.connections ≡ Some sending
 
-abbrev pub octets_of : Sent → List (List ℕ)
-octets_of (Answered w rcode) = []
-octets_of (Replied to octets) = octets ∷ []
+abbrev pub octets_sent : Sent → List (List ℕ)
+octets_sent (Answered w rcode) = []
+octets_sent (Replied to octets) = octets ∷ []
 
 -- The messages that a pump of the connection gives out.
 abbrev pub pumped : ℕ → Event → Effects → List (List ℕ)
-pumped number (Pump other) effects = if other == number then flat_map octets_of effects.sent else []
+pumped number (Pump other) effects = if other == number then flat_map octets_sent effects.sent else []
 pumped number (Datagram peer octets) effects = []
 pumped number (Arrives other octets) effects = []
 pumped number (Connect peer) effects = []
@@ -113,7 +113,7 @@ TransfersAreFollowed =
     → OpensFor s number (last_of start (earlier ++ between)) event opened sending
     → IsGivenOut number (Some sending) later
     → pumped_in number later ≡ before ++ message ∷ rest
-    → copies.GoesOn s before now
+    → copies.AllTellMore s before now
     → (w : ZoneState)
     × (zone_named s.apex (last_of start (earlier ++ between)).zones ≡ Some w)
-    × Follows now message rest (shown_of (kept_of w))
+    × FollowsInOrder now message rest (shown_of (kept_of w))

@@ -5,7 +5,7 @@ use Rattle.dns_records.specs.Record.{Record}
 use Rattle.dns_sectors.specs.Device.{Content, LeavesOnly}
 use Rattle.dns_sectors.proofs.Moments.{weaker, joined}
 use Rattle.dns_store.specs.Versions.{Versions, Shape, Kept, Opened, OpensAsLeft, OpensAsEither, StandsStill}
-use Rattle.dns_store.specs.Checkpoint.{IsKeptNumber, entries_of}
+use Rattle.dns_store.specs.Checkpoint.{IsKeptNumber, entries_after_base}
 use Rattle.dns_store.proofs.Keeping.{most_there}
 use Rattle.dns_held.specs.Flush.{flushed}
 use Rattle.dns_held.specs.Checkpoint.{OpensAsCheckpointed}
@@ -31,7 +31,7 @@ closed_still k = closed_by k.shape k.loaded k.shown k.staged k.base k.second k.o
 
 -- So many changes are kept.
 pub number_there : (k : Kept) (keep room : ℕ) → (d : ℕ) × IsKeptNumber k keep room d
-number_there k keep room = most_there (λ size. size) (entries_of k) keep (k.shape.journal - room)
+number_there k keep room = most_there (λ size. size) (entries_after_base k) keep (k.shape.journal - room)
 
 left_by : (opens : Shape → Opened → Content → Type 0) (shape : Shape) (loaded : List Record) (shown staged : Versions) (base : ℕ) (second : Option ℕ) (openings : ℕ) (closed : Bool) (c : Content)
     → OpensAsLeft opens (flushed false (record { shape = shape; loaded = loaded; shown = shown; staged = staged; base = base; second = second; openings = openings; closed = closed })) c

@@ -9,7 +9,7 @@ use Rattle.dns_records.specs.Record.{Record}
 use Rattle.dns_zone.specs.Zone.{Zone, IsZone}
 use Rattle.dns_zone.specs.Sets.{sorted_from}
 use Rattle.dns_changes.specs.Change.{Change, IsChange}
-use Rattle.dns_changes.specs.Version.{IsNext}
+use Rattle.dns_changes.specs.Version.{IsVersionAfter}
 use Rattle.dns_journal.specs.declared.journal.StageError.{StageError}
 use Rattle.dns_journal.specs.declared.journal.StageError.TheVariants as lower
 use Rattle.dns_store.specs.Versions.{Kept, Versions, newest_after, newest_of, staged_with}
@@ -32,7 +32,7 @@ pub newer_is : {I S : Type 0} (keeps : S → Kept → Type 0) (zone : Zone) (b :
 newer_is keeps zone b k held = tip_newest zone b.tip k held.zone_is held.tip_is
 
 -- what is counted beside a version are its octets, where it has so few records
-pub counted : (before : Zone) (octets n : ℕ) (after : List Record) (c : Change) → IsZone before → IsNext before c after → IsChange before.records after c → octets ≡ octets_of before.records
+pub counted : (before : Zone) (octets n : ℕ) (after : List Record) (c : Change) → IsZone before → IsVersionAfter before c after → IsChange before.records after c → octets ≡ octets_of before.records
     → ((kept : ℕ) → octets ≡ octets_of (c.old_soa ∷ c.removed) + kept → octets_of (c.new_soa ∷ c.added) + kept < 2 ^ 64 → n ≡ octets_of (c.new_soa ∷ c.added) + kept) → length after ≤ 65536 → n ≡ octets_of after
 counted before octets n after c valid next change is moved few =
     let sum = counts before.records after c (sorted_from before.records valid.ordered) (sorted_from after next.version.ordered) change in
@@ -45,7 +45,7 @@ within true e = absurd (cc e)
 within false e = refl
 
 -- the next version is valid where it is not too large
-pub next_valid : (before : Zone) (after : List Record) (c : Change) → IsNext before c after → length after ≤ 65536 → IsZone (record { apex = before.apex; records = after })
+pub next_valid : (before : Zone) (after : List Record) (c : Change) → IsVersionAfter before c after → length after ≤ 65536 → IsZone (record { apex = before.apex; records = after })
 next_valid before after c next few = record {
   ordered = next.version.ordered;
   each = next.version.each;

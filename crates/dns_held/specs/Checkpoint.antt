@@ -7,12 +7,12 @@ use Rattle.dns_held.specs.Flush.{flushed}
 
 -- The number of the base that a zone gets which was flushed: the shown version less so many of the newest
 -- changes.
-abbrev pub IsNextBase : ℕ → ℕ → Kept → ℕ → Type 0
-IsNextBase keep room k base =
+abbrev pub IsNextBaseNumber : ℕ → ℕ → Kept → ℕ → Type 0
+IsNextBaseNumber keep room k base =
     (d : ℕ) × IsKeptNumber (flushed false k) keep room d × (base ≡ length (flushed false k).shown - d)
 
 -- A crash leaves the shown version with some of those staged, or all of them with the new base.
 abbrev pub OpensAsCheckpointed : (Shape → Opened → Content → Type 0) → ℕ → ℕ → Kept → Content → Type 0
 OpensAsCheckpointed opens keep room k c =
     OpensAsLeft opens k c
-    ⊎ ((base : ℕ) × IsNextBase keep room k base × OpensAsLeft opens (moved_to base (flushed false k)) c)
+    ⊎ ((base : ℕ) × IsNextBaseNumber keep room k base × OpensAsLeft opens (moved_to base (flushed false k)) c)

@@ -1,4 +1,4 @@
--- Lists of one length, place by place.
+-- Lists of one length, element by element.
 use Rattle.std.specs.Prelude.{List, [], ◌∷◌}
 
 abbrev pub Each2 : {A B : Type 0} → (A → B → Type 0) → List A → List B → Type 0

@@ -22,7 +22,7 @@ first_true [] = None
 first_true (true ∷ rest) = Some 0
 first_true (false ∷ rest) = option_map suc (first_true rest)
 
--- The count of failures rose, or stood at its last value.
+-- The count of failures rose, or was at its last value.
 abbrev pub HasFailed : ℕ → ℕ → Type 0
 HasFailed before after = (before < after) ⊎ (before ≡ 2 ^ 64 - 1)
 

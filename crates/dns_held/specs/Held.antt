@@ -1,4 +1,4 @@
--- A zone as it is shown, and what stands behind it.
+-- A zone as it is shown, and what backs it.
 use Rattle.std.specs.Prelude.{◌≡◌, List, [], ◌∷◌, length, Option, Some, None}
 use Rattle.dns_zone.specs.Zone.{Zone}
 use Rattle.dns_store.specs.Versions.{Kept, shown_of, newest_of}
@@ -27,7 +27,7 @@ abbrev pub IsTip : Option Zone → Kept → Type 0
 IsTip None k = k.staged ≡ []
 IsTip (Some tip) k = tip ≡ newest_zone k
 
--- These are the versions of the zone, and of what stands behind it. `keeps` says what its store keeps.
+-- These are the versions of the zone, and of what backs it. `keeps` says what its store keeps.
 pub record HasVersions {I S : Type 0} (keeps : S → Kept → Type 0) (zone : Zone) (b : Behind I S)
     (k : Kept) : Type 0 where
   pub zone_is : zone ≡ shown_zone k

@@ -1,4 +1,4 @@
-//! What stands behind a zone that is shown.
+//! What backs a zone that is shown.
 ghost use Rattle.std.specs.Prelude.{◌≡◌};
 ghost use Rattle.dns_store.specs.Versions.{Kept};
 ghost use Rattle.dns_held.specs.Held.{HasVersions, newer, newest_zone};
@@ -6,8 +6,8 @@ ghost use Rattle.dns_held.specs.Held.{HasVersions, newer, newest_zone};
 use dns_store::ZoneStore;
 use dns_zone::{Zone, ZoneIndex};
 
-/// What stands behind a zone that is shown: its newest version where some are staged, its store, and what
-/// room there is.
+/// What backs a zone that is shown: its newest version where some are staged, its store, and what room there
+/// is.
 #[derive(Drop)]
 pub struct Behind<I: ZoneIndex, S: ZoneStore> {
     /// The newest version, where it isn't the one that is shown.

@@ -37,7 +37,7 @@ pub fn flush_zone<I: ZoneIndex, S: ZoneStore>(zone: &mut Zone<I>, behind: &mut B
     }
 }
 
-/// The place of the first failure, where it is known of one place more whether it failed.
+/// The position of the first failure, where it is known of one position more whether it failed.
 fn first_failure(first: Option<usize>, failed: bool, place: usize) -> Option<usize>
     ensures { (fails : List Bool) → first ≡ first_true fails → place ≡ length fails
         → result ≡ first_true (fails ++ failed ∷ []) }
@@ -48,7 +48,7 @@ fn first_failure(first: Option<usize>, failed: bool, place: usize) -> Option<usi
     }
 }
 
-/// Flushes all zones in order. Answers the place of the first whose device failed.
+/// Flushes all zones in order. Answers the position of the first whose device failed.
 pub fn flush_all<I: ZoneIndex, S: ZoneStore>(
     zones: &mut [Zone<I>],
     behind: &mut [Behind<I, S>],

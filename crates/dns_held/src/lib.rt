@@ -1,4 +1,4 @@
-//! Zones with their stores: what is shown of each, and what is staged behind it.
+//! Zones with their stores: what is shown of each, and what is staged after it.
 #![tactic(auto)]
 
 mod behind;

@@ -1,8 +1,8 @@
-//! Changes that are put behind a zone's newest version, where there is room, and what room they lack.
+//! Changes that are staged after a zone's newest version, where there is room, and what room they lack.
 ghost use Rattle.std.specs.Prelude.{◌≡◌, ◌≤◌, true, length, Some, None, IfOk, OnOk, OnErr};
 ghost use Rattle.dns_zone.specs.Zone.{Zone as Stated, IsZone, zone_fault};
 ghost use Rattle.dns_changes.specs.Change.{IsChange};
-ghost use Rattle.dns_changes.specs.Version.{IsNext};
+ghost use Rattle.dns_changes.specs.Version.{IsVersionAfter};
 ghost use Rattle.dns_store.specs.Versions.{Kept, StandsStill, newest_of, staged_with};
 ghost use Rattle.dns_held.specs.Held.{HasVersions, newer};
 ghost use Rattle.dns_store.specs.Plain.{octets_of};
@@ -19,7 +19,7 @@ use thiserror::Error;
 /// How many records a zone may have.
 pub const MOST_RECORDS: usize = 65536;
 
-/// Why a change was not put behind a zone.
+/// Why a change was not staged after a zone's newest version.
 #[derive(Clone, Copy, Debug, Error, PartialEq, Eq)]
 pub enum StagingError {
     /// There is no room for the version: it has too many records, its snapshot or its entry takes more
@@ -88,7 +88,7 @@ fn lacks_room<I: ZoneIndex, S: ZoneStore>(
     change: &Change,
     records: &I,
 ) -> bool
-    requires next { IsNext (newer zone.now behind.now.tip) change.now (I.records records.now) }
+    requires next { IsVersionAfter (newer zone.now behind.now.tip) change.now (I.records records.now) }
     requires change { IsChange (newer zone.now behind.now.tip).records (I.records records.now) change.now }
     ensures { (k : Kept) → HasVersions S.keeps zone.now behind.now k
         → result ≡ lacks_room k (I.records records.now) }
@@ -107,7 +107,7 @@ pub fn sectors_lacked<I: ZoneIndex, S: ZoneStore>(
     change: &Change,
     records: &I,
 ) -> Option<usize>
-    requires next { IsNext (newer zone.now behind.now.tip) change.now (I.records records.now) }
+    requires next { IsVersionAfter (newer zone.now behind.now.tip) change.now (I.records records.now) }
     requires change { IsChange (newer zone.now behind.now.tip).records (I.records records.now) change.now }
     ensures { (k : Kept) → HasVersions S.keeps zone.now behind.now k
         → result ≡ sectors_lacked k (I.records records.now) }
@@ -127,7 +127,7 @@ pub fn next_version<I: ZoneIndex>(newest: &Zone<I>, records: I) -> Result<Zone<I
     Ok(Zone::of_valid(apex, records))
 }
 
-/// Puts the version that a change leads to behind the newest one, in memory alone. Where it is refused, all
+/// Puts the version that a change leads to after the newest one, in memory alone. Where it is refused, all
 /// stays as it was.
 ///
 /// `NoRoom` before `Full`: of the one no flush and no checkpoint makes room.
@@ -137,7 +137,7 @@ pub fn stage<I: ZoneIndex, S: ZoneStore>(
     change: Change,
     records: I,
 ) -> Result<(), StagingError>
-    requires next { IsNext (newer zone.now behind.old.tip) change (I.records records) }
+    requires next { IsVersionAfter (newer zone.now behind.old.tip) change (I.records records) }
     requires change { IsChange (newer zone.now behind.old.tip).records (I.records records) change }
     ensures staged { (k : Kept)
         → HasVersions S.keeps zone.now behind.old k

@@ -18,7 +18,7 @@ use Rattle.dns_layout.specs.declared.root.Bank.{Bank}
 use Rattle.dns_changes.specs.Change.{Change}
 use Rattle.dns_journal.specs.declared.read.Cursor.{Cursor}
 use Rattle.dns_journal.specs.declared.conversion.Places.{Places}
-use Rattle.dns_journal.specs.Bank.{sectors_of, LaysBank, IsTurned}
+use Rattle.dns_journal.specs.Bank.{sectors_of_entries, LaysBank, IsTurned}
 use Rattle.dns_journal.specs.Clearing.{IsToClear}
 use Rattle.dns_journal.specs.Converting.{bank_writes, LeavesConverted, OpensCleared}
 use Rattle.dns_journal.proofs.Places.{at_set-other, some-length, all_are_some, applied-append}
@@ -111,7 +111,7 @@ module _ (r : Root) (bank opened base : ℕ) (octets : List ℕ) (changes : List
   parts_writes = writes_from (snapshot_place (rooms_of r) bank) lays.parts
 
   abbrev entry_writes : List Write
-  entry_writes = writes_from (journal_place (rooms_of r) bank) (sectors_of lays.entries)
+  entry_writes = writes_from (journal_place (rooms_of r) bank) (sectors_of_entries lays.entries)
 
   count_is : snapshot_sectors (length octets) ≡ length parts_writes
   count_is = sym lays.count ∙ sym (length_writes (snapshot_place (rooms_of r) bank) lays.parts)
@@ -121,7 +121,7 @@ module _ (r : Root) (bank opened base : ℕ) (octets : List ℕ) (changes : List
       pairs_take (snapshot_sectors (length octets)) ws ∙ ap (λ (l : List Write). take (snapshot_sectors (length octets)) l) lays.written ∙ ap (λ n. take n (parts_writes ++ entry_writes)) count_is
       ∙ take-append_seam parts_writes entry_writes
 
-  pub back_is : pairs (drop (snapshot_sectors (length octets)) ws) ≡ writes_from (journal_place (rooms_of r) bank) (sectors_of lays.entries)
+  pub back_is : pairs (drop (snapshot_sectors (length octets)) ws) ≡ writes_from (journal_place (rooms_of r) bank) (sectors_of_entries lays.entries)
   back_is =
       pairs_drop (snapshot_sectors (length octets)) ws ∙ ap (λ (l : List Write). drop (snapshot_sectors (length octets)) l) lays.written ∙ ap (λ n. drop n (parts_writes ++ entry_writes)) count_is
       ∙ drop-append_seam parts_writes entry_writes
@@ -129,15 +129,15 @@ module _ (r : Root) (bank opened base : ℕ) (octets : List ℕ) (changes : List
   pub parts_len : length (take (snapshot_sectors (length octets)) ws) ≡ length lays.parts
   parts_len = sym (length_pairs (take (snapshot_sectors (length octets)) ws)) ∙ ap (λ (l : List Write). length l) front_is ∙ length_writes (snapshot_place (rooms_of r) bank) lays.parts
 
-  pub entries_len : length (drop (snapshot_sectors (length octets)) ws) ≡ length (sectors_of lays.entries)
-  entries_len = sym (length_pairs (drop (snapshot_sectors (length octets)) ws)) ∙ ap (λ (l : List Write). length l) back_is ∙ length_writes (journal_place (rooms_of r) bank) (sectors_of lays.entries)
+  pub entries_len : length (drop (snapshot_sectors (length octets)) ws) ≡ length (sectors_of_entries lays.entries)
+  entries_len = sym (length_pairs (drop (snapshot_sectors (length octets)) ws)) ∙ ap (λ (l : List Write). length l) back_is ∙ length_writes (journal_place (rooms_of r) bank) (sectors_of_entries lays.entries)
 
   pub enough_writes : snapshot_sectors (length octets) ≤ length ws
   enough_writes =
       let all : length ws ≡ length (parts_writes ++ entry_writes) = sym (length_pairs ws) ∙ ap (λ (l : List Write). length l) lays.written in
       omega (arith, all, length-append parts_writes entry_writes, count_is)
 
-  pub entries_end : journal_place (rooms_of r) bank + length (sectors_of lays.entries) ≤ bank_end (rooms_of r) bank
+  pub entries_end : journal_place (rooms_of r) bank + length (sectors_of_entries lays.entries) ≤ bank_end (rooms_of r) bank
   entries_end = sectors_within lays.entries (bank_end (rooms_of r) bank) (journal_place (rooms_of r) bank) base opened (omega arith) lays.batch
 
   module _ (p : Places) (places : ArePlaces r bank p) where
@@ -145,8 +145,8 @@ module _ (r : Root) (bank opened base : ℕ) (octets : List ℕ) (changes : List
     pub whole_is : bank_writes p (take (snapshot_sectors (length octets)) ws) (drop (snapshot_sectors (length octets)) ws) ≡
         (writes_from (snapshot_place (rooms_of r) bank) lays.parts
         ++ zeros_from (snapshot_place (rooms_of r) bank + length lays.parts) (journal_place (rooms_of r) bank - (snapshot_place (rooms_of r) bank + length lays.parts)))
-        ++ (writes_from (journal_place (rooms_of r) bank) (sectors_of lays.entries)
-        ++ zeros_from (journal_place (rooms_of r) bank + length (sectors_of lays.entries)) (bank_end (rooms_of r) bank - (journal_place (rooms_of r) bank + length (sectors_of lays.entries))))
+        ++ (writes_from (journal_place (rooms_of r) bank) (sectors_of_entries lays.entries)
+        ++ zeros_from (journal_place (rooms_of r) bank + length (sectors_of_entries lays.entries)) (bank_end (rooms_of r) bank - (journal_place (rooms_of r) bank + length (sectors_of_entries lays.entries))))
     whole_is = λ i. (front_is i ++ zeros_from (places.first i + parts_len i) (places.journal i - (places.first i + parts_len i)))
         ++ (back_is i ++ zeros_from (places.journal i + entries_len i) (places.until i - (places.journal i + entries_len i)))
 
@@ -171,7 +171,7 @@ module _ (s : Shape) (k : Stored) (d : Content) (x : List ℕ) (parts : List (Li
   xs = lays.parts
 
   abbrev ys : List (List ℕ)
-  ys = sectors_of lays.entries
+  ys = sectors_of_entries lays.entries
 
   abbrev low : ℕ
   low = snapshot_place s (other_of (number x))

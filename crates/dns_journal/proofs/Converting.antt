@@ -7,12 +7,12 @@ use Rattle.std.specs.List.{flat_map}
 use Rattle.dns_sectors.specs.Device.{Content}
 use Rattle.dns_sectors.specs.Crash.{Write, applied, SomeApplied}
 use Rattle.dns_sectors.specs.Phase.{zeros_from}
-use Rattle.dns_layout.specs.Sector.{sector_at, blank, AreZeros, sequence, number, payload, bank_open, snapshot_length, snapshot_sectors, clear}
+use Rattle.dns_layout.specs.Sector.{sector_at, blank, AreZeros, sequence_number, number, payload, bank_open, snapshot_length, snapshot_sectors, clear}
 use Rattle.dns_layout.specs.Own.{IsIntactIn}
 use Rattle.dns_layout.specs.Journal.{IsNextHead, IsBatch, Stand, place_behind, writes_from}
 use Rattle.dns_layout.specs.Store.{Shape, Stored, IsRoot, AreParts, OpensBy, OpensByIn, all_sectors, snapshot_place, journal_place, bank_end, other_of, version_of}
 use Rattle.dns_layout.specs.declared.format.Format.TheVariants.{One, Two}
-use Rattle.dns_journal.specs.Bank.{sectors_of}
+use Rattle.dns_journal.specs.Bank.{sectors_of_entries}
 use Rattle.dns_journal.proofs.Places.{at_set-same, at_set-other, some-length, all_are_some}
 use Rattle.dns_journal.proofs.Reading.{stand_same}
 use Rattle.dns_journal.proofs.Altered.{same_or_not}
@@ -28,9 +28,9 @@ old_stays s k d x parts opens ws between c some = other_bank One s k d x parts o
 
 -- ---- the root is turned, and says that the old bank isn't cleared
 pub converted_opens : (s : Shape) (d : Content) (y : List ℕ) (parts : List (List ℕ)) (new : Stored) (opened : ℕ)
-    → length d ≡ all_sectors s → IsRoot s y → sequence y ≡ new.base → bank_open y ≡ opened → length parts ≡ snapshot_sectors (snapshot_length y) → AreParts y 0 parts
+    → length d ≡ all_sectors s → IsRoot s y → sequence_number y ≡ new.base → bank_open y ≡ opened → length parts ≡ snapshot_sectors (snapshot_length y) → AreParts y 0 parts
     → take (snapshot_length y) (flat_map payload parts) ≡ new.snapshot → AreZeros (drop (snapshot_length y) (flat_map payload parts))
-    → Stand d (snapshot_place s (number y)) parts → Stand d (journal_place s (number y)) (sectors_of new.entries)
+    → Stand d (snapshot_place s (number y)) parts → Stand d (journal_place s (number y)) (sectors_of_entries new.entries)
     → IsBatch (bank_end s (number y)) (journal_place s (number y)) new.base opened new.entries
     → (IsNextHead (bank_end s (number y)) (place_behind (journal_place s (number y)) new.entries) (version_of new) opened (sector_at d (place_behind (journal_place s (number y)) new.entries)) → ⊥)
     → IsIntactIn Two 0 y → ((at : ℕ) → snapshot_place s (number y) ≤ at → at < bank_end s (number y) → IsIntactIn Two at (sector_at d at)) → clear y ≡ 0

@@ -10,7 +10,7 @@ use Rattle.dns_layout.specs.Sector.{AreZeros, sector_at, open_count, payload_in,
 use Rattle.dns_layout.specs.Forms.{SaysHeadIn}
 use Rattle.dns_layout.specs.Journal.{Entry, size_of, octets_of_in, IsNextHeadIn, IsBodyIn, AreBodiesIn, ReadsIn}
 use Rattle.dns_layout.specs.declared.head.Head.{Head}
-use Rattle.dns_journal.specs.Reads.{sectors_from, HoldsEntry, ReadsFrom, Finds, IsWrongBody, IsWrongEnd, IsBadEntry, IsRefusal, NamesSpoilt}
+use Rattle.dns_journal.specs.Reads.{sectors_from, HoldsEntry, ReadsFrom, FindsEntry, IsWrongBody, IsWrongEnd, IsBadEntry, IsRefusal, NamesSpoilt}
 use Rattle.dns_journal.specs.declared.read.ReadError.{ReadError}
 use Rattle.dns_journal.specs.declared.read.ReadError.TheVariants.{Device, Damaged, OutOfMemory}
 use Rattle.dns_journal.specs.declared.read.Cursor.{Cursor}
@@ -74,7 +74,7 @@ module _ (f : Format) where
 
   -- what stands at a cursor, as an entry
   pub found : (old new : Cursor) (x : List ℕ) (h : Head) (c : Content) (octets : List ℕ) → sector_at c old.at ≡ x → IsNextHeadIn f old.until old.at old.version old.opened x → SaysHeadIn f x h → HoldsEntry f x old.at c octets
-      → new.at ≡ old.at + entry_sectors_in f h.length → new.until ≡ old.until → new.version ≡ h.version → new.opened ≡ h.open_count → Finds f old new c octets
+      → new.at ≡ old.at + entry_sectors_in f h.length → new.until ≡ old.until → new.version ≡ h.version → new.opened ≡ h.open_count → FindsEntry f old new c octets
   found old new x h c octets stands next says holds place until version opened = record {
     entry = record { head = x; bodies = sectors_from c (old.at + 1) (number x) };
     next = record { head = next; count = length-from c (old.at + 1) (number x); bodies = holds.bodies; zeros = holds.zeros };
@@ -109,7 +109,7 @@ module _ (f : Format) where
   refused_read cursor c place (next, inr fault) = nothing_read cursor (sector_at c cursor.at) c refl next (λ are zeros. fault.wrong zeros)
 
   -- nor does an entry stand there
-  pub refused_found : (cursor new : Cursor) (c : Content) (octets : List ℕ) → Finds f cursor new c octets → (place : ℕ) → IsRefusal f cursor c (Damaged place) → ⊥
+  pub refused_found : (cursor new : Cursor) (c : Content) (octets : List ℕ) → FindsEntry f cursor new c octets → (place : ℕ) → IsRefusal f cursor c (Damaged place) → ⊥
   refused_found cursor new c octets finds place refusal =
       let x = sector_at c cursor.at in
       let head : finds.entry.head ≡ x = sym finds.head in
@@ -128,14 +128,14 @@ module _ (f : Format) where
 
   -- where an entry stands, what reading refuses is that a sector isn't intact
   pub bad_found : (cursor new : Cursor) (x : List ℕ) (d c : Content) (from until : ℕ) (octets : List ℕ) (e : ReadError) → sector_at c cursor.at ≡ x → IsNextHeadIn f cursor.until cursor.at cursor.version cursor.opened x
-      → Finds f cursor new c octets → NamesSpoilt f d from until e ⊎ IsBadEntry f x cursor.at c e → NamesSpoilt f d from until e
+      → FindsEntry f cursor new c octets → NamesSpoilt f d from until e ⊎ IsBadEntry f x cursor.at c e → NamesSpoilt f d from until e
   bad_found cursor new x d c from until octets e stands next finds (inl spoilt) = spoilt
   bad_found cursor new x d c from until octets Device stands next finds (inr bad) = tt
   bad_found cursor new x d c from until octets (Damaged place) stands next finds (inr bad) = absurd (refused_found cursor new c octets finds place (refused cursor x c (Damaged place) stands next bad))
   bad_found cursor new x d c from until octets OutOfMemory stands next finds (inr bad) = tt
 
   -- What is found is the first of what is read, whatever that is.
-  pub first_read : (old new : Cursor) (c : Content) (octets : List ℕ) → Finds f old new c octets → (es : List Entry) → ReadsFrom f old c es
+  pub first_read : (old new : Cursor) (c : Content) (octets : List ℕ) → FindsEntry f old new c octets → (es : List Entry) → ReadsFrom f old c es
       → (e : Entry) × (rest : List Entry) × (es ≡ e ∷ rest) × (octets ≡ octets_of_in f e) × ReadsFrom f new c rest
   first_read old new c octets finds [] there = absurd (there (subst (λ (y : List ℕ). IsNextHeadIn f old.until old.at old.version old.opened y) (sym finds.head) finds.next.head))
   first_read old new c octets finds (e ∷ es) there =
@@ -157,7 +157,7 @@ module _ (f : Format) where
   none_is_read cursor c ends (e ∷ es) there = absurd (ends (subst (λ (y : List ℕ). IsNextHeadIn f cursor.until cursor.at cursor.version cursor.opened y) (sym there.1) there.0.head))
 
   -- What is found at a cursor is one entry.
-  pub finds_once : (old new new' : Cursor) (c : Content) (octets octets' : List ℕ) → Finds f old new c octets → Finds f old new' c octets' → (new ≡ new') × (octets ≡ octets')
+  pub finds_once : (old new new' : Cursor) (c : Content) (octets octets' : List ℕ) → FindsEntry f old new c octets → FindsEntry f old new' c octets' → (new ≡ new') × (octets ≡ octets')
   finds_once old new new' c octets octets' a b =
       let head : a.entry.head ≡ b.entry.head = sym a.head ∙ b.head in
       let bodies : a.entry.bodies ≡ b.entry.bodies =

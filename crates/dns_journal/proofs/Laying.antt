@@ -17,7 +17,7 @@ use Rattle.dns_changes.specs.Change.{Change}
 use Rattle.dns_changes.specs.Entry.{entry}
 use Rattle.dns_journal.specs.declared.read.Cursor.{Cursor}
 use Rattle.dns_journal.specs.Staging.{Stages}
-use Rattle.dns_journal.specs.Bank.{piece, part_of, Holds, sectors_of, sectors_for, AreEntries, PushesParts, PushesEntry, PushesEntries, LaysBank}
+use Rattle.dns_journal.specs.Bank.{piece, part_of, HoldsOctets, sectors_of_entries, sectors_for, AreEntries, PushesParts, PushesEntry, PushesEntries, LaysBank}
 use Rattle.dns_journal.proofs.Looking.{flat_more}
 use Rattle.dns_journal.proofs.Pushing.{writes_more, part_more, front_is}
 use Rattle.dns_journal.proofs.Staged.{batch_more}
@@ -48,7 +48,7 @@ parts_none at opened base octets old = record {
 }
 
 -- one part more
-pub parts_more : (at opened base : ℕ) (octets : List ℕ) (i : ℕ) (old mid new : List Write) (y : List ℕ) → PushesParts at opened base octets i old mid → payload_room * i ≤ length octets → SaysPart y (part_of opened base i) → Holds y (piece octets i) → Own (at + i) y
+pub parts_more : (at opened base : ℕ) (octets : List ℕ) (i : ℕ) (old mid new : List Write) (y : List ℕ) → PushesParts at opened base octets i old mid → payload_room * i ≤ length octets → SaysPart y (part_of opened base i) → HoldsOctets y (piece octets i) → Own (at + i) y
     → new ≡ mid ++ (at + i, y) ∷ [] → PushesParts at opened base octets (i + 1) old new
 parts_more at opened base octets i old mid new y pushes le says held y_own new_is = record {
   sectors = pushes.sectors ++ y ∷ [];
@@ -91,14 +91,14 @@ entries_push [] (f ∷ es) c e are last = absurd are
 entries_push (d ∷ cs) [] c e are last = absurd are
 entries_push (d ∷ cs) (f ∷ es) c e are last = (are.0, entries_push cs es c e are.1 last)
 
-sectors_push : (es : List Entry) (e : Entry) → sectors_of (es ++ e ∷ []) ≡ sectors_of es ++ (e.head ∷ e.bodies)
+sectors_push : (es : List Entry) (e : Entry) → sectors_of_entries (es ++ e ∷ []) ≡ sectors_of_entries es ++ (e.head ∷ e.bodies)
 sectors_push [] e = ap (λ (l : List (List ℕ)). e.head ∷ l) (append-nil e.bodies)
 sectors_push (f ∷ es) e =
-    ap (λ (l : List (List ℕ)). f.head ∷ (f.bodies ++ l)) (sectors_push es e) ∙ ap (λ (l : List (List ℕ)). f.head ∷ l) (sym (append_assoc f.bodies (sectors_of es) (e.head ∷ e.bodies)))
+    ap (λ (l : List (List ℕ)). f.head ∷ (f.bodies ++ l)) (sectors_push es e) ∙ ap (λ (l : List (List ℕ)). f.head ∷ l) (sym (append_assoc f.bodies (sectors_of_entries es) (e.head ∷ e.bodies)))
 
-pub sectors_place : (es : List Entry) (at : ℕ) → at + length (sectors_of es) ≡ place_behind at es
+pub sectors_place : (es : List Entry) (at : ℕ) → at + length (sectors_of_entries es) ≡ place_behind at es
 sectors_place [] at = omega arith
-sectors_place (e ∷ es) at = omega (arith, length-append e.bodies (sectors_of es)) ∙ sectors_place es (at + size_of e)
+sectors_place (e ∷ es) at = omega (arith, length-append e.bodies (sectors_of_entries es)) ∙ sectors_place es (at + size_of e)
 
 -- one entry more
 pub entries_more : (old mid new : Cursor) (changes : List Change) (c : Change) (before middle after : List Write) → PushesEntries old mid changes before middle → PushesEntry mid new (entry c) middle after → PushesEntries old new (changes ++ c ∷ []) before after
@@ -114,13 +114,13 @@ entries_more old mid new changes c before middle after all one =
       batch = batch_more all.entries e old.until old.at old.version old.opened all.batch next (one.opened ∙ all.opened_stays);
       own =
           subst (λ (xs : List (List ℕ)). AreOwn (writes_from old.at xs)) (sym (sectors_push all.entries e))
-          (subst (λ (ws : List Write). AreOwn ws) (sym (sectors_append (sectors_of all.entries) (e.head ∷ e.bodies) old.at))
-          (own_append (writes_from old.at (sectors_of all.entries)) (writes_from (old.at + length (sectors_of all.entries)) (e.head ∷ e.bodies)) all.own
+          (subst (λ (ws : List Write). AreOwn ws) (sym (sectors_append (sectors_of_entries all.entries) (e.head ∷ e.bodies) old.at))
+          (own_append (writes_from old.at (sectors_of_entries all.entries)) (writes_from (old.at + length (sectors_of_entries all.entries)) (e.head ∷ e.bodies)) all.own
           (subst (λ n. AreOwn (writes_from n (e.head ∷ e.bodies))) (all.place ∙ sym (sectors_place all.entries old.at)) one.own)));
       written =
-          one.written ∙ ap (λ (l : List Write). l ++ writes_from mid.at (e.head ∷ e.bodies)) all.written ∙ append_assoc before (writes_from old.at (sectors_of all.entries)) (writes_from mid.at (e.head ∷ e.bodies))
-          ∙ ap (λ n. before ++ (writes_from old.at (sectors_of all.entries) ++ writes_from n (e.head ∷ e.bodies))) (all.place ∙ sym (sectors_place all.entries old.at))
-          ∙ ap (λ (l : List Write). before ++ l) (sym (sectors_append (sectors_of all.entries) (e.head ∷ e.bodies) old.at)) ∙ ap (λ (l : List (List ℕ)). before ++ writes_from old.at l) (sym (sectors_push all.entries e));
+          one.written ∙ ap (λ (l : List Write). l ++ writes_from mid.at (e.head ∷ e.bodies)) all.written ∙ append_assoc before (writes_from old.at (sectors_of_entries all.entries)) (writes_from mid.at (e.head ∷ e.bodies))
+          ∙ ap (λ n. before ++ (writes_from old.at (sectors_of_entries all.entries) ++ writes_from n (e.head ∷ e.bodies))) (all.place ∙ sym (sectors_place all.entries old.at))
+          ∙ ap (λ (l : List Write). before ++ l) (sym (sectors_append (sectors_of_entries all.entries) (e.head ∷ e.bodies) old.at)) ∙ ap (λ (l : List (List ℕ)). before ++ writes_from old.at l) (sym (sectors_push all.entries e));
       place = one.place ∙ ap (λ n. n + size_of e) all.place ∙ sym (place-more all.entries (e ∷ []) old.at);
       until_stays = one.until_stays ∙ all.until_stays;
       version_is = one.version_is ∙ ap (λ n. n + 1) all.version_is ∙ sym (version-more all.entries (e ∷ []) old.version);
@@ -151,11 +151,11 @@ lays s bank opened base first octets changes next new middle ws first_is at_is u
   batch =
       subst (λ u. IsBatch u (journal_place s bank) base opened entries.entries) until_is
       (subst (λ a. IsBatch next.until a base opened entries.entries) at_is (subst (λ v. IsBatch next.until next.at v opened entries.entries) version_is (subst (λ o. IsBatch next.until next.at next.version o entries.entries) opened_is entries.batch)));
-  own = subst (λ (l : List Write). AreOwn l) (sym (entries.written ∙ ap (λ (l : List Write). l ++ writes_from next.at (sectors_of entries.entries)) parts.written))
-      (own_append (writes_from first parts.sectors) (writes_from next.at (sectors_of entries.entries)) parts.own entries.own);
+  own = subst (λ (l : List Write). AreOwn l) (sym (entries.written ∙ ap (λ (l : List Write). l ++ writes_from next.at (sectors_of_entries entries.entries)) parts.written))
+      (own_append (writes_from first parts.sectors) (writes_from next.at (sectors_of_entries entries.entries)) parts.own entries.own);
   written =
-      entries.written ∙ ap (λ (l : List Write). l ++ writes_from next.at (sectors_of entries.entries)) parts.written ∙ ap (λ n. writes_from n parts.sectors ++ writes_from next.at (sectors_of entries.entries)) first_is
-      ∙ ap (λ n. writes_from (snapshot_place s bank) parts.sectors ++ writes_from n (sectors_of entries.entries)) at_is;
+      entries.written ∙ ap (λ (l : List Write). l ++ writes_from next.at (sectors_of_entries entries.entries)) parts.written ∙ ap (λ n. writes_from n parts.sectors ++ writes_from next.at (sectors_of_entries entries.entries)) first_is
+      ∙ ap (λ n. writes_from (snapshot_place s bank) parts.sectors ++ writes_from n (sectors_of_entries entries.entries)) at_is;
   at_is = entries.place ∙ ap (λ n. place_behind n entries.entries) at_is;
   until_is = entries.until_stays ∙ until_is;
   version_is = entries.version_is ∙ ap (λ n. version_behind n entries.entries) version_is;

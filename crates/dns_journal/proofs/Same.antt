@@ -2,7 +2,7 @@
 use Rattle.std.proofs.Common.{◌≡◌, ℕ, ◌+◌, ◌≤◌, ◌<◌, List, [], ◌∷◌, length, take, drop, sym, ◌∙◌, ap, subst, arith}
 use Rattle.std.specs.List.{flat_map}
 use Rattle.dns_sectors.specs.Device.{Content}
-use Rattle.dns_layout.specs.Sector.{sector_at, open_count, sequence, number, payload_in, bank_open, AreZeros, snapshot_sectors_in}
+use Rattle.dns_layout.specs.Sector.{sector_at, open_count, sequence_number, number, payload_in, bank_open, AreZeros, snapshot_sectors_in}
 use Rattle.dns_layout.specs.Own.{IsIntactIn}
 use Rattle.dns_layout.specs.Journal.{Entry, size_of, IsNextHeadIn, ReadsIn, Stand}
 use Rattle.dns_layout.specs.Store.{Shape, Stored, IsRootIn, ArePartsIn, OpensByIn, IsLeftOver, all_sectors, snapshot_place, journal_place, bank_end}
@@ -22,7 +22,7 @@ module _ (f : Format) where
         reads_same es until (at + size_of e) (version + 1) (open_count e.head) c d (λ q from lt. same q (omega (arith, from)) lt) there.3,
       )
 
-  parts_same : (root root' : List ℕ) (index : ℕ) (parts : List (List ℕ)) → bank_open root' ≡ bank_open root → sequence root' ≡ sequence root → ArePartsIn f root index parts → ArePartsIn f root' index parts
+  parts_same : (root root' : List ℕ) (index : ℕ) (parts : List (List ℕ)) → bank_open root' ≡ bank_open root → sequence_number root' ≡ sequence_number root → ArePartsIn f root index parts → ArePartsIn f root' index parts
   parts_same root root' index [] same_open same_base are = tt
   parts_same root root' index (x ∷ xs) same_open same_base are = (
     record { tagged = are.0.tagged; bank_open = are.0.bank_open ∙ sym same_open; base = are.0.base ∙ sym same_base; numbered = are.0.numbered },

@@ -4,12 +4,12 @@ use Rattle.std.proofs.lemmas.List.{length-set}
 use Rattle.std.specs.Prelude.{slice_set}
 use Rattle.std.specs.List.{flat_map}
 use Rattle.dns_sectors.specs.Device.{Content}
-use Rattle.dns_layout.specs.Sector.{sector_at, AreZeros, sequence, number, payload, bank_open, snapshot_length, snapshot_sectors}
+use Rattle.dns_layout.specs.Sector.{sector_at, AreZeros, sequence_number, number, payload, bank_open, snapshot_length, snapshot_sectors}
 use Rattle.dns_layout.specs.Own.{IsIntactIn}
-use Rattle.dns_layout.specs.Journal.{Entry, size_of, IsNextHead, IsBatch, Reads, Stand, place_behind, version_behind}
+use Rattle.dns_layout.specs.Journal.{Entry, size_of, IsNextHead, IsBatch, ReadsEntries, Stand, place_behind, version_behind}
 use Rattle.dns_layout.specs.Store.{Shape, Stored, IsRoot, AreParts, OpensBy, IsLeftOver, all_sectors, snapshot_place, journal_place, bank_end, version_of}
 use Rattle.dns_layout.specs.declared.format.Format.TheVariants.{Two}
-use Rattle.dns_journal.specs.Bank.{sectors_of}
+use Rattle.dns_journal.specs.Bank.{sectors_of_entries}
 use Rattle.dns_journal.proofs.Places.{at_set-same, at_set-other}
 use Rattle.dns_journal.proofs.Reading.{stand_same}
 use Rattle.dns_journal.proofs.Between.{root_apart}
@@ -24,30 +24,30 @@ stand_rest [] ys at c there = let same : at ≡ at + 0 = omega arith in subst (�
 stand_rest (x ∷ xs) ys at c there = let same : at + 1 + length xs ≡ at + suc (length xs) = omega arith in subst (λ n. Stand c n ys) same (stand_rest xs ys (at + 1) c there.1)
 
 -- Entries of one open count that stand there are read, where no valid head stands behind them.
-pub stand_reads : (es : List Entry) (until at version opened : ℕ) (c : Content) → IsBatch until at version opened es → Stand c at (sectors_of es)
-    → (IsNextHead until (place_behind at es) (version_behind version es) opened (sector_at c (place_behind at es)) → ⊥) → Reads until c at version opened es
+pub stand_reads : (es : List Entry) (until at version opened : ℕ) (c : Content) → IsBatch until at version opened es → Stand c at (sectors_of_entries es)
+    → (IsNextHead until (place_behind at es) (version_behind version es) opened (sector_at c (place_behind at es)) → ⊥) → ReadsEntries until c at version opened es
 stand_reads [] until at version opened c batch there ends = ends
 stand_reads (e ∷ es) until at version opened c batch there ends =
     let same : at + 1 + length e.bodies ≡ at + size_of e = omega arith in
-    let rest : Stand c (at + size_of e) (sectors_of es) = subst (λ n. Stand c n (sectors_of es)) same (stand_rest e.bodies (sectors_of es) (at + 1) c there.1) in (
+    let rest : Stand c (at + size_of e) (sectors_of_entries es) = subst (λ n. Stand c n (sectors_of_entries es)) same (stand_rest e.bodies (sectors_of_entries es) (at + 1) c there.1) in (
       batch.0,
       there.0,
-      stand_first e.bodies (sectors_of es) (at + 1) c there.1,
-      subst (λ o. Reads until c (at + size_of e) (version + 1) o es) (sym batch.1) (stand_reads es until (at + size_of e) (version + 1) opened c batch.2 rest ends),
+      stand_first e.bodies (sectors_of_entries es) (at + 1) c there.1,
+      subst (λ o. ReadsEntries until c (at + size_of e) (version + 1) o es) (sym batch.1) (stand_reads es until (at + size_of e) (version + 1) opened c batch.2 rest ends),
     )
 
 -- how far the entries go, and that their sectors are as many
-pub sectors_within : (es : List Entry) (until at version opened : ℕ) → at ≤ until → IsBatch until at version opened es → at + length (sectors_of es) ≤ until
+pub sectors_within : (es : List Entry) (until at version opened : ℕ) → at ≤ until → IsBatch until at version opened es → at + length (sectors_of_entries es) ≤ until
 sectors_within [] until at version opened le batch = omega (arith, le)
 sectors_within (e ∷ es) until at version opened le batch =
     let rest = sectors_within es until (at + size_of e) (version + 1) opened (omega (arith, batch.0.head.within, batch.0.count)) batch.2 in
-    omega (arith, rest, length-append e.bodies (sectors_of es))
+    omega (arith, rest, length-append e.bodies (sectors_of_entries es))
 
 -- The bank that was written, and a root that names it.
 pub turned_opens : (s : Shape) (d : Content) (y : List ℕ) (parts : List (List ℕ)) (new : Stored) (opened : ℕ)
-    → length d ≡ all_sectors s → IsRoot s y → sequence y ≡ new.base → bank_open y ≡ opened → length parts ≡ snapshot_sectors (snapshot_length y) → AreParts y 0 parts
+    → length d ≡ all_sectors s → IsRoot s y → sequence_number y ≡ new.base → bank_open y ≡ opened → length parts ≡ snapshot_sectors (snapshot_length y) → AreParts y 0 parts
     → take (snapshot_length y) (flat_map payload parts) ≡ new.snapshot → AreZeros (drop (snapshot_length y) (flat_map payload parts))
-    → Stand d (snapshot_place s (number y)) parts → Stand d (journal_place s (number y)) (sectors_of new.entries)
+    → Stand d (snapshot_place s (number y)) parts → Stand d (journal_place s (number y)) (sectors_of_entries new.entries)
     → IsBatch (bank_end s (number y)) (journal_place s (number y)) new.base opened new.entries
     → (IsNextHead (bank_end s (number y)) (place_behind (journal_place s (number y)) new.entries) (version_of new) opened (sector_at d (place_behind (journal_place s (number y)) new.entries)) → ⊥)
     → ((at : ℕ) → at < all_sectors s → (IsLeftOver Two s y at → ⊥) → IsIntactIn Two at (sector_at (slice_set d 0 y) at))
@@ -66,7 +66,7 @@ turned_opens s d y parts new opened size valid base bank count are snapshot zero
       snapshot = snapshot;
       zeros = zeros;
       journal =
-          subst (λ o. Reads (bank_end s (number y)) (slice_set d 0 y) (journal_place s (number y)) new.base o new.entries) (sym bank)
+          subst (λ o. ReadsEntries (bank_end s (number y)) (slice_set d 0 y) (journal_place s (number y)) new.base o new.entries) (sym bank)
           (reads_same Two new.entries (bank_end s (number y)) (journal_place s (number y)) new.base opened (slice_set d 0 y) d (λ q from _. same q (omega (arith, from, root_apart s (number y))))
           (stand_reads new.entries (bank_end s (number y)) (journal_place s (number y)) new.base opened d batch entries_stand ends));
       own = own;

@@ -14,8 +14,8 @@ use Rattle.dns_layout.specs.declared.root.Bank.{Bank}
 use Rattle.dns_changes.specs.Change.{Change}
 use Rattle.dns_journal.specs.declared.read.Cursor.{Cursor}
 use Rattle.dns_journal.specs.declared.journal.Journal.{Journal}
-use Rattle.dns_journal.specs.State.{Keeps, IsOpened, opened_of}
-use Rattle.dns_journal.specs.Bank.{sectors_of, LaysBank, Turns, IsTurned, IsTurnedTo, LeavesEither}
+use Rattle.dns_journal.specs.State.{Keeps, IsOpenedTimes, opened_of}
+use Rattle.dns_journal.specs.Bank.{sectors_of_entries, LaysBank, Turns, IsTurned, IsTurnedTo, LeavesEither}
 use Rattle.dns_journal.proofs.Bank.{tidy_from}
 use Rattle.dns_journal.proofs.Laying.{entries_count, versions_count}
 
@@ -93,11 +93,11 @@ module _ {D : Type 0} {g : Ghosts D} (shape : Shape) (old : Journal D g) (k : St
         (subst (λ o. IsBatch (bank_end (rooms_of old.root) (other_of (bank_number old.root.bank))) (journal_place (rooms_of old.root) (other_of (bank_number old.root.bank))) base o lays.entries) opened_is lays.batch));
     own = lays.own;
     written =
-        lays.written ∙ ap (λ n. writes_from n lays.parts ++ writes_from (journal_place (rooms_of old.root) (other_of (bank_number old.root.bank))) (sectors_of lays.entries)) first_is
-        ∙ ap (λ n. writes_from (snapshot_place shape (other_of (number keeps.0))) lays.parts ++ writes_from n (sectors_of lays.entries)) start_is;
+        lays.written ∙ ap (λ n. writes_from n lays.parts ++ writes_from (journal_place (rooms_of old.root) (other_of (bank_number old.root.bank))) (sectors_of_entries lays.entries)) first_is
+        ∙ ap (λ n. writes_from (snapshot_place shape (other_of (number keeps.0))) lays.parts ++ writes_from n (sectors_of_entries lays.entries)) start_is;
   }
 
-  pub leaves_either : (c : Content) → (OpensAs shape c k ⊎ OpensAs shape c stored) × IsTidy shape c × IsOpened (open_count keeps.0) c → LeavesEither shape k octets changes (opened_of old) c
+  pub leaves_either : (c : Content) → (OpensAs shape c k ⊎ OpensAs shape c stored) × IsTidy shape c × IsOpenedTimes (open_count keeps.0) c → LeavesEither shape k octets changes (opened_of old) c
   leaves_either c (inl before, tidy, opened) = (inl before, tidy, opened ∙ keeps.2.says.opened_is)
   leaves_either c (inr after, tidy, opened) = (inr (stored, is_turned, after), tidy, opened ∙ keeps.2.says.opened_is)
 

@@ -3,15 +3,15 @@ use Rattle.std.proofs.Common.{◌≡◌, ◌⊎◌, inl, inr, ⊎_elim, ℕ, zer
 use Rattle.std.specs.Prelude.{slice_set}
 use Rattle.dns_sectors.specs.Device.{Content, MayWrite, Only}
 use Rattle.dns_sectors.specs.Crash.{Write, applied, SomeApplied, CrashOf}
-use Rattle.dns_layout.specs.Sector.{sector_at, tag, open_count, sequence, number, bank_open, snapshot_length, snapshot_sectors, head_tag, head_tag_in, snapshot_tag, snapshot_tag_in, clear}
+use Rattle.dns_layout.specs.Sector.{sector_at, tag, open_count, sequence_number, number, bank_open, snapshot_length, snapshot_sectors, head_tag, head_tag_in, snapshot_tag, snapshot_tag_in, clear}
 use Rattle.dns_layout.specs.Own.{Own, IsIntactIn, AreOwn}
 use Rattle.dns_layout.specs.Forms.{SaysRoot, clear_number}
 use Rattle.dns_layout.specs.Journal.{Entry, size_of, AreBodies, Stand, IsBatch, IsNextHead, IsBehind, AllBehind, place_behind, version_behind, writes_from}
 use Rattle.dns_layout.specs.Store.{Shape, Stored, IsRoot, AreParts, OpensBy, OpensAs, IsTidy, IsLeftOver, all_sectors, snapshot_place, journal_place, bank_end, version_of, other_of}
 use Rattle.dns_layout.specs.declared.format.Format.TheVariants.{Two}
 use Rattle.dns_layout.specs.declared.root.Root.{Root}
-use Rattle.dns_journal.specs.State.{IsOpened}
-use Rattle.dns_journal.specs.Bank.{sectors_of, Turns, IsTurnedTo}
+use Rattle.dns_journal.specs.State.{IsOpenedTimes}
+use Rattle.dns_journal.specs.Bank.{sectors_of_entries, Turns, IsTurnedTo}
 use Rattle.dns_journal.proofs.Places.{at_set-either, some_below, some-length, all_are_some, applied-append}
 use Rattle.dns_journal.proofs.Reading.{stand_same, version_grows}
 use Rattle.dns_journal.proofs.Altered.{some_intact}
@@ -57,15 +57,15 @@ pub sectors_append : (xs ys : List (List ℕ)) (at : ℕ) → writes_from at (xs
 sectors_append [] ys at = ap (λ n. writes_from n ys) (omega arith)
 sectors_append (x ∷ xs) ys at = ap (λ (ws : List Write). (at, x) ∷ ws) (sectors_append xs ys (at + 1) ∙ ap (λ n. writes_from (at + 1) xs ++ writes_from n ys) (omega arith))
 
-pub sectors_behind : (es : List Entry) (until at version opened newest : ℕ) → version_behind version es ≤ newest → IsBatch until at version opened es → WritesBehind opened newest (writes_from at (sectors_of es))
+pub sectors_behind : (es : List Entry) (until at version opened newest : ℕ) → version_behind version es ≤ newest → IsBatch until at version opened es → WritesBehind opened newest (writes_from at (sectors_of_entries es))
 sectors_behind [] until at version opened newest le batch = tt
 sectors_behind (e ∷ es) until at version opened newest le batch =
     let far = version_grows (version + 1) es in
     let same : at + 1 + length e.bodies ≡ at + size_of e = omega arith in
-    let rest : WritesBehind opened newest (writes_from (at + 1 + length e.bodies) (sectors_of es)) = subst (λ n. WritesBehind opened newest (writes_from n (sectors_of es))) (sym same) (sectors_behind es until (at + size_of e) (version + 1) opened newest le batch.2) in (
+    let rest : WritesBehind opened newest (writes_from (at + 1 + length e.bodies) (sectors_of_entries es)) = subst (λ n. WritesBehind opened newest (writes_from n (sectors_of_entries es))) (sym same) (sectors_behind es until (at + size_of e) (version + 1) opened newest le batch.2) in (
       λ _. inr (batch.1, omega (arith, batch.0.head.next, far, le)),
-      subst (λ (ws : List Write). WritesBehind opened newest ws) (sym (sectors_append e.bodies (sectors_of es) (at + 1)))
-          (written_append opened newest (writes_from (at + 1) e.bodies) (writes_from (at + 1 + length e.bodies) (sectors_of es)) (each e.bodies 0 (at + 1) batch.0.bodies) rest),
+      subst (λ (ws : List Write). WritesBehind opened newest ws) (sym (sectors_append e.bodies (sectors_of_entries es) (at + 1)))
+          (written_append opened newest (writes_from (at + 1) e.bodies) (writes_from (at + 1 + length e.bodies) (sectors_of_entries es)) (each e.bodies 0 (at + 1) batch.0.bodies) rest),
     )
   where
     each : (xs : List (List ℕ)) (index at : ℕ) → AreBodies e.head index xs → WritesBehind opened newest (writes_from at xs)
@@ -79,9 +79,9 @@ module _ (s : Shape) (k new : Stored) (d : Content) (x : List ℕ) (parts : List
   other = other_of (number x)
 
   abbrev laid : List Write
-  laid = writes_from (snapshot_place s (other_of (number x))) turns.parts ++ writes_from (journal_place s (other_of (number x))) (sectors_of new.entries)
+  laid = writes_from (snapshot_place s (other_of (number x))) turns.parts ++ writes_from (journal_place s (other_of (number x))) (sectors_of_entries new.entries)
 
-  ends_within : journal_place s (other_of (number x)) + length (sectors_of new.entries) ≤ bank_end s (other_of (number x))
+  ends_within : journal_place s (other_of (number x)) + length (sectors_of_entries new.entries) ≤ bank_end s (other_of (number x))
   ends_within = sectors_within new.entries (bank_end s (other_of (number x))) (journal_place s (other_of (number x))) new.base (open_count x) (omega arith) turns.batch
 
   parts_within : snapshot_place s (other_of (number x)) + length turns.parts ≤ journal_place s (other_of (number x))
@@ -89,16 +89,16 @@ module _ (s : Shape) (k new : Stored) (d : Content) (x : List ℕ) (parts : List
 
   laid_between : AllBetween (snapshot_place s (other_of (number x))) (bank_end s (other_of (number x))) laid
   laid_between =
-      between_append (snapshot_place s (other_of (number x))) (bank_end s (other_of (number x))) (writes_from (snapshot_place s (other_of (number x))) turns.parts) (writes_from (journal_place s (other_of (number x))) (sectors_of new.entries))
+      between_append (snapshot_place s (other_of (number x))) (bank_end s (other_of (number x))) (writes_from (snapshot_place s (other_of (number x))) turns.parts) (writes_from (journal_place s (other_of (number x))) (sectors_of_entries new.entries))
       (between_from (snapshot_place s (other_of (number x))) (bank_end s (other_of (number x))) (snapshot_place s (other_of (number x))) turns.parts (omega arith) (omega (arith, parts_within)))
-      (between_from (snapshot_place s (other_of (number x))) (bank_end s (other_of (number x))) (journal_place s (other_of (number x))) (sectors_of new.entries) (omega arith) ends_within)
+      (between_from (snapshot_place s (other_of (number x))) (bank_end s (other_of (number x))) (journal_place s (other_of (number x))) (sectors_of_entries new.entries) (omega arith) ends_within)
 
   are : AreParts y 0 turns.parts
   are = turns.expected y (says.bank_open_is ∙ turns.bank_open_is) (says.base_is ∙ turns.base)
 
   laid_behind : WritesBehind (open_count x) (version_of k) laid
   laid_behind =
-      written_append (open_count x) (version_of k) (writes_from (snapshot_place s (other_of (number x))) turns.parts) (writes_from (journal_place s (other_of (number x))) (sectors_of new.entries))
+      written_append (open_count x) (version_of k) (writes_from (snapshot_place s (other_of (number x))) turns.parts) (writes_from (journal_place s (other_of (number x))) (sectors_of_entries new.entries))
       (parts_behind turns.parts y 0 (snapshot_place s (other_of (number x))) (open_count x) (version_of k) are)
       (sectors_behind new.entries (bank_end s (other_of (number x))) (journal_place s (other_of (number x))) new.base (open_count x) (version_of k) (omega (arith, turns.newest)) turns.batch)
 
@@ -128,8 +128,8 @@ module _ (s : Shape) (k new : Stored) (d : Content) (x : List ℕ) (parts : List
   abbrev middle : Content
   middle = applied (writes_from (snapshot_place s (other_of (number x))) turns.parts) d
 
-  full_is : applied laid d ≡ applied (writes_from (journal_place s (other_of (number x))) (sectors_of new.entries)) middle
-  full_is = applied-append (writes_from (snapshot_place s (other_of (number x))) turns.parts) (writes_from (journal_place s (other_of (number x))) (sectors_of new.entries)) d
+  full_is : applied laid d ≡ applied (writes_from (journal_place s (other_of (number x))) (sectors_of_entries new.entries)) middle
+  full_is = applied-append (writes_from (snapshot_place s (other_of (number x))) turns.parts) (writes_from (journal_place s (other_of (number x))) (sectors_of_entries new.entries)) d
 
   middle_length : length middle ≡ length d
   middle_length = some-length (writes_from (snapshot_place s (other_of (number x))) turns.parts) d middle (all_are_some (writes_from (snapshot_place s (other_of (number x))) turns.parts) d)
@@ -137,15 +137,15 @@ module _ (s : Shape) (k new : Stored) (d : Content) (x : List ℕ) (parts : List
   parts_there : Stand (applied laid d) (snapshot_place s (other_of (number x))) turns.parts
   parts_there =
       subst (λ (c : Content). Stand c (snapshot_place s (other_of (number x))) turns.parts) (sym full_is)
-      (stand_same turns.parts (snapshot_place s (other_of (number x))) (journal_place s (other_of (number x))) (applied (writes_from (journal_place s (other_of (number x))) (sectors_of new.entries)) middle) middle parts_within
-      (λ q from lt. some_below (writes_from (journal_place s (other_of (number x))) (sectors_of new.entries)) (journal_place s (other_of (number x))) q middle (applied (writes_from (journal_place s (other_of (number x))) (sectors_of new.entries)) middle)
-      (from_writes (journal_place s (other_of (number x))) (sectors_of new.entries)) lt (all_are_some (writes_from (journal_place s (other_of (number x))) (sectors_of new.entries)) middle))
+      (stand_same turns.parts (snapshot_place s (other_of (number x))) (journal_place s (other_of (number x))) (applied (writes_from (journal_place s (other_of (number x))) (sectors_of_entries new.entries)) middle) middle parts_within
+      (λ q from lt. some_below (writes_from (journal_place s (other_of (number x))) (sectors_of_entries new.entries)) (journal_place s (other_of (number x))) q middle (applied (writes_from (journal_place s (other_of (number x))) (sectors_of_entries new.entries)) middle)
+      (from_writes (journal_place s (other_of (number x))) (sectors_of_entries new.entries)) lt (all_are_some (writes_from (journal_place s (other_of (number x))) (sectors_of_entries new.entries)) middle))
       (writes_stand turns.parts (snapshot_place s (other_of (number x))) d (omega (arith, parts_within, inside))))
 
-  entries_there : Stand (applied laid d) (journal_place s (other_of (number x))) (sectors_of new.entries)
+  entries_there : Stand (applied laid d) (journal_place s (other_of (number x))) (sectors_of_entries new.entries)
   entries_there =
-      subst (λ (c : Content). Stand c (journal_place s (other_of (number x))) (sectors_of new.entries)) (sym full_is)
-      (writes_stand (sectors_of new.entries) (journal_place s (other_of (number x))) middle (omega (arith, ends_within, inside, middle_length)))
+      subst (λ (c : Content). Stand c (journal_place s (other_of (number x))) (sectors_of_entries new.entries)) (sym full_is)
+      (writes_stand (sectors_of_entries new.entries) (journal_place s (other_of (number x))) middle (omega (arith, ends_within, inside, middle_length)))
 
   number_is : number y ≡ other_of (number x)
   number_is = says.bank_is ∙ turns.bank
@@ -187,7 +187,7 @@ module _ (s : Shape) (k new : Stored) (d : Content) (x : List ℕ) (parts : List
   full_opens =
       turned_opens s (applied laid d) y turns.parts new (open_count x) (some-length laid d (applied laid d) (all_are_some laid d) ∙ opens.size) valid (says.base_is ∙ turns.base)
       (says.bank_open_is ∙ turns.bank_open_is) (turns.count ∙ ap snapshot_sectors (sym len_is)) are (held turns.parts new.snapshot (snapshot_length y) len_is turns.holds) (zeros_held turns.parts new.snapshot (snapshot_length y) len_is turns.holds) (subst (λ n. Stand (applied laid d) (snapshot_place s n) turns.parts) (sym number_is) parts_there)
-      (subst (λ n. Stand (applied laid d) (journal_place s n) (sectors_of new.entries)) (sym number_is) entries_there)
+      (subst (λ n. Stand (applied laid d) (journal_place s n) (sectors_of_entries new.entries)) (sym number_is) entries_there)
       (subst (λ n. IsBatch (bank_end s n) (journal_place s n) new.base (open_count x) new.entries) (sym number_is) turns.batch)
       (subst (λ n. IsNextHead (bank_end s n) (place_behind (journal_place s n) new.entries) (version_of new) (open_count x) (sector_at (applied laid d) (place_behind (journal_place s n) new.entries)) → ⊥) (sym number_is) ends)
       full_own
@@ -201,8 +201,8 @@ module _ (s : Shape) (k new : Stored) (d : Content) (x : List ℕ) (parts : List
 
   pub turn_behind : AllBehind (open_count y) (version_of new) (slice_set (applied ws d) 0 y)
   turn_behind q tagged =
-      subst (λ o. (open_count (sector_at (slice_set (applied ws d) 0 y) q) < o) ⊎ ((open_count (sector_at (slice_set (applied ws d) 0 y) q) ≡ o) × (sequence (sector_at (slice_set (applied ws d) 0 y) q) ≤ version_of new))) (sym open_is)
-      (⊎_elim (λ same. subst (λ n. (open_count (sector_at (slice_set (applied ws d) 0 y) q) < open_count x) ⊎ ((open_count (sector_at (slice_set (applied ws d) 0 y) q) ≡ open_count x) × (sequence (sector_at (slice_set (applied ws d) 0 y) q) ≤ n))) (sym turns.newest)
+      subst (λ o. (open_count (sector_at (slice_set (applied ws d) 0 y) q) < o) ⊎ ((open_count (sector_at (slice_set (applied ws d) 0 y) q) ≡ o) × (sequence_number (sector_at (slice_set (applied ws d) 0 y) q) ≤ version_of new))) (sym open_is)
+      (⊎_elim (λ same. subst (λ n. (open_count (sector_at (slice_set (applied ws d) 0 y) q) < open_count x) ⊎ ((open_count (sector_at (slice_set (applied ws d) 0 y) q) ≡ open_count x) × (sequence_number (sector_at (slice_set (applied ws d) 0 y) q) ≤ n))) (sym turns.newest)
       (subst (λ (z : List ℕ). IsBehind (open_count x) (version_of k) z) (sym same) (bank_written.1 q) tagged))
       (λ here. absurd (root_no_head y says.tagged (ap tag (sym here) ∙ tagged))) (at_set-either (applied ws d) 0 q y))
 
@@ -213,17 +213,17 @@ module _ (s : Shape) (k new : Stored) (d : Content) (x : List ℕ) (parts : List
   turn_tidy = tidy_from s (slice_set (applied ws d) 0 y) y (version_of new) turn_opens.stands turn_bank turn_behind
 
   -- A crash while the root is turned leaves what was stored, or what was to be.
-  pub turn_crash : (c : Content) → MayWrite 0 y (applied ws d) c → (OpensAs s c k ⊎ OpensAs s c new) × IsTidy s c × IsOpened (open_count x) c
-  turn_crash c (inl not) = subst (λ (z : Content). (OpensAs s z k ⊎ OpensAs s z new) × IsTidy s z × IsOpened (open_count x) z) (sym not) (inl (x, parts, bank_written.0), bank_written.2, ap open_count bank_written.0.stands)
-  turn_crash c (inr is) = subst (λ (z : Content). (OpensAs s z k ⊎ OpensAs s z new) × IsTidy s z × IsOpened (open_count x) z) (sym is) (inr (y, turns.parts, turn_opens), turn_tidy, ap open_count turn_opens.stands ∙ open_is)
+  pub turn_crash : (c : Content) → MayWrite 0 y (applied ws d) c → (OpensAs s c k ⊎ OpensAs s c new) × IsTidy s c × IsOpenedTimes (open_count x) c
+  turn_crash c (inl not) = subst (λ (z : Content). (OpensAs s z k ⊎ OpensAs s z new) × IsTidy s z × IsOpenedTimes (open_count x) z) (sym not) (inl (x, parts, bank_written.0), bank_written.2, ap open_count bank_written.0.stands)
+  turn_crash c (inr is) = subst (λ (z : Content). (OpensAs s z k ⊎ OpensAs s z new) × IsTidy s z × IsOpenedTimes (open_count x) z) (sym is) (inr (y, turns.parts, turn_opens), turn_tidy, ap open_count turn_opens.stands ∙ open_is)
 
   -- during the two phases
-  pub first_left : (may_leave : Content → Type 0) → Only d may_leave → (c : Content) → CrashOf may_leave ws c → (OpensAs s c k ⊎ OpensAs s c new) × IsTidy s c × IsOpened (open_count x) c
+  pub first_left : (may_leave : Content → Type 0) → Only d may_leave → (c : Content) → CrashOf may_leave ws c → (OpensAs s c k ⊎ OpensAs s c new) × IsTidy s c × IsOpenedTimes (open_count x) c
   first_left may_leave only c (e, left, some) =
       let same = bank_crash c (subst (λ (z : Content). SomeApplied ws z c) (only e left) some) in
       (inl (x, parts, same.0), same.2, ap open_count same.0.stands)
 
-  pub second_left : (mid : Content) (may_leave : Content → Type 0) → mid ≡ applied ws d → Only mid may_leave → (c : Content) → CrashOf may_leave ((0, y) ∷ []) c → (OpensAs s c k ⊎ OpensAs s c new) × IsTidy s c × IsOpened (open_count x) c
+  pub second_left : (mid : Content) (may_leave : Content → Type 0) → mid ≡ applied ws d → Only mid may_leave → (c : Content) → CrashOf may_leave ((0, y) ∷ []) c → (OpensAs s c k ⊎ OpensAs s c new) × IsTidy s c × IsOpenedTimes (open_count x) c
   second_left mid may_leave written only c (e, left, some) = turn_crash c (subst (λ (z : Content). MayWrite 0 y z c) (only e left ∙ written) some)
 
   pub turned_to : (mid after : Content) → mid ≡ applied ws d → after ≡ slice_set mid 0 y → IsTurnedTo s new r (open_count x) after

@@ -5,7 +5,8 @@ use Rattle.std.specs.List.{flat_map}
 use Rattle.dns_sectors.specs.Device.{Content}
 use Rattle.dns_sectors.specs.Crash.{Write}
 use Rattle.dns_layout.specs.Apex.{apex_octets}
-use Rattle.dns_layout.specs.Sector.{open_count, sequence, number, bank_open, payload, payload_room, clear}
+use Rattle.dns_layout.specs.Sector.{open_count, sequence_number, number, bank_open, payload, payload_room}
+use Rattle.dns_layout.specs.Sector.{clear}
 use Rattle.dns_layout.specs.Sector.{entry_sectors, snapshot_sectors}
 use Rattle.dns_layout.specs.Own.{AreOwn}
 use Rattle.dns_layout.specs.Forms.{SaysRoot, bank_number}
@@ -19,7 +20,7 @@ use Rattle.dns_changes.specs.Change.{Change}
 use Rattle.dns_changes.specs.Entry.{entry}
 use Rattle.dns_journal.specs.declared.journal.Journal.{Journal}
 use Rattle.dns_journal.specs.declared.read.Cursor.{Cursor}
-use Rattle.dns_journal.specs.State.{IsOpened}
+use Rattle.dns_journal.specs.State.{IsOpenedTimes}
 use Rattle.dns_sectors.specs.declared.device.Sectors.{Ghosts}
 
 -- the octets of a snapshot that its part with this index holds
@@ -30,25 +31,26 @@ piece octets index = take payload_room (drop (payload_room * index) octets)
 abbrev pub part_of : ℕ → ℕ → ℕ → SnapshotPart
 part_of opened base index = record { bank_open = opened; base = base; index = index }
 
--- These octets, with zeros behind them, are a sector's payload.
-abbrev pub Holds : List ℕ → List ℕ → Type 0
-Holds x octets = payload x ≡ octets ++ replicate (payload_room - length octets) 0
+-- These octets, with zeros after them, are a sector's payload.
+abbrev pub HoldsOctets : List ℕ → List ℕ → Type 0
+HoldsOctets x octets = payload x ≡ octets ++ replicate (payload_room - length octets) 0
 
--- So many parts of a snapshot are put there from this place on: they hold its octets, and zeros behind them.
+-- So many parts of a snapshot are put there from this position on: they hold its octets, and zeros after
+-- them.
 pub record PushesParts (at opened base : ℕ) (octets : List ℕ) (count : ℕ)
     (old new : List Write) : Type 0 where
   pub sectors : List (List ℕ)
   pub count_is : length sectors ≡ count
-  pub are : (x : List ℕ) → bank_open x ≡ opened → sequence x ≡ base → AreParts x 0 sectors
+  pub are : (x : List ℕ) → bank_open x ≡ opened → sequence_number x ≡ base → AreParts x 0 sectors
   pub holds : flat_map payload sectors
       ≡ take (payload_room * count) octets ++ replicate (payload_room * count - length octets) 0
   pub own : AreOwn (writes_from at sectors)
   pub written : new ≡ old ++ writes_from at sectors
 
--- the sectors of entries, each head with its bodies behind it
-abbrev pub sectors_of : List Entry → List (List ℕ)
-sectors_of [] = []
-sectors_of (e ∷ es) = e.head ∷ (e.bodies ++ sectors_of es)
+-- the sectors of entries, each head with its bodies after it
+abbrev pub sectors_of_entries : List Entry → List (List ℕ)
+sectors_of_entries [] = []
+sectors_of_entries (e ∷ es) = e.head ∷ (e.bodies ++ sectors_of_entries es)
 
 -- how many sectors the entry of a change takes
 abbrev pub sectors_for : Change → ℕ
@@ -80,13 +82,13 @@ AreEntries (c ∷ cs) (e ∷ es) = IsEntryOf c e × AreEntries cs es
 AreEntries [] (e ∷ es) = ⊥
 AreEntries (c ∷ cs) [] = ⊥
 
--- The entries of these changes are put at the cursor, one behind the other.
+-- The entries of these changes are put at the cursor, one after the other.
 pub record PushesEntries (old new : Cursor) (changes : List Change) (before after : List Write) : Type 0 where
   pub entries : List Entry
   pub are : AreEntries changes entries
   pub batch : IsBatch old.until old.at old.version old.opened entries
-  pub own : AreOwn (writes_from old.at (sectors_of entries))
-  pub written : after ≡ before ++ writes_from old.at (sectors_of entries)
+  pub own : AreOwn (writes_from old.at (sectors_of_entries entries))
+  pub written : after ≡ before ++ writes_from old.at (sectors_of_entries entries)
   pub place : new.at ≡ place_behind old.at entries
   pub until_stays : new.until ≡ old.until
   pub version_is : new.version ≡ version_behind old.version entries
@@ -103,7 +105,7 @@ pub record IsTurned (k : Stored) (octets : List ℕ) (changes : List Change) (ne
 abbrev pub LeavesEither : Shape → Stored → List ℕ → List Change → ℕ → Content → Type 0
 LeavesEither shape k octets changes opened c =
     (OpensAs shape c k ⊎ ((new : Stored) × IsTurned k octets changes new × OpensAs shape c new))
-    × IsTidy shape c × IsOpened opened c
+    × IsTidy shape c × IsOpenedTimes opened c
 
 -- how many sectors a bank has for its snapshot, and for its journal
 abbrev pub snapshot_room_of : {D : Type 0} {g : Ghosts D} → Journal D g → ℕ
@@ -113,12 +115,12 @@ abbrev pub journal_room_of : {D : Type 0} {g : Ghosts D} → Journal D g → ℕ
 journal_room_of journal = journal.root.journal_room
 
 -- These writes put a snapshot and the entries of changes into a bank, all with this open count, and the
--- cursor is behind them.
+-- cursor is past them.
 pub record LaysBank (s : Shape) (bank opened base : ℕ) (octets : List ℕ) (changes : List Change)
     (ws : List Write) (next : Cursor) : Type 0 where
   pub parts : List (List ℕ)
   pub count : length parts ≡ snapshot_sectors (length octets)
-  pub expected : (x : List ℕ) → bank_open x ≡ opened → sequence x ≡ base → AreParts x 0 parts
+  pub expected : (x : List ℕ) → bank_open x ≡ opened → sequence_number x ≡ base → AreParts x 0 parts
   pub holds : flat_map payload parts
       ≡ take (payload_room * snapshot_sectors (length octets)) octets
       ++ replicate (payload_room * snapshot_sectors (length octets) - length octets) 0
@@ -127,7 +129,8 @@ pub record LaysBank (s : Shape) (bank opened base : ℕ) (octets : List ℕ) (ch
   pub batch : IsBatch (bank_end s bank) (journal_place s bank) base opened entries
   pub own : AreOwn ws
   pub written : ws
-      ≡ writes_from (snapshot_place s bank) parts ++ writes_from (journal_place s bank) (sectors_of entries)
+      ≡ writes_from (snapshot_place s bank) parts ++ writes_from (journal_place s bank)
+      (sectors_of_entries entries)
   pub at_is : next.at ≡ place_behind (journal_place s bank) entries
   pub until_is : next.until ≡ bank_end s bank
   pub version_is : next.version ≡ version_behind base entries
@@ -150,7 +153,7 @@ pub record Turns (s : Shape) (k new : Stored) (x : List ℕ) (r : Root) (ws : Li
   pub newest : version_of new ≡ version_of k
   pub parts : List (List ℕ)
   pub count : length parts ≡ snapshot_sectors (length new.snapshot)
-  pub expected : (y : List ℕ) → bank_open y ≡ open_count x → sequence y ≡ new.base → AreParts y 0 parts
+  pub expected : (y : List ℕ) → bank_open y ≡ open_count x → sequence_number y ≡ new.base → AreParts y 0 parts
   pub holds : flat_map payload parts
       ≡ take (payload_room * snapshot_sectors (length new.snapshot)) new.snapshot
       ++ replicate (payload_room * snapshot_sectors (length new.snapshot) - length new.snapshot) 0
@@ -158,9 +161,9 @@ pub record Turns (s : Shape) (k new : Stored) (x : List ℕ) (r : Root) (ws : Li
       (open_count x) new.entries
   pub own : AreOwn ws
   pub written : ws ≡ writes_from (snapshot_place s (other_of (number x))) parts ++ writes_from
-      (journal_place s (other_of (number x))) (sectors_of new.entries)
+      (journal_place s (other_of (number x))) (sectors_of_entries new.entries)
 
--- It opens as what was to be stored, by this root, and no head that stands anywhere is ahead.
+-- It opens as what was to be stored, by this root, and no head anywhere is ahead.
 pub record IsTurnedTo (s : Shape) (new : Stored) (r : Root) (opened : ℕ) (c : Content) : Type 0 where
   pub root : List ℕ
   pub parts : List (List ℕ)

@@ -1,9 +1,9 @@
 -- The bank that isn't in use is cleared, and a root of the same store is written.
 use Rattle.std.specs.Prelude.{◌≡◌, ◌⊎◌, ◌≤◌, ℕ, List}
 use Rattle.dns_sectors.specs.Device.{Content}
-use Rattle.dns_layout.specs.Sector.{open_count, number, bank_open, sequence, snapshot_length, clear}
+use Rattle.dns_layout.specs.Sector.{open_count, number, bank_open, sequence_number, snapshot_length, clear}
 use Rattle.dns_layout.specs.Own.{Own}
-use Rattle.dns_journal.specs.State.{IsOpened}
+use Rattle.dns_journal.specs.State.{IsOpenedTimes}
 use Rattle.dns_layout.specs.Store.{Shape, Stored, IsRoot, OpensBy, OpensAs, IsTidy, snapshot_place, bank_end}
 use Rattle.dns_layout.specs.Store.{other_of}
 
@@ -11,11 +11,11 @@ use Rattle.dns_layout.specs.Store.{other_of}
 pub record NamesSameBank (old new : List ℕ) : Type 0 where
   pub bank : number new ≡ number old
   pub bank_open : bank_open new ≡ bank_open old
-  pub base : sequence new ≡ sequence old
+  pub base : sequence_number new ≡ sequence_number old
   pub length : snapshot_length new ≡ snapshot_length old
 
 -- The sectors open by the root x, which says that the other bank isn't cleared. That bank goes from the one
--- place to the other, and z is a root of the same bank with no lower open count.
+-- position to the other, and z is a root of the same bank with no lower open count.
 pub record IsToClear (s : Shape) (k : Stored) (x : List ℕ) (parts : List (List ℕ))
     (from until : ℕ) (z : List ℕ) (d : Content) : Type 0 where
   pub opens : OpensBy s d x parts k
@@ -30,7 +30,8 @@ pub record IsToClear (s : Shape) (k : Stored) (x : List ℕ) (parts : List (List
 
 -- It opens as what is stored, of a store that was opened as often as one of the two roots says.
 abbrev pub OpensStill : Shape → Stored → List ℕ → List ℕ → Content → Type 0
-OpensStill s k x z c = OpensAs s c k × IsTidy s c × (IsOpened (open_count x) c ⊎ IsOpened (open_count z) c)
+OpensStill s k x z c = OpensAs s c k × IsTidy s c × (IsOpenedTimes (open_count x) c
+    ⊎ IsOpenedTimes (open_count z) c)
 
 -- All that was stored before that bank is cleared is stored still.
 abbrev pub StaysUncleared : ℕ → ℕ → List ℕ → Content → Content → Type 0

@@ -11,10 +11,10 @@ use Rattle.dns_layout.specs.declared.root.Root.{Root}
 use Rattle.dns_layout.specs.declared.format.Format.TheVariants.{One}
 use Rattle.dns_changes.specs.Change.{Change}
 use Rattle.dns_journal.specs.declared.conversion.Places.{Places}
-use Rattle.dns_journal.specs.State.{IsOpened}
+use Rattle.dns_journal.specs.State.{IsOpenedTimes}
 use Rattle.dns_journal.specs.Bank.{IsTurned}
 
--- these writes, and zeros from a place up to another
+-- these writes, and zeros from one position up to another
 abbrev pub with_zeros : List SectorWrite → ℕ → ℕ → List Write
 with_zeros ws from until = pairs ws ++ zeros_from from (until - from)
 
@@ -29,9 +29,9 @@ bank_writes p parts entries =
 -- the turn, opened once more.
 abbrev pub LeavesConverted : Shape → Stored → List ℕ → List Change → ℕ → Content → Type 0
 LeavesConverted s k octets changes opened c =
-    (OpensAsIn One s c k × IsOpened opened c)
+    (OpensAsIn One s c k × IsOpenedTimes opened c)
     ⊎ ((new : Stored) × IsTurned k octets changes new × OpensAs s c new × IsTidy s c
-    × IsOpened (opened + 1) c)
+    × IsOpenedTimes (opened + 1) c)
 
 -- So it is of all that format 1 held there by this root, up to that version.
 abbrev pub StaysOrConverts : Root → ℕ → List ℕ → List Change → Content → Content → Type 0
@@ -48,4 +48,4 @@ pub record OpensCleared (s : Shape) (k : Stored) (opened : ℕ) (c : Content) : 
   pub opens : OpensAs s c k
   pub tidy : IsTidy s c
   pub cleared : clear (sector_at c 0) ≡ 1
-  pub counted : IsOpened opened c
+  pub counted : IsOpenedTimes opened c

@@ -20,7 +20,7 @@ use dns_layout::{Bank, Root, snapshot_sectors};
 use dns_memory::Heap;
 use dns_sectors::{DeviceError, SectorWrite, Sectors, write_all, write_phase, write_zeros};
 
-// The places of a bank: where its snapshot and its journal begin, and the place after it.
+// The positions of a bank: where its snapshot and its journal begin, and the position after it.
 #[derive(Clone, Copy)]
 pub(crate) struct Places {
     first: usize,
@@ -88,7 +88,7 @@ pub fn convert<D: Sectors>(
     Ok(())
 }
 
-// The places of a bank of a store with this root.
+// The positions of a bank of a store with this root.
 fn places_of(root: &Root, bank: Bank) -> Places
     requires { 1 + 2 * (root.now.snapshot_room + root.now.journal_room) ≤ 2 ^ 20 }
     ensures first { result.first ≡ 1 + bank_number bank * (root.now.snapshot_room + root.now.journal_room) }
@@ -137,7 +137,7 @@ fn write_whole<D: Sectors>(
     device.sync()
 }
 
-// Makes these writes, and writes zeros from a place up to another.
+// Makes these writes, and writes zeros from one position up to another.
 fn write_padded<D: Sectors>(
     device: &mut D,
     writes: &[SectorWrite],

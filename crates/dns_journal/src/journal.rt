@@ -62,7 +62,7 @@ pub struct Journal<D: Sectors> {
     bodies: Vec<SectorWrite, Heap>,
     heads: Vec<SectorWrite, Heap>,
     pub(crate) is_closed: bool,
-    // where the next entry goes, behind those that are staged, and the store's open count
+    // where the next entry goes, after those that are staged, and the store's open count
     pub(crate) next: Cursor,
     // the first sector, which names the bank
     pub(crate) root: Root,
@@ -81,7 +81,8 @@ impl<D: Sectors> Journal<D> {
     ghost use Rattle.dns_layout.specs.Journal.{Entry, size_of, octets_of, AllBehind, place_behind};
     ghost use Rattle.dns_layout.specs.Store.{Shape, Stored, OpensBy, with_more, bank_end, journal_place};
     ghost use Rattle.dns_layout.specs.Store.{version_of};
-    ghost use Rattle.dns_journal.specs.State.{Keeps, LeavesPart, JournalLeavesOnly, HasFailed, is_closed};
+    ghost use Rattle.dns_journal.specs.State.{Keeps, LeavesPart, JournalLeavesOnly, HasJournalFailed};
+    ghost use Rattle.dns_journal.specs.State.{is_closed};
     ghost use Rattle.dns_journal.specs.State.{device_of, left_of};
     ghost use Rattle.dns_journal.specs.State.{newest_of, opened_of};
     ghost use Rattle.dns_journal.specs.Bank.{snapshot_room_of, journal_room_of};
@@ -141,9 +142,9 @@ impl<D: Sectors> Journal<D> {
         self.next.until - self.next.at
     }
 
-    /// Puts a change behind the newest entry, in memory. Nothing is written. `Full` where its entry takes
-    /// more sectors than are left, `Closed` where the device has failed; neither changes anything, nor does
-    /// memory that is refused.
+    /// Puts a change after the newest entry, in memory. Nothing is written. `Full` where its entry takes more
+    /// sectors than are left, `Closed` where the device has failed; neither changes anything, nor does memory
+    /// that is refused.
     pub fn stage(&mut self, alloc: Heap, change: &Change) -> Result<(), StageError>
         requires { newest_of self.old < 2 ^ 64 - 1 }
         ensures staged { (shape : Shape) (k : Stored) (staged : List Entry) → Keeps shape self.old k staged
@@ -179,7 +180,7 @@ impl<D: Sectors> Journal<D> {
     /// entry has a body, one sync is enough. `Device` where the device fails; every later call answers
     /// `Closed`, until the store is opened again.
     pub fn flush(&mut self) -> Result<(), FlushError>
-        // A crash at any moment of it leaves a first part of the staged entries behind what was stored.
+        // A crash at any moment of it leaves a first part of the staged entries after what was stored.
         ensures any_moment { (shape : Shape) (k : Stored) (staged : List Entry)
             → Keeps shape self.old k staged
             → JournalLeavesOnly self.old self.new (LeavesPart shape k staged (opened_of self.old)) }
@@ -198,7 +199,7 @@ impl<D: Sectors> Journal<D> {
         ensures honest { D.is_honest (device_of self.new) ↔ D.is_honest (device_of self.old) }
 
         // It doesn't give up by itself.
-        ensures device { result ≡ Err FlushError.Device → HasFailed self.old self.new }
+        ensures device { result ≡ Err FlushError.Device → HasJournalFailed self.old self.new }
         ensures grows { D.failed (device_of self.old) ≤ D.failed (device_of self.new) }
         ensures quiet { OnOk result (D.failed (device_of self.new) ≡ D.failed (device_of self.old)) }
         ensures only_closed { result ≡ Err FlushError.Closed → is_closed self.old ≡ true }
@@ -249,8 +250,8 @@ impl<D: Sectors> Journal<D> {
     }
 }
 
-// Puts the sectors of an entry with these octets behind those that are to be written. Where memory is
-// refused, nothing changes.
+// Puts the sectors of an entry with these octets after those that are to be written. Where memory is refused,
+// nothing changes.
 fn stage_octets(
     next: &mut Cursor,
     bodies: &mut Vec<SectorWrite, Heap>,
@@ -290,7 +291,7 @@ fn stage_octets(
     Ok(())
 }
 
-// Puts the bodies of an entry with this head, from this place on, behind those that are to be written.
+// Puts the bodies of an entry with this head, from this position on, after those that are to be written.
 pub(crate) fn push_bodies(
     bodies: &mut Vec<SectorWrite, Heap>,
     at: usize,

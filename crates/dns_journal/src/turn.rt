@@ -1,4 +1,4 @@
-//! A bank that is written whole: the parts of a snapshot and the entries behind them are written and made
+//! A bank that is written whole: the parts of a snapshot and the entries after them are written and made
 //! durable, and then the root is turned to it.
 ghost use Rattle.std.specs.Prelude.{◌≡◌, ◌≢◌, ◌⊎◌, ◌≤◌, ◌<◌, ◌↔◌, ◌+◌, ◌-◌, ◌*◌, ◌^◌, [], true, ℕ, List};
 ghost use Rattle.std.specs.Prelude.{length};
@@ -12,10 +12,10 @@ ghost use Rattle.dns_layout.specs.Forms.{SaysPart, bank_number};
 ghost use Rattle.dns_layout.specs.Own.{Own};
 ghost use Rattle.dns_layout.specs.Journal.{AllBehind};
 ghost use Rattle.dns_layout.specs.Store.{Shape, Stored, OpensBy, OpensAs, IsTidy, version_of, other_of};
-ghost use Rattle.dns_journal.specs.Bank.{part_of, piece, Holds, sectors_for, PushesParts, PushesEntry};
+ghost use Rattle.dns_journal.specs.Bank.{part_of, piece, HoldsOctets, sectors_for, PushesParts, PushesEntry};
 ghost use Rattle.dns_journal.specs.Bank.{PushesEntries};
 ghost use Rattle.dns_journal.specs.Bank.{LaysBank, Turns, IsTurnedTo};
-ghost use Rattle.dns_journal.specs.State.{IsOpened};
+ghost use Rattle.dns_journal.specs.State.{IsOpenedTimes};
 
 use crate::journal::push_bodies;
 use crate::{Cursor, Journal};
@@ -63,7 +63,8 @@ impl From<DeviceError> for TurnError {
 }
 
 impl<D: Sectors> Journal<D> {
-    ghost use Rattle.dns_journal.specs.State.{Keeps, JournalLeavesOnly, HasFailed, is_closed, device_of};
+    ghost use Rattle.dns_journal.specs.State.{Keeps, JournalLeavesOnly, HasJournalFailed, is_closed};
+    ghost use Rattle.dns_journal.specs.State.{device_of};
     ghost use Rattle.dns_journal.specs.State.{left_of, newest_of};
     ghost use Rattle.dns_journal.specs.State.{opened_of};
     ghost use Rattle.dns_journal.specs.Bank.{IsTurned, LeavesEither, snapshot_room_of, journal_room_of};
@@ -76,7 +77,7 @@ impl<D: Sectors> Journal<D> {
         requires fits { sectors_of_snapshot (length octets.now) ≤ snapshot_room_of self.old }
         requires room { sum_by sectors_for changes.now ≤ journal_room_of self.old }
         requires few { length changes.now ≤ newest_of self.old }
-        // A crash at any moment of it leaves what was stored, or what is stored behind the turn.
+        // A crash at any moment of it leaves what was stored, or what is stored after the turn.
         ensures any_moment { (shape : Shape) (k : Stored) → Keeps shape self.old k []
             → JournalLeavesOnly self.old self.new (LeavesEither shape k octets.now changes.now
             (opened_of self.old)) }
@@ -85,7 +86,7 @@ impl<D: Sectors> Journal<D> {
             × Keeps shape self.new turned []) }
         ensures closed { is_closed self.old ≡ true ↔ result ≡ Err TurnError.Closed }
         ensures closes { result ≡ Err TurnError.Device → is_closed self.new ≡ true }
-        ensures device { result ≡ Err TurnError.Device → HasFailed self.old self.new }
+        ensures device { result ≡ Err TurnError.Device → HasJournalFailed self.old self.new }
         ensures grows { D.failed (device_of self.old) ≤ D.failed (device_of self.new) }
         ensures quiet { OnOk result (D.failed (device_of self.new) ≡ D.failed (device_of self.old)) }
         ensures stays { OnErr result ((result ≡ Err TurnError.Device) ⊎ (self.new ≡ self.old)) }
@@ -116,12 +117,12 @@ impl<D: Sectors> Journal<D> {
     }
 }
 
-/// The sector at a place that holds the part with this index of a snapshot, with zeros behind the snapshot's
-/// end.
+/// The sector at a position that holds the part with this index of a snapshot, with zeros after the
+/// snapshot's end.
 pub fn snapshot_sector(at: usize, bank_open: u64, base: u64, octets: &[u8], index: u32) -> Sector
     requires { payload_room * index ≤ length octets.now }
     ensures says { SaysPart result (part_of bank_open base index) }
-    ensures holds { Holds result (piece octets.now index) }
+    ensures holds { HoldsOctets result (piece octets.now index) }
     ensures own { Own at result }
     ensures written { result ≢ blank }
 {
@@ -135,7 +136,7 @@ pub fn snapshot_sector(at: usize, bank_open: u64, base: u64, octets: &[u8], inde
     part.encode(at, &rest[..size])
 }
 
-// Puts the parts of a snapshot, from this place on, behind the sectors that are to be written.
+// Puts the parts of a snapshot, from this position on, after the sectors that are to be written.
 pub(crate) fn push_parts(
     writes: &mut Vec<SectorWrite, Heap>,
     at: usize,
@@ -161,8 +162,8 @@ pub(crate) fn push_parts(
     Ok(())
 }
 
-// Puts the sectors of an entry with these octets, its head and then its bodies, at the cursor and behind
-// those that are to be written.
+// Puts the sectors of an entry with these octets, its head and then its bodies, at the cursor and after those
+// that are to be written.
 fn push_entry(
     next: &mut Cursor,
     writes: &mut Vec<SectorWrite, Heap>,
@@ -195,8 +196,8 @@ fn push_entry(
     Ok(())
 }
 
-// Puts the entries of these changes at the cursor, one behind the other, and behind the sectors that are to
-// be written.
+// Puts the entries of these changes at the cursor, one after the other, and after the sectors that are to be
+// written.
 pub(crate) fn push_entries(
     alloc: Heap,
     next: &mut Cursor,
@@ -219,7 +220,7 @@ pub(crate) fn push_entries(
 }
 
 // The sectors that are to be written into the bank that this root doesn't name: a snapshot with these octets,
-// of the version with this number, and the entries of these changes behind it. And where the next entry goes
+// of the version with this number, and the entries of these changes after it. And where the next entry goes
 // then.
 pub(crate) fn write_bank(
     alloc: Heap,
@@ -281,7 +282,7 @@ pub(crate) fn turn_to<D: Sectors>(
         → bank_open x ≤ open_count x → AllBehind (open_count x) (version_of k) (D.seen device.old)
         → Turns s k new x root.now (pairs writes.now)
         → LeavesOnly D.moment D.left_since device.old device.new
-        (λ c. (OpensAs s c k ⊎ OpensAs s c new) × IsTidy s c × IsOpened (open_count x) c) }
+        (λ c. (OpensAs s c k ⊎ OpensAs s c new) × IsTidy s c × IsOpenedTimes (open_count x) c) }
     ensures turned { (s : Shape) (k new : Stored) (x : List ℕ) (parts : List (List ℕ))
         → D.is_honest device.old
         → Only (D.seen device.old) (D.may_leave device.old) → OpensBy s (D.seen device.old) x parts k

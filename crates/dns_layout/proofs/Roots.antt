@@ -4,8 +4,8 @@ use Rattle.std.proofs.Math.Seq.{take-append_seam, take-append-add}
 use Rattle.std.proofs.lemmas.List.{take-replicate, replicate-append-replicate}
 use Rattle.byteorder.specs.Endian.{big_bytes, big_number}
 use Rattle.byteorder.specs.Numbers.{big_number-reads_back}
-use Rattle.dns_layout.specs.Apex.{IsPlain, apex_octets}
-use Rattle.dns_layout.specs.Sector.{HasNumbers, sector_of, tag, open_count, sequence, number, bank_open, snapshot_length, snapshot_room, journal_room, clear, apex_field, root_tag, root_tag_in}
+use Rattle.dns_layout.specs.Apex.{IsPlainApex, apex_octets}
+use Rattle.dns_layout.specs.Sector.{HasNumbers, sector_of, tag, open_count, sequence_number, number, bank_open, snapshot_length, snapshot_room, journal_room, clear, apex_field, root_tag, root_tag_in}
 use Rattle.dns_layout.specs.Forms.{SaysRoot, SaysRootIn, root_front, bank_number, clear_number}
 use Rattle.dns_layout.specs.declared.format.Format.{Format}
 use Rattle.dns_layout.specs.declared.root.Root.{Root}
@@ -39,7 +39,7 @@ same_root f x r k a b name = λ i. record {
 }
 
 -- a name's field is its first 455 octets and nine zeros, since no name has more than 255
-pub field_front : (apex : List ℕ) → IsPlain apex → take 455 (apex_octets apex) ++ replicate 9 0 ≡ apex_octets apex
+pub field_front : (apex : List ℕ) → IsPlainApex apex → take 455 (apex_octets apex) ++ replicate 9 0 ≡ apex_octets apex
 field_front apex plain =
     let n = length apex in
     let place : 455 ≡ n + (455 - n) = omega (arith, plain.short) in
@@ -55,7 +55,7 @@ field_front apex plain =
 -- the root that a sector of this form says
 pub root_said : (r : Root) (x part tail : List ℕ) → HasNumbers x root_tag r.open_count r.base (bank_number r.bank)
     → r.bank_open < 2 ^ 64 → r.snapshot_length < 2 ^ 64 → r.snapshot_room < 2 ^ 32 → r.journal_room < 2 ^ 32
-    → length part ≡ 455 → part ++ replicate 9 0 ≡ apex_octets r.apex → IsPlain r.apex
+    → length part ≡ 455 → part ++ replicate 9 0 ≡ apex_octets r.apex → IsPlainApex r.apex
     → x ≡ sector_of root_tag r.open_count r.base (bank_number r.bank) (root_front r ++ part) ++ tail → SaysRoot x r
 unfolding bank_open snapshot_length snapshot_room journal_room clear apex_field root_tag_in
 root_said r x part tail says b l s j size field plain is = record {

@@ -1,11 +1,11 @@
 -- What sectors say, each kind by the fields of its value.
 use Rattle.std.specs.Prelude.{◌≡◌, ◌≢◌, ◌≤◌, ◌⊎◌, ℕ, ◌+◌, List, [], ◌∷◌, ◌++◌, Bool, true, false}
 use Rattle.byteorder.specs.Endian.{big_bytes}
-use Rattle.dns_layout.specs.Sector.{tag, open_count, sequence, number, HasNumbers, entry_length}
+use Rattle.dns_layout.specs.Sector.{tag, open_count, sequence_number, number, HasNumbers, entry_length}
 use Rattle.dns_layout.specs.Sector.{entry_sectors_in, bank_open, snapshot_length, snapshot_room, journal_room}
 use Rattle.dns_layout.specs.Sector.{clear_in, apex_field_in}
 use Rattle.dns_layout.specs.Sector.{root_tag_in, head_tag_in, body_tag_in, snapshot_tag_in}
-use Rattle.dns_layout.specs.Apex.{IsPlain, apex_octets}
+use Rattle.dns_layout.specs.Apex.{IsPlainApex, apex_octets}
 use Rattle.dns_layout.specs.declared.LayoutError.{LayoutError}
 use Rattle.dns_layout.specs.declared.LayoutError.TheVariants.{NotThisKind, BadField}
 use Rattle.dns_layout.specs.declared.format.Format.{Format}
@@ -35,7 +35,7 @@ SaysPart x p = SaysPartIn formats.Two x p
 pub record SaysHeadIn (f : Format) (x : List ℕ) (h : Head) : Type 0 where
   pub tagged : tag x ≡ head_tag_in f
   pub opened_is : open_count x ≡ h.open_count
-  pub version_is : sequence x ≡ h.version
+  pub version_is : sequence_number x ≡ h.version
   pub bodies_is : number x + 1 ≡ entry_sectors_in f h.length
   pub length_is : entry_length x ≡ h.length
 
@@ -60,7 +60,7 @@ clear_number false = 0
 pub record SaysRootIn (f : Format) (x : List ℕ) (r : Root) : Type 0 where
   pub tagged : tag x ≡ root_tag_in f
   pub opened_is : open_count x ≡ r.open_count
-  pub base_is : sequence x ≡ r.base
+  pub base_is : sequence_number x ≡ r.base
   pub bank_is : number x ≡ bank_number r.bank
   pub bank_open_is : bank_open x ≡ r.bank_open
   pub snapshot_length_is : snapshot_length x ≡ r.snapshot_length
@@ -68,7 +68,7 @@ pub record SaysRootIn (f : Format) (x : List ℕ) (r : Root) : Type 0 where
   pub journal_room_is : journal_room x ≡ r.journal_room
   pub clear_is : clear_in f x ≡ clear_number r.is_clear
   pub apex_is : apex_field_in f x ≡ apex_octets r.apex
-  pub plain : IsPlain r.apex
+  pub plain : IsPlainApex r.apex
 
 abbrev pub SaysRoot : List ℕ → Root → Type 0
 SaysRoot x r = SaysRootIn formats.Two x r
@@ -80,9 +80,9 @@ root_front r = big_bytes 8 r.bank_open
     ++ (big_bytes 4 r.snapshot_room ++ (big_bytes 4 r.journal_room ++ clear_number r.is_clear ∷ [])))
 
 -- why a sector is refused as a root: another tag; or a bank above 1, a word above 1 on the other bank, or no
--- name with nothing but zeros behind it
+-- name with nothing but zeros after it
 abbrev pub RootRefusedIn : Format → List ℕ → LayoutError → Type 0
 RootRefusedIn f x NotThisKind = tag x ≢ root_tag_in f
 RootRefusedIn f x BadField = (tag x ≡ root_tag_in f)
     × ((2 ≤ number x) ⊎ (2 ≤ clear_in f x)
-    ⊎ ((apex : List ℕ) → IsPlain apex → apex_field_in f x ≢ apex_octets apex))
+    ⊎ ((apex : List ℕ) → IsPlainApex apex → apex_field_in f x ≢ apex_octets apex))

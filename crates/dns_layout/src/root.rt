@@ -104,7 +104,7 @@ impl Root {
 
     /// What the sector says. `NotThisKind` where it has another tag, `BadField` where its bank or what it
     /// says of the other bank is above 1, or its last field is not a name in plain form with nothing but
-    /// zeros behind it.
+    /// zeros after it.
     #[tactic(auto, unfolding(crate::specs::Sector::root_tag_in))]
     pub fn decode(format: Format, sector: &Sector) -> Result<Root, LayoutError>
         ensures says { IfOk result (SaysRootIn format sector.now) }
@@ -159,7 +159,7 @@ fn read_clear(format: Format, sector: &Sector) -> Option<bool>
     }
 }
 
-// The zone's name and the zeros behind it.
+// The zone's name and the zeros after it.
 #[tactic(auto, unfolding(crate::specs::Sector::apex_field, crate::specs::Sector::old_apex_field))]
 fn apex_field(format: Format, sector: &Sector) -> [u8; 464]
     ensures { result ≡ apex_field_in format sector.now }

@@ -1,4 +1,4 @@
--- The records that the code hands on with what a question finds.
+-- The records that the code passes on with what a question finds.
 use Rattle.std.specs.Prelude.{◌≡◌, ℕ, List, [], ◌∷◌, Some, slice_get}
 use Rattle.dns_names.specs.Name.{Labels}
 use Rattle.dns_records.specs.Types.{type_ns, type_cname}

@@ -1,4 +1,4 @@
--- What the code tells of a lookup.
+-- What the code reports of a lookup.
 use Rattle.std.specs.Prelude.{◌≡◌, List, [], ◌∷◌, Some, slice_get, map}
 use Rattle.dns_names.specs.Name.{Labels}
 use Rattle.dns_zone.specs.Zone.{Zone}
@@ -18,7 +18,7 @@ IsKind (Answers n) name kind node = (kind ≡ kinds.Answers) × (node ≡ n)
 IsKind (NoData n) name kind node = (kind ≡ kinds.NoData) × (node ≡ n)
 IsKind NameError name kind node = (kind ≡ kinds.NameError) × (node ≡ name)
 
--- One name that was searched: its zone by its place, the name, and what became of it.
+-- One name that was searched: its zone by its index, the name, and what became of it.
 pub record Represents (zones : List Zone) (f : lookup.Found) (returned : Found) : Type 0 where
   pub zone : slice_get zones returned.zone ≡ Some f.zone
   pub name : returned.name ≡ f.name

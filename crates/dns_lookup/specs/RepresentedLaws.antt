@@ -1,4 +1,4 @@
--- What is known of names that the code tells.
+-- What is known of names that the code reports.
 use Rattle.std.proofs.Common.{◌≡◌, ℕ, zero, suc, ◌+◌, ◌<◌, List, [], ◌∷◌, ◌++◌, length, get_or, take, refl}
 use Rattle.std.proofs.Common.{sym, ap, subst, ◌∙◌, arith}
 use Rattle.dns_names.specs.Name.{Labels}

@@ -24,7 +24,7 @@ use std::slice;
 /// One name that was searched.
 #[derive(Drop)]
 pub struct Found<'a> {
-    /// The place of the zone that was searched.
+    /// The index of the zone that was searched.
     pub zone: usize,
     /// The name: that of the question, or the target of the alias before.
     pub name: NameRef<'a>,
@@ -37,14 +37,14 @@ pub struct Found<'a> {
     pub records: &'a [Record],
 }
 
-/// The names that were searched, one behind the other. One alone stands in place, and takes no memory.
+/// The names that were searched, one after the other. One alone is stored in place, and takes no memory.
 #[derive(Drop)]
 pub enum Outcome<'a> {
     /// None: the question's name is under no apex.
     Nothing,
     /// That of the question alone.
     One(Found<'a>),
-    /// That of the question, which is an alias, and those behind it.
+    /// That of the question, which is an alias, and those after it.
     Chain(Vec<Found<'a>, Heap>),
 }
 
@@ -169,8 +169,8 @@ fn follow<'a, I: ZoneIndex>(
 }
 
 /// What a question finds: the name, and then the target of each alias, each in the closest zone (RFC 1034
-/// section 4.3.2). The list ends behind a name that is no alias, before a target that was searched already,
-/// before a name under no apex, and behind eight names; it is empty where the question's name is under no
+/// section 4.3.2). The list ends after a name that is no alias, before a target that was searched already,
+/// before a name under no apex, and after eight names; it is empty where the question's name is under no
 /// apex. Memory is taken for the list alone, and only where the question's name is an alias.
 #[inline(always)]
 pub fn resolve<'a, I: ZoneIndex>(

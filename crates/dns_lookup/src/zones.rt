@@ -7,7 +7,7 @@ ghost use Rattle.dns_lookup.specs.Lookup.{zone_of};
 use dns_names::NameRef;
 use dns_zone::{Zone, ZoneIndex};
 
-/// The place of the first zone of that apex.
+/// The index of the first zone of that apex.
 fn place_of<I: ZoneIndex>(zones: &[Zone<I>], apex: &NameRef<'_>) -> Option<usize>
     ensures found { IfSome result
         (λ i. slice_get zones.now i ≡ find (λ z. names_eq z.apex apex.now) zones.now) }
@@ -23,7 +23,7 @@ fn place_of<I: ZoneIndex>(zones: &[Zone<I>], apex: &NameRef<'_>) -> Option<usize
     None
 }
 
-/// The place of the zone whose apex is the closest ancestor of the name (RFC 1034 section 4.3.2, step 2).
+/// The index of the zone whose apex is the closest ancestor of the name (RFC 1034 section 4.3.2, step 2).
 #[inline(always)]
 pub fn closest_zone<I: ZoneIndex>(zones: &[Zone<I>], name: &NameRef<'_>) -> Option<usize>
     ensures found { IfSome result (λ i. slice_get zones.now i ≡ zone_of zones.now name.now) }

@@ -6,7 +6,7 @@ use Rattle.dns_names.specs.Name.{Labels}
 use Rattle.dns_records.specs.Record.{Record}
 use Rattle.dns_masterfile.specs.declared.FileError.{FileError}
 use Rattle.dns_masterfile.specs.Pieces.{Piece, Gap, Comment, LineEnd, Open, Close, Text, Fault, pieces_of}
-use Rattle.dns_masterfile.specs.Entries.{Entry, begun, entries_from, entries_of}
+use Rattle.dns_masterfile.specs.Entries.{FileEntry, begun, entries_from, entries_of}
 use Rattle.dns_masterfile.specs.Meaning.{Context, at_start, after, Mean, FileMeans}
 use Rattle.dns_masterfile.specs.Reading.{read_entries, read_file}
 use Rattle.dns_masterfile.specs.Laws.{FileIsRead, FileMeansOnce}
@@ -15,15 +15,15 @@ use Rattle.dns_masterfile.proofs.Covered.{are_pieces}
 use Rattle.dns_masterfile.proofs.Sound.{entries_mean}
 use Rattle.dns_masterfile.proofs.Complete.{entries_read}
 
-abbrev AllWhole : List Entry → Type 0
-AllWhole entries = AllByRecursion (λ (e : Entry). e.whole ≡ true) entries
+abbrev AllWhole : List FileEntry → Type 0
+AllWhole entries = AllByRecursion (λ (e : FileEntry). e.whole ≡ true) entries
 
-all_whole : (ctx : Context) (entries : List Entry) (records : List Record) → Mean ctx entries records → AllWhole entries
+all_whole : (ctx : Context) (entries : List FileEntry) (records : List Record) → Mean ctx entries records → AllWhole entries
 all_whole ctx [] records h = tt
 all_whole ctx (e ∷ rest) records (said, more, whole, says, parts, others) = (whole, all_whole (after ctx said) rest more others)
 
 -- a fault makes an entry that is not whole
-no_fault : (inside : Bool) (e : Entry) (line : ℕ) (ps : List Piece) → AllWhole (entries_from inside e line ps) → NoFault ps
+no_fault : (inside : Bool) (e : FileEntry) (line : ℕ) (ps : List Piece) → AllWhole (entries_from inside e line ps) → NoFault ps
 no_fault inside e line [] h = tt
 no_fault true e line (LineEnd ∷ ps) h = no_fault true e (suc line) ps h
 no_fault false e line (LineEnd ∷ ps) h = no_fault false (begun (suc line) ps) (suc line) ps h.1

@@ -19,11 +19,11 @@ use Rattle.dns_records.specs.Record.{Record, string}
 use Rattle.dns_masterfile.specs.declared.FileError.{FileError}
 use Rattle.dns_masterfile.specs.Text.{number_of_text, is_decimal, string_of_text, each_of, before_each}
 use Rattle.dns_masterfile.specs.Pieces.{Word, Bare, Quoted, text_of}
-use Rattle.dns_masterfile.specs.Entries.{Entry}
+use Rattle.dns_masterfile.specs.Entries.{FileEntry}
 use Rattle.dns_masterfile.specs.Data.{octets_of_text, is_keyword, type_words, type_by_name, type_of_word, IsNameWord, AreValues, IsFieldText, IsDataText, IsRDataText}
 use Rattle.dns_masterfile.specs.Opaque.{is_numbered, opaque_only, type_of_number, is_opaque_mark, IsOpaqueText}
 use Rattle.dns_masterfile.specs.Meaning.{Context, Said, Nothing, Origin, Default, Item, after, records_in, ttl_in, is_class, begins_with_dollar, IsTtl, IsMiddle, IsOwner, IsItem, Says, Mean}
-use Rattle.dns_masterfile.specs.Reading.{Outcome, ◌>>=◌, or_bad_name, name_in, take_name, take_number, take_values, fault_of, take_strings, fits_data, take_wire, take_field, take_data, take_type, is_or_bad, take_mark, take_size, digits_in, sized, take_opaque, take_by_form, take_rdata, take_ttl, ttl_or_not, class_or_not, skip_class, ttl_then_class, either_first, take_middle, take_owner, only_if, ended, item_in, which_directive, directive_or_item, said_by, on_line, before, read_entries}
+use Rattle.dns_masterfile.specs.Reading.{ReadResult, ◌>>=◌, or_bad_name, name_in, take_name, take_number, take_values, fault_of_value, take_strings, fits_data, take_wire, take_field, take_data, take_type, is_or_bad, take_mark, take_size, digits_in, sized, take_opaque, take_by_form, take_rdata, take_ttl, ttl_or_not, class_or_not, skip_class, ttl_then_class, either_first, take_middle, take_owner, value_only_if, ended, item_in, which_directive, directive_or_item, said_by, on_line, with_records_before, read_entries}
 
 pub bind_is : {A B E : Type 0} (r : Result A E) (f : A → Result B E) (x : A) (y : B) → r ≡ Ok x → f x ≡ Ok y → (r >>= f) ≡ Ok y
 bind_is r f x y h k = rw h k
@@ -48,7 +48,7 @@ take_number_is word rest n h = bind_is (ok_or (number_of_text (2 ^ 32) (text_of 
 -- Fixed octets.
 fixed_step : (f : Value) (fs : List Value) (word : Word) (more rest : List Word) (front tail : List ℕ) → octets_of_text f (text_of word) ≡ Some front → take_values fs (more ++ rest) ≡ Ok (tail, rest) → take_values (f ∷ fs) ((word ∷ more) ++ rest) ≡ Ok (front ++ tail, rest)
 fixed_step f fs word more rest front tail h k =
-    bind_is (ok_or (octets_of_text f (text_of word)) (fault_of f)) _ front (front ++ tail, rest) (some_or (octets_of_text f (text_of word)) (fault_of f) front h)
+    bind_is (ok_or (octets_of_text f (text_of word)) (fault_of_value f)) _ front (front ++ tail, rest) (some_or (octets_of_text f (text_of word)) (fault_of_value f) front h)
     (bind_is (take_values fs (more ++ rest)) (λ r. Ok (front ++ r.0, r.1)) (tail, rest) (front ++ tail, rest) k refl)
 
 take_fixed_is : (fs : List Value) (here rest : List Word) (octets : List ℕ) → AreValues fs here octets → take_values fs (here ++ rest) ≡ Ok (octets, rest)
@@ -304,10 +304,10 @@ none_skipped word rest h = ap (λ (b : Bool). class_or_not b word rest) h
 ttl_then : (words : List Word) (written : Option ℕ) (left rest : List Word) → take_ttl words ≡ Ok (written, left) → skip_class left ≡ rest → ttl_then_class words ≡ Ok (written, rest)
 ttl_then words written left rest h k = bind_is (take_ttl words) (λ ttl. Ok (ttl.0, skip_class ttl.1)) (written, left) (written, rest) h (ap (λ (ws : List Word). Ok (written, ws)) k)
 
-class_first : (word : Word) (rest : List Word) (r : Outcome (Option ℕ × List Word)) → is_class word ≡ true → take_ttl rest ≡ r → take_middle (word ∷ rest) ≡ r
+class_first : (word : Word) (rest : List Word) (r : ReadResult (Option ℕ × List Word)) → is_class word ≡ true → take_ttl rest ≡ r → take_middle (word ∷ rest) ≡ r
 class_first word rest r h k = ap (λ (b : Bool). either_first b word rest) h ∙ k
 
-ttl_first : (word : Word) (rest : List Word) (r : Outcome (Option ℕ × List Word)) → is_class word ≡ false → ttl_then_class (word ∷ rest) ≡ r → take_middle (word ∷ rest) ≡ r
+ttl_first : (word : Word) (rest : List Word) (r : ReadResult (Option ℕ × List Word)) → is_class word ≡ false → ttl_then_class (word ∷ rest) ≡ r → take_middle (word ∷ rest) ≡ r
 ttl_first word rest r h k = ap (λ (b : Bool). either_first b word rest) h ∙ k
 
 take_middle_is : (middle : List Word) (written : Option ℕ) (word : Word) (rest : List Word) → IsTypeWord word → IsMiddle middle written → take_middle (middle ++ word ∷ rest) ≡ Ok (written, word ∷ rest)
@@ -342,12 +342,12 @@ take_owner_is ctx true front rest owner h =
     rw (h.0) (bind_is (ok_or ctx.owner _) (λ o. Ok (o, rest)) owner (owner, rest) (some_or ctx.owner _ owner h.1) refl)
 take_owner_is ctx false front rest owner (word, e, no_dollar, read) = rw e (take_name_is ctx.origin word rest owner read)
 
-said_plain : (ctx : Context) (e : Entry) (words : List Word) → FirstPlain words → said_by ctx e words ≡ item_in ctx e words
+said_plain : (ctx : Context) (e : FileEntry) (words : List Word) → FirstPlain words → said_by ctx e words ≡ item_in ctx e words
 said_plain ctx e [] h = absurd h
 said_plain ctx e (w ∷ rest) h = ap (λ (b : Bool). directive_or_item b ctx e w rest) h
 
-ended_is : {A : Type 0} (e : Entry) (x : A) → e.whole ≡ true → ended e [] x ≡ Ok x
-ended_is e x h = ap (λ (b : Bool). only_if b x) h
+ended_is : {A : Type 0} (e : FileEntry) (x : A) → e.whole ≡ true → ended e [] x ≡ Ok x
+ended_is e x h = ap (λ (b : Bool). value_only_if b x) h
 
 -- The word of a type.
 take_type_is : (word : Word) (rest : List Word) (rtype : ℕ) → type_of_word word ≡ Some rtype → take_type (word ∷ rest) ≡ Ok (rtype, rest)
@@ -398,7 +398,7 @@ take_rdata_is origin rtype words octets h = go (form rtype) refl h
     go (Some fields) e h = take_data_is origin fields words octets (form_last rtype fields e) h
 
 -- an entry that says a record is read as it
-item_read : (ctx : Context) (e : Entry) (front middle data' : List Word) (word : Word) (r : Record) (written : Option ℕ) → IsOwner ctx e.blank front r.owner → IsMiddle middle written → ttl_in ctx written ≡ Some r.ttl → type_of_word word ≡ Some r.rtype → IsRDataText ctx.origin r.rtype data' r.rdata → e.whole ≡ true → item_in ctx e (front ++ (middle ++ word ∷ data')) ≡ Ok (Item r written)
+item_read : (ctx : Context) (e : FileEntry) (front middle data' : List Word) (word : Word) (r : Record) (written : Option ℕ) → IsOwner ctx e.blank front r.owner → IsMiddle middle written → ttl_in ctx written ≡ Some r.ttl → type_of_word word ≡ Some r.rtype → IsRDataText ctx.origin r.rtype data' r.rdata → e.whole ≡ true → item_in ctx e (front ++ (middle ++ word ∷ data')) ≡ Ok (Item r written)
 item_read ctx e front middle data' word r written owner middle_is ttl rtype rdata whole =
     let behind : List Word = middle ++ word ∷ data' in
     let typed = type_word_is word r.rtype rtype in
@@ -409,7 +409,7 @@ item_read ctx e front middle data' word r written owner middle_is ttl rtype rdat
     (bind_is (take_rdata ctx.origin e.whole r.rtype data') _ (r.rdata, []) (Item r written) (ap (λ (b : Bool). take_rdata ctx.origin b r.rtype data') whole ∙ take_rdata_is ctx.origin r.rtype data' r.rdata rdata)
     (ended_is e (Item r written) whole)))))
 
-item_said : (ctx : Context) (e : Entry) (r : Record) (written : Option ℕ) → IsItem ctx e.blank e.words r written → e.whole ≡ true → said_by ctx e e.words ≡ Ok (Item r written)
+item_said : (ctx : Context) (e : FileEntry) (r : Record) (written : Option ℕ) → IsItem ctx e.blank e.words r written → e.whole ≡ true → said_by ctx e e.words ≡ Ok (Item r written)
 item_said ctx e r written h whole =
     let behind : List Word = h.middle ++ h.type_word ∷ h.data_words in
     let words : e.words ≡ h.front ++ behind = h.parts ∙ append_assoc h.front h.middle (h.type_word ∷ h.data_words) in
@@ -424,13 +424,13 @@ directive_dollar : (keyword : List ℕ) (word : Word) → IsKeyword (36 ∷ keyw
 directive_dollar keyword word ([], w, same) = absurd cc
 directive_dollar keyword word (c ∷ text, w, same) = let first : to_ascii_uppercase c ≡ 36 = cc in rw w (is_dollar c first)
 
-origin_said : (ctx : Context) (e : Entry) (directive word : Word) (name : Labels) → is_keyword (codes "$ORIGIN") directive ≡ true → IsNameWord ctx.origin word name → e.whole ≡ true → said_by ctx e (directive ∷ word ∷ []) ≡ Ok (Origin name)
+origin_said : (ctx : Context) (e : FileEntry) (directive word : Word) (name : Labels) → is_keyword (codes "$ORIGIN") directive ≡ true → IsNameWord ctx.origin word name → e.whole ≡ true → said_by ctx e (directive ∷ word ∷ []) ≡ Ok (Origin name)
 origin_said ctx e directive word name h read whole =
     ap (λ (b : Bool). directive_or_item b ctx e directive (word ∷ [])) (directive_dollar _ directive (keyword_is (codes "$ORIGIN") directive h))
     ∙ ap (λ (b : Bool). which_directive b (is_keyword (codes "$TTL") directive) ctx e (word ∷ [])) h
     ∙ bind_is (take_name ctx.origin (word ∷ [])) _ (name, []) (Origin name) (take_name_is ctx.origin word [] name read) (ended_is e (Origin name) whole)
 
-default_said : (ctx : Context) (e : Entry) (directive word : Word) (ttl : ℕ) → is_keyword (codes "$TTL") directive ≡ true → number_of_text (2 ^ 32) (text_of word) ≡ Some ttl → e.whole ≡ true → said_by ctx e (directive ∷ word ∷ []) ≡ Ok (Default ttl)
+default_said : (ctx : Context) (e : FileEntry) (directive word : Word) (ttl : ℕ) → is_keyword (codes "$TTL") directive ≡ true → number_of_text (2 ^ 32) (text_of word) ≡ Some ttl → e.whole ≡ true → said_by ctx e (directive ∷ word ∷ []) ≡ Ok (Default ttl)
 default_said ctx e directive word ttl h read whole =
     let is = keyword_is (codes "$TTL") directive h in
     ap (λ (b : Bool). directive_or_item b ctx e directive (word ∷ [])) (directive_dollar _ directive is)
@@ -439,15 +439,15 @@ default_said ctx e directive word ttl h read whole =
     ∙ bind_is (take_number (word ∷ [])) _ (ttl, []) (Default ttl) (take_number_is word [] ttl read) (ended_is e (Default ttl) whole)
 
 -- what an entry says is read
-said_is : (ctx : Context) (e : Entry) (said : Said) → Says ctx e said → e.whole ≡ true → said_by ctx e e.words ≡ Ok said
+said_is : (ctx : Context) (e : FileEntry) (said : Said) → Says ctx e said → e.whole ≡ true → said_by ctx e e.words ≡ Ok said
 said_is ctx e Nothing h whole = ap (said_by ctx e) h ∙ ended_is e Nothing whole
 said_is ctx e (Origin name) (directive, word, words, h, read) whole = ap (said_by ctx e) words ∙ origin_said ctx e directive word name h read whole
 said_is ctx e (Default ttl) (directive, word, words, h, read) whole = ap (said_by ctx e) words ∙ default_said ctx e directive word ttl h read whole
 said_is ctx e (Item r written) h whole = item_said ctx e r written h whole
 
 -- entries are read as what they mean
-pub entries_read : (ctx : Context) (entries : List Entry) (records : List Record) → Mean ctx entries records → read_entries ctx entries ≡ Ok records
+pub entries_read : (ctx : Context) (entries : List FileEntry) (records : List Record) → Mean ctx entries records → read_entries ctx entries ≡ Ok records
 entries_read ctx [] records h = ap (λ (rs : List Record). Ok rs) (sym h)
 entries_read ctx (e ∷ rest) records (said, more, whole, says, parts, others) =
     bind_is (on_line e.line (said_by ctx e e.words)) _ said records (ap (on_line e.line) (said_is ctx e said says whole))
-    (ap (before (records_in said)) (entries_read (after ctx said) rest more others) ∙ ap (λ (rs : List Record). Ok rs) (sym parts))
+    (ap (with_records_before (records_in said)) (entries_read (after ctx said) rest more others) ∙ ap (λ (rs : List Record). Ok rs) (sym parts))

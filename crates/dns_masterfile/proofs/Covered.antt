@@ -7,7 +7,7 @@ use borrow.Author.Tests.{eqb-true}
 use Rattle.dns_masterfile.specs.declared.kind.Kind.{Kind}
 use Rattle.dns_masterfile.specs.declared.kind.Kind.TheVariants.{LineFeed, Return, Control, Blank, Semicolon, Quote, Opening, Closing, Backslash, Plain}
 use Rattle.dns_masterfile.specs.Kinds.{kind}
-use Rattle.dns_masterfile.specs.Pieces.{Bare, Quoted, Piece, Gap, Comment, LineEnd, Open, Close, Text, Fault, IsVisible, IsQuotable, IsUnit, IsWord, EndsLine, IsBareWord, ArePieces, Within, Between, AfterReturn, InComment, InWord, BehindEscape, InQuotes, BehindQuotedEscape, bare_end, grown, between, after_word, in_word, behind_escape, behind_quoted_escape, in_quotes, in_comment, after_return, pieces_from, pieces_of}
+use Rattle.dns_masterfile.specs.Pieces.{Bare, Quoted, Piece, Gap, Comment, LineEnd, Open, Close, Text, Fault, IsVisible, IsQuotable, IsUnit, IsWord, EndsLine, IsBareWord, ArePieces, PiecesWithin, Between, AfterReturn, InComment, InWord, BehindEscape, InQuotes, BehindQuotedEscape, bare_end, grown, between, after_word, in_word, behind_escape, behind_quoted_escape, in_quotes, in_comment, after_return, pieces_from, pieces_of}
 use Rattle.dns_masterfile.proofs.OnlyPieces.{NoFault, IsPlain, after_no_fault}
 
 -- What an octet of that kind is.
@@ -92,7 +92,7 @@ record QuotedAt (before : List ℕ) (ps : List Piece) (octets : List ℕ) : Type
   word : IsWord IsQuotable (before ++ text)
   others : ArePieces more rest
 
-abbrev Covers : Within → List Piece → List ℕ → Type 0
+abbrev Covers : PiecesWithin → List Piece → List ℕ → Type 0
 Covers Between ps octets = ArePieces ps octets
 Covers AfterReturn ps octets = LineAt ps octets
 Covers InComment ps octets = CommentAt ps octets
@@ -102,8 +102,8 @@ Covers InQuotes ps octets = QuotedAt [] ps octets
 Covers BehindQuotedEscape ps octets = QuotedAt (92 ∷ []) ps octets
 
 -- What is known of the octets behind one.
-abbrev Behind : (Within → List Piece) → List ℕ → Type 0
-Behind next rest = (w : Within) → NoFault (next w) → Covers w (next w) rest
+abbrev Behind : (PiecesWithin → List Piece) → List ℕ → Type 0
+Behind next rest = (w : PiecesWithin) → NoFault (next w) → Covers w (next w) rest
 
 ungrown : (c : ℕ) (ps : List Piece) → NoFault (grown c ps) → NoFault ps
 ungrown c [] h = h
@@ -189,7 +189,7 @@ escape_pieces : (c : ℕ) (ps : List Piece) (rest : List ℕ) → c ≡ 92 → B
 escape_pieces c ps rest e at =
     word_pieces c (grown c ps) rest at.text at.rest at.more (ap (λ (xs : List ℕ). c ∷ xs) at.parts) (ap (grown c) at.pieces) (subst (λ (x : ℕ). IsBareWord (x ∷ at.text) at.rest) (sym e) at.word) at.others
 
-between_covered : (c : ℕ) (k : Kind) (rest : List ℕ) (next : Within → List Piece) → kind c ≡ k → Behind next rest → NoFault (between c k next) → ArePieces (between c k next) (c ∷ rest)
+between_covered : (c : ℕ) (k : Kind) (rest : List ℕ) (next : PiecesWithin → List Piece) → kind c ≡ k → Behind next rest → NoFault (between c k next) → ArePieces (between c k next) (c ∷ rest)
 between_covered c LineFeed rest next e ih h = (c ∷ [], rest, refl, inl (ap (λ (x : ℕ). x ∷ []) (of_kind c LineFeed e)), tt, ih Between h)
 between_covered c Return rest next e ih h = return_pieces c (next AfterReturn) rest (of_kind c Return e) (ih AfterReturn h)
 between_covered c Control rest next e ih h = absurd h
@@ -205,7 +205,7 @@ between_covered c Closing rest next e ih h = (c ∷ [], rest, refl, ap (λ (x : 
 between_covered c Backslash rest next e ih h = escape_pieces c (next BehindEscape) rest (of_kind c Backslash e) (ih BehindEscape (ungrown c (next BehindEscape) h))
 between_covered c Plain rest next e ih h = plain_pieces c (next InWord) rest e (ih InWord (ungrown c (next InWord) h))
 
-comment_covered : (c : ℕ) (k : Kind) (rest : List ℕ) (next : Within → List Piece) → kind c ≡ k → Behind next rest → NoFault (in_comment k next) → CommentAt (in_comment k next) (c ∷ rest)
+comment_covered : (c : ℕ) (k : Kind) (rest : List ℕ) (next : PiecesWithin → List Piece) → kind c ≡ k → Behind next rest → NoFault (in_comment k next) → CommentAt (in_comment k next) (c ∷ rest)
 comment_covered c LineFeed rest next e ih h = record { text = []; rest = c ∷ rest; parts = refl; visible = tt; ends = inl e; others = between_covered c LineFeed rest next e ih h }
 comment_covered c Return rest next e ih h = record { text = []; rest = c ∷ rest; parts = refl; visible = tt; ends = inr e; others = between_covered c Return rest next e ih h }
 comment_covered c Control rest next e ih h = absurd h
@@ -221,7 +221,7 @@ comment_covered c k rest next e ih h =
     }
 
 -- a word ends here
-ends_at : (before : List ℕ) (c : ℕ) (k : Kind) (rest : List ℕ) (next : Within → List Piece) → kind c ≡ k → Behind next rest → NoFault (between c k next) → IsBareWord (before ++ []) (c ∷ rest) → BareAt before (bare_end ∷ between c k next) (c ∷ rest)
+ends_at : (before : List ℕ) (c : ℕ) (k : Kind) (rest : List ℕ) (next : PiecesWithin → List Piece) → kind c ≡ k → Behind next rest → NoFault (between c k next) → IsBareWord (before ++ []) (c ∷ rest) → BareAt before (bare_end ∷ between c k next) (c ∷ rest)
 ends_at before c k rest next e ih h word = record {
   text = [];
   rest = c ∷ rest;
@@ -240,12 +240,12 @@ lone_word : (c : ℕ) (rest : List ℕ) → (kind c ≡ LineFeed) ⊎ (kind c �
 lone_word c rest e = inr ([], refl, empty_word IsPlain, e)
 
 -- a word before a carriage return
-return_at : (before : List ℕ) (c : ℕ) (rest : List ℕ) (next : Within → List Piece) → kind c ≡ Return → Behind next rest → NoFault (after_word (next AfterReturn)) → IsBareWord (before ++ []) (c ∷ rest) → BareAt before (after_word (next AfterReturn)) (c ∷ rest)
+return_at : (before : List ℕ) (c : ℕ) (rest : List ℕ) (next : PiecesWithin → List Piece) → kind c ≡ Return → Behind next rest → NoFault (after_word (next AfterReturn)) → IsBareWord (before ++ []) (c ∷ rest) → BareAt before (after_word (next AfterReturn)) (c ∷ rest)
 return_at before c rest next e ih h word =
     let none = unafter (next AfterReturn) h in
     subst (λ (ps : List Piece). BareAt before ps (c ∷ rest)) (sym (after_no_fault (next AfterReturn) none)) (ends_at before c Return rest next e ih none word)
 
-word_covered : (c : ℕ) (k : Kind) (rest : List ℕ) (next : Within → List Piece) → kind c ≡ k → Behind next rest → NoFault (in_word c k next) → BareAt [] (in_word c k next) (c ∷ rest)
+word_covered : (c : ℕ) (k : Kind) (rest : List ℕ) (next : PiecesWithin → List Piece) → kind c ≡ k → Behind next rest → NoFault (in_word c k next) → BareAt [] (in_word c k next) (c ∷ rest)
 word_covered c Return rest next e ih h = return_at [] c rest next e ih h (no_word c Return rest e (λ q. absurd cc) (λ q. absurd cc))
 word_covered c Control rest next e ih h = absurd h
 word_covered c Backslash rest next e ih h = escape_at c (next BehindEscape) rest (of_kind c Backslash e) (ih BehindEscape (ungrown c (next BehindEscape) h))
@@ -257,7 +257,7 @@ word_covered c Quote rest next e ih h = ends_at [] c Quote rest next e ih h (no_
 word_covered c Opening rest next e ih h = ends_at [] c Opening rest next e ih h (no_word c Opening rest e (λ q. absurd cc) (λ q. absurd cc))
 word_covered c Closing rest next e ih h = ends_at [] c Closing rest next e ih h (no_word c Closing rest e (λ q. absurd cc) (λ q. absurd cc))
 
-escape_covered : (c : ℕ) (k : Kind) (rest : List ℕ) (next : Within → List Piece) → kind c ≡ k → Behind next rest → NoFault (behind_escape c k next) → BareAt (92 ∷ []) (behind_escape c k next) (c ∷ rest)
+escape_covered : (c : ℕ) (k : Kind) (rest : List ℕ) (next : PiecesWithin → List Piece) → kind c ≡ k → Behind next rest → NoFault (behind_escape c k next) → BareAt (92 ∷ []) (behind_escape c k next) (c ∷ rest)
 escape_covered c LineFeed rest next e ih h = ends_at (92 ∷ []) c LineFeed rest next e ih h (lone_word c rest (inl e))
 escape_covered c Return rest next e ih h = return_at (92 ∷ []) c rest next e ih h (lone_word c rest (inr e))
 escape_covered c Control rest next e ih h = absurd h
@@ -278,7 +278,7 @@ quoted_at before c ps rest at front word = record {
 quotable_at : (c : ℕ) (ps : List Piece) (rest : List ℕ) → IsQuotable (kind c) → QuotedAt [] ps rest → QuotedAt [] (grown c ps) (c ∷ rest)
 quotable_at c ps rest v at = quoted_at [] c ps rest at [] (more_word IsQuotable (c ∷ []) at.text (c, inl (refl, v)) at.word)
 
-quoted_covered : (c : ℕ) (k : Kind) (rest : List ℕ) (next : Within → List Piece) → kind c ≡ k → Behind next rest → NoFault (in_quotes c k next) → QuotedAt [] (in_quotes c k next) (c ∷ rest)
+quoted_covered : (c : ℕ) (k : Kind) (rest : List ℕ) (next : PiecesWithin → List Piece) → kind c ≡ k → Behind next rest → NoFault (in_quotes c k next) → QuotedAt [] (in_quotes c k next) (c ∷ rest)
 quoted_covered c LineFeed rest next e ih h = absurd h
 quoted_covered c Return rest next e ih h = absurd h
 quoted_covered c Control rest next e ih h = absurd h
@@ -296,7 +296,7 @@ quoted_covered c Backslash rest next e ih h =
     quoted_at (92 ∷ []) c (next BehindQuotedEscape) rest at [] (subst (λ (x : ℕ). IsWord IsQuotable (x ∷ at.text)) (sym (of_kind c Backslash e)) at.word)
 quoted_covered c k rest next e ih h = quotable_at c (next InQuotes) rest (subst IsQuotable (sym e) tt) (ih InQuotes (ungrown c (next InQuotes) h))
 
-quoted_escape_covered : (c : ℕ) (k : Kind) (rest : List ℕ) (next : Within → List Piece) → kind c ≡ k → Behind next rest → NoFault (behind_quoted_escape c k next) → QuotedAt (92 ∷ []) (behind_quoted_escape c k next) (c ∷ rest)
+quoted_escape_covered : (c : ℕ) (k : Kind) (rest : List ℕ) (next : PiecesWithin → List Piece) → kind c ≡ k → Behind next rest → NoFault (behind_quoted_escape c k next) → QuotedAt (92 ∷ []) (behind_quoted_escape c k next) (c ∷ rest)
 quoted_escape_covered c LineFeed rest next e ih h = absurd h
 quoted_escape_covered c Return rest next e ih h = absurd h
 quoted_escape_covered c Control rest next e ih h = absurd h
@@ -304,11 +304,11 @@ quoted_escape_covered c k rest next e ih h =
     let at = ih InQuotes (ungrown c (next InQuotes) h) in
     quoted_at [] c (next InQuotes) rest at (92 ∷ []) (more_word IsQuotable (92 ∷ c ∷ []) at.text (c, inr (refl, subst IsVisible (sym e) tt)) at.word)
 
-return_covered : (c : ℕ) (k : Kind) (rest : List ℕ) (next : Within → List Piece) → kind c ≡ k → Behind next rest → NoFault (after_return k next) → LineAt (after_return k next) (c ∷ rest)
+return_covered : (c : ℕ) (k : Kind) (rest : List ℕ) (next : PiecesWithin → List Piece) → kind c ≡ k → Behind next rest → NoFault (after_return k next) → LineAt (after_return k next) (c ∷ rest)
 return_covered c LineFeed rest next e ih h = record { rest = rest; more = next Between; parts = ap (λ (x : ℕ). x ∷ rest) (of_kind c LineFeed e); pieces = refl; others = ih Between h }
 return_covered c _ rest next e ih h = absurd h
 
-covered : (octets : List ℕ) (w : Within) → NoFault (pieces_from w octets) → Covers w (pieces_from w octets) octets
+covered : (octets : List ℕ) (w : PiecesWithin) → NoFault (pieces_from w octets) → Covers w (pieces_from w octets) octets
 covered [] Between h = refl
 covered [] AfterReturn h = absurd h
 covered [] InComment h = record { text = []; rest = []; parts = refl; visible = tt; ends = tt; others = refl }

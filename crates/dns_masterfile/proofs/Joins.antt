@@ -17,40 +17,40 @@ use Rattle.dns_masterfile.specs.declared.FileError.TheVariants.{BadData}
 use Rattle.dns_masterfile.specs.Text.{string_of_text}
 use Rattle.dns_masterfile.specs.Pieces.{Word, text_of}
 use Rattle.dns_masterfile.specs.Data.{octets_of_text}
-use Rattle.dns_masterfile.specs.Reading.{Outcome, Taken, ◌>>=◌, next_word, take_values, take_field, take_data, take_strings, fault_of, fits_data, is_or_bad, digits_in}
-use Rattle.dns_masterfile.specs.Taking.{FitField, FitFields, Refuses, string_at, strings_in}
+use Rattle.dns_masterfile.specs.Reading.{ReadResult, TakenValue, ◌>>=◌, next_word, take_values, take_field, take_data, take_strings, fault_of_value, fits_data, is_or_bad, digits_in}
+use Rattle.dns_masterfile.specs.Taking.{FitField, FitFields, RefusesFor, string_at, strings_in}
 
 -- octets before those that are taken
-abbrev pub joined : List ℕ → Taken (List ℕ) → Taken (List ℕ)
+abbrev pub joined : List ℕ → TakenValue (List ℕ) → TakenValue (List ℕ)
 joined front (Ok x) = Ok (front ++ x.0, x.1)
 joined front (Err e) = Err e
 
-joined_twice : (a b : List ℕ) (r : Taken (List ℕ)) → joined a (joined b r) ≡ joined (a ++ b) r
+joined_twice : (a b : List ℕ) (r : TakenValue (List ℕ)) → joined a (joined b r) ≡ joined (a ++ b) r
 joined_twice a b (Ok x) = ap (λ (octets : List ℕ). Ok (octets, x.1)) (sym (append_assoc a b x.0))
 joined_twice a b (Err e) = refl
 
-bind_joined : (front : List ℕ) (r : Taken (List ℕ)) → (r >>= λ x. Ok (front ++ x.0, x.1)) ≡ joined front r
+bind_joined : (front : List ℕ) (r : TakenValue (List ℕ)) → (r >>= λ x. Ok (front ++ x.0, x.1)) ≡ joined front r
 bind_joined front (Ok x) = refl
 bind_joined front (Err e) = refl
 
 -- one more number or address
-pub fixed_more : (f : Value) (fs : List Value) (all : Taken (List ℕ)) (front more : List ℕ) (words rest : List Word) (w : Word) → all ≡ joined front (take_values (f ∷ fs) words) → next_word words ≡ Ok (w, rest) → octets_of_text f (text_of w) ≡ Some more → all ≡ joined (front ++ more) (take_values fs rest)
+pub fixed_more : (f : Value) (fs : List Value) (all : TakenValue (List ℕ)) (front more : List ℕ) (words rest : List Word) (w : Word) → all ≡ joined front (take_values (f ∷ fs) words) → next_word words ≡ Ok (w, rest) → octets_of_text f (text_of w) ≡ Some more → all ≡ joined (front ++ more) (take_values fs rest)
 fixed_more f fs all front more words rest w h word octets =
-    let read : List ℕ → Taken (List ℕ) = λ o. take_values fs rest >>= λ r. Ok (o ++ r.0, r.1) in
+    let read : List ℕ → TakenValue (List ℕ) = λ o. take_values fs rest >>= λ r. Ok (o ++ r.0, r.1) in
     let taken : take_values (f ∷ fs) words ≡ joined more (take_values fs rest) =
-    ap (λ (r : Taken Word). r >>= λ w. ok_or (octets_of_text f (text_of w.0)) (fault_of f) >>= λ o. take_values fs w.1 >>= λ r. Ok (o ++ r.0, r.1)) word
-    ∙ ap (λ (o : Option (List ℕ)). ok_or o (fault_of f) >>= read) octets
+    ap (λ (r : TakenValue Word). r >>= λ w. ok_or (octets_of_text f (text_of w.0)) (fault_of_value f) >>= λ o. take_values fs w.1 >>= λ r. Ok (o ++ r.0, r.1)) word
+    ∙ ap (λ (o : Option (List ℕ)). ok_or o (fault_of_value f) >>= read) octets
     ∙ bind_joined more (take_values fs rest) in
     h ∙ ap (joined front) taken ∙ joined_twice front more (take_values fs rest)
 
-pub fixed_missing : (f : Value) (fs : List Value) (all : Taken (List ℕ)) (front : List ℕ) (words : List Word) (e : FileError) → all ≡ joined front (take_values (f ∷ fs) words) → next_word words ≡ Err e → all ≡ Err e
+pub fixed_missing : (f : Value) (fs : List Value) (all : TakenValue (List ℕ)) (front : List ℕ) (words : List Word) (e : FileError) → all ≡ joined front (take_values (f ∷ fs) words) → next_word words ≡ Err e → all ≡ Err e
 fixed_missing f fs all front words e h word =
-    h ∙ ap (λ (r : Taken Word). joined front (r >>= λ w. ok_or (octets_of_text f (text_of w.0)) (fault_of f) >>= λ o. take_values fs w.1 >>= λ r. Ok (o ++ r.0, r.1))) word
+    h ∙ ap (λ (r : TakenValue Word). joined front (r >>= λ w. ok_or (octets_of_text f (text_of w.0)) (fault_of_value f) >>= λ o. take_values fs w.1 >>= λ r. Ok (o ++ r.0, r.1))) word
 
 -- one more part of data
-pub fields_more : (origin : Labels) (f : Field) (fs : List Field) (all : Taken (List ℕ)) (front more : List ℕ) (words rest : List Word) → all ≡ joined front (take_data origin (f ∷ fs) words) → take_field origin f words ≡ Ok (more, rest) → all ≡ joined (front ++ more) (take_data origin fs rest)
+pub fields_more : (origin : Labels) (f : Field) (fs : List Field) (all : TakenValue (List ℕ)) (front more : List ℕ) (words rest : List Word) → all ≡ joined front (take_data origin (f ∷ fs) words) → take_field origin f words ≡ Ok (more, rest) → all ≡ joined (front ++ more) (take_data origin fs rest)
 fields_more origin f fs all front more words rest h field =
-    h ∙ ap (λ (r : Taken (List ℕ)). joined front (r >>= λ a. take_data origin fs a.1 >>= λ b. Ok (a.0 ++ b.0, b.1))) field
+    h ∙ ap (λ (r : TakenValue (List ℕ)). joined front (r >>= λ a. take_data origin fs a.1 >>= λ b. Ok (a.0 ++ b.0, b.1))) field
     ∙ ap (joined front) (bind_joined more (take_data origin fs rest))
     ∙ joined_twice front more (take_data origin fs rest)
 
@@ -62,15 +62,15 @@ pub completes_more : (all fs : List Field) (f : Field) (front more : List ℕ) �
 completes_more all fs f front more h fit = λ tail rest. subst (FitFields all) (sym (append_assoc front more tail)) (h (more ++ tail) (more, tail, refl, fit, rest))
 
 -- strings before those that are taken
-abbrev pub strung : List ℕ → Outcome (List ℕ) → Outcome (List ℕ)
+abbrev pub strung : List ℕ → ReadResult (List ℕ) → ReadResult (List ℕ)
 strung front (Ok octets) = Ok (front ++ octets)
 strung front (Err e) = Err e
 
-strung_twice : (a b : List ℕ) (r : Outcome (List ℕ)) → strung a (strung b r) ≡ strung (a ++ b) r
+strung_twice : (a b : List ℕ) (r : ReadResult (List ℕ)) → strung a (strung b r) ≡ strung (a ++ b) r
 strung_twice a b (Ok octets) = ap (λ (x : List ℕ). Ok x) (sym (append_assoc a b octets))
 strung_twice a b (Err e) = refl
 
-bind_strung : (front : List ℕ) (r : Outcome (List ℕ)) → (r >>= λ rest. Ok (front ++ rest)) ≡ strung front r
+bind_strung : (front : List ℕ) (r : ReadResult (List ℕ)) → (r >>= λ rest. Ok (front ++ rest)) ≡ strung front r
 bind_strung front (Ok octets) = refl
 bind_strung front (Err e) = refl
 
@@ -85,19 +85,19 @@ first_string size w words = go (string_of_text (text_of w))
     go None = refl
     go (Some s) = fit (nat_lt 4096 (size + 1 + length s)) s
 
-pub strings_more : (all : Outcome (List ℕ)) (size next : ℕ) (front s : List ℕ) (w : Word) (words : List Word) → all ≡ strung front (take_strings size (w ∷ words)) → string_at size (text_of w) ≡ Ok s → next ≡ size + 1 + length s → all ≡ strung (front ++ string s) (take_strings next words)
+pub strings_more : (all : ReadResult (List ℕ)) (size next : ℕ) (front s : List ℕ) (w : Word) (words : List Word) → all ≡ strung front (take_strings size (w ∷ words)) → string_at size (text_of w) ≡ Ok s → next ≡ size + 1 + length s → all ≡ strung (front ++ string s) (take_strings next words)
 strings_more all size next front s w words h read e =
-    h ∙ ap (strung front) (first_string size w words ∙ ap (λ (r : Outcome (List ℕ)). r >>= λ s. strung (string s) (take_strings (size + 1 + length s) words)) read)
+    h ∙ ap (strung front) (first_string size w words ∙ ap (λ (r : ReadResult (List ℕ)). r >>= λ s. strung (string s) (take_strings (size + 1 + length s) words)) read)
     ∙ strung_twice front (string s) (take_strings (size + 1 + length s) words)
     ∙ ap (λ (n : ℕ). strung (front ++ string s) (take_strings n words)) (sym e)
 
-pub strings_refused : (all : Outcome (List ℕ)) (size : ℕ) (front : List ℕ) (w : Word) (words : List Word) (e : FileError) → all ≡ strung front (take_strings size (w ∷ words)) → string_at size (text_of w) ≡ Err e → all ≡ Err e
+pub strings_refused : (all : ReadResult (List ℕ)) (size : ℕ) (front : List ℕ) (w : Word) (words : List Word) (e : FileError) → all ≡ strung front (take_strings size (w ∷ words)) → string_at size (text_of w) ≡ Err e → all ≡ Err e
 strings_refused all size front w words e h read =
-    h ∙ ap (strung front) (first_string size w words ∙ ap (λ (r : Outcome (List ℕ)). r >>= λ s. strung (string s) (take_strings (size + 1 + length s) words)) read)
+    h ∙ ap (strung front) (first_string size w words ∙ ap (λ (r : ReadResult (List ℕ)). r >>= λ s. strung (string s) (take_strings (size + 1 + length s) words)) read)
 
 pub strings_fault : (words : List Word) (e : FileError) → 0 < length words → take_strings 0 words ≡ Err e → strings_in words ≡ Err e
 strings_fault [] e some h = absurd (omega arith)
-strings_fault (w ∷ words) e some h = ap (λ (r : Outcome (List ℕ)). r >>= λ octets. Ok (octets, [])) h
+strings_fault (w ∷ words) e some h = ap (λ (r : ReadResult (List ℕ)). r >>= λ octets. Ok (octets, [])) h
 
 -- strings behind one another
 pub strings_push : (strings : List (List ℕ)) (s : List ℕ) → flat_map string (strings ++ s ∷ []) ≡ flat_map string strings ++ string s
@@ -136,7 +136,7 @@ put_two old pushed new slice s n p q e m =
     ∙ ap (λ (octets : List ℕ). old ++ n ∷ octets) e ∙ ap (λ (k : ℕ). old ++ k ∷ s) m
 
 -- the string that stands next is refused
-pub refused_string : (all self words : List Word) (size : ℕ) (front text : List ℕ) (w : Word) (e : FileError) → 0 < length all → take_strings 0 all ≡ strung front (take_strings size self) → self ≡ w ∷ words → text ≡ text_of w → Refuses (string_at size text) e → Refuses (strings_in all) e
+pub refused_string : (all self words : List Word) (size : ℕ) (front text : List ℕ) (w : Word) (e : FileError) → 0 < length all → take_strings 0 all ≡ strung front (take_strings size self) → self ≡ w ∷ words → text ≡ text_of w → RefusesFor (string_at size text) e → RefusesFor (strings_in all) e
 refused_string all self words size front text w e some h at same (inl oom) = inl oom
 refused_string all self words size front text w e some h at same (inr fault) =
     let here : take_strings 0 all ≡ strung front (take_strings size (w ∷ words)) = h ∙ ap (λ (ws : List Word). strung front (take_strings size ws)) at in
@@ -150,7 +150,7 @@ pub drop_next : {A : Type 0} (xs : List A) (i : ℕ) (d : A) → i < length xs �
 drop_next xs i d h = let e : suc i ≡ i + 1 = omega arith in drop-cons xs i d h ∙ ap (λ n. get_or xs i d ∷ drop n xs) e
 
 -- the digits of one more word
-pub digits_more : (all : Outcome (List ℕ)) (front text : List ℕ) (words rest : List Word) (w : Word) → all ≡ strung front (digits_in words) → words ≡ w ∷ rest → text ≡ text_of w → list_all is_hex_digit text ≡ true → all ≡ strung (front ++ text) (digits_in rest)
+pub digits_more : (all : ReadResult (List ℕ)) (front text : List ℕ) (words rest : List Word) (w : Word) → all ≡ strung front (digits_in words) → words ≡ w ∷ rest → text ≡ text_of w → list_all is_hex_digit text ≡ true → all ≡ strung (front ++ text) (digits_in rest)
 digits_more all front text words rest w h at same digits =
     let passed : list_all is_hex_digit (text_of w) ≡ true = ap (list_all is_hex_digit) (sym same) ∙ digits in
     h ∙ ap (λ (ws : List Word). strung front (digits_in ws)) at

@@ -2,16 +2,16 @@
 use Rattle.std.proofs.Common.{◌≡◌, ℕ, suc, ◌+◌, Bool, true, false, List, [], ◌∷◌, ◌++◌, refl, sym, ap, ◌∙◌, arith, append-nil, append_assoc}
 use Rattle.std.specs.Prelude.{not}
 use Rattle.dns_masterfile.specs.Pieces.{Word, Piece, Gap, Comment, LineEnd, Open, Close, Text, Fault}
-use Rattle.dns_masterfile.specs.Entries.{Entry, begun, entries_from}
+use Rattle.dns_masterfile.specs.Entries.{FileEntry, begun, entries_from}
 use Rattle.dns_masterfile.specs.Left.{Left, no_words, entry_at, left_from}
 
-abbrev pub with_left : Entry → Left → List Entry
+abbrev pub with_left : FileEntry → Left → List FileEntry
 with_left e left = record e { words = e.words ++ left.words; whole = left.whole } ∷ left.behind
 
-stopped : (e : Entry) (whole : Bool) (behind : List Entry) → record e { whole = whole } ∷ behind ≡ with_left e (no_words whole behind)
+stopped : (e : FileEntry) (whole : Bool) (behind : List FileEntry) → record e { whole = whole } ∷ behind ≡ with_left e (no_words whole behind)
 stopped e whole behind = ap (λ (words : List Word). record e { words = words; whole = whole } ∷ behind) (sym (append-nil e.words))
 
-pub entries_left : (inside : Bool) (e : Entry) (line : ℕ) (ps : List Piece) → e.whole ≡ true → entries_from inside e line ps ≡ with_left e (left_from inside line ps)
+pub entries_left : (inside : Bool) (e : FileEntry) (line : ℕ) (ps : List Piece) → e.whole ≡ true → entries_from inside e line ps ≡ with_left e (left_from inside line ps)
 entries_left inside e line [] h = stopped e (not inside) []
 entries_left true e line (LineEnd ∷ ps) h = entries_left true e (suc line) ps h
 entries_left false e line (LineEnd ∷ ps) h =
@@ -32,7 +32,7 @@ entries_left inside e line (Fault ∷ ps) h = stopped e false []
 -- the entries of pieces, by how the first begins
 pub entries_begun : (line : ℕ) (blank : Bool) (ps : List Piece) → begun line ps ≡ record { line = line; blank = blank; words = []; whole = true } → entries_from false (begun line ps) line ps ≡ with_left (record { line = line; blank = blank; words = []; whole = true }) (left_from false line ps)
 entries_begun line blank ps h =
-    ap (λ (e : Entry). entries_from false e line ps) h
+    ap (λ (e : FileEntry). entries_from false e line ps) h
     ∙ entries_left false (record { line = line; blank = blank; words = []; whole = true }) line ps refl
 
 -- a line end outside parentheses, behind which an entry begins so

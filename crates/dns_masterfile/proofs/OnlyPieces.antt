@@ -6,7 +6,7 @@ use Rattle.std.proofs.lemmas.List.{append-nil}
 use Rattle.dns_masterfile.specs.declared.kind.Kind.{Kind}
 use Rattle.dns_masterfile.specs.declared.kind.Kind.TheVariants.{LineFeed, Return, Control, Quote, Backslash, Plain}
 use Rattle.dns_masterfile.specs.Kinds.{kind}
-use Rattle.dns_masterfile.specs.Pieces.{Bare, Quoted, Piece, Gap, Comment, LineEnd, Open, Close, Text, Fault, IsVisible, IsQuotable, IsUnit, IsPiece, EndsLine, EndsWord, IsBareWord, IsWhole, ArePieces, Within, AfterReturn, InComment, InWord, BehindEscape, InQuotes, bare_end, grown, between, after_word, in_word, behind_escape, behind_quoted_escape, in_quotes, in_comment, pieces_from, pieces_of}
+use Rattle.dns_masterfile.specs.Pieces.{Bare, Quoted, Piece, Gap, Comment, LineEnd, Open, Close, Text, Fault, IsVisible, IsQuotable, IsUnit, IsPiece, EndsLine, EndsWord, IsBareWord, IsWholePiece, ArePieces, PiecesWithin, AfterReturn, InComment, InWord, BehindEscape, InQuotes, bare_end, grown, between, after_word, in_word, behind_escape, behind_quoted_escape, in_quotes, in_comment, pieces_from, pieces_of}
 use Rattle.dns_masterfile.specs.Steps.{grown_by}
 use Rattle.dns_masterfile.proofs.Scanning.{grown_bare, grown_quoted, grown_more}
 
@@ -16,13 +16,13 @@ NoFault [] = ⊤
 NoFault (Fault ∷ ps) = ⊥
 NoFault (p ∷ ps) = NoFault ps
 
-visible_comment : (k : Kind) (next : Within → List Piece) → IsVisible k → in_comment k next ≡ next InComment
+visible_comment : (k : Kind) (next : PiecesWithin → List Piece) → IsVisible k → in_comment k next ≡ next InComment
 visible_comment LineFeed next h = absurd h
 visible_comment Return next h = absurd h
 visible_comment Control next h = absurd h
 visible_comment _ next h = refl
 
-line_comment : (k : Kind) (c : ℕ) (next : Within → List Piece) → (k ≡ LineFeed) ⊎ (k ≡ Return) → in_comment k next ≡ between c k next
+line_comment : (k : Kind) (c : ℕ) (next : PiecesWithin → List Piece) → (k ≡ LineFeed) ⊎ (k ≡ Return) → in_comment k next ≡ between c k next
 line_comment k c next (inl e) = rw e refl
 line_comment k c next (inr e) = rw e refl
 
@@ -36,19 +36,19 @@ comment_read [] rest visible ends = comment_ends rest ends
 comment_read (c ∷ cs) rest visible ends = visible_comment (kind c) (λ w. pieces_from w (cs ++ rest)) visible.0 ∙ comment_read cs rest visible.1 ends
 
 -- what stands behind a `\`
-visible_escape : (k : Kind) (c : ℕ) (next : Within → List Piece) → IsVisible k → behind_escape c k next ≡ grown c (next InWord)
+visible_escape : (k : Kind) (c : ℕ) (next : PiecesWithin → List Piece) → IsVisible k → behind_escape c k next ≡ grown c (next InWord)
 visible_escape LineFeed c next h = absurd h
 visible_escape Return c next h = absurd h
 visible_escape Control c next h = absurd h
 visible_escape _ c next h = refl
 
-quoted_escape : (k : Kind) (c : ℕ) (next : Within → List Piece) → IsVisible k → behind_quoted_escape c k next ≡ grown c (next InQuotes)
+quoted_escape : (k : Kind) (c : ℕ) (next : PiecesWithin → List Piece) → IsVisible k → behind_quoted_escape c k next ≡ grown c (next InQuotes)
 quoted_escape LineFeed c next h = absurd h
 quoted_escape Return c next h = absurd h
 quoted_escape Control c next h = absurd h
 quoted_escape _ c next h = refl
 
-quotable : (k : Kind) (c : ℕ) (next : Within → List Piece) → IsQuotable k → in_quotes c k next ≡ grown c (next InQuotes)
+quotable : (k : Kind) (c : ℕ) (next : PiecesWithin → List Piece) → IsQuotable k → in_quotes c k next ≡ grown c (next InQuotes)
 quotable LineFeed c next h = absurd h
 quotable Return c next h = absurd h
 quotable Control c next h = absurd h
@@ -59,7 +59,7 @@ quotable _ c next h = refl
 abbrev pub IsPlain : Kind → Type 0
 IsPlain k = k ≡ Plain
 
-plain_read : (k : Kind) (c : ℕ) (next : Within → List Piece) → k ≡ Plain → in_word c k next ≡ grown c (next InWord)
+plain_read : (k : Kind) (c : ℕ) (next : PiecesWithin → List Piece) → k ≡ Plain → in_word c k next ≡ grown c (next InWord)
 plain_read k c next e = rw e refl
 
 -- a unit of a word is read
@@ -94,7 +94,7 @@ after_no_fault (Fault ∷ ps) h = absurd h
 after_no_fault (p ∷ ps) h = refl
 
 -- a word ends where neither a plain octet nor a `\` follows
-word_stops : (k : Kind) (c : ℕ) (next : Within → List Piece) → ¬ (k ≡ Plain) → ¬ (k ≡ Backslash) → NoFault (between c k next) → in_word c k next ≡ bare_end ∷ between c k next
+word_stops : (k : Kind) (c : ℕ) (next : PiecesWithin → List Piece) → ¬ (k ≡ Plain) → ¬ (k ≡ Backslash) → NoFault (between c k next) → in_word c k next ≡ bare_end ∷ between c k next
 word_stops Return c next p b h = after_no_fault (next AfterReturn) h
 word_stops Control c next p b h = absurd h
 word_stops Plain c next p b h = absurd (p refl)
@@ -105,7 +105,7 @@ word_ends : (rest : List ℕ) → EndsWord rest → NoFault (pieces_of rest) →
 word_ends [] h n = refl
 word_ends (c ∷ rest) h n = word_stops (kind c) c (λ w. pieces_from w rest) h.0 h.1 n
 
-line_escape : (k : Kind) (c : ℕ) (next : Within → List Piece) → (k ≡ LineFeed) ⊎ (k ≡ Return) → NoFault (between c k next) → behind_escape c k next ≡ bare_end ∷ between c k next
+line_escape : (k : Kind) (c : ℕ) (next : PiecesWithin → List Piece) → (k ≡ LineFeed) ⊎ (k ≡ Return) → NoFault (between c k next) → behind_escape c k next ≡ bare_end ∷ between c k next
 line_escape LineFeed c next h n = refl
 line_escape Return c next h n = after_no_fault (next AfterReturn) n
 line_escape k c next (inl e) n = absurd cc
@@ -141,7 +141,7 @@ abbrev BeginsWord : List ℕ → Type 0
 BeginsWord [] = ⊥
 BeginsWord (c ∷ rest) = (kind c ≡ Plain) ⊎ (kind c ≡ Backslash)
 
-first_same : (k : Kind) (c : ℕ) (next : Within → List Piece) → (k ≡ Plain) ⊎ (k ≡ Backslash) → between c k next ≡ in_word c k next
+first_same : (k : Kind) (c : ℕ) (next : PiecesWithin → List Piece) → (k ≡ Plain) ⊎ (k ≡ Backslash) → between c k next ≡ in_word c k next
 first_same k c next (inl e) = rw e refl
 first_same k c next (inr e) = rw e refl
 
@@ -175,7 +175,7 @@ quoted_read text rest (units, e, all) =
     ∙ ap (λ (t : List ℕ). Text (Quoted t) ∷ pieces_of rest) (append-nil (concat units) ∙ sym e)
 
 -- a piece is read, and then what stands behind it
-piece_read : (p : Piece) (front rest : List ℕ) → IsPiece p front → IsWhole p rest → NoFault (pieces_of rest) → pieces_of (front ++ rest) ≡ p ∷ pieces_of rest
+piece_read : (p : Piece) (front rest : List ℕ) → IsPiece p front → IsWholePiece p rest → NoFault (pieces_of rest) → pieces_of (front ++ rest) ≡ p ∷ pieces_of rest
 piece_read Gap front rest (inl e) whole n = rw e refl
 piece_read Gap front rest (inr e) whole n = rw e refl
 piece_read Comment front rest (text, e, visible) whole n = rw e (ap (λ (ps : List Piece). Comment ∷ ps) (comment_read text rest visible whole))

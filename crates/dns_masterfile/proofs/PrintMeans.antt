@@ -8,7 +8,7 @@ use Rattle.dns_names.specs.Text.{printed_name}
 use Rattle.dns_names.proofs.ReadsBack.{name_reads_back}
 use Rattle.dns_records.specs.Record.{Record, IsRecord}
 use Rattle.dns_masterfile.specs.Pieces.{Word, Bare, Quoted, Piece, Gap, LineEnd, Text, EndsWord, ArePieces}
-use Rattle.dns_masterfile.specs.Entries.{Entry, begun, entries_from}
+use Rattle.dns_masterfile.specs.Entries.{FileEntry, begun, entries_from}
 use Rattle.dns_masterfile.specs.Meaning.{Context, at_start, Nothing, Item, after, IsItem, Says, Mean, FileMeans}
 use Rattle.dns_masterfile.specs.Reading.{read_file}
 use Rattle.dns_masterfile.specs.Printed.{rdata_words, spaced, printed_record, is_wanted, in_print_order, printed_zone}
@@ -39,16 +39,16 @@ words_are (w ∷ ws) ps behind h others =
     (32 ∷ [], (written w ++ spaced (map written ws)) ++ 10 ∷ behind, refl, inr refl, tt, word_are w ws (spaced_pieces ws ++ LineEnd ∷ ps) behind h.0 (words_are ws ps behind h.1 others))
 
 -- The entry of words.
-abbrev entry_with : Entry → List Word → Entry
+abbrev entry_with : FileEntry → List Word → FileEntry
 entry_with e words = record e { words = e.words ++ words }
 
-words_in : (ws : List Word) (e : Entry) (line : ℕ) (ps : List Piece) → entries_from false e line (spaced_pieces ws ++ LineEnd ∷ ps) ≡ entry_with e ws ∷ entries_from false (begun (suc line) ps) (suc line) ps
+words_in : (ws : List Word) (e : FileEntry) (line : ℕ) (ps : List Piece) → entries_from false e line (spaced_pieces ws ++ LineEnd ∷ ps) ≡ entry_with e ws ∷ entries_from false (begun (suc line) ps) (suc line) ps
 words_in [] e line ps = ap (λ (words : List Word). (record e { words = words }) ∷ entries_from false (begun (suc line) ps) (suc line) ps) (sym (append-nil e.words))
 words_in (w ∷ ws) e line ps =
     words_in ws (entry_with e (w ∷ [])) line ps
     ∙ ap (λ (words : List Word). (record e { words = words }) ∷ entries_from false (begun (suc line) ps) (suc line) ps) (append_assoc e.words (w ∷ []) ws)
 
-abbrev line_entry : ℕ → List Word → Entry
+abbrev line_entry : ℕ → List Word → FileEntry
 line_entry line words = record { line = line; blank = false; words = words; whole = true }
 
 -- A record's line: its words behind the owner, which say the record.
@@ -122,7 +122,7 @@ line_before r rest here inner =
       pieces = pieces;
       are = subst (ArePieces pieces) (sym line_is) are;
       mean = λ ctx line.
-          subst (λ (entries : List Entry). Mean ctx entries (r ∷ rest)) (sym (words_in here.words (line_entry line (owner ∷ [])) line inner.pieces))
+          subst (λ (entries : List FileEntry). Mean ctx entries (r ∷ rest)) (sym (words_in here.words (line_entry line (owner ∷ [])) line inner.pieces))
           (Item r (Some r.ttl), rest, refl, here.says ctx line, refl, inner.mean (after ctx (Item r (Some r.ttl))) (suc line));
     }
 

@@ -16,11 +16,11 @@ use Rattle.dns_masterfile.specs.declared.FileError.TheVariants.{BadNumber, BadDa
 use Rattle.dns_names.specs.Text.{name_of_text}
 use Rattle.dns_masterfile.specs.Text.{number_of_text, is_decimal, string_of_text, each_of}
 use Rattle.dns_masterfile.specs.Pieces.{Word, Bare, Quoted, text_of}
-use Rattle.dns_masterfile.specs.Entries.{Entry}
+use Rattle.dns_masterfile.specs.Entries.{FileEntry}
 use Rattle.dns_masterfile.specs.Data.{octets_of_text, is_keyword, type_of_word, IsNameWord, AreValues, IsFieldText, IsDataText, IsRDataText}
 use Rattle.dns_masterfile.specs.Opaque.{is_opaque_mark, IsOpaqueText}
 use Rattle.dns_masterfile.specs.Meaning.{Context, Said, Nothing, Origin, Default, Item, after, records_in, ttl_in, is_class, begins_with_dollar, IsTtl, IsMiddle, IsOwner, IsItem, Says, Mean}
-use Rattle.dns_masterfile.specs.Reading.{Outcome, ◌>>=◌, or_bad_name, name_in, take_name, take_number, take_values, fault_of, take_strings, fits_data, take_wire, take_field, take_data, take_type, is_or_bad, no_mark, take_mark, take_size, digits_in, sized, take_opaque, take_by_form, take_rdata, take_ttl, ttl_or_not, skip_class, either_first, take_middle, take_owner, only_if, ended, item_in, which_directive, directive_or_item, said_by, on_line, before, read_entries}
+use Rattle.dns_masterfile.specs.Reading.{ReadResult, ◌>>=◌, or_bad_name, name_in, take_name, take_number, take_values, fault_of_value, take_strings, fits_data, take_wire, take_field, take_data, take_type, is_or_bad, no_mark, take_mark, take_size, digits_in, sized, take_opaque, take_by_form, take_rdata, take_ttl, ttl_or_not, skip_class, either_first, take_middle, take_owner, value_only_if, ended, item_in, which_directive, directive_or_item, said_by, on_line, with_records_before, read_entries}
 
 pub bind_ok : {A B E : Type 0} (r : Result A E) (f : A → Result B E) (y : B) → (r >>= f) ≡ Ok y → (x : A) × (r ≡ Ok x) × (f x ≡ Ok y)
 bind_ok (Ok x) f y h = (x, refl, h)
@@ -125,7 +125,7 @@ take_fixed_ok : (fs : List Value) (words : List Word) (octets : List ℕ) (rest 
 take_fixed_ok [] words octets rest h = let p = ok_pair [] octets words rest h in ([], p.1, (refl, sym p.0))
 take_fixed_ok (f ∷ fs) [] octets rest h = absurd cc
 take_fixed_ok (f ∷ fs) (w ∷ more) octets rest h =
-    let got = bind_ok (ok_or (octets_of_text f (text_of w)) (fault_of f)) (λ front. take_values fs more >>= λ r. Ok (front ++ r.0, r.1)) (octets, rest) h in
+    let got = bind_ok (ok_or (octets_of_text f (text_of w)) (fault_of_value f)) (λ front. take_values fs more >>= λ r. Ok (front ++ r.0, r.1)) (octets, rest) h in
     let then = bind_ok (take_values fs more) (λ r. Ok (got.0 ++ r.0, r.1)) (octets, rest) got.2 in
     let tail = (then.0).0 in
     let p = ok_pair (got.0 ++ tail) octets (then.0).1 rest then.2 in
@@ -133,7 +133,7 @@ take_fixed_ok (f ∷ fs) (w ∷ more) octets rest h =
     let here = inner.0 in (
       w ∷ here,
       ap (λ (xs : List Word). w ∷ xs) inner.1 ∙ ap (λ (xs : List Word). w ∷ (here ++ xs)) p.1,
-      (w, here, got.0, tail, refl, sym p.0, ok_or_ok _ (fault_of f) got.0 got.1, inner.2),
+      (w, here, got.0, tail, refl, sym p.0, ok_or_ok _ (fault_of_value f) got.0 got.1, inner.2),
     )
 
 fits_data_ok : (b x : Bool) → fits_data b ≡ Ok x → b ≡ false
@@ -226,11 +226,11 @@ take_owner_ok ctx false words owner rest plain h =
     let read = take_name_ok ctx.origin words owner rest h in
     (read.0 ∷ [], read.1, (read.0, refl, first_no_dollar words read.0 rest plain read.1, read.2))
 
-only_if_ok : {A : Type 0} (b : Bool) (x y : A) → only_if b x ≡ Ok y → (b ≡ true) × (x ≡ y)
+only_if_ok : {A : Type 0} (b : Bool) (x y : A) → value_only_if b x ≡ Ok y → (b ≡ true) × (x ≡ y)
 only_if_ok true x y h = (refl, ok_same x y h)
 only_if_ok false x y h = absurd cc
 
-ended_ok : {A : Type 0} (e : Entry) (words : List Word) (x y : A) → ended e words x ≡ Ok y → (words ≡ []) × (e.whole ≡ true) × (x ≡ y)
+ended_ok : {A : Type 0} (e : FileEntry) (words : List Word) (x y : A) → ended e words x ≡ Ok y → (words ≡ []) × (e.whole ≡ true) × (x ≡ y)
 ended_ok e [] x y h = let p = only_if_ok e.whole x y h in (refl, p.0, p.1)
 ended_ok e (w ∷ rest) x y h = absurd cc
 
@@ -286,7 +286,7 @@ take_opaque_ok whole words octets rest h =
     let a = bind_ok (take_mark whole words) _ (octets, rest) h in
     let b = bind_ok (take_size a.0) _ (octets, rest) a.2 in
     let c = bind_ok (digits_in (b.0).1) _ (octets, rest) b.2 in
-    let d = bind_ok (only_if whole true) _ (octets, rest) c.2 in
+    let d = bind_ok (value_only_if whole true) _ (octets, rest) c.2 in
     let f = bind_ok (ok_or (sized (b.0).0 (decode_of c.0)) BadData) _ (octets, rest) d.2 in
     let p = ok_pair f.0 octets [] rest f.2 in
     let mark = take_mark_ok whole words a.0 a.1 in
@@ -311,7 +311,7 @@ take_rdata_ok origin whole None words octets rest h =
     let opaque = take_opaque_ok whole words octets rest h in
     (words, sym (append-nil words) ∙ ap (λ (xs : List Word). words ++ xs) (sym opaque.1), opaque.0)
 
-item_ok : (ctx : Context) (e : Entry) (words : List Word) (said : Said) → NoDollar words → words ≡ e.words → item_in ctx e words ≡ Ok said → Says ctx e said × (e.whole ≡ true)
+item_ok : (ctx : Context) (e : FileEntry) (words : List Word) (said : Said) → NoDollar words → words ≡ e.words → item_in ctx e words ≡ Ok said → Says ctx e said × (e.whole ≡ true)
 item_ok ctx e words said plain same h =
     let a = bind_ok (take_owner ctx e.blank words) _ said h in
     let b = bind_ok (take_middle (a.0).1) _ said a.2 in
@@ -339,7 +339,7 @@ item_ok ctx e words said plain same h =
     } in
     (subst (λ (s : Said). Says ctx e s) z.2 item, z.1)
 
-which_ok : (origin ttl : Bool) (ctx : Context) (e : Entry) (w : Word) (rest : List Word) (said : Said) → w ∷ rest ≡ e.words → is_keyword (codes "$ORIGIN") w ≡ origin → is_keyword (codes "$TTL") w ≡ ttl → which_directive origin ttl ctx e rest ≡ Ok said → Says ctx e said × (e.whole ≡ true)
+which_ok : (origin ttl : Bool) (ctx : Context) (e : FileEntry) (w : Word) (rest : List Word) (said : Said) → w ∷ rest ≡ e.words → is_keyword (codes "$ORIGIN") w ≡ origin → is_keyword (codes "$TTL") w ≡ ttl → which_directive origin ttl ctx e rest ≡ Ok said → Says ctx e said × (e.whole ≡ true)
 which_ok true b ctx e w rest said same p q h =
     let got = bind_ok (take_name ctx.origin rest) (λ name. ended e name.1 (Origin name.0)) said h in
     let read = take_name_ok ctx.origin rest (got.0).0 (got.0).1 got.1 in
@@ -352,27 +352,27 @@ which_ok false true ctx e w rest said same p q h =
     (subst (λ (s : Said). Says ctx e s) z.2 (w, read.0, sym same ∙ ap (λ (xs : List Word). w ∷ xs) (read.1 ∙ ap (λ (xs : List Word). read.0 ∷ xs) z.0), q, read.2), z.1)
 which_ok false false ctx e w rest said same p q h = absurd cc
 
-either_ok : (b : Bool) (ctx : Context) (e : Entry) (w : Word) (rest : List Word) (said : Said) → w ∷ rest ≡ e.words → begins_with_dollar w ≡ b → directive_or_item b ctx e w rest ≡ Ok said → Says ctx e said × (e.whole ≡ true)
+either_ok : (b : Bool) (ctx : Context) (e : FileEntry) (w : Word) (rest : List Word) (said : Said) → w ∷ rest ≡ e.words → begins_with_dollar w ≡ b → directive_or_item b ctx e w rest ≡ Ok said → Says ctx e said × (e.whole ≡ true)
 either_ok true ctx e w rest said same p h = which_ok (is_keyword (codes "$ORIGIN") w) (is_keyword (codes "$TTL") w) ctx e w rest said same refl refl h
 either_ok false ctx e w rest said same p h = item_ok ctx e (w ∷ rest) said p same h
 
-said_ok : (ctx : Context) (e : Entry) (words : List Word) (said : Said) → words ≡ e.words → said_by ctx e words ≡ Ok said → Says ctx e said × (e.whole ≡ true)
+said_ok : (ctx : Context) (e : FileEntry) (words : List Word) (said : Said) → words ≡ e.words → said_by ctx e words ≡ Ok said → Says ctx e said × (e.whole ≡ true)
 said_ok ctx e [] said same h = let z = ended_ok e [] Nothing said h in (subst (λ (s : Said). Says ctx e s) z.2 (sym same), z.1)
 said_ok ctx e (w ∷ rest) said same h = either_ok (begins_with_dollar w) ctx e w rest said same refl h
 
-on_line_ok : (line : ℕ) (o : Outcome Said) (said : Said) → on_line line o ≡ Ok said → o ≡ Ok said
+on_line_ok : (line : ℕ) (o : ReadResult Said) (said : Said) → on_line line o ≡ Ok said → o ≡ Ok said
 on_line_ok line (Ok s) said h = ap (λ (x : Said). Ok x) (ok_same s said h)
 on_line_ok line (Err e) said h = absurd cc
 
-before_ok : (records all : List Record) (r : Result (List Record) (ℕ × FileError)) → before records r ≡ Ok all → (more : List Record) × (r ≡ Ok more) × (all ≡ records ++ more)
+before_ok : (records all : List Record) (r : Result (List Record) (ℕ × FileError)) → with_records_before records r ≡ Ok all → (more : List Record) × (r ≡ Ok more) × (all ≡ records ++ more)
 before_ok records all (Ok more) h = (more, refl, sym (ok_same (records ++ more) all h))
 before_ok records all (Err f) h = absurd cc
 
 -- entries that are read mean what is read
-pub entries_mean : (ctx : Context) (entries : List Entry) (records : List Record) → read_entries ctx entries ≡ Ok records → Mean ctx entries records
+pub entries_mean : (ctx : Context) (entries : List FileEntry) (records : List Record) → read_entries ctx entries ≡ Ok records → Mean ctx entries records
 entries_mean ctx [] records h = sym (ok_same [] records h)
 entries_mean ctx (e ∷ rest) records h =
-    let a = bind_ok (on_line e.line (said_by ctx e e.words)) (λ said. before (records_in said) (read_entries (after ctx said) rest)) records h in
+    let a = bind_ok (on_line e.line (said_by ctx e e.words)) (λ said. with_records_before (records_in said) (read_entries (after ctx said) rest)) records h in
     let said = a.0 in
     let says = said_ok ctx e e.words said refl (on_line_ok e.line (said_by ctx e e.words) said a.1) in
     let b = before_ok (records_in said) records (read_entries (after ctx said) rest) a.2 in

@@ -3,9 +3,9 @@ use Rattle.std.specs.Prelude.{◌≡◌, ◌⊎◌, ℕ, Bool, true, false, List
 use Rattle.dns_masterfile.specs.declared.FileError.{FileError}
 use Rattle.dns_masterfile.specs.declared.FileError.TheVariants.{OutOfMemory}
 use Rattle.dns_masterfile.specs.Pieces.{Word}
-use Rattle.dns_masterfile.specs.Entries.{Entry}
+use Rattle.dns_masterfile.specs.Entries.{FileEntry}
 use Rattle.dns_masterfile.specs.Left.{Left, no_words, entry_at}
-use Rattle.dns_masterfile.specs.Reading.{Outcome}
+use Rattle.dns_masterfile.specs.Reading.{ReadResult}
 use Rattle.dns_masterfile.specs.Meaning.{Context, Said, Nothing, Origin, Default, Item}
 use Rattle.dns_masterfile.specs.declared.context.Context.{Context as Kept}
 use Rattle.dns_masterfile.specs.declared.context.Said.{Said as Found}
@@ -21,12 +21,12 @@ stated_said (found.Default ttl) = Default ttl
 stated_said (found.Item r written) = Item r written
 
 -- The entry says that, whatever its line, and nothing of it is left.
-abbrev pub Says : (Entry → Outcome Said) → Bool → Left → Left → Found → Type 0
-Says read blank old new said =
+abbrev pub SaysWhole : (FileEntry → ReadResult Said) → Bool → Left → Left → Found → Type 0
+SaysWhole read blank old new said =
     ((line : ℕ) → read (entry_at line blank old) ≡ Ok (stated_said said)) × (new ≡ no_words true old.behind)
 
 -- Memory was refused, or that is the entry's fault.
-abbrev pub Faults : (Entry → Outcome Said) → Bool → Left → FileError → Type 0
+abbrev pub Faults : (FileEntry → ReadResult Said) → Bool → Left → FileError → Type 0
 Faults read blank old e = (e ≡ OutOfMemory) ⊎ ((line : ℕ) → read (entry_at line blank old) ≡ Err e)
 
 abbrev pub ended_at : Bool → List Word → Bool

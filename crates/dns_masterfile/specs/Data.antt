@@ -46,7 +46,7 @@ IsFieldText origin Strings words octets =
     × (each_of (λ w. string_of_text (text_of w)) words ≡ Some strings)
     × (octets ≡ flat_map string strings) × (length octets ≤ 4096)
 
--- The words are the parts of the data, one behind the other.
+-- The words are the parts of the data, one after the other.
 abbrev pub IsDataText : Labels → List Field → List Word → List ℕ → Type 0
 IsDataText origin [] words rdata = (words ≡ []) × (rdata ≡ [])
 IsDataText origin (f ∷ fs) words rdata =

@@ -23,10 +23,10 @@ pub data Piece : Type 0 where
   Open : Piece
   Close : Piece
   Text : Word → Piece
-  -- what stands here is no piece
+  -- what is here is no piece
   Fault : Piece
 
--- The octet may stand in a comment, and behind a `\`.
+-- The octet may occur in a comment, and after a `\`.
 abbrev pub IsVisible : Kind → Type 0
 IsVisible LineFeed = ⊥
 IsVisible Return = ⊥
@@ -68,34 +68,34 @@ abbrev pub EndsWord : List ℕ → Type 0
 EndsWord [] = ⊤
 EndsWord (c ∷ rest) = ¬ (kind c ≡ Plain) × ¬ (kind c ≡ Backslash)
 
--- The text is a bare word before the rest. A `\` before a line's end belongs to the word, and stands there
--- alone.
+-- The text is a bare word before the rest. A `\` before a line's end belongs to the word, by itself.
 abbrev pub IsBareWord : List ℕ → List ℕ → Type 0
 IsBareWord text rest =
     (IsWord (λ k. k ≡ Plain) text × EndsWord rest)
     ⊎ ((front : List ℕ) × (text ≡ front ++ 92 ∷ []) × IsWord (λ k. k ≡ Plain) front × EndsLine rest)
 
 -- The piece goes on as far as it can. What a bare word is depends on what ends it.
-abbrev pub IsWhole : Piece → List ℕ → Type 0
-IsWhole Comment rest = EndsLine rest
-IsWhole (Text (Bare text)) rest = IsBareWord text rest
-IsWhole _ rest = ⊤
+abbrev pub IsWholePiece : Piece → List ℕ → Type 0
+IsWholePiece Comment rest = EndsLine rest
+IsWholePiece (Text (Bare text)) rest = IsBareWord text rest
+IsWholePiece _ rest = ⊤
 
--- The octets are the pieces, one behind the other.
+-- The octets are the pieces, one after the other.
 abbrev pub ArePieces : List Piece → List ℕ → Type 0
 ArePieces [] octets = octets ≡ []
 ArePieces (p ∷ ps) octets =
-    (front rest : List ℕ) × (octets ≡ front ++ rest) × IsPiece p front × IsWhole p rest × ArePieces ps rest
+    (front rest : List ℕ) × (octets ≡ front ++ rest) × IsPiece p front × IsWholePiece p rest
+    × ArePieces ps rest
 
 -- The same computed, from left to right. A file that has no pieces has those before the fault.
-pub data Within : Type 0 where
-  Between : Within
-  AfterReturn : Within
-  InComment : Within
-  InWord : Within
-  BehindEscape : Within
-  InQuotes : Within
-  BehindQuotedEscape : Within
+pub data PiecesWithin : Type 0 where
+  Between : PiecesWithin
+  AfterReturn : PiecesWithin
+  InComment : PiecesWithin
+  InWord : PiecesWithin
+  BehindEscape : PiecesWithin
+  InQuotes : PiecesWithin
+  BehindQuotedEscape : PiecesWithin
 
 abbrev pub bare_end : Piece
 bare_end = Text (Bare [])
@@ -109,7 +109,7 @@ grown c (Text (Bare text) ∷ ps) = Text (Bare (c ∷ text)) ∷ ps
 grown c (Text (Quoted text) ∷ ps) = Text (Quoted (c ∷ text)) ∷ ps
 grown c ps = ps
 
-abbrev pub between : ℕ → Kind → (Within → List Piece) → List Piece
+abbrev pub between : ℕ → Kind → (PiecesWithin → List Piece) → List Piece
 between c LineFeed next = LineEnd ∷ next Between
 between c Return next = next AfterReturn
 between c Control next = Fault ∷ []
@@ -121,46 +121,46 @@ between c Closing next = Close ∷ next Between
 between c Backslash next = grown c (next BehindEscape)
 between c Plain next = grown c (next InWord)
 
--- a fault within a word takes the word's place
+-- a fault within a word replaces the word
 abbrev pub after_word : List Piece → List Piece
 after_word (Fault ∷ ps) = Fault ∷ ps
 after_word ps = bare_end ∷ ps
 
-abbrev pub in_word : ℕ → Kind → (Within → List Piece) → List Piece
+abbrev pub in_word : ℕ → Kind → (PiecesWithin → List Piece) → List Piece
 in_word c Return next = after_word (next AfterReturn)
 in_word c Control next = Fault ∷ []
 in_word c Backslash next = grown c (next BehindEscape)
 in_word c Plain next = grown c (next InWord)
 in_word c k next = bare_end ∷ between c k next
 
-abbrev pub behind_escape : ℕ → Kind → (Within → List Piece) → List Piece
+abbrev pub behind_escape : ℕ → Kind → (PiecesWithin → List Piece) → List Piece
 behind_escape c LineFeed next = in_word c LineFeed next
 behind_escape c Return next = in_word c Return next
 behind_escape c Control next = Fault ∷ []
 behind_escape c k next = grown c (next InWord)
 
-abbrev pub behind_quoted_escape : ℕ → Kind → (Within → List Piece) → List Piece
+abbrev pub behind_quoted_escape : ℕ → Kind → (PiecesWithin → List Piece) → List Piece
 behind_quoted_escape c LineFeed next = Fault ∷ []
 behind_quoted_escape c Return next = Fault ∷ []
 behind_quoted_escape c Control next = Fault ∷ []
 behind_quoted_escape c k next = grown c (next InQuotes)
 
-abbrev pub in_quotes : ℕ → Kind → (Within → List Piece) → List Piece
+abbrev pub in_quotes : ℕ → Kind → (PiecesWithin → List Piece) → List Piece
 in_quotes c Quote next = quoted_end ∷ next Between
 in_quotes c Backslash next = grown c (next BehindQuotedEscape)
 in_quotes c k next = behind_quoted_escape c k next
 
-abbrev pub in_comment : Kind → (Within → List Piece) → List Piece
+abbrev pub in_comment : Kind → (PiecesWithin → List Piece) → List Piece
 in_comment LineFeed next = LineEnd ∷ next Between
 in_comment Return next = next AfterReturn
 in_comment Control next = Fault ∷ []
 in_comment k next = next InComment
 
-abbrev pub after_return : Kind → (Within → List Piece) → List Piece
+abbrev pub after_return : Kind → (PiecesWithin → List Piece) → List Piece
 after_return LineFeed next = LineEnd ∷ next Between
 after_return k next = Fault ∷ []
 
-abbrev pub pieces_from : Within → List ℕ → List Piece
+abbrev pub pieces_from : PiecesWithin → List ℕ → List Piece
 pieces_from Between [] = []
 pieces_from AfterReturn [] = Fault ∷ []
 pieces_from InComment [] = []

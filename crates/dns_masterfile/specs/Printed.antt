@@ -42,7 +42,7 @@ words_by_form (Some fields) octets = data_words fields octets
 abbrev pub rdata_words : ℕ → List ℕ → List (List ℕ)
 rdata_words rtype octets = words_by_form (form rtype) octets
 
--- Words, each behind a blank.
+-- Words, each preceded by a blank.
 abbrev pub spaced : List (List ℕ) → List ℕ
 spaced words = flat_map (λ word. 32 ∷ word) words
 

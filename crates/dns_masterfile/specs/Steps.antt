@@ -20,7 +20,7 @@ IsWordStep rest (Take n) =
 IsWordStep rest End = pieces_from InWord rest ≡ bare_end ∷ pieces_of rest
 IsWordStep rest Stop = pieces_from InWord rest ≡ Fault ∷ []
 
--- how many octets behind a `\` belong to it in a bare word, by the kind of the first, or none where that is a
+-- how many octets after a `\` belong to it in a bare word, by the kind of the first, or none where that is a
 -- fault
 abbrev pub escape_takes : Kind → Option ℕ
 escape_takes LineFeed = Some 0
@@ -28,7 +28,7 @@ escape_takes Return = Some 0
 escape_takes Control = None
 escape_takes _ = Some 1
 
--- Behind a `\` in a bare word: so many octets belong to it, or a fault stands here.
+-- After a `\` in a bare word: so many octets belong to it, or a fault occurs here.
 abbrev pub IsEscape : List ℕ → Option ℕ → Type 0
 IsEscape rest None = pieces_from BehindEscape rest ≡ Fault ∷ []
 IsEscape rest (Some n) =

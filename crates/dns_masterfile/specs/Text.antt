@@ -30,7 +30,7 @@ abbrev pub string_of_text : List ℕ → Option (List ℕ)
 string_of_text text =
     option_and_then (λ ls. if nat_lt (length ls) 256 then Some (map octet_of ls) else None) (letters text)
 
--- An octet between quotes: `"` and `\` behind a `\`, and what is no visible ASCII as `\DDD`.
+-- An octet between quotes: `"` and `\` after a `\`, and what is not visible ASCII as `\DDD`.
 abbrev pub printed_string_octet : ℕ → List ℕ
 printed_string_octet c =
     if c == 34 || c == 92 then 92 ∷ c ∷ [] else if nat_lt c 32 || nat_lt 126 c then escaped c else c ∷ []

@@ -20,7 +20,7 @@ fn goes_on(rest: &[u8]) -> bool
     }
 }
 
-/// How many octets of the comment stand at the front.
+/// How many octets of the comment are at the front.
 pub(crate) fn comment_len(octets: &[u8]) -> usize
     ensures within { result ≤ length octets.now }
     ensures comment { pieces_from InComment octets.now ≡ pieces_of (drop result octets.now) }

@@ -1,4 +1,4 @@
-//! What entries leave to those behind them.
+//! What entries leave to those after them.
 ghost use Rattle.std.specs.Prelude.{◌≡◌, ◌++◌, OnOk, IfOk};
 ghost use Rattle.dns_masterfile.specs.Meaning.{after, at_start, records_in, ttl_in};
 ghost use Rattle.dns_masterfile.specs.Contexts.{stated_context, stated_said};
@@ -42,7 +42,7 @@ impl Drop for Context {
     }
 }
 
-/// What stands before the first entry.
+/// The context before the first entry.
 pub(crate) fn at_start(origin: &Name) -> Result<Context, AllocError>
     ensures { IfOk result (λ c. stated_context c ≡ at_start origin.now) }
 {
@@ -61,7 +61,7 @@ pub(crate) fn ttl_in(context: &Context, written: Option<u32>) -> Option<u32>
     written.or(context.default.or(context.last))
 }
 
-/// Takes what an entry says, and puts its record behind those before.
+/// Takes what an entry says, and appends its record to those before.
 pub(crate) fn take_said(
     context: &mut Context,
     said: Said,

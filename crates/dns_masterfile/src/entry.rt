@@ -3,8 +3,8 @@ ghost use Rattle.std.specs.Prelude.{◌≡◌, true, false, Err, IfOk, MatchResu
 ghost use Rattle.dns_records.specs.Types.{is_data_type};
 ghost use Rattle.dns_masterfile.specs.Reading.{directive_in, item_in, said_by, take_owner, take_type};
 ghost use Rattle.dns_masterfile.specs.Scan.{stated_word};
-ghost use Rattle.dns_masterfile.specs.Contexts.{Faults, Says, has_ended, stated_context};
-ghost use Rattle.dns_masterfile.specs.Taking.{Refuses, Takes};
+ghost use Rattle.dns_masterfile.specs.Contexts.{Faults, SaysWhole, has_ended, stated_context};
+ghost use Rattle.dns_masterfile.specs.Taking.{RefusesFor, TakesValue};
 
 use crate::FileError;
 use crate::context::{Context, Said, ttl_in};
@@ -30,8 +30,9 @@ impl<'a> Scanner<'a> {
 
     /// Takes the owner, which is the last one where the line begins with a blank.
     fn take_owner(&mut self, alloc: Heap, context: &Context, blank: bool) -> Result<Name, FileError>
-        ensures { MatchResult result (Takes (take_owner (stated_context context.now) blank) self.old self.new)
-            (Refuses (take_owner (stated_context context.now) blank self.old.words)) }
+        ensures { MatchResult result (TakesValue (take_owner
+            (stated_context context.now) blank) self.old self.new)
+            (RefusesFor (take_owner (stated_context context.now) blank self.old.words)) }
     {
         if !blank {
             return self.take_name(alloc, &context.origin);
@@ -44,7 +45,7 @@ impl<'a> Scanner<'a> {
 
     /// Takes the word of a type.
     fn take_type(&mut self) -> Result<u16, FileError>
-        ensures taken { MatchResult result (Takes take_type self.old self.new)
+        ensures taken { MatchResult result (TakesValue take_type self.old self.new)
             (λ e. take_type self.old.words ≡ Err e) }
         ensures rtype { IfOk result (λ rtype. is_data_type rtype ≡ true) }
     {
@@ -55,7 +56,7 @@ impl<'a> Scanner<'a> {
     /// Takes a record.
     fn take_item(&mut self, alloc: Heap, context: &Context, blank: bool) -> Result<Said, FileError>
         ensures { MatchResult result
-            (Says (λ e. item_in (stated_context context.now) e self.old.words) blank self.old self.new)
+            (SaysWhole (λ e. item_in (stated_context context.now) e self.old.words) blank self.old self.new)
             (Faults (λ e. item_in (stated_context context.now) e self.old.words) blank self.old) }
     {
         let owner = self.take_owner(alloc, context, blank)?;
@@ -78,7 +79,8 @@ impl<'a> Scanner<'a> {
         word: Word<'_>,
     ) -> Result<Said, FileError>
         ensures { MatchResult result
-            (Says (λ e. directive_in (stated_context context.now) e (stated_word word.entry) self.old.words)
+            (SaysWhole (λ e. directive_in (stated_context context.now) e
+            (stated_word word.entry) self.old.words)
             false self.old self.new)
             (Faults (λ e. directive_in (stated_context context.now) e (stated_word word.entry) self.old.words)
             false self.old) }
@@ -104,7 +106,7 @@ impl<'a> Scanner<'a> {
         blank: bool,
     ) -> Result<Said, FileError>
         ensures { MatchResult result
-            (Says (λ e. said_by (stated_context context.now) e self.old.words) blank self.old self.new)
+            (SaysWhole (λ e. said_by (stated_context context.now) e self.old.words) blank self.old self.new)
             (Faults (λ e. said_by (stated_context context.now) e self.old.words) blank self.old) }
     {
         let Some((word, behind)) = self.first_word() else {

@@ -2,7 +2,7 @@
 ghost use Rattle.std.specs.Prelude.{◌≡◌};
 ghost use Rattle.dns_masterfile.specs.Kinds.{kind};
 
-/// What an octet does where no `\` stands before it.
+/// What an octet does where no `\` precedes it.
 #[derive(Clone, Copy, Debug, PartialEq, Eq)]
 pub enum Kind {
     LineFeed,

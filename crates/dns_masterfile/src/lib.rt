@@ -35,13 +35,13 @@ pub enum FileError {
     /// Memory was refused.
     #[error("memory was refused")]
     OutOfMemory,
-    /// An octet, a quote or a parenthesis stands where none may, or a word is missing or left over.
+    /// An octet, a quote or a parenthesis occurs where none may, or a word is missing or left over.
     #[error("a word is missing or left over, or an octet, a quote or a parenthesis stands where none may")]
     Syntax,
-    /// A word in a name's place is no name.
+    /// A word where a name is expected is not a name.
     #[error("a name is expected")]
     BadName,
-    /// A word in a number's place is no number, or over what its field holds.
+    /// A word where a number is expected is not a number, or is over what its field holds.
     #[error("a decimal number is expected, within what its field holds")]
     BadNumber,
     /// A word is no address, or no string; or data of a type without a form isn't `\#`, a length, and the
@@ -51,11 +51,11 @@ pub enum FileError {
     /// No TTL is written, and none was so far.
     #[error("no TTL is written here, and none was before")]
     NoTtl,
-    /// The line begins with a blank, and no record stands before it.
+    /// The line begins with a blank, and no record precedes it.
     #[error("the line begins with a blank, and no record stands before it")]
     NoOwner,
-    /// The word in the type's place is no type that has a form here, and no `TYPE` with the number of another
-    /// type of which a zone can have records.
+    /// The word where the type is expected is no type that has a form here, and no `TYPE` with the number of
+    /// another type of which a zone can have records.
     #[error("a type is expected, such as A, or TYPE and a number")]
     UnknownType,
     /// The data has more than 4,096 octets.

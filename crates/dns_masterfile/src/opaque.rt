@@ -8,7 +8,7 @@ ghost use Rattle.dns_masterfile.specs.Text.{number_of_text};
 ghost use Rattle.dns_masterfile.specs.Opaque.{is_numbered, is_opaque_mark, opaque_only, type_of_number};
 ghost use Rattle.dns_masterfile.specs.Reading.{digits_in, sized, take_mark, take_opaque, take_size};
 ghost use Rattle.dns_masterfile.specs.Scan.{stated_word};
-ghost use Rattle.dns_masterfile.specs.Taking.{Refuses, Takes};
+ghost use Rattle.dns_masterfile.specs.Taking.{RefusesFor, TakesValue};
 
 use crate::FileError;
 use crate::pieces::Word;
@@ -105,7 +105,7 @@ impl<'a> Scanner<'a> {
 
     /// Takes the number of octets that follow.
     fn take_size(&mut self) -> Result<u16, FileError>
-        ensures { MatchResult result (λ size. Takes take_size self.old self.new size × (size ≤ 4096))
+        ensures { MatchResult result (λ size. TakesValue take_size self.old self.new size × (size ≤ 4096))
             (λ e. take_size self.old.words ≡ Err e) }
     {
         let word = self.take_word()?;
@@ -123,7 +123,7 @@ impl<'a> Scanner<'a> {
         ensures { MatchResult result
             (λ digits. (digits_in self.old.words ≡ Ok digits.items)
             × (self.new ≡ record self.old { words = [] }))
-            (Refuses (digits_in self.old.words)) }
+            (RefusesFor (digits_in self.old.words)) }
     {
         let mut digits = SmallVec::new(alloc);
         'words: while let Some((word, behind)) = self.first_word() {
@@ -140,9 +140,9 @@ impl<'a> Scanner<'a> {
     /// Takes octets, which are all that is left of the entry.
     fn take_opaque(&mut self, alloc: Heap) -> Result<Vec<u8, Heap>, FileError>
         ensures { MatchResult result
-            (λ octets. Takes (take_opaque self.old.whole) self.old self.new octets.items
+            (λ octets. TakesValue (take_opaque self.old.whole) self.old self.new octets.items
             × (length octets.items ≤ 4096))
-            (Refuses (take_opaque self.old.whole self.old.words)) }
+            (RefusesFor (take_opaque self.old.whole self.old.words)) }
     {
         self.take_mark()?;
         let size = self.take_size()?;
@@ -156,8 +156,8 @@ impl<'a> Scanner<'a> {
         requires no_form { form_of rtype ≡ None }
         requires rtype { is_data_type rtype ≡ true }
         ensures { MatchResult result
-            (λ d. (d.rtype ≡ rtype) × Takes (take_opaque self.old.whole) self.old self.new d.octets)
-            (Refuses (take_opaque self.old.whole self.old.words)) }
+            (λ d. (d.rtype ≡ rtype) × TakesValue (take_opaque self.old.whole) self.old self.new d.octets)
+            (RefusesFor (take_opaque self.old.whole self.old.words)) }
     {
         let octets = self.take_opaque(alloc)?;
         match RData::new(alloc, rtype, &octets) {

@@ -16,7 +16,7 @@ pub(crate) enum Word<'a> {
     Quoted(&'a [u8]),
 }
 
-/// What stands at one place of a file.
+/// What is at one position of a file.
 #[derive(Clone, Copy, Drop)]
 pub(crate) enum Piece<'a> {
     /// A blank or a tab.
@@ -26,7 +26,7 @@ pub(crate) enum Piece<'a> {
     Opening,
     Closing,
     Text(Word<'a>),
-    /// What may not stand there.
+    /// What may not occur there.
     Fault,
 }
 
@@ -68,7 +68,7 @@ fn split_bare(octets: &[u8]) -> (Piece<'_>, &[u8])
     }
 }
 
-/// The piece at the front, and the octets behind it.
+/// The piece at the front, and the octets after it.
 pub(crate) fn split_piece(octets: &[u8]) -> Option<(Piece<'_>, &[u8])>
     ensures { MatchOption result (pieces_of octets.now ≡ [])
         (λ r. (pieces_of octets.now ≡ stated_piece r.0 ∷ pieces_of r.1.now)

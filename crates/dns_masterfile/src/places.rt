@@ -1,4 +1,4 @@
-//! Where the records of a file stand, and at which word a refused entry was refused: for one who mends the
+//! Where the records of a file are, and at which word a refused entry was refused: for whoever corrects the
 //! file.
 use crate::FileError;
 use crate::context::{Context, at_start, take_said};
@@ -98,7 +98,7 @@ fn refused<'a>(
     }
 }
 
-/// Reads entries, and puts their records behind others, up to the first entry that is refused.
+/// Reads entries, and appends their records to others, up to the first entry that is refused.
 fn take_places<'a>(
     alloc: Heap,
     octets: &'a [u8],
@@ -130,7 +130,7 @@ fn take_places<'a>(
     Ok(())
 }
 
-/// Reads a file as `read_zone` does, and keeps where its records stand.
+/// Reads a file as `read_zone` does, and keeps where its records are.
 pub fn find_places<'a>(
     alloc: Heap,
     octets: &'a [u8],

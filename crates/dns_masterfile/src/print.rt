@@ -13,7 +13,7 @@ use dns_records::{Mx, RData, Record, Soa, Srv, Strings, types};
 use std::fmt;
 use std::net::{IpAddr, Ipv4Addr, Ipv6Addr};
 
-/// An octet between quotes: `"` and `\` stand behind a `\`, and what is no visible ASCII is `\DDD`.
+/// An octet between quotes: `"` and `\` follow a `\`, and what is not visible ASCII is `\DDD`.
 #[derive(Drop)]
 struct QuotedOctet(u8);
 
@@ -46,7 +46,7 @@ impl fmt::Display for Quoted<'_> {
     }
 }
 
-/// The words of an MX, each behind a blank.
+/// The words of an MX, each preceded by a blank.
 #[derive(Drop)]
 struct MxWords<'a>(&'a Mx<'a>);
 
@@ -58,7 +58,7 @@ impl fmt::Display for MxWords<'_> {
     }
 }
 
-/// The words of an SRV, each behind a blank.
+/// The words of an SRV, each preceded by a blank.
 #[derive(Drop)]
 struct SrvWords<'a>(&'a Srv<'a>);
 
@@ -74,7 +74,7 @@ impl fmt::Display for SrvWords<'_> {
     }
 }
 
-/// The words of a SOA, each behind a blank.
+/// The words of a SOA, each preceded by a blank.
 #[derive(Drop)]
 struct SoaWords<'a>(&'a Soa<'a>);
 
@@ -92,7 +92,7 @@ impl fmt::Display for SoaWords<'_> {
     }
 }
 
-/// Writes the strings of a TXT between quotes, each behind a blank.
+/// Writes the strings of a TXT between quotes, each preceded by a blank.
 fn write_strings<W: fmt::Write>(strings: Strings<'_>, f: &mut fmt::Formatter<W>) -> fmt::Result
     ensures { DisplaysOnOk W.write_str_gives f.old result
         (Some (spaced (map printed_string strings.entry))) f.new }
@@ -132,7 +132,7 @@ impl fmt::Display for HexOctets<'_> {
     }
 }
 
-/// The words of opaque data, each behind a blank (RFC 3597 section 5).
+/// The words of opaque data, each preceded by a blank (RFC 3597 section 5).
 #[derive(Drop)]
 struct OpaqueWords<'a>(&'a [u8]);
 
@@ -149,7 +149,7 @@ impl fmt::Display for OpaqueWords<'_> {
     }
 }
 
-/// The data of a record, each word behind a blank.
+/// The data of a record, each word preceded by a blank.
 #[derive(Drop)]
 struct DataWords<'a>(&'a RData);
 

@@ -6,7 +6,8 @@ ghost use Rattle.dns_records.specs.Types.{form as form_of, is_data_type, U16, U3
 ghost use Rattle.dns_masterfile.specs.Data.{octets_of_text};
 ghost use Rattle.dns_masterfile.specs.Reading.{take_data, take_field, take_values, take_rdata, take_wire};
 ghost use Rattle.dns_masterfile.specs.Taking.{FitField, FitFields, FitName, FitStrings, IsSized, Puts};
-ghost use Rattle.dns_masterfile.specs.Taking.{PutsValue, PutsString, Refuses, RefusesValue, Takes, string_at};
+ghost use Rattle.dns_masterfile.specs.Taking.{PutsValue, PutsString, RefusesFor, RefusesValue, TakesValue};
+ghost use Rattle.dns_masterfile.specs.Taking.{string_at};
 ghost use Rattle.dns_masterfile.specs.Taking.{strings_in};
 
 use crate::FileError;
@@ -61,7 +62,7 @@ fn ipv6(text: &[u8]) -> Option<[u8; 16]>
     }
 }
 
-/// Puts the octets of a number or an address behind those before.
+/// Appends the octets of a number or an address to those before.
 fn put_value(value: Value, text: &[u8], octets: &mut Octets) -> Result<(), FileError>
     ensures { MatchResult result
         (λ _. PutsValue (stated_value value) text.now octets.old.items octets.new.items)
@@ -87,8 +88,8 @@ fn put_value(value: Value, text: &[u8], octets: &mut Octets) -> Result<(), FileE
     }
 }
 
-/// Puts a string behind the octets before, of which so many are strings already, and says how many are
-/// strings then.
+/// Appends a string to the octets before, of which so many are strings already, and says how many are strings
+/// then.
 fn put_string(
     alloc: Heap,
     text: &[u8],
@@ -97,7 +98,7 @@ fn put_string(
 ) -> Result<usize, FileError>
     requires { size ≤ 4096 }
     ensures { MatchResult result (PutsString text.now size octets.old.items octets.new.items)
-        (Refuses (string_at size text.now)) }
+        (RefusesFor (string_at size text.now)) }
 {
     let string = string(alloc, text)?;
     let size = size + 1 + string.len();
@@ -115,7 +116,7 @@ impl<'a> Scanner<'a> {
         ensures { MatchResult result
             (λ _. Puts (take_values (stated_values values.now)) (IsSized (stated_values values.now))
             self.old self.new octets.old.items octets.new.items)
-            (Refuses (take_values (stated_values values.now) self.old.words)) }
+            (RefusesFor (take_values (stated_values values.now) self.old.words)) }
     {
         'parts: for value in values {
             let word = self.take_word()?;
@@ -133,7 +134,7 @@ impl<'a> Scanner<'a> {
     ) -> Result<(), FileError>
         ensures { MatchResult result
             (λ _. Puts (take_wire origin.now) FitName self.old self.new octets.old.items octets.new.items)
-            (Refuses (take_wire origin.now self.old.words)) }
+            (RefusesFor (take_wire origin.now self.old.words)) }
     {
         let name = self.take_name(alloc, origin)?;
         Ok(octets.extend_from_slice(name.as_wire())?)
@@ -143,7 +144,7 @@ impl<'a> Scanner<'a> {
     fn take_strings(&mut self, alloc: Heap, octets: &mut Octets) -> Result<(), FileError>
         ensures { MatchResult result
             (λ _. Puts strings_in FitStrings self.old self.new octets.old.items octets.new.items)
-            (Refuses (strings_in self.old.words)) }
+            (RefusesFor (strings_in self.old.words)) }
     {
         let Some(_) = self.first_word() else {
             return Err(FileError::Syntax);
@@ -167,7 +168,7 @@ impl<'a> Scanner<'a> {
         ensures { MatchResult result
             (λ _. Puts (take_field origin.now (stated_field field)) (FitField (stated_field field))
             self.old self.new octets.old.items octets.new.items)
-            (Refuses (take_field origin.now (stated_field field) self.old.words)) }
+            (RefusesFor (take_field origin.now (stated_field field) self.old.words)) }
     {
         match field {
             Field::Values(values) => self.take_values(values, octets),
@@ -188,7 +189,7 @@ impl<'a> Scanner<'a> {
         ensures { MatchResult result
             (λ _. Puts (take_data origin.now (stated_fields fields.now))
             (FitFields (stated_fields fields.now)) self.old self.new octets.old.items octets.new.items)
-            (Refuses (take_data origin.now (stated_fields fields.now) self.old.words)) }
+            (RefusesFor (take_data origin.now (stated_fields fields.now) self.old.words)) }
     {
         'fields: for field in fields {
             self.take_field(alloc, origin, *field, octets)?;
@@ -207,8 +208,8 @@ impl<'a> Scanner<'a> {
         requires { form_of rtype ≡ Some (stated_fields fields.now) }
         ensures { MatchResult result
             (λ d. (d.rtype ≡ rtype)
-            × Takes (take_data origin.now (stated_fields fields.now)) self.old self.new d.octets)
-            (Refuses (take_data origin.now (stated_fields fields.now) self.old.words)) }
+            × TakesValue (take_data origin.now (stated_fields fields.now)) self.old self.new d.octets)
+            (RefusesFor (take_data origin.now (stated_fields fields.now) self.old.words)) }
     {
         let mut octets = SmallVec::new(alloc);
         self.take_fields(alloc, origin, fields, &mut octets)?;
@@ -231,8 +232,8 @@ impl<'a> Scanner<'a> {
         requires { is_data_type rtype ≡ true }
         ensures { MatchResult result
             (λ d. (d.rtype ≡ rtype)
-            × Takes (take_rdata origin.now self.old.whole rtype) self.old self.new d.octets)
-            (Refuses (take_rdata origin.now self.old.whole rtype self.old.words)) }
+            × TakesValue (take_rdata origin.now self.old.whole rtype) self.old self.new d.octets)
+            (RefusesFor (take_rdata origin.now self.old.whole rtype self.old.words)) }
     {
         match form(rtype) {
             Some(fields) => self.take_formed(alloc, origin, rtype, fields),

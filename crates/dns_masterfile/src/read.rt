@@ -52,8 +52,8 @@ fn read_records(
 
 /// The records of a master file (RFC 1035 section 5.1), in the file's order. A name that no dot ends is
 /// followed by the origin, which is the given one before the first `$ORIGIN`. The first entry that is refused
-/// is told by the line on which it begins and its first fault from left to right; `OutOfMemory` may come at
-/// any.
+/// is reported by the line on which it begins and its first fault from left to right; `OutOfMemory` may occur
+/// at any.
 pub fn read_zone(
     alloc: Heap,
     octets: &[u8],

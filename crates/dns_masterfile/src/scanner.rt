@@ -1,4 +1,4 @@
-//! A file from one place on.
+//! A file from one position on.
 ghost use Rattle.std.specs.Prelude.{◌≡◌, ℕ, List, [], ◌∷◌, true};
 ghost use Rattle.dns_masterfile.specs.Pieces.{Piece as Stated, pieces_of};
 ghost use Rattle.dns_masterfile.specs.Entries.{begun, entries_of};
@@ -17,7 +17,7 @@ pub(crate) struct Start {
     pub(crate) blank: bool,
 }
 
-/// What is left of a file behind the words read so far.
+/// What is left of a file after the words read so far.
 #[derive(Drop)]
 pub(crate) struct Scanner<'a> {
     rest: &'a [u8],
@@ -38,7 +38,7 @@ impl<'a> Model for Scanner<'a> {
     ghost invariant = { λ s. s.line + length s.rest.now ≤ 2 ^ 63 };
 }
 
-/// What stands next in a file, and the file behind it.
+/// What comes next in a file, and the file after it.
 #[derive(Drop)]
 pub(crate) enum Next<'a> {
     /// A word of the entry.
@@ -47,7 +47,7 @@ pub(crate) enum Next<'a> {
     Entry(Start, Scanner<'a>),
     /// The end of the entry and of the file.
     End,
-    /// What may not stand there.
+    /// What may not occur there.
     Fault,
 }
 
@@ -68,7 +68,7 @@ fn is_gap(piece: &Piece<'_>) -> bool
     }
 }
 
-/// How the entry begins that stands at the front.
+/// How the entry at the front begins.
 fn start_at(octets: &[u8], line: usize) -> Start
     ensures line { result.line ≡ line }
     ensures begun { begun line (pieces_of octets.now)
@@ -111,7 +111,7 @@ impl<'a> Scanner<'a> {
         self.rest.len()
     }
 
-    /// What stands next.
+    /// What comes next.
     pub(crate) fn next(&self) -> Next<'a>
         ensures { IsNext self.now result }
     {

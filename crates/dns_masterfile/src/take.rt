@@ -4,7 +4,7 @@ ghost use Rattle.dns_masterfile.specs.Left.{word_before};
 ghost use Rattle.dns_masterfile.specs.Reading.{next_word, skip_class, take_middle, take_name, take_number};
 ghost use Rattle.dns_masterfile.specs.Reading.{take_ttl};
 ghost use Rattle.dns_masterfile.specs.Scan.{stated_word};
-ghost use Rattle.dns_masterfile.specs.Taking.{Refuses, Skips, Takes, starts_with_class};
+ghost use Rattle.dns_masterfile.specs.Taking.{RefusesFor, Skips, TakesValue, starts_with_class};
 
 use crate::FileError;
 use crate::pieces::Word;
@@ -14,7 +14,7 @@ use dns_memory::Heap;
 use dns_names::Name;
 
 impl<'a> Scanner<'a> {
-    /// The next word of the entry, and what is left behind it.
+    /// The next word of the entry, and what is left after it.
     pub(crate) fn first_word(&self) -> Option<(Word<'a>, Scanner<'a>)>
         ensures { MatchOption result (self.now.words ≡ [])
             (λ r. self.now ≡ word_before (stated_word r.0) r.1) }
@@ -29,7 +29,7 @@ impl<'a> Scanner<'a> {
 
     /// Takes the next word.
     pub(crate) fn take_word(&mut self) -> Result<Word<'a>, FileError>
-        ensures { MatchResult result (λ w. Takes next_word self.old self.new (stated_word w))
+        ensures { MatchResult result (λ w. TakesValue next_word self.old self.new (stated_word w))
             (λ e. next_word self.old.words ≡ Err e) }
     {
         let Some((word, behind)) = self.first_word() else {
@@ -41,8 +41,8 @@ impl<'a> Scanner<'a> {
 
     /// Takes a name.
     pub(crate) fn take_name(&mut self, alloc: Heap, origin: &Name) -> Result<Name, FileError>
-        ensures { MatchResult result (Takes (take_name origin.now) self.old self.new)
-            (Refuses (take_name origin.now self.old.words)) }
+        ensures { MatchResult result (TakesValue (take_name origin.now) self.old self.new)
+            (RefusesFor (take_name origin.now self.old.words)) }
     {
         let word = self.take_word()?;
         word.name(alloc, origin)
@@ -50,16 +50,16 @@ impl<'a> Scanner<'a> {
 
     /// Takes a number.
     pub(crate) fn take_number(&mut self) -> Result<u32, FileError>
-        ensures { MatchResult result (Takes take_number self.old self.new)
+        ensures { MatchResult result (TakesValue take_number self.old self.new)
             (λ e. take_number self.old.words ≡ Err e) }
     {
         let word = self.take_word()?;
         number(word.text()).ok_or(FileError::BadNumber)
     }
 
-    /// Takes a TTL, if one stands next.
+    /// Takes a TTL, if one comes next.
     fn take_ttl(&mut self) -> Result<Option<u32>, FileError>
-        ensures { MatchResult result (Takes take_ttl self.old self.new)
+        ensures { MatchResult result (TakesValue take_ttl self.old self.new)
             (λ e. take_ttl self.old.words ≡ Err e) }
     {
         let Some((word, behind)) = self.first_word() else {
@@ -75,7 +75,7 @@ impl<'a> Scanner<'a> {
         }
     }
 
-    /// Takes the class, if it stands next, and says whether it did.
+    /// Takes the class, if it comes next, and says whether it did.
     fn skip_class(&mut self) -> bool
         ensures class { result ≡ starts_with_class self.old.words }
         ensures behind { Skips skip_class self.old self.new }
@@ -90,9 +90,9 @@ impl<'a> Scanner<'a> {
         true
     }
 
-    /// Takes the TTL, if one is written: the class may stand before or behind it.
+    /// Takes the TTL, if one is written: the class may come before or after it.
     pub(crate) fn take_middle(&mut self) -> Result<Option<u32>, FileError>
-        ensures { MatchResult result (Takes take_middle self.old self.new)
+        ensures { MatchResult result (TakesValue take_middle self.old self.new)
             (λ e. take_middle self.old.words ≡ Err e) }
     {
         if self.skip_class() {

@@ -13,12 +13,12 @@ pub(crate) enum Step {
     Take(usize),
     /// The end of the word.
     End,
-    /// An octet that may not stand here.
+    /// An octet that may not occur here.
     Stop,
 }
 
-/// How many octets behind a `\` belong to it, by the kind of the first: none at a line end, one else, and no
-/// answer where it may not stand there.
+/// How many octets after a `\` belong to it, by the kind of the first: none at a line end, one otherwise, and
+/// no answer where it may not occur there.
 fn takes(kind: Kind) -> Option<usize>
     ensures { result ≡ escape_takes kind }
 {
@@ -29,7 +29,7 @@ fn takes(kind: Kind) -> Option<usize>
     }
 }
 
-/// How many octets behind a `\` in a bare word belong to it, unless the first may not stand there.
+/// How many octets after a `\` in a bare word belong to it, unless the first may not occur there.
 fn escaped_len(rest: &[u8]) -> Option<usize>
     ensures { IsEscape rest.now result }
 {
@@ -66,7 +66,7 @@ fn word_step(rest: &[u8]) -> Step
     }
 }
 
-/// How many octets the bare word at the front has, unless one in it or right behind it may not stand there.
+/// How many octets the bare word at the front has, unless one in it or right after it may not occur there.
 pub(crate) fn bare_len(octets: &[u8]) -> Option<usize>
     ensures within { IfSome result (λ n. n ≤ length octets.now) }
     ensures word { MatchOption result (pieces_from InWord octets.now ≡ Fault ∷ [])
@@ -104,7 +104,7 @@ fn quoted_step(rest: &[u8]) -> Step
     }
 }
 
-/// How many octets stand before the quote that ends the string at the front, if one does.
+/// How many octets precede the quote that ends the string at the front, if one does.
 pub(crate) fn quoted_len(octets: &[u8]) -> Option<usize>
     ensures within { IfSome result (λ n. n < length octets.now) }
     ensures string { MatchOption result (pieces_from InQuotes octets.now ≡ Fault ∷ [])

@@ -42,7 +42,7 @@ fn print_wanted<I: ZoneIndex, W: Write>(index: &I, soa: bool, out: &mut W) -> io
 }
 
 /// Writes a zone in its printed form: a line for each record, the SOA first, then the others by owner, type
-/// and data. Names are in full. A fault of the writer is handed on.
+/// and data. Names are in full. An error of the writer is passed on.
 pub fn print_zone<I: ZoneIndex, W: Write>(zone: &Zone<I>, out: &mut W) -> io::Result<()>
     ensures printed { OnOk result
         (Appends (W.contents out.old) (W.contents out.new) (printed_zone zone.now.records)) }

@@ -4,7 +4,7 @@ use Rattle.std.specs.Prelude.{slice_get}
 use Rattle.std.specs.Char.{to_ascii_lowercase}
 use Rattle.std.proofs.lemmas.List.{length-append, take_at}
 use Rattle.dns_names.specs.Name.{Labels, IsName, wire, labels_of}
-use Rattle.dns_names.specs.Octets.{LabelsAt, Explains}
+use Rattle.dns_names.specs.Octets.{LabelsAt, ExplainsName}
 use Rattle.dns_names.specs.Lower.{AreOctets}
 use Rattle.dns_names.specs.Plain.{IsPlain}
 use Rattle.dns_names.specs.PlainLaws.{wire_stands, wire_lower}
@@ -17,7 +17,7 @@ read_of : (m : List ℕ) (name : Labels) (rest : List ℕ) → IsName name → m
 read_of m name rest valid e = ap (λ (x : List ℕ). map to_ascii_lowercase (take (length (wire name)) x)) e ∙ ap (map to_ascii_lowercase) (take_at (wire name) rest (length (wire name)) refl) ∙ wire_lower name valid.labels
 
 -- where octets are refused, no name in lower case stands
-pub none_first : (m : List ℕ) (e : NameError) → Explains m e → (e ≡ OutOfMemory → ⊥) → (name : Labels) (rest : List ℕ) → IsName name → m ≡ wire name ++ rest → ⊥
+pub none_first : (m : List ℕ) (e : NameError) → ExplainsName m e → (e ≡ OutOfMemory → ⊥) → (name : Labels) (rest : List ℕ) → IsName name → m ≡ wire name ++ rest → ⊥
 none_first m e why other name rest valid same =
     let size = ap length same ∙ length-append (wire name) rest in
     refused_none m e name (length (wire name)) valid (omega (arith, size)) (read_of m name rest valid same) why other

@@ -10,7 +10,7 @@ use Rattle.std.proofs.lemmas.List.Folds.{list_any-append}
 use Rattle.dns_names.specs.Name.{Labels, IsLabel, wire}
 use Rattle.dns_names.specs.PlainOctets.{octets-append}
 use Rattle.dns_names.specs.Text.{Letter, Itself, Escaped, letters, name_of_text, onto, is_dot, octet_of, before_label, dotted, parts_of, with_origin, limited}
-use Rattle.dns_names.specs.Built.{framed, IsLower, IsBuilt, joined, after, TakesLetter}
+use Rattle.dns_names.specs.Built.{framed, IsLower, IsBuilt, joined_labels, parts_after, TakesLetter}
 use Rattle.dns_names.specs.declared.builder.Builder.{Builder}
 use Rattle.dns_names.specs.declared.NameError.TheVariants.{LabelTooLong, NameTooLong}
 use Rattle.dns_names.specs.Lower.{labels_with}
@@ -82,18 +82,18 @@ built_end b b' n v done tail items h len val is e s t l =
 abbrev some_parts : Labels × List ℕ → Option (Labels × List ℕ)
 some_parts p = Some p
 
-joined_octet : (done : Labels) (tail : List ℕ) (c : ℕ) (p : Labels × List ℕ) → joined done tail (before_label c p) ≡ joined done (tail ++ c ∷ []) p
+joined_octet : (done : Labels) (tail : List ℕ) (c : ℕ) (p : Labels × List ℕ) → joined_labels done tail (before_label c p) ≡ joined_labels done (tail ++ c ∷ []) p
 joined_octet done tail c ([], rest) = ap (λ (x : List ℕ). (done, x)) (sym (append_assoc tail (c ∷ []) rest))
 joined_octet done tail c (label ∷ labels, rest) = ap (λ (x : List ℕ). (done ++ x ∷ labels, rest)) (sym (append_assoc tail (c ∷ []) label))
 
 dotted_octet : (l : Letter) (ls : List Letter) → is_dot l ≡ false → dotted (l ∷ ls) ≡ before_label (to_ascii_lowercase (octet_of l)) (dotted ls)
 dotted_octet l ls h = rw (h, dotted) refl
 
-pub after_octet : (done : Labels) (tail : List ℕ) (l : Letter) (o : Option (List Letter)) → is_dot l ≡ false → after done tail (parts_of (onto l o)) ≡ after done (tail ++ to_ascii_lowercase (octet_of l) ∷ []) (parts_of o)
+pub after_octet : (done : Labels) (tail : List ℕ) (l : Letter) (o : Option (List Letter)) → is_dot l ≡ false → parts_after done tail (parts_of (onto l o)) ≡ parts_after done (tail ++ to_ascii_lowercase (octet_of l) ∷ []) (parts_of o)
 after_octet done tail l None h = refl
-after_octet done tail l (Some ls) h = ap (λ (p : Labels × List ℕ). some_parts (joined done tail p)) (dotted_octet l ls h) ∙ ap (some_parts) (joined_octet done tail (to_ascii_lowercase (octet_of l)) (dotted ls))
+after_octet done tail l (Some ls) h = ap (λ (p : Labels × List ℕ). some_parts (joined_labels done tail p)) (dotted_octet l ls h) ∙ ap (some_parts) (joined_octet done tail (to_ascii_lowercase (octet_of l)) (dotted ls))
 
-pub after_all : (done : Labels) (tail : List ℕ) → after done tail (parts_of (Some [])) ≡ Some (done, tail)
+pub after_all : (done : Labels) (tail : List ℕ) → parts_after done tail (parts_of (Some [])) ≡ Some (done, tail)
 after_all done tail = ap (λ (x : List ℕ). some_parts (done, x)) (append-nil tail)
 
 -- the whole is read: what refuses it
@@ -182,11 +182,11 @@ made_relative b done (c ∷ tail) origin n v items octets h named size same some
 -- a letter is taken
 pub octet_taken : (b : Builder) (done : Labels) (tail : List ℕ) (behind : Option (List Letter)) (octet low : ℕ) (escaped : Bool) → low ≡ to_ascii_lowercase octet → (escaped ≡ false → octet ≡ 46 → ⊥) → IsBuilt b done (tail ++ low ∷ []) → TakesLetter b done tail (if escaped then Escaped octet else Itself octet) behind
 octet_taken b done tail behind octet low true e other h =
-    (done, tail ++ low ∷ [], h, after_octet done tail (Escaped octet) behind refl ∙ ap (λ (x : ℕ). after done (tail ++ x ∷ []) (parts_of behind)) (sym e))
+    (done, tail ++ low ∷ [], h, after_octet done tail (Escaped octet) behind refl ∙ ap (λ (x : ℕ). parts_after done (tail ++ x ∷ []) (parts_of behind)) (sym e))
 octet_taken b done tail behind octet low false e other h =
     let apart : octet ≡ 46 → ⊥ = other refl in
     let dot : (octet == 46) ≡ false = grind (arith, nat_tests) in
-    (done, tail ++ low ∷ [], h, after_octet done tail (Itself octet) behind dot ∙ ap (λ (x : ℕ). after done (tail ++ x ∷ []) (parts_of behind)) (sym e))
+    (done, tail ++ low ∷ [], h, after_octet done tail (Itself octet) behind dot ∙ ap (λ (x : ℕ). parts_after done (tail ++ x ∷ []) (parts_of behind)) (sym e))
 
 -- the limits of the code and those of the name
 pub both_small : (b : Bool) (n : ℕ) → b ≡ false → n ≤ 63 → (b || nat_lt 63 n) ≡ false
@@ -207,12 +207,12 @@ longs_are b done tail origin n h named size =
     any_long done tail origin named ∙ ap (λ (x : Bool). x || nat_lt 63 (length tail)) (sym h.long) ∙ ap (λ (k : ℕ). b.long || nat_lt 63 k) (sym size)
 
 -- the whole text
-pub after_nothing : (p : Option (Labels × List ℕ)) → p ≡ after [] [] p
+pub after_nothing : (p : Option (Labels × List ℕ)) → p ≡ parts_after [] [] p
 after_nothing None = refl
 after_nothing (Some ([], rest)) = refl
 after_nothing (Some (label ∷ labels, rest)) = refl
 
-pub text_name : (origin : Labels) (text rest : List ℕ) (done : Labels) (tail : List ℕ) → bytes_eq text (codes "@") ≡ false → bytes_eq text (codes ".") ≡ false → (length text == 0) ≡ false → length rest ≡ 0 → parts_of (letters text) ≡ after done tail (parts_of (letters rest)) → name_of_text origin text ≡ limited (with_origin origin (done, tail))
+pub text_name : (origin : Labels) (text rest : List ℕ) (done : Labels) (tail : List ℕ) → bytes_eq text (codes "@") ≡ false → bytes_eq text (codes ".") ≡ false → (length text == 0) ≡ false → length rest ≡ 0 → parts_of (letters text) ≡ parts_after done tail (parts_of (letters rest)) → name_of_text origin text ≡ limited (with_origin origin (done, tail))
 text_name origin text [] done tail a d n none e =
     let parts : parts_of (letters text) ≡ Some (done, tail) = e ∙ after_all done tail in
     rw (a, d, n, parts) refl

@@ -7,7 +7,7 @@ use Rattle.dns_names.specs.Name.{Labels}
 use Rattle.dns_names.specs.Text.{Letter, onto, parts_of}
 use Rattle.dns_names.specs.declared.builder.Builder.{Builder}
 
--- The labels one behind the other, each behind its length, or 63 where it is longer.
+-- The labels one after the other, each after its length, or after 63 where it is longer.
 abbrev pub framed : Labels → List ℕ
 framed [] = []
 framed (label ∷ rest) = (if nat_lt 63 (length label) then 63 else length label) ∷ label ++ framed rest
@@ -27,17 +27,17 @@ pub record IsBuilt (b : Builder) (done : Labels) (tail : List ℕ) : Type 0 wher
   pub last : IsLower tail
 
 -- Labels that have ended and an open one, before the parts of what is left.
-abbrev pub joined : Labels → List ℕ → Labels × List ℕ → Labels × List ℕ
-joined done tail ([], rest) = (done, tail ++ rest)
-joined done tail (label ∷ labels, rest) = (done ++ (tail ++ label) ∷ labels, rest)
+abbrev pub joined_labels : Labels → List ℕ → Labels × List ℕ → Labels × List ℕ
+joined_labels done tail ([], rest) = (done, tail ++ rest)
+joined_labels done tail (label ∷ labels, rest) = (done ++ (tail ++ label) ∷ labels, rest)
 
-abbrev pub after : Labels → List ℕ → Option (Labels × List ℕ) → Option (Labels × List ℕ)
-after done tail None = None
-after done tail (Some parts) = Some (joined done tail parts)
+abbrev pub parts_after : Labels → List ℕ → Option (Labels × List ℕ) → Option (Labels × List ℕ)
+parts_after done tail None = None
+parts_after done tail (Some parts) = Some (joined_labels done tail parts)
 
 -- With a letter taken, the parts of the whole stay what they are.
 abbrev pub TakesLetter : Builder → Labels → List ℕ → Letter → Option (List Letter) → Type 0
 TakesLetter b done tail letter behind =
     (ended : Labels) × (last : List ℕ) × IsBuilt b ended last
-    × (after done tail (parts_of (onto letter behind))
-    ≡ after ended last (parts_of behind))
+    × (parts_after done tail (parts_of (onto letter behind))
+    ≡ parts_after ended last (parts_of behind))

@@ -13,7 +13,7 @@ pub data Letter : Type 0 where
   Itself : ℕ → Letter
   Escaped : ℕ → Letter
 
--- Where a text is read: at a letter, behind its `\`, or where two digits or one are due behind a number.
+-- Where a text is read: at a letter, after its `\`, or where two digits or one are due after a number.
 pub data Due : Type 0 where
   ALetter : Due
   AnEscape : Due
@@ -59,7 +59,7 @@ abbrev pub is_dot : Letter → Bool
 is_dot (Itself c) = c == 46
 is_dot (Escaped c) = false
 
--- The labels that a dot ends, and the octets behind the last dot. Only a bare dot ends a label.
+-- The labels that a dot ends, and the octets after the last dot. Only a bare dot ends a label.
 abbrev pub before_label : ℕ → Labels × List ℕ → Labels × List ℕ
 before_label c ([], tail) = ([], c ∷ tail)
 before_label c (label ∷ labels, tail) = ((c ∷ label) ∷ labels, tail)
@@ -105,7 +105,7 @@ name_of_text origin text =
     else if length text == 0 then Err EmptyLabel
     else name_of_parts origin (parts_of (letters text))
 
--- three decimal digits behind a `\`
+-- three decimal digits after a `\`
 abbrev pub escaped : ℕ → List ℕ
 escaped c = 92 ∷ (48 + c / 100) ∷ (48 + c / 10 % 10) ∷ (48 + c % 10) ∷ []
 
@@ -121,7 +121,7 @@ printed_octet c =
 abbrev pub printed_label : List ℕ → List ℕ
 printed_label label = flat_map printed_octet label
 
--- A name in print: each label with a dot behind it, and a dot alone for the root.
+-- A name in print: each label with a dot after it, and a dot alone for the root.
 abbrev pub printed_labels : Labels → List ℕ
 printed_labels name = flat_map (λ label. printed_label label ++ 46 ∷ []) name
 

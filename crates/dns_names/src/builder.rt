@@ -8,7 +8,7 @@ use dns_memory::Heap;
 use smallvec::SmallVec;
 use std::alloc::AllocError;
 
-/// Writes the octet at a place.
+/// Writes the octet at an index.
 fn set_octet(octets: &mut SmallVec<u8, 32, Heap>, at: usize, octet: u8)
     requires { at < length octets.old.items }
     ensures { octets.new.items ≡ slice_set octets.old.items at octet }
@@ -17,12 +17,12 @@ fn set_octet(octets: &mut SmallVec<u8, 32, Heap>, at: usize, octet: u8)
 }
 
 /// Labels that have ended, and the octets of one that has not. The limits are tested when all is read, so
-/// that the first refusal that applies is told, and not the first that is met.
+/// that the first refusal that applies is reported, and not the first that is met.
 #[derive(Drop)]
 pub(crate) struct Builder {
-    /// Labels behind their lengths, a place for the length of the open label, and its octets.
+    /// Labels, each after its length, a place for the length of the open label, and its octets.
     octets: SmallVec<u8, 32, Heap>,
-    /// The place of the open label's length.
+    /// The index of the open label's length.
     start: usize,
     /// Whether a label that has ended has no octet.
     empty: bool,
@@ -87,7 +87,7 @@ impl Builder {
         self.push(octet.to_ascii_lowercase())
     }
 
-    /// The name: that of the origin stands behind an open label that has octets.
+    /// The name: that of the origin follows an open label that has octets.
     pub(crate) fn finish(self, origin: &Name) -> Result<Name, NameError>
         requires { (done : Labels) × (tail : List ℕ) × IsBuilt self done tail }
         ensures { (done : Labels) (tail : List ℕ)

@@ -1,4 +1,4 @@
-//! A name that is lent: octets that stand elsewhere, as a message or a zone holds them.
+//! A name that is lent: octets that are stored elsewhere, as a message or a zone holds them.
 ghost use Rattle.std.specs.Prelude.{◌≡◌, ℕ, List, ◌∷◌, ◌++◌, ◌↔◌, Some, None, IfOk, IfSome, IfNone, IsTrue};
 ghost use Rattle.std.specs.Prelude.{length, map};
 ghost use Rattle.std.specs.Char.{to_ascii_lowercase};
@@ -54,7 +54,7 @@ impl<'a> NameRef<'a> {
         NameRef { octets }
     }
 
-    /// The name whose plain form, in lower case, stands at the front of the octets, and the octets behind it.
+    /// The name whose plain form, in lower case, is at the front of the octets, and the octets after it.
     pub fn first(octets: &'a [u8]) -> Option<(NameRef<'a>, &'a [u8])>
         ensures found { IfSome result (λ r. IsName r.0 × (octets.now ≡ wire r.0 ++ r.1.now)) }
         ensures none { IfNone result
@@ -112,7 +112,7 @@ impl<'a> NameRef<'a> {
         Some(NameRef { octets: rest })
     }
 
-    /// Whether the name is the ancestor or stands under it (RFC 1034 section 3.1).
+    /// Whether the name is the ancestor or is under it (RFC 1034 section 3.1).
     pub fn is_under(&self, ancestor: &NameRef<'_>) -> bool
         ensures { IsTrue result ↔ IsUnder self.now ancestor.now }
     {

@@ -5,7 +5,7 @@ ghost use Rattle.std.specs.Prelude.{IfErr, IsTrue, ◌↔◌, [], Ok, Err, ◌�
 ghost use Rattle.dns_names.specs.Text.{name_of_text, printed_name};
 ghost use Rattle.std.specs.Char.{to_ascii_lowercase};
 ghost use Rattle.dns_names.specs.Name.{Labels, IsName, IsUnder, wire, parent, wildcard, name_cmp, names_eq};
-ghost use Rattle.dns_names.specs.Octets.{LabelsAt, Explains};
+ghost use Rattle.dns_names.specs.Octets.{LabelsAt, ExplainsName};
 ghost use Rattle.dns_names.specs.Compare.{names_eq-per, names_eq-equiv, name_cmp-total, name_cmp-ties};
 ghost use Rattle.dns_names.specs.Compare.{name_cmp-po};
 ghost use Rattle.std.specs.Ordering.{as_partial_cmp};
@@ -52,7 +52,7 @@ pub(crate) fn root_of(octets: &[u8]) -> Result<usize, NameError>
     ensures found { IfOk result
         (λ stop. (stop ≤ 254) × (labels : Labels) × LabelsAt octets.now 0 labels stop
         × (slice_get octets.now stop ≡ Some 0)) }
-    ensures refused { IfErr result (Explains octets.now) }
+    ensures refused { IfErr result (ExplainsName octets.now) }
     ensures other { IfErr result (λ e. e ≡ NameError.OutOfMemory → ⊥) }
 {
     match run_end(octets, 0, 254) {
@@ -152,12 +152,12 @@ impl Name {
         }
     }
 
-    /// The name whose plain form stands at the front of the octets, and how many octets that has.
+    /// The name whose plain form is at the front of the octets, and how many octets that has.
     pub fn parse_wire(alloc: Heap, octets: &[u8]) -> Result<(Name, usize), NameError>
         ensures found { IfOk result
             (λ r. IsName r.0 × (r.1 ≤ length octets.now)
             × (map to_ascii_lowercase (take r.1 octets.now) ≡ wire r.0)) }
-        ensures refused { IfErr result (Explains octets.now) }
+        ensures refused { IfErr result (ExplainsName octets.now) }
         // What is a name is read, unless memory runs out.
         ensures only { (name : Labels) (n : ℕ)
             → IsName name
@@ -187,7 +187,7 @@ impl Name {
         NameRef::over(self.octets.as_slice())
     }
 
-    /// Whether the name is the ancestor or stands under it.
+    /// Whether the name is the ancestor or is under it.
     pub fn is_under(&self, ancestor: &Name) -> bool
         ensures { IsTrue result ↔ IsUnder self.now ancestor.now }
     {

@@ -5,7 +5,7 @@ ghost use Rattle.dns_names.specs.Text.{escaped, printed_octet, printed_label, pr
 use crate::{Name, NameRef, labels};
 use std::fmt;
 
-/// An octet as `\DDD`: its number in three decimal digits behind a `\` (RFC 1035 section 5.1).
+/// An octet as `\DDD`: its number in three decimal digits after a `\` (RFC 1035 section 5.1).
 #[derive(Drop)]
 pub struct EscapedOctet(pub u8);
 
@@ -21,7 +21,7 @@ impl fmt::Display for EscapedOctet {
     }
 }
 
-/// An octet of a label: what has a meaning of its own stands behind a `\`, and what is no visible ASCII is
+/// An octet of a label: what has a meaning of its own comes after a `\`, and what is no visible ASCII is
 /// `\DDD`.
 #[derive(Drop)]
 struct PrintedOctet(u8);
@@ -59,7 +59,7 @@ impl fmt::Display for PrintedLabel<'_> {
 impl fmt::Display for NameRef<'_> {
     ghost output = { λ name. Some (printed_name name) };
 
-    /// The name as a master file has it: each label with a dot behind it, and a dot alone for the root
+    /// The name as a master file has it: each label with a dot after it, and a dot alone for the root
     /// (RFC 1035 section 5.1).
     fn fmt<W: fmt::Write>(&self, f: &mut fmt::Formatter<W>) -> fmt::Result {
         let mut rest = self.as_wire();

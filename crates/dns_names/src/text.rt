@@ -2,7 +2,7 @@
 ghost use Rattle.std.specs.Prelude.{◌≡◌, ◌<◌, ◌≢◌, ◌+◌, [], None, length, MatchOption, if◌then◌else◌};
 ghost use Rattle.dns_names.specs.Text.{ALetter, AnEscape, letters_from, onto, Itself, Escaped};
 
-/// The octet behind a `\`, and the text behind that.
+/// The octet after a `\`, and the text after that.
 fn split_escape(text: &[u8]) -> Option<(u8, &[u8])>
     ensures { MatchOption result (letters_from AnEscape text.now ≡ None)
         (λ r. (letters_from AnEscape text.now ≡ onto (Escaped r.0) (letters_from ALetter r.1.now))
@@ -25,7 +25,7 @@ fn split_escape(text: &[u8]) -> Option<(u8, &[u8])>
     Some((value as u8, behind))
 }
 
-/// The letter at the front of a text: its octet, whether a `\` stands before it, and the text behind it.
+/// The letter at the front of a text: its octet, whether a `\` precedes it, and the text after it.
 pub fn split_letter(text: &[u8]) -> Option<(u8, bool, &[u8])>
     requires { text.now ≢ [] }
     ensures { MatchOption result (letters_from ALetter text.now ≡ None)

@@ -2,11 +2,11 @@
 //! RFC 2136 and RFC 5936.
 use crate::clients::{Act, Clients};
 use crate::given::device;
-use dns_configuration::{DONE, File};
+use dns_configuration::{DONE, File, REFUSED};
 use dns_devices::Devices;
 use dns_files::OpenDeviceError;
 use dns_memory::{Heap, heap};
-use dns_sectors::{DeviceError, MemorySectors};
+use dns_sectors::{DeviceError, MemorySectors, Sector, Sectors};
 use dns_service::serve;
 use dns_zone::RecordList;
 use std::io;
@@ -31,9 +31,22 @@ update = [\"127.0.0.1/32\"]
 transfer = [\"127.0.0.1/32\"]
 ";
 
-/// Devices in memory. There is one with the zone at each path, made as it is opened.
+/// A sector that begins with these octets, and then has zeros.
+fn with_front(front: &[u8]) -> Sector {
+    let mut sector = [0; 512];
+    for (octet, new) in sector.iter_mut().zip(front) {
+        *octet = *new;
+    }
+    sector
+}
+
+/// Devices in memory. There is one with the zone at each path, made as it is opened; where a root is said, it
+/// begins with that in place of its own.
 #[derive(Clone, Copy)]
-struct InMemory(Heap);
+struct InMemory {
+    heap: Heap,
+    root: Option<&'static [u8]>,
+}
 
 impl Devices<MemorySectors> for InMemory {
     ghost found = { λ _ _ _. Unit {0} };
@@ -51,7 +64,13 @@ impl Devices<MemorySectors> for InMemory {
     }
 
     fn open(&self, _path: &str) -> Result<MemorySectors, OpenDeviceError> {
-        device(self.0, ZONE, 8).ok_or(OpenDeviceError::Device)
+        let mut device = device(self.heap, ZONE, 8).ok_or(OpenDeviceError::Device)?;
+        if let Some(root) = self.root {
+            if device.len() > 0 && device.write(0, &with_front(root)).is_err() {
+                return Err(OpenDeviceError::Device);
+            }
+        }
+        Ok(device)
     }
 
     fn remove(&self, _path: &str) {}
@@ -261,7 +280,7 @@ fn served(rt: &HostRuntime, heap: Heap, clients: &mut Clients<'_>, turns: u32) -
     let text = format!(in heap; "listen = \"{server}\"\n{SETTINGS}")?;
     let config = configuration(&text);
     let alloc = rt.alloc();
-    let devices = InMemory(heap);
+    let devices = InMemory { heap, root: None };
     Ok(serve::<MemorySectors, _, RecordList, _, _>(
         alloc, heap, rt, &devices, &config, turns, false, clients,
     ))
@@ -301,5 +320,44 @@ fn loopback(rt: HostRuntime) -> Result<(), Fail> {
     for run in RUNS {
         assert!(rt; holds(&rt, heap, run)?, "{}", run.name);
     }
+    Ok(())
+}
+
+/// A root of sector format 1, of a zone `example.` with 8 and 16 sectors, up to the last octet that is not 0.
+const ROOT: &[u8] = b"DPR1\0\0\0\0\0\0\0\0\0\0\0\0\0\0\0\0\0\0\0\0\0\0\0\0\0\0\0\0\0\0\0\0\0\0\
+\x01\xda\0\0\0\x08\0\0\0\x10\x07example";
+
+/// Whether a server over a device with this root tells this, and nothing else, and ends with status 1. The
+/// device is told before the address is taken.
+fn refuses(rt: &HostRuntime, heap: Heap, root: &'static [u8], told: &str) -> io::Result<bool> {
+    let text = format!(in heap; "listen = \"127.0.0.1:5300\"\n{SETTINGS}")?;
+    let config = configuration(&text);
+    let root = Some(root);
+    let devices = InMemory { heap, root };
+    let mut err = Vec::new(rt.alloc());
+    let status = serve::<MemorySectors, _, RecordList, _, _>(
+        rt.alloc(),
+        heap,
+        rt,
+        &devices,
+        &config,
+        1,
+        true,
+        &mut err,
+    );
+    Ok(status == REFUSED && err.as_slice() == told.as_bytes())
+}
+
+#[test]
+fn devices_that_are_not_served(rt: HostRuntime) -> Result<(), Fail> {
+    let heap = heap(rt.alloc())?;
+    let old =
+        "example.device: OldFormat\nexample.device: the file was made in an older sector format; \
+migrate makes it new\n";
+    let damaged =
+        "example.device: Damaged(0)\nexample.device: that sector is not what was written there; \
+a copy of the file, or its master file and init, restores it\n";
+    assert!(rt; refuses(&rt, heap, ROOT, old)?);
+    assert!(rt; refuses(&rt, heap, b"DPR2", damaged)?);
     Ok(())
 }

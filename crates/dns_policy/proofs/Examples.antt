@@ -5,7 +5,7 @@ use Rattle.std.specs.declared.net.ip_addr.IpAddr.{IpAddr}
 use Rattle.std.specs.declared.net.ip_addr.IpAddr.TheVariants.{V4, V6}
 use Rattle.std.specs.Fmt.{digits}
 use Rattle.dns_policy.specs.declared.PrefixError.TheVariants.{BadPrefix, BadLength}
-use Rattle.dns_policy.specs.Prefix.{bits, Covers, IsPrefix, Explains, StatesLength}
+use Rattle.dns_policy.specs.Prefix.{bits, Covers, IsPrefix, ExplainsPrefix, StatesLength}
 
 ipv4 : ℕ → ℕ → ℕ → ℕ → IpAddr
 ipv4 a b c d = V4 (record { octets = a ∷ b ∷ c ∷ d ∷ [] })
@@ -40,7 +40,7 @@ thirty_three : decimal 33 ≡ codes "33"
 unfolding digits
 thirty_three = refl
 
-a_length_over : Explains (codes "10.0.0.0/33") BadLength
+a_length_over : ExplainsPrefix (codes "10.0.0.0/33") BadLength
 unfolding ipv4 digits
 a_length_over = (ipv4 10 0 0 0, (refl, record { a = 10; b = 0; c = 0; d = 0; fit = (lit< tt, lit< tt, lit< tt, lit< tt); value = refl; spelled = refl }), none)
   where
@@ -50,5 +50,5 @@ a_length_over = (ipv4 10 0 0 0, (refl, record { a = 10; b = 0; c = 0; d = 0; fit
         let equal : 33 ≡ n = decimal_injective 33 n wide (omega (arith, wide)) (thirty_three ∙ h.0) in
         omega arith
 
-no_slash : Explains (codes "10.0.0.0") BadPrefix
+no_slash : ExplainsPrefix (codes "10.0.0.0") BadPrefix
 no_slash a h = let some : false ≡ true = h.0 in cc

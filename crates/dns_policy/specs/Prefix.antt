@@ -17,7 +17,7 @@ is_slash octet = octet == 47
 abbrev pub StatesAddress : List ℕ → IpAddr → Type 0
 StatesAddress text a = IsSome (position is_slash text) × IsAddress (before_first is_slash text) a
 
--- Behind it stands a length that the address has bits for: a decimal number without leading zeros.
+-- It is followed by a length that the address has bits for: a decimal number without leading zeros.
 abbrev pub StatesLength : List ℕ → IpAddr → ℕ → Type 0
 StatesLength text a n = (after_first is_slash text ≡ decimal n) × (n ≤ width a)
 
@@ -26,9 +26,9 @@ abbrev pub IsPrefix : List ℕ → IpAddr × ℕ → Type 0
 IsPrefix text p = StatesAddress text p.0 × StatesLength text p.0 p.1
 
 -- Why a text is no prefix: it has no address and `/`, or else no length.
-abbrev pub Explains : List ℕ → PrefixError → Type 0
-Explains text BadPrefix = (a : IpAddr) → ¬ (StatesAddress text a)
-Explains text BadLength = (a : IpAddr) × StatesAddress text a × ((n : ℕ) → ¬ (StatesLength text a n))
+abbrev pub ExplainsPrefix : List ℕ → PrefixError → Type 0
+ExplainsPrefix text BadPrefix = (a : IpAddr) → ¬ (StatesAddress text a)
+ExplainsPrefix text BadLength = (a : IpAddr) × StatesAddress text a × ((n : ℕ) → ¬ (StatesLength text a n))
 
 -- The lowest bits of a number, so many, the highest first.
 unfoldable pub bits : ℕ → ℕ → List ℕ

@@ -16,7 +16,7 @@ pub enum PrefixError {
     /// It has no `/`, or no address before it.
     #[error("an address, a slash and a length are expected")]
     BadPrefix,
-    /// What stands behind the `/` is no decimal number without leading zeros, or more than 32 or 128.
+    /// What follows the `/` is no decimal number without leading zeros, or more than 32 or 128.
     #[error("the length is a decimal number of bits, at most 32 of IPv4 and 128 of IPv6")]
     BadLength,
 }

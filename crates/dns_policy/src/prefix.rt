@@ -2,7 +2,7 @@
 ghost use Rattle.std.specs.Prelude.{◌≡◌, ◌*◌, ◌≤◌, ◌↔◌, IsSome, IsTrue, None, length, take, MatchOption};
 ghost use Rattle.std.specs.Prelude.{MatchResult};
 ghost use Rattle.std.specs.List.{position, before_first, after_first};
-ghost use Rattle.dns_policy.specs.Prefix.{IsPrefix, Explains, Covers, IsAllowed, bits_of, is_slash};
+ghost use Rattle.dns_policy.specs.Prefix.{IsPrefix, ExplainsPrefix, Covers, IsAllowed, bits_of, is_slash};
 ghost use Rattle.dns_policy.specs.Family.{width};
 
 use crate::PrefixError;
@@ -58,14 +58,14 @@ fn agree(first: &[u8], second: &[u8], count: usize) -> bool
     rest == 0 || first[whole] >> (8 - rest) == second[whole] >> (8 - rest)
 }
 
-/// Where the first `/` stands.
+/// Where the first `/` is.
 fn first_slash(text: &[u8]) -> Option<usize>
     ensures { result ≡ position is_slash text.now }
 {
     text.iter().position(|octet| *octet == b'/')
 }
 
-/// What stands before the first `/`, and behind it.
+/// What comes before the first `/`, and after it.
 fn split_at_slash(text: &[u8]) -> Option<(&[u8], &[u8])>
     ensures { MatchOption result (position is_slash text.now ≡ None)
         (λ parts. IsSome (position is_slash text.now)
@@ -83,7 +83,7 @@ impl Prefix {
     /// leading zeros. A text with no `/`, or with no address before it, is `BadPrefix`; else one with no such
     /// length is `BadLength`.
     pub fn parse(text: &[u8]) -> Result<Prefix, PrefixError>
-        ensures { MatchResult result (IsPrefix text.now) (Explains text.now) }
+        ensures { MatchResult result (IsPrefix text.now) (ExplainsPrefix text.now) }
     {
         let Some((front, behind)) = split_at_slash(text) else {
             return Err(PrefixError::BadPrefix);

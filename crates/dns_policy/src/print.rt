@@ -6,7 +6,7 @@ ghost use Rattle.dns_policy.specs.Printed.{further_groups, printed_groups, print
 use std::fmt;
 use std::net::IpAddr;
 
-/// Groups of an IPv6 address, each behind a colon.
+/// Groups of an IPv6 address, each preceded by a colon.
 #[derive(Drop)]
 struct FurtherGroups<'a>(&'a [u16]);
 

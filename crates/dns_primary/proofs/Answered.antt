@@ -9,7 +9,7 @@ use Rattle.dns_primary.specs.declared.event.Noted.TheVariants.{OutOfMemory}
 use Rattle.dns_primary.specs.declared.primary.Primary.{Primary}
 use Rattle.dns_primary.specs.Machine.{ZoneState, Machine}
 use Rattle.dns_primary.specs.Step as machine
-use Rattle.dns_primary.specs.Step.{IsBegun}
+use Rattle.dns_primary.specs.Step.{IsUpdateBegun}
 use Rattle.dns_primary.specs.Queue.{IsUntouched}
 use Rattle.dns_primary.specs.Steps.{AtAnyMomentOf, IsBegunOrLacks, OpensAsEvent, with_rooms}
 use Rattle.dns_primary.proofs.Served.{failed_still, still_leaves}
@@ -26,6 +26,6 @@ module _ {I S : Type 0} {i : index.Ghosts I} {s : store.Ghosts S} (m : Machine) 
         still_leaves (λ (b : Behind I S). b.store) s.failed s.moment s.left_since (λ (k : Option ℕ × ZoneState) c. OpensAsEvent s.opens k.0 k.1 c) old.behind.items mid.behind.items new.behind.items (with_rooms moved m.zones) each still
 
 -- the one or the other, by what is noted
-pub begun_with_memory : (old mid : Machine) (lacked : Option (ℕ × ℕ)) (fails : List Bool) (stated : machine.Effects) → (stated.noted ≡ OutOfMemory → ⊥) → IsBegunOrLacks old lacked fails stated mid → IsBegun fails old lacked stated mid
+pub begun_with_memory : (old mid : Machine) (lacked : Option (ℕ × ℕ)) (fails : List Bool) (stated : machine.Effects) → (stated.noted ≡ OutOfMemory → ⊥) → IsBegunOrLacks old lacked fails stated mid → IsUpdateBegun fails old lacked stated mid
 begun_with_memory old mid lacked fails stated some (inl h) = h
 begun_with_memory old mid lacked fails stated some (inr (is, l)) = absurd (some l.noted)

@@ -25,10 +25,10 @@ use Rattle.dns_primary.specs.Flush.{Sent, rcode_servfail, is_none_made, flushed,
 use Rattle.dns_primary.specs.Connections.{closed, connected, without_connection}
 use Rattle.dns_primary.specs.Update.{Asked, Admission, Rejects, Admits, rcode_notauth, place_of, admission_in, admission_at, admission, waits, stages, with_staged, replies, accepted_in, judged_in, admitted, is_full, made_place, answer, room_lacked}
 use Rattle.dns_primary.specs.Checkpoint.{rebased, IsMovedUnlessClosed, IsCheckpoint}
-use Rattle.dns_primary.specs.Step.{Event, Datagram, Connect, Arrives, Flush, Checkpoint, Pump, Closed, IsCheckpointed, IsBegun, IsUpdated, Effects, AreFailures, IsServed, IsArrived, Goes, Lacks, Step}
+use Rattle.dns_primary.specs.Step.{Event, Datagram, Connect, Arrives, Flush, Checkpoint, Pump, Closed, IsCheckpointed, IsUpdateBegun, IsUpdated, Effects, AreFailures, IsRequestHandled, IsArrived, Goes, Lacks, Step}
 use Rattle.dns_primary.specs.Stop.{IsMaking, IsRecovered, AreRecovered, IsStopped}
 use Rattle.dns_primary.specs.Fresh.{IsLoaded, IsFresh, IsReopened, IsResumed, IsStart}
-use Rattle.dns_primary.specs.Runs.{Moment, Took, Stopped, after, Happens, Run, last_of}
+use Rattle.dns_primary.specs.Runs.{Moment, Took, Stopped, machine_after, Happens, Run, last_of}
 use Rattle.dns_primary.specs.Bounds.{HasFewStaged, IsBounded}
 use Rattle.dns_primary.proofs.Quiet.{IsQuiet, transferred_quiet, pumped_quiet}
 use Rattle.dns_primary.proofs.Zonewise.{tested, all_found, all_set}
@@ -111,7 +111,7 @@ place_fits fails m f h =
     (λ e. record { fit = flush_fits fails m (subst (λ (b : Bool). AreFailures b m fails) e f) h; room = omega arith })
     (λ e. record { fit = h; room = true_lt (length m.waiting) 32 (not_full (nat_lt (length m.waiting) 32) e) })
 
-begun_fits : (fails : List Bool) (old : Machine) (lacked : Option (ℕ × ℕ)) (first : Effects) (mid : Machine) → IsBegun fails old lacked first mid → AllFit old → HasRoom mid
+begun_fits : (fails : List Bool) (old : Machine) (lacked : Option (ℕ × ℕ)) (first : Effects) (mid : Machine) → IsUpdateBegun fails old lacked first mid → AllFit old → HasRoom mid
 begun_fits fails old None first mid b h = subst HasRoom (sym (b.1).state) (place_fits fails old b.0 h)
 begun_fits fails old (Some lacked) first mid b h = checkpoint_fits lacked.0 lacked.1 old b.0 b.1 mid b.3 h
 
@@ -135,12 +135,12 @@ stage_fits : (m : Machine) (a : Asked) (place : ℕ) (z : ZoneState) (records : 
 stage_fits m a place z records stands opened h =
     let made : Made = record { update = a.message; records = records } in
     let n = length m.waiting in
-    let after = slice_set m.zones place (with_staged made z) in
+    let machine_after = slice_set m.zones place (with_staged made z) in
     let one = staged_fits n made z h.room opened (all_found (Fits n) m.zones place z (h.fit).each stands) in
     let each = all_set (Fits (suc n)) m.zones place (with_staged made z) (all_more n (suc n) m.zones (omega arith) (h.fit).each) one in
     let len = one_more m.waiting (record { to = a.to; header = a.message.header; rcode = 0; zone = place; updates = updates_of (with_staged made z) }) in
     let room = h.room in
-    record { few = omega (arith, len, room); each = all_more (suc n) _ after (omega (arith, len)) each }
+    record { few = omega (arith, len, room); each = all_more (suc n) _ machine_after (omega (arith, len)) each }
 
 abbrev AnswerFits : Machine × List Sent → Type 0
 AnswerFits p = AllFit p.0
@@ -210,7 +210,7 @@ close_fits number m h =
     let few = h.few in
     record { few = omega (arith, len, few); each = all_more (length m.waiting) _ m.zones (omega (arith, len)) h.each }
 
-served_fits : (fails : List Bool) (old : Machine) (to : To) (peer : Peer) (k : Handled) (effects : Effects) (new : Machine) → IsServed fails old to peer k effects new → AllFit old → AllFit new
+served_fits : (fails : List Bool) (old : Machine) (to : To) (peer : Peer) (k : Handled) (effects : Effects) (new : Machine) → IsRequestHandled fails old to peer k effects new → AllFit old → AllFit new
 served_fits fails old to peer NoReply effects new g h = subst AllFit (sym (g.1).state) h
 served_fits fails old to peer (Replies reply) effects new g h = subst AllFit (sym (g.1).state) h
 served_fits fails old to peer (Update message question) effects new g h =
@@ -264,13 +264,13 @@ nothing_fits m none each = record {
   each = subst (λ (ws : List Waits). AllByRecursion (Fits (length ws)) m.zones) (sym none) each;
 }
 
-moment_fits : (old : Machine) (t : Moment) → Happens old t → AllFit old → AllFit (after t)
+moment_fits : (old : Machine) (t : Moment) → Happens old t → AllFit old → AllFit (machine_after t)
 moment_fits old (Took event fails effects new) g h = step_fits fails old event effects new g h
 moment_fits old (Stopped event tries new) g h = nothing_fits new g.waiting (all_recovered 1 (suc tries) old event 0 old.zones new.zones g.zones)
 
 run_fits : (start : Machine) (run : List Moment) → Run start run → AllFit start → AllFit (last_of start run)
 run_fits start [] r h = h
-run_fits start (t ∷ rest) r h = run_fits (after t) rest r.1 (moment_fits start t r.0 h)
+run_fits start (t ∷ rest) r h = run_fits (machine_after t) rest r.1 (moment_fits start t r.0 h)
 
 few_of : (n : ℕ) (zones : List ZoneState) → AllByRecursion (Fits n) zones → AllByRecursion HasFewStaged zones
 few_of n [] h = tt

@@ -26,10 +26,10 @@ use Rattle.dns_primary.specs.Machine.{Setting, Made, ZoneState, Machine, kept_of
 use Rattle.dns_primary.specs.Flush.{Sent, rcode_servfail, flushed, flush_sends, flushed_zones}
 use Rattle.dns_primary.specs.Update.{Asked, Admission, Rejects, Admits, rcode_notauth, place_of, admission_in, admission_at, admission, waits, stages, with_staged, replies, accepted_in, judged_in, admitted, is_full, answer}
 use Rattle.dns_primary.specs.Checkpoint.{IsCheckpoint}
-use Rattle.dns_primary.specs.Step.{Event, Datagram, Connect, Arrives, Flush, Checkpoint, Pump, Closed, IsCheckpointed, IsBegun, IsUpdated, Effects, IsServed, IsArrived, IsConnected, Goes, Lacks, Step}
+use Rattle.dns_primary.specs.Step.{Event, Datagram, Connect, Arrives, Flush, Checkpoint, Pump, Closed, IsCheckpointed, IsUpdateBegun, IsUpdated, Effects, IsRequestHandled, IsArrived, IsConnected, Goes, Lacks, Step}
 use Rattle.dns_primary.specs.Stop.{IsMaking, IsRecovered, AreRecovered}
 use Rattle.dns_primary.specs.Fresh.{IsLoaded, IsFresh}
-use Rattle.dns_primary.specs.Runs.{Moment, Took, Stopped, after, Happens, Run, last_of, Carries, Brings, BringsIn, CameIn, AllCameIn, AllCameSince, openings_in, IsOpenedAtMost}
+use Rattle.dns_primary.specs.Runs.{Moment, Took, Stopped, machine_after, Happens, Run, last_of, Carries, Brings, BringsIn, CameIn, AllCameIn, AllCameSince, openings_in, IsOpenedAtMost}
 use Rattle.dns_primary.proofs.Quiet.{transferred_quiet, pumped_quiet}
 use Rattle.dns_primary.proofs.Zonewise.{tested, pair_same, pair_on, pair_set, Same, same_itself, zone_flushed}
 use Rattle.dns_primary.proofs.Preserved.{has, same_moved, same_updates}
@@ -50,7 +50,7 @@ checkpoint_same place room old fails moving new made =
     (pair_set Same same_itself zones place made.zone made.next made.stands
     (same_updates made.zone made.next (same_moved moving room made.zone made.next made.moved))))
 
-begun_same : (fails : List Bool) (old : Machine) (lacked : Option (ℕ × ℕ)) (effects : Effects) (mid : Machine) → IsBegun fails old lacked effects mid → Each2 Same old.zones mid.zones
+begun_same : (fails : List Bool) (old : Machine) (lacked : Option (ℕ × ℕ)) (effects : Effects) (mid : Machine) → IsUpdateBegun fails old lacked effects mid → Each2 Same old.zones mid.zones
 begun_same fails old None effects mid h =
     subst (λ (m : Machine). Each2 Same old.zones m.zones) (sym (h.1).state)
     (tested (λ (p : Machine × List Sent). Each2 Same old.zones (p.0).zones) (is_full old) (flushed fails old, flush_sends fails old) (old, [])
@@ -208,7 +208,7 @@ module _ (old : Machine) (event : Event) where
   same_zones new e = subst (λ (zs : List ZoneState). AreWith (Brings old event) old.zones zs) (sym e) (all_still (Brings old event) old.zones)
 
   served_brings : (fails : List Bool) (to : To) (peer : Peer) (transport : Transport) (octets : List ℕ) (h : Handled) (effects : Effects) (new : Machine)
-      → Carries old event peer transport octets → handled (shown_zones old) octets transport ≡ h → IsServed fails old to peer h effects new → AreWith (Brings old event) old.zones new.zones
+      → Carries old event peer transport octets → handled (shown_zones old) octets transport ≡ h → IsRequestHandled fails old to peer h effects new → AreWith (Brings old event) old.zones new.zones
   served_brings fails to peer transport octets NoReply effects new c e g = nothing_new new old (g.1).state (pair_same Same same_itself old.zones)
   served_brings fails to peer transport octets (Replies reply) effects new c e g = nothing_new new old (g.1).state (pair_same Same same_itself old.zones)
   served_brings fails to peer transport octets (Update message question) effects new c e g =
@@ -313,7 +313,7 @@ all_recovered_are least most m event tries stopped place (z ∷ old) [] few h = 
 all_recovered_are least most m event tries stopped place (z ∷ old) (y ∷ new) few h =
     (recovered_is least most (IsMaking m event place z) m event tries stopped z y few h.0, all_recovered_are least most m event tries stopped (suc place) old new few h.1)
 
-moment_is : (m : Machine) (t : Moment) → Happens m t → Each2 (IsOf m t) m.zones (after t).zones
+moment_is : (m : Machine) (t : Moment) → Happens m t → Each2 (IsOf m t) m.zones (machine_after t).zones
 moment_is m (Took event fails effects new) h = all_with_are fails m event effects new m.zones new.zones (step_brings fails m event effects new h)
 moment_is m (Stopped event tries new) h = all_recovered_are 1 (suc tries) m event tries new 0 m.zones new.zones (omega arith) h.zones
 
@@ -340,14 +340,14 @@ both_times : (t : Moment) (rest : List Moment) → openings_in (t ∷ rest) ≡ 
 both_times (Took event fails effects new) rest = omega arith
 both_times (Stopped event tries new) rest = omega arith
 
-came_on : (m : Machine) (t : Moment) (rest : List Moment) (z y w : ZoneState) → IsOf m t z y → CameFrom (after t) rest y w → CameFrom m (t ∷ rest) z w
+came_on : (m : Machine) (t : Moment) (rest : List Moment) (z y w : ZoneState) → IsOf m t z y → CameFrom (machine_after t) rest y w → CameFrom m (t ∷ rest) z w
 came_on m t rest z y w p q = record {
   setting = q.setting ∙ p.setting;
   updates = λ u h. ⊎_elim (λ a. ⊎_elim (λ b. inl b) (λ b. inr (inl (brings_as m t y w u.update q.setting b))) (p.updates u a)) (λ c. inr (inr c)) (q.updates u h);
   openings = (let one = p.openings in let two = q.openings in let both = both_times t rest in omega (arith, one, two, both));
 }
 
-all_came_on : (m : Machine) (t : Moment) (rest : List Moment) (olds mids news : List ZoneState) → Each2 (IsOf m t) olds mids → Each2 (CameFrom (after t) rest) mids news
+all_came_on : (m : Machine) (t : Moment) (rest : List Moment) (olds mids news : List ZoneState) → Each2 (IsOf m t) olds mids → Each2 (CameFrom (machine_after t) rest) mids news
     → Each2 (CameFrom m (t ∷ rest)) olds news
 all_came_on m t rest [] [] [] p q = tt
 all_came_on m t rest [] [] (w ∷ news) p q = absurd q
@@ -358,7 +358,7 @@ all_came_on m t rest (z ∷ olds) (y ∷ mids) (w ∷ news) p q = (came_on m t r
 
 run_came : (m : Machine) (run : List Moment) → Run m run → Each2 (CameFrom m run) m.zones (last_of m run).zones
 run_came m [] r = pair_same (CameFrom m []) (λ z. record { setting = refl; updates = λ u h. inl h; openings = omega arith }) m.zones
-run_came m (t ∷ rest) r = all_came_on m t rest m.zones (after t).zones (last_of (after t) rest).zones (moment_is m t r.0) (run_came (after t) rest r.1)
+run_came m (t ∷ rest) r = all_came_on m t rest m.zones (machine_after t).zones (last_of (machine_after t) rest).zones (moment_is m t r.0) (run_came (machine_after t) rest r.1)
 
 each_has : (P : Made → Type 0) (xs : List Made) → ((u : Made) → Has xs u → P u) → AllByRecursion P xs
 each_has P [] h = tt

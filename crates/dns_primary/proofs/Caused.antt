@@ -37,7 +37,7 @@ use Rattle.dns_primary.specs.Flush.{Sent, Answered, Replied, rcode_servfail, flu
 use Rattle.dns_primary.specs.Connections.{without_connection}
 use Rattle.dns_primary.specs.Update.{Asked, Admission, Rejects, Admits, admission, admission_at, admission_in, place_of, rcode_notauth, waits, stages, replies, accepted_in, judged_in, admitted, is_full, made_place, answer, room_lacked}
 use Rattle.dns_primary.specs.Transfer.{version_of, zone_named, transport_of, is_free, may_have, OpensFrom, refusal_of, TransferBegins, IsStarted, IsTransferred, IsSentOn, IsPumped}
-use Rattle.dns_primary.specs.Step.{Event, Datagram, Connect, Arrives, Flush, Checkpoint, Pump, Closed, IsCheckpointed, IsBegun, IsUpdated, Effects, IsServed, IsArrived, Goes, Step}
+use Rattle.dns_primary.specs.Step.{Event, Datagram, Connect, Arrives, Flush, Checkpoint, Pump, Closed, IsCheckpointed, IsUpdateBegun, IsUpdated, Effects, IsRequestHandled, IsArrived, Goes, Step}
 use Rattle.dns_primary.specs.Runs.{IsReleasedFrom}
 use Rattle.dns_primary.specs.Causes.{code_of, IsForClosed, LacksRoom, UpdateCause, IsTooLong, RequestCause, ArrivedCause, EventCause, HasCause, Waited, HaveCauses}
 use Rattle.dns_primary.proofs.Quiet.{IsQuiet, transferred_quiet, pumped_quiet}
@@ -156,7 +156,7 @@ begins fails m Cause =
 reaches : (Cause : Type 0) (old new next : Machine) (sent out : List Sent) → new ≡ next → sent ≡ out → Ended Cause old (next, out) → Ended Cause old (new, sent)
 reaches Cause old new next sent out e f p = subst (λ (x : Machine × List Sent). Ended Cause old x) (λ i. (sym e i, sym f i)) p
 
-begun_ends : (fails : List Bool) (m : Machine) (lacked : Option (ℕ × ℕ)) (first : Effects) (mid : Machine) (Cause : Type 0) → IsBegun fails m lacked first mid → Ended Cause m (mid, first.sent)
+begun_ends : (fails : List Bool) (m : Machine) (lacked : Option (ℕ × ℕ)) (first : Effects) (mid : Machine) (Cause : Type 0) → IsUpdateBegun fails m lacked first mid → Ended Cause m (mid, first.sent)
 begun_ends fails m None first mid Cause g = reaches Cause m mid (made_place fails m).0 first.sent (made_place fails m).1 (g.1).state (g.1).sent (begins fails m Cause)
 begun_ends fails m (Some lacked) first mid Cause g = reaches Cause m mid _ first.sent (flush_sends g.0 m) (g.3).is (g.4).sent (record { sent = none_at_once _ _ m.waiting; waiting = tt })
 
@@ -322,7 +322,7 @@ pumped : (old : Machine) (number : ℕ) (s : Option Sending) (out : List Sent) (
 pumped old number s out next h = same_waiting ⊥ old next out (pumped_quiet old number s out next h) (pumped_codes old number s out next h)
 
 served : (fails : List Bool) (old : Machine) (to : To) (peer : Peer) (octets : List ℕ) (transport : Transport) (r : request.Request) (effects : Effects) (new : Machine) → IsOtherRequest r
-    → IsServed fails old to peer (handled_as (shown_zones old) octets transport r) effects new → Ended (RequestCause fails old to peer octets transport r) old (new, effects.sent)
+    → IsRequestHandled fails old to peer (handled_as (shown_zones old) octets transport r) effects new → Ended (RequestCause fails old to peer octets transport r) old (new, effects.sent)
 served fails old to peer octets transport request.Ignored effects new other g =
     reaches _ old new old effects.sent [] (g.1).state (g.1).sent (record { sent = tt; waiting = waited_all old _ })
 served fails old to peer octets transport (request.Refused rcode) effects new other g =

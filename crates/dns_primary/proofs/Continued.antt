@@ -15,7 +15,7 @@ use Rattle.dns_store.specs.Room.{entry_between, sectors_left}
 use Rattle.dns_held.specs.Held.{newest_zone}
 use Rattle.dns_held.specs.Staging.{has_room}
 use Rattle.dns_transfer.specs.Refusal.{client_serial}
-use Rattle.dns_transfer.specs.Session.{Sending, Version, Opens, IsOpened}
+use Rattle.dns_transfer.specs.Session.{Sending, Version, Opens, IsTransferOpened}
 use Rattle.dns_primary.specs.declared.event.Peer.{Peer}
 use Rattle.dns_primary.specs.declared.event.To.{To}
 use Rattle.dns_primary.specs.declared.event.To.TheVariants as to
@@ -23,7 +23,7 @@ use Rattle.dns_primary.specs.Machine.{ZoneState, Machine, kept_of, shown_zones, 
 use Rattle.dns_primary.specs.Flush.{Sent, flushed, flush_sends}
 use Rattle.dns_primary.specs.Update.{Asked, Admission, Rejects, Admits, admission, accepted_in, judged_in, admitted, is_full, room_lacked}
 use Rattle.dns_primary.specs.Transfer.{OpensFrom, TransferBegins, IsStarted, IsSentOn, IsPumped, is_free, may_have, open_still, set_transfer, version_of, zone_named}
-use Rattle.dns_primary.specs.Step.{Event, Datagram, Connect, Arrives, Flush, Checkpoint, Pump, Closed, IsCheckpointed, IsBegun, IsUpdated, Effects, IsServed, IsArrived, IsConnected, Goes, Lacks, Step, takes_memory}
+use Rattle.dns_primary.specs.Step.{Event, Datagram, Connect, Arrives, Flush, Checkpoint, Pump, Closed, IsCheckpointed, IsUpdateBegun, IsUpdated, Effects, IsRequestHandled, IsArrived, IsConnected, Goes, Lacks, Step, takes_memory}
 use Rattle.dns_primary.specs.Connections.{closed}
 use Rattle.dns_primary.specs.Stop.{IsStopped}
 use Rattle.dns_primary.specs.Runs.{Moment, Took, Stopped, Run}
@@ -50,7 +50,7 @@ admitted_same : (m : Machine) (a : Asked) (d : Admission) → SameConnections m 
 admitted_same m a (Rejects rcode) = refl
 admitted_same m a (Admits place z) = judged_same m a place z (verdict (newest_zone (kept_of z)) a.message.answers a.message.authorities)
 
-begun_same : (fails : List Bool) (old : Machine) (lacked : Option (ℕ × ℕ)) (first : Effects) (mid : Machine) → IsBegun fails old lacked first mid → SameConnections old mid
+begun_same : (fails : List Bool) (old : Machine) (lacked : Option (ℕ × ℕ)) (first : Effects) (mid : Machine) → IsUpdateBegun fails old lacked first mid → SameConnections old mid
 begun_same fails old None first mid g =
     ap (λ (m : Machine). m.connections) (g.1).state ∙ tested (λ (r : Machine × List Sent). SameConnections old r.0) (is_full old) (flushed fails old, flush_sends fails old) (old, []) (λ _. refl) (λ _. refl)
 begun_same fails old (Some lacked) first mid g = ap (λ (m : Machine). m.connections) (g.3).is
@@ -118,7 +118,7 @@ module _ (number : ℕ) where
   starts old target peer octets message question (Err rcode) out new there o h = inl (same_by old new (ap (λ (m : Machine). m.connections) h.1))
 
   served : (fails : List Bool) (old : Machine) (target : To) (peer : Peer) (h : Handled) (effects : Effects) (new : Machine)
-      → ((n : ℕ) → target ≡ to.Connection n → peer_at n old.connections ≡ None → ⊥) → IsServed fails old target peer h effects new → Same old new ⊎ IsOpenedBy old target peer h new
+      → ((n : ℕ) → target ≡ to.Connection n → peer_at n old.connections ≡ None → ⊥) → IsRequestHandled fails old target peer h effects new → Same old new ⊎ IsOpenedBy old target peer h new
   served fails old target peer NoReply effects new there g = inl (same_by old new (ap (λ (m : Machine). m.connections) (g.1).state))
   served fails old target peer (Replies reply) effects new there g = inl (same_by old new (ap (λ (m : Machine). m.connections) (g.1).state))
   served fails old target peer (Update message question) effects new there g =
@@ -149,7 +149,7 @@ module _ (number : ℕ) where
     zone : ZoneState
     named : o ≡ Some zone
     allowed : zone.setting.may_transfer peer.address ≡ true
-    opened : IsOpened Tcp octets message question (version_of zone) t
+    opened : IsTransferOpened Tcp octets message question (version_of zone) t
 
   opened_zone : (old : Machine) (peer : Peer) (octets : List ℕ) (message : Message) (question : Question) (t : Sending) (o : Option ZoneState)
       → Opens Tcp octets message question (option_map version_of o) (may_have peer.address o && is_free (to.Connection number) old.connections) (Ok t)
@@ -162,7 +162,7 @@ module _ (number : ℕ) where
         named = refl;
         allowed = first_true (z.setting.may_transfer peer.address) (is_free (to.Connection number) old.connections)
             (allowed_of Tcp question (client_serial question message.authorities) true (z.setting.may_transfer peer.address && is_free (to.Connection number) old.connections) opens.0);
-        opened = subst (λ (v : Version). IsOpened Tcp octets message question v t) (sym same) opens.3;
+        opened = subst (λ (v : Version). IsTransferOpened Tcp octets message question v t) (sym same) opens.3;
       }
 
   same_octets : (zones : List Zone) (octets others : List ℕ) (message : Message) (question : Question) (r : request.Request) → handled_as zones octets Tcp r ≡ Transfer others message question → others ≡ octets
@@ -190,7 +190,7 @@ module _ (number : ℕ) where
         asks = o.asks ∙ ap (λ (x : List ℕ). Transfer x o.message o.question) same;
         named = z.named;
         allowed = z.allowed;
-        opened = subst (λ (x : Sending). IsOpened Tcp octets o.message o.question (version_of z.zone) x) is (subst (λ (x : List ℕ). IsOpened Tcp x o.message o.question (version_of z.zone) o.sending) same z.opened);
+        opened = subst (λ (x : Sending). IsTransferOpened Tcp octets o.message o.question (version_of z.zone) x) is (subst (λ (x : List ℕ). IsTransferOpened Tcp x o.message o.question (version_of z.zone) o.sending) same z.opened);
       }
 
   -- each event
@@ -330,7 +330,7 @@ module _ (number : ℕ) where
       (arrived fails old k (peer_at k old.connections) octets effects new refl g)
 
   datagram_opened : (fails : List Bool) (old : Machine) (peer : Peer) (octets : List ℕ) (effects : Effects) (new : Machine) (s : Sending) → sending_at number old.connections ≡ None → sending_at number new.connections ≡ Some s
-      → IsServed fails old (to.Address peer) peer (handled (shown_zones old) octets Udp) effects new → OpensOn old number (Datagram peer octets) s
+      → IsRequestHandled fails old (to.Address peer) peer (handled (shown_zones old) octets Udp) effects new → OpensOn old number (Datagram peer octets) s
   datagram_opened fails old peer octets effects new s none some g =
       ⊎_elim (λ same. is_new old new s none some same) (λ o. absurd (let clash : to.Address peer ≡ to.Connection number = o.here in cc))
       (served fails old (to.Address peer) peer (handled (shown_zones old) octets Udp) effects new (nowhere_there old peer) g)

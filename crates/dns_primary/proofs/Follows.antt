@@ -16,9 +16,9 @@ use Rattle.dns_primary.specs.Machine.{Setting, Made, ZoneState, Machine, kept_of
 use Rattle.dns_primary.specs.Flush.{Sent, rcode_servfail, flushed, flush_sends, flushed_zone, flushed_zones}
 use Rattle.dns_primary.specs.Update.{Asked, Admission, Rejects, Admits, admission, admission_at, admission_in, place_of, rcode_notauth, is_full, lacked_at, room_lacked}
 use Rattle.dns_primary.specs.Checkpoint.{rebased, IsMovedUnlessClosed, IsCheckpoint}
-use Rattle.dns_primary.specs.Step.{Effects, IsBegun}
+use Rattle.dns_primary.specs.Step.{Effects, IsUpdateBegun}
 use Rattle.dns_primary.specs.Outcome.{IsVerdictOf, lacked_of}
-use Rattle.dns_primary.specs.Queue.{HoldsStill, IsJudged}
+use Rattle.dns_primary.specs.Queue.{HoldsStill, IsUpdateJudged}
 use Rattle.dns_primary.proofs.Zonewise.{tested, pair_same, pair_on, pair_set, versions_joined}
 
 -- The same settings and the same newest version, and what was closed is closed.
@@ -73,7 +73,7 @@ checkpoint_follows place room old fails moving new made =
     (pair_on Follows follows_on old.zones zones (slice_set zones place made.next) (flushed_all fails old.zones)
     (pair_set Follows follows_itself zones place made.zone made.next made.stands (moved_follows moving room made.zone made.next made.moved)))
 
-pub begun_follows : (fails : List Bool) (old : Machine) (lacked : Option (ℕ × ℕ)) (effects : Effects) (mid : Machine) → IsBegun fails old lacked effects mid → Each2 Follows old.zones mid.zones
+pub begun_follows : (fails : List Bool) (old : Machine) (lacked : Option (ℕ × ℕ)) (effects : Effects) (mid : Machine) → IsUpdateBegun fails old lacked effects mid → Each2 Follows old.zones mid.zones
 begun_follows fails old None effects mid h =
     subst (λ (m : Machine). Each2 Follows old.zones m.zones) (sym (h.1).state)
     (tested (λ (p : Machine × List Sent). Each2 Follows old.zones (p.0).zones) (is_full old) (flushed fails old, flush_sends fails old) (old, [])
@@ -149,7 +149,7 @@ module _ (old mid : Machine) (a : Asked) (h : Each2 Follows old.zones mid.zones)
   pub still_rejected : (code : ℕ) → admission old.zones a ≡ Rejects code → admission mid.zones a ≡ Rejects code
   still_rejected code e = subst (λ (d : Admission). Goes mid.zones d (admission mid.zones a)) e (admission_goes old.zones mid.zones a h)
 
-  pub still_judged : {X : Type 0} (records : X → List Record) (place : ℕ) (j : Judgement X) → IsJudged records old a place j → HoldsStill records mid a place j
+  pub still_judged : {X : Type 0} (records : X → List Record) (place : ℕ) (j : Judgement X) → IsUpdateJudged records old a place j → HoldsStill records mid a place j
   still_judged records place j is =
       let g : StandsStill mid.zones place is.zone (admission mid.zones a) = subst (λ (d : Admission). Goes mid.zones d (admission mid.zones a)) is.admits (admission_goes old.zones mid.zones a h) in
       record {
@@ -163,6 +163,6 @@ module _ (old mid : Machine) (a : Asked) (h : Each2 Follows old.zones mid.zones)
 pub rejected_lacks : (old : Machine) (a : Asked) (code : ℕ) → admission old.zones a ≡ Rejects code → room_lacked old a ≡ None
 rejected_lacks old a code e = ap (lacked_at a) e
 
-pub judged_lacks : {X : Type 0} (records : X → List Record) (old : Machine) (a : Asked) (place : ℕ) (j : Judgement X) → IsJudged records old a place j
+pub judged_lacks : {X : Type 0} (records : X → List Record) (old : Machine) (a : Asked) (place : ℕ) (j : Judgement X) → IsUpdateJudged records old a place j
     → option_map (λ (sectors : ℕ). (place, sectors)) (lacked_of j) ≡ room_lacked old a
 judged_lacks records old a place j is = ap (λ (o : Option ℕ). option_map (λ (sectors : ℕ). (place, sectors)) o) is.lacks ∙ sym (ap (lacked_at a) is.admits)

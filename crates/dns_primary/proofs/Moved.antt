@@ -18,14 +18,14 @@ use Rattle.dns_held.specs.Each.{Each3}
 use Rattle.dns_held.specs.Held.{HasVersions}
 use Rattle.dns_held.specs.Flush as held
 use Rattle.dns_held.specs.Flush.{first_true, HasFailed, IsCounted, FailedWhere}
-use Rattle.dns_held.specs.Checkpoint.{IsNextBase}
+use Rattle.dns_held.specs.Checkpoint.{IsNextBaseNumber}
 use Rattle.dns_primary.specs.declared.event.Noted.{Noted}
 use Rattle.dns_primary.specs.declared.event.Noted.TheVariants.{OutOfMemory}
 use Rattle.dns_primary.specs.declared.event.Effects.{Effects}
 use Rattle.dns_primary.specs.declared.primary.Primary.{Primary}
 use Rattle.dns_primary.specs.Machine.{ZoneState, Made, Machine, kept_of}
 use Rattle.dns_primary.specs.Flush.{flushed, flush_sends, flushed_zone, flushed_zones}
-use Rattle.dns_primary.specs.Checkpoint.{rebased, IsMoved, IsMovedUnlessClosed, IsMovedBy, IsSettled, either_fails, first_of}
+use Rattle.dns_primary.specs.Checkpoint.{rebased, IsMoved, IsMovedUnlessClosed, IsMovedBy, IsSettled, either_fails, first_to_fail}
 use Rattle.dns_primary.specs.Step as machine
 use Rattle.dns_primary.specs.Step.{Step, noted_of, IsCheckpointed, Checkpoint, base_moved}
 use Rattle.dns_primary.specs.Keeps.{IsKept, AreEffects}
@@ -71,7 +71,7 @@ tip_moved (Some t) true base z is = is
 tip_moved (Some t) false base z is = is
 
 module _ {I S : Type 0} (keeps : S → Kept → Type 0) (zone : Zone) (b : Behind I S) (store : S) (z : ZoneState) (keep room : ℕ) (keep_is : keep ≡ z.setting.keep) (settled : IsSettled z) (h : HasVersions keeps zone b (kept_of z)) where
-  next_base : (d : ℕ) → IsKeptNumber (kept_of z) keep room d → IsNextBase z.setting.keep room (kept_of z) (length (kept_of z).shown - d)
+  next_base : (d : ℕ) → IsKeptNumber (kept_of z) keep room d → IsNextBaseNumber z.setting.keep room (kept_of z) (length (kept_of z).shown - d)
   next_base d number =
       subst (λ (j : Kept). (n : ℕ) × IsKeptNumber j z.setting.keep room n × (length (kept_of z).shown - d ≡ length j.shown - n)) (sym (settled_flushed z settled))
       (d, subst (λ (n : ℕ). IsKeptNumber (kept_of z) n room d) keep_is number, refl)
@@ -269,11 +269,11 @@ device_of (Err refused.ZoneTooLarge) e = absurd (cc e)
 device_of (Err refused.WrongChanges) e = absurd (cc e)
 device_of (Err refused.OutOfMemory) e = absurd (cc e)
 
-noted_first : (o : Option ℕ) (place : ℕ) → noted_of (first_of o true place) ≡ noted_then (noted_of o) place
+noted_first : (o : Option ℕ) (place : ℕ) → noted_of (first_to_fail o true place) ≡ noted_then (noted_of o) place
 noted_first None place = refl
 noted_first (Some n) place = refl
 
-noted_same : (o : Option ℕ) (place : ℕ) → noted_of (first_of o false place) ≡ noted_of o
+noted_same : (o : Option ℕ) (place : ℕ) → noted_of (first_to_fail o false place) ≡ noted_of o
 noted_same None place = refl
 noted_same (Some n) place = refl
 
@@ -300,7 +300,7 @@ module _ (m : Machine) (place : ℕ) (fails : List Bool) (z zf new : ZoneState) 
   abbrev pub stated : Noted → machine.Effects
   stated noted = record { sent = flush_sends fails m; accepted = None; noted = noted }
 
-  checkpointed : (room : ℕ) (moving : Bool) (noted : Noted) → IsMovedUnlessClosed moving room zf new → noted ≡ noted_of (first_of (first_true fails) moving place)
+  checkpointed : (room : ℕ) (moving : Bool) (noted : Noted) → IsMovedUnlessClosed moving room zf new → noted ≡ noted_of (first_to_fail (first_true fails) moving place)
       → IsBegunOrLacks m (Some (place, room)) (either_fails moving place fails) (stated noted) next
   checkpointed room moving noted moved noted_is =
       inl (fails, moving, refl, record { all = long; zone = zf; stands = stands; next = new; moved = moved; is = refl }, record { sent = refl; accepted = refl; noted = noted_is })

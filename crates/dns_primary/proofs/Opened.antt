@@ -8,7 +8,7 @@ use Rattle.dns_sectors.specs.declared.device.Sectors.{Ghosts}
 use Rattle.dns_sectors.proofs.Moments.{weaker, started}
 use Rattle.dns_store.specs.Versions.{Shape, Kept, opened_again}
 use Rattle.dns_store.specs.Opens.{opens, fresh}
-use Rattle.dns_store.specs.Opening.{IsStopped, MayOpen, OpensAsPossible, StopsPossible, keeps}
+use Rattle.dns_store.specs.Opening.{IsNotReopened, MayOpen, OpensAsPossible, StopsPossible, keeps}
 use Rattle.dns_store.specs.declared.kept_store.KeptStore.{KeptStore}
 use Rattle.dns_store.specs.declared.root.OpenError.{OpenError}
 use Rattle.dns_store.specs.declared.root.OpenError.TheVariants.{OutOfMemory}
@@ -18,7 +18,7 @@ use Rattle.dns_held.specs.Held.{HasVersions}
 use Rattle.dns_primary.specs.declared.primary.ZoneSettings.{ZoneSettings}
 use Rattle.dns_primary.specs.Machine.{Setting, ZoneState, Machine, kept_of, versions_of}
 use Rattle.dns_primary.specs.Step.{Event}
-use Rattle.dns_primary.specs.Stop.{IsMaking, IsRecovered, AreRecovered, OpensAsRecovered, opened_of}
+use Rattle.dns_primary.specs.Stop.{IsMaking, IsRecovered, AreRecovered, OpensAsRecovered, reopened_as}
 use Rattle.dns_primary.specs.Keeps.{HaveVersions, IsSet}
 use Rattle.dns_primary.specs.Open.{shape_of, device_behind, StaysPossible, IsOpened, IsNotOpened, AreOpened, AreHandedBack, AreRefused, IsRecoverable, AreRecoverable, LeaveRecovered, IsRecoveryStopped}
 
@@ -91,7 +91,7 @@ module _ {D : Type 0} {g : Ghosts D} (tries : ℕ) (making : ℕ → Type 0) (z 
   pub may_open : MayOpen g (shape_of a s) d
   may_open c left =
       let there = is.leaves c left in
-      (opened_of there.0, subst (λ (x : Shape). opens x (opened_of there.0) c) (shape_is 0 tries there.0 there.1) there.2)
+      (reopened_as there.0, subst (λ (x : Shape). opens x (reopened_as there.0) c) (shape_is 0 tries there.0 there.1) there.2)
 
   -- the zone, opened once more
   abbrev again : ZoneState → ZoneState
@@ -136,9 +136,9 @@ module _ {D : Type 0} {g : Ghosts D} (tries : ℕ) (making : ℕ → Type 0) (z 
       let there = is.leaves possible.0 possible.1 in
       let w = there.0 in
       let same = shape_is 0 tries w there.1 in
-      elim (possible.2 (opened_of w) (subst (λ (x : Shape). opens x (opened_of w) possible.0) same there.2)) [
-        | inl now ↦ (w, at_most_more w there.1, subst (λ (x : Shape). opens x (opened_of w) c) (sym same) now)
-        | inr now ↦ (again w, once_more 0 (omega arith) w there.1, subst (λ (x : Shape). opens x (opened_of (again w)) c) (sym same) now)
+      elim (possible.2 (reopened_as w) (subst (λ (x : Shape). opens x (reopened_as w) possible.0) same there.2)) [
+        | inl now ↦ (w, at_most_more w there.1, subst (λ (x : Shape). opens x (reopened_as w) c) (sym same) now)
+        | inr now ↦ (again w, once_more 0 (omega arith) w there.1, subst (λ (x : Shape). opens x (reopened_as (again w)) c) (sym same) now)
       ]
 
   pub leaves_recovered : (e : D) → StaysPossible g a s d e → LeavesOnly g.moment g.left_since d e (OpensAsRecovered opens (suc tries) making z)
@@ -167,19 +167,19 @@ module _ {D : Type 0} {g : Ghosts D} (tries : ℕ) (making : ℕ → Type 0) (z 
         }
 
   -- why it was not opened, by how often the machine says that it was
-  pub stopped_by : (error : OpenError) → StopsPossible g (shape_of a s) d error → IsStopped (z.openings + tries) error
+  pub stopped_by : (error : OpenError) → StopsPossible g (shape_of a s) d error → IsNotReopened (z.openings + tries) error
   stopped_by error stops =
       let there = is.leaves stops.0 stops.1 in
       let w = there.0 in
       let most = (there.1).at_most in
-      by w.openings most (stops.2 (opened_of w) (subst (λ (x : Shape). opens x (opened_of w) stops.0) (shape_is 0 tries w there.1) there.2))
+      by w.openings most (stops.2 (reopened_as w) (subst (λ (x : Shape). opens x (reopened_as w) stops.0) (shape_is 0 tries w there.1) there.2))
     where
-      by : (n : ℕ) → n ≤ z.openings + tries → IsStopped n error → IsStopped (z.openings + tries) error
+      by : (n : ℕ) → n ≤ z.openings + tries → IsNotReopened n error → IsNotReopened (z.openings + tries) error
       by n most (inl device) = inl device
       by n most (inr (inl memory)) = inr (inl memory)
       by n most (inr (inr often)) = inr (inr (often.0, (let limit = often.1 in omega (arith, limit, most))))
 
-  kept_fresh : (w : ZoneState) → IsRecovered 0 tries making z w → kept_of (again w) ≡ fresh (shape_of a s) (opened_again (opened_of w))
+  kept_fresh : (w : ZoneState) → IsRecovered 0 tries making z w → kept_of (again w) ≡ fresh (shape_of a s) (opened_again (reopened_as w))
   kept_fresh w r = λ i. record {
     shape = shape_is 0 tries w r i;
     loaded = w.loaded;
@@ -207,7 +207,7 @@ module _ {D : Type 0} {g : Ghosts D} (tries : ℕ) (making : ℕ → Type 0) (z 
   reopened {I} zone b opened =
       let takes = opened.takes is.honest is.range may_open in
       let there = is.leaves takes.0 takes.1 in
-      let held = takes.2 (opened_of there.0) (subst (λ (x : Shape). opens x (opened_of there.0) takes.0) (shape_is 0 tries there.0 there.1) there.2) in
+      let held = takes.2 (reopened_as there.0) (subst (λ (x : Shape). opens x (reopened_as there.0) takes.0) (shape_is 0 tries there.0 there.1) there.2) in
       record {
         state = again there.0;
         recovered = once_more 1 (omega arith) there.0 there.1;

@@ -21,7 +21,7 @@ use Rattle.dns_primary.specs.Machine.{ZoneState, Waits, Machine, kept_of, update
 use Rattle.dns_primary.specs.Flush.{Sent, Replied, rcode_servfail, flushed, flush_sends}
 use Rattle.dns_primary.specs.Connections.{connected, closed, without_connection}
 use Rattle.dns_primary.specs.Update.{Asked, Admission, Rejects, Admits, rcode_notauth, place_of, admission_in, admission_at, admission, waits, stages, replies, accepted_in, judged_in, admitted, is_full, made_place, answer, room_lacked}
-use Rattle.dns_primary.specs.Step.{Event, Datagram, Connect, Arrives, Flush, Checkpoint, Pump, Closed, IsCheckpointed, IsBegun, IsUpdated, Effects, AreFailures, Gives, IsServed, IsArrived, Goes, Lacks, Step, is_asking, failure, failure_on, failures}
+use Rattle.dns_primary.specs.Step.{Event, Datagram, Connect, Arrives, Flush, Checkpoint, Pump, Closed, IsCheckpointed, IsUpdateBegun, IsUpdated, Effects, AreFailures, GivesEffects, IsRequestHandled, IsArrived, Goes, Lacks, Step, is_asking, failure, failure_on, failures}
 use Rattle.dns_primary.specs.Checkpoint.{rebased, IsMovedUnlessClosed}
 use Rattle.dns_primary.specs.Runs.{Lasts, AllLast, IsTrueIn, HasHistory}
 use Rattle.dns_primary.proofs.Quiet.{IsQuiet, transferred_quiet, pumped_quiet, replies_all}
@@ -93,7 +93,7 @@ place_preserves fails m f s =
 reaches : (old new next : Machine) (sent out : List Sent) → new ≡ next → sent ≡ out → Preserves old next out → Preserves old new sent
 reaches old new next sent out e f p = subst (λ m. Preserves old m sent) (sym e) (subst (λ xs. Preserves old next xs) (sym f) p)
 
-given : (old : Machine) (effects : Effects) (new next : Machine) (out : List Sent) (fails : List Bool) → Gives effects new next out fails → Preserves old next out → Preserves old new effects.sent
+given : (old : Machine) (effects : Effects) (new next : Machine) (out : List Sent) (fails : List Bool) → GivesEffects effects new next out fails → Preserves old next out → Preserves old new effects.sent
 given old effects new next out fails g p = reaches old new next effects.sent out g.state g.sent p
 
 -- a zone whose base is moved
@@ -133,7 +133,7 @@ moved_preserves fails old place z w s e same = record {
 }
 
 -- what comes before an update is answered
-begun_preserves : (fails : List Bool) (old : Machine) (lacked : Option (ℕ × ℕ)) (first : Effects) (mid : Machine) → IsSound old → IsBegun fails old lacked first mid → Preserves old mid first.sent
+begun_preserves : (fails : List Bool) (old : Machine) (lacked : Option (ℕ × ℕ)) (first : Effects) (mid : Machine) → IsSound old → IsUpdateBegun fails old lacked first mid → Preserves old mid first.sent
 begun_preserves fails old None first mid s g = given old first mid (made_place fails old).0 (made_place fails old).1 fails g.1 (place_preserves fails old g.0 s)
 begun_preserves fails old (Some lacked) first mid s g =
     let flushing = g.0 in
@@ -184,7 +184,7 @@ quiet_preserves old new sent s q = record {
   good = replies_all (IsTrueIn new.zones) (λ to octets. tt) sent q.replies;
 }
 
-served_goes : (fails : List Bool) (old : Machine) (to : To) (peer : Peer) (h : Handled) (effects : Effects) (new : Machine) → IsSound old → IsServed fails old to peer h effects new → Preserves old new effects.sent
+served_goes : (fails : List Bool) (old : Machine) (to : To) (peer : Peer) (h : Handled) (effects : Effects) (new : Machine) → IsSound old → IsRequestHandled fails old to peer h effects new → Preserves old new effects.sent
 served_goes fails old to peer NoReply effects new s g = given old effects new old [] [] g.1 (stays old s)
 served_goes fails old to peer (Replies reply) effects new s g = given old effects new old _ [] g.1 (with_reply old old [] to reply (stays old s))
 served_goes fails old to peer (Update message question) effects new s g =

@@ -25,7 +25,7 @@ use Rattle.dns_primary.specs.Flush.{Sent, rcode_servfail}
 use Rattle.dns_primary.specs.Update.{Asked, waits, stages, replies, with_staged, judged_in}
 use Rattle.dns_primary.specs.Outcome.{Ends, end_of}
 use Rattle.dns_primary.specs.Keeps.{IsSet, IsWaiting}
-use Rattle.dns_primary.specs.Queue.{Holds}
+use Rattle.dns_primary.specs.Queue.{HoldsZones}
 use Rattle.dns_primary.proofs.Places.{set_same, map_set, map_get, at3, mid_set, right_set, push2}
 
 pub kept_staged : (made : Made) (z : ZoneState) → kept_of (with_staged made z) ≡ staged_with made.records (kept_of z)
@@ -93,13 +93,13 @@ module _ (m : Machine) (a : Asked) (place : ℕ) (z : ZoneState) (there : slice_
   ends_at_once v rcode e = subst (λ (o : Outcome). EndsAs m a place z o (end_of (kept_of z) v).versions (judged_in m a place z v)) (sym e) (ends_as v)
 
 module _ {I S : Type 0} (keeps : S → Kept → Type 0) (zones : List Zone) (behind : List (Behind I S)) (settings : List ZoneSettings) (waiting : List Waiting) (m : Machine) (place : ℕ) (z : ZoneState) where
-  pub was_held : (d : Zone) (e : Behind I S) → Holds keeps zones behind settings waiting m.connections m → slice_get m.zones place ≡ Some z
+  pub was_held : (d : Zone) (e : Behind I S) → HoldsZones keeps zones behind settings waiting m.connections m → slice_get m.zones place ≡ Some z
       → HasVersions keeps (slice_index_or zones place d) (slice_index_or behind place e) (kept_of z)
   was_held d e held there = at3 (λ (z : Zone) (b : Behind I S) (k : Kept). HasVersions keeps z b k) zones behind (map kept_of m.zones) place d e (kept_of z) held.zones_are (map_get kept_of m.zones place z there)
 
   -- the machine stays, and what stands behind the zone keeps the same versions
-  pub still_holds : (d : Zone) (new : Behind I S) → Holds keeps zones behind settings waiting m.connections m → slice_get m.zones place ≡ Some z
-      → HasVersions keeps (slice_index_or zones place d) new (kept_of z) → Holds keeps zones (slice_set behind place new) settings waiting m.connections m
+  pub still_holds : (d : Zone) (new : Behind I S) → HoldsZones keeps zones behind settings waiting m.connections m → slice_get m.zones place ≡ Some z
+      → HasVersions keeps (slice_index_or zones place d) new (kept_of z) → HoldsZones keeps zones (slice_set behind place new) settings waiting m.connections m
   still_holds d new held there one = record {
     zones_are =
         subst (λ (ks : List Kept). Each3 (λ (z : Zone) (b : Behind I S) (k : Kept). HasVersions keeps z b k) zones (slice_set behind place new) ks) (set_same (map kept_of m.zones) place (kept_of z) (map_get kept_of m.zones place z there))
@@ -110,14 +110,14 @@ module _ {I S : Type 0} (keeps : S → Kept → Type 0) (zones : List Zone) (beh
   }
 
   -- one reply more waits, and the zone has other versions
-  pub holds_more : (d : Zone) (new : Behind I S) (a : Asked) (rcode : Rcode) (versions : Kept) (ended : Machine × List Sent) (one : Waiting) → Holds keeps zones behind settings waiting m.connections m → slice_get m.zones place ≡ Some z
+  pub holds_more : (d : Zone) (new : Behind I S) (a : Asked) (rcode : Rcode) (versions : Kept) (ended : Machine × List Sent) (one : Waiting) → HoldsZones keeps zones behind settings waiting m.connections m → slice_get m.zones place ≡ Some z
       → Waited m a place z rcode versions ended → HasVersions keeps (slice_index_or zones place d) new versions
       → one.to ≡ a.to → header_of one.request ≡ a.message.header → one.rcode ≡ rcode → one.zone ≡ place
-      → (ended.1 ≡ []) × Holds keeps zones (slice_set behind place new) settings (waiting ++ one ∷ []) m.connections ended.0
+      → (ended.1 ≡ []) × HoldsZones keeps zones (slice_set behind place new) settings (waiting ++ one ∷ []) m.connections ended.0
   holds_more d new a rcode versions ended one held there w is to_is header_is rcode_is zone_is =
       let after : Machine = waits (record m { zones = slice_set m.zones place w.zone }) a place (number_of_rcode rcode) w.updates in
       let behind_is : HasVersions keeps (slice_index_or zones place d) new (kept_of w.zone) = subst (λ (k : Kept). HasVersions keeps (slice_index_or zones place d) new k) (sym w.versions_are) is in
-      let holds : Holds keeps zones (slice_set behind place new) settings (waiting ++ one ∷ []) m.connections after = record {
+      let holds : HoldsZones keeps zones (slice_set behind place new) settings (waiting ++ one ∷ []) m.connections after = record {
         zones_are =
             subst (λ (ks : List Kept). Each3 (λ (z : Zone) (b : Behind I S) (k : Kept). HasVersions keeps z b k) zones (slice_set behind place new) ks) (sym (map_set kept_of m.zones place w.zone))
             (mid_set (λ (z : Zone) (b : Behind I S) (k : Kept). HasVersions keeps z b k) zones behind (map kept_of m.zones) place d new (kept_of w.zone) held.zones_are behind_is);
@@ -127,7 +127,7 @@ module _ {I S : Type 0} (keeps : S → Kept → Type 0) (zones : List Zone) (beh
             (record { to = to_is; header = header_is; rcode = ap number_of_rcode rcode_is; zone = zone_is });
         connections_are = held.connections_are;
       } in
-      (ap (λ (p : Machine × List Sent). p.1) w.ended_is, subst (λ (p : Machine × List Sent). Holds keeps zones (slice_set behind place new) settings (waiting ++ one ∷ []) m.connections p.0) (sym w.ended_is) holds)
+      (ap (λ (p : Machine × List Sent). p.1) w.ended_is, subst (λ (p : Machine × List Sent). HoldsZones keeps zones (slice_set behind place new) settings (waiting ++ one ∷ []) m.connections p.0) (sym w.ended_is) holds)
 
 -- a zone is closed or not
 pub by_state : {R : Type 0} (z : ZoneState) → (z.closed ≡ true → R) → (z.closed ≡ false → R) → R

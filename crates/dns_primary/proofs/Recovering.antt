@@ -8,7 +8,7 @@ use Rattle.dns_held.specs.Flush.{flushed, is_none_staged}
 use Rattle.dns_held.specs.Checkpoint.{OpensAsCheckpointed}
 use Rattle.dns_primary.specs.Machine.{Made, ZoneState, Machine, kept_of, versions_of}
 use Rattle.dns_primary.specs.Step.{Event}
-use Rattle.dns_primary.specs.Stop.{Checkpoints, IsMaking, OpensAsRecovered, opened_of}
+use Rattle.dns_primary.specs.Stop.{Checkpoints, IsMaking, OpensAsRecovered, reopened_as}
 use Rattle.dns_primary.proofs.Zonewise.{tested, versions_joined}
 
 -- the updates whose versions are the first of some
@@ -34,7 +34,7 @@ recovered_as making z o kept lost c loaded openings front versions base is =
     let split = split_made z.staged kept lost front in
     let w : ZoneState = record { setting = z.setting; loaded = z.loaded; shown = z.shown ++ split.0; staged = []; base = o.base; second = None; openings = o.openings; closed = false } in
     let joined : o.versions ≡ versions_of (z.shown ++ split.0) = versions ∙ ap (λ (vs : Versions). versions_of z.shown ++ vs) (sym split.3) ∙ sym (versions_joined z.shown split.0) in
-    let same : o ≡ opened_of w = λ i. record { loaded = loaded i; versions = joined i; base = o.base; openings = o.openings } in
+    let same : o ≡ reopened_as w = λ i. record { loaded = loaded i; versions = joined i; base = o.base; openings = o.openings } in
     let long : length o.versions ≡ length (z.shown ++ split.0) = ap (λ (vs : Versions). length vs) joined ∙ length-map (z.shown ++ split.0) (λ (m : Made). m.records) in (
       w,
       record {

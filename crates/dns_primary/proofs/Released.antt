@@ -19,7 +19,7 @@ use Rattle.dns_primary.specs.Machine.{Made, ZoneState, Waits, Machine, kept_of, 
 use Rattle.dns_primary.specs.Flush.{Sent, Replied, rcode_servfail, flushed, flush_sends, flushed_zones, released, is_closed_in, is_none_made}
 use Rattle.dns_primary.specs.Checkpoint.{IsMovedUnlessClosed}
 use Rattle.dns_primary.specs.Update.{Asked, Admission, Rejects, Admits, admission, waits, stages, with_staged, replies, accepted_in, judged_in, admitted, is_full, made_place, answer, room_lacked}
-use Rattle.dns_primary.specs.Step.{Event, Datagram, Connect, Arrives, Flush, Checkpoint, Pump, Closed, IsCheckpointed, IsBegun, IsUpdated, Effects, IsServed, IsArrived, Goes, Lacks, Step, is_asking, failure, failure_on, failures}
+use Rattle.dns_primary.specs.Step.{Event, Datagram, Connect, Arrives, Flush, Checkpoint, Pump, Closed, IsCheckpointed, IsUpdateBegun, IsUpdated, Effects, IsRequestHandled, IsArrived, Goes, Lacks, Step, is_asking, failure, failure_on, failures}
 use Rattle.dns_primary.specs.Runs.{IsReleasedFrom}
 use Rattle.dns_primary.proofs.Quiet.{transferred_quiet, pumped_quiet, replies_all}
 use Rattle.dns_primary.proofs.Zonewise.{tested}
@@ -139,7 +139,7 @@ placed_so fails m new alike =
     (λ _. λ same. tt)
     alike
 
-begun_so : (fails : List Bool) (m : Machine) (lacked : Option (ℕ × ℕ)) (first : Effects) (mid new : Machine) → IsBegun fails m lacked first mid → AreClosedAlike mid.zones new.zones → Releases m new first.sent
+begun_so : (fails : List Bool) (m : Machine) (lacked : Option (ℕ × ℕ)) (first : Effects) (mid new : Machine) → IsUpdateBegun fails m lacked first mid → AreClosedAlike mid.zones new.zones → Releases m new first.sent
 begun_so fails m None first mid new g alike =
     subst (λ (xs : List Sent). Releases m new xs) (sym (g.1).sent) (placed_so fails m new (subst (λ (x : Machine). AreClosedAlike x.zones new.zones) (g.1).state alike))
 begun_so fails m (Some lacked) first mid new g alike =
@@ -157,7 +157,7 @@ update_releases fails m a effects new u =
     reaches m new ended.0 effects.sent ((u.first).sent ++ ended.1) u.state u.sent
     (all_with (IsReleasedFrom m ended.0) (u.first).sent ended.1 (begun_so fails m (room_lacked m a) u.first u.mid ended.0 u.begun so.alike) (so.sent m))
 
-served_releases : (fails : List Bool) (old : Machine) (to : To) (peer : Peer) (h : Handled) (effects : Effects) (new : Machine) → IsServed fails old to peer h effects new → Releases old new effects.sent
+served_releases : (fails : List Bool) (old : Machine) (to : To) (peer : Peer) (h : Handled) (effects : Effects) (new : Machine) → IsRequestHandled fails old to peer h effects new → Releases old new effects.sent
 served_releases fails old to peer NoReply effects new g = reaches old new old effects.sent [] (g.1).state (g.1).sent tt
 served_releases fails old to peer (Replies reply) effects new g = reaches old new old effects.sent _ (g.1).state (g.1).sent (tt, tt)
 served_releases fails old to peer (Update message question) effects new g =

@@ -17,7 +17,7 @@ use Rattle.dns_store.specs.Room.{entry_between, entries_along, sectors_left}
 use Rattle.dns_store.specs.Checkpoint.{IsKeptNumber, sectors_of_snapshot}
 use Rattle.dns_store.proofs.Sizes.{room_left}
 use Rattle.dns_held.specs.Each.{Each2, Each3}
-use Rattle.dns_held.specs.Checkpoint.{IsNextBase}
+use Rattle.dns_held.specs.Checkpoint.{IsNextBaseNumber}
 use Rattle.dns_held.specs.Held.{newest_zone}
 use Rattle.dns_held.specs.Staging.{has_room, lacks_room, sectors_lacked}
 use Rattle.dns_primary.specs.declared.primary.ZoneSettings.{ZoneSettings}
@@ -25,7 +25,7 @@ use Rattle.dns_primary.specs.Machine.{Setting, Made, ZoneState, Machine, kept_of
 use Rattle.dns_primary.specs.Flush.{Sent, is_none_made, flushed, flushed_zone, flushed_zones, flush_sends, rcode_servfail}
 use Rattle.dns_primary.specs.Update.{Asked, Admission, Rejects, Admits, admission, is_full, made_place, lacked_at, lacked_by, room_lacked}
 use Rattle.dns_primary.specs.Checkpoint.{rebased, IsMovedUnlessClosed, IsCheckpoint, IsSettled}
-use Rattle.dns_primary.specs.Step.{Effects, IsBegun}
+use Rattle.dns_primary.specs.Step.{Effects, IsUpdateBegun}
 use Rattle.dns_primary.specs.Causes.{LacksRoom}
 use Rattle.dns_primary.specs.Rooms.{IsRebased, HasNoRoom}
 use Rattle.dns_primary.specs.Fresh.{IsFresh, IsResumed, IsStart, FitLoaded}
@@ -171,7 +171,7 @@ all_counted [] zones = pair_same Counted (λ z. refl) zones
 all_counted (f ∷ fails) [] = tt
 all_counted (f ∷ fails) (z ∷ zones) = ((flushed_alike f z).number, all_counted fails zones)
 
-begun_counted : (fails : List Bool) (old : Machine) (lacked : Option (ℕ × ℕ)) (first : Effects) (mid : Machine) → IsBegun fails old lacked first mid → Each2 Counted old.zones mid.zones
+begun_counted : (fails : List Bool) (old : Machine) (lacked : Option (ℕ × ℕ)) (first : Effects) (mid : Machine) → IsUpdateBegun fails old lacked first mid → Each2 Counted old.zones mid.zones
 begun_counted fails old None first mid h =
     subst (λ (m : Machine). Each2 Counted old.zones m.zones) (sym (h.1).state)
     (tested (λ (p : Machine × List Sent). Each2 Counted old.zones (p.0).zones) (is_full old) (flushed fails old, flush_sends fails old) (old, [])
@@ -284,7 +284,7 @@ abbrev lacking : ℕ → Option ℕ → Option (ℕ × ℕ)
 lacking place lacked = option_map (λ (sectors : ℕ). (place, sectors)) lacked
 
 left_behind : (fails : List Bool) (old : Machine) (first : Effects) (mid : Machine) (place : ℕ) (z w : ZoneState) (records : List Record) → IsRoomy old
-    → IsBegun fails old (lacking place (sectors_lacked (kept_of z) records)) first mid
+    → IsUpdateBegun fails old (lacking place (sectors_lacked (kept_of z) records)) first mid
     → slice_get old.zones place ≡ Some z → slice_get mid.zones place ≡ Some w → w.closed ≡ false → has_room (kept_of z) records ≡ true
     → entry_between (newest_of (kept_of z)) records ≤ sectors_left (kept_of w)
 left_behind fails old first mid place z w records roomy begun there here opened room =
@@ -292,9 +292,9 @@ left_behind fails old first mid place z w records roomy begun there here opened 
     let entry = entry_between (newest_of k) records in
     let less = nat_lt (sectors_left k) entry in
     ⊎_elim
-    (λ is. (let b : IsBegun fails old (Some (place, entry)) first mid = subst (λ (o : Option ℕ). IsBegun fails old (lacking place o) first mid) (lacks_then (has_room k records) less entry room is) begun in
+    (λ is. (let b : IsUpdateBegun fails old (Some (place, entry)) first mid = subst (λ (o : Option ℕ). IsUpdateBegun fails old (lacking place o) first mid) (lacks_then (has_room k records) less entry room is) begun in
     checkpoint_room old place entry b.0 b.1 mid z w roomy b.3 there here (entry_within k records room) opened))
-    (λ is. (let b : IsBegun fails old None first mid = subst (λ (o : Option ℕ). IsBegun fails old (lacking place o) first mid) (lacks_not (has_room k records) less entry is) begun in
+    (λ is. (let b : IsUpdateBegun fails old None first mid = subst (λ (o : Option ℕ). IsUpdateBegun fails old (lacking place o) first mid) (lacks_not (has_room k records) less entry is) begun in
     let same = place_left old fails mid place z w (b.1).state there here in
     let le : entry ≤ sectors_left k = not_less (sectors_left k) entry is in
     omega (arith, le, same)))
@@ -314,7 +314,7 @@ refuted : (b : Bool) → (b ≡ true → ⊥) → b ≡ false
 refuted true denied = absurd (denied refl)
 refuted false denied = refl
 
-module _ (fails : List Bool) (old : Machine) (a : Asked) (first : Effects) (mid : Machine) (roomy : IsRoomy old) (begun : IsBegun fails old (room_lacked old a) first mid) (l : LacksRoom mid a) where
+module _ (fails : List Bool) (old : Machine) (a : Asked) (first : Effects) (mid : Machine) (roomy : IsRoomy old) (begun : IsUpdateBegun fails old (room_lacked old a) first mid) (l : LacksRoom mid a) where
   abbrev judged : ZoneState → Verdict
   judged z = verdict (newest_zone (kept_of z)) a.message.answers a.message.authorities
 
@@ -331,7 +331,7 @@ module _ (fails : List Bool) (old : Machine) (a : Asked) (first : Effects) (mid 
       let verdict_before : judged z ≡ Leaves l.records = ap (λ (x : Zone). verdict x a.message.answers a.message.authorities) (sym follows.newest) ∙ l.leaves in
       let lacked : room_lacked old a ≡ lacking place (sectors_lacked (kept_of z) l.records) =
       ap (lacked_at a) admits ∙ ap (λ (v : Verdict). lacking place (lacked_by (kept_of z) v)) verdict_before in
-      let left = left_behind fails old first mid place z l.zone l.records roomy (subst (λ (o : Option (ℕ × ℕ)). IsBegun fails old o first mid) lacked begun) there here
+      let left = left_behind fails old first mid place z l.zone l.records roomy (subst (λ (o : Option (ℕ × ℕ)). IsUpdateBegun fails old o first mid) lacked begun) there here
       (ap (λ (x : ZoneState). x.closed) (sym zone) ∙ is_open) room_before in
       let entry = entry_same z l.zone l.records follows in
       let over : nat_le (entry_between (newest_of (kept_of l.zone)) l.records) (sectors_left (kept_of l.zone)) ≡ false = second_false (has_room (kept_of l.zone) l.records) _ room l.room in
@@ -354,5 +354,5 @@ module _ (fails : List Bool) (old : Machine) (a : Asked) (first : Effects) (mid 
 
 pub run_leaves : (start : Machine) (run : List Moment) (fails : List Bool) (a : Asked) (first : Effects) (mid : Machine)
     → IsStart start → FitLoaded start → Run start run
-    → IsBegun fails (last_of start run) (room_lacked (last_of start run) a) first mid → LacksRoom mid a → HasNoRoom mid a
+    → IsUpdateBegun fails (last_of start run) (room_lacked (last_of start run) a) first mid → LacksRoom mid a → HasNoRoom mid a
 run_leaves start run fails a first mid begins fits r begun l = none_by_rules fails (last_of start run) a first mid (run_roomy start run begins fits r) begun l

@@ -30,7 +30,7 @@ use Rattle.dns_primary.specs.Machine.{ZoneState, Machine, kept_of, shown_zones}
 use Rattle.dns_primary.specs.Flush.{Sent, Replied, flushed, flush_sends, rcode_servfail}
 use Rattle.dns_primary.specs.Update.{Asked, answer, is_full, made_place, replies, room_lacked}
 use Rattle.dns_primary.specs.Step as machine
-use Rattle.dns_primary.specs.Step.{AreFailures, Gives, IsBegun, IsServed, failure, is_asking, is_update, request_lacks}
+use Rattle.dns_primary.specs.Step.{AreFailures, GivesEffects, IsUpdateBegun, IsRequestHandled, failure, is_asking, is_update, request_lacks}
 use Rattle.dns_primary.specs.Keeps.{HaveVersions, IsKept, AreEffects}
 use Rattle.dns_primary.specs.Queue.{IsAnswered, IsUntouched}
 use Rattle.dns_primary.specs.Steps.{AtAnyMoment, Stepped, nothing, one_reply, answered_with, IsBegunOrLacks, LacksUpdate, IsUpdatedOrLacks, LacksRequest, IsServedOrLacks, LacksAlone, IsTransferredOrLacks}
@@ -101,19 +101,19 @@ full_place old fails e = tested (is_full old) (flushed fails old, flush_sends fa
 free_place : (old : Machine) (fails : List Bool) → is_full old ≡ false → made_place fails old ≡ (old, [])
 free_place old fails e = untested (is_full old) (flushed fails old, flush_sends fails old) (old, []) e
 
-pub placed_full : (old : Machine) (fails : List Bool) (stated : machine.Effects) (mid : Machine) → is_full old ≡ true → AreFailures true old fails × Gives stated mid (flushed fails old) (flush_sends fails old) fails → IsBegun fails old None stated mid
+pub placed_full : (old : Machine) (fails : List Bool) (stated : machine.Effects) (mid : Machine) → is_full old ≡ true → AreFailures true old fails × GivesEffects stated mid (flushed fails old) (flush_sends fails old) fails → IsUpdateBegun fails old None stated mid
 placed_full old fails stated mid full h = (
   subst (λ (b : Bool). AreFailures b old fails) (sym full) h.0,
-  subst (λ (p : Machine × List Sent). Gives stated mid p.0 p.1 fails) (sym (full_place old fails full)) h.1,
+  subst (λ (p : Machine × List Sent). GivesEffects stated mid p.0 p.1 fails) (sym (full_place old fails full)) h.1,
 )
 
-pub placed_free : (old : Machine) → is_full old ≡ false → IsBegun [] old None nothing old
+pub placed_free : (old : Machine) → is_full old ≡ false → IsUpdateBegun [] old None nothing old
 placed_free old free = (
   subst (λ (b : Bool). AreFailures b old []) (sym free) refl,
-  subst (λ (p : Machine × List Sent). Gives nothing old p.0 p.1 []) (sym (free_place old [] free)) (record { state = refl; sent = refl; accepted = refl; noted = refl }),
+  subst (λ (p : Machine × List Sent). GivesEffects nothing old p.0 p.1 []) (sym (free_place old [] free)) (record { state = refl; sent = refl; accepted = refl; noted = refl }),
 )
 
-lacks_by : (b : Bool) (old mid : Machine) (a : Asked) (fails : List Bool) (stated : machine.Effects) → is_full old ≡ b → IsBegun fails old None stated mid
+lacks_by : (b : Bool) (old mid : Machine) (a : Asked) (fails : List Bool) (stated : machine.Effects) → is_full old ≡ b → IsUpdateBegun fails old None stated mid
     → LacksUpdate fails old a (record stated { sent = stated.sent ++ replies a rcode_servfail ∷ []; noted = OutOfMemory }) mid
 lacks_by true old mid a fails stated is h = record {
   noted = refl;
@@ -140,7 +140,7 @@ lacks_by false old mid a fails stated is h = record {
 }
 
 -- memory was refused behind what came first
-pub lacks_behind : (o : Option (ℕ × ℕ)) (old mid : Machine) (a : Asked) (fails : List Bool) (stated : machine.Effects) → room_lacked old a ≡ o → IsBegun fails old o stated mid
+pub lacks_behind : (o : Option (ℕ × ℕ)) (old mid : Machine) (a : Asked) (fails : List Bool) (stated : machine.Effects) → room_lacked old a ≡ o → IsUpdateBegun fails old o stated mid
     → LacksUpdate fails old a (record stated { sent = stated.sent ++ replies a rcode_servfail ∷ []; noted = OutOfMemory }) mid
 lacks_behind None old mid a fails stated is h = lacks_by (is_full old) old mid a fails stated refl h
 lacks_behind (Some lacked) old mid a fails stated is h = record {
@@ -168,7 +168,7 @@ pub record Answers (held : Machine → Type 0) (old : Machine) (a : Asked) (fail
   pub is : IsUpdatedOrLacks old a fails effects next
   pub kept : held next
 
-pub answered : (held : Machine → Type 0) (old mid : Machine) (a : Asked) (fails : List Bool) (stated : machine.Effects) (o : Outcome) → IsBegun fails old (room_lacked old a) stated mid → IsAnswered held mid a (answer mid a) o
+pub answered : (held : Machine → Type 0) (old mid : Machine) (a : Asked) (fails : List Bool) (stated : machine.Effects) (o : Outcome) → IsUpdateBegun fails old (room_lacked old a) stated mid → IsAnswered held mid a (answer mid a) o
     → Answers held old a fails (answered_with stated a o)
 answered held old mid a fails stated (outcome.Waits rcode) h is = record {
   next = (answer mid a).0;
@@ -216,16 +216,16 @@ module _ {I S : Type 0} {i : index.Ghosts I} {s : store.Ghosts S} where
 
 -- a request is served, as what it is
 pub served_as : (old new : Machine) (peer : Peer) (to : To) (octets : List ℕ) (transport : Transport) (r : request.Request) (fails : List Bool) (stated : machine.Effects) → r ≡ request_of octets transport
-    → IsServed fails old to peer (handled_as (shown_zones old) octets transport r) stated new → IsServedOrLacks old peer to octets transport fails stated new
-served_as old new peer to octets transport r fails stated e h = inl (subst (λ (x : request.Request). IsServed fails old to peer (handled_as (shown_zones old) octets transport x) stated new) e h)
+    → IsRequestHandled fails old to peer (handled_as (shown_zones old) octets transport r) stated new → IsServedOrLacks old peer to octets transport fails stated new
+served_as old new peer to octets transport r fails stated e h = inl (subst (λ (x : request.Request). IsRequestHandled fails old to peer (handled_as (shown_zones old) octets transport x) stated new) e h)
 
 abbrev pub lack : Sent → machine.Effects
 lack reply = record (one_reply reply) { noted = OutOfMemory }
 
-pub gives_one : (m : Machine) (reply : Sent) → Gives (one_reply reply) m m (reply ∷ []) []
+pub gives_one : (m : Machine) (reply : Sent) → GivesEffects (one_reply reply) m m (reply ∷ []) []
 gives_one m reply = record { state = refl; sent = refl; accepted = refl; noted = refl }
 
-pub gives_none : (m : Machine) → Gives nothing m m [] []
+pub gives_none : (m : Machine) → GivesEffects nothing m m [] []
 gives_none m = record { state = refl; sent = refl; accepted = refl; noted = refl }
 
 pub lacks_one : (m : Machine) (to : To) (updates : Bool) (lacked : Option (ℕ × ℕ)) (octets : List ℕ) (transport : Transport) (r : request.Request) → r ≡ request_of octets transport → (r ≡ request.Ignored → ⊥)
@@ -276,6 +276,6 @@ module _ {I S : Type 0} {i : index.Ghosts I} {s : store.Ghosts S} where
       ⊎_elim
       (λ t. stays p m effects (one_reply (Replied to reply)) (IsServedOrLacks m peer to octets transport) rest kept t
       (served_as m m peer to octets transport r [] (one_reply (Replied to reply)) e
-      (subst (λ (h : Handled). IsServed [] m to peer h (one_reply (Replied to reply)) m) (sym is) (refl, gives_one m (Replied to reply)))))
+      (subst (λ (h : Handled). IsRequestHandled [] m to peer h (one_reply (Replied to reply)) m) (sym is) (refl, gives_one m (Replied to reply)))))
       (λ t. stays p m effects (lack (Replied to (text (bare_reply (header_of octets) rcode_servfail)))) (IsServedOrLacks m peer to octets transport) rest kept t (inr (lacks_one m to (is_update (handled (shown_zones m) octets transport)) (request_lacks m to peer (handled (shown_zones m) octets transport)) octets transport r e some)))
       effects_are

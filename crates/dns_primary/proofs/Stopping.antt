@@ -10,7 +10,7 @@ use Rattle.dns_primary.specs.Machine.{Setting, Made, ZoneState, Waits, Machine, 
 use Rattle.dns_primary.specs.Step.{Event}
 use Rattle.dns_primary.specs.Stop.{IsMaking, IsRecovered, AreRecovered, IsStopped}
 use Rattle.dns_primary.specs.Fresh.{IsLoaded, IsFresh, IsReopened, IsResumed, IsStart}
-use Rattle.dns_primary.specs.Runs.{Moment, Took, Stopped, after, sent_in, Happens, Run, last_of, AllLast, IsHistory, HasHistory, Lasts, StaysTrue, Promise, Continuation}
+use Rattle.dns_primary.specs.Runs.{Moment, Took, Stopped, machine_after, sent_in, Happens, Run, last_of, AllLast, IsHistory, HasHistory, Lasts, StaysTrue, Promise, Continuation}
 use Rattle.dns_primary.proofs.Zonewise.{all_last_same, all_last_on}
 use Rattle.dns_primary.proofs.Sound.{IsPlaced, IsSound, Preserves, all_true_over}
 use Rattle.dns_primary.proofs.Preserved.{step_preserves}
@@ -50,7 +50,7 @@ stop_preserves tries old event new s t =
       good = tt;
     }
 
-moment_preserves : (old : Machine) (t : Moment) → IsSound old → Happens old t → Preserves old (after t) (sent_in t)
+moment_preserves : (old : Machine) (t : Moment) → IsSound old → Happens old t → Preserves old (machine_after t) (sent_in t)
 moment_preserves old (Took event fails effects new) s h = step_preserves fails old event effects new s h
 moment_preserves old (Stopped event tries new) s h = stop_preserves tries old event new s h
 
@@ -64,11 +64,11 @@ run_keeps : (start : Machine) (run : List Moment) → IsSound start → Run star
 run_keeps start [] s r = record { loaded = all_last_same start.zones; history = s.zones; moments = tt }
 run_keeps start (t ∷ rest) s r =
     let step = moment_preserves start t s r.0 in
-    let later = run_keeps (after t) rest step.sound r.1 in
+    let later = run_keeps (machine_after t) rest step.sound r.1 in
     record {
-      loaded = all_last_on start.zones (after t).zones (last_of (after t) rest).zones step.lasts later.loaded;
+      loaded = all_last_on start.zones (machine_after t).zones (last_of (machine_after t) rest).zones step.lasts later.loaded;
       history = later.history;
-      moments = (record { shown = later.loaded; answered = all_true_over (after t).zones (last_of (after t) rest).zones later.loaded (sent_in t) step.good }, later.moments);
+      moments = (record { shown = later.loaded; answered = all_true_over (machine_after t).zones (last_of (machine_after t) rest).zones later.loaded (sent_in t) step.good }, later.moments);
     }
 
 -- a machine to which nothing has happened
@@ -119,7 +119,7 @@ start_keeps start run begins r = (let kept = run_keeps start run (start_sound st
 -- from a moment of a run to a later one
 run_sound : (start : Machine) (run : List Moment) → IsSound start → Run start run → IsSound (last_of start run)
 run_sound start [] s r = s
-run_sound start (t ∷ rest) s r = run_sound (after t) rest (moment_preserves start t s r.0).sound r.1
+run_sound start (t ∷ rest) s r = run_sound (machine_after t) rest (moment_preserves start t s r.0).sound r.1
 
 pub later_lasts : (zones : List Zone) (settings : List ZoneSettings) (start : Machine) (earlier between : List Moment) → IsFresh zones settings start → Run start earlier
     → Run (last_of start earlier) between → AllLast (last_of start earlier).zones (last_of (last_of start earlier) between).zones

@@ -15,9 +15,9 @@ use Rattle.dns_wire.specs.declared.codes.Rcode.{Rcode}
 use Rattle.dns_request.specs.declared.request.Transport.{Transport}
 use Rattle.dns_request.specs.Request.{rcode_formerr, rcode_refused}
 use Rattle.dns_transfer.specs.Form.{Form, Current, Incremental, Full, form_of}
-use Rattle.dns_transfer.specs.Records.{answer_of, transfer_from, transfer_of}
+use Rattle.dns_transfer.specs.Records.{transfer_answer, transfer_from, transfer_of}
 use Rattle.dns_transfer.specs.Refusal.{client_serial, is_malformed, refusal, rcode_notauth, serial_asked}
-use Rattle.dns_transfer.specs.Session.{Sending, Sends, Version, Opens}
+use Rattle.dns_transfer.specs.Session.{Sending, SendsMessage, Version, Opens}
 use Rattle.dns_primary.specs.declared.event.Peer.{Peer}
 use Rattle.dns_primary.specs.declared.transfers.OpenTransfer.{OpenTransfer}
 use Rattle.dns_primary.specs.declared.event.To.TheVariants as to
@@ -224,12 +224,12 @@ module _ (number : ℕ) where
         pub ends : ((one.transfer).session).left ≡ [] → EndsOn number ts (without_on (slice_set ts place u))
         ends none = inr ((one.transfer).session, one.has, none, set_gone)
 
-        pub sends_last : (octets : List ℕ) → (((one.transfer).session).left ≡ [] → ⊥) → Sends (one.transfer).session octets u.session → (u.session).left ≡ []
+        pub sends_last : (octets : List ℕ) → (((one.transfer).session).left ≡ [] → ⊥) → SendsMessage (one.transfer).session octets u.session → (u.session).left ≡ []
             → SendsOn number octets ts (without_on (slice_set ts place u))
         sends_last octets some sends none =
             ((one.transfer).session, one.has, some, (u.session, sends, subst (λ (o : Option Sending). SetsOn number o ts (without_on (slice_set ts place u))) (sym (ap (λ (l : List Record). open_still l u.session) none)) set_gone))
 
-        pub sends_on : (octets : List ℕ) → (((one.transfer).session).left ≡ [] → ⊥) → Sends (one.transfer).session octets u.session → ((u.session).left ≡ [] → ⊥)
+        pub sends_on : (octets : List ℕ) → (((one.transfer).session).left ≡ [] → ⊥) → SendsMessage (one.transfer).session octets u.session → ((u.session).left ≡ [] → ⊥)
             → SendsOn number octets ts (slice_set ts place u)
         sends_on octets some sends more =
             ((one.transfer).session, one.has, some, (u.session, sends, subst (λ (o : Option Sending). SetsOn number o ts (slice_set ts place u)) (sym (still_open (u.session).left u.session more)) set_at))
@@ -242,7 +242,7 @@ module _ (number : ℕ) where
             (λ is. set_at.others n (λ same. (let clash : true ≡ false = sym (test_same number n same) ∙ is in cc)))
 
 -- what a pump does
-pub sent_on : (m : Machine) (number : ℕ) (s : Sending) (left : List Record) (message : List ℕ) (rest : Sending) → (left ≡ [] → ⊥) → Sends s message rest
+pub sent_on : (m : Machine) (number : ℕ) (s : Sending) (left : List Record) (message : List ℕ) (rest : Sending) → (left ≡ [] → ⊥) → SendsMessage s message rest
     → IsSentOn m number s left (Replied (to.Connection number) message ∷ []) (with_transfer number (open_still rest.left rest) m)
 sent_on m number s [] message rest some sends = absurd (some refl)
 sent_on m number s (r ∷ left) message rest some sends = (message, rest, sends, refl, refl)
@@ -292,7 +292,7 @@ pub opens_as : {E : Type 0} (t u : Transport) (octets : List ℕ) (m : Message) 
 opens_as t u octets m q v w a b r e f h is =
     subst (λ x. IfOk r (λ o. Opens u octets m q w x o)) h (subst (λ x. IfOk r (λ o. Opens u octets m q x a o)) f (subst (λ x. IfOk r (λ o. Opens x octets m q v a o)) e is))
 
-answer_some : (soa : Record) (records : List Record) (form : Form) → answer_of soa records form ≡ [] → ⊥
+answer_some : (soa : Record) (records : List Record) (form : Form) → transfer_answer soa records form ≡ [] → ⊥
 answer_some soa records Current e = cc
 answer_some soa records (Incremental changes) e = cc
 answer_some soa records Full e = cc

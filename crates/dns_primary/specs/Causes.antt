@@ -22,7 +22,8 @@ use Rattle.dns_primary.specs.Machine.{ZoneState, Waits, Machine, kept_of, shown_
 use Rattle.dns_primary.specs.Flush.{Sent, Answered, Replied, is_closed_in, rcode_servfail}
 use Rattle.dns_primary.specs.Update.{Asked, Admits, admission, room_lacked, place_of}
 use Rattle.dns_primary.specs.Transfer.{transport_of}
-use Rattle.dns_primary.specs.Step.{Effects, IsBegun, Event, Datagram, Connect, Arrives, Flush, Checkpoint}
+use Rattle.dns_primary.specs.Step.{Effects, IsUpdateBegun, Event, Datagram, Connect, Arrives, Flush}
+use Rattle.dns_primary.specs.Step.{Checkpoint}
 use Rattle.dns_primary.specs.Step.{Pump, Closed}
 
 -- The response code of a reply (RFC 1035 4.1.1).
@@ -38,7 +39,7 @@ pub record IsForClosed (m : Machine) (a : Asked) : Type 0 where
   pub closed : zone.closed ≡ true
 
 -- The update is accepted, and there is no room for the version that it leaves, or none in the journal for its
--- entry behind what came first.
+-- entry after what came first.
 pub record LacksRoom (m : Machine) (a : Asked) : Type 0 where
   pub place : ℕ
   pub zone : ZoneState
@@ -52,11 +53,11 @@ pub record LacksRoom (m : Machine) (a : Asked) : Type 0 where
 abbrev pub IsTooLong : Transport → Reply → Type 0
 IsTooLong transport r = (transport ≡ Tcp) × (65535 < length (text r))
 
--- An update is answered behind what comes first: then its zone is closed, or it lacks room still.
+-- An update is answered after what comes first: then its zone is closed, or it still lacks room.
 pub record UpdateCause (fails : List Bool) (m : Machine) (a : Asked) : Type 0 where
   pub first : Effects
   pub mid : Machine
-  pub begun : IsBegun fails m (room_lacked m a) first mid
+  pub begun : IsUpdateBegun fails m (room_lacked m a) first mid
   pub cause : IsForClosed mid a ⊎ LacksRoom mid a
 
 abbrev pub RequestCause : List Bool → Machine → To → Peer → List ℕ → Transport → request.Request → Type 0

@@ -5,7 +5,7 @@ use Rattle.dns_store.specs.Versions.{version_at}
 use Rattle.dns_store.specs.Checkpoint.{sectors_of_snapshot}
 use Rattle.dns_store.specs.declared.checkpoint.CheckpointError.{CheckpointError}
 use Rattle.dns_store.specs.declared.checkpoint.CheckpointError.TheVariants as refused
-use Rattle.dns_held.specs.Checkpoint.{IsNextBase}
+use Rattle.dns_held.specs.Checkpoint.{IsNextBaseNumber}
 use Rattle.dns_primary.specs.Machine.{ZoneState, Machine, kept_of}
 use Rattle.dns_primary.specs.Flush.{flushed}
 
@@ -20,7 +20,7 @@ rebased true base z = record z { second = Some base; closed = true }
 -- snapshot has.
 abbrev pub IsMoved : Bool → ℕ → ZoneState → ZoneState → Type 0
 IsMoved fails room z new =
-    (base : ℕ) × IsNextBase z.setting.keep room (kept_of z) base
+    (base : ℕ) × IsNextBaseNumber z.setting.keep room (kept_of z) base
     × ((new ≡ rebased fails base z)
     ⊎ ((fails ≡ false) × (new ≡ z)
     × (z.setting.shape.snapshot < sectors_of_snapshot (version_at (kept_of z) base))))
@@ -30,7 +30,7 @@ abbrev pub IsMovedUnlessClosed : Bool → ℕ → ZoneState → ZoneState → Ty
 IsMovedUnlessClosed fails room z new =
     ((z.closed ≡ true) × (fails ≡ false) × (new ≡ z)) ⊎ ((z.closed ≡ false) × IsMoved fails room z new)
 
--- All zones are flushed, of which these fail in that; then the base of the one at a place is moved.
+-- All zones are flushed, of which these fail in that; then the base of the one at a position is moved.
 pub record IsCheckpoint (place room : ℕ) (old : Machine) (fails : List Bool) (moving_fails : Bool)
     (new : Machine) : Type 0 where
   pub all : length fails ≡ length old.zones
@@ -45,10 +45,10 @@ abbrev pub either_fails : Bool → ℕ → List Bool → List Bool
 either_fails false place fails = fails
 either_fails true place fails = slice_set fails place true
 
-abbrev pub first_of : Option ℕ → Bool → ℕ → Option ℕ
-first_of (Some earlier) moving_fails place = Some earlier
-first_of None true place = Some place
-first_of None false place = None
+abbrev pub first_to_fail : Option ℕ → Bool → ℕ → Option ℕ
+first_to_fail (Some earlier) moving_fails place = Some earlier
+first_to_fail None true place = Some place
+first_to_fail None false place = None
 
 -- What is answered to the move of a zone's base, where nothing of it is staged or it is closed, and the zone
 -- then.
@@ -60,6 +60,6 @@ IsMovedBy room z (Err refused.ZoneTooLarge) new = (z.closed ≡ false) × IsMove
 IsMovedBy room z (Err refused.WrongChanges) new = ⊥
 IsMovedBy room z (Err refused.OutOfMemory) new = new ≡ z
 
--- Nothing of the zone is staged, or it is closed, as behind a flush.
+-- Nothing of the zone is staged, or it is closed, as after a flush.
 abbrev pub IsSettled : ZoneState → Type 0
 IsSettled z = (z.closed ≡ true) ⊎ (z.staged ≡ [])

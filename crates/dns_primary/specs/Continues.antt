@@ -4,7 +4,7 @@ use Rattle.std.specs.Prelude.{◌≡◌, ◌⊎◌, ℕ, true, List, [], ◌∷�
 use Rattle.dns_wire.specs.Message.{Question, Message}
 use Rattle.dns_request.specs.declared.request.Transport.TheVariants.{Tcp}
 use Rattle.dns_answer.specs.Answer.{Transfer, handled}
-use Rattle.dns_transfer.specs.Session.{Sending, Sends, IsOpened}
+use Rattle.dns_transfer.specs.Session.{Sending, SendsMessage, IsTransferOpened}
 use Rattle.dns_primary.specs.declared.event.Peer.{Peer}
 use Rattle.dns_primary.specs.declared.event.To.TheVariants.{Connection}
 use Rattle.dns_primary.specs.declared.event.Noted.TheVariants.{OutOfMemory}
@@ -27,13 +27,13 @@ pub record OpensOn (old : Machine) (number : ℕ) (event : Event) (s : Sending) 
   pub asks : handled (shown_zones old) octets Tcp ≡ Transfer octets message question
   pub named : zone_named question.name old.zones ≡ Some zone
   pub allowed : zone.setting.may_transfer peer.address ≡ true
-  pub opened : IsOpened Tcp octets message question (version_of zone) s
+  pub opened : IsTransferOpened Tcp octets message question (version_of zone) s
 
 -- What a pump of a transfer gives: the next message, of which the one that leaves no record ends it; or
 -- nothing where memory is refused, and the transfer stays as it is.
 abbrev pub GivesNext : ℕ → Sending → Effects → Option Sending → Type 0
 GivesNext number s effects next =
-    ((message : List ℕ) × (rest : Sending) × Sends s message rest
+    ((message : List ℕ) × (rest : Sending) × SendsMessage s message rest
     × (effects.sent ≡ Replied (Connection number) message ∷ []) × (next ≡ open_still rest.left rest))
     ⊎ (((effects.noted ≡ OutOfMemory) × (effects.sent ≡ []) × (next ≡ Some s))
     ⊎ ((s.left ≡ []) × (effects.sent ≡ []) × (next ≡ None)))

@@ -1,4 +1,4 @@
--- What a primary keeps of the machine, and how it tells of effects.
+-- What a primary keeps of the machine, and how it reports effects.
 use Rattle.std.specs.Prelude.{◌≡◌, ◌++◌, ◌↔◌, ℕ, List, [], ◌∷◌, map, length, Option, Some, None, Result, Ok}
 use Rattle.std.specs.Prelude.{Err, IsTrue, slice_get, ◌==◌, if◌then◌else◌}
 use Rattle.slab.specs.Slab.{Slab, get, slab_len}
@@ -56,7 +56,7 @@ abbrev pub sending_on : {I : Type 0} → ℕ → List (OpenTransfer I) → Optio
 sending_on number [] = None
 sending_on number (t ∷ rest) = if t.number == number then Some t.session else sending_on number rest
 
--- What is shown, what stands behind it, what waits, the connections and the transfers that are open on them
+-- What is shown, what backs it, the pending replies, the connections and the transfers that are open on them
 -- are those of the machine, whatever older versions there were.
 pub record IsKept {I S : Type 0} {i : index.Ghosts I} {s : store.Ghosts S} (p : Primary I S i s)
     (m : Machine) : Type 0 where
@@ -80,7 +80,8 @@ pub record AreEffects (stated : machine.Effects) (effects : Effects) : Type 0 wh
   pub accepted : stated.accepted ≡ effects.accepted
   pub noted : stated.noted ≡ effects.noted
 
--- The admission that a test of the zone at a place tells, and one that names the place of a zone.
+-- The admission that follows from a test of the zone at a position, and one that names the position of a
+-- zone.
 abbrev pub admission_of_test : ℕ → ZoneState → Result (Unit {0}) Rcode → Admission
 admission_of_test place z (Ok v) = Admits place z
 admission_of_test place z (Err rcode) = Rejects (number_of_rcode rcode)
@@ -94,7 +95,7 @@ admission_shown states (Ok place) = admits_at place (slice_get states place)
 admission_shown states (Err rcode) = Rejects (number_of_rcode rcode)
 
 -- Where a reply goes to a connection, it is there.
-abbrev pub IsThere : Slab Peer → To → Type 0
-IsThere connections (to.Address peer) = Unit {0}
-IsThere connections (to.Connection number) = get connections number ≡ None → ⊥
-IsThere connections to.Nowhere = Unit {0}
+abbrev pub HasConnection : Slab Peer → To → Type 0
+HasConnection connections (to.Address peer) = Unit {0}
+HasConnection connections (to.Connection number) = get connections number ≡ None → ⊥
+HasConnection connections to.Nowhere = Unit {0}

@@ -24,9 +24,9 @@ pub record Made : Type 0 where
   pub update : Message
   pub records : List Record
 
--- A zone: its records as loaded, the updates of the version that is shown, and those staged behind it. `base`
--- is the number of the version that its journal begins at; `second` is that of another, which a checkpoint
--- left that failed. `openings` is how often its store was opened. Where its device failed it is closed.
+-- A zone: its records as loaded, the updates of the version that is shown, and those staged after it. `base`
+-- is the number of the version that its journal begins at; `second` is that of another, left by a checkpoint
+-- that failed. `openings` is how often its store was opened. Where its device failed it is closed.
 pub record ZoneState : Type 0 where
   pub setting : Setting
   pub loaded : List Record
@@ -43,7 +43,7 @@ updates_of z = z.shown ++ z.staged
 abbrev pub versions_of : List Made → Versions
 versions_of = map (λ m. m.records)
 
--- The versions alone, as a store keeps them: each update's is the one behind it.
+-- The versions alone, as a store keeps them: each update's is the one after it.
 abbrev pub kept_of : ZoneState → Kept
 kept_of z = record {
   shape = z.setting.shape;

@@ -49,8 +49,8 @@ pub record StaysPossible {D : Type 0} (g : Ghosts D) (apex : Labels) (s : ZoneSe
   pub any_moment : g.is_honest old → IsInRange s.snapshot s.journal
       → LeavesOnly g.moment g.left_since old new (OpensAsPossible g (shape_of apex s) old)
 
--- What stands behind the zone keeps what a crash might have left of its device before, opened once more,
--- whichever versions there were before the base.
+-- What backs the zone keeps what a crash might have left of its device before, opened once more, whichever
+-- versions there were before the base.
 abbrev pub TakesDevice : {D I : Type 0} {g : Ghosts D} → Shape → D → Zone
     → Behind I (KeptStore D I g) → Type 0
 TakesDevice {g} shape device zone b =
@@ -65,8 +65,8 @@ pub record IsOpened {D I : Type 0} {g : Ghosts D} (apex : Labels) (s : ZoneSetti
   pub takes : g.is_honest device → IsInRange s.snapshot s.journal → MayOpen g (shape_of apex s) device
       → TakesDevice (shape_of apex s) device zone b
 
--- The device was not opened, for this: where each crash leaves a store that opens, the device failed, memory
--- was refused or the store was opened too often; else by what stands on the device.
+-- The device was not opened, for this reason: where each crash leaves a store that opens, the device failed,
+-- memory was refused or the store was opened too often; else the reason is in what is stored on the device.
 pub record IsNotOpened {D : Type 0} (g : Ghosts D) (apex : Labels) (s : ZoneSettings)
     (error : OpenError) (old new : D) : Type 0 where
   pub leaves : StaysPossible g apex s old new
@@ -85,8 +85,8 @@ AreOpened (suc n) (a ∷ apexes) (s ∷ settings) (d ∷ devices) (z ∷ zones) 
     IsOpened a s d z b × AreOpened n apexes settings devices zones behind
 AreOpened _ _ _ _ _ _ = ⊥
 
--- The devices that came are these now: those of the zones before this place were opened and taken back, the
--- one of the zone there was not opened, for this, and the others are as they came.
+-- The devices that came are these now: those of the zones before this position were opened and taken back,
+-- the one of the zone at it was not opened, for this reason, and the others are as they came.
 abbrev pub AreHandedBack : {D : Type 0} → Ghosts D → OpenError → ℕ → List Labels → List ZoneSettings → List D
     → List D → Type 0
 AreHandedBack g error zero (a ∷ apexes) (s ∷ settings) (d ∷ devices) (e ∷ back) =
@@ -112,7 +112,7 @@ pub record IsRecoverable {D : Type 0} (g : Ghosts D) (tries : ℕ) (making : ℕ
   pub honest : g.is_honest device
   pub leaves : (c : Content) → g.may_leave device c → OpensAsRecovered opens tries making z c
 
--- Each zone's device, those from this place on, where the machine stopped within the event.
+-- Each zone's device, those from this position on, where the machine stopped within the event.
 abbrev pub AreRecoverable : {D : Type 0} → Ghosts D → ℕ → Machine → Event → ℕ → List ZoneState → List Labels
     → List ZoneSettings → List D → Type 0
 AreRecoverable g tries m event place [] [] [] [] = Unit {0}
@@ -135,5 +135,5 @@ LeaveRecovered g tries m event place _ _ _ = ⊥
 -- often: as often as the machine says, and as there were tries since.
 abbrev pub IsRecoveryStopped : ℕ → OpenError → ℕ → List ZoneState → Type 0
 IsRecoveryStopped tries error place [] = error ≡ OutOfMemory
-IsRecoveryStopped tries error zero (z ∷ zones) = store.IsStopped (z.openings + tries) error
+IsRecoveryStopped tries error zero (z ∷ zones) = store.IsNotReopened (z.openings + tries) error
 IsRecoveryStopped tries error (suc n) (z ∷ zones) = IsRecoveryStopped tries error n zones

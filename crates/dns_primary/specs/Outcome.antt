@@ -3,7 +3,7 @@ use Rattle.std.specs.Prelude.{◌≡◌, ◌⊎◌, ℕ, not, nat_le, List, Opti
 use Rattle.dns_records.specs.Record.{Record}
 use Rattle.dns_zone.specs.Zone.{Zone}
 use Rattle.dns_changes.specs.Change.{IsChange}
-use Rattle.dns_changes.specs.Version.{IsNext}
+use Rattle.dns_changes.specs.Version.{IsVersionAfter}
 use Rattle.dns_wire.specs.declared.codes.Rcode.TheVariants.{NoError, ServFail}
 use Rattle.dns_update.specs.Verdict.{Verdict, Refuses, Keeps, Leaves}
 use Rattle.dns_store.specs.Versions.{Kept, newest_of, staged_with}
@@ -22,8 +22,8 @@ pub record Ends : Type 0 where
   pub versions : Kept
 
 -- What is refused, and what changes nothing, waits. What leaves a version without room is SERVFAIL, and
--- waits; one whose entry is over what is left of the journal, behind what made room, is SERVFAIL at once;
--- else it is staged.
+-- waits; one whose entry exceeds what is left of the journal, after what made room, is SERVFAIL at once; else
+-- it is staged.
 abbrev pub end_of : Kept → Verdict → Ends
 end_of k (Refuses rcode) = record { outcome = Waits rcode; versions = k }
 end_of k Keeps = record { outcome = Waits NoError; versions = k }
@@ -59,4 +59,4 @@ lacked_of (Accepted change next lacked) = lacked
 abbrev pub IsStageable : {X : Type 0} → (X → List Record) → Zone → Judgement X → Type 0
 IsStageable records before (Unchanged rcode) = Unit {0}
 IsStageable records before (Accepted change next lacked) =
-    IsNext before change (records next) × IsChange before.records (records next) change
+    IsVersionAfter before change (records next) × IsChange before.records (records next) change

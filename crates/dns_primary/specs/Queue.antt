@@ -1,4 +1,4 @@
--- An update that is for a primary whose replies have room for one more, and what is told of it.
+-- An update that is for a primary whose replies have room for one more, and what is said of it.
 use Rattle.std.specs.Prelude.{◌≡◌, ◌<◌, ℕ, true, false, List, [], ◌∷◌, length, slice_get, Some}
 use Rattle.dns_records.specs.Record.{Record}
 use Rattle.dns_wire.specs.Codes.{number_of_rcode}
@@ -34,8 +34,9 @@ pub record IsUntouched {S : Type 0} (moment : S → ℕ) (left_since : S → ℕ
   pub still : StandsStill moment left_since old new
   pub quiet : failed new ≡ failed old
 
--- The machine has these zones, with what stands behind them, these replies that wait, and those connections.
-pub record Holds {I S : Type 0} (keeps : S → Kept → Type 0) (zones : List Zone) (behind : List (Behind I S))
+-- The machine has these zones, with what backs them, these pending replies, and those connections.
+pub record HoldsZones {I S : Type 0} (keeps : S → Kept → Type 0) (zones : List Zone)
+    (behind : List (Behind I S))
     (settings : List ZoneSettings)
     (waiting : List Waiting) (connections : List Connection) (m : Machine) : Type 0 where
   pub zones_are : HaveVersions keeps zones behind m.zones
@@ -43,16 +44,16 @@ pub record Holds {I S : Type 0} (keeps : S → Kept → Type 0) (zones : List Zo
   pub waiting_are : Each2 IsWaiting waiting m.waiting
   pub connections_are : m.connections ≡ connections
 
--- It ends so, with nothing told as long as its reply waits, and else a reply at once; or memory was refused,
--- and the machine stays.
+-- It ends so, with nothing sent as long as its reply waits, and else a reply at once; or memory was refused,
+-- and the machine stays as it is.
 abbrev pub IsAnswered : (Machine → Type 0) → Machine → Asked → Machine × List Sent → Outcome → Type 0
 IsAnswered held m a ended (outcome.Waits rcode) = (ended.1 ≡ []) × held ended.0
 IsAnswered held m a ended (outcome.AtOnce rcode) =
     (ended.1 ≡ replies a (number_of_rcode rcode) ∷ []) × held ended.0
 IsAnswered held m a ended outcome.OutOfMemory = held m
 
--- What was judged before what came first still holds of the zone at the place: it is refused where the zone
--- is closed then, and else admitted, and the verdict on its newest version is the same.
+-- What was judged before what came first still holds of the zone at the position: it is refused where the
+-- zone is closed then, and else admitted, and the verdict on its newest version is the same.
 pub record HoldsStill {X : Type 0} (records : X → List Record) (m : Machine) (a : Asked) (place : ℕ)
     (j : Judgement X) : Type 0 where
   pub zone : ZoneState
@@ -62,8 +63,8 @@ pub record HoldsStill {X : Type 0} (records : X → List Record) (m : Machine) (
   pub is : IsVerdictOf records
       (verdict (newest_zone (kept_of zone)) a.message.answers a.message.authorities) j
 
--- The update is judged, for the zone at the place.
-pub record IsJudged {X : Type 0} (records : X → List Record) (m : Machine) (a : Asked) (place : ℕ)
+-- The update is judged, for the zone at the position.
+pub record IsUpdateJudged {X : Type 0} (records : X → List Record) (m : Machine) (a : Asked) (place : ℕ)
     (j : Judgement X) : Type 0 where
   pub zone : ZoneState
   pub admits : admission m.zones a ≡ Admits place zone
@@ -75,9 +76,9 @@ pub record IsJudged {X : Type 0} (records : X → List Record) (m : Machine) (a 
 -- It is refused before, or judged so.
 abbrev pub IsTested : {X : Type 0} → (X → List Record) → Machine → Asked → Tested X → Type 0
 IsTested records m a (AtOnce rcode) = admission m.zones a ≡ Rejects (number_of_rcode rcode)
-IsTested records m a (Judged place j) = IsJudged records m a place j
+IsTested records m a (Judged place j) = IsUpdateJudged records m a place j
 
--- What was judged may be staged behind the newest version of the zone at the place.
+-- What was judged may be staged after the newest version of the zone at the position.
 abbrev pub IsStageableAt : {X : Type 0} → (X → List Record) → List Zone → ℕ → Judgement X → Type 0
 IsStageableAt records newest place j = (v : Zone) → slice_get newest place ≡ Some v → IsStageable records v j
 

@@ -3,7 +3,7 @@
 use Rattle.std.specs.Prelude.{◌≡◌, ◌⊎◌, ℕ, Bool, true, false, List}
 use Rattle.dns_records.specs.Record.{Record}
 use Rattle.dns_update.specs.Verdict.{Leaves, verdict}
-use Rattle.dns_held.specs.Checkpoint.{IsNextBase}
+use Rattle.dns_held.specs.Checkpoint.{IsNextBaseNumber}
 use Rattle.dns_held.specs.Held.{newest_zone}
 use Rattle.dns_held.specs.Staging.{has_room}
 use Rattle.dns_primary.specs.Machine.{ZoneState, Machine, kept_of}
@@ -16,7 +16,7 @@ abbrev pub IsRebased : Bool → ℕ → ZoneState → ZoneState → Type 0
 IsRebased fails room z new =
     ((z.closed ≡ true) × (fails ≡ false) × (new ≡ z))
     ⊎ ((z.closed ≡ false)
-    × ((base : ℕ) × IsNextBase z.setting.keep room (kept_of z) base × (new ≡ rebased fails base z)))
+    × ((base : ℕ) × IsNextBaseNumber z.setting.keep room (kept_of z) base × (new ≡ rebased fails base z)))
 
 -- The update is accepted, and by the rules for room there is none for the version that it leaves.
 pub record HasNoRoom (m : Machine) (a : Asked) : Type 0 where

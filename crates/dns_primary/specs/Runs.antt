@@ -21,18 +21,18 @@ use Rattle.dns_primary.specs.Step.{Event, Datagram, Arrives, Connect, Flush, Che
 use Rattle.dns_primary.specs.Step.{Effects, Step}
 use Rattle.dns_primary.specs.Stop.{IsStopped}
 
--- What happens in a run: a step, of which are told the event, the devices that failed, what went out, and the
--- machine after it. Or a stop within an event, of which are told how many recoveries were themselves stopped
--- or refused, and the machine that the one led to which succeeded.
+-- What happens in a run: a step, with the event, the devices that failed, what went out, and the machine
+-- after it. Or a stop within an event, with how many recoveries were themselves stopped or refused, and the
+-- machine that the one that succeeded led to.
 pub data Moment : Type 0 where
   Took : Event → List Bool → Effects → Machine → Moment
   Stopped : Event → ℕ → Machine → Moment
 
-abbrev pub after : Moment → Machine
-after (Took event fails effects new) = new
-after (Stopped event tries new) = new
+abbrev pub machine_after : Moment → Machine
+machine_after (Took event fails effects new) = new
+machine_after (Stopped event tries new) = new
 
--- What went out. A stop tells nothing.
+-- What went out. A stop reports nothing.
 abbrev pub sent_in : Moment → List Sent
 sent_in (Took event fails effects new) = effects.sent
 sent_in (Stopped event tries new) = []
@@ -46,11 +46,11 @@ Happens m (Stopped event tries new) = IsStopped tries m event new
 -- Each of these happens to the machine that those before it left.
 abbrev pub Run : Machine → List Moment → Type 0
 Run m [] = Unit {0}
-Run m (t ∷ rest) = Happens m t × Run (after t) rest
+Run m (t ∷ rest) = Happens m t × Run (machine_after t) rest
 
 abbrev pub last_of : Machine → List Moment → Machine
 last_of m [] = m
-last_of m (t ∷ rest) = last_of (after t) rest
+last_of m (t ∷ rest) = last_of (machine_after t) rest
 
 -- An update is accepted on the version with this number: judged on the records of that version it leaves its
 -- own (RFC 2136 3), and there is room for those: they are at most 65,536, their snapshot and their entry fit
@@ -102,7 +102,7 @@ BringsIn m (Stopped event tries new) z update = ⊥
 -- The update came in one of these moments.
 abbrev pub CameIn : Machine → List Moment → ZoneState → Message → Type 0
 CameIn m [] z update = ⊥
-CameIn m (t ∷ rest) z update = BringsIn m t z update ⊎ CameIn (after t) rest z update
+CameIn m (t ∷ rest) z update = BringsIn m t z update ⊎ CameIn (machine_after t) rest z update
 
 -- Each update of the zone came in one of these moments.
 abbrev pub AllCameIn : Machine → List Moment → ZoneState → Type 0
@@ -139,7 +139,7 @@ IsTrueIn zones (Replied to octets) = Unit {0}
 
 -- What was shown after a moment, and what was answered in it, is true of these zones.
 pub record StaysTrue (zones : List ZoneState) (t : Moment) : Type 0 where
-  pub shown : AllLast (after t).zones zones
+  pub shown : AllLast (machine_after t).zones zones
   pub answered : AllByRecursion (IsTrueIn zones) (sent_in t)
 
 -- What waited before an event goes out with the code that it waited with, or with SERVFAIL where its zone is

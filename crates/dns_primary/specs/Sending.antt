@@ -3,7 +3,7 @@ use Rattle.std.specs.Prelude.{◌≡◌, ◌⊎◌, ℕ, Bool, List, [], Option,
 use Rattle.dns_wire.specs.Message.{Header}
 use Rattle.dns_wire.specs.Text.{text}
 use Rattle.dns_answer.specs.Answer.{bare_reply}
-use Rattle.dns_transfer.specs.Session.{Sending, Sends}
+use Rattle.dns_transfer.specs.Session.{Sending, SendsMessage}
 use Rattle.dns_primary.specs.declared.event.To.{To}
 use Rattle.dns_primary.specs.declared.event.Effects.{Effects}
 use Rattle.dns_primary.specs.declared.event.Noted.TheVariants.{OutOfMemory}
@@ -12,7 +12,7 @@ use Rattle.dns_primary.specs.Machine.{Machine}
 use Rattle.dns_primary.specs.Flush.{Replied, rcode_servfail}
 use Rattle.dns_primary.specs.Transfer.{TransferBegins, open_still}
 use Rattle.dns_primary.specs.Step as machine
-use Rattle.dns_primary.specs.Step.{Tells}
+use Rattle.dns_primary.specs.Step.{TellsFlush}
 use Rattle.dns_primary.specs.Keeps.{AreEffects, sending_on}
 use Rattle.dns_primary.specs.Steps.{LacksAlone, one_reply}
 
@@ -33,12 +33,12 @@ EndsOn number old new =
 abbrev pub SendsOn : {I : Type 0} → ℕ → List ℕ → List (OpenTransfer I) → List (OpenTransfer I) → Type 0
 SendsOn number message old new =
     (s : Sending) × (sending_on number old ≡ Some s) × (s.left ≡ [] → ⊥)
-    × ((rest : Sending) × Sends s message rest × SetsOn number (open_still rest.left rest) old new)
+    × ((rest : Sending) × SendsMessage s message rest × SetsOn number (open_still rest.left rest) old new)
 
 -- The message that answers at once, or memory was refused.
 abbrev pub IsAtOnce : To → Header → Sending → Effects → Type 0
 IsAtOnce to header s effects =
-    ((message : List ℕ) × (rest : Sending) × Sends s message rest
+    ((message : List ℕ) × (rest : Sending) × SendsMessage s message rest
     × AreEffects (one_reply (Replied to message)) effects)
     ⊎ AreEffects
     (record (one_reply (Replied to (text (bare_reply header rcode_servfail)))) { noted = OutOfMemory })
@@ -48,5 +48,5 @@ IsAtOnce to header s effects =
 abbrev pub TransferBeginsOrLacks : Machine → To → Header → Sending → List Bool → machine.Effects
     → Machine → Type 0
 TransferBeginsOrLacks old to header s fails effects new =
-    ((fails ≡ []) × TransferBegins old to s effects.sent new × Tells effects effects.sent None)
+    ((fails ≡ []) × TransferBegins old to s effects.sent new × TellsFlush effects effects.sent None)
     ⊎ LacksAlone fails old to header effects new

@@ -14,13 +14,13 @@ use Rattle.dns_primary.specs.declared.event.Noted.TheVariants.{Nothing, OutOfMem
 use Rattle.dns_primary.specs.Machine.{ZoneState, Machine, shown_zones, peer_at, sending_at}
 use Rattle.dns_primary.specs.Flush.{Sent, Replied, rcode_servfail, flushed, flush_sends}
 use Rattle.dns_primary.specs.Update.{Asked, is_full, made_place, room_lacked, answer}
-use Rattle.dns_primary.specs.Checkpoint.{IsCheckpoint, either_fails, first_of}
+use Rattle.dns_primary.specs.Checkpoint.{IsCheckpoint, either_fails, first_to_fail}
 use Rattle.dns_primary.specs.Transfer.{IsTransferred, IsPumped}
 use Rattle.dns_primary.specs.Connections.{connected, closed, most_connections}
 
 -- A datagram comes from a peer, a peer connects, a message comes on a connection, what waits is to be
--- flushed, the zone at a place is to get a later base, a transfer is to give its next message, a connection
--- is closed.
+-- flushed, the zone at a position is to get a later base, a transfer is to give its next message, a
+-- connection is closed.
 pub data Event : Type 0 where
   Datagram : Peer → List ℕ → Event
   Connect : Peer → Event
@@ -42,7 +42,8 @@ noted_of None = Nothing
 noted_of (Some place) = Device place
 
 -- The event leads to this machine, and these go out; of the devices these failed.
-pub record Gives (effects : Effects) (new next : Machine) (out : List Sent) (fails : List Bool) : Type 0 where
+pub record GivesEffects (effects : Effects) (new next : Machine)
+    (out : List Sent) (fails : List Bool) : Type 0 where
   pub state : new ≡ next
   pub sent : effects.sent ≡ out
   pub accepted : effects.accepted ≡ None
@@ -55,61 +56,61 @@ AreFailures false m fails = fails ≡ []
 
 abbrev pub IsFlushed : List Bool → Machine → Effects → Machine → Type 0
 IsFlushed fails old effects new =
-    AreFailures true old fails × Gives effects new (flushed fails old) (flush_sends fails old) fails
+    AreFailures true old fails × GivesEffects effects new (flushed fails old) (flush_sends fails old) fails
 
 -- What goes out of a flush, and the first device that failed.
-pub record Tells (effects : Effects) (out : List Sent) (first : Option ℕ) : Type 0 where
+pub record TellsFlush (effects : Effects) (out : List Sent) (first : Option ℕ) : Type 0 where
   pub sent : effects.sent ≡ out
   pub accepted : effects.accepted ≡ None
   pub noted : effects.noted ≡ noted_of first
 
 -- A checkpoint of a zone that isn't there does nothing.
 abbrev pub IsCheckpointed : List Bool → Machine → ℕ → Option ZoneState → Effects → Machine → Type 0
-IsCheckpointed fails old place None effects new = (fails ≡ []) × Gives effects new old [] []
+IsCheckpointed fails old place None effects new = (fails ≡ []) × GivesEffects effects new old [] []
 IsCheckpointed fails old place (Some z) effects new =
     (flushing : List Bool) × (moving : Bool) × (fails ≡ either_fails moving place flushing)
     × IsCheckpoint place 0 old flushing moving new
-    × Tells effects (flush_sends flushing old) (first_of (first_true flushing) moving place)
+    × TellsFlush effects (flush_sends flushing old) (first_to_fail (first_true flushing) moving place)
 
 -- What comes before an update is answered: where it lacks room, all zones are flushed, and the base of its
 -- own is moved so that the room is left; else there is a flush where as many replies wait as may.
-abbrev pub IsBegun : List Bool → Machine → Option (ℕ × ℕ) → Effects → Machine → Type 0
-IsBegun fails old None effects mid =
+abbrev pub IsUpdateBegun : List Bool → Machine → Option (ℕ × ℕ) → Effects → Machine → Type 0
+IsUpdateBegun fails old None effects mid =
     AreFailures (is_full old) old fails
-    × Gives effects mid (made_place fails old).0 (made_place fails old).1 fails
-IsBegun fails old (Some lacked) effects mid =
+    × GivesEffects effects mid (made_place fails old).0 (made_place fails old).1 fails
+IsUpdateBegun fails old (Some lacked) effects mid =
     (flushing : List Bool) × (moving : Bool) × (fails ≡ either_fails moving lacked.0 flushing)
     × IsCheckpoint lacked.0 lacked.1 old flushing moving mid
-    × Tells effects (flush_sends flushing old) (first_of (first_true flushing) moving lacked.0)
+    × TellsFlush effects (flush_sends flushing old) (first_to_fail (first_true flushing) moving lacked.0)
 
--- It is answered behind that.
+-- It is answered after that.
 pub record IsUpdated (fails : List Bool) (old : Machine) (a : Asked) (effects : Effects)
     (new : Machine) : Type 0 where
   pub first : Effects
   pub mid : Machine
-  pub begun : IsBegun fails old (room_lacked old a) first mid
+  pub begun : IsUpdateBegun fails old (room_lacked old a) first mid
   pub state : new ≡ (answer mid a).0
   pub sent : effects.sent ≡ first.sent ++ (answer mid a).1
   pub accepted : effects.accepted ≡ first.accepted
   pub noted : effects.noted ≡ first.noted
 
 -- What is done with a request, by what becomes of its octets: a query is answered of what is shown.
-abbrev pub IsServed : List Bool → Machine → To → Peer → Handled → Effects → Machine → Type 0
-IsServed fails old to peer NoReply effects new = (fails ≡ []) × Gives effects new old [] []
-IsServed fails old to peer (Replies reply) effects new =
-    (fails ≡ []) × Gives effects new old (Replied to reply ∷ []) []
-IsServed fails old to peer (Update message question) effects new =
+abbrev pub IsRequestHandled : List Bool → Machine → To → Peer → Handled → Effects → Machine → Type 0
+IsRequestHandled fails old to peer NoReply effects new = (fails ≡ []) × GivesEffects effects new old [] []
+IsRequestHandled fails old to peer (Replies reply) effects new =
+    (fails ≡ []) × GivesEffects effects new old (Replied to reply ∷ []) []
+IsRequestHandled fails old to peer (Update message question) effects new =
     IsUpdated fails old
     (record { to = to; address = peer.address; message = message; zone = question }) effects new
-IsServed fails old to peer (Transfer octets message question) effects new =
+IsRequestHandled fails old to peer (Transfer octets message question) effects new =
     (fails ≡ []) × IsTransferred old to peer octets message question effects.sent new
-    × Tells effects effects.sent None
+    × TellsFlush effects effects.sent None
 
 -- A message on a connection that isn't there does nothing.
 abbrev pub IsArrived : List Bool → Machine → ℕ → Option Peer → List ℕ → Effects → Machine → Type 0
-IsArrived fails old number None octets effects new = (fails ≡ []) × Gives effects new old [] []
+IsArrived fails old number None octets effects new = (fails ≡ []) × GivesEffects effects new old [] []
 IsArrived fails old number (Some peer) octets effects new =
-    IsServed fails old (to.Connection number) peer (handled (shown_zones old) octets Tcp) effects new
+    IsRequestHandled fails old (to.Connection number) peer (handled (shown_zones old) octets Tcp) effects new
 
 -- A connection gets a number that no other has, or none where there are as many as may be.
 abbrev pub IsConnected : Machine → Peer → Effects → Machine → Type 0
@@ -117,12 +118,12 @@ IsConnected old peer effects new =
     ((length old.connections < most_connections)
     × ((number : ℕ) × (peer_at number old.connections ≡ None) × (new ≡ connected number peer old)
     × (effects ≡ record { sent = []; accepted = Some number; noted = Nothing })))
-    ⊎ ((most_connections ≤ length old.connections) × Gives effects new old [] [])
+    ⊎ ((most_connections ≤ length old.connections) × GivesEffects effects new old [] [])
 
 -- What an event does where memory is not refused.
 abbrev pub Goes : List Bool → Machine → Event → Effects → Machine → Type 0
 Goes fails old (Datagram peer octets) effects new =
-    IsServed fails old (to.Address peer) peer (handled (shown_zones old) octets Udp) effects new
+    IsRequestHandled fails old (to.Address peer) peer (handled (shown_zones old) octets Udp) effects new
 Goes fails old (Connect peer) effects new = (fails ≡ []) × IsConnected old peer effects new
 Goes fails old (Arrives number octets) effects new =
     IsArrived fails old number (peer_at number old.connections) octets effects new
@@ -131,8 +132,8 @@ Goes fails old (Checkpoint place) effects new =
     IsCheckpointed fails old place (slice_get old.zones place) effects new
 Goes fails old (Pump number) effects new =
     (fails ≡ []) × IsPumped old number (sending_at number old.connections) effects.sent new
-    × Tells effects effects.sent None
-Goes fails old (Closed number) effects new = (fails ≡ []) × Gives effects new (closed number old) [] []
+    × TellsFlush effects effects.sent None
+Goes fails old (Closed number) effects new = (fails ≡ []) × GivesEffects effects new (closed number old) [] []
 
 -- Octets that get a reply: a header, and no response (RFC 1035 4.1.1).
 abbrev pub is_asking : List ℕ → Bool
@@ -236,7 +237,7 @@ pub record Lacks (fails : List Bool) (old : Machine) (event : Event) (effects : 
       ⊎ (((flushes_first old event ≡ true) × AreFailures true old fails × (new ≡ flushed fails old)
       × (effects.sent ≡ flush_sends fails old ++ failures old event))
       ⊎ ((lacked : ℕ × ℕ) × (first : Effects) × (checkpoint_first old event ≡ Some lacked)
-      × IsBegun fails old (Some lacked) first new × (effects.sent ≡ first.sent ++ failures old event)))
+      × IsUpdateBegun fails old (Some lacked) first new × (effects.sent ≡ first.sent ++ failures old event)))
 
 -- The step, where of the devices these fail.
 abbrev pub Step : List Bool → Machine → Event → Effects → Machine → Type 0

@@ -1,4 +1,4 @@
--- Steps of a primary, and what is told of them.
+-- Steps of a primary, and what is said of them.
 use Rattle.std.specs.Prelude.{◌≡◌, ◌⊎◌, ℕ, zero, suc, Bool, true, ◌&&◌, ◌||◌, is_some, List, [], ◌∷◌, ◌++◌}
 use Rattle.std.specs.Prelude.{Option, Some, None, Result, Ok, Err, map}
 use Rattle.dns_wire.specs.Message.{Header, Question, Message}
@@ -30,7 +30,8 @@ use Rattle.dns_primary.specs.Machine.{ZoneState, Machine, kept_of, shown_zones}
 use Rattle.dns_primary.specs.Flush.{Sent, Replied, flushed, flush_sends, rcode_servfail}
 use Rattle.dns_primary.specs.Update.{Asked, replies, is_full, room_lacked}
 use Rattle.dns_primary.specs.Step as machine
-use Rattle.dns_primary.specs.Step.{AreFailures, IsBegun, IsServed, IsUpdated, failure, is_update}
+use Rattle.dns_primary.specs.Step.{AreFailures, IsUpdateBegun, IsRequestHandled, IsUpdated, failure}
+use Rattle.dns_primary.specs.Step.{is_update}
 use Rattle.dns_primary.specs.Step.{request_lacks}
 use Rattle.dns_primary.specs.Keeps.{IsKept, AreEffects}
 
@@ -52,9 +53,9 @@ AtAnyMoment s m olds news =
     Each3 (λ a b k. LeavesOnly s.moment s.left_since a.store b.store (OpensAsLeft s.opens k)) olds news
     (map kept_of m.zones)
 
--- A primary took a step: of the devices these failed, each of which it is said, the machine that it kept went
--- on to the next one, which it keeps now, and the effects are told. `step` says of a list of failures,
--- effects and a machine that they are such a step.
+-- A primary took a step: these of the devices failed, which is said of each of them, the machine that it kept
+-- went on to the next one, which it keeps now, and the effects are reported. `step` says of a list of
+-- failures, effects and a machine that they are such a step.
 pub record Stepped {I S : Type 0} {i : index.Ghosts I} {s : store.Ghosts S} (m : Machine)
     (old new : Primary I S i s) (effects : Effects)
     (step : List Bool → machine.Effects → Machine → Type 0) : Type 0 where
@@ -93,9 +94,9 @@ AtAnyMomentOf s moved m olds news =
     Each3 (λ a b k. LeavesOnly s.moment s.left_since a.store b.store (OpensAsEvent s.opens k.0 k.1)) olds news
     (with_rooms moved m.zones)
 
--- A primary took a step that may move the base of this zone, leaving that room: of the devices these failed,
--- each of which it is said; at each moment a crash left each device as that allows; the machine that it kept
--- went on to the next one, which it keeps now, and the effects are told.
+-- A primary took a step that may move the base of this zone, leaving that room: these of the devices failed,
+-- which is said of each of them; at each moment a crash left each device as that allows; the machine that it
+-- kept went on to the next one, which it keeps now, and the effects are reported.
 pub record SteppedOn {I S : Type 0} {i : index.Ghosts I} {s : store.Ghosts S} (m : Machine)
     (moved : Option (ℕ × ℕ)) (old new : Primary I S i s) (effects : Effects)
     (step : List Bool → machine.Effects → Machine → Type 0) : Type 0 where
@@ -136,7 +137,7 @@ nothing = record { sent = []; accepted = None; noted = Nothing }
 abbrev pub one_reply : Sent → machine.Effects
 one_reply reply = record { sent = reply ∷ []; accepted = None; noted = Nothing }
 
--- What becomes of an update goes out behind what went out before.
+-- What becomes of an update goes out after what went out before.
 abbrev pub answered_with : machine.Effects → Asked → Outcome → machine.Effects
 answered_with effects a (outcome.Waits rcode) = effects
 answered_with effects a (outcome.AtOnce rcode) =
@@ -144,7 +145,7 @@ answered_with effects a (outcome.AtOnce rcode) =
 answered_with effects a outcome.OutOfMemory =
     record effects { sent = effects.sent ++ replies a rcode_servfail ∷ []; noted = OutOfMemory }
 
--- Memory was refused to the move of a base, behind the flush.
+-- Memory was refused to the move of a base, after the flush.
 pub record LacksMove (fails : List Bool) (old : Machine) (effects : machine.Effects)
     (mid : Machine) : Type 0 where
   pub failures : AreFailures true old fails
@@ -156,9 +157,9 @@ pub record LacksMove (fails : List Bool) (old : Machine) (effects : machine.Effe
 -- What comes before an update is answered, or as much of it as memory was there for.
 abbrev pub IsBegunOrLacks : Machine → Option (ℕ × ℕ) → List Bool → machine.Effects → Machine → Type 0
 IsBegunOrLacks old lacked fails effects mid =
-    IsBegun fails old lacked effects mid ⊎ ((is_some lacked ≡ true) × LacksMove fails old effects mid)
+    IsUpdateBegun fails old lacked effects mid ⊎ ((is_some lacked ≡ true) × LacksMove fails old effects mid)
 
--- Memory was refused to an update, before what comes first, or within it, or behind it.
+-- Memory was refused to an update, before what comes first, or within it, or after it.
 pub record LacksUpdate (fails : List Bool) (old : Machine) (a : Asked) (effects : machine.Effects)
     (new : Machine) : Type 0 where
   pub noted : effects.noted ≡ OutOfMemory
@@ -167,7 +168,7 @@ pub record LacksUpdate (fails : List Bool) (old : Machine) (a : Asked) (effects 
       ⊎ ((((is_full old || is_some (room_lacked old a)) ≡ true) × AreFailures true old fails
       × (new ≡ flushed fails old) × (effects.sent ≡ flush_sends fails old ++ replies a rcode_servfail ∷ []))
       ⊎ ((lacked : ℕ × ℕ) × (first : machine.Effects) × (room_lacked old a ≡ Some lacked)
-      × IsBegun fails old (Some lacked) first new
+      × IsUpdateBegun fails old (Some lacked) first new
       × (effects.sent ≡ first.sent ++ replies a rcode_servfail ∷ [])))
 
 abbrev pub IsUpdatedOrLacks : Machine → Asked → List Bool → machine.Effects → Machine → Type 0
@@ -183,13 +184,13 @@ pub record LacksRequest (fails : List Bool) (old : Machine) (to : To) (updates :
       ⊎ ((((updates && is_full old || is_some lacked) ≡ true) × AreFailures true old fails
       × (new ≡ flushed fails old) × (effects.sent ≡ flush_sends fails old ++ failure to octets))
       ⊎ ((room : ℕ × ℕ) × (first : machine.Effects) × (lacked ≡ Some room)
-      × IsBegun fails old (Some room) first new × (effects.sent ≡ first.sent ++ failure to octets)))
+      × IsUpdateBegun fails old (Some room) first new × (effects.sent ≡ first.sent ++ failure to octets)))
 
 -- What becomes of octets that came from a peer by a transport, their reply going there.
 abbrev pub IsServedOrLacks : Machine → Peer → To → List ℕ → Transport → List Bool → machine.Effects
     → Machine → Type 0
 IsServedOrLacks old peer to octets transport fails effects new =
-    IsServed fails old to peer (handled (shown_zones old) octets transport) effects new
+    IsRequestHandled fails old to peer (handled (shown_zones old) octets transport) effects new
     ⊎ LacksRequest fails old to (is_update (handled (shown_zones old) octets transport))
     (request_lacks old to peer (handled (shown_zones old) octets transport)) octets effects new
 
@@ -205,5 +206,5 @@ pub record LacksAlone (fails : List Bool) (old : Machine) (to : To) (header : He
 abbrev pub IsTransferredOrLacks : Machine → Peer → To → List ℕ → Message → Question → List Bool
     → machine.Effects → Machine → Type 0
 IsTransferredOrLacks old peer to octets message question fails effects new =
-    IsServed fails old to peer (Transfer octets message question) effects new
+    IsRequestHandled fails old to peer (Transfer octets message question) effects new
     ⊎ LacksAlone fails old to message.header effects new

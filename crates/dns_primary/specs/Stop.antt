@@ -2,21 +2,21 @@
 use Rattle.std.specs.Prelude.{◌≡◌, ◌⊎◌, ◌≤◌, ◌+◌, ℕ, suc, false, List, [], ◌∷◌, ◌++◌, length, Some, None}
 use Rattle.dns_sectors.specs.Device.{Content}
 use Rattle.dns_store.specs.Versions.{Shape, Opened}
-use Rattle.dns_held.specs.Checkpoint.{IsNextBase}
+use Rattle.dns_held.specs.Checkpoint.{IsNextBaseNumber}
 use Rattle.dns_primary.specs.Machine.{Made, ZoneState, Machine, kept_of, versions_of}
 use Rattle.dns_primary.specs.Step.{Event, base_moved}
 
--- The event moves the base of the zone at this place, so that so much room is left.
+-- The event moves the base of the zone at this position, so that so much room is left.
 abbrev pub Checkpoints : Machine → Event → ℕ → ℕ → Type 0
 Checkpoints m event place room = base_moved m event ≡ Some (place, room)
 
--- The base that the event is making of the zone at this place.
+-- The base that the event is making of the zone at this position.
 abbrev pub IsMaking : Machine → Event → ℕ → ZoneState → ℕ → Type 0
 IsMaking m event place z base =
-    (room : ℕ) × Checkpoints m event place room × IsNextBase z.setting.keep room (kept_of z) base
+    (room : ℕ) × Checkpoints m event place room × IsNextBaseNumber z.setting.keep room (kept_of z) base
 
--- A zone as it is opened again: it shows the version that was shown and some of the updates staged behind it,
--- in order, and begins at its base, at the second one that a checkpoint left that failed, or at one that is
+-- A zone as it is opened again: it shows the version that was shown and some of the updates staged after it,
+-- in order, and begins at its base, at the second one left by a checkpoint that failed, or at one that is
 -- being made. Nothing is staged of it. Its store was opened at least and at most so often since.
 pub record IsRecovered (least most : ℕ) (making : ℕ → Type 0) (old new : ZoneState) : Type 0 where
   pub setting : new.setting ≡ old.setting
@@ -33,7 +33,7 @@ pub record IsRecovered (least most : ℕ) (making : ℕ → Type 0) (old new : Z
   pub at_least : old.openings + least ≤ new.openings
   pub at_most : new.openings ≤ old.openings + most
 
--- Each zone is, those from this place on.
+-- Each zone is, those from this position on.
 abbrev pub AreRecovered : ℕ → ℕ → Machine → Event → ℕ → List ZoneState → List ZoneState → Type 0
 AreRecovered least most m event place [] [] = Unit {0}
 AreRecovered least most m event place (z ∷ old) (w ∷ new) =
@@ -50,8 +50,8 @@ pub record IsStopped (tries : ℕ) (old : Machine) (event : Event) (new : Machin
   pub connections : new.connections ≡ []
 
 -- What a zone's device opens as where nothing of the zone is staged.
-abbrev pub opened_of : ZoneState → Opened
-opened_of z =
+abbrev pub reopened_as : ZoneState → Opened
+reopened_as z =
     record { loaded = z.loaded; versions = versions_of z.shown; base = z.base; openings = z.openings }
 
 -- The content of a device opens as a zone that this one may be recovered as, whose store was opened at most
@@ -59,4 +59,4 @@ opened_of z =
 abbrev pub OpensAsRecovered : (Shape → Opened → Content → Type 0) → ℕ → (ℕ → Type 0) → ZoneState
     → Content → Type 0
 OpensAsRecovered opens tries making z c =
-    (w : ZoneState) × IsRecovered 0 tries making z w × opens w.setting.shape (opened_of w) c
+    (w : ZoneState) × IsRecovered 0 tries making z w × opens w.setting.shape (reopened_as w) c

@@ -16,7 +16,7 @@ use Rattle.dns_request.specs.declared.request.Transport.{Transport}
 use Rattle.dns_request.specs.declared.request.Transport.TheVariants.{Udp, Tcp}
 use Rattle.dns_answer.specs.Answer.{bare_reply, fitted, with_question}
 use Rattle.dns_store.specs.Versions.{Versions, version_at}
-use Rattle.dns_transfer.specs.Session.{Sending, Sends, Version, Opens}
+use Rattle.dns_transfer.specs.Session.{Sending, SendsMessage, Version, Opens}
 use Rattle.dns_held.specs.Held.{shown_zone}
 use Rattle.dns_primary.specs.declared.event.Peer.{Peer}
 use Rattle.dns_primary.specs.declared.event.To.{To}
@@ -32,7 +32,7 @@ change_by before after (b ∷ []) (a ∷ []) =
     record { old_soa = b; removed = only_in before after; new_soa = a; added = only_in after before } ∷ []
 change_by before after _ _ = []
 
--- The changes from a version to the one behind it, and so on.
+-- The changes from a version to the one after it, and so on.
 abbrev pub changes_along : List Record → Versions → List Change
 changes_along before [] = []
 changes_along before (v ∷ rest) = change_by before v (soas before) (soas v) ++ changes_along v rest
@@ -93,7 +93,7 @@ with_transfer number s m = record m { connections = map (set_transfer number s) 
 abbrev pub TransferBegins : Machine → To → Sending → List Sent → Machine → Type 0
 TransferBegins m (Connection number) s out next = (out ≡ []) × (next ≡ with_transfer number (Some s) m)
 TransferBegins m (Address peer) s out next =
-    (message : List ℕ) × (rest : Sending) × Sends s message rest
+    (message : List ℕ) × (rest : Sending) × SendsMessage s message rest
     × (out ≡ Replied (Address peer) message ∷ []) × (next ≡ m)
 TransferBegins m Nowhere s out next = (out ≡ []) × (next ≡ m)
 
@@ -118,7 +118,7 @@ open_still (r ∷ rest) s = Some s
 abbrev pub IsSentOn : Machine → ℕ → Sending → List Record → List Sent → Machine → Type 0
 IsSentOn m number s [] out next = (out ≡ []) × (next ≡ with_transfer number None m)
 IsSentOn m number s (r ∷ left) out next =
-    (message : List ℕ) × (rest : Sending) × Sends s message rest
+    (message : List ℕ) × (rest : Sending) × SendsMessage s message rest
     × (out ≡ Replied (Connection number) message ∷ [])
     × (next ≡ with_transfer number (open_still rest.left rest) m)
 

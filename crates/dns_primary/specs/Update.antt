@@ -35,14 +35,14 @@ pub record Asked : Type 0 where
   pub message : Message
   pub zone : Question
 
--- The place of the first zone with this apex.
+-- The position of the first zone with this apex.
 abbrev pub place_of : Labels → List ZoneState → Option ℕ
 place_of apex [] = None
 place_of apex (z ∷ rest) =
     if names_eq z.setting.shape.apex apex then Some 0 else option_map suc (place_of apex rest)
 
 -- What is tested before the update is judged (RFC 2136 3.1, 3.3): it is refused at once, or it is for the
--- zone at a place.
+-- zone at a position.
 pub data Admission : Type 0 where
   Rejects : ℕ → Admission
   Admits : ℕ → ZoneState → Admission
@@ -78,7 +78,7 @@ waits m a place rcode updates =
 abbrev pub with_staged : Made → ZoneState → ZoneState
 with_staged made z = record z { staged = z.staged ++ made ∷ [] }
 
--- The update is put behind the newest version, and its reply waits.
+-- The update is staged after the newest version, and its reply waits.
 abbrev pub stages : Machine → Asked → ℕ → ZoneState → List Record → Machine
 stages m a place z records =
     let made : Made = record { update = a.message; records = records } in
@@ -126,7 +126,7 @@ lacked_by k (Refuses rcode) = None
 lacked_by k Keeps = None
 lacked_by k (Leaves records) = sectors_lacked k records
 
--- The place of the zone whose journal lacks room for the update, and how many sectors. Then a checkpoint
+-- The position of the zone whose journal lacks room for the update, and how many sectors. Then a checkpoint
 -- comes first that leaves them. No flush before it changes the newest version or what is left.
 abbrev pub lacked_at : Asked → Admission → Option (ℕ × ℕ)
 lacked_at a (Rejects rcode) = None

@@ -26,7 +26,7 @@ fn has_apex<I: ZoneIndex>(zone: &Zone<I>, apex: &NameRef<'_>) -> bool
     zone.apex().lend().is(apex)
 }
 
-/// The place of the first zone of that apex.
+/// The position of the first zone of that apex.
 pub(crate) fn place_of<I: ZoneIndex>(zones: &[Zone<I>], apex: &NameRef<'_>) -> Option<usize>
     ensures place { result ≡ position (λ z. names_eq z.apex apex.now) zones.now }
     ensures inside { IfSome result (λ place. place < length zones.now) }
@@ -55,8 +55,8 @@ fn admit_in<I: ZoneIndex, S: ZoneStore>(
     Ok(())
 }
 
-/// The place of the zone that an update is for, where it is to be judged: the tests stand in their order, the first that applies
-/// decides.
+/// The position of the zone that an update is for, where it is to be judged: the tests are made in their
+/// order, and the first that applies decides.
 ///
 /// - The type of the zone that is named is not SOA: FORMERR.
 /// - Its class is not IN, or its name is the apex of no zone here: NOTAUTH.

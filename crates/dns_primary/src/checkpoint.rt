@@ -46,7 +46,7 @@ fn move_base<I: ZoneIndex, S: ZoneStore>(
     }
 }
 
-/// What is noted behind the move of the base of the zone at a place.
+/// What is noted after the move of the base of the zone at a position.
 fn noted_behind(noted: Noted, place: usize, moved: Result<(), CheckpointError>) -> Noted
     ensures { result ≡ noted_moved noted place moved }
 {
@@ -65,7 +65,7 @@ fn noted_behind(noted: Noted, place: usize, moved: Result<(), CheckpointError>) 
 }
 
 impl<I: ZoneIndex, S: ZoneStore> Primary<I, S> {
-    /// Flushes all zones, and then moves the base of the one at a place to the version shown less as many
+    /// Flushes all zones, and then moves the base of the one at a position to the version shown less as many
     /// changes as it is to keep, where their entries leave so many sectors of its journal.
     pub(crate) fn make_room(&mut self, place: usize, room: usize) -> Effects
         requires inside { place < length self.old.behind.items }
@@ -85,7 +85,7 @@ impl<I: ZoneIndex, S: ZoneStore> Primary<I, S> {
         effects
     }
 
-    /// Flushes all zones, and then moves the base of the one at a place to the version shown less as many
+    /// Flushes all zones, and then moves the base of the one at a position to the version shown less as many
     /// changes as it is to keep, where their entries fit in its journal. Where there is no such zone nothing
     /// happens.
     pub(crate) fn checkpoint(&mut self, place: usize) -> Effects

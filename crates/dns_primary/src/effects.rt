@@ -100,7 +100,7 @@ impl Effects {
         }
     }
 
-    /// What becomes of an update, behind what goes out before.
+    /// What becomes of an update, after what goes out before.
     pub(crate) fn with_outcome(self, update: &UpdateRequest<'_>, outcome: Outcome) -> Effects
         requires bare { self.reply ≡ None }
         requires somewhere { is_nowhere update.now.to ≡ false }

@@ -50,7 +50,7 @@ pub enum Event<'a> {
     Message(usize, &'a [u8]),
     /// What was staged is to be made durable, and what waits for it goes out.
     Flush,
-    /// The zone at a place is to be flushed with all others, and then to get a later base, so that its
+    /// The zone at a position is to be flushed with all others, and then to get a later base, so that its
     /// journal has room again.
     Checkpoint(usize),
     /// The transfer that is open on a connection is to give its next message.
@@ -99,7 +99,7 @@ pub struct Reply {
 }
 
 /// A reply to an update, which waits for the next flush: where it goes, the header of the request, the code,
-/// and the place of the zone.
+/// and the position of the zone.
 #[derive(Clone, Copy)]
 pub struct Waiting {
     /// Where it goes.
@@ -108,7 +108,7 @@ pub struct Waiting {
     pub request: [u8; 12],
     /// Its code, unless the zone is closed before.
     pub rcode: Rcode,
-    /// The place of the zone.
+    /// The position of the zone.
     pub zone: usize,
 }
 
@@ -119,7 +119,7 @@ pub enum Noted {
     Nothing,
     /// Memory was refused.
     OutOfMemory,
-    /// The device of the zone at this place was the first that failed.
+    /// The device of the zone at this position was the first that failed.
     Device(usize),
 }
 

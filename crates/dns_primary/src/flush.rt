@@ -23,7 +23,7 @@ use dns_store::ZoneStore;
 use dns_wire::Rcode;
 use dns_zone::{Zone, ZoneIndex};
 
-/// Whether the zone at a place is closed, or there is none.
+/// Whether the zone at a position is closed, or there is none.
 fn is_closed_at<I: ZoneIndex, S: ZoneStore>(behind: &[Behind<I, S>], place: usize) -> bool
     ensures { (shown : List Stated) (zones : List ZoneState)
         → HaveVersions S.keeps shown behind.now zones
@@ -78,7 +78,7 @@ fn release<I: ZoneIndex, S: ZoneStore>(
     });
 }
 
-/// Lets the replies that waited go out, for each of which there is a place.
+/// Releases the pending replies, for each of which there is a place.
 fn release_all<I: ZoneIndex, S: ZoneStore>(
     behind: &[Behind<I, S>],
     waiting: &ArrayVec<Waiting, 32>,
@@ -98,8 +98,8 @@ fn release_all<I: ZoneIndex, S: ZoneStore>(
     }
 }
 
-/// Flushes all zones, and lets go out what waited, for each of which there is a place. Gives the first zone
-/// whose device failed.
+/// Flushes all zones, and releases the pending replies, for each of which there is a place. Gives the first
+/// zone whose device failed.
 pub(crate) fn flush<I: ZoneIndex, S: ZoneStore>(
     zones: &mut [Zone<I>],
     behind: &mut [Behind<I, S>],

@@ -10,7 +10,7 @@ ghost use Rattle.dns_transfer.specs.Session.{Sending};
 ghost use Rattle.dns_primary.specs.Machine.{Machine, ZoneState, kept_of, sending_at};
 ghost use Rattle.dns_primary.specs.Checkpoint.{IsCheckpoint};
 ghost use Rattle.dns_primary.specs.Update.{Asked, room_lacked};
-ghost use Rattle.dns_primary.specs.Step.{Effects as StatedEffects, Event as StatedEvent, IsBegun, Step};
+ghost use Rattle.dns_primary.specs.Step.{Effects as StatedEffects, Event as StatedEvent, IsUpdateBegun, Step};
 ghost use Rattle.dns_primary.specs.Stop.{Checkpoints, IsMaking, OpensAsRecovered};
 ghost use Rattle.dns_primary.specs.Fresh.{FitLoaded, IsFresh, IsLoaded, IsResumed, IsStart};
 ghost use Rattle.dns_primary.specs.Open.{shape_of};
@@ -23,7 +23,7 @@ ghost use Rattle.dns_primary.specs.Bounds.{IsBounded};
 ghost use Rattle.dns_primary.specs.declared.primary.ZoneSettings.{ZoneSettings as StatedSettings};
 
 /// Whatever events come, whatever devices fail, whenever memory is refused, and however often the machine
-/// stops, within an event and within the recovery behind it: after recovery each zone is its loaded records
+/// stops, within an event and within the recovery after it: after recovery each zone is its loaded records
 /// after accepted updates, in order, each judged on what the one before it left (RFC 2136 section 3), with
 /// room for each, and each came in the run from an address that may update the zone. They hold every update
 /// that was ever answered NOERROR, and every version that was ever shown. And no store says that it was
@@ -69,12 +69,12 @@ pub fn room_law()
     ensures left { (start : Machine) (run : List Moment) (fails : List Bool) (a : Asked)
         (first : StatedEffects) (mid : Machine)
         → IsStart start → FitLoaded start → Run start run
-        → IsBegun fails (last_of start run) (room_lacked (last_of start run) a) first mid
+        → IsUpdateBegun fails (last_of start run) (room_lacked (last_of start run) a) first mid
         → LacksRoom mid a → HasNoRoom mid a }
 {}
 
 /// What a crash leaves of a zone's device is what the machine's stop leaves of the zone: the version that was
-/// shown and some of the updates staged behind it, in order, and a base that it had or that the event was
+/// shown and some of the updates staged after it, in order, and a base that it had or that the event was
 /// making.
 pub fn stop_law()
     ensures left { (m : Machine) (event : StatedEvent) (place : ℕ) (z : ZoneState) (c : List (List ℕ))

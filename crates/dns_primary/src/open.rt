@@ -26,7 +26,7 @@ use slab::Slab;
 /// Why a primary was not opened, and all devices, in the order in which they came.
 #[derive(Drop)]
 pub struct NotOpened<D> {
-    /// The place of the zone whose store was refused, or 0 where memory was refused before any was opened.
+    /// The position of the zone whose store was refused, or 0 where memory was refused before any was opened.
     pub place: usize,
     /// What its store was refused for.
     pub error: OpenError,
@@ -48,7 +48,7 @@ struct AllOpened<D: Sectors + Drop, I: ZoneIndex> {
     behind: Vec<Behind<I, KeptStore<D, I>>, Heap>,
 }
 
-// The place of the zone that was refused, and why.
+// The position of the zone that was refused, and why.
 #[derive(Clone, Copy)]
 struct Refusal {
     place: usize,
@@ -155,7 +155,7 @@ impl<D: Sectors + Drop, I: ZoneIndex> Primary<I, KeptStore<D, I>> {
     /// Opens the devices of zones with these names and settings, all in one order, one after the other.
     ///
     /// Where the store of one is refused, all devices are handed back, in the order in which they came: those
-    /// before it were opened and those behind it are as they were. On the devices of a machine that stopped,
+    /// before it were opened and those after it are as they were. On the devices of a machine that stopped,
     /// however often recovery was itself stopped or refused before, it is refused only where that zone's
     /// device failed, where memory was refused, or where that store was opened 2^64 - 1 times.
     pub fn open(

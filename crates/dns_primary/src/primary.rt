@@ -26,15 +26,15 @@ pub struct ZoneSettings {
     pub transfer: Vec<Prefix, Heap>,
 }
 
-/// All zones as they are shown, what stands behind each, the replies that wait, the connections, and the
-/// transfers that are open on them, at most one on each.
+/// All zones as they are shown, what backs each, the pending replies, the connections, and the transfers that
+/// are open on them, at most one on each.
 #[derive(Drop)]
 pub struct Primary<I: ZoneIndex, S: ZoneStore> {
     pub(crate) zones: Vec<Zone<I>, Heap>,
     pub(crate) behind: Vec<Behind<I, S>, Heap>,
     pub(crate) settings: Vec<ZoneSettings, Heap>,
     pub(crate) waiting: ArrayVec<Waiting, 32>,
-    // Nothing, with a place for each reply that waits: a flush hands it out.
+    // Empty, with a place for each pending reply: a flush hands it out.
     pub(crate) places: Vec<HeaderTo, Heap>,
     pub(crate) connections: Slab<Peer, Heap>,
     pub(crate) transfers: Vec<OpenTransfer<I>, Heap>,

@@ -7,7 +7,8 @@ ghost use Rattle.dns_primary.specs.declared.primary.ZoneSettings.{ZoneSettings a
 ghost use Rattle.dns_primary.specs.Machine.{Machine};
 ghost use Rattle.dns_primary.specs.Update.{answer};
 ghost use Rattle.dns_primary.specs.Keeps.{HaveVersions, IsSet};
-ghost use Rattle.dns_primary.specs.Queue.{Holds, HoldsStill, IsAnswered, IsReady, IsStageableAt, IsTested};
+ghost use Rattle.dns_primary.specs.Queue.{HoldsZones, HoldsStill, IsAnswered, IsReady, IsStageableAt};
+ghost use Rattle.dns_primary.specs.Queue.{IsTested};
 ghost use Rattle.dns_primary.specs.Queue.{IsUntouched, asked_of};
 
 use crate::admission::admit;
@@ -51,7 +52,7 @@ pub(crate) fn header_octets<'a>(request: &RequestMessage<'a>) -> &'a [u8; 12]
 pub(crate) enum Tested<I: ZoneIndex> {
     /// It is refused before it is judged, at once, with this code.
     AtOnce(Rcode),
-    /// It is for the zone at this place, and judged so.
+    /// It is for the zone at this position, and judged so.
     Judged(usize, Judgement<I>),
 }
 
@@ -82,7 +83,7 @@ pub(crate) fn admit_and_judge<I: ZoneIndex, S: ZoneStore>(
     }
 }
 
-/// Stages what an update of the zone at a place makes, and lets its reply wait, unless the zone is closed:
+/// Stages what an update of the zone at a position makes, and lets its reply wait, unless the zone is closed:
 /// then it goes out at once.
 pub(crate) fn stage_at<I: ZoneIndex, S: ZoneStore>(
     zones: &[Zone<I>],
@@ -99,9 +100,9 @@ pub(crate) fn stage_at<I: ZoneIndex, S: ZoneStore>(
     requires header { header_of update.now.header.now ≡ update.now.request.message.message.header }
     requires stageable { IsStageableAt I.records (newest_each zones.now behind.old) place judged }
     ensures done { (settings : List Settings) (m : Machine)
-        → Holds S.keeps zones.now behind.old settings waiting.old.items m.connections m
+        → HoldsZones S.keeps zones.now behind.old settings waiting.old.items m.connections m
         → HoldsStill I.records m (asked_of update.now) place judged
-        → IsAnswered (Holds S.keeps zones.now behind.new settings waiting.new.items m.connections) m
+        → IsAnswered (HoldsZones S.keeps zones.now behind.new settings waiting.new.items m.connections) m
         (asked_of update.now) (answer m (asked_of update.now)) result }
     ensures still { Each2 (λ a b. IsUntouched S.moment S.left_since S.failed a.store b.store)
         behind.old behind.new }

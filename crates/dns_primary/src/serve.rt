@@ -8,9 +8,10 @@ ghost use Rattle.dns_primary.specs.declared.event.Noted.TheVariants.{OutOfMemory
 ghost use Rattle.dns_primary.specs.To.{is_nowhere};
 ghost use Rattle.dns_primary.specs.Machine.{Machine, shown_zones};
 ghost use Rattle.dns_primary.specs.Update.{answer, room_lacked};
-ghost use Rattle.dns_primary.specs.Step.{IsBegun, request_lacks};
-ghost use Rattle.dns_primary.specs.Keeps.{IsKept, IsThere};
-ghost use Rattle.dns_primary.specs.Queue.{HoldsStill, IsAnswered, IsJudged, IsReady, IsStageableAt, IsTested};
+ghost use Rattle.dns_primary.specs.Step.{IsUpdateBegun, request_lacks};
+ghost use Rattle.dns_primary.specs.Keeps.{IsKept, HasConnection};
+ghost use Rattle.dns_primary.specs.Queue.{HoldsStill, IsAnswered, IsUpdateJudged, IsReady, IsStageableAt};
+ghost use Rattle.dns_primary.specs.Queue.{IsTested};
 ghost use Rattle.dns_primary.specs.Queue.{IsUntouched, asked_of};
 ghost use Rattle.dns_primary.specs.Steps.{IsBegunOrLacks, IsServedOrLacks, IsUpdatedOrLacks, Stepped};
 ghost use Rattle.dns_primary.specs.Steps.{SteppedOn};
@@ -39,10 +40,11 @@ fn lacks_memory(noted: Noted) -> bool
 }
 
 impl<I: ZoneIndex, S: ZoneStore> Primary<I, S> {
-    /// Makes a place for one more reply that waits: where as many wait as may, there is a flush.
+    /// Makes a place for one more pending reply: where as many wait as may, there is a flush.
     fn make_place(&mut self, alloc: Heap) -> Effects
         ensures step { (old : Machine) → IsKept self.old old
-            → Stepped old self.old self.new result (λ fails stated next. IsBegun fails old None stated next) }
+            → Stepped old self.old self.new result
+            (λ fails stated next. IsUpdateBegun fails old None stated next) }
         ensures room { length self.new.waiting.items < 32 }
         ensures bare { result.reply ≡ None }
         ensures as_many { length self.new.behind.items ≡ length self.old.behind.items }
@@ -55,8 +57,8 @@ impl<I: ZoneIndex, S: ZoneStore> Primary<I, S> {
         Effects::nothing(alloc)
     }
 
-    /// Does what comes before an update of the zone at a place is answered: where its journal lacks so many
-    /// sectors for it, they are made free, and else a place for its reply.
+    /// Does what comes before an update of the zone at a position is answered: where its journal lacks so
+    /// many sectors for it, they are made free, and else a place for its reply.
     fn begin(&mut self, alloc: Heap, place: usize, lacked: Option<usize>) -> Effects
         requires inside { place < length self.old.behind.items }
         ensures step { (old : Machine) → IsKept self.old old
@@ -96,7 +98,7 @@ impl<I: ZoneIndex, S: ZoneStore> Primary<I, S> {
         )
     }
 
-    /// Stages what an update of the zone at a place makes, and lets its reply wait, unless it goes out at
+    /// Stages what an update of the zone at a position makes, and lets its reply wait, unless it goes out at
     /// once.
     fn stage(&mut self, place: usize, update: &UpdateRequest<'_>, judged: Judgement<I>) -> Outcome
         requires inside { place < length self.old.behind.items }
@@ -132,7 +134,7 @@ impl<I: ZoneIndex, S: ZoneStore> Primary<I, S> {
         requires stageable { IsStageableAt I.records
             (newest_each self.old.zones.items self.old.behind.items) place judged }
         ensures step { (old : Machine) → IsKept self.old old
-            → IsJudged I.records old (asked_of update.now) place judged
+            → IsUpdateJudged I.records old (asked_of update.now) place judged
             → SteppedOn old (room_lacked old (asked_of update.now)) self.old self.new result
             (IsUpdatedOrLacks old (asked_of update.now)) }
     {
@@ -177,7 +179,7 @@ impl<I: ZoneIndex, S: ZoneStore> Primary<I, S> {
         transport: Transport,
     ) -> Effects
         requires somewhere { is_nowhere to ≡ false }
-        requires there { IsThere self.old.connections to }
+        requires there { HasConnection self.old.connections to }
         ensures step { (old : Machine) → IsKept self.old old
             → SteppedOn old (request_lacks old to peer (handled (shown_zones old) octets.now transport))
             self.old self.new result (IsServedOrLacks old peer to octets.now transport) }

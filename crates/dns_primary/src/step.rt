@@ -70,7 +70,7 @@ impl<I: ZoneIndex, S: ZoneStore> Primary<I, S> {
         }
     }
 
-    /// Lets an event happen, and tells what it does to the world.
+    /// Lets an event happen, and reports what it does to the world.
     ///
     /// - `Datagram`, `Message`: queries are answered of what is shown. An update is tested, judged on the
     ///   newest version and staged, and its reply waits for the next flush; one that is refused before it is
@@ -84,7 +84,7 @@ impl<I: ZoneIndex, S: ZoneStore> Primary<I, S> {
     /// - `Flush`: what was staged is made durable and shown, and what waits goes out. `Closed`: what waits to
     ///   go there goes nowhere, and the transfer that is open there is forgotten.
     ///   Neither takes memory.
-    /// - `Checkpoint`: all zones are flushed; then the one at the place, unless it is closed, gets a later
+    /// - `Checkpoint`: all zones are flushed; then the one at the position, unless it is closed, gets a later
     ///   base, and keeps the newest changes alone. One whose base would take more sectors than a snapshot has
     ///   keeps its base.
     ///
@@ -113,7 +113,8 @@ impl<I: ZoneIndex, S: ZoneStore> Primary<I, S> {
         }
     }
 
-    /// The version of the zone at a place that is shown: its number, the loaded one having 0, and the zone.
+    /// The version of the zone at a position that is shown: its number, the loaded one having 0, and the
+    /// zone.
     pub fn shown(&self, place: usize) -> Option<(u64, &Zone<I>)>
         ensures { (m : Machine) → IsKept self.now m
             → MatchOption result (slice_get m.zones place ≡ None)

@@ -9,12 +9,12 @@ ghost use Rattle.dns_answer.specs.Answer.{bare_reply};
 ghost use Rattle.dns_primary.specs.To.{is_nowhere};
 ghost use Rattle.dns_primary.specs.declared.event.Noted.TheVariants.{OutOfMemory as StatedLack};
 ghost use Rattle.dns_primary.specs.declared.event.To.TheVariants.{Connection as StatedConnection};
-ghost use Rattle.dns_transfer.specs.Session.{Opens, Sends};
+ghost use Rattle.dns_transfer.specs.Session.{Opens, SendsMessage};
 ghost use Rattle.dns_primary.specs.Machine.{Machine, ZoneState};
 ghost use Rattle.dns_primary.specs.Flush.{Replied, rcode_servfail};
 ghost use Rattle.dns_primary.specs.Transfer.{OpensFrom, is_free, refusal_of, transport_of, version_of};
 ghost use Rattle.dns_primary.specs.Step.{Step, Pump};
-ghost use Rattle.dns_primary.specs.Keeps.{AreEffects, IsKept, IsThere, sending_on};
+ghost use Rattle.dns_primary.specs.Keeps.{AreEffects, IsKept, HasConnection, sending_on};
 ghost use Rattle.dns_primary.specs.Steps.{IsTransferredOrLacks, Stepped, nothing, one_reply};
 ghost use Rattle.dns_primary.specs.Sending.{EndsOn, IsAtOnce, SendsOn, TransferBeginsOrLacks};
 
@@ -52,7 +52,7 @@ fn transport_of(to: To) -> Transport
     }
 }
 
-/// The place of the transfer that is open on the connection with that number.
+/// The position of the transfer that is open on the connection with that number.
 fn place_on<I: ZoneIndex>(transfers: &[OpenTransfer<I>], number: usize) -> Option<usize>
     ensures place { result ≡ position (λ t. t.number == number) transfers.now }
     ensures inside { IfSome result (λ place. place < length transfers.now) }
@@ -69,7 +69,7 @@ pub(crate) fn forget<I: ZoneIndex>(transfers: &mut Vec<OpenTransfer<I>, Heap>, n
     transfers.retain(|transfer| transfer.number != number);
 }
 
-/// Keeps a transfer behind those that are open.
+/// Keeps a transfer after those that are open.
 fn keep<I: ZoneIndex>(
     transfers: &mut Vec<OpenTransfer<I>, Heap>,
     transfer: OpenTransfer<I>,
@@ -90,7 +90,7 @@ fn next_of<I: ZoneIndex>(
     ensures sent { IfOk result (λ r. MatchOption r.0
         ((transfer.new.session ≡ transfer.old.session) × (transfer.old.session.left ≡ []))
         (λ octets. (transfer.old.session.left ≡ [] → ⊥)
-        × Sends transfer.old.session octets.items transfer.new.session)) }
+        × SendsMessage transfer.old.session octets.items transfer.new.session)) }
     ensures done { IfOk result (λ r. IsTrue r.1 ↔ (transfer.new.session.left ≡ [])) }
     ensures refused { OnErr result (transfer.new.session ≡ transfer.old.session) }
 {
@@ -99,7 +99,7 @@ fn next_of<I: ZoneIndex>(
     Ok((message, is_done))
 }
 
-/// The next message of the transfer at a place, the first on the connection with that number. The last one
+/// The next message of the transfer at a position, the first on the connection with that number. The last one
 /// ends it.
 fn next_at<I: ZoneIndex>(
     alloc: Heap,
@@ -249,8 +249,8 @@ impl<I: ZoneIndex, S: ZoneStore> Primary<I, S> {
         }
     }
 
-    /// What a request for a transfer of the zone at a place opens, or the response code of its refusal: the
-    /// version is the one that is shown.
+    /// What a request for a transfer of the zone at a position opens, or the response code of its refusal:
+    /// the version is the one that is shown.
     fn open_shown(
         &self,
         alloc: Heap,
@@ -305,7 +305,7 @@ impl<I: ZoneIndex, S: ZoneStore> Primary<I, S> {
         session: Session<I>,
     ) -> Effects
         requires somewhere { is_nowhere to ≡ false }
-        requires there { IsThere self.old.connections to }
+        requires there { HasConnection self.old.connections to }
         requires some { session.left ≡ [] → ⊥ }
         ensures step { (old : Machine) → IsKept self.old old → is_free to old.connections ≡ true
             → Stepped old self.old self.new result
@@ -333,7 +333,7 @@ impl<I: ZoneIndex, S: ZoneStore> Primary<I, S> {
         request: &RequestMessage<'_>,
     ) -> Effects
         requires somewhere { is_nowhere to ≡ false }
-        requires there { IsThere self.old.connections to }
+        requires there { HasConnection self.old.connections to }
         ensures step { (old : Machine) → IsKept self.old old → Stepped old self.old self.new result
             (IsTransferredOrLacks old peer to request.now.message.octets request.now.message.message
             request.now.question) }

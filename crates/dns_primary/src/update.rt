@@ -89,7 +89,7 @@ pub(crate) fn judge_newest<I: ZoneIndex, S: ZoneStore>(
     }
 }
 
-/// Stages the version that an update makes behind the newest one, unless the zone is closed. No device is
+/// Stages the version that an update makes after the newest one, unless the zone is closed. No device is
 /// touched.
 pub(crate) fn stage_judged<I: ZoneIndex, S: ZoneStore>(
     zone: &Zone<I>,

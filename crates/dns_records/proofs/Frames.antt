@@ -8,7 +8,7 @@ use Rattle.dns_names.specs.PlainLaws.{parts_same, wire_first}
 use Rattle.std.proofs.lemmas.Bool.Decides.{nat_tests}
 use Rattle.dns_records.specs.Types.{is_data_type}
 use Rattle.dns_records.specs.Record.{Record, Data, IsRecord, plain, data_of}
-use Rattle.dns_records.specs.Refusals.{IsFramed, RefusesData}
+use Rattle.dns_records.specs.Refusals.{IsRecordFrame, RefusesData}
 use Rattle.dns_records.specs.declared.record.RecordError.{RecordError}
 use Rattle.dns_records.specs.declared.record.RecordError.TheVariants.{OutOfMemory, BadData, TooLong, UnknownType}
 
@@ -32,7 +32,7 @@ plain_parts r rest =
     let d = to_be_bytes w16 (length r.rdata) in
     append_assoc (a ++ b ++ c ++ d) r.rdata rest ∙ append_assoc (a ++ b ++ c) d (r.rdata ++ rest) ∙ append_assoc (a ++ b) c (d ++ (r.rdata ++ rest)) ∙ append_assoc a b (c ++ (d ++ (r.rdata ++ rest)))
 
-pub owner_first : (octets : List ℕ) (name : Labels) (behind : List ℕ) → IsName name → octets ≡ wire name ++ behind → (r : Record) (rest : List ℕ) → IsFramed octets r rest → behind ≡ behind_owner r rest
+pub owner_first : (octets : List ℕ) (name : Labels) (behind : List ℕ) → IsName name → octets ≡ wire name ++ behind → (r : Record) (rest : List ℕ) → IsRecordFrame octets r rest → behind ≡ behind_owner r rest
 owner_first octets name behind valid e r rest f =
     let valid_owner : IsName r.owner = f.owner in
     (wire_first name r.owner behind (behind_owner r rest) valid.labels valid_owner.labels (sym e ∙ f.whole ∙ plain_parts r rest)).1
@@ -61,7 +61,7 @@ pub data_none : (b : List ℕ) (n : ℕ) → length b < n → (r : Record) (rest
 data_none b n short r rest h same = omega (arith, ap length h, length-append r.rdata rest)
 
 -- a valid record at the front is framed there, and its data is refused by nothing but memory
-pub framed : (octets : List ℕ) (r : Record) (n : ℕ) → IsRecord r → r.rtype < 2 ^ 16 → n ≤ length octets → take n octets ≡ plain r → (rest : List ℕ) × IsFramed octets r rest
+pub framed : (octets : List ℕ) (r : Record) (n : ℕ) → IsRecord r → r.rtype < 2 ^ 16 → n ≤ length octets → take n octets ≡ plain r → (rest : List ℕ) × IsRecordFrame octets r rest
 framed octets r n valid small fits e =
     let short : length r.rdata ≤ 4096 = valid.short in
     (drop n octets, record { owner = valid.owner; rtype = small; ttl = valid.ttl; size = omega arith; whole = sym (take-append-drop n octets) ∙ ap (λ (x : List ℕ). x ++ drop n octets) e })
@@ -74,7 +74,7 @@ abbrev made : ℕ → List ℕ → Data
 made t o = record { rtype = t; octets = o }
 
 -- octets begin as one plain record at most
-pub frames_once : (octets : List ℕ) (r s : Record) (x y : List ℕ) → IsFramed octets r x → IsFramed octets s y → data_of r ≡ data_of s
+pub frames_once : (octets : List ℕ) (r s : Record) (x y : List ℕ) → IsRecordFrame octets r x → IsRecordFrame octets s y → data_of r ≡ data_of s
 frames_once octets r s x y f g =
     let owner = owner_first octets r.owner (behind_owner r x) f.owner (f.whole ∙ plain_parts r x) s y g in
     let types = parts_same (to_be_bytes w16 r.rtype) (to_be_bytes w16 s.rtype) (behind_type r x) (behind_type s y) owner refl in
@@ -91,10 +91,10 @@ refused_valid r h UnknownType w = (let known : is_data_type r.rtype ≡ true = h
 refused_valid r h TooLong w = (let short : length r.rdata ≤ 4096 = h.short in let long : 4096 < length r.rdata = w.1 in absurd (omega arith))
 refused_valid r h BadData w = absurd (w.2 h.rdata)
 
-pub only_memory : (octets : List ℕ) (s : Record) (y : List ℕ) → IsFramed octets s y → (e : RecordError) → RefusesData (data_of s) e → (r : Record) (n : ℕ) → IsRecord r → n ≤ length octets → take n octets ≡ plain r → e ≡ OutOfMemory
+pub only_memory : (octets : List ℕ) (s : Record) (y : List ℕ) → IsRecordFrame octets s y → (e : RecordError) → RefusesData (data_of s) e → (r : Record) (n : ℕ) → IsRecord r → n ≤ length octets → take n octets ≡ plain r → e ≡ OutOfMemory
 only_memory octets s y f e w r n valid fits read =
     let g = framed octets r n valid (known_small r.rtype valid.rtype) fits read in
     refused_valid r valid e (subst (λ (d : Data). RefusesData d e) (frames_once octets s r y g.0 f g.1) w)
 
-pub none_read : (octets : List ℕ) → ((r : Record) (rest : List ℕ) → IsFramed octets r rest → ⊥) → (r : Record) (n : ℕ) → IsRecord r → n ≤ length octets → take n octets ≡ plain r → ⊥
+pub none_read : (octets : List ℕ) → ((r : Record) (rest : List ℕ) → IsRecordFrame octets r rest → ⊥) → (r : Record) (n : ℕ) → IsRecord r → n ≤ length octets → take n octets ≡ plain r → ⊥
 none_read octets none r n valid fits read = let g = framed octets r n valid (known_small r.rtype valid.rtype) fits read in none r g.0 g.1

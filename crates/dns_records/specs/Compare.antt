@@ -70,19 +70,19 @@ same_record-equiv =
 pub same_record-per : IsPartialEquivalence same_record
 same_record-per = partial_equiv_from_equiv same_record-equiv
 
-abbrev joined : Labels → ℕ → Data → Record
-joined owner ttl d = record { owner = owner; rtype = d.rtype; ttl = ttl; rdata = d.octets }
+abbrev record_of_data : Labels → ℕ → Data → Record
+record_of_data owner ttl d = record { owner = owner; rtype = d.rtype; ttl = ttl; rdata = d.octets }
 
 pub same_record-Decides : (a b : Record) → Decides (same_record a b) (a ≡ b)
 same_record-Decides a b = (
   λ t.
       let front =
       first_so (names_eq a.owner b.owner && a.ttl == b.ttl) (same_data (data_of a) (data_of b)) t in
-      ap (λ (n : Labels). joined n a.ttl (data_of a)) ((names_eq-Decides a.owner b.owner).0
+      ap (λ (n : Labels). record_of_data n a.ttl (data_of a)) ((names_eq-Decides a.owner b.owner).0
       (first_so (names_eq a.owner b.owner) (a.ttl == b.ttl) front))
-      ∙ ap (λ (k : ℕ). joined b.owner k (data_of a)) (eqb-true a.ttl b.ttl
+      ∙ ap (λ (k : ℕ). record_of_data b.owner k (data_of a)) (eqb-true a.ttl b.ttl
       (second_so (names_eq a.owner b.owner) (a.ttl == b.ttl) front))
-      ∙ ap (joined b.owner b.ttl) ((same_data-Decides (data_of a) (data_of b)).0
+      ∙ ap (record_of_data b.owner b.ttl) ((same_data-Decides (data_of a) (data_of b)).0
       (second_so (names_eq a.owner b.owner && a.ttl == b.ttl) (same_data (data_of a) (data_of b)) t)),
   λ e. ap (same_record a) (sym e) ∙ same_record-equiv.refl a,
 )

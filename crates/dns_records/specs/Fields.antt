@@ -25,7 +25,7 @@ stated_field part.Strings = Strings
 abbrev pub stated_fields : List Part → List Field
 stated_fields fields = map stated_field fields
 
--- Strings take what is left of the data, so they stand last.
+-- Strings take what is left of the data, so they come last.
 abbrev pub StringsLast : List Field → Type 0
 StringsLast [] = Unit {0}
 StringsLast (Values vs ∷ fields) = StringsLast fields

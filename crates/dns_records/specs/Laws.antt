@@ -214,7 +214,7 @@ address_whole vs o parts =
     let none : parts.1 ≡ [] = parts.4 in
     ap length (parts.2 ∙ ap (λ (x : List ℕ). parts.0 ++ x) none ∙ append-nil parts.0) ∙ parts.3
 
--- strings stand last in the form of each type
+-- strings come last in the form of each type
 chosen : (b : Bool) (f g : Option (List Field)) → IfSome f StringsLast → IfSome g StringsLast
     → IfSome (cond b f g) StringsLast
 chosen true f g h k = h

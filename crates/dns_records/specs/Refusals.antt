@@ -1,4 +1,4 @@
--- Why octets are no data of a record, and why no plain record stands at their front.
+-- Why octets are no data of a record, and why no plain record is at their front.
 use Rattle.std.specs.Prelude.{◌≡◌, ℕ, ◌<◌, ◌≤◌, ◌^◌, ◌⊎◌, true, false, List, ◌++◌, length}
 use Rattle.dns_names.specs.Name.{IsName}
 use Rattle.dns_records.specs.Types.{is_data_type}
@@ -17,15 +17,15 @@ RefusesData d BadData =
 
 -- Octets begin as a plain record does: an owner, a type, a TTL, a length, and so many octets, whatever they
 -- are.
-pub record IsFramed (octets : List ℕ) (r : Record) (rest : List ℕ) : Type 0 where
+pub record IsRecordFrame (octets : List ℕ) (r : Record) (rest : List ℕ) : Type 0 where
   pub owner : IsName r.owner
   pub rtype : r.rtype < 2 ^ 16
   pub ttl : r.ttl < 2 ^ 32
   pub size : length r.rdata < 2 ^ 16
   pub whole : octets ≡ plain r ++ rest
 
--- The octets end too early, or have no owner; or what stands there has no valid data.
+-- The octets end too early, or have no owner; or what is there has no valid data.
 abbrev pub RefusesPlain : List ℕ → RecordError → Type 0
 RefusesPlain octets e =
-    (((r : Record) (rest : List ℕ) → IsFramed octets r rest → ⊥) × (e ≡ BadData))
-    ⊎ ((r : Record) × (rest : List ℕ) × IsFramed octets r rest × RefusesData (data_of r) e)
+    (((r : Record) (rest : List ℕ) → IsRecordFrame octets r rest → ⊥) × (e ≡ BadData))
+    ⊎ ((r : Record) × (rest : List ℕ) × IsRecordFrame octets r rest × RefusesData (data_of r) e)

@@ -38,7 +38,7 @@ soa_numbers soa =
 abbrev pub soa_data : Soa → Data
 soa_data soa = record { rtype = type_soa; octets = wire soa.mname ++ wire soa.rname ++ soa_numbers soa }
 
--- The serial stands before the last four of the five numbers.
+-- The serial precedes the last four of the five numbers.
 abbrev pub soa_with : Data → ℕ → Data
 soa_with d serial = let at = length d.octets - 20 in
     record { rtype = d.rtype; octets = take at d.octets ++ to_be_bytes w32 serial ++ drop (at + 4) d.octets }

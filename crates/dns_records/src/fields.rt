@@ -22,7 +22,7 @@ pub(crate) fn are_strings(octets: &[u8]) -> bool
     !octets.is_empty()
 }
 
-/// Whether the octets are the parts, one behind the other.
+/// Whether the octets are the parts, one after the other.
 pub(crate) fn fit(fields: &[Field], octets: &[u8]) -> bool
     requires { StringsLast (stated_fields fields.now) }
     ensures { IsTrue result ↔ AreFields (stated_fields fields.now) octets.now }

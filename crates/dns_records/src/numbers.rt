@@ -4,7 +4,7 @@ ghost use Rattle.std.specs.Prelude.{MatchOption};
 ghost use Rattle.std.specs.Int.{w16, w32, to_be_bytes};
 ghost use Rattle.dns_records.specs.Record.{number_of};
 
-/// A number of 16 bits, and the octets behind it.
+/// A number of 16 bits, and the octets after it.
 pub(crate) fn split_u16(octets: &[u8]) -> Option<(u16, &[u8])>
     ensures found { IfSome result (λ r. (r.0 < 2 ^ 16) × (octets.now ≡ to_be_bytes w16 r.0 ++ r.1.now)) }
     ensures none { IfNone result (length octets.now < 2) }
@@ -13,7 +13,7 @@ pub(crate) fn split_u16(octets: &[u8]) -> Option<(u16, &[u8])>
     Some((u16::from_be_bytes(*number), rest))
 }
 
-/// A number of 32 bits, and the octets behind it.
+/// A number of 32 bits, and the octets after it.
 pub(crate) fn split_u32(octets: &[u8]) -> Option<(u32, &[u8])>
     ensures found { IfSome result (λ r. (r.0 < 2 ^ 32) × (octets.now ≡ to_be_bytes w32 r.0 ++ r.1.now)) }
     ensures none { IfNone result (length octets.now < 4) }

@@ -2,7 +2,7 @@
 ghost use Rattle.std.specs.Prelude.{◌≡◌, ◌↔◌, IsTrue, ℕ, List, ◌++◌, ◌≤◌, length, take, IfOk, IfErr, IfSome};
 ghost use Rattle.std.specs.Prelude.{IfNone};
 ghost use Rattle.dns_records.specs.Record.{Record as Stated, IsRData, IsRecord, plain};
-ghost use Rattle.dns_records.specs.Refusals.{RefusesData, IsFramed, RefusesPlain};
+ghost use Rattle.dns_records.specs.Refusals.{RefusesData, IsRecordFrame, RefusesPlain};
 
 use crate::fields::fit;
 use crate::numbers::{split_u16, split_u32};
@@ -10,7 +10,7 @@ use crate::{RData, Record, RecordError, form, is_data_type};
 use dns_memory::Heap;
 use dns_names::NameRef;
 
-/// What stands at the front of octets in the form of a plain record, and what is behind it.
+/// What is at the front of octets in the form of a plain record, and what follows it.
 #[derive(Drop)]
 struct Framed<'a> {
     owner: NameRef<'a>,
@@ -23,9 +23,9 @@ struct Framed<'a> {
 /// The parts of a plain record at the front of octets, whatever its data is.
 fn split_plain(octets: &[u8]) -> Option<Framed<'_>>
     ensures found { IfSome result
-        (λ f. IsFramed octets.now
+        (λ f. IsRecordFrame octets.now
         (record { owner = f.owner; rtype = f.rtype; ttl = f.ttl; rdata = f.rdata.now }) f.rest.now) }
-    ensures none { IfNone result ((r : Stated) (rest : List ℕ) → IsFramed octets.now r rest → ⊥) }
+    ensures none { IfNone result ((r : Stated) (rest : List ℕ) → IsRecordFrame octets.now r rest → ⊥) }
 {
     let (owner, behind_owner) = NameRef::first(octets)?;
     let (rtype, behind_type) = split_u16(behind_owner)?;
@@ -75,7 +75,7 @@ impl RData {
 }
 
 impl Record {
-    /// The record whose plain form stands at the front of the octets, and how many octets that has. The
+    /// The record whose plain form is at the front of the octets, and how many octets that has. The
     /// octets are refused as `BadData` where they end before it does or have a capital in a name.
     pub fn from_wire_plain(alloc: Heap, octets: &[u8]) -> Result<(Record, usize), RecordError>
         ensures found { IfOk result

@@ -22,13 +22,13 @@ use Rattle.dns_primary.specs.Stop.{IsStopped}
 use Rattle.dns_primary.specs.Open.{AreRecoverable, IsRecoveryStopped}
 use Rattle.dns_primary.specs.HandOut.{AreSetAs}
 use Rattle.dns_primary.specs.Runs.{Took, Stopped}
-use Rattle.dns_script.specs.Commands.{Command, Says}
+use Rattle.dns_script.specs.Commands.{Command, SaysCommand}
 use Rattle.dns_replay.specs.declared.run.After.{After}
 use Rattle.dns_replay.specs.declared.run.After.TheVariants.{GoesOn, NoCommand, Refused}
-use Rattle.dns_replay.specs.Scripts.{Standing, Takes, Stands, machine_of, event_in, tries_in, Said, Nothing, Happens, Plans, Led, EventLeads, Leads, PlanLeads, Recovers, idle, halted, said_by, printed_effects, printed_refusal, printed_stop, recovered_zones}
+use Rattle.dns_replay.specs.Scripts.{Standing, Takes, Stands, machine_of, event_in, tries_in, Commanded, Nothing, Happens, Plans, Led, EventLeads, LeadsByCommand, PlanLeads, Recovers, idle, halted, said_by, printed_effects, printed_refusal, printed_stop, recovered_zones}
 use Rattle.dns_script.specs.Keeps.{ZoneKeep}
 use Rattle.dns_replay.specs.Crashes.{AreLeftBy, IsCrash}
-use Rattle.dns_replay.specs.Runs.{AreSame, DoesBy, IsAt, IsRefused, LeadsOn, LineDoes, crash_by}
+use Rattle.dns_replay.specs.Runs.{AreSame, DoesBy, IsAt, IsOpeningRefused, LeadsOn, LineDoes, crash_by}
 use Rattle.dns_replay.proofs.Crashed.{crashed_recoverable, reset_recoverable, same_back}
 use Rattle.dns_replay.proofs.Reopened.{opened_over}
 use Rattle.dns_replay.proofs.Printing.{nothing_more}
@@ -120,7 +120,7 @@ module _ {D I : Type 0} {g : Ghosts D} {i : index.Ghosts I} {s : store.Ghosts (K
       let led : Led = record { moments = Stopped event tries new.0 ∷ []; text = recovered_zones names new.0.zones (length names); standing = Takes new.0 } in
       (led, does stop (new.0, new.1, (crashed, record { before = left; stood = stood; left = each }, new.3), refl), prints new.0 new.2, new.2)
     where
-      does : (stop : Option ℕ) {led : Led} → Recovers names (IsCrash g kept names settings) from keeps led → Leads names (IsCrash g kept names settings) from (crash_by keeps stop) led
+      does : (stop : Option ℕ) {led : Led} → Recovers names (IsCrash g kept names settings) from keeps led → LeadsByCommand names (IsCrash g kept names settings) from (crash_by keeps stop) led
       does None h = h
       does (Some n) h = inl h
 
@@ -129,7 +129,7 @@ module _ {D I : Type 0} {g : Ghosts D} {i : index.Ghosts I} {s : store.Ghosts (K
       → ((names : List Labels) (settings : List ZoneSettings) (from : Standing) → IsAt names settings o devices from → AreSetAs names settings (machine_of from).zones → AreRecoverable g (tries_in from) (machine_of from) (event_in from) 0 (machine_of from).zones names settings left)
       → AreLeftBy g kept keeps 0 left crashed
       → ((m : Machine) (event : Event) (tries : ℕ) → AreRecoverable g tries m event 0 m.zones names settings crashed → AreRecoverable g (suc tries) m event 0 m.zones names settings back)
-      → IsRefused names stop back rest out out_after after
+      → IsOpeningRefused names stop back rest out out_after after
       → DoesBy kept names settings (crash_by keeps stop) o devices None rest out out_after after
   refused keeps None GoesOn o devices left crashed back rest out out_after takes each opens h = λ from at set. absurd (let e = h.0 in cc e)
   refused keeps (Some n) GoesOn o devices left crashed back rest out out_after takes each opens h = λ from at set.
@@ -147,14 +147,14 @@ module _ {D I : Type 0} {g : Ghosts D} {i : index.Ghosts I} {s : store.Ghosts (K
       → ((names : List Labels) (settings : List ZoneSettings) (from : Standing) → IsAt names settings o devices from → AreSetAs names settings (machine_of from).zones → AreRecoverable g (tries_in from) (machine_of from) (event_in from) 0 (machine_of from).zones names settings left)
       → AreLeftBy g kept keeps 0 left crashed
       → ((m : Machine) (event : Event) (tries : ℕ) → AreRecoverable g tries m event 0 m.zones names settings crashed → AreRecoverable g (suc tries) m event 0 m.zones names settings back)
-      → IfOk r (IsRefused names stop back rest out out_after)
+      → IfOk r (IsOpeningRefused names stop back rest out out_after)
       → IfOk r (DoesBy kept names settings (crash_by keeps stop) o devices q rest out out_after)
   refused_in keeps stop (Err e) o q devices left crashed back rest out out_after none takes each opens h = tt
   refused_in keeps stop (Ok after) o q devices left crashed back rest out out_after none takes each opens h =
       subst (λ (x : Option (Primary I (KeptStore D I g) i s)). DoesBy kept names settings (crash_by keeps stop) o devices x rest out out_after after) (sym none) (refused keeps stop after o devices left crashed back rest out out_after takes each opens h)
 
   -- all commands
-  pub does_nothing : (p : Option (Primary I (KeptStore D I g) i s)) (devices : List D) (out : Option (List ℕ)) → LeadsOn names settings (λ from led. Leads names (IsCrash g kept names settings) from Nothing led) p devices p devices out out
+  pub does_nothing : (p : Option (Primary I (KeptStore D I g) i s)) (devices : List D) (out : Option (List ℕ)) → LeadsOn names settings (λ from led. LeadsByCommand names (IsCrash g kept names settings) from Nothing led) p devices p devices out out
   does_nothing p devices out from at set = (idle from, refl, nothing_more out, at)
 
   pub does_event : {E : Type 0} (event : Event) (r : Result After E) (p q : Option (Primary I (KeptStore D I g) i s)) (devices left : List D) (out out_after : Option (List ℕ))
@@ -165,10 +165,10 @@ module _ {D I : Type 0} {g : Ghosts D} {i : index.Ghosts I} {s : store.Ghosts (K
   does_event event (Ok NoCommand) p q devices left out out_after h = absurd (let e = h.0 in cc e)
   does_event event (Ok Refused) p q devices left out out_after h = absurd (let e = h.0 in cc e)
 
-  pub does_said : {E : Type 0} (said : Said) (event : Event) (r : Result After E) (p q : Option (Primary I (KeptStore D I g) i s)) (devices left : List D) (out out_after : Option (List ℕ)) → said ≡ Happens event
+  pub does_said : {E : Type 0} (said : Commanded) (event : Event) (r : Result After E) (p q : Option (Primary I (KeptStore D I g) i s)) (devices left : List D) (out out_after : Option (List ℕ)) → said ≡ Happens event
       → IfOk r (λ after. (after ≡ GoesOn) × LeadsOn names settings (λ from led. EventLeads names from event led) p devices q left out out_after)
       → IfOk r (DoesBy kept names settings said p devices q left out out_after)
-  does_said said event r p q devices left out out_after e h = subst (λ (x : Said). IfOk r (DoesBy kept names settings x p devices q left out out_after)) (sym e) (does_event event r p q devices left out out_after h)
+  does_said said event r p q devices left out out_after e h = subst (λ (x : Commanded). IfOk r (DoesBy kept names settings x p devices q left out out_after)) (sym e) (does_event event r p q devices left out out_after h)
 
   pub does_plan : {E : Type 0} (r : Result After E) (p : Option (Primary I (KeptStore D I g) i s)) (devices : List D) (out out_after : Option (List ℕ))
       → IfOk r (λ after. (after ≡ GoesOn) × LeadsOn names settings PlanLeads p devices p devices out out_after)
@@ -179,7 +179,7 @@ module _ {D I : Type 0} {g : Ghosts D} {i : index.Ghosts I} {s : store.Ghosts (K
   does_plan (Ok Refused) p devices out out_after h = absurd (let e = h.0 in cc e)
 
   -- the line that says it
-  pub line_does : {E : Type 0} (line : List ℕ) (command : Command) (r : Result After E) (p q : Option (Primary I (KeptStore D I g) i s)) (devices left : List D) (out out_after : Option (List ℕ)) → Says names line command
+  pub line_does : {E : Type 0} (line : List ℕ) (command : Command) (r : Result After E) (p q : Option (Primary I (KeptStore D I g) i s)) (devices left : List D) (out out_after : Option (List ℕ)) → SaysCommand names line command
       → IfOk r (DoesBy kept names settings (said_by command) p devices q left out out_after)
       → IfOk r (LineDoes kept names settings line p devices q left out out_after)
   line_does line command (Err e) p q devices left out out_after says h = tt

@@ -13,11 +13,11 @@ use Rattle.dns_held.specs.Each.{Each2, Each3}
 use Rattle.dns_primary.specs.declared.primary.ZoneSettings.{ZoneSettings}
 use Rattle.dns_primary.specs.Machine.{Made, Machine, ZoneState, versions_of}
 use Rattle.dns_primary.specs.Step.{Event, Flush}
-use Rattle.dns_primary.specs.Stop.{IsMaking, IsRecovered, AreRecovered, IsStopped, opened_of}
+use Rattle.dns_primary.specs.Stop.{IsMaking, IsRecovered, AreRecovered, IsStopped, reopened_as}
 use Rattle.dns_primary.specs.Fresh.{IsLoaded, IsFresh}
 use Rattle.dns_primary.specs.Open.{AreRecoverable, IsRecoverable, shape_of}
 use Rattle.dns_primary.specs.HandOut.{AreSetAs}
-use Rattle.dns_replay.specs.Made.{IsMade}
+use Rattle.dns_replay.specs.Made.{IsMadeOf}
 use Rattle.std.specs.Io.KnownBytes.{Appends}
 use Rattle.dns_zone.specs.declared.index.ZoneIndex as index
 use Rattle.dns_store.specs.declared.zone_store.ZoneStore as store
@@ -55,14 +55,14 @@ all_unopened [] = []
 all_unopened (z ∷ zones) = unopened z ∷ all_unopened zones
 
 module _ {D : Type 0} (g : Ghosts D) (m : Machine) where
-  made_recoverable : (making : ℕ → Type 0) (y : Zone) (s : ZoneSettings) (z : ZoneState) (d : D) → IsMade g y s d → IsLoaded y s z → IsRecoverable g 0 making (unopened z) y.apex s d
+  made_recoverable : (making : ℕ → Type 0) (y : Zone) (s : ZoneSettings) (z : ZoneState) (d : D) → IsMadeOf g y s d → IsLoaded y s z → IsRecoverable g 0 making (unopened z) y.apex s d
   made_recoverable making y s z d made is = record {
     shape = is.shape;
     set = record { keep = is.set.keep; update = is.set.update; transfer = is.set.transfer };
     range = made.range;
     honest = made.honest;
     leaves = λ c left.
-        let opened : first_of y.records ≡ opened_of (unopened z) = λ i. record { loaded = sym is.loaded i; versions = versions_of (sym is.shown i); base = sym is.base i; openings = 0 } in
+        let opened : first_of y.records ≡ reopened_as (unopened z) = λ i. record { loaded = sym is.loaded i; versions = versions_of (sym is.shown i); base = sym is.base i; openings = 0 } in
         let recovered : IsRecovered 0 0 making (unopened z) (unopened z) = record {
           setting = refl;
           loaded = refl;
@@ -78,30 +78,30 @@ module _ {D : Type 0} (g : Ghosts D) (m : Machine) where
           at_least = omega arith;
           at_most = omega arith;
         } in
-        (unopened z, recovered, subst (λ (x : Shape). opens x (opened_of (unopened z)) c) (sym is.shape) (subst (λ (o : Opened). opens (shape_of y.apex s) o c) opened (made.leaves c left)));
+        (unopened z, recovered, subst (λ (x : Shape). opens x (reopened_as (unopened z)) c) (sym is.shape) (subst (λ (o : Opened). opens (shape_of y.apex s) o c) opened (made.leaves c left)));
   }
 
-  pub all_recoverable : (event : Event) (place : ℕ) (zones : List Zone) (settings : List ZoneSettings) (states : List ZoneState) (devices : List D) → Each3 (IsMade g) zones settings devices → Each3 IsLoaded zones settings states → AreRecoverable g 0 m event place (all_unopened states) (map (λ z. z.apex) zones) settings devices
+  pub all_recoverable : (event : Event) (place : ℕ) (zones : List Zone) (settings : List ZoneSettings) (states : List ZoneState) (devices : List D) → Each3 (IsMadeOf g) zones settings devices → Each3 IsLoaded zones settings states → AreRecoverable g 0 m event place (all_unopened states) (map (λ z. z.apex) zones) settings devices
   all_recoverable event place [] [] [] [] made each = tt
   all_recoverable event place (y ∷ zones) (s ∷ settings) (z ∷ states) (d ∷ devices) made each =
       (made_recoverable (IsMaking m event place (unopened z)) y s z d made.0 each.0, all_recoverable event (suc place) zones settings states devices made.1 each.1)
   all_recoverable event place zones settings [] (d ∷ devices) made each = none zones settings each made
     where
-      none : (zones : List Zone) (settings : List ZoneSettings) → Each3 IsLoaded zones settings [] → Each3 (IsMade g) zones settings (d ∷ devices) → AreRecoverable g 0 m event place [] (map (λ z. z.apex) zones) settings (d ∷ devices)
+      none : (zones : List Zone) (settings : List ZoneSettings) → Each3 IsLoaded zones settings [] → Each3 (IsMadeOf g) zones settings (d ∷ devices) → AreRecoverable g 0 m event place [] (map (λ z. z.apex) zones) settings (d ∷ devices)
       none [] [] each made = absurd made
       none [] (s ∷ settings) each made = absurd each
       none (y ∷ zones) [] each made = absurd each
       none (y ∷ zones) (s ∷ settings) each made = absurd each
   all_recoverable event place zones settings (z ∷ states) [] made each = none zones settings each made
     where
-      none : (zones : List Zone) (settings : List ZoneSettings) → Each3 IsLoaded zones settings (z ∷ states) → Each3 (IsMade g) zones settings [] → AreRecoverable g 0 m event place (all_unopened (z ∷ states)) (map (λ z. z.apex) zones) settings []
+      none : (zones : List Zone) (settings : List ZoneSettings) → Each3 IsLoaded zones settings (z ∷ states) → Each3 (IsMadeOf g) zones settings [] → AreRecoverable g 0 m event place (all_unopened (z ∷ states)) (map (λ z. z.apex) zones) settings []
       none [] [] each made = absurd each
       none [] (s ∷ settings) each made = absurd each
       none (y ∷ zones) [] each made = absurd each
       none (y ∷ zones) (s ∷ settings) each made = absurd made
   all_recoverable event place _ _ _ _ made each = absurd each
 
-pub all_set : {D : Type 0} (g : Ghosts D) (zones : List Zone) (settings : List ZoneSettings) (states : List ZoneState) (devices : List D) → Each3 (IsMade g) zones settings devices → Each3 IsLoaded zones settings states → AreSetAs (map (λ z. z.apex) zones) settings states
+pub all_set : {D : Type 0} (g : Ghosts D) (zones : List Zone) (settings : List ZoneSettings) (states : List ZoneState) (devices : List D) → Each3 (IsMadeOf g) zones settings devices → Each3 IsLoaded zones settings states → AreSetAs (map (λ z. z.apex) zones) settings states
 all_set g [] [] [] [] made each = tt
 all_set g (y ∷ zones) (s ∷ settings) (z ∷ states) (d ∷ devices) made each =
     (record { shape = each.0.shape; set = each.0.set; range = made.0.range }, all_set g zones settings states devices made.1 each.1)
@@ -166,10 +166,10 @@ each3_same R (x ∷ xs) (y ∷ ys) (z ∷ zs) h = ap suc (each3_same R xs ys zs 
 each3_same R _ _ _ h = absurd h
 
 -- what a script does over a primary that was opened for the devices that were made
-pub runs_from : {D I : Type 0} {g : Ghosts D} {i : index.Ghosts I} {s : store.Ghosts (KeptStore D I g)} (kept : D → told.Keep → Content) (zones : List Zone) (settings again : List ZoneSettings) (names : List Labels) (devices : List D) (p : Primary I (KeptStore D I g) i s) (lines : List (List ℕ)) (ending : Ending) (out out_after : Option (List ℕ)) → names ≡ map (λ (z : Zone). z.apex) zones → Each2 AreSame settings again → Each3 (IsMade g) zones settings devices
+pub runs_from : {D I : Type 0} {g : Ghosts D} {i : index.Ghosts I} {s : store.Ghosts (KeptStore D I g)} (kept : D → told.Keep → Content) (zones : List Zone) (settings again : List ZoneSettings) (names : List Labels) (devices : List D) (p : Primary I (KeptStore D I g) i s) (lines : List (List ℕ)) (ending : Ending) (out out_after : Option (List ℕ)) → names ≡ map (λ (z : Zone). z.apex) zones → Each2 AreSame settings again → Each3 (IsMadeOf g) zones settings devices
     → ((m : Machine) (event : Event) (tries : ℕ) → AreRecoverable g tries m event 0 m.zones names again devices → (new : Machine) × IsStopped tries m event new × IsKept p new)
     → RanScript kept names settings lines ending p out out_after → RunsFrom g kept zones settings lines ending out out_after
-runs_from {g = g} kept zones settings again names devices p lines ending out out_after e same made opens ran = record { begins = fresh_machine zones settings (each3_same (IsMade g) zones settings devices made); leads = leads }
+runs_from {g = g} kept zones settings again names devices p lines ending out out_after e same made opens ran = record { begins = fresh_machine zones settings (each3_same (IsMadeOf g) zones settings devices made); leads = leads }
   where
     leads : (start : Machine) → IsFresh zones settings start → (led : Led) × Runs (map (λ (z : Zone). z.apex) zones) (IsCrash g kept (map (λ (z : Zone). z.apex) zones) settings) (Takes start) 1 lines led ending × Run start led.moments × Appends out out_after led.text
     leads start fresh =

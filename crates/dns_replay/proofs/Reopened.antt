@@ -10,7 +10,7 @@ use Rattle.dns_primary.specs.declared.primary.ZoneSettings.{ZoneSettings}
 use Rattle.dns_primary.specs.Machine.{Made, Machine, Setting, ZoneState}
 use Rattle.dns_primary.specs.Keeps.{IsSet}
 use Rattle.dns_primary.specs.Step.{Event, Flush}
-use Rattle.dns_primary.specs.Stop.{IsMaking, IsRecovered, AreRecovered, IsStopped, opened_of}
+use Rattle.dns_primary.specs.Stop.{IsMaking, IsRecovered, AreRecovered, IsStopped, reopened_as}
 use Rattle.dns_primary.specs.Open.{AreRecoverable, IsRecoverable}
 use Rattle.dns_script.specs.Keeps.{ZoneKeep}
 use Rattle.dns_replay.specs.Crashes.{AreLeftBy, AreOpenedOver, IsLeftBy, IsOpenedOver, keep_at}
@@ -103,7 +103,7 @@ module _ {D : Type 0} (g : Ghosts D) (stays : (device : D) → g.is_honest devic
   -- what stands on the device of the zone there
   record IsHeld (place : ℕ) (z : ZoneState) (device : D) (w : ZoneState) : Type 0 where
     recovered : IsRecovered 0 tries (IsMaking m event place z) z w
-    opens_as : opens w.setting.shape (opened_of w) (g.seen device)
+    opens_as : opens w.setting.shape (reopened_as w) (g.seen device)
 
   abbrev AreHeld : ℕ → List ZoneState → List D → List ZoneState → Type 0
   AreHeld place [] [] [] = Unit {0}
@@ -134,7 +134,7 @@ module _ {D : Type 0} (g : Ghosts D) (stays : (device : D) → g.is_honest devic
         leaves = λ c left. (
           w,
           recovered_itself tries (IsMaking m event place z) (IsMaking other Flush place w) z w h.0.recovered,
-          subst (λ (x : Content). opens w.setting.shape (opened_of w) x) (only_seen (keep_at keeps at) d e is.0.honest each.0 c left) h.0.opens_as,
+          subst (λ (x : Content). opens w.setting.shape (reopened_as w) x) (only_seen (keep_at keeps at) d e is.0.honest each.0 c left) h.0.opens_as,
         );
       },
       held_recoverable other (suc at) (suc place) zones names settings olds news held is.1 each.1 h.1,

@@ -19,10 +19,10 @@ use Rattle.dns_primary.proofs.Stopping.{fresh_keeps}
 use Rattle.dns_replay.specs.declared.run.Ending.{Ending}
 use Rattle.dns_replay.specs.declared.run.Ending.TheVariants.{Done, Syntax, Refused}
 use Rattle.dns_replay.proofs.Printing.{appends_more, nothing_more}
-use Rattle.dns_replay.specs.Scripts.{Standing, Takes, Stands, machine_of, Said, Nothing, Happens, Plans, Crashes, Reopens, Crash, Led, Leads, Recovers, LineLeads, LineRefuses, IsNoCommand, Runs, idle}
+use Rattle.dns_replay.specs.Scripts.{Standing, Takes, Stands, machine_of, Commanded, Nothing, Happens, Plans, Crashes, Reopens, Crash, Led, LeadsByCommand, Recovers, LineLeads, LineRefuses, IsNoCommand, Runs, idle}
 use Rattle.dns_script.specs.Keeps.{ZoneKeep}
 use Rattle.dns_replay.specs.Crashes.{IsCrash}
-use Rattle.dns_replay.specs.Runs.{IsAt, IsReached, LeadsOn, RanScript}
+use Rattle.dns_replay.specs.Runs.{IsAt, IsMachineReached, LeadsOn, RanScript}
 
 -- moments behind others
 pub runs_joined : (start : Machine) (xs ys : List Moment) → Run start xs → Run (last_of start xs) ys → Run start (xs ++ ys)
@@ -45,7 +45,7 @@ recovers_runs : (names : List Labels) (crash : Crash) (s : Standing) (keeps : Li
 recovers_runs names crash (Takes m) keeps led h = run_of (Takes m) led _ h.3 (record { run = (h.1, tt); last = refl })
 recovers_runs names crash (Stands m event tries) keeps led h = run_of (Stands m event tries) led _ h.3 (record { run = (h.1, tt); last = refl })
 
-pub leads_runs : (names : List Labels) (crash : Crash) (s : Standing) (said : Said) (led : Led) → Leads names crash s said led → IsRunning s led
+pub leads_runs : (names : List Labels) (crash : Crash) (s : Standing) (said : Commanded) (led : Led) → LeadsByCommand names crash s said led → IsRunning s led
 leads_runs names crash s Nothing led h = run_of s led (idle s) h (record { run = tt; last = refl })
 leads_runs names crash (Takes m) (Happens event) led (inl h) = run_of (Takes m) led _ h.4 (record { run = (h.3, tt); last = refl })
 leads_runs names crash (Takes m) (Happens event) led (inr h) = run_of (Takes m) led _ h (record { run = tt; last = refl })
@@ -138,12 +138,12 @@ module _ (names : List Labels) (crash : Crash) (start : Machine) (all : List (Li
 module _ {D I : Type 0} {g : Ghosts D} {i : index.Ghosts I} {s : store.Ghosts (KeptStore D I g)} (left_by : D → told.Keep → Content) (names : List Labels) (settings : List ZoneSettings) (all : List (List ℕ)) (first : Primary I (KeptStore D I g) i s) where
   abbrev pub AreRunUpTo : ℕ → List (List ℕ) → Option (List ℕ) → Option (List ℕ) → Option (Primary I (KeptStore D I g) i s) → List D → Type 0
   AreRunUpTo number left out out_now p devices =
-      (start : Machine) → IsReached names settings start → IsKept first start → (now : Standing) × IsRunUpTo names (IsCrash g left_by names settings) start all number left out out_now now × IsAt names settings p devices now
+      (start : Machine) → IsMachineReached names settings start → IsKept first start → (now : Standing) × IsRunUpTo names (IsCrash g left_by names settings) start all number left out out_now now × IsAt names settings p devices now
 
   pub begin_all : (out : Option (List ℕ)) (devices : List D) → AreRunUpTo 1 all out out (Some first) devices
   begin_all out devices start reached kept = (Takes start, run_begins names (IsCrash g left_by names settings) start all out, kept)
 
-  set_now : (start : Machine) (number : ℕ) (left : List (List ℕ)) (out out_now : Option (List ℕ)) (now : Standing) → IsReached names settings start → IsRunUpTo names (IsCrash g left_by names settings) start all number left out out_now now → AreSetAs names settings (machine_of now).zones
+  set_now : (start : Machine) (number : ℕ) (left : List (List ℕ)) (out out_now : Option (List ℕ)) (now : Standing) → IsMachineReached names settings start → IsRunUpTo names (IsCrash g left_by names settings) start all number left out out_now now → AreSetAs names settings (machine_of now).zones
   set_now start number left out out_now now reached h =
       let joined = runs_joined reached.first reached.before h.moments reached.run (subst (λ (m : Machine). Run m h.moments) (sym reached.last) h.run) in
       let promise = fresh_keeps reached.zones reached.loaded reached.first (reached.before ++ h.moments) reached.fresh joined in

@@ -9,11 +9,11 @@ use Rattle.dns_store.specs.Opens.{opens}
 use Rattle.dns_primary.specs.declared.primary.ZoneSettings.{ZoneSettings}
 use Rattle.dns_primary.specs.Machine.{Machine, ZoneState}
 use Rattle.dns_primary.specs.Open.{AreRecoverable}
-use Rattle.dns_primary.specs.Stop.{IsRecovered, opened_of}
+use Rattle.dns_primary.specs.Stop.{IsRecovered, reopened_as}
 use Rattle.dns_script.specs.Keeps.{Keep, All, These, ZoneKeep}
 use Rattle.dns_replay.specs.Scripts.{Standing, event_in, machine_of, tries_in}
 
--- What is kept of the writes that are pending on the device of the zone at a place: none where nothing is
+-- What is kept of the writes that are pending on the device of the zone at a position: none where nothing is
 -- said of it.
 abbrev pub keep_or_none : Option ZoneKeep → Keep
 keep_or_none None = These []
@@ -22,7 +22,7 @@ keep_or_none (Some k) = k.keep
 abbrev pub keep_at : List ZoneKeep → ℕ → Keep
 keep_at keeps place = keep_or_none (find (λ (k : ZoneKeep). k.zone == place) keeps)
 
--- It is told to a device so.
+-- It is passed to a device as this.
 abbrev pub IsToldAs : Keep → told.Keep → Type 0
 IsToldAs All told_keep.All = Unit {0}
 IsToldAs (These numbers) (told_keep.These given) = given.now ≡ numbers
@@ -38,7 +38,7 @@ pub record IsLeftBy {D : Type 0} (g : Ghosts D) (kept : D → told.Keep → Cont
   pub exact : g.is_honest old → Only (kept old told_as) (g.may_leave new)
   pub left : (c : Content) → g.is_honest old → g.may_leave new c → g.may_leave old c
 
--- The devices of zones, those from this place on.
+-- The devices of zones, those from this position on.
 abbrev pub AreLeftBy : {D : Type 0} → Ghosts D → (D → told.Keep → Content) → List ZoneKeep → ℕ → List D
     → List D → Type 0
 AreLeftBy g kept keeps place [] [] = Unit {0}
@@ -50,7 +50,7 @@ AreLeftBy g kept keeps place _ _ = ⊥
 pub record IsOpenedOver {D : Type 0} (g : Ghosts D) (device : D) (z : ZoneState) : Type 0 where
   pub held : ZoneState
   pub nothing_staged : held.staged ≡ []
-  pub opens_as : opens held.setting.shape (opened_of held) (g.seen device)
+  pub opens_as : opens held.setting.shape (reopened_as held) (g.seen device)
   pub again : IsRecovered 1 1 (λ _. ⊥) held z
 
 abbrev pub AreOpenedOver : {D : Type 0} → Ghosts D → List D → List ZoneState → Type 0
@@ -60,7 +60,7 @@ AreOpenedOver g _ _ = ⊥
 
 module _ {D : Type 0} (g : Ghosts D) (kept : D → told.Keep → Content) (names : List Labels)
     (settings : List ZoneSettings) where
-  -- The devices where a script stands crashed, keeping these of their pending writes, and are those now.
+  -- The devices of a script in this state crash, keeping these of their pending writes, and are those now.
   pub record AreCrashed (s : Standing) (keeps : List ZoneKeep) (after : List D) : Type 0 where
     pub before : List D
     pub stood : AreRecoverable g (tries_in s) (machine_of s) (event_in s) 0

@@ -8,7 +8,7 @@ use Rattle.dns_store.specs.Formatting.{first_of}
 use Rattle.dns_primary.specs.declared.primary.ZoneSettings.{ZoneSettings}
 
 -- It opens as the zone that was loaded, whatever a crash leaves of it.
-pub record IsMade {D : Type 0} (g : Ghosts D) (zone : Zone) (s : ZoneSettings) (device : D) : Type 0 where
+pub record IsMadeOf {D : Type 0} (g : Ghosts D) (zone : Zone) (s : ZoneSettings) (device : D) : Type 0 where
   pub range : IsInRange s.snapshot s.journal
   pub honest : g.is_honest device
   pub leaves : (c : Content)

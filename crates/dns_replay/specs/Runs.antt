@@ -21,7 +21,8 @@ use Rattle.dns_primary.specs.Runs.{Moment, Run, last_of}
 use Rattle.dns_primary.specs.Fresh.{IsFresh}
 use Rattle.dns_script.specs.Keeps.{ZoneKeep}
 use Rattle.dns_replay.specs.Crashes.{IsCrash}
-use Rattle.dns_replay.specs.Scripts.{Standing, Takes, Stands, machine_of, Said, Crashes, Reopens, Led, Leads}
+use Rattle.dns_replay.specs.Scripts.{Standing, Takes, Stands, machine_of, Commanded, Crashes, Reopens, Led}
+use Rattle.dns_replay.specs.Scripts.{LeadsByCommand}
 use Rattle.dns_replay.specs.Scripts.{LineLeads, LineRefuses, IsNoCommand, MayRefuse, Runs, printed_refusal}
 use Rattle.dns_replay.specs.Scripts.{printed_stop}
 use Rattle.dns_store.specs.declared.root.OpenError.{OpenError}
@@ -42,7 +43,7 @@ pub record AreSame (s t : ZoneSettings) : Type 0 where
   pub transfer : t.transfer.items ≡ s.transfer.items
 
 -- What a crash says, with the number of the write or sync of the opening that is the last, if one is.
-abbrev pub crash_by : List ZoneKeep → Option ℕ → Said
+abbrev pub crash_by : List ZoneKeep → Option ℕ → Commanded
 crash_by keeps None = Crashes keeps
 crash_by keeps (Some n) = Reopens keeps
 
@@ -56,7 +57,7 @@ module _ {D I : Type 0} {g : Ghosts D} {i : index.Ghosts I} {s : store.Ghosts (K
     IsAt (Some p) devices (Stands m event tries) = ⊥
     IsAt None devices (Takes m) = ⊥
 
-    -- Wherever the script stood, this is what it was led to, and where it stands.
+    -- Whatever state the script was in, this is what it was led to, and the state it is in now.
     abbrev pub LeadsOn : (Standing → Led → Type 0) → Option (Primary I (KeptStore D I g) i s) → List D
         → Option (Primary I (KeptStore D I g) i s) → List D → Option (List ℕ) → Option (List ℕ) → Type 0
     LeadsOn leads p devices q left out out_after =
@@ -64,30 +65,30 @@ module _ {D I : Type 0} {g : Ghosts D} {i : index.Ghosts I} {s : store.Ghosts (K
         → (led : Led) × leads from led × Appends out out_after led.text × IsAt q left led.standing
 
 -- A store was refused, as is printed.
-pub record Refuses (origins : List Labels) (out out_after : Option (List ℕ)) : Type 0 where
+pub record RefusesStore (origins : List Labels) (out out_after : Option (List ℕ)) : Type 0 where
   pub place : ℕ
   pub error : OpenError
   pub printed : Appends out out_after (printed_refusal (slice_get origins place) error)
 
 -- A stop fell in the opening, which was to have one, and these are the devices; or the run ends.
-abbrev pub IsRefused : {D : Type 0} → List Labels → Option ℕ → List D → List D → Option (List ℕ)
+abbrev pub IsOpeningRefused : {D : Type 0} → List Labels → Option ℕ → List D → List D → Option (List ℕ)
     → Option (List ℕ) → After → Type 0
-IsRefused names stop devices left out out_after GoesOn =
+IsOpeningRefused names stop devices left out out_after GoesOn =
     IsSome stop × (left ≡ devices) × Appends out out_after printed_stop
-IsRefused names stop devices left out out_after Refused = Refuses names out out_after
-IsRefused names stop devices left out out_after NoCommand = ⊥
+IsOpeningRefused names stop devices left out out_after Refused = RefusesStore names out out_after
+IsOpeningRefused names stop devices left out out_after NoCommand = ⊥
 
 module _ {D I : Type 0} {g : Ghosts D} {i : index.Ghosts I} {s : store.Ghosts (KeptStore D I g)}
     (kept : D → told.Keep → Content) where
   -- What is said leads on, or ends the run.
-  abbrev pub DoesBy : List Labels → List ZoneSettings → Said
+  abbrev pub DoesBy : List Labels → List ZoneSettings → Commanded
       → Option (Primary I (KeptStore D I g) i s) → List D
       → Option (Primary I (KeptStore D I g) i s) → List D → Option (List ℕ) → Option (List ℕ) → After → Type 0
   DoesBy names settings said p devices q left out out_after GoesOn =
-      LeadsOn names settings (λ from led. Leads names (IsCrash g kept names settings) from said led)
+      LeadsOn names settings (λ from led. LeadsByCommand names (IsCrash g kept names settings) from said led)
       p devices q left out out_after
   DoesBy names settings said p devices q left out out_after Refused =
-      MayRefuse said × Refuses names out out_after
+      MayRefuse said × RefusesStore names out out_after
   DoesBy names settings said p devices q left out out_after NoCommand = ⊥
 
   abbrev pub LineDoes : List Labels → List ZoneSettings → List ℕ
@@ -103,7 +104,7 @@ module _ {D I : Type 0} {g : Ghosts D} {i : index.Ghosts I} {s : store.Ghosts (K
 
 -- A run led to the machine from one to which nothing had happened, and whose zones were opened for these
 -- names and settings.
-pub record IsReached (names : List Labels) (settings : List ZoneSettings) (m : Machine) : Type 0 where
+pub record IsMachineReached (names : List Labels) (settings : List ZoneSettings) (m : Machine) : Type 0 where
   pub zones : List Zone
   pub loaded : List ZoneSettings
   pub first : Machine
@@ -119,7 +120,7 @@ abbrev pub RanScript : {D I : Type 0} {g : Ghosts D} {i : index.Ghosts I} {s : s
     → (D → told.Keep → Content) → List Labels → List ZoneSettings → List (List ℕ) → Ending
     → Primary I (KeptStore D I g) i s → Option (List ℕ) → Option (List ℕ) → Type 0
 RanScript {g} kept names settings lines ending primary out out_after =
-    (start : Machine) → IsReached names settings start → IsKept primary start
+    (start : Machine) → IsMachineReached names settings start → IsKept primary start
     → (led : Led) × Runs names (IsCrash g kept names settings) (Takes start) 1 lines led ending
     × Run start led.moments × Appends out out_after led.text
 

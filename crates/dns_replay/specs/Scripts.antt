@@ -22,7 +22,7 @@ use Rattle.dns_primary.specs.Step.{Effects, Event, Step, Arrives, Closed}
 use Rattle.dns_primary.specs.Step as machine
 use Rattle.dns_primary.specs.Stop.{IsStopped}
 use Rattle.dns_primary.specs.Runs.{Moment, Took, Stopped}
-use Rattle.dns_script.specs.Commands.{Command, Says}
+use Rattle.dns_script.specs.Commands.{Command, SaysCommand}
 use Rattle.dns_script.specs.Commands as script
 use Rattle.dns_script.specs.Keeps.{ZoneKeep}
 use Rattle.dns_replay.specs.declared.run.Ending.{Ending}
@@ -35,14 +35,14 @@ peer_of address = record { address = address; port = 0 }
 -- What a command says: nothing; an event; that a write or a sync is to fail; that a crash comes which keeps
 -- these of the writes that are pending, all stores are opened anew, and that a write or a sync of the opening
 -- may be the last.
-pub data Said : Type 0 where
-  Nothing : Said
-  Happens : Event → Said
-  Plans : Said
-  Crashes : List ZoneKeep → Said
-  Reopens : List ZoneKeep → Said
+pub data Commanded : Type 0 where
+  Nothing : Commanded
+  Happens : Event → Commanded
+  Plans : Commanded
+  Crashes : List ZoneKeep → Commanded
+  Reopens : List ZoneKeep → Commanded
 
-abbrev pub said_by : Command → Said
+abbrev pub said_by : Command → Commanded
 said_by script.Nothing = Nothing
 said_by (script.Datagram address octets) = Happens (machine.Datagram (peer_of address) octets)
 said_by (script.Connect address) = Happens (machine.Connect (peer_of address))
@@ -96,7 +96,7 @@ printed_effects origins event effects =
     ++ printed_connection event effects.accepted
     ++ printed_noted origins effects.noted
 
--- A command in which a stop fell, and each behind it until a crash.
+-- A command in which a stop fell, and each after it until a crash.
 abbrev pub printed_stop : List ℕ
 printed_stop = codes "stopped" ++ 10 ∷ []
 
@@ -115,7 +115,7 @@ recovered_line origin number serial =
     codes "recovered " ++ printed_name origin ++ codes " version " ++ decimal number ++ codes " serial "
     ++ decimal serial ++ 10 ∷ []
 
--- A zone behind a crash.
+-- A zone after a crash.
 abbrev pub recovered_version : Labels → Option (ℕ × ℕ) → List ℕ
 recovered_version origin None = []
 recovered_version origin (Some version) = recovered_line origin version.0 version.1
@@ -146,7 +146,7 @@ abbrev pub printed_refusal : Option Labels → OpenError → List ℕ
 printed_refusal None error = []
 printed_refusal (Some origin) error = refused_line origin error
 
--- Where a script stands: a machine takes events; or one stopped within an event, and its devices alone are
+-- The state of a script: a machine takes events; or one stopped within an event, and its devices alone are
 -- left, after so many tries to open them again.
 pub data Standing : Type 0 where
   Takes : Machine → Standing
@@ -166,7 +166,7 @@ abbrev pub tries_in : Standing → ℕ
 tries_in (Takes m) = 0
 tries_in (Stands m event tries) = tries
 
--- What happens to the machine meanwhile, what is printed, and where the script stands then.
+-- What happens to the machine meanwhile, what is printed, and the state of the script then.
 pub record Led : Type 0 where
   pub moments : List Moment
   pub text : List ℕ
@@ -186,7 +186,7 @@ EventLeads origins (Takes m) event led =
     ⊎ (led ≡ halted m event 0)
 EventLeads origins (Stands m stopped tries) event led = led ≡ halted m stopped tries
 
--- What a crash that keeps these of the pending writes leads to from where a script stands: a machine, whose
+-- What a crash that keeps these of the pending writes leads to from the state of a script: a machine, whose
 -- zones are what is left on their devices; or, where a stop falls in the opening, devices alone.
 abbrev pub Crash : Type 1
 Crash = Standing → List ZoneKeep → Option Machine → Type 0
@@ -206,17 +206,17 @@ abbrev pub PlanLeads : Standing → Led → Type 0
 PlanLeads (Takes m) led = led ≡ idle (Takes m)
 PlanLeads (Stands m event tries) led = led ≡ halted m event tries
 
-abbrev pub Leads : List Labels → Crash → Standing → Said → Led → Type 0
-Leads origins crash s Nothing led = led ≡ idle s
-Leads origins crash s (Happens event) led = EventLeads origins s event led
-Leads origins crash s Plans led = PlanLeads s led
-Leads origins crash s (Crashes keeps) led = Recovers origins crash s keeps led
-Leads origins crash s (Reopens keeps) led =
+abbrev pub LeadsByCommand : List Labels → Crash → Standing → Commanded → Led → Type 0
+LeadsByCommand origins crash s Nothing led = led ≡ idle s
+LeadsByCommand origins crash s (Happens event) led = EventLeads origins s event led
+LeadsByCommand origins crash s Plans led = PlanLeads s led
+LeadsByCommand origins crash s (Crashes keeps) led = Recovers origins crash s keeps led
+LeadsByCommand origins crash s (Reopens keeps) led =
     Recovers origins crash s keeps led
     ⊎ (crash s keeps None × (led ≡ halted (machine_of s) (event_in s) (suc (tries_in s))))
 
--- What a command may end: a store is refused behind a crash.
-abbrev pub MayRefuse : Said → Type 0
+-- What a command may end: a store is refused after a crash.
+abbrev pub MayRefuse : Commanded → Type 0
 MayRefuse (Crashes keeps) = Unit {0}
 MayRefuse (Reopens keeps) = Unit {0}
 MayRefuse _ = ⊥
@@ -225,23 +225,23 @@ MayRefuse _ = ⊥
 pub record LineLeads (origins : List Labels) (crash : Crash) (s : Standing) (line : List ℕ)
     (led : Led) : Type 0 where
   pub command : Command
-  pub says : Says origins line command
-  pub leads : Leads origins crash s (said_by command) led
+  pub says : SaysCommand origins line command
+  pub leads : LeadsByCommand origins crash s (said_by command) led
 
 -- ... or ends the run.
 pub record LineRefuses (origins : List Labels) (line text : List ℕ) : Type 0 where
   pub command : Command
-  pub says : Says origins line command
+  pub says : SaysCommand origins line command
   pub crashes : MayRefuse (said_by command)
   pub place : ℕ
   pub error : OpenError
   pub printed : text ≡ printed_refusal (slice_get origins place) error
 
 abbrev pub IsNoCommand : List Labels → List ℕ → Type 0
-IsNoCommand origins line = (c : Command) → ¬ (Says origins line c)
+IsNoCommand origins line = (c : Command) → ¬ (SaysCommand origins line c)
 
 -- What lines lead to, the first of which has that number, and how the run ends: where all are commands, at
--- the first that is none, or at one behind which a store is refused.
+-- the first that is none, or at one after which a store is refused.
 abbrev pub Runs : List Labels → Crash → Standing → ℕ → List (List ℕ) → Led → Ending → Type 0
 Runs origins crash s number [] led ending = (led ≡ idle s) × (ending ≡ Done)
 Runs origins crash s number (line ∷ rest) led ending =

@@ -11,7 +11,7 @@ use dns_sectors::{Keep, MemorySectors, Plan, Sectors};
 use std::alloc::AllocError;
 use std::rc::Rc;
 
-/// A device that a script makes, and that can be told to crash.
+/// A device that a script makes, and that can be made to crash.
 pub trait ScriptDevice: Sectors + Drop {
     /// The sectors that a crash leaves which keeps these of the writes that are pending.
     ghost left_by: { Self → StatedKeep → List (List ℕ) };

@@ -3,7 +3,7 @@
 ghost use Rattle.std.specs.Prelude.{◌≡◌, ◌≢◌, ◌∷◌, ◌++◌, [], length, map, IfErr, IfOk, OnOk};
 ghost use Rattle.dns_held.specs.Each.{Each2, Each3};
 ghost use Rattle.dns_script.specs.Lines.{lines};
-ghost use Rattle.dns_replay.specs.Made.{IsMade};
+ghost use Rattle.dns_replay.specs.Made.{IsMadeOf};
 ghost use Rattle.dns_replay.specs.Runs.{AreSame, RunsFrom};
 
 use crate::device::ScriptDevice;
@@ -19,7 +19,7 @@ use std::alloc::AllocError;
 use std::io::Write;
 use std::rc::Rc;
 
-/// Why no store was made: the place of the zone, and what was wrong.
+/// Why no store was made: the position of the zone, and what was wrong.
 #[derive(Clone, Copy, Debug, PartialEq, Eq)]
 pub struct NotMade {
     pub place: usize,
@@ -44,7 +44,7 @@ fn make_one<D: ScriptDevice, I: ZoneIndex>(
     settings: &ZoneSettings,
     plan: &Rc<Plan, Heap>,
 ) -> Result<D, FormatError>
-    ensures { IfOk result (IsMade D.Sectors zone.now settings.now) }
+    ensures { IfOk result (IsMadeOf D.Sectors zone.now settings.now) }
 {
     let len = 1 + 2 * (settings.snapshot as usize + settings.journal as usize);
     let mut device = D::make(alloc, len, plan.clone()?)?;
@@ -58,7 +58,7 @@ fn make_one<D: ScriptDevice, I: ZoneIndex>(
     Ok(device)
 }
 
-/// Puts a device with the store of a zone behind others.
+/// Puts a device with the store of a zone after others.
 fn make_into<D: ScriptDevice, I: ZoneIndex>(
     alloc: Heap,
     devices: &mut Vec<D, Heap>,
@@ -67,7 +67,7 @@ fn make_into<D: ScriptDevice, I: ZoneIndex>(
     plan: &Rc<Plan, Heap>,
 ) -> Result<(), FormatError>
     ensures { OnOk result ((device : _) × (devices.new.items ≡ devices.old.items ++ device ∷ [])
-        × IsMade D.Sectors zone.now settings.now device) }
+        × IsMadeOf D.Sectors zone.now settings.now device) }
 {
     let device = make_one(alloc, zone, settings, plan)?;
     devices.push(device).map_err(AllocError::from)?;
@@ -82,7 +82,7 @@ fn make_all<D: ScriptDevice, I: ZoneIndex>(
     plan: &Rc<Plan, Heap>,
 ) -> Result<Vec<D, Heap>, NotMade>
     requires { length zones.now ≡ length settings.now }
-    ensures { IfOk result (λ devices. Each3 (IsMade D.Sectors) zones.now settings.now devices.items) }
+    ensures { IfOk result (λ devices. Each3 (IsMadeOf D.Sectors) zones.now settings.now devices.items) }
 {
     let mut devices = Vec::new(alloc);
     for place in 0..zones.len() {
@@ -106,7 +106,7 @@ fn replay_over<D: ScriptDevice, I: ZoneIndex, W: Write>(
 ) -> Ending
     requires named { world.origins.now ≡ map (λ z. z.apex) zones.now }
     requires same { Each2 AreSame world.settings.now again.items }
-    requires made { Each3 (IsMade D.Sectors) zones.now world.settings.now devices.items }
+    requires made { Each3 (IsMadeOf D.Sectors) zones.now world.settings.now devices.items }
     ensures { result ≢ Ending.Failed → RunsFrom D.Sectors D.left_by zones.now world.entry.settings.now
         (lines script.now) result (W.contents out.old) (W.contents out.new) }
 {
@@ -117,8 +117,7 @@ fn replay_over<D: ScriptDevice, I: ZoneIndex, W: Write>(
 }
 
 /// Makes a device for each zone, with its store, opens the primary over them, and runs a script: see
-/// `run_script`. The zones and their settings stand in one order. Refused where no store can be made of a
-/// zone.
+/// `run_script`. The zones and their settings are in one order. Refused where no store can be made of a zone.
 pub fn replay_zones<D: ScriptDevice, I: ZoneIndex, W: Write>(
     alloc: Heap,
     zones: Vec<Zone<I>, Heap>,

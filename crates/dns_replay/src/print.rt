@@ -125,7 +125,7 @@ pub(crate) fn print_stop<W: Write>(out: &mut W) -> io::Result<()>
     writeln!(out, "stopped")
 }
 
-/// Prints a zone behind a crash: the number of the version that is shown, and its serial.
+/// Prints a zone after a crash: the number of the version that is shown, and its serial.
 fn print_recovered_zone<W: Write>(
     origin: &Name,
     number: u64,
@@ -138,7 +138,7 @@ fn print_recovered_zone<W: Write>(
     writeln!(out, "recovered {origin} version {number} serial {serial}")
 }
 
-/// Prints the zone at a place behind a crash.
+/// Prints the zone at a position after a crash.
 fn print_recovered_at<D: ScriptDevice, I: ZoneIndex, W: Write>(
     origins: &[Name],
     primary: &Primary<I, KeptStore<D, I>>,
@@ -158,7 +158,7 @@ fn print_recovered_at<D: ScriptDevice, I: ZoneIndex, W: Write>(
     }
 }
 
-/// Prints all zones behind a crash.
+/// Prints all zones after a crash.
 pub(crate) fn print_recovered<D: ScriptDevice, I: ZoneIndex, W: Write>(
     origins: &[Name],
     primary: &Primary<I, KeptStore<D, I>>,
@@ -200,7 +200,7 @@ fn print_refused_zone<W: Write>(origin: &Name, error: OpenError, out: &mut W) ->
     writeln!(out, "refused {origin} {}", Refusal(error))
 }
 
-/// Prints that the store of the zone at a place is refused.
+/// Prints that the store of the zone at a position is refused.
 pub(crate) fn print_refusal<W: Write>(
     origins: &[Name],
     place: usize,

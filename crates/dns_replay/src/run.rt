@@ -24,7 +24,7 @@ pub enum Ending {
     Done,
     /// The line with this number, the first being 1, is no command.
     Syntax(u64),
-    /// Behind a crash a store was refused, as was printed.
+    /// After a crash a store was refused, as was printed.
     Refused,
     /// A writer failed, or memory was refused.
     Failed,
@@ -44,7 +44,7 @@ fn peer_of(address: IpAddr) -> Peer
     Peer { address, port: 0 }
 }
 
-/// What becomes of a run behind a line.
+/// What becomes of a run after a line.
 #[derive(Clone, Copy, Debug, PartialEq, Eq)]
 pub(crate) enum After {
     /// It goes on.

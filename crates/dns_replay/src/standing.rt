@@ -16,7 +16,7 @@ ghost use Rattle.dns_primary.specs.HandOut.{AreSetAs};
 ghost use Rattle.dns_script.specs.Commands.{said_keep, said_zone_keep};
 ghost use Rattle.dns_replay.specs.Crashes.{AreLeftBy, IsToldAs, keep_at};
 ghost use Rattle.dns_replay.specs.Scripts.{EventLeads, Standing as Stated, event_in, machine_of, tries_in};
-ghost use Rattle.dns_replay.specs.Runs.{AreSame, DoesBy, IsAt, IsRefused, LeadsOn, crash_by};
+ghost use Rattle.dns_replay.specs.Runs.{AreSame, DoesBy, IsAt, IsOpeningRefused, LeadsOn, crash_by};
 
 use crate::device::ScriptDevice;
 use crate::print::{print_effects, print_recovered, print_refusal, print_stop};
@@ -71,7 +71,7 @@ pub(crate) fn settings_again(
     Ok(again)
 }
 
-/// What is kept, as a device is told it.
+/// What is kept, as it is passed to a device.
 fn told_as(keep: &Keep) -> dns_sectors::Keep<'_>
     ensures { IsToldAs (said_keep keep.now) result }
 {
@@ -81,14 +81,14 @@ fn told_as(keep: &Keep) -> dns_sectors::Keep<'_>
     }
 }
 
-/// What is said of the zone at a place.
+/// What is said of the zone at a position.
 fn said_of(keeps: &[ZoneKeep], place: usize) -> Option<&ZoneKeep>
     ensures { option_copied result ≡ find (λ k. k.zone == place) keeps.now }
 {
     keeps.iter().find(|one| one.zone == place)
 }
 
-/// What is kept of the writes that are pending on the device of the zone at a place: none where nothing is
+/// What is kept of the writes that are pending on the device of the zone at a position: none where nothing is
 /// said of it.
 fn keep_at(keeps: &[ZoneKeep], place: usize) -> dns_sectors::Keep<'_>
     ensures { IsToldAs (keep_at (map said_zone_keep keeps.now) place) result }
@@ -165,7 +165,7 @@ fn run_step<D: ScriptDevice, I: ZoneIndex, W: Write>(
 }
 
 /// Lets an event happen, and prints what it does; where a stop falls in it, or fell before, it prints that
-/// alone. A script stands with a primary that takes events, or, behind a stop, with its devices alone.
+/// alone. A script has a primary that takes events, or, after a stop, its devices alone.
 pub(crate) fn run_event<D: ScriptDevice, I: ZoneIndex, W: Write>(
     world: World<'_>,
     primary: &mut Option<Primary<I, KeptStore<D, I>>>,
@@ -256,7 +256,7 @@ fn fell(stop: Option<u32>, plan: &Plan) -> bool
     }
 }
 
-/// A store was refused behind a crash: a stop fell in the opening, and the devices are kept, or the run ends.
+/// A store was refused after a crash: a stop fell in the opening, and the devices are kept, or the run ends.
 fn keep_refused<D: ScriptDevice, W: Write>(
     world: World<'_>,
     devices: &mut Vec<D, Heap>,
@@ -264,7 +264,7 @@ fn keep_refused<D: ScriptDevice, W: Write>(
     refused: NotOpened<D>,
     out: &mut W,
 ) -> io::Result<After>
-    ensures { IfOk result (IsRefused world.entry.origins.now stop refused.devices.items
+    ensures { IfOk result (IsOpeningRefused world.entry.origins.now stop refused.devices.items
         devices.new.items (W.contents out.old) (W.contents out.new)) }
 {
     if fell(stop, world.plan) {

@@ -41,10 +41,10 @@ pub(crate) fn happen<H, E, R, P: TakesEvents<H, E, R>>(primary: &mut P, heap: H,
 
 /// What shows a version of each of its zones.
 pub(crate) trait ShowsVersions {
-    /// The zone at a place is shown in the version with this number, and this serial.
+    /// The zone at a position is shown in the version with this number, and this serial.
     ghost shows: { Self → ℕ → Option (ℕ × ℕ) → Type 0 };
 
-    /// The number of the version that is shown of the zone at a place, and its serial.
+    /// The number of the version that is shown of the zone at a position, and its serial.
     fn version_at(&self, place: usize) -> Option<(u64, u32)>
         ensures { shows self.now place result };
 }
@@ -59,7 +59,7 @@ impl<I: ZoneIndex, S: ZoneStore> ShowsVersions for Primary<I, S> {
     }
 }
 
-/// The number of the version that is shown of the zone at a place, and its serial.
+/// The number of the version that is shown of the zone at a position, and its serial.
 pub(crate) fn version_at<P: ShowsVersions>(primary: &P, place: usize) -> Option<(u64, u32)>
     ensures { P.shows primary.now place result }
 {

@@ -83,14 +83,14 @@ fn by_message<'a>(message: Message<'a>, header: &'a [u8; 12]) -> Request<'a>
     }
 }
 
-/// What the octets are as a request: the tests stand in their order, the first that applies decides.
+/// What the octets are as a request: of the tests, in this order, the first that applies decides.
 ///
 /// - Fewer than 12 octets, or a response: ignored.
 /// - An OPCODE other than QUERY and UPDATE: NOTIMP.
-/// - More than 512 octets by UDP; no message; another number of questions than one; additional records; in a
+/// - More than 512 octets by UDP; no message; a number of questions other than one; additional records; in a
 ///   query records in the answer section, or in the authority section unless the type is IXFR: FORMERR.
 /// - An update; a question of type IXFR or AXFR: as they are called.
-/// - A question of type MAILB or MAILA: NOTIMP. In another class than IN: REFUSED.
+/// - A question of type MAILB or MAILA: NOTIMP. In a class other than IN: REFUSED.
 /// - Else a query.
 #[inline(always)]
 pub fn classify(octets: &[u8], transport: Transport) -> Request<'_>

@@ -82,8 +82,8 @@ is_comment (c ∷ rest) = c == 35
 abbrev pub spoken : List ℕ → List (List ℕ)
 spoken line = if is_comment line then [] else words line
 
-abbrev pub Says : List Labels → List ℕ → Command → Type 0
-Says origins line c = AreWordsOf origins (spoken line) c
+abbrev pub SaysCommand : List Labels → List ℕ → Command → Type 0
+SaysCommand origins line c = AreWordsOf origins (spoken line) c
 
 -- What the code reads.
 abbrev pub said_keep : CodeKeep → Keep

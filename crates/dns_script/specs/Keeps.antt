@@ -12,7 +12,7 @@ pub data Keep : Type 0 where
   All : Keep
   These : List ℕ → Keep
 
--- What is kept of those on the device of the zone at a place.
+-- What is kept of those on the device of the zone at an index.
 pub record ZoneKeep : Type 0 where
   pub zone : ℕ
   pub keep : Keep
@@ -27,7 +27,7 @@ abbrev pub if_greater : ℕ → Option ℕ → Option ℕ
 if_greater last None = None
 if_greater last (Some n) = if nat_lt last n then Some n else None
 
--- Numbers behind others, in decimal digits, each greater than the one before it.
+-- Numbers after others, in decimal digits, each greater than the one before it.
 abbrev pub numbers_behind : List ℕ → ℕ → List (List ℕ) → Option (List ℕ)
 numbers_behind before last [] = Some before
 numbers_behind before last (text ∷ rest) = elim (if_greater last (number_of_text (2 ^ 32) text)) [
@@ -41,12 +41,12 @@ keep_of text =
     if bytes_eq text (codes "all") then Some All
     else option_map These (numbers_behind [] 0 (slice_split is_comma text))
 
--- The place of the first zone of that name.
+-- The index of the first zone of that name.
 abbrev pub place_under : List Labels → Result Labels NameError → Option ℕ
 place_under origins (Err e) = None
 place_under origins (Ok name) = position (λ origin. names_eq origin name) origins
 
--- The place of the zone that a text names, under the root.
+-- The index of the zone that a text names, under the root.
 abbrev pub place_named : List Labels → List ℕ → Option ℕ
 place_named origins text = place_under origins (name_of_text [] text)
 
@@ -71,7 +71,7 @@ abbrev pub unless_among : List ZoneKeep → Option ZoneKeep → Option ZoneKeep
 unless_among before None = None
 unless_among before (Some k) = if is_among k.zone before then None else Some k
 
--- What words say of one zone each, behind others; no zone twice.
+-- What words say of one zone each, after others; no zone twice.
 abbrev pub keeps_behind : List Labels → List ZoneKeep → List (List ℕ) → Option (List ZoneKeep)
 keeps_behind origins before [] = Some before
 keeps_behind origins before (word ∷ rest) = elim (unless_among before (zone_keep_of origins word)) [

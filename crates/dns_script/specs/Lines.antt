@@ -8,7 +8,7 @@ use Rattle.std.specs.Str.Lines.{strip_carriage_return}
 abbrev pub is_blank : ℕ → Bool
 is_blank c = c == 32 || c == 9
 
--- The words of a line: what stands between blanks.
+-- The words of a line: what is between blanks.
 abbrev pub words : List ℕ → List (List ℕ)
 words line = filter (λ word. nat_lt 0 (length word)) (slice_split is_blank line)
 
@@ -19,12 +19,12 @@ is_feed c = c == 10
 abbrev pub lines : List ℕ → List (List ℕ)
 lines script = map strip_carriage_return (slice_split is_feed script)
 
--- What is left of a script behind a line, if a line feed ends it.
+-- What is left of a script after a line, if a line feed ends it.
 abbrev pub lines_left : Option (List ℕ) → List (List ℕ)
 lines_left None = []
 lines_left (Some rest) = lines rest
 
--- What stands between certain octets of a text, if there is one.
+-- What is between certain octets of a text, if there is one.
 abbrev pub pieces_left : (ℕ → Bool) → Option (List ℕ) → List (List ℕ)
 pieces_left is_between None = []
 pieces_left is_between (Some rest) = slice_split is_between rest

@@ -2,7 +2,7 @@
 ghost use Rattle.std.specs.Prelude.{◌≡◌, ℕ, List, [], ◌∷◌, length, MatchOption, IfOk, Some, codes};
 ghost use Rattle.dns_names.specs.Name.{Labels};
 ghost use Rattle.dns_script.specs.Commands.{AreWordsOf, Command as Stated, HasOctets, IsCount, IsNumber};
-ghost use Rattle.dns_script.specs.Commands.{Says, is_comment, said};
+ghost use Rattle.dns_script.specs.Commands.{SaysCommand, is_comment, said};
 ghost use Rattle.dns_script.specs.Lines.{words};
 
 use crate::keeps::{ZoneKeep, keeps, place_named};
@@ -31,7 +31,7 @@ pub enum Command {
     Close(u32),
     /// `flush`: what was staged is shown, and what waits goes out.
     Flush,
-    /// `checkpoint ORIGIN`: the zone at a place gets a later base.
+    /// `checkpoint ORIGIN`: the zone at an index gets a later base.
     Checkpoint(usize),
     /// `fail N`: the N-th write or sync from here on fails.
     Fail(u32),
@@ -279,8 +279,8 @@ pub fn read_command(
     line: &[u8],
 ) -> Result<Option<Command>, AllocError>
     ensures { IfOk result
-        (λ read. MatchOption read ((c : Stated) → ¬ (Says origins.now line.now c))
-        (λ c. Says origins.now line.now (said c))) }
+        (λ read. MatchOption read ((c : Stated) → ¬ (SaysCommand origins.now line.now c))
+        (λ c. SaysCommand origins.now line.now (said c))) }
 {
     if is_comment(line) {
         return Ok(Some(Command::Nothing));

@@ -1,4 +1,4 @@
-//! What a crash keeps of the writes that are pending on the devices of zones: the words behind `crash` and
+//! What a crash keeps of the writes that are pending on the devices of zones: the words after `crash` and
 //! `reopen`.
 ghost use Rattle.std.specs.Prelude.{◌≡◌, ◌==◌, ◌∷◌, [], map, option_map, position, IfOk};
 ghost use Rattle.std.specs.List.{slice_split};
@@ -26,7 +26,7 @@ pub enum Keep {
 /// Which of those on the device of a zone.
 #[derive(Drop)]
 pub struct ZoneKeep {
-    /// The place of the zone.
+    /// The index of the zone.
     pub zone: usize,
     /// What is kept.
     pub keep: Keep,
@@ -68,14 +68,14 @@ fn one_keep(alloc: Heap, text: &[u8]) -> Result<Option<Keep>, AllocError>
     }
 }
 
-/// The place of the first of these names that is the one.
+/// The index of the first of these names that is the one.
 fn place_of(origins: &[Name], name: &Name) -> Option<usize>
     ensures { result ≡ position (λ origin. names_eq origin name.now) origins.now }
 {
     origins.iter().position(|origin| *origin == *name)
 }
 
-/// The place of the zone that a text names, under the root.
+/// The index of the zone that a text names, under the root.
 pub(crate) fn place_named(
     alloc: Heap,
     origins: &[Name],

@@ -13,14 +13,14 @@ fn is_blank(octet: u8) -> bool
     octet == b' ' || octet == b'\t'
 }
 
-/// Where the first blank stands.
+/// Where the first blank is.
 fn first_blank(text: &[u8]) -> Option<usize>
     ensures { result ≡ position is_blank text.now }
 {
     text.iter().position(|octet| is_blank(*octet))
 }
 
-/// What stands before the first blank, and behind it.
+/// What comes before the first blank, and after it.
 fn cut_at_blank(text: &[u8]) -> (&[u8], &[u8])
     ensures parts { MatchOption (position is_blank text.now) ((result.0.now ≡ text.now) × (result.1.now ≡ []))
         (λ _. (result.0.now ≡ before_first is_blank text.now)
@@ -33,7 +33,7 @@ fn cut_at_blank(text: &[u8]) -> (&[u8], &[u8])
     }
 }
 
-/// The first word of a text, and what stands behind it.
+/// The first word of a text, and what follows it.
 pub(crate) fn first_word(text: &[u8]) -> Option<(&[u8], &[u8])>
     ensures { MatchOption result (words text.now ≡ []) (λ w. words text.now ≡ w.0.now ∷ words w.1.now) }
 {
@@ -69,14 +69,14 @@ pub(crate) fn two_words(text: &[u8]) -> Option<(&[u8], &[u8])>
     Some((first, second))
 }
 
-/// Where the first octet of that value stands.
+/// Where the first octet of that value is.
 fn first_at(text: &[u8], octet: u8) -> Option<usize>
     ensures { result ≡ position (λ c. c == octet) text.now }
 {
     text.iter().position(|c| *c == octet)
 }
 
-/// What stands before it, and behind it if there is one.
+/// What comes before it, and after it if there is one.
 fn parted_at(text: &[u8], octet: u8) -> (&[u8], Option<&[u8]>)
     ensures { MatchOption (position (λ c. c == octet) text.now)
         ((result.0.now ≡ text.now) × (option_copied result.1 ≡ None))
@@ -89,7 +89,7 @@ fn parted_at(text: &[u8], octet: u8) -> (&[u8], Option<&[u8]>)
     }
 }
 
-/// What stands before the first octet of that value, and behind it if there is one.
+/// What comes before the first octet of that value, and after it if there is one.
 pub(crate) fn cut_at(text: &[u8], octet: u8) -> (&[u8], Option<&[u8]>)
     ensures parts { MatchOption (position (λ c. c == octet) text.now)
         ((result.0.now ≡ text.now) × (option_copied result.1 ≡ None))
@@ -113,8 +113,8 @@ fn without_return(line: &[u8]) -> &[u8]
     }
 }
 
-/// The first line of a script, without what ends it, and what stands behind it if a line feed does. A line
-/// ends with LF or CR LF.
+/// The first line of a script, without what ends it, and what follows it if a line feed does. A line ends
+/// with LF or CR LF.
 pub fn split_line(script: &[u8]) -> (&[u8], Option<&[u8]>)
     ensures line { lines script.now ≡ result.0.now ∷ lines_left (option_copied result.1) }
     ensures less { room (option_copied result.1) ≤ length script.now }

@@ -20,7 +20,7 @@ use Rattle.dns_wire.specs.Puts.{RefusesUpTo}
 use Rattle.dns_wire.specs.declared.WriteError.{WriteError}
 use Rattle.dns_zone.specs.Zone.{Zone}
 use Rattle.dns_secondary.specs.Receiving.{type_asked}
-use Rattle.dns_secondary.specs.Request.{asked_octets, as_reply, octets_with, query_with}
+use Rattle.dns_secondary.specs.Request.{asked_octets, as_reply, query_octets, query_with}
 use Rattle.dns_secondary.proofs.Carried.{reads_on}
 
 abbrev pub asked : Question → EchoedQuestion
@@ -106,31 +106,31 @@ pub asked_reads : (q : Question) (id : ℕ) (authority : List Record)
     → length authority < 2 ^ 16
     → AllByRecursion IsRecord authority
     → AllByRecursion (λ r. r.rtype ≡ type_soa) authority
-    → Reads (octets_with q id authority) (query_with q id authority)
+    → Reads (query_octets q id authority) (query_with q id authority)
 asked_reads q id authority back valid fits fits' fit few records soas =
     let r = as_reply q id authority in
     let read = subst (λ (t : List ℕ). Reads t (message_of_reply r)) (text_flagged q id authority) (back r (is_reply q id authority valid fit few records)) in
     let on = reads_on _ _ 128 0 (rest_with q (length authority) authority) (message_of_reply r) tt (soas_shown authority soas) tt read in
     let number : number_of (to_be_bytes w16 id) ≡ id = omega arith in
-    let head : header_of (octets_with q id authority) ≡ (query_with q id authority).header =
+    let head : header_of (query_octets q id authority) ≡ (query_with q id authority).header =
     (λ i. record { id = number i; qr = false; opcode = 0; aa = false; tc = false; rd = false; rcode = 0 }) in
     let asks = question_is q fits fits' in
-    subst (λ (m : Message). Reads (octets_with q id authority) m)
+    subst (λ (m : Message). Reads (query_octets q id authority) m)
     (λ i. record { header = head i; questions = asks i ∷ []; answers = []; authorities = map item_of authority; additionals = [] }) on
 
 -- the bit QR is taken away
 pub cleared : (q : Question) (id : ℕ) (authority : List Record) (octets : List ℕ)
     → octets ≡ text (as_reply q id authority)
-    → slice_set octets 2 0 ≡ octets_with q id authority
+    → slice_set octets 2 0 ≡ query_octets q id authority
 cleared q id authority octets is = ap (λ (t : List ℕ). slice_set t 2 0) (is ∙ text_flagged q id authority)
 
 pub refused_as : (q : Question) (id : ℕ) (authority : List Record) (reply : Reply) (limit most : ℕ) (e : WriteError)
     → reply ≡ as_reply q id authority
     → limit ≡ most
     → RefusesUpTo limit (length (text reply)) e
-    → RefusesUpTo most (length (octets_with q id authority)) e
+    → RefusesUpTo most (length (query_octets q id authority)) e
 refused_as q id authority reply limit most e is same h =
-    subst (λ (k : ℕ). RefusesUpTo k (length (octets_with q id authority)) e) same
+    subst (λ (k : ℕ). RefusesUpTo k (length (query_octets q id authority)) e) same
     (subst (λ (k : ℕ). RefusesUpTo limit k e) (ap length (ap text is ∙ text_flagged q id authority)) h)
 
 pub type_small : (held : Option Zone) → type_asked held < 2 ^ 16
@@ -139,5 +139,5 @@ type_small (Some z) = omega arith
 
 pub as_long : (q : Question) (id : ℕ) (authority : List Record) (octets : List ℕ)
     → octets ≡ text (as_reply q id authority)
-    → length (octets_with q id authority) ≡ length octets
+    → length (query_octets q id authority) ≡ length octets
 as_long q id authority octets is = sym (ap length (is ∙ text_flagged q id authority))

@@ -13,7 +13,7 @@ use Rattle.dns_wire.specs.Message.{ResourceRecord, record_of_item}
 use Rattle.dns_secondary.specs.State.{State, Begun, Led, Whole, Removing, Adding, Ended, IsUnfinished}
 use Rattle.dns_secondary.specs.Step.{step, second, within_whole, last, collect, first_sequence, sequence_from, remove, new_soa, add}
 use Rattle.dns_secondary.specs.Rest.{Reaches}
-use Rattle.dns_secondary.specs.Taken.{IsSoaAt, AreOthers, Collects, HasWholeForm, HasForm, IsBeginning}
+use Rattle.dns_secondary.specs.Taken.{IsSoaAt, AreOthers, Collects, HasWholeForm, HasAnswerForm, IsBeginning}
 use Rattle.dns_secondary.specs.declared.fault.Fault.{Fault}
 use Rattle.dns_secondary.specs.declared.fault.Fault.TheVariants.{BadSequence, RemovesAbsent, AddsPresent, InvalidZone}
 use Rattle.dns_secondary.proofs.Forms.{Goes, when, unless, and_false, soa_of, begins, whole_others, changed_goes, reaches_of, goes_of}
@@ -266,7 +266,7 @@ module _ (apex : Labels) (held : Option Zone) where
           before rs later (Ended set) some (subst (λ (ys : List Record). Goes apex held Begun ys (Ended set)) (sym framed)
           (Led soa, begins apex held soa leading, whole_others apex held soa x xs set (soa_of apex held (is_soa soa) _ leading) o all))
 
-  open_form : (rs later : List Record) → later ≢ [] → HasForm apex held (rs ++ later) → IsOpen rs
+  open_form : (rs later : List Record) → later ≢ [] → HasAnswerForm apex held (rs ++ later) → IsOpen rs
   open_form rs later some (inl h) =
       before rs later (Led h.0) some (subst (λ (ys : List Record). Goes apex held Begun ys (Led h.0)) (sym h.1) (Led h.0, begins apex held h.0 h.2, refl))
   open_form rs later some (inr (inl h)) = open_whole rs later h.0 some h.1
@@ -283,7 +283,7 @@ module _ (apex : Labels) (held : Option Zone) where
       let beyond = open_form (map record_of_item records) h.later h.longer h.form in
       record { next = beyond.next; reaches = reaches_of apex held Begun records beyond.next h.fit beyond.goes; on = beyond.on }
 
-  long : (answer set : List Record) → HasLongForm apex held answer set → HasForm apex held answer
+  long : (answer set : List Record) → HasLongForm apex held answer set → HasAnswerForm apex held answer
   long answer set (inl h) = inr (inl (set, h))
   long answer set (inr h) = inr (inr (set, h))
 

@@ -15,7 +15,7 @@ use Rattle.dns_wire.specs.Message.{ResourceRecord, record_of_item}
 use Rattle.dns_secondary.specs.State.{State, Begun, Led, Whole, Removing, Adding, Ended}
 use Rattle.dns_secondary.specs.Step.{step, within_whole, sequence_from, first_sequence, second, IsFit}
 use Rattle.dns_secondary.specs.Rest.{Means, Rest, Reaches}
-use Rattle.dns_secondary.specs.Taken.{IsSoaAt, AreOthers, Collects, Removes, Adds, sequence, Applies, Leads, IsCurrent, IsWhole, HasChangedForm, IsChanged, Taken}
+use Rattle.dns_secondary.specs.Taken.{IsSoaAt, AreOthers, Collects, Removes, Adds, sequence_records, Applies, Leads, IsCurrent, IsWholeZone, HasChangedForm, IsChanged, Taken}
 use Rattle.dns_secondary.specs.declared.fault.Fault.{Fault}
 use Rattle.dns_secondary.proofs.Runs.{rest_of}
 
@@ -61,11 +61,11 @@ abbrev pub along : List Change → List Record → List Record
 along [] end = end
 along (c ∷ rest) end = c.old_soa ∷ (c.removed ++ (c.new_soa ∷ (c.added ++ along rest end)))
 
-pub along_is : (changes : List Change) (end : List Record) → flat_map sequence changes ++ end ≡ along changes end
+pub along_is : (changes : List Change) (end : List Record) → flat_map sequence_records changes ++ end ≡ along changes end
 along_is [] end = refl
 along_is (c ∷ rest) end =
-    append_assoc (sequence c) (flat_map sequence rest) end
-    ∙ ap (λ (xs : List Record). sequence c ++ xs) (along_is rest end)
+    append_assoc (sequence_records c) (flat_map sequence_records rest) end
+    ∙ ap (λ (xs : List Record). sequence_records c ++ xs) (along_is rest end)
     ∙ ap (λ (xs : List Record). c.old_soa ∷ xs) (append_assoc c.removed (c.new_soa ∷ c.added) (along rest end))
 
 module _ (apex : Labels) (held : Option Zone) where
@@ -214,7 +214,7 @@ module _ (apex : Labels) (held : Option Zone) where
     means = (h.not_newer, h.stays);
   }
 
-  whole_means : (answer set : List Record) → IsWhole apex answer set → HasMeaning answer set
+  whole_means : (answer set : List Record) → IsWholeZone apex answer set → HasMeaning answer set
   whole_means answer set h = at (h.form).soa (h.form).others (h.form).framed (h.form).at_apex (h.form).no_soas (h.form).all
     where
       at : (soa : Record) (others : List Record) → answer ≡ soa ∷ others ++ soa ∷ [] → IsSoaAt apex soa → AreOthers others
@@ -252,7 +252,7 @@ module _ (apex : Labels) (held : Option Zone) where
       let m = of h.form in
       (rest_of apex held Begun m.end items set (reaches_of Begun items m.end h.fit m.goes)).1 m.means
     where
-      of : IsCurrent apex held (map record_of_item items) set ⊎ IsWhole apex (map record_of_item items) set ⊎ IsChanged apex held (map record_of_item items) set
+      of : IsCurrent apex held (map record_of_item items) set ⊎ IsWholeZone apex (map record_of_item items) set ⊎ IsChanged apex held (map record_of_item items) set
           → HasMeaning (map record_of_item items) set
       of (inl c) = current_means (map record_of_item items) set c
       of (inr (inl w)) = whole_means (map record_of_item items) set w

@@ -8,7 +8,7 @@ use Rattle.dns_request.specs.declared.request.Transport.TheVariants.{Tcp}
 use Rattle.dns_secondary.specs.State.{State, Begun, Led, Whole, Removing, Adding, Ended, IsUnfinished}
 use Rattle.dns_secondary.specs.Rest.{Means, Reaches, AreHeld, is_current}
 use Rattle.dns_secondary.specs.Receiving.{Receiving}
-use Rattle.dns_secondary.specs.Told.{Tells, IsMore, IsAlone}
+use Rattle.dns_secondary.specs.Told.{TellsProgress, IsMore, IsAlone}
 use Rattle.dns_secondary.specs.declared.fault.Progress.TheVariants.{More}
 use Rattle.dns_secondary.proofs.Beginnings.{go_on, beginning}
 use Rattle.dns_secondary.proofs.Forms.{Goes, goes_of}
@@ -30,7 +30,7 @@ module _ (s : Receiving) (before records : List ResourceRecord) (at : State) (so
       led_at s.apex s.held soa next (subst (λ (rs : List Record). Goes s.apex s.held Begun rs next) e
       (goes_of s.apex s.held Begun (before ++ records) next (reached_on s.apex s.held Begun at next before records so_far reaches)).1)
 
-  newer_of : (new : Receiving) → Tells s at records More new → (soa : Record) → map record_of_item (before ++ records) ≡ soa ∷ []
+  newer_of : (new : Receiving) → TellsProgress s at records More new → (soa : Record) → map record_of_item (before ++ records) ≡ soa ∷ []
       → (is_current s.held soa ≡ false) × (s.transport ≡ Tcp)
   newer_of new told soa e = (older (is_current s.held soa) refl, told.6 soa alone)
     where
@@ -43,7 +43,7 @@ module _ (s : Receiving) (before records : List ResourceRecord) (at : State) (so
           let h = held_of s.held soa c in
           absurd (told.5 h.set ((rest_of s.apex s.held at (Led soa) records h.set alone).1 (c, h.is)))
 
-  pub more_of : (new : Receiving) → IfSome s.held IsZone → Tells s at records More new → IsMore s (before ++ records)
+  pub more_of : (new : Receiving) → IfSome s.held IsZone → TellsProgress s at records More new → IsMore s (before ++ records)
   more_of new valid told = record {
     begins = beginning s.apex s.held (before ++ records) told.0 valid
         (reached_on s.apex s.held Begun at told.0 before records so_far told.1) told.2;
@@ -65,7 +65,7 @@ module _ (s : Receiving) (before records : List ResourceRecord) (at : State) (so
   open_means (Adding soa so_far reached) set m on reaches h = h
   open_means (Ended ended) set m on reaches h = on
 
-  pub tells_of : IsMore s (before ++ records) → (new : Receiving) × Tells s at records More new
+  pub tells_of : IsMore s (before ++ records) → (new : Receiving) × TellsProgress s at records More new
   tells_of m =
       let g = go_on s.apex s.held (before ++ records) m.begins in
       let reaches = reached_from s.apex s.held Begun at g.next before records so_far g.reaches in (

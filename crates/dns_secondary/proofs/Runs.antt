@@ -6,16 +6,16 @@ use Rattle.dns_records.specs.Record.{Record}
 use Rattle.dns_zone.specs.Zone.{Zone, zone_fault}
 use Rattle.dns_wire.specs.Message.{ResourceRecord}
 use Rattle.dns_secondary.specs.State.{State, Ended}
-use Rattle.dns_secondary.specs.Step.{Takes, Refuses}
+use Rattle.dns_secondary.specs.Step.{TakesRecord, RefusesRecord}
 use Rattle.dns_secondary.specs.Rest.{Means, Rest, Reaches, FailsBy}
 use Rattle.dns_secondary.specs.declared.fault.Fault.{Fault}
 
 module _ (apex : Labels) (held : Option Zone) where
   -- a record leads to one state, or is a fault
-  pub one_next : (at a b : State) (i : ResourceRecord) → Takes apex held at i a → Takes apex held at i b → a ≡ b
+  pub one_next : (at a b : State) (i : ResourceRecord) → TakesRecord apex held at i a → TakesRecord apex held at i b → a ≡ b
   one_next at a b i h g = let one = h.steps in let two = g.steps in cc
 
-  pub not_both : (at a : State) (i : ResourceRecord) (fault : Fault) → Takes apex held at i a → Refuses apex held at i fault → ⊥
+  pub not_both : (at a : State) (i : ResourceRecord) (fault : Fault) → TakesRecord apex held at i a → RefusesRecord apex held at i fault → ⊥
   not_both at a i fault h (inl wrong) = wrong.0 h.fit
   not_both at a i fault h (inr wrong) = let one = h.steps in let two = wrong.1 in absurd cc
 

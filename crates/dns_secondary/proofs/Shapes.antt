@@ -11,7 +11,7 @@ use Rattle.dns_wire.specs.Message.{ResourceRecord, record_of_item}
 use Rattle.dns_secondary.specs.State.{State, Begun, Led, Whole, Removing, Adding, Ended}
 use Rattle.dns_secondary.specs.Step.{add, remove, last, within_whole, collect, sequence_from, new_soa, first_sequence}
 use Rattle.dns_secondary.specs.Rest.{Means, Rest}
-use Rattle.dns_secondary.specs.Taken.{IsSoaAt, AreOthers, Collects, Removes, Adds, Applies, Leads, IsCurrent, HasWholeForm, IsWhole, HasChangedForm, IsChanged, Taken}
+use Rattle.dns_secondary.specs.Taken.{IsSoaAt, AreOthers, Collects, Removes, Adds, Applies, Leads, IsCurrent, HasWholeForm, IsWholeZone, HasChangedForm, IsChanged, Taken}
 use Rattle.dns_secondary.specs.declared.fault.Fault.{Fault}
 use Rattle.dns_secondary.specs.declared.fault.Fault.TheVariants.{BadSequence, RemovesAbsent, AddsPresent, InvalidZone}
 use Rattle.dns_secondary.proofs.Forms.{Goes, along, along_is, goes_of, unless}
@@ -431,7 +431,7 @@ rest_taken apex held items set rest =
     answer = map record_of_item items
 
     long : (out : List Record) → set ≡ out → IsZone (record { apex = apex; records = out }) → HasLongForm apex held answer out
-        → IsCurrent apex held answer set ⊎ IsWhole apex answer set ⊎ IsChanged apex held answer set
+        → IsCurrent apex held answer set ⊎ IsWholeZone apex answer set ⊎ IsChanged apex held answer set
     long out is valid (inl h) = inr (inl (record {
       form = subst (HasWholeForm apex answer) (sym is) h;
       valid = subst (λ (s : List Record). IsZone (record { apex = apex; records = s })) (sym is) valid;
@@ -442,7 +442,7 @@ rest_taken apex held items set rest =
     }))
 
     at : (end : State) → Goes apex held Begun answer end → Means apex held end set
-        → IsCurrent apex held answer set ⊎ IsWhole apex answer set ⊎ IsChanged apex held answer set
+        → IsCurrent apex held answer set ⊎ IsWholeZone apex answer set ⊎ IsChanged apex held answer set
     at Begun go m = absurd m
     at (Led soa) go m =
         let lone = lone_form apex held answer soa go in

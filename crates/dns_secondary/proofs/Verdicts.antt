@@ -9,7 +9,7 @@ use Rattle.dns_request.specs.declared.request.Transport.TheVariants.{Udp, Tcp}
 use Rattle.dns_secondary.specs.State.{State, Begun, Led, Whole, Removing, Adding, Ended, IsUnfinished}
 use Rattle.dns_secondary.specs.Rest.{is_current, Means, Reaches, FailsBy}
 use Rattle.dns_secondary.specs.Receiving.{Receiving, header_fault}
-use Rattle.dns_secondary.specs.Told.{verdict, Concludes, Tells, Fails, Ends, Hears, Feeds, RefusesFrom, RefusesFeed, over}
+use Rattle.dns_secondary.specs.Told.{verdict, Concludes, TellsProgress, Fails, EndsInNoZone, Hears, Feeds, RefusesFrom, RefusesFeed, over}
 use Rattle.dns_secondary.specs.declared.fault.Fault.{Fault}
 use Rattle.dns_secondary.specs.declared.fault.Fault.TheVariants.{OutOfMemory}
 use Rattle.dns_secondary.specs.declared.fault.Progress.{Progress}
@@ -75,7 +75,7 @@ pub tells : (s : Receiving) (at next : State) (records : List ResourceRecord) (p
     → Reaches s.apex s.held at records next
     → p ≡ verdict (over s) next
     → Concludes (over s) next p new
-    → Tells s at records p new
+    → TellsProgress s at records p new
 tells s at next records More new run e c = (
   next,
   run,
@@ -108,7 +108,7 @@ fails_at s at records fault h = record {
 
 pub fails_last : (s : Receiving) (at next : State) (records : List ResourceRecord) (fault : Fault)
     → Reaches s.apex s.held at records next
-    → Ends (over s) next fault
+    → EndsInNoZone (over s) next fault
     → Fails s at records fault
 fails_last s at next records fault run h =
     let ended = subst (λ n. Reaches s.apex s.held at records n) h.1 run in
@@ -122,7 +122,7 @@ pub tells_ok : (s : Receiving) (at next : State) (records : List ResourceRecord)
     → Reaches s.apex s.held at records next
     → IfOk r (λ p. p ≡ verdict s next)
     → IfOk r (λ p. Concludes s next p new)
-    → IfOk r (λ p. Tells s at records p new)
+    → IfOk r (λ p. TellsProgress s at records p new)
 tells_ok s at next records (Ok p) new run e c = tells s at next records p new run e c
 tells_ok s at next records (Err fault) new run e c = c
 
@@ -134,7 +134,7 @@ fails_first s at records fault (inr h) = inr (fails_at s at records fault h)
 
 pub fails_err : (s : Receiving) (at next : State) (records : List ResourceRecord) (r : Result Progress Fault)
     → Reaches s.apex s.held at records next
-    → IfErr r (λ e. (e ≡ OutOfMemory) ⊎ Ends s next e)
+    → IfErr r (λ e. (e ≡ OutOfMemory) ⊎ EndsInNoZone s next e)
     → IfErr r (λ e. (e ≡ OutOfMemory) ⊎ Fails s at records e)
 fails_err s at next records (Ok p) run h = h
 fails_err s at next records (Err fault) run (inl memory) = inl memory
@@ -144,7 +144,7 @@ fails_err s at next records (Err fault) run (inr h) = inr (fails_last s at next 
 pub hears_ok : (s : Receiving) (at : State) (octets : List ℕ) (m : Message) (r : Result Progress Fault) (new : Receiving)
     → Reads octets m
     → header_fault s m ≡ None
-    → IfOk r (λ p. Tells s at m.answers p new)
+    → IfOk r (λ p. TellsProgress s at m.answers p new)
     → IfOk r (λ p. Hears s at octets p new)
 hears_ok s at octets m (Ok p) new stands accepted h = record { message = m; stands = stands; accepted = accepted; tells = h }
 hears_ok s at octets m (Err fault) new stands accepted h = h
@@ -164,7 +164,7 @@ over_hears : (s : Receiving) (at : State) (octets : List ℕ) (p : Progress) (ne
     → Hears s at octets p new
 over_hears s at octets p new h = record { message = h.message; stands = h.stands; accepted = h.accepted; tells = over_tells s at (h.message).answers p new h.tells }
   where
-    over_tells : (s : Receiving) (at : State) (records : List ResourceRecord) (p : Progress) (new : Receiving) → Tells (over s) at records p new → Tells s at records p new
+    over_tells : (s : Receiving) (at : State) (records : List ResourceRecord) (p : Progress) (new : Receiving) → TellsProgress (over s) at records p new → TellsProgress s at records p new
     over_tells s at records More new h = h
     over_tells s at records Done new h = h
     over_tells s at records UpToDate new h = h

@@ -50,13 +50,13 @@ heading_octets id authorities =
     ++ to_be_bytes w16 0
 
 -- The octets of that query, its names compressed (RFC 1035 4.1.4).
-abbrev pub octets_with : Question → ℕ → List Record → List ℕ
-octets_with q id authority =
+abbrev pub query_octets : Question → ℕ → List Record → List ℕ
+query_octets q id authority =
     heading_octets id (length authority) ++ asked_octets q
     ++ compressed_records (new_places [] 12 q.name) (12 + length (asked_octets q)) authority
 
 abbrev pub request_octets : Labels → Option Zone → ℕ → List ℕ
-request_octets apex held id = octets_with (question_asked apex held) id (soas_held held)
+request_octets apex held id = query_octets (question_asked apex held) id (soas_held held)
 
 -- The most octets that a message has (RFC 1035 4.2.1, 4.2.2).
 abbrev pub most_by : Transport → ℕ

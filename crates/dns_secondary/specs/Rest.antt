@@ -7,7 +7,7 @@ use Rattle.dns_serial.specs.Serial.{greater}
 use Rattle.dns_changes.specs.Version.{serial_in}
 use Rattle.dns_wire.specs.Message.{ResourceRecord}
 use Rattle.dns_secondary.specs.State.{State, Begun, Led, Whole, Removing, Adding, Ended}
-use Rattle.dns_secondary.specs.Step.{Takes, Refuses}
+use Rattle.dns_secondary.specs.Step.{TakesRecord, RefusesRecord}
 use Rattle.dns_secondary.specs.declared.fault.Fault.{Fault}
 
 -- A version is held, and the SOA is not newer than its own.
@@ -20,8 +20,8 @@ abbrev pub AreHeld : Option Zone → List Record → Type 0
 AreHeld None set = ⊥
 AreHeld (Some z) set = set ≡ z.records
 
--- What an answer means that ends in that state. A SOA alone that is not newer: what is held is current
--- (RFC 1995 2). Behind the end: the set, if it is a valid zone. Else nothing.
+-- What an answer means that ends in that state. A SOA alone that is not newer: what is held is current (RFC
+-- 1995 2). After the end: the set, if it is a valid zone. Else nothing.
 abbrev pub Means : Labels → Option Zone → State → List Record → Type 0
 Means apex held (Led soa) set = (is_current held soa ≡ true) × AreHeld held set
 Means apex held (Ended ended) set = (set ≡ ended) × IsZone (record { apex = apex; records = ended })
@@ -34,17 +34,17 @@ Means apex held (Adding soa so_far reached) set = ⊥
 abbrev pub Rest : Labels → Option Zone → State → List ResourceRecord → List Record → Type 0
 Rest apex held state [] set = Means apex held state set
 Rest apex held state (i ∷ more) set =
-    (next : State) × Takes apex held state i next × Rest apex held next more set
+    (next : State) × TakesRecord apex held state i next × Rest apex held next more set
 
 -- The state after some records.
 abbrev pub Reaches : Labels → Option Zone → State → List ResourceRecord → State → Type 0
 Reaches apex held state [] next = next ≡ state
 Reaches apex held state (i ∷ more) next =
-    (mid : State) × Takes apex held state i mid × Reaches apex held mid more next
+    (mid : State) × TakesRecord apex held state i mid × Reaches apex held mid more next
 
 -- The first of some records that is a fault, and which.
 abbrev pub FailsBy : Labels → Option Zone → State → List ResourceRecord → Fault → Type 0
 FailsBy apex held state [] fault = ⊥
 FailsBy apex held state (i ∷ more) fault =
-    Refuses apex held state i fault
-    ⊎ ((mid : State) × Takes apex held state i mid × FailsBy apex held mid more fault)
+    RefusesRecord apex held state i fault
+    ⊎ ((mid : State) × TakesRecord apex held state i mid × FailsBy apex held mid more fault)

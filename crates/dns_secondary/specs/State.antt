@@ -5,7 +5,7 @@ use Rattle.dns_records.specs.Record.{Record}
 pub data State : Type 0 where
   -- no record yet
   Begun : State
-  -- the SOA that leads, and no record behind it
+  -- the SOA that leads, and no record after it
   Led : (soa : Record) → State
   -- within a whole zone: the SOA that leads, and the records so far, with it
   Whole : (soa : Record) (set : List Record) → State
@@ -14,7 +14,7 @@ pub data State : Type 0 where
   Removing : (soa : Record) (set : List Record) → State
   -- within a sequence, in the records that come: the same with its new SOA, and what came
   Adding : (soa : Record) (set : List Record) (reached : Record) → State
-  -- behind the end, with the set that the answer leads to
+  -- after the end, with the set that the answer leads to
   Ended : (set : List Record) → State
 
 -- The answer is not at its end there: a record may follow.

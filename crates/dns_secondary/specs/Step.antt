@@ -20,7 +20,7 @@ collect soa set r =
     else if contains set r then Ok (Whole soa set)
     else Err InvalidZone
 
--- The leading SOA stands last, too (RFC 5936 2.2).
+-- The leading SOA comes last, too (RFC 5936 2.2).
 abbrev pub last : Record → List Record → Record → Result State Fault
 last soa set r = if same r soa then Ok (Ended set) else Err BadSequence
 
@@ -63,7 +63,7 @@ begin apex r = if is_soa r && names_eq r.owner apex then Ok (Led r) else Err Bad
 abbrev pub removing : Record → List Record → Record → Result State Fault
 removing soa set r = if is_soa r then new_soa soa set r else remove soa set r
 
--- Behind the new SOA that is the leading one, the answer ends; behind another, the next sequence begins.
+-- After the new SOA that is the leading one, the answer ends; after another, the next sequence begins.
 abbrev pub adding : Record → List Record → Record → Record → Result State Fault
 adding soa set reached r =
     if not (is_soa r) then add soa set reached r
@@ -86,12 +86,12 @@ pub record IsFit (i : ResourceRecord) : Type 0 where
   pub data_is : IsData (data_of_item i)
 
 -- A record of a message leads from a state to the next, or is a fault.
-pub record Takes (apex : Labels) (held : Option Zone) (state : State) (i : ResourceRecord)
+pub record TakesRecord (apex : Labels) (held : Option Zone) (state : State) (i : ResourceRecord)
     (next : State) : Type 0 where
   pub fit : IsFit i
   pub steps : step apex held state (record_of_item i) ≡ Ok next
 
-abbrev pub Refuses : Labels → Option Zone → State → ResourceRecord → Fault → Type 0
-Refuses apex held state i fault =
+abbrev pub RefusesRecord : Labels → Option Zone → State → ResourceRecord → Fault → Type 0
+RefusesRecord apex held state i fault =
     ((IsFit i → ⊥) × (fault ≡ BadSequence))
     ⊎ (IsFit i × (step apex held state (record_of_item i) ≡ Err fault))

@@ -42,7 +42,7 @@ pub record HasWholeForm (apex : Labels) (answer set : List Record) : Type 0 wher
   pub all : Collects (soa ∷ []) others set
 
 -- A whole zone (RFC 5936 2.2).
-pub record IsWhole (apex : Labels) (answer set : List Record) : Type 0 where
+pub record IsWholeZone (apex : Labels) (answer set : List Record) : Type 0 where
   pub form : HasWholeForm apex answer set
   pub valid : IsZone (record { apex = apex; records = set })
 
@@ -57,10 +57,10 @@ Adds set [] whole = whole ≡ set
 Adds set (r ∷ rest) whole = (has r set ≡ false) × Adds (put r set) rest whole
 
 -- A sequence: the old SOA, what goes, the new SOA, what comes (RFC 1995 4).
-abbrev pub sequence : Change → List Record
-sequence c = c.old_soa ∷ c.removed ++ c.new_soa ∷ c.added
+abbrev pub sequence_records : Change → List Record
+sequence_records c = c.old_soa ∷ c.removed ++ c.new_soa ∷ c.added
 
--- It stands in an answer, and leads from a set to another.
+-- It occurs in an answer, and leads from a set to another.
 pub record Applies (c : Change) (set result : List Record) : Type 0 where
   pub old_soa : is_soa c.old_soa ≡ true
   pub new_soa : is_soa c.new_soa ≡ true
@@ -87,7 +87,7 @@ Leads soa reached set (c ∷ d ∷ rest) result =
 pub record HasChangedForm (apex : Labels) (held : Option Zone) (answer set : List Record) : Type 0 where
   pub soa : Record
   pub changes : List Change
-  pub framed : answer ≡ soa ∷ flat_map sequence changes ++ soa ∷ []
+  pub framed : answer ≡ soa ∷ flat_map sequence_records changes ++ soa ∷ []
   pub at_apex : IsSoaAt apex soa
   pub from : Zone
   pub held_is : held ≡ Some from
@@ -107,12 +107,12 @@ pub record Taken (apex : Labels) (held : Option Zone) (answer : List ResourceRec
     (set : List Record) : Type 0 where
   pub fit : AllByRecursion IsFit answer
   pub form : IsCurrent apex held (map record_of_item answer) set
-      ⊎ IsWhole apex (map record_of_item answer) set
+      ⊎ IsWholeZone apex (map record_of_item answer) set
       ⊎ IsChanged apex held (map record_of_item answer) set
 
 -- A list of one of the three forms, whether the set is a zone or not.
-abbrev pub HasForm : Labels → Option Zone → List Record → Type 0
-HasForm apex held answer =
+abbrev pub HasAnswerForm : Labels → Option Zone → List Record → Type 0
+HasAnswerForm apex held answer =
     ((soa : Record) × (answer ≡ soa ∷ []) × IsSoaAt apex soa)
     ⊎ ((set : List Record) × HasWholeForm apex answer set)
     ⊎ ((set : List Record) × HasChangedForm apex held answer set)
@@ -122,4 +122,4 @@ pub record IsBeginning (apex : Labels) (held : Option Zone) (records : List Reso
   pub fit : AllByRecursion IsFit records
   pub later : List Record
   pub longer : later ≢ []
-  pub form : HasForm apex held (map record_of_item records ++ later)
+  pub form : HasAnswerForm apex held (map record_of_item records ++ later)

@@ -32,8 +32,8 @@ IsAlone s at records soa = Reaches s.apex s.held at records (Led soa)
 -- receiver. More: they lead to a state that is not at the end, from which the next message is read. There is
 -- no meaning yet, and whatever follows means from there on what it means after these records. A SOA alone
 -- that is newer is no more than the beginning, by TCP.
-abbrev pub Tells : Receiving → State → List ResourceRecord → Progress → Receiving → Type 0
-Tells s at records More new =
+abbrev pub TellsProgress : Receiving → State → List ResourceRecord → Progress → Receiving → Type 0
+TellsProgress s at records More new =
     (next : State)
     × Reaches s.apex s.held at records next
     × IsUnfinished next
@@ -43,16 +43,16 @@ Tells s at records More new =
     × ((set : List Record) → Rest s.apex s.held at records set → ⊥)
     × ((soa : Record) → IsAlone s at records soa → s.transport ≡ Tcp)
 -- Done: the set that they mean is held.
-Tells s at records Done new =
+TellsProgress s at records Done new =
     (set : List Record)
     × Rest s.apex s.held at records set
     × ((soa : Record) → IsAlone s at records soa → ⊥)
     × (new ≡ holding s set)
 -- A SOA alone that is not newer: what is held is current (RFC 1995 2).
-Tells s at records UpToDate new =
+TellsProgress s at records UpToDate new =
     (soa : Record) × IsAlone s at records soa × (is_current s.held soa ≡ true) × (new ≡ over s)
 -- A SOA alone that is newer, by UDP: the answer is too long for it (RFC 1995 2).
-Tells s at records RetryTcp new =
+TellsProgress s at records RetryTcp new =
     (soa : Record) × IsAlone s at records soa × (is_current s.held soa ≡ false) × (s.transport ≡ Udp)
     × (new ≡ over s)
 
@@ -82,7 +82,7 @@ pub record Hears (s : Receiving) (at : State) (octets : List ℕ) (progress : Pr
   pub message : Message
   pub stands : Reads octets message
   pub accepted : header_fault s message ≡ None
-  pub tells : Tells s at message.answers progress new
+  pub tells : TellsProgress s at message.answers progress new
 
 -- The answer is not over, and octets are heard.
 abbrev pub Feeds : Receiving → List ℕ → Progress → Receiving → Type 0
@@ -110,7 +110,7 @@ abbrev pub after_fault : Receiving → Fault → Receiving
 after_fault s OutOfMemory = s
 after_fault s fault = over s
 
--- What is told after the last record of a message.
+-- What is reported after the last record of a message.
 abbrev pub verdict : Receiving → State → Progress
 verdict s (Led soa) =
     if is_current s.held soa then UpToDate else elim s.transport [ Udp ↦ RetryTcp | Tcp ↦ More ]
@@ -130,6 +130,6 @@ Concludes s at UpToDate new = new ≡ over s
 Concludes s at RetryTcp new = new ≡ over s
 
 -- The set at the end is no zone.
-abbrev pub Ends : Receiving → State → Fault → Type 0
-Ends s at fault =
+abbrev pub EndsInNoZone : Receiving → State → Fault → Type 0
+EndsInNoZone s at fault =
     (set : List Record) × (at ≡ Ended set) × (zone_fault s.apex set ≢ None) × (fault ≡ InvalidZone)

@@ -4,7 +4,7 @@ ghost use Rattle.std.specs.Prelude.{◌≡◌};
 use std::alloc::AllocError;
 use thiserror::Error;
 
-/// What has become of an answer behind one of its messages.
+/// What has become of an answer after one of its messages.
 #[derive(Clone, Copy, Debug, PartialEq, Eq)]
 pub enum Progress {
     /// The answer goes on.
@@ -33,7 +33,7 @@ pub enum Fault {
     /// The server refuses, with this response code.
     #[error("the server refuses, with a response code")]
     Refused(u8),
-    /// A record stands where no answer to a transfer has it, or no zone can have it.
+    /// A record occurs where no answer to a transfer has it, or no zone can have it.
     #[error("a record stands where no answer has it")]
     BadSequence,
     /// A record that goes isn't there, with its TTL.

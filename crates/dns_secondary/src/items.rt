@@ -1,7 +1,7 @@
-//! The records of a message, one behind another.
+//! The records of a message, one after another.
 ghost use Rattle.std.specs.Prelude.{◌≡◌, ◌⊎◌, IfOk, IfErr};
 ghost use Rattle.dns_wire.specs.Message.{record_of_item};
-ghost use Rattle.dns_secondary.specs.Step.{IsFit, Takes, Refuses};
+ghost use Rattle.dns_secondary.specs.Step.{IsFit, TakesRecord, RefusesRecord};
 ghost use Rattle.dns_secondary.specs.Rest.{Reaches, FailsBy};
 ghost use Rattle.dns_secondary.specs.Stated.{fault_of};
 
@@ -53,9 +53,9 @@ impl<I: ZoneIndex> Reading<I> {
         held: &Option<Zone<I>>,
         item: &RecordView<'_>,
     ) -> Result<Reading<I>, Fault>
-        ensures taken { IfOk result (λ next. Takes apex.now held.now self item.now next) }
+        ensures taken { IfOk result (λ next. TakesRecord apex.now held.now self item.now next) }
         ensures refused { IfErr result
-            (λ e. (e ≡ Fault.OutOfMemory) ⊎ Refuses apex.now held.now self item.now e) }
+            (λ e. (e ≡ Fault.OutOfMemory) ⊎ RefusesRecord apex.now held.now self item.now e) }
     {
         match fit_record(alloc, item) {
             Ok(r) => self.take(alloc, apex, held, r),

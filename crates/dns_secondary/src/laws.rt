@@ -11,7 +11,7 @@ ghost use Rattle.dns_secondary.specs.State.{State, Begun};
 ghost use Rattle.dns_secondary.specs.Rest.{Rest, Reaches};
 ghost use Rattle.dns_secondary.specs.Taken.{Applies, Taken};
 ghost use Rattle.dns_secondary.specs.Receiving.{Receiving};
-ghost use Rattle.dns_secondary.specs.Told.{IsMore, Tells};
+ghost use Rattle.dns_secondary.specs.Told.{IsMore, TellsProgress};
 ghost use Rattle.dns_secondary.specs.declared.fault.Progress.TheVariants.{More};
 
 /// What a whole answer means when it is read record by record is what it means by its form alone: the SOA of
@@ -22,14 +22,14 @@ pub fn taken_law()
         → (Taken apex held answer set ↔ Rest apex held Begun answer set) }
 {}
 
-/// `More` is told of a message exactly where the records of the answer so far, with its own, begin a longer
-/// list of one of the three forms, whether the set that such a list leads to is a zone or not; but of a SOA
-/// alone only where that is newer, and comes by TCP (RFC 1995 section 2).
+/// `More` is reported of a message exactly where the records of the answer so far, with its own, begin a
+/// longer list of one of the three forms, whether the set that such a list leads to is a zone or not; but of
+/// a SOA alone only where that is newer, and comes by TCP (RFC 1995 section 2).
 pub fn more_law()
     ensures { (s : Receiving) (before records : List ResourceRecord) (at : State)
         → IfSome s.held IsZone
         → Reaches s.apex s.held Begun before at
-        → (IsMore s (before ++ records) ↔ ((new : Receiving) × Tells s at records More new)) }
+        → (IsMore s (before ++ records) ↔ ((new : Receiving) × TellsProgress s at records More new)) }
 {}
 
 /// A change that applies to a set is a sequence that leads from it to the same.

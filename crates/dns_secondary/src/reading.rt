@@ -8,12 +8,12 @@ use dns_zone::ZoneIndex;
 use std::alloc::AllocError;
 use std::marker::Model;
 
-/// The place in an answer.
+/// The position in an answer.
 #[derive(Clone, Drop)]
 pub(crate) enum Phase {
     /// Before the first record.
     Begun,
-    /// Behind the SOA that leads.
+    /// After the SOA that leads.
     Led(Record),
     /// Within a whole zone that this SOA leads.
     Whole(Record),
@@ -22,11 +22,11 @@ pub(crate) enum Phase {
     /// Within the records that come of a sequence. The first SOA leads the answer, the second the records
     /// that come.
     Adding(Record, Record),
-    /// Behind the last record.
+    /// After the last record.
     Ended,
 }
 
-/// The place in an answer, and the set that was reached there.
+/// The position in an answer, and the set that was reached there.
 #[derive(Drop)]
 pub(crate) struct Reading<I: ZoneIndex> {
     pub(crate) phase: Phase,

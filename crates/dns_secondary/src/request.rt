@@ -60,7 +60,7 @@ fn asked_octets(alloc: Heap, apex: &Name, qtype: u16) -> Result<Vec<u8, Heap>, A
     Ok(octets)
 }
 
-/// A SOA as it stands in the zone.
+/// A SOA as it is in the zone.
 fn as_it_stands(soa: &Record) -> ReplyRecord<'_>
     ensures stated { result ≡ soa.now }
     ensures valid { IsRecord soa.now }

@@ -14,8 +14,9 @@ ghost use Rattle.dns_secondary.specs.State.{Begun, Led};
 ghost use Rattle.dns_secondary.specs.Rest.{is_current, Reaches, FailsBy};
 ghost use Rattle.dns_secondary.specs.Receiving.{header_fault, is_answer, repeats_question, type_asked};
 ghost use Rattle.dns_secondary.specs.Request.{question_asked, request_octets, request_message, most_by};
-ghost use Rattle.dns_secondary.specs.Told.{verdict, Concludes, Feeds, Hears, Tells, Fails, RefusesMessage};
-ghost use Rattle.dns_secondary.specs.Told.{RefusesFrom, RefusesFeed, Ends, holding, after_fault};
+ghost use Rattle.dns_secondary.specs.Told.{verdict, Concludes, Feeds, Hears, TellsProgress, Fails};
+ghost use Rattle.dns_secondary.specs.Told.{RefusesMessage};
+ghost use Rattle.dns_secondary.specs.Told.{RefusesFrom, RefusesFeed, EndsInNoZone, holding, after_fault};
 
 use crate::reading::{Phase, Reading};
 use crate::request::{request, type_asked};
@@ -156,10 +157,10 @@ impl<I: ZoneIndex> Secondary<I> {
         self.held.as_ref()
     }
 
-    /// The octets of the request: a query for the changes of the version that is held, whose SOA stands in
-    /// its authority section, or for the whole zone where none is (RFC 1995 section 3, RFC 5936 section 2.1).
-    /// A server's door takes them for the request of a transfer. It refuses with `DoesNotFit` where they are
-    /// more than a message by that transport has, and with `OutOfMemory` where memory is wanting.
+    /// The octets of the request: a query for the changes of the version that is held, whose SOA is in its
+    /// authority section, or for the whole zone where none is held (RFC 1995 section 3, RFC 5936 section
+    /// 2.1). A server's door takes them for the request of a transfer. It refuses with `DoesNotFit` where
+    /// they are more than a message by that transport has, and with `OutOfMemory` where memory is lacking.
     pub fn request(&self, alloc: Heap) -> Result<Vec<u8, Heap>, WriteError>
         ensures asked { IfOk result
             (λ octets. octets.items ≡ request_octets self.now.apex self.now.held self.now.id) }
@@ -217,7 +218,7 @@ impl<I: ZoneIndex> Secondary<I> {
         }
     }
 
-    /// What is told where the answer was read so far.
+    /// What is reported where the answer was read so far.
     fn verdict(&self, reading: &Reading<I>) -> Progress
         ensures { result ≡ verdict self.now reading.now }
     {
@@ -228,7 +229,7 @@ impl<I: ZoneIndex> Secondary<I> {
         }
     }
 
-    /// What is told of a SOA alone.
+    /// What is reported of a SOA alone.
     fn verdict_alone(&self, soa: &Record) -> Progress
         requires { is_soa soa.now ≡ true }
         ensures { result ≡ verdict self.now (Led soa.now) }
@@ -267,7 +268,7 @@ impl<I: ZoneIndex> Secondary<I> {
         requires end { verdict self.old reading ≡ Progress.Done }
         ensures told { IfOk result (λ p. p ≡ verdict self.old reading) }
         ensures ends { IfOk result (λ p. Concludes self.old reading p self.new) }
-        ensures refused { IfErr result (λ e. (e ≡ Fault.OutOfMemory) ⊎ Ends self.old reading e) }
+        ensures refused { IfErr result (λ e. (e ≡ Fault.OutOfMemory) ⊎ EndsInNoZone self.old reading e) }
         ensures stays { OnErr result (self.new ≡ self.old) }
     {
         match self.hold(reading.into_set()) {
@@ -281,7 +282,7 @@ impl<I: ZoneIndex> Secondary<I> {
         requires { self.old.state ≡ None }
         ensures told { IfOk result (λ p. p ≡ verdict self.old reading) }
         ensures ends { IfOk result (λ p. Concludes self.old reading p self.new) }
-        ensures refused { IfErr result (λ e. (e ≡ Fault.OutOfMemory) ⊎ Ends self.old reading e) }
+        ensures refused { IfErr result (λ e. (e ≡ Fault.OutOfMemory) ⊎ EndsInNoZone self.old reading e) }
         ensures stays { OnErr result (self.new ≡ self.old) }
     {
         match self.verdict(&reading) {
@@ -324,7 +325,8 @@ impl<I: ZoneIndex> Secondary<I> {
         message: &Message<'_>,
     ) -> Result<Progress, Fault>
         requires { self.old.state ≡ None }
-        ensures told { IfOk result (λ p. Tells self.old reading.now message.now.message.answers p self.new) }
+        ensures told { IfOk result
+            (λ p. TellsProgress self.old reading.now message.now.message.answers p self.new) }
         ensures refused { IfErr result
             (λ e. (e ≡ Fault.OutOfMemory) ⊎ Fails self.old reading.now message.now.message.answers e) }
         ensures stays { OnErr result (self.new ≡ self.old) }

@@ -86,7 +86,7 @@ fn end<I: ZoneIndex>(set: I, soa: &Record, r: &Record) -> Result<Reading<I>, Fau
     })
 }
 
-/// A record behind the first ones of a whole zone.
+/// A record after the first ones of a whole zone.
 fn go_on<I: ZoneIndex>(set: I, soa: Record, r: Record) -> Result<Reading<I>, Fault>
     requires { is_soa soa ≡ true }
     ensures taken { IfOk result (λ next. within_whole soa (I.records set) r ≡ Ok next) }
@@ -116,7 +116,7 @@ fn remove<I: ZoneIndex>(set: I, soa: Record, r: &Record) -> Result<Reading<I>, F
     })
 }
 
-/// A record that comes, behind the new SOA that was reached.
+/// A record that comes, after the new SOA that was reached.
 fn add<I: ZoneIndex>(set: I, soa: Record, reached: Record, r: Record) -> Result<Reading<I>, Fault>
     requires leading { is_soa soa ≡ true }
     requires new { is_soa reached ≡ true }
@@ -204,7 +204,7 @@ fn set_of<I: ZoneIndex>(alloc: Heap, r: &Record) -> Result<I, AllocError>
     Ok(set)
 }
 
-/// The record behind the SOA that leads.
+/// The record after the SOA that leads.
 fn second<I: ZoneIndex>(
     alloc: Heap,
     held: &Option<Zone<I>>,
@@ -246,7 +246,7 @@ fn begin<I: ZoneIndex>(set: I, apex: &Name, r: Record) -> Result<Reading<I>, Fau
     })
 }
 
-/// A record behind those that go of a sequence.
+/// A record after those that go of a sequence.
 fn go_on_removing<I: ZoneIndex>(set: I, soa: Record, r: Record) -> Result<Reading<I>, Fault>
     requires { is_soa soa ≡ true }
     ensures taken { IfOk result (λ next. removing soa (I.records set) r ≡ Ok next) }
@@ -258,7 +258,7 @@ fn go_on_removing<I: ZoneIndex>(set: I, soa: Record, r: Record) -> Result<Readin
     remove(set, soa, &r)
 }
 
-/// A record behind those that come of a sequence.
+/// A record after those that come of a sequence.
 fn go_on_adding<I: ZoneIndex>(
     set: I,
     soa: Record,

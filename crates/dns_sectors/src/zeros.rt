@@ -1,4 +1,4 @@
-//! Zeros that are written over sectors one behind the other.
+//! Zeros that are written over sectors one after the other.
 ghost use Rattle.std.specs.Prelude.{◌≡◌, ◌≤◌, ◌-◌, ◌↔◌, ℕ, List, OnOk};
 ghost use Rattle.dns_sectors.specs.Device.{LeavesOnly, CountsFailure};
 ghost use Rattle.dns_sectors.specs.Crash.{applied, CrashOf};
@@ -6,7 +6,7 @@ ghost use Rattle.dns_sectors.specs.Phase.{zeros_from};
 
 use crate::{DeviceError, Sectors};
 
-/// Writes zeros over the sectors from a place up to another, in order, up to the first write that fails,
+/// Writes zeros over the sectors from one position up to another, in order, up to the first write that fails,
 /// which is answered. A crash at any moment of it leaves any of these zeros over what a crash before it might
 /// have left.
 pub fn write_zeros<D: Sectors>(device: &mut D, from: usize, until: usize) -> Result<(), DeviceError>

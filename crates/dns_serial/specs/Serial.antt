@@ -17,6 +17,6 @@ IsGreater i j = ((i < j) × (2 ^ 31 < j - i)) ⊎ ((j < i) × (i - j < 2 ^ 31))
 abbrev pub distance : ℕ → ℕ → ℕ
 distance i j = min (advance i j) (advance j i)
 
--- One more, over the end to 0.
+-- One more, wrapping around to 0.
 abbrev pub next_serial : ℕ → ℕ
 next_serial i = (i + 1) % 2 ^ 32

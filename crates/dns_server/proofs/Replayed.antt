@@ -20,7 +20,7 @@ use Rattle.dns_configuration.specs.declared.configuration.ZoneSettings.{ZoneSett
 use Rattle.dns_configuration.specs.declared.files.File.{File}
 use Rattle.dns_configuration.specs.declared.files.Fault.{Fault}
 use Rattle.dns_configuration.specs.Faults.{is_memory, line, fault_text}
-use Rattle.dns_configuration.specs.Files.{Holds, IsFirstFault, IsLoaded}
+use Rattle.dns_configuration.specs.Files.{HoldsConfiguration, IsFirstFault, IsLoadedFrom}
 use Rattle.dns_configuration.specs.Known.{IsSettingOf, origins_of}
 use Rattle.dns_store.specs.declared.formatting.FormatError.{FormatError}
 use Rattle.dns_devices.specs.Faults.{IsDeviceTold, fault_of_format}
@@ -32,7 +32,7 @@ use Rattle.dns_primary.proofs.Begun.{fresh_machine}
 use Rattle.dns_replay.specs.Crashes.{IsCrash}
 use Rattle.dns_replay.specs.Scripts.{Crash}
 use Rattle.dns_replay.specs.declared.run.Ending.TheVariants as ending
-use Rattle.dns_server.specs.Replays.{Begins, IsBegun, IsScriptFault, IsUnmadeTold, Ran, ReplayEnds, ScriptEnds, devices_of}
+use Rattle.dns_server.specs.Replays.{Begins, IsFreshZone, IsScriptFault, IsUnmadeTold, Ran, ReplayEnds, ScriptEnds, devices_of}
 
 -- A script that can't be read, or whose line is no command.
 pub script_refused : {E : Type 0} (origins : List Labels) (crash : Crash) (devices : List (List ℕ)) (m : Machine) (script : File) (fault : Fault) (out out_after err err_after : Option (List ℕ)) (r : Result ℕ E) → is_memory fault ≡ false → IsScriptFault origins crash m (option_copied script.octets) fault out out_after → IfOk r (λ status. MatchBool (is_memory fault) (status ≡ 3) ((status ≡ 1) × Appends err err_after (line (fault_text script.path.now fault)))) → IfOk r (ScriptEnds origins crash devices m script out out_after err err_after)
@@ -106,14 +106,14 @@ device_at (z ∷ own) zero zone inside = refl
 device_at (z ∷ own) (suc place) zone inside = device_at own place zone (omega (arith, inside))
 
 -- The names of zones that were loaded.
-pub loaded_names : (files : List File) (settings : List ZoneSettings) (zones : List Zone) → AllZip (IsLoaded files) settings zones → map (λ (z : Zone). z.apex) zones ≡ origins_of settings
+pub loaded_names : (files : List File) (settings : List ZoneSettings) (zones : List Zone) → AllZip (IsLoadedFrom files) settings zones → map (λ (z : Zone). z.apex) zones ≡ origins_of settings
 loaded_names files [] [] h = refl
 loaded_names files (s ∷ settings) (z ∷ zones) h = (let rest = loaded_names files settings zones h.1 in λ i. h.0.apex i ∷ rest i)
 loaded_names files [] (z ∷ zones) h = absurd h
 loaded_names files (s ∷ settings) [] h = absurd h
 
 -- The zones that were loaded are those of a machine to which nothing has happened.
-pub fresh_zones : (files : List File) (settings : List ZoneSettings) (known : List primary.ZoneSettings) (zones : List Zone) (states : List ZoneState) → AllZip (IsLoaded files) settings zones → AllZip IsSettingOf settings known → Each3 IsBegun settings zones states → Each3 fresh.IsLoaded zones known states
+pub fresh_zones : (files : List File) (settings : List ZoneSettings) (known : List primary.ZoneSettings) (zones : List Zone) (states : List ZoneState) → AllZip (IsLoadedFrom files) settings zones → AllZip IsSettingOf settings known → Each3 IsFreshZone settings zones states → Each3 fresh.IsLoaded zones known states
 fresh_zones files [] [] [] [] h k e = tt
 fresh_zones files (s ∷ ss) (p ∷ ps) (z ∷ zs) (m ∷ ms) h k e = (
   record {
@@ -137,7 +137,7 @@ fresh_zones files [] [] [] (m ∷ ms) h k e = absurd e
 fresh_zones files (s ∷ ss) (p ∷ ps) (z ∷ zs) [] h k e = absurd e
 
 -- ... and the other way round.
-begun_zones : (files : List File) (settings : List ZoneSettings) (known : List primary.ZoneSettings) (zones : List Zone) (states : List ZoneState) → AllZip (IsLoaded files) settings zones → AllZip IsSettingOf settings known → Each3 fresh.IsLoaded zones known states → Each3 IsBegun settings zones states
+begun_zones : (files : List File) (settings : List ZoneSettings) (known : List primary.ZoneSettings) (zones : List Zone) (states : List ZoneState) → AllZip (IsLoadedFrom files) settings zones → AllZip IsSettingOf settings known → Each3 fresh.IsLoaded zones known states → Each3 IsFreshZone settings zones states
 begun_zones files [] [] [] [] h k e = tt
 begun_zones files (s ∷ ss) (p ∷ ps) (z ∷ zs) (m ∷ ms) h k e = (
   record {
@@ -162,7 +162,7 @@ begun_zones files (s ∷ ss) (p ∷ ps) [] states h k e = absurd h
 begun_zones files [] [] [] (m ∷ ms) h k e = absurd e
 begun_zones files (s ∷ ss) (p ∷ ps) (z ∷ zs) [] h k e = absurd e
 
-pub is_fresh : (files : List File) (settings : List ZoneSettings) (known : List primary.ZoneSettings) (zones : List Zone) (m : Machine) → AllZip (IsLoaded files) settings zones → AllZip IsSettingOf settings known → Begins settings zones m → fresh.IsFresh zones known m
+pub is_fresh : (files : List File) (settings : List ZoneSettings) (known : List primary.ZoneSettings) (zones : List Zone) (m : Machine) → AllZip (IsLoadedFrom files) settings zones → AllZip IsSettingOf settings known → Begins settings zones m → fresh.IsFresh zones known m
 is_fresh files settings known zones m h k b = record { zones_are = fresh_zones files settings known zones m.zones h k b.zones_are; waiting = b.waiting; connections = b.connections }
 
 pub as_many : {A B C : Type 0} (R : A → B → Type 0) (Q : A → C → Type 0) (xs : List A) (ys : List B) (zs : List C) → AllZip R xs ys → AllZip Q xs zs → length ys ≡ length zs
@@ -174,13 +174,13 @@ as_many R Q (x ∷ xs) [] zs h k = absurd h
 as_many R Q (x ∷ xs) (y ∷ ys) [] h k = absurd k
 
 -- There is one.
-begun : (files : List File) (settings : List ZoneSettings) (known : List primary.ZoneSettings) (zones : List Zone) → AllZip (IsLoaded files) settings zones → AllZip IsSettingOf settings known → (m : Machine) × Begins settings zones m
+begun : (files : List File) (settings : List ZoneSettings) (known : List primary.ZoneSettings) (zones : List Zone) → AllZip (IsLoadedFrom files) settings zones → AllZip IsSettingOf settings known → (m : Machine) × Begins settings zones m
 begun files settings known zones h k =
-    let m = fresh_machine zones known (as_many (IsLoaded files) IsSettingOf settings zones known h k) in
+    let m = fresh_machine zones known (as_many (IsLoadedFrom files) IsSettingOf settings zones known h k) in
     (m.0, record { zones_are = begun_zones files settings known zones m.0.zones h k m.1.zones_are; waiting = m.1.waiting; connections = m.1.connections })
 
 pub script_ran : {D E : Type 0} (g : Ghosts D) (kept : D → told.Keep → Content) (config : File) (files : List File) (script : File) (c : Configuration) (zones : List Zone) (known : List primary.ZoneSettings) (devices : List (List ℕ)) (out out_after err err_after : Option (List ℕ)) (r : Result ℕ E)
-    → Holds (option_copied config.octets) (Ok c) → AllZip (IsLoaded files) c.zones.items zones → AllZip IsSettingOf c.zones.items known → devices ≡ devices_of c.zones.items
+    → HoldsConfiguration (option_copied config.octets) (Ok c) → AllZip (IsLoadedFrom files) c.zones.items zones → AllZip IsSettingOf c.zones.items known → devices ≡ devices_of c.zones.items
     → IfOk r (λ status. (m : Machine) → fresh.IsFresh zones known m → ScriptEnds (map (λ (z : Zone). z.apex) zones) (IsCrash g kept (map (λ (z : Zone). z.apex) zones) known) devices m script out out_after err err_after status) → IfOk r (ReplayEnds g kept config files script out out_after err err_after)
 script_ran g kept config files script c zones known devices out out_after err err_after (Err e) holds loaded settings same h = tt
 script_ran g kept config files script c zones known devices out out_after err err_after (Ok status) holds loaded settings same h = inr (inl (record {
@@ -197,7 +197,7 @@ script_ran g kept config files script c zones known devices out out_after err er
 }))
 
 -- A master file that holds no zone is told.
-pub file_told : {D E : Type 0} (g : Ghosts D) (kept : D → told.Keep → Content) (config : File) (files : List File) (script : File) (c : Configuration) (path : List ℕ) (fault : Fault) (out err err_after : Option (List ℕ)) (r : Result ℕ E) → Holds (option_copied config.octets) (Ok c) → ((is_memory fault ≡ true) ⊎ IsFirstFault files c.zones.items path fault) → IfOk r (λ status. MatchBool (is_memory fault) (status ≡ 3) ((status ≡ 1) × Appends err err_after (line (fault_text path fault)))) → IfOk r (ReplayEnds g kept config files script out out err err_after)
+pub file_told : {D E : Type 0} (g : Ghosts D) (kept : D → told.Keep → Content) (config : File) (files : List File) (script : File) (c : Configuration) (path : List ℕ) (fault : Fault) (out err err_after : Option (List ℕ)) (r : Result ℕ E) → HoldsConfiguration (option_copied config.octets) (Ok c) → ((is_memory fault ≡ true) ⊎ IsFirstFault files c.zones.items path fault) → IfOk r (λ status. MatchBool (is_memory fault) (status ≡ 3) ((status ≡ 1) × Appends err err_after (line (fault_text path fault)))) → IfOk r (ReplayEnds g kept config files script out out err err_after)
 file_told g kept config files script c path fault out err err_after (Err e) holds why k = tt
 file_told g kept config files script c path fault out err err_after (Ok status) holds why k = go (is_memory fault) refl why k
   where

@@ -27,7 +27,7 @@ pub record IsGood (octets : Option (List ℕ)) (origin text : List ℕ) : Type 0
   pub says : text ≡ ok_text (length records) (serial_of soa)
 
 -- The origin is no name, and the text says so.
-pub record IsUnnamed (origin text : List ℕ) : Type 0 where
+pub record IsOriginNoName (origin text : List ℕ) : Type 0 where
   pub error : NameError
   pub refused : name_of_text [] origin ≡ Err error
   pub says : text ≡ fault_text origin BadOrigin
@@ -48,7 +48,7 @@ pub record CheckEnds (octets : Option (List ℕ)) (path origin : List ℕ)
       → (text : List ℕ) × IsGood octets origin text × Appends out out_after (line text) × Keeps err err_after
   pub refused : status ≡ 1
       → (text : List ℕ)
-      × (IsUnnamed origin text ⊎ IsBad octets path origin text)
+      × (IsOriginNoName origin text ⊎ IsBad octets path origin text)
       × Appends err err_after (line text)
       × Keeps out out_after
   pub others : status ≤ 1 ⊎ (status ≡ 3)

@@ -21,7 +21,7 @@ use Rattle.dns_configuration.specs.declared.files.Fault.TheVariants.{Unreadable,
 use Rattle.dns_replay.specs.declared.run.Ending.{Ending}
 use Rattle.dns_replay.specs.declared.run.Ending.TheVariants as ending
 use Rattle.dns_configuration.specs.Faults.{line, fault_text}
-use Rattle.dns_configuration.specs.Files.{Holds, IsFirstFault, IsLoaded}
+use Rattle.dns_configuration.specs.Files.{HoldsConfiguration, IsFirstFault, IsLoadedFrom}
 use Rattle.dns_configuration.specs.Known.{IsSettingOf, origins_of}
 use Rattle.dns_sectors.specs.Device.{Content}
 use Rattle.dns_sectors.specs.declared.device.Sectors.{Ghosts}
@@ -34,7 +34,7 @@ use Rattle.dns_replay.specs.Scripts.{Crash, Led, Runs, Takes}
 
 -- A zone as it was loaded, with what is configured of it: no update was accepted, and its store was opened
 -- once.
-pub record IsBegun (settings : ZoneSettings) (zone : Zone) (z : ZoneState) : Type 0 where
+pub record IsFreshZone (settings : ZoneSettings) (zone : Zone) (z : ZoneState) : Type 0 where
   pub shape : z.setting.shape
       ≡ record { apex = zone.apex; snapshot = settings.snapshot_sectors; journal = settings.journal_sectors }
   pub keep : z.setting.keep ≡ settings.keep
@@ -50,7 +50,7 @@ pub record IsBegun (settings : ZoneSettings) (zone : Zone) (z : ZoneState) : Typ
 
 -- The machine of these zones, to which nothing has happened.
 pub record Begins (settings : List ZoneSettings) (zones : List Zone) (m : Machine) : Type 0 where
-  pub zones_are : Each3 IsBegun settings zones m.zones
+  pub zones_are : Each3 IsFreshZone settings zones m.zones
   pub waiting : m.waiting ≡ []
   pub connections : m.connections ≡ []
 
@@ -78,8 +78,8 @@ IsScriptFault origins crash m (Some octets) (Syntax number) out out_after =
     RunsInto origins crash m (lines octets) (ending.Syntax number) out out_after
 IsScriptFault origins crash m octets fault out out_after = ⊥
 
--- A fault of the script is told: that it can't be read, or the first line that is no command, behind what the
--- lines before it print.
+-- A fault of the script is reported: that it can't be read, or the first line that is no command, after what
+-- the lines before it print.
 pub record IsScriptTold (origins : List Labels) (crash : Crash) (m : Machine) (script : File)
     (out out_after err err_after : Option (List ℕ))
     : Type 0 where
@@ -87,7 +87,7 @@ pub record IsScriptTold (origins : List Labels) (crash : Crash) (m : Machine) (s
   pub is : IsScriptFault origins crash m (option_copied script.octets) fault out out_after
   pub told : Appends err err_after (line (fault_text script.path.now fault))
 
--- A device is told on which no store can be made, and why.
+-- A device on which no store can be made is reported, and why.
 pub record IsUnmadeTold (devices : List (List ℕ)) (err err_after : Option (List ℕ)) : Type 0 where
   pub place : ℕ
   pub path : List ℕ
@@ -96,9 +96,9 @@ pub record IsUnmadeTold (devices : List (List ℕ)) (err err_after : Option (Lis
   pub told : Appends err err_after (line (device_text path (fault_of_format error) false))
 
 -- What a run of a script over zones wrote, by its exit status. With 0 what all its lines print. With 1 what
--- those before the first print that is no command, and that line is told, or that the script can't be read;
--- or what the lines print up to the one behind which a store is refused; or nothing, and the device is told
--- on which no store can be made. With 3 a writer or a device failed, or memory was refused.
+-- those before the first that is no command print, and that line is reported, or that the script can't be
+-- read; or what the lines print up to the one after which a store is refused; or nothing, and the device on
+-- which no store can be made is reported. With 3 a writer or a device failed, or memory was refused.
 pub record ScriptEnds (origins : List Labels) (crash : Crash) (devices : List (List ℕ))
     (m : Machine) (script : File) (out out_after err err_after : Option (List ℕ)) (status : ℕ)
     : Type 0 where
@@ -118,8 +118,8 @@ pub record RunsOver {D : Type 0} (g : Ghosts D) (kept : D → told.Keep → Cont
     : Type 0 where
   pub configuration : Configuration
   pub zones : List Zone
-  pub described : Holds config (Ok configuration)
-  pub loaded : AllZip (IsLoaded files) configuration.zones.items zones
+  pub described : HoldsConfiguration config (Ok configuration)
+  pub loaded : AllZip (IsLoadedFrom files) configuration.zones.items zones
   pub known : List primary.ZoneSettings
   pub settings : AllZip IsSettingOf configuration.zones.items known
   pub begins : (m : Machine) × Begins configuration.zones.items zones m
@@ -129,22 +129,22 @@ pub record RunsOver {D : Type 0} (g : Ghosts D) (kept : D → told.Keep → Cont
       (IsCrash g kept (origins_of configuration.zones.items) known)
       (devices_of configuration.zones.items) m script out out_after err err_after status
 
--- The fault that is told, behind a path, before the script runs: of the configuration, or else of the first
--- master file that holds no zone, in the order of the zones.
-abbrev pub IsFault : File → List File → List ℕ → Fault → Type 0
-IsFault config files path fault =
-    ((path ≡ config.path.now) × Holds (option_copied config.octets) (Err fault))
-    ⊎ ((c : Configuration) × Holds (option_copied config.octets) (Ok c)
+-- The fault that is reported, after a path, before the script runs: of the configuration, or else of the
+-- first master file that holds no zone, in the order of the zones.
+abbrev pub IsReplayFault : File → List File → List ℕ → Fault → Type 0
+IsReplayFault config files path fault =
+    ((path ≡ config.path.now) × HoldsConfiguration (option_copied config.octets) (Err fault))
+    ⊎ ((c : Configuration) × HoldsConfiguration (option_copied config.octets) (Ok c)
     × IsFirstFault files c.zones.items path fault)
 
--- How a run with a configuration, files and a script ends: nothing runs, and the first fault is told; or the
--- script ran over the zones that are held; or, with status 3, a writer or a device failed or memory was
+-- How a run with a configuration, files and a script ends: nothing runs, and the first fault is reported; or
+-- the script ran over the zones that are held; or, with status 3, a writer or a device failed or memory was
 -- refused.
 abbrev pub ReplayEnds : {D : Type 0} → Ghosts D → (D → told.Keep → Content) → File → List File → File
     → Option (List ℕ) → Option (List ℕ) → Option (List ℕ) → Option (List ℕ) → ℕ → Type 0
 ReplayEnds g kept config files script out out_after err err_after status =
     ((status ≡ 1) × Keeps out out_after
-    × ((path : List ℕ) × (fault : Fault) × IsFault config files path fault
+    × ((path : List ℕ) × (fault : Fault) × IsReplayFault config files path fault
     × Appends err err_after (line (fault_text path fault))))
     ⊎ RunsOver g kept (option_copied config.octets) files script out out_after err err_after status
     ⊎ (status ≡ 3)

@@ -57,15 +57,15 @@ fn explain_entry<E: Write>(err: &mut E, path: &str, entry: &RefusedEntry<'_>) ->
     }
 }
 
-/// A record that is refused in a zone, and the record before it that it can't stand beside, by their places
-/// in the file.
+/// A record that is refused in a zone, and the record before it that it can't coexist with, by their
+/// positions in the file.
 #[derive(Clone, Copy)]
 struct Clash {
     place: usize,
     earlier: Option<usize>,
 }
 
-/// The record at a place, if there is one.
+/// The record at a position, if there is one.
 fn at(place: Option<usize>) -> Option<Clash> {
     Some(Clash {
         place: place?,
@@ -95,7 +95,7 @@ fn second_soa(records: &[Record]) -> Option<Clash> {
     })
 }
 
-/// Whether two records of one owner can't stand together.
+/// Whether two records of one owner can't coexist.
 fn are_at_odds(error: ZoneError, earlier: &Record, later: &Record) -> bool {
     match error {
         ZoneError::Duplicate => earlier.compare(later) == Ordering::Equal,
@@ -103,7 +103,7 @@ fn are_at_odds(error: ZoneError, earlier: &Record, later: &Record) -> bool {
     }
 }
 
-/// The first record that can't stand beside one of its owner before it, and that one.
+/// The first record that can't coexist with one of its owner before it, and that one.
 fn first_pair(
     heap: Heap,
     error: ZoneError,
@@ -180,7 +180,7 @@ pub fn explain_unreadable<E: Write>(path: &str, reason: &io::Error, err: &mut E)
     writeln!(err, "{}: {reason}", PrintedWord(path.as_bytes()))
 }
 
-/// Tells what keeps the records of a file from being a zone. Answers whether something was told.
+/// Tells what keeps the records of a file from being a zone. Answers whether something was reported.
 fn explain_zone<E: Write>(
     heap: Heap,
     file: &File<'_>,
@@ -203,8 +203,8 @@ fn explain_zone<E: Write>(
     Ok(true)
 }
 
-/// Tells what is wrong with the master file of a zone, in a line for one who mends it. Nothing is told of a
-/// file that is a zone, and of refused memory. Answers whether something was told.
+/// Tells what is wrong with the master file of a zone, in a line for one who mends it. Nothing is reported of
+/// a file that is a zone, and of refused memory. Answers whether something was reported.
 pub(crate) fn explain_file<E: Write>(
     heap: Heap,
     file: &File<'_>,

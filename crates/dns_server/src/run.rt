@@ -18,7 +18,7 @@ use dns_zone::Zone;
 use std::alloc::Global;
 use std::io::{self, Write};
 
-/// Tells that no store can be made for the zone at a place, and gives the exit status.
+/// Tells that no store can be made for the zone at a position, and gives the exit status.
 fn tell_unmade<E: Write>(err: &mut E, own: &[ZoneSettings], unmade: NotMade) -> io::Result<u8>
     ensures { IfOk result
         (λ status. (status ≡ FAILED)
@@ -91,9 +91,9 @@ fn replayed<W: Write, E: Write>(
 }
 
 /// Runs a script over the zones that a configuration names, and prints the effects of each line. Faults are
-/// told in one line, the first in this order: the configuration, the master files in the order of the zones,
-/// the script, the device on which no store can be made, the script's lines as they run. Where a store is
-/// refused behind a crash, that is printed, and the run ends. Gives the exit status: `DONE`, `REFUSED`, or
+/// reported in one line, the first in this order: the configuration, the master files in the order of the
+/// zones, the script, the device on which no store can be made, the script's lines as they run. Where a store
+/// is refused after a crash, that is printed, and the run ends. Gives the exit status: `DONE`, `REFUSED`, or
 /// `FAILED` where a writer failed, a device failed while it was made or memory was refused.
 pub fn replay<W: Write, E: Write>(
     alloc: Global,

@@ -9,7 +9,7 @@ use Rattle.dns_configuration.specs.declared.configuration.ZoneSettings.{ZoneSett
 use Rattle.dns_configuration.specs.declared.files.File.{File}
 use Rattle.dns_configuration.specs.declared.files.Fault.{Fault}
 use Rattle.dns_configuration.specs.Faults.{fault_text, line}
-use Rattle.dns_configuration.specs.Files.{Holds}
+use Rattle.dns_configuration.specs.Files.{HoldsConfiguration}
 use Rattle.dns_devices.specs.declared.faults.DeviceFault.{DeviceFault}
 use Rattle.dns_devices.specs.Showing.{Gives}
 use Rattle.dns_service.specs.Opening.{AreGiven, IsNotServed}
@@ -23,7 +23,7 @@ serving_failed g opened config explain err err_after = record {
 }
 
 -- The configuration is refused.
-pub configuration_refused : {D : Type 0} (g : Ghosts D) (opened : Gives D) (config : File) (fault : Fault) (explain : Bool) (err err_after : Option (List ℕ)) → Holds (option_copied config.octets) (Err fault) → Appends err err_after (line (fault_text config.path.now fault)) → ServingEnds g opened config explain err err_after 1
+pub configuration_refused : {D : Type 0} (g : Ghosts D) (opened : Gives D) (config : File) (fault : Fault) (explain : Bool) (err err_after : Option (List ℕ)) → HoldsConfiguration (option_copied config.octets) (Err fault) → Appends err err_after (line (fault_text config.path.now fault)) → ServingEnds g opened config explain err err_after 1
 configuration_refused g opened config fault explain err err_after holds said = record {
   done = λ e. absurd (omega (arith, e));
   refused = λ _. (fault_text config.path.now fault, said, inl (fault, holds, refl));
@@ -31,7 +31,7 @@ configuration_refused g opened config fault explain err err_after holds said = r
 }
 
 -- All turns were made, or the address could not be had.
-pub served : {D : Type 0} (g : Ghosts D) (opened : Gives D) (config : File) (c : Configuration) (devices : List D) (explain : Bool) (err err_after : Option (List ℕ)) (status : ℕ) → Holds (option_copied config.octets) (Ok c) → AreGiven opened c.zones.items devices → (status ≡ 0) ⊎ (status ≡ 3) → ServingEnds g opened config explain err err_after status
+pub served : {D : Type 0} (g : Ghosts D) (opened : Gives D) (config : File) (c : Configuration) (devices : List D) (explain : Bool) (err err_after : Option (List ℕ)) (status : ℕ) → HoldsConfiguration (option_copied config.octets) (Ok c) → AreGiven opened c.zones.items devices → (status ≡ 0) ⊎ (status ≡ 3) → ServingEnds g opened config explain err err_after status
 served g opened config c devices explain err err_after status holds given (inl none) = record {
   done = λ _. (c, holds, (devices, given));
   refused = λ one. absurd (omega (arith, none, one));
@@ -44,7 +44,7 @@ served g opened config c devices explain err err_after status holds given (inr t
 }
 
 -- A device is refused.
-pub device_refused : {D E : Type 0} (g : Ghosts D) (opened : Gives D) (config : File) (c : Configuration) (place : ℕ) (fault : DeviceFault) (explain : Bool) (err err_after : Option (List ℕ)) (r : Result ℕ E) → Holds (option_copied config.octets) (Ok c) → IsNotServed g opened c.zones.items place fault → IfOk r (IsRefusalTold c.zones.items place fault explain err err_after) → IfOk r (ServingEnds g opened config explain err err_after)
+pub device_refused : {D E : Type 0} (g : Ghosts D) (opened : Gives D) (config : File) (c : Configuration) (place : ℕ) (fault : DeviceFault) (explain : Bool) (err err_after : Option (List ℕ)) (r : Result ℕ E) → HoldsConfiguration (option_copied config.octets) (Ok c) → IsNotServed g opened c.zones.items place fault → IfOk r (IsRefusalTold c.zones.items place fault explain err err_after) → IfOk r (ServingEnds g opened config explain err err_after)
 device_refused g opened config c place fault explain err err_after (Err e) holds not h = tt
 device_refused {D = D} g opened config c place fault explain err err_after (Ok status) holds not h = go h
   where

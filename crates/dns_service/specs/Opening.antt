@@ -12,7 +12,7 @@ use Rattle.dns_primary.specs.declared.primary.ZoneSettings as primary
 use Rattle.dns_configuration.specs.declared.configuration.ZoneSettings.{ZoneSettings}
 use Rattle.dns_configuration.specs.Known.{IsSettingOf, origins_of}
 use Rattle.dns_devices.specs.Faults.{IsFaultOf, fault_of_open}
-use Rattle.dns_devices.specs.Showing.{Gives, IsNotOpened as IsUnopened}
+use Rattle.dns_devices.specs.Showing.{Gives, IsDeviceNotGiven as IsUnopened}
 use Rattle.dns_devices.specs.declared.faults.DeviceFault.{DeviceFault}
 use Rattle.dns_devices.specs.declared.faults.DeviceFault.TheVariants.{OutOfMemory}
 
@@ -49,7 +49,8 @@ IsFaultAt {D} g error devices afters place fault =
     (λ device. (after : D) × (slice_get afters place ≡ Some after) × IsFaultOf g error device after fault)
 
 -- The devices were given, and that of the zone there was not opened, for this.
-pub record IsNotOpened {D : Type 0} (g : Ghosts D) (opened : Gives D) (zones : List ZoneSettings) (place : ℕ)
+pub record IsZoneNotOpened {D : Type 0} (g : Ghosts D) (opened : Gives D)
+    (zones : List ZoneSettings) (place : ℕ)
     (fault : DeviceFault) : Type 0 where
   pub devices : List D
   pub given : AreGiven opened zones devices
@@ -63,4 +64,4 @@ pub record IsNotOpened {D : Type 0} (g : Ghosts D) (opened : Gives D) (zones : L
 
 abbrev pub IsNotServed : {D : Type 0} → Ghosts D → Gives D → List ZoneSettings → ℕ → DeviceFault → Type 0
 IsNotServed g opened zones place fault =
-    IsNotGiven opened zones place fault ⊎ IsNotOpened g opened zones place fault
+    IsNotGiven opened zones place fault ⊎ IsZoneNotOpened g opened zones place fault

@@ -9,7 +9,7 @@ use Rattle.dns_configuration.specs.declared.configuration.Configuration.{Configu
 use Rattle.dns_configuration.specs.declared.files.File.{File}
 use Rattle.dns_configuration.specs.declared.files.Fault.{Fault}
 use Rattle.dns_configuration.specs.Faults.{fault_text, line}
-use Rattle.dns_configuration.specs.Files.{Holds}
+use Rattle.dns_configuration.specs.Files.{HoldsConfiguration}
 use Rattle.dns_devices.specs.declared.faults.DeviceFault.{DeviceFault}
 use Rattle.dns_devices.specs.Faults.{device_text, status_of}
 use Rattle.dns_devices.specs.Showing.{Gives}
@@ -34,23 +34,23 @@ pub record IsDeviceRefused {D : Type 0} (g : Ghosts D) (opened : Gives D) (zones
   pub status : status_of fault ≡ 1
 
 -- How a server ends: all its turns were made, over the devices of the zones of its configuration; or nothing
--- was served, and the fault of the configuration or of the first device that is refused is told. With status
--- 3 a device or the address can't be had, a writer failed or memory was refused.
+-- was served, and the fault of the configuration or of the first device that is refused is reported. With
+-- status 3 a device or the address can't be had, a writer failed or memory was refused.
 pub record ServingEnds {D : Type 0} (g : Ghosts D) (opened : Gives D) (config : File) (explain : Bool)
     (err err_after : Option (List ℕ)) (status : ℕ)
     : Type 0 where
   pub done : status ≡ 0
-      → (c : Configuration) × Holds (option_copied config.octets) (Ok c)
+      → (c : Configuration) × HoldsConfiguration (option_copied config.octets) (Ok c)
       × ((devices : List D) × AreGiven opened c.zones.items devices)
   pub refused : status ≡ 1
       → (text : List ℕ) × Appends err err_after (line text)
-      × (((fault : Fault) × Holds (option_copied config.octets) (Err fault)
+      × (((fault : Fault) × HoldsConfiguration (option_copied config.octets) (Err fault)
       × (text ≡ fault_text config.path.now fault))
-      ⊎ ((c : Configuration) × Holds (option_copied config.octets) (Ok c)
+      ⊎ ((c : Configuration) × HoldsConfiguration (option_copied config.octets) (Ok c)
       × IsDeviceRefused g opened c.zones.items explain text))
   pub others : status ≤ 1 ⊎ (status ≡ 3)
 
--- What is told of a device that is refused: nothing where memory was, and nothing where there is no such
+-- What is reported of a device that is refused: nothing where memory was, and nothing where there is no such
 -- zone.
 abbrev pub IsRefusalTold : List ZoneSettings → ℕ → DeviceFault → Bool → Option (List ℕ)
     → Option (List ℕ) → ℕ → Type 0

@@ -14,7 +14,7 @@ abbrev pub HasPaused : {S N : Type 0} → Ghosts N S → N → N → Type 0
 HasPaused n old new = (new ≡ old) ⊎ n.looks old new
 
 module _ {I D S N : Type 0} {i : index.Ghosts I} {d : store.Ghosts D} where
-  -- Turns, one behind the other, and between them looks at what came meanwhile.
+  -- Turns, one after the other, and between them looks at what came meanwhile.
   abbrev pub AreTurns : stream.Ghosts S → Ghosts N S → List (Served I D S N i d) → Served I D S N i d
       → Served I D S N i d → Type 0
   AreTurns s n [] old new = new ≡ old

@@ -1,4 +1,4 @@
-//! What a server tells of its turns.
+//! What a server reports of its turns.
 use dns_names::Name;
 use dns_policy::print_address;
 use dns_turns::{Note, Notes};
@@ -8,7 +8,7 @@ use std::io::{self, Write};
 #[derive(Drop)]
 pub(crate) struct Log<'a, E: Write> {
     pub(crate) err: &'a mut E,
-    /// The names of the zones, by their places.
+    /// The names of the zones, by their positions.
     pub(crate) origins: &'a [Name],
 }
 

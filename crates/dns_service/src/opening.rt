@@ -13,7 +13,7 @@ use dns_sectors::Sectors;
 use dns_store::{KeptStore, OpenError};
 use dns_zone::ZoneIndex;
 
-/// The device of a zone that is refused: the place of the zone, and why.
+/// The device of a zone that is refused: the position of the zone, and why.
 #[derive(Clone, Copy)]
 pub(crate) struct Refusal {
     pub(crate) place: usize,

@@ -1,11 +1,11 @@
-//! Which connections may have something to read, and which may take what is written, as events told.
+//! Which connections may have something to read, and which may take what is written, as events reported.
 ghost use Rattle.std.specs.Prelude.{◌≤◌};
 
 use dns_memory::Heap;
 use std::cell::Cell;
 use std::rc::Rc;
 
-/// A set of numbers below 128, each a bit. What stands in it changes behind a `&`.
+/// A set of numbers below 128, each a bit. Its contents change behind a `&`.
 #[derive(Drop)]
 struct Bits(Cell<u128>);
 
@@ -39,8 +39,8 @@ impl Bits {
 /// What may be ready of all connections, each of which has a number. They share it with the one that takes up
 /// events.
 ///
-/// The system tells each change once, and keeps it until events are taken up. So a connection of which a read
-/// said that it would wait has nothing more to read before its next event; and likewise for a write.
+/// The system reports each change once, and keeps it until events are taken up. So a connection of which a
+/// read said that it would wait has nothing more to read before its next event; and likewise for a write.
 #[derive(Drop)]
 pub(crate) struct Readiness {
     /// The numbers that connections have.

@@ -21,7 +21,7 @@ use std::io::{self, Write};
 use std::net::{Net, SocketAddr};
 use std::time::{Clock, Instant};
 
-/// In which turns the clock and the events of sockets are looked at, besides those behind a wait: each one of
+/// In which turns the clock and the events of sockets are looked at, besides those after a wait: each one of
 /// so many.
 const GLANCE: u32 = 32;
 
@@ -92,7 +92,7 @@ fn rest<R: Clock, S, N: Network<S>>(
     seconds(rt, start, now)
 }
 
-/// Makes so many turns, and waits behind each one in which nothing was done.
+/// Makes so many turns, and waits after each one in which nothing was done.
 fn run<R: Clock, I: ZoneIndex, D: ZoneStore, S: Stream + Drop, N: Network<S>, L: Notes>(
     heap: Heap,
     rt: &R,
@@ -255,10 +255,10 @@ fn serve_all<D: Sectors + Drop, F: Devices<D>, I: ZoneIndex, R: Net + Clock, E: 
 /// `listening on ADDRESS`, and then `conn N open ADDRESS`, `conn N closed`, `out of memory` and
 /// `device ORIGIN` as they come.
 ///
-/// Faults are told in one line, the first in this order: the configuration, the devices (of which, if it is
-/// wanted, a second line says what can be done), the address (`ADDRESS: Unavailable`). Gives the exit status:
-/// `DONE`, `REFUSED`, or `FAILED` where a device or the address can't be had, a writer failed or memory was
-/// refused.
+/// Faults are reported in one line, the first in this order: the configuration, the devices (of which, if it
+/// is wanted, a second line says what can be done), the address (`ADDRESS: Unavailable`). Gives the exit
+/// status: `DONE`, `REFUSED`, or `FAILED` where a device or the address can't be had, a writer failed or
+/// memory was refused.
 pub fn serve<D: Sectors + Drop, F: Devices<D>, I: ZoneIndex, R: Net + Clock, E: Write>(
     alloc: Global,
     heap: Heap,

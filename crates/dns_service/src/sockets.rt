@@ -37,8 +37,8 @@ pub(crate) struct Sockets {
     datagrams: Datagrams<Udp>,
     poll: Poll,
     events: Events<Heap>,
-    /// Whether a connection may be waiting. It is false only behind a call that found none, and up to the
-    /// next event of the listener.
+    /// Whether a connection may be waiting. It is false only after a call that found none, and up to the next
+    /// event of the listener.
     may_accept: bool,
     /// The same of each connection: whether a read or a write may find something to do.
     readiness: Rc<Readiness, Heap>,
@@ -54,7 +54,7 @@ struct Udp(UdpSocket);
 #[derive(Drop)]
 pub(crate) struct Socket {
     stream: TcpStream,
-    // It stands behind the stream, which is let go first: its number is free only when the stream is closed.
+    // It comes after the stream, which is let go first: its number is free only when the stream is closed.
     place: Place,
 }
 
@@ -85,7 +85,7 @@ impl Sockets {
         })
     }
 
-    /// Waits at most so long for events, and takes up what they say. The system tells each change once, and
+    /// Waits at most so long for events, and takes up what they say. The system reports each change once, and
     /// keeps those for which there was no room.
     fn take_events(&mut self, timeout: Duration) {
         let _polled = self.poll.poll(&mut self.events, Some(timeout));

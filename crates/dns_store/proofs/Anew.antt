@@ -20,7 +20,7 @@ use Rattle.dns_store.specs.declared.device_format.DeviceFormat.TheVariants as ki
 use Rattle.dns_layout.specs.Store.{Stored, OpensAsIn, OpensByIn, version_of}
 use Rattle.dns_layout.specs.declared.format.Format.TheVariants.{One, Two}
 use Rattle.dns_layout.specs.declared.root.Root.{Root}
-use Rattle.dns_journal.specs.State.{IsOpened}
+use Rattle.dns_journal.specs.State.{IsOpenedTimes}
 use Rattle.dns_journal.specs.Bank.{IsTurned}
 use Rattle.dns_journal.specs.Converting.{StaysOrConverts}
 use Rattle.dns_store.specs.Versions.{Versions, Shape, Opened, newest_after, moved_to}
@@ -173,7 +173,7 @@ module _ (shape : Shape) (o : Opened) (s : Stored) (d : Content) (root : Root) (
 
 -- where nothing was written, it is held still
 pub stays_old : (root : Root) (version : ℕ) (base : Zone) (changes : List Change) (d c : Content) → c ≡ d → StaysOrMigrates root version base changes d c
-stays_old root version base changes d c is shape o s read = inl (s, subst (λ (x : Content). OpensAsIn One (sizes_of shape) x s) (sym is) read.opens, read.part, subst (λ (x : Content). IsOpened o.openings x) (sym is) read.opened)
+stays_old root version base changes d c is shape o s read = inl (s, subst (λ (x : Content). OpensAsIn One (sizes_of shape) x s) (sym is) read.opens, read.part, subst (λ (x : Content). IsOpenedTimes o.openings x) (sym is) read.opened)
 
 tags_differ : root_tag_in Two ≡ root_tag_in One → ⊥
 unfolding root_tag_in
@@ -206,7 +206,7 @@ old_tag shape o c is new = tags_differ (sym new ∙ ap (λ (x : List ℕ). tag x
 
 -- what was read, as it is told to what writes it anew
 pub read_old : (shape : Shape) (o : Opened) (s : Stored) (e d : Content) (root : Root) (end : Cursor) (base : Zone) (changes : List Change) (newest : List Record) → e ≡ d
-    → IsReadIn One (sizes_of shape) e o s root end base.records changes newest → base.apex ≡ shape.apex → OpensAsIn One (sizes_of shape) d s → IsPartOfIn One shape.apex o s → IsOpened o.openings d → IsReadOld shape o s d root end.version base changes
+    → IsReadIn One (sizes_of shape) e o s root end base.records changes newest → base.apex ≡ shape.apex → OpensAsIn One (sizes_of shape) d s → IsPartOfIn One shape.apex o s → IsOpenedTimes o.openings d → IsReadOld shape o s d root end.version base changes
 read_old shape o s e d root end base changes newest same is apex opens part opened = record {
   opens = opens;
   part = part;
@@ -222,8 +222,8 @@ module _ {D : Type 0} {g : Ghosts D} (shape : Shape) (old mid : D) (honest : g.i
   reads_migrate = weaker g.moment g.left_since old mid (g.may_leave old) (MigratesAsPossible g shape old) (reads.any_moment honest) (λ c left. (c, left, λ o is. is))
 
   module _ (new : D) (root : Root) (version : ℕ) (base : Zone) (changes : List Change) (left : g.may_leave old (g.seen old)) (not_new : tag (sector_at (g.seen old) 0) ≡ root_tag → ⊥)
-      (read : (o : Opened) (s : Stored) → OpensAsIn One (sizes_of shape) (g.seen old) s → IsPartOfIn One shape.apex o s → IsOpened o.openings (g.seen old) → IsReadOld shape o s (g.seen old) root version base changes) where
-    read_there : (o : Opened) (s : Stored) → OpensAsIn One (sizes_of shape) (g.seen old) s → IsPartOfIn One shape.apex o s → IsOpened o.openings (g.seen old) → IsReadOld shape o s (g.seen mid) root version base changes
+      (read : (o : Opened) (s : Stored) → OpensAsIn One (sizes_of shape) (g.seen old) s → IsPartOfIn One shape.apex o s → IsOpenedTimes o.openings (g.seen old) → IsReadOld shape o s (g.seen old) root version base changes) where
+    read_there : (o : Opened) (s : Stored) → OpensAsIn One (sizes_of shape) (g.seen old) s → IsPartOfIn One shape.apex o s → IsOpenedTimes o.openings (g.seen old) → IsReadOld shape o s (g.seen mid) root version base changes
     read_there o s is part opened = subst (λ (x : Content). IsReadOld shape o s x root version base changes) (sym (reads.seen honest)) (read o s is part opened)
 
     pub writes_migrate : LeavesOnly g.moment g.left_since mid new (StaysOrMigrates root version base changes (g.seen mid)) → LeavesOnly g.moment g.left_since old new (MigratesAsPossible g shape old)

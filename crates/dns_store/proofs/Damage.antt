@@ -13,14 +13,14 @@ use Rattle.dns_layout.specs.Forms.{SaysRootIn}
 use Rattle.dns_layout.specs.Store.{Shape as Sizes}
 use Rattle.dns_layout.specs.declared.format.Format.{Format}
 use Rattle.dns_layout.specs.declared.root.Root.{Root}
-use Rattle.dns_journal.specs.Reads.{Finds, IsRefusal, NamesSpoilt, IsThat}
+use Rattle.dns_journal.specs.Reads.{FindsEntry, IsRefusal, NamesSpoilt, IsThat}
 use Rattle.dns_journal.specs.declared.read.Cursor.{Cursor}
 use Rattle.dns_journal.specs.declared.read.ReadError.{ReadError}
 use Rattle.dns_store.specs.declared.root.OpenError.{OpenError}
 use Rattle.dns_store.specs.Root.{open_error, RootRefusalIn}
 use Rattle.dns_store.specs.Versions.{Shape}
 use Rattle.dns_store.specs.Snapshot.{HoldsSnapshotIn, IsBadSnapshotIn, IsNoSnapshot}
-use Rattle.dns_store.specs.Damage.{NamesSector, NamesSpoiltIn, Step, IsStepAtIn, AreStepsIn, NamesWrongEntryIn, NamesWrongIn, bank_at}
+use Rattle.dns_store.specs.Damage.{NamesSector, NamesSpoiltIn, ReadChange, IsStepAtIn, AreStepsIn, NamesWrongEntryIn, NamesWrongIn, bank_at}
 
 -- what reading one sector or one entry says, as opening says it
 pub spoilt_named : (f : Format) (d : Content) (from until : ℕ) (e : ReadError) (r : OpenError) → r ≡ open_error e → NamesSpoilt f d from until e → (r ≡ OpenError.Device) ⊎ (r ≡ OpenError.OutOfMemory) ⊎ NamesSpoiltIn f d from until r
@@ -47,7 +47,7 @@ module _ (f : Format) where
   named_within d low from until high OpenError.Geometry a b s = s
   named_within d low from until high OpenError.OutOfMemory a b s = s
 
-  pub one_more : (apex : Labels) (c : Content) (from : Cursor) (base : List Record) (steps : List Step) (at : Cursor) (newest : List Record) (s : Step)
+  pub one_more : (apex : Labels) (c : Content) (from : Cursor) (base : List Record) (steps : List ReadChange) (at : Cursor) (newest : List Record) (s : ReadChange)
       → AreStepsIn f apex c from base steps at newest
       → IsStepAtIn f apex c at newest s
       → AreStepsIn f apex c from base (steps ++ s ∷ []) s.behind s.after
@@ -56,7 +56,7 @@ module _ (f : Format) where
   one_more apex c from base (t ∷ steps) at newest s read next = (read.0, one_more apex c t.behind t.after steps at newest s read.1 next)
 
   -- what reading an entry refuses
-  pub refusal_named : (apex : Labels) (base : List Record) (from : Cursor) (c : Content) (steps : List Step) (at : Cursor) (newest : List Record)
+  pub refusal_named : (apex : Labels) (base : List Record) (from : Cursor) (c : Content) (steps : List ReadChange) (at : Cursor) (newest : List Record)
       → AreStepsIn f apex c from base steps at newest
       → (low high : ℕ) → low ≤ at.at → at.until ≤ high
       → (e : ReadError) (r : OpenError)
@@ -72,9 +72,9 @@ module _ (f : Format) where
   refusal_named apex base from c steps at newest read low high a b ReadError.OutOfMemory r is wrong = inr (subst (λ (q : OpenError). NamesWrongEntryIn f apex base from c q) (sym is) tt)
 
   -- an entry that was read and holds no change
-  pub fault_named : (apex : Labels) (base : List Record) (from : Cursor) (c : Content) (steps : List Step) (at behind : Cursor) (newest : List Record) (octets : List ℕ) (head : ℕ)
+  pub fault_named : (apex : Labels) (base : List Record) (from : Cursor) (c : Content) (steps : List ReadChange) (at behind : Cursor) (newest : List Record) (octets : List ℕ) (head : ℕ)
       → AreStepsIn f apex c from base steps at newest
-      → Finds f at behind c octets
+      → FindsEntry f at behind c octets
       → head ≡ at.at
       → (r : OpenError)
       → ((after : List Record) (d : Change) → IsChange newest after d → HasEntry d → entry d ≡ octets → IsZone (record { apex = apex; records = after }) → r ≡ OpenError.OutOfMemory)

@@ -19,7 +19,7 @@ use Rattle.dns_store.specs.declared.root.OpenError.{OpenError}
 use Rattle.dns_store.specs.declared.root.OpenError.TheVariants as errors
 use Rattle.dns_store.proofs.Leaves.{part_opened}
 use Rattle.dns_store.proofs.Places.{versions_behind}
-use Rattle.dns_store.specs.Opening.{OpensAsPossible, IsStopped}
+use Rattle.dns_store.specs.Opening.{OpensAsPossible, IsNotReopened}
 use Rattle.dns_store.specs.Turn.{StaysStored}
 use Rattle.dns_store.proofs.Opening.{stands_first}
 
@@ -56,7 +56,7 @@ module _ {D : Type 0} {g : Ghosts D} (shape : Shape) (old mid : D) (honest : g.i
       ))
 
 -- of a device that wasn't altered no altered sector is named
-pub none_altered : (f : Format) (n : ℕ) (c : Content) (e : OpenError) → IsStopped n e ⊎ NamesAlteredIn f c c e → IsStopped n e
+pub none_altered : (f : Format) (n : ℕ) (c : Content) (e : OpenError) → IsNotReopened n e ⊎ NamesAlteredIn f c c e → IsNotReopened n e
 none_altered f n c e (inl stopped) = stopped
 none_altered f n c errors.Device (inr named) = absurd named
 none_altered f n c errors.Blank (inr named) = absurd named

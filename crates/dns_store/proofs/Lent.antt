@@ -21,10 +21,10 @@ use Rattle.dns_store.specs.Room.{entry_between, entries_along}
 use Rattle.dns_store.specs.Staged.{entry_is, entries_length}
 use Rattle.dns_layout.specs.declared.format.Format.{Format}
 use Rattle.dns_layout.specs.declared.format.Format.TheVariants.{Two}
-use Rattle.dns_store.specs.Opens.{AreChangesIn, IsKeptBy, KeepsBy, opens}
+use Rattle.dns_store.specs.Opens.{AreChangesIn, IsKeptBy, KeepsVersionsBy, opens}
 use Rattle.dns_store.specs.Laws.{at_rest_of}
 use Rattle.dns_store.specs.Recovered.{AreLed}
-use Rattle.dns_store.specs.Checkpoint.{newest_sectors, IsMostKept, IsKeptNumber, IsLent, AllZones, IsBaseOf, IsNextBase, entries_of}
+use Rattle.dns_store.specs.Checkpoint.{newest_sectors, IsMostKept, IsKeptNumber, IsBaseLent, AllZones, IsBaseOf, IsNextBase, entries_after_base}
 use Rattle.dns_store.proofs.Places.{along_drop, number_kept}
 use Rattle.dns_store.proofs.Moving.{led_count, newest_on}
 
@@ -72,18 +72,18 @@ most_one f xs h ys keep keep' room m n same sums less more one other =
     omega (arith, up, down)
 
 -- A store that isn't closed keeps its versions as entries.
-pub kept_open : {D : Type 0} {g : Ghosts D} (journal : Journal D g) (k : Kept) (closed : Bool) → is_closed journal ≡ false → KeepsBy journal k closed → (s : Stored) × (staged : List Entry) × IsKeptBy journal k s staged
+pub kept_open : {D : Type 0} {g : Ghosts D} (journal : Journal D g) (k : Kept) (closed : Bool) → is_closed journal ≡ false → KeepsVersionsBy journal k closed → (s : Stored) × (staged : List Entry) × IsKeptBy journal k s staged
 kept_open journal k false is_open kept = kept
 kept_open journal k true is_open kept = let both = kept.closed in absurd cc
 
 -- No device call was made.
-pub rest_either : {D : Type 0} {g : Ghosts D} (only_now : (d : D) (c : Content) → g.is_honest d → g.left_since d (g.moment d) c → g.may_leave d c) (old new : Journal D g) (k : Kept) (base : ℕ) → device_of new ≡ device_of old → KeepsBy old k k.closed
+pub rest_either : {D : Type 0} {g : Ghosts D} (only_now : (d : D) (c : Content) → g.is_honest d → g.left_since d (g.moment d) c → g.may_leave d c) (old new : Journal D g) (k : Kept) (base : ℕ) → device_of new ≡ device_of old → KeepsVersionsBy old k k.closed
     → LeavesOnly g.moment g.left_since (device_of old) (device_of new) (OpensAsEither opens k base)
 rest_either {D} {g} only_now old new k base same kept =
     subst (λ (d : D). LeavesOnly g.moment g.left_since (device_of old) d (OpensAsEither opens k base)) (sym same)
     (started g.moment g.left_since (device_of old) (OpensAsEither opens k base) (λ c left. inl (at_rest_of only_now old k k.closed kept c left)))
 
-module _ {D : Type 0} {g : Ghosts D} (journal : Journal D g) (base : Zone) (changes : List Change) (k : Kept) (lent : IsLent journal base changes k) (is_open : is_closed journal ≡ false) where
+module _ {D : Type 0} {g : Ghosts D} (journal : Journal D g) (base : Zone) (changes : List Change) (k : Kept) (lent : IsBaseLent journal base changes k) (is_open : is_closed journal ≡ false) where
   abbrev kept_as : (s : Stored) × (staged : List Entry) × IsKeptBy journal k s staged
   kept_as = kept_open journal k k.closed is_open lent.keeps
 
@@ -105,27 +105,27 @@ module _ {D : Type 0} {g : Ghosts D} (journal : Journal D g) (base : Zone) (chan
   newest_is : newest_of journal ≡ length k.shown
   newest_is = omega (arith, number_kept journal k kept_as.0 kept_as.1 kept, ap (λ (vs : Versions). length vs) lent.nothing_staged)
 
-  entries_are : entries_of k ≡ entries_along (version_at k k.base) (drop k.base k.shown)
+  entries_are : entries_after_base k ≡ entries_along (version_at k k.base) (drop k.base k.shown)
   entries_are = along_drop k.base k.loaded k.shown
 
-  same_length : length changes ≡ length (entries_of k)
+  same_length : length changes ≡ length (entries_after_base k)
   same_length = led_count (version_at k k.base) (drop k.base k.shown) changes lent.led ∙ sym (ap (λ (xs : List ℕ). length xs) entries_are ∙ entries_length (version_at k k.base) (drop k.base k.shown))
 
-  same_sums : (i : ℕ) → newest_sectors sectors_for changes i ≡ newest_sectors (λ size. size) (entries_of k) i
+  same_sums : (i : ℕ) → newest_sectors sectors_for changes i ≡ newest_sectors (λ size. size) (entries_after_base k) i
   same_sums i =
       led_sums (version_at k k.base) (drop k.base k.shown) changes (length changes - i) lent.led
       ∙ ap (λ (xs : List ℕ). sum_by (λ size. size) (drop (length changes - i) xs)) (sym entries_are)
-      ∙ ap (λ n. sum_by (λ size. size) (drop (n - i) (entries_of k))) same_length
+      ∙ ap (λ n. sum_by (λ size. size) (drop (n - i) (entries_after_base k))) same_length
 
   pub kept_is : (keep room m n : ℕ) → IsMostKept sectors_for changes (min keep (newest_of journal)) (journal_room_of journal - room) m → IsKeptNumber k keep room n → m ≡ n
   kept_is keep room m n one other =
-      most_one sectors_for changes (λ size. size) (entries_of k) keep (min keep (newest_of journal)) (journal_room_of journal - room) m n same_length same_sums (omega arith)
-      (λ i few there. omega (arith, few, there, same_length, count, newest_is)) one (subst (λ j. IsMostKept (λ size. size) (entries_of k) keep (j - room) n) (sym journal_is) other)
+      most_one sectors_for changes (λ size. size) (entries_after_base k) keep (min keep (newest_of journal)) (journal_room_of journal - room) m n same_length same_sums (omega arith)
+      (λ i few there. omega (arith, few, there, same_length, count, newest_is)) one (subst (λ j. IsMostKept (λ size. size) (entries_after_base k) keep (j - room) n) (sym journal_is) other)
 
   pub kept_number : (keep room m : ℕ) → IsMostKept sectors_for changes (min keep (newest_of journal)) (journal_room_of journal - room) m → IsKeptNumber k keep room m
   kept_number keep room m one =
       let least : min keep (newest_of journal) ≤ keep = omega arith in
-      subst (λ j. IsMostKept (λ size. size) (entries_of k) keep (j - room) m) journal_is
+      subst (λ j. IsMostKept (λ size. size) (entries_after_base k) keep (j - room) m) journal_is
       (record {
         few = omega (arith, one.few, least);
         there = omega (arith, one.there, same_length);
@@ -179,8 +179,8 @@ module _ {D : Type 0} {g : Ghosts D} (journal : Journal D g) (base : Zone) (chan
       led = rest_led;
     }
 
-    pub is_lent : (new : Journal D g) (next_zone : Zone) (octets : List ℕ) → IsNextBase base next_zone (take (length changes - m) (drop k.base k.shown)) octets → KeepsBy new (moved_to (length k.shown - m) k) k.closed
-        → IsLent new next_zone (drop (length changes - m) changes) (moved_to (length k.shown - m) k)
+    pub is_lent : (new : Journal D g) (next_zone : Zone) (octets : List ℕ) → IsNextBase base next_zone (take (length changes - m) (drop k.base k.shown)) octets → KeepsVersionsBy new (moved_to (length k.shown - m) k) k.closed
+        → IsBaseLent new next_zone (drop (length changes - m) changes) (moved_to (length k.shown - m) k)
     is_lent new next_zone octets found keeps = record {
       keeps = keeps;
       nothing_staged = lent.nothing_staged;

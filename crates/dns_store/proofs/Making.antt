@@ -12,7 +12,7 @@ use Rattle.dns_sectors.specs.declared.device.Sectors.{Ghosts}
 use Rattle.dns_sectors.specs.Crash.{CrashOf}
 use Rattle.dns_sectors.proofs.Moments.{joined, weaker}
 use Rattle.dns_layout.specs.Apex.{apex_octets}
-use Rattle.dns_layout.specs.Sector.{AreZeros, sector_at, tag, open_count, sequence, number, payload, bank_open, snapshot_length, payload_room, snapshot_sectors, blank, clear, head_tag, head_tag_in}
+use Rattle.dns_layout.specs.Sector.{AreZeros, sector_at, tag, open_count, sequence_number, number, payload, bank_open, snapshot_length, payload_room, snapshot_sectors, blank, clear, head_tag, head_tag_in}
 use Rattle.dns_layout.specs.Own.{Own, IsIntactIn}
 use Rattle.dns_layout.specs.declared.format.Format.TheVariants.{Two}
 use Rattle.dns_layout.specs.Forms.{SaysPart, SaysRoot}
@@ -21,14 +21,14 @@ use Rattle.dns_layout.specs.Store.{Shape as Sizes, AreParts, OpensBy, IsTidy, al
 use Rattle.dns_layout.specs.declared.root.Root.{Root}
 use Rattle.dns_layout.specs.declared.root.Bank.TheVariants.{Zero}
 use Rattle.dns_journal.specs.Reads.{sectors_from}
-use Rattle.dns_journal.specs.Bank.{piece, part_of, Holds}
+use Rattle.dns_journal.specs.Bank.{piece, part_of, HoldsOctets}
 use Rattle.dns_journal.proofs.Looking.{from_stands, length-from, flat_from}
 use Rattle.dns_journal.proofs.Places.{at_set-same, at_set-other}
 use Rattle.dns_journal.proofs.Pushing.{part_more}
 use Rattle.dns_journal.proofs.Encoded.{are_zeros}
 use Rattle.dns_store.specs.Versions.{Shape}
 use Rattle.dns_store.specs.Opens.{opens, sizes_of}
-use Rattle.dns_store.specs.Formatting.{IsGeometry, IsLaid, IsLaidTo, HasBlankRoot, IsMade, first_of, LeftByFormat, LeftByMaking}
+use Rattle.dns_store.specs.Formatting.{IsGeometry, IsLaid, IsLaidTo, HasBlankRoot, IsFormatted, first_of, LeftByFormat, LeftByMaking}
 use Rattle.dns_store.proofs.Parts.{are_from}
 
 -- Octets that are no head: zeros, and none.
@@ -59,9 +59,9 @@ parts_hold octets = omega arith
 -- So many parts of a snapshot stand there, one behind the other.
 module _ (opened base : ℕ) (octets : List ℕ) (c : Content) (at : ℕ) where
   abbrev pub PartsStand : ℕ → Type 0
-  PartsStand n = (i : ℕ) → i < n → SaysPart (sector_at c (at + i)) (part_of opened base i) × Holds (sector_at c (at + i)) (piece octets i)
+  PartsStand n = (i : ℕ) → i < n → SaysPart (sector_at c (at + i)) (part_of opened base i) × HoldsOctets (sector_at c (at + i)) (piece octets i)
 
-  pub parts_are : (root : List ℕ) (n : ℕ) → bank_open root ≡ opened → sequence root ≡ base → PartsStand n → AreParts root 0 (sectors_from c at n)
+  pub parts_are : (root : List ℕ) (n : ℕ) → bank_open root ≡ opened → sequence_number root ≡ base → PartsStand n → AreParts root 0 (sectors_from c at n)
   parts_are root zero bank version stand = tt
   parts_are root (suc n) bank version stand =
       let says = (stand n (omega arith)).0 in
@@ -108,7 +108,7 @@ pub record IsNewRoot (s : Sizes) (octets : List ℕ) (r : Root) : Type 0 where
   pub clear : r.is_clear ≡ true
   pub apex : r.apex ≡ s.apex
 
-module _ (s : Sizes) (octets : List ℕ) (r : Root) (new : IsNewRoot s octets r) (some : 8 ≤ s.journal) (fits : snapshot_sectors (length octets) ≤ s.snapshot) (c : Content) (made : IsMade r octets (all_sectors s) c) where
+module _ (s : Sizes) (octets : List ℕ) (r : Root) (new : IsNewRoot s octets r) (some : 8 ≤ s.journal) (fits : snapshot_sectors (length octets) ≤ s.snapshot) (c : Content) (made : IsFormatted r octets (all_sectors s) c) where
   abbrev root : List ℕ
   root = sector_at c 0
 
@@ -121,7 +121,7 @@ module _ (s : Sizes) (octets : List ℕ) (r : Root) (new : IsNewRoot s octets r)
   stand : PartsStand 0 0 octets c 1 (snapshot_sectors (length octets))
   stand i lt =
       let part = (made.laid i (omega (arith, lt, fits))).part lt in
-      subst (λ q. SaysPart (sector_at c q) (part_of 0 0 i) × Holds (sector_at c q) (piece octets i)) (omega arith) (part.says, part.holds)
+      subst (λ q. SaysPart (sector_at c q) (part_of 0 0 i) × HoldsOctets (sector_at c q) (piece octets i)) (omega arith) (part.says, part.holds)
 
   none_at : (i : ℕ) → snapshot_sectors (length octets) ≤ i → i + 1 < all_sectors s → sector_at c (i + 1) ≡ blank
   none_at i le lt = (made.laid i lt).none le
@@ -189,7 +189,7 @@ module _ (s : Sizes) (octets : List ℕ) (r : Root) (new : IsNewRoot s octets r)
 
 -- in versions
 pub made_is : (shape : Shape) (records : List Record) (octets : List ℕ) (r : Root) → IsZone (record { apex = shape.apex; records = records }) → octets ≡ flat_map plain records → IsNewRoot (sizes_of shape) octets r → 8 ≤ shape.journal
-    → snapshot_sectors (length octets) ≤ shape.snapshot → (c : Content) → IsMade r octets (all_sectors (sizes_of shape)) c → opens shape (first_of records) c
+    → snapshot_sectors (length octets) ≤ shape.snapshot → (c : Content) → IsFormatted r octets (all_sectors (sizes_of shape)) c → opens shape (first_of records) c
 made_is shape records octets r valid octets_are new some fits c made = (
   record { base = 0; snapshot = octets; entries = [] },
   (sector_at c 0, sectors_from c 1 (snapshot_sectors (length octets)), made_opens (sizes_of shape) octets r new some fits c made),
@@ -227,7 +227,7 @@ blank_there d e may_leave some written only c left = ap (λ (y : Content). secto
 
 -- The root is written last.
 module _ (r : Root) (octets y : List ℕ) (d : Content) (says : SaysRoot y r) (own : Own 0 y) (some : 0 < length d) (laid : IsLaidTo octets (length d) d) where
-  pub made_by : IsMade r octets (length d) (slice_set d 0 y)
+  pub made_by : IsFormatted r octets (length d) (slice_set d 0 y)
   made_by = record {
     size = length-set d 0 y;
     says = subst (λ (x : List ℕ). SaysRoot x r) (sym (at_set-same d 0 y some)) says;
@@ -235,12 +235,12 @@ module _ (r : Root) (octets y : List ℕ) (d : Content) (says : SaysRoot y r) (o
     laid = λ index lt. subst (λ (x : List ℕ). IsLaid octets index x) (sym (at_set-other d 0 (index + 1) y (λ (same : index + 1 ≡ 0). absurd (omega (arith, same))))) (laid index lt);
   }
 
-  pub last_crash : (may_leave : Content → Type 0) → Only d may_leave → HasBlankRoot d → (c : Content) → CrashOf may_leave ((0, y) ∷ []) c → HasBlankRoot c ⊎ IsMade r octets (length d) c
+  pub last_crash : (may_leave : Content → Type 0) → Only d may_leave → HasBlankRoot d → (c : Content) → CrashOf may_leave ((0, y) ∷ []) c → HasBlankRoot c ⊎ IsFormatted r octets (length d) c
   last_crash may_leave only none c (e, left, inl not) = inl (ap (λ (x : Content). sector_at x 0) (not ∙ only e left) ∙ none)
-  last_crash may_leave only none c (e, left, inr is) = inr (subst (λ (x : Content). IsMade r octets (length d) x) (sym (is ∙ ap (λ (x : Content). slice_set x 0 y) (only e left))) made_by)
+  last_crash may_leave only none c (e, left, inr is) = inr (subst (λ (x : Content). IsFormatted r octets (length d) x) (sym (is ∙ ap (λ (x : Content). slice_set x 0 y) (only e left))) made_by)
 
-  pub made_left : (may_leave : Content → Type 0) (e : Content) → Only e may_leave → e ≡ slice_set d 0 y → (c : Content) → may_leave c → IsMade r octets (length d) c
-  made_left may_leave e only written c left = subst (λ (x : Content). IsMade r octets (length d) x) (sym (only c left ∙ written)) made_by
+  pub made_left : (may_leave : Content → Type 0) (e : Content) → Only e may_leave → e ≡ slice_set d 0 y → (c : Content) → may_leave c → IsFormatted r octets (length d) c
+  made_left may_leave e only written c left = subst (λ (x : Content). IsFormatted r octets (length d) x) (sym (only c left ∙ written)) made_by
 
 -- The three phases.
 module _ {D : Type 0} (g : Ghosts D) (r : Root) (octets : List ℕ) (old mid : D) (count : ℕ) (first : LeavesOnly g.moment g.left_since old mid (CrashOf (g.may_leave old) ((0, blank) ∷ []))) where
@@ -264,18 +264,18 @@ module _ {D : Type 0} (g : Ghosts D) (r : Root) (octets : List ℕ) (old mid : D
       pub third_run : HasBlankRoot (g.seen next) → (new : D) → LeavesOnly g.moment g.left_since next new (CrashOf (g.may_leave next) ((0, y) ∷ [])) → LeavesOnly g.moment g.left_since old new (LeftByMaking g r octets count old)
       third_run none new third =
           joined g.moment g.left_since old next new Left (CrashOf (g.may_leave next) ((0, y) ∷ [])) second_run third
-          (λ c left. inr (subst (λ n. HasBlankRoot c ⊎ IsMade r octets n c) size (last_crash r octets y (g.seen next) says own some_there laid_all (g.may_leave next) only none c left)))
+          (λ c left. inr (subst (λ n. HasBlankRoot c ⊎ IsFormatted r octets n c) size (last_crash r octets y (g.seen next) says own some_there laid_all (g.may_leave next) only none c left)))
 
-      pub all_made : (new : D) → Only (g.seen new) (g.may_leave new) → g.seen new ≡ slice_set (g.seen next) 0 y → (c : Content) → g.may_leave new c → IsMade r octets count c
-      all_made new only_new written c left = subst (λ n. IsMade r octets n c) size (made_left r octets y (g.seen next) says own some_there laid_all (g.may_leave new) (g.seen new) only_new written c left)
+      pub all_made : (new : D) → Only (g.seen new) (g.may_leave new) → g.seen new ≡ slice_set (g.seen next) 0 y → (c : Content) → g.may_leave new c → IsFormatted r octets count c
+      all_made new only_new written c left = subst (λ n. IsFormatted r octets n c) size (made_left r octets y (g.seen next) says own some_there laid_all (g.may_leave new) (g.seen new) only_new written c left)
 
 -- In versions, where the device has the sectors of the store.
 module _ (shape : Shape) (records : List Record) (octets lent : List ℕ) (r : Root) (count : ℕ) (valid : IsZone (record { apex = shape.apex; records = records })) (octets_are : octets ≡ flat_map plain records) (lent_is : lent ≡ octets)
     (new : IsNewRoot (sizes_of shape) octets r) (geometry : IsGeometry shape.snapshot shape.journal count) (fits : snapshot_sectors (length octets) ≤ shape.snapshot) where
-  pub made_in_versions : (c : Content) → IsMade r lent count c → opens shape (first_of records) c
+  pub made_in_versions : (c : Content) → IsFormatted r lent count c → opens shape (first_of records) c
   made_in_versions c made =
       made_is shape records octets r valid octets_are new geometry.some_entries fits c
-      (subst (λ (l : List ℕ). IsMade r l (all_sectors (sizes_of shape)) c) lent_is (subst (λ n. IsMade r lent n c) geometry.size made))
+      (subst (λ (l : List ℕ). IsFormatted r l (all_sectors (sizes_of shape)) c) lent_is (subst (λ n. IsFormatted r lent n c) geometry.size made))
 
   pub left_in_versions : {D : Type 0} (g : Ghosts D) (device : D) (c : Content) → LeftByMaking g r lent count device c → LeftByFormat g shape records device c
   left_in_versions g device c (inl before) = inl before

@@ -14,12 +14,12 @@ use Rattle.dns_sectors.proofs.Moments.{started, weaker}
 use Rattle.dns_layout.specs.Journal.{Entry}
 use Rattle.dns_layout.specs.Store.{Shape, Stored, OpensAs, IsTidy}
 use Rattle.dns_journal.specs.Bank.{AreEntries, IsTurned, LeavesEither}
-use Rattle.dns_journal.specs.State.{Keeps, IsOpened, is_closed, device_of, left_of, newest_of, opened_of}
+use Rattle.dns_journal.specs.State.{Keeps, IsOpenedTimes, is_closed, device_of, left_of, newest_of, opened_of}
 use Rattle.dns_journal.specs.declared.journal.Journal.{Journal}
 use Rattle.dns_store.specs.Versions.{Versions, Kept, newest_after, OpensAsLeft, OpensAsEither, version_at, moved_to, closed_between}
 use Rattle.dns_layout.specs.declared.format.Format.{Format}
 use Rattle.dns_layout.specs.declared.format.Format.TheVariants.{Two}
-use Rattle.dns_store.specs.Opens.{AreChangesIn, IsPartOfIn, AreChanges, IsPartOf, IsKeptBy, IsClosedBy, KeepsBy, opens, sizes_of, durable_part}
+use Rattle.dns_store.specs.Opens.{AreChangesIn, IsPartOfIn, AreChanges, IsPartOf, IsKeptBy, IsClosedBy, KeepsVersionsBy, opens, sizes_of, durable_part}
 use Rattle.dns_store.specs.Recovered.{AreLed}
 use Rattle.dns_store.specs.Checkpoint.{IsBaseOf}
 use Rattle.dns_store.proofs.Leaves.{newest_append}
@@ -89,7 +89,7 @@ part_turned f k s turned base octets changes part is turn =
     }
 
 -- what is stored is the durable version, and nothing is lost
-left_of_stored : (k : Kept) (s : Stored) (c : Content) → OpensAs (sizes_of k.shape) c s → IsTidy (sizes_of k.shape) c → IsPartOf k.shape.apex (durable_part k) s → IsOpened k.openings c → OpensAsLeft opens k c
+left_of_stored : (k : Kept) (s : Stored) (c : Content) → OpensAs (sizes_of k.shape) c s → IsTidy (sizes_of k.shape) c → IsPartOf k.shape.apex (durable_part k) s → IsOpenedTimes k.openings c → OpensAsLeft opens k c
 left_of_stored k s c opens_by tidy part opened =
     (durable_part k, record { loaded = refl; kept = []; lost = k.staged; front = refl; versions = sym (append-nil k.shown); base = inl refl; openings = refl }, (s, opens_by, tidy, part, opened))
 
@@ -121,7 +121,7 @@ module _ {D : Type 0} {g : Ghosts D} (old new : Journal D g) (k : Kept) (none : 
 
   pub turn_leaves : ((d : D) (c : Content) → g.is_honest d → g.left_since d (g.moment d) c → g.may_leave d c)
       → ((shape : Shape) (s : Stored) → Keeps shape old s [] → LeavesOnly g.moment g.left_since (device_of old) (device_of new) (LeavesEither shape s octets changes (opened_of old)))
-      → (is_closed old ≡ true → device_of new ≡ device_of old) → (closed : Bool) → KeepsBy old k closed → LeavesOnly g.moment g.left_since (device_of old) (device_of new) (OpensAsEither opens k base)
+      → (is_closed old ≡ true → device_of new ≡ device_of old) → (closed : Bool) → KeepsVersionsBy old k closed → LeavesOnly g.moment g.left_since (device_of old) (device_of new) (OpensAsEither opens k base)
   turn_leaves only_now any still false (s, staged, kept) =
       weaker g.moment g.left_since (device_of old) (device_of new) (LeavesEither (sizes_of k.shape) s octets changes (opened_of old)) (OpensAsEither opens k base) (any (sizes_of k.shape) s (kept_bare s staged kept))
       (λ c left. either_left k s base octets changes kept.part is c (subst (λ n. LeavesEither (sizes_of k.shape) s octets changes n c) kept.opened left))
@@ -129,7 +129,7 @@ module _ {D : Type 0} {g : Ghosts D} (old new : Journal D g) (k : Kept) (none : 
       subst (λ (d : D). LeavesOnly g.moment g.left_since (device_of old) d (OpensAsEither opens k base)) (sym (still kept.closed))
       (started g.moment g.left_since (device_of old) (OpensAsEither opens k base) (λ c left. inl (kept.left c (only_now (device_of old) c kept.honest left))))
 
-  pub turn_keeps : ((shape : Shape) (s : Stored) → Keeps shape old s [] → (turned : Stored) × IsTurned s octets changes turned × Keeps shape new turned []) → opened_of new ≡ opened_of old → (is_closed old ≡ true → ⊥) → (closed : Bool) → KeepsBy old k closed → KeepsBy new (moved_to base k) closed
+  pub turn_keeps : ((shape : Shape) (s : Stored) → Keeps shape old s [] → (turned : Stored) × IsTurned s octets changes turned × Keeps shape new turned []) → opened_of new ≡ opened_of old → (is_closed old ≡ true → ⊥) → (closed : Bool) → KeepsVersionsBy old k closed → KeepsVersionsBy new (moved_to base k) closed
   turn_keeps turn same not false (s, staged, kept) =
       let after = turn (sizes_of k.shape) s (kept_bare s staged kept) in
       (after.0, [], record { keeps = after.2; opened = same ∙ kept.opened; part = part_turned Two k s after.0 base octets changes kept.part is after.1; changes = subst (λ (vs : Versions). AreChanges k.shape.apex (newest_after k.loaded k.shown) vs []) (sym none) tt })
@@ -137,7 +137,7 @@ module _ {D : Type 0} {g : Ghosts D} (old new : Journal D g) (k : Kept) (none : 
 
   pub turn_closes : ((d : D) (t : ℕ) (c : Content) → g.is_honest d → t ≤ g.moment d → g.may_leave d c → g.left_since d t c)
       → ((shape : Shape) (s : Stored) → Keeps shape old s [] → LeavesOnly g.moment g.left_since (device_of old) (device_of new) (LeavesEither shape s octets changes (opened_of old)))
-      → (g.is_honest (device_of old) → g.is_honest (device_of new)) → (is_closed old ≡ true → ⊥) → is_closed new ≡ true → left_of new ≡ left_of old → newest_of new ≡ newest_of old → (closed : Bool) → KeepsBy old k closed → (closed ≡ false) × IsClosedBy new (closed_between base k)
+      → (g.is_honest (device_of old) → g.is_honest (device_of new)) → (is_closed old ≡ true → ⊥) → is_closed new ≡ true → left_of new ≡ left_of old → newest_of new ≡ newest_of old → (closed : Bool) → KeepsVersionsBy old k closed → (closed ≡ false) × IsClosedBy new (closed_between base k)
   turn_closes counts_now any honest not closes left number false (s, staged, kept) =
       let bare = kept_bare s staged kept in
       let run = any (sizes_of k.shape) s bare in

@@ -5,7 +5,7 @@ use Rattle.std.proofs.lemmas.Bool.{cases_lt}
 use Rattle.std.specs.List.{AllByRecursion}
 use Rattle.dns_names.specs.Name.{Labels, IsName, IsLabel as IsLower, wire}
 use Rattle.dns_sectors.specs.Device.{Content}
-use Rattle.dns_layout.specs.Apex.{IsLabel, IsPlain, labels_plain}
+use Rattle.dns_layout.specs.Apex.{HasLabelLength, IsPlainApex, labels_plain}
 use Rattle.dns_layout.specs.Sector.{blank, tag, root_tag_in, digit_in, sector_at, open_count, number}
 use Rattle.dns_layout.specs.Own.{IsIntactIn}
 use Rattle.dns_layout.specs.Forms.{SaysRootIn, bank_number}
@@ -22,11 +22,11 @@ use Rattle.dns_store.specs.declared.root.OpenError.{OpenError}
 use Rattle.dns_store.specs.declared.root.OpenError.TheVariants.{Device, Blank, Damaged, Geometry, OutOfMemory}
 use Rattle.dns_store.specs.Root.{RootRefusalIn, open_error, IsFoundRootIn, OpenRefusalIn, IsOfBank}
 use Rattle.dns_store.specs.Snapshot.{IsBadSnapshotIn}
-use Rattle.dns_store.specs.Opening.{IsStopped}
+use Rattle.dns_store.specs.Opening.{IsNotReopened}
 use Rattle.dns_store.specs.Damage.{NamesSpoiltIn, NamesAlteredIn}
 use Rattle.dns_store.proofs.Parts.{no_wrong_part, no_wrong_tail}
 
-labels_are : (name : Labels) → AllByRecursion IsLower name → AllByRecursion IsLabel name
+labels_are : (name : Labels) → AllByRecursion IsLower name → AllByRecursion HasLabelLength name
 labels_are [] all = tt
 labels_are (l ∷ rest) all = (record { some = all.0.some; short = all.0.short }, labels_are rest all.1)
 
@@ -34,7 +34,7 @@ wire_is : (name : Labels) → wire name ≡ labels_plain name ++ 0 ∷ []
 wire_is [] = refl
 wire_is (l ∷ rest) = ap (λ (xs : List ℕ). length l ∷ (l ++ xs)) (wire_is rest) ∙ ap (λ (xs : List ℕ). length l ∷ xs) (sym (append_assoc l (labels_plain rest) (0 ∷ [])))
 
-pub plain_name : (name : Labels) → IsName name → IsPlain (wire name)
+pub plain_name : (name : Labels) → IsName name → IsPlainApex (wire name)
 plain_name name is = record { name = name; labels = labels_are name is.labels; is = wire_is name; short = is.short }
 
 pub not_blank : (f : Format) (x : List ℕ) → tag x ≡ root_tag_in f → x ≡ blank → ⊥
@@ -55,7 +55,7 @@ module _ (f : Format) where
     root_intact : IsIntactIn f 0 (sector_at c 0)
     root_intact = by.own 0 (omega arith) (λ left. absurd (omega (arith, left.from)))
 
-    pub root_there : IsPlain s.apex → (count : ℕ) → count ≡ length c → (e : OpenError) → (e ≡ Device) ⊎ NamesSpoiltIn f d 0 1 e ⊎ RootRefusalIn f s count (sector_at c 0) e → IsStopped (open_count (sector_at c 0)) e ⊎ NamesAlteredIn f c d e
+    pub root_there : IsPlainApex s.apex → (count : ℕ) → count ≡ length c → (e : OpenError) → (e ≡ Device) ⊎ NamesSpoiltIn f d 0 1 e ⊎ RootRefusalIn f s count (sector_at c 0) e → IsNotReopened (open_count (sector_at c 0)) e ⊎ NamesAlteredIn f c d e
     root_there plain count size e (inl failed) = inl (inl failed)
     root_there plain count size Device (inr (inl spoilt)) = absurd spoilt
     root_there plain count size Blank (inr (inl spoilt)) = absurd spoilt
@@ -95,7 +95,7 @@ module _ (f : Format) where
     bank_altered from until low high Geometry spoilt = spoilt
     bank_altered from until low high OutOfMemory spoilt = spoilt
 
-    pub snapshot_there : (at : ℕ) → at ≡ snapshot_place s (number (sector_at c 0)) → (size : ℕ) → size ≤ s.snapshot → (e : ReadError) (r : OpenError) → r ≡ open_error e → NamesSpoilt f d at (at + size) e ⊎ IsBadSnapshotIn f (sector_at c 0) at c e → IsStopped (open_count (sector_at c 0)) r ⊎ NamesAlteredIn f c d r
+    pub snapshot_there : (at : ℕ) → at ≡ snapshot_place s (number (sector_at c 0)) → (size : ℕ) → size ≤ s.snapshot → (e : ReadError) (r : OpenError) → r ≡ open_error e → NamesSpoilt f d at (at + size) e ⊎ IsBadSnapshotIn f (sector_at c 0) at c e → IsNotReopened (open_count (sector_at c 0)) r ⊎ NamesAlteredIn f c d r
     snapshot_there at place size le ReadError.Device r is bad = inl (inl is)
     snapshot_there at place size le (ReadError.Damaged n) r is (inl spoilt) =
         inr (bank_altered at (at + size) (omega (arith, place)) (omega (arith, place, le)) r (subst (λ (q : OpenError). NamesSpoiltIn f d at (at + size) q) (sym is) spoilt))

@@ -10,13 +10,13 @@ use Rattle.dns_layout.specs.Sector.{sector_at}
 use Rattle.dns_layout.specs.Own.{IsIntactIn}
 use Rattle.dns_layout.specs.Journal.{IsNextHeadIn}
 use Rattle.dns_layout.specs.declared.format.Format.{Format}
-use Rattle.dns_journal.specs.Reads.{Ends, Finds, NamesSpoilt, IsThat, IsReached as IsReachedAt}
+use Rattle.dns_journal.specs.Reads.{IsJournalEnd, FindsEntry, NamesSpoilt, IsThat, IsSectorReached as IsReachedAt}
 use Rattle.dns_journal.specs.declared.read.Cursor.{Cursor}
 use Rattle.dns_journal.specs.declared.read.ReadError.{ReadError}
 use Rattle.dns_journal.proofs.Heads.{finds_once}
 use Rattle.dns_store.specs.declared.root.OpenError.{OpenError}
 use Rattle.dns_store.specs.Root.{open_error}
-use Rattle.dns_store.specs.Damage.{NamesSector, Step, AreStepsIn, IsReachedEntryIn}
+use Rattle.dns_store.specs.Damage.{NamesSector, ReadChange, AreStepsIn, IsReachedEntryIn}
 use Rattle.dns_store.proofs.Damage.{sector_named}
 
 -- The change with these octets can be made, and makes a valid zone.
@@ -27,14 +27,14 @@ pub record IsTaken (apex : Labels) (before : List Record) (octets : List ℕ) (d
   pub valid : IsZone (record { apex = apex; records = applied d before })
 
 module _ (f : Format) (apex : Labels) (d : Content) where
-  steps_rise : (from : Cursor) (base : List Record) (steps : List Step) (at : Cursor) (newest : List Record) → AreStepsIn f apex d from base steps at newest → from.at ≤ at.at
+  steps_rise : (from : Cursor) (base : List Record) (steps : List ReadChange) (at : Cursor) (newest : List Record) → AreStepsIn f apex d from base steps at newest → from.at ≤ at.at
   steps_rise from base [] at newest read = omega (arith, ap (λ (k : Cursor). k.at) read.0)
   steps_rise from base (s ∷ steps) at newest read = omega (arith, read.0.found.place, steps_rise s.behind s.after steps at newest read.1)
 
   module _ (base : List Record) (at : Cursor) (place : ℕ) where
     -- where reading an entry is refused
     pub reach_refused : IsReachedEntryIn f apex base at d place → (e : ReadError) (r : OpenError) → r ≡ open_error e → (at.at < at.until → IsReachedAt f at d place → IsThat place e)
-        → ((new : Cursor) (octets : List ℕ) → Finds f at new d octets → NamesSpoilt f d at.at new.at e) → NamesSector place r
+        → ((new : Cursor) (octets : List ℕ) → FindsEntry f at new d octets → NamesSpoilt f d at.at new.at e) → NamesSector place r
     reach_refused reached e r is direct near = go reached.steps reached.at reached.newest reached.read reached.own reached.due reached.reached
       where
         spoilt : (until end : ℕ) → until ≤ end → ((q : ℕ) → at.at ≤ q → q < end → IsIntactIn f q (sector_at d q)) → (e : ReadError) → NamesSpoilt f d at.at until e → IsThat place e
@@ -42,25 +42,25 @@ module _ (f : Format) (apex : Labels) (d : Content) where
         spoilt until end le own (ReadError.Damaged n) named = absurd (named.spoilt (own n named.first (omega (arith, named.last, le))))
         spoilt until end le own ReadError.OutOfMemory named = inr (inl refl)
 
-        go : (steps : List Step) (end : Cursor) (newest : List Record) → AreStepsIn f apex d at base steps end newest → ((q : ℕ) → at.at ≤ q → q < end.at → IsIntactIn f q (sector_at d q)) → end.at < end.until → IsReachedAt f end d place → NamesSector place r
+        go : (steps : List ReadChange) (end : Cursor) (newest : List Record) → AreStepsIn f apex d at base steps end newest → ((q : ℕ) → at.at ≤ q → q < end.at → IsIntactIn f q (sector_at d q)) → end.at < end.until → IsReachedAt f end d place → NamesSector place r
         go [] end newest read own due there = sector_named place e r is (direct (subst (λ (k : Cursor). k.at < k.until) read.0 due) (subst (λ (k : Cursor). IsReachedAt f k d place) read.0 there))
         go (s ∷ steps) end newest read own due there =
             sector_named place e r is (spoilt s.behind.at end.at (steps_rise s.behind s.after steps end newest read.1) own e (near s.behind (entry s.change) read.0.found))
 
     module _ (direct : at.at < at.until → IsReachedAt f at d place → ⊥) where
       -- Nothing stands there: so it isn't reached.
-      pub reach_ended : IsReachedEntryIn f apex base at d place → Ends f at d → ⊥
+      pub reach_ended : IsReachedEntryIn f apex base at d place → IsJournalEnd f at d → ⊥
       reach_ended reached ends = go reached.steps reached.at reached.newest reached.read reached.due reached.reached
         where
-          go : (steps : List Step) (end : Cursor) (newest : List Record) → AreStepsIn f apex d at base steps end newest → end.at < end.until → IsReachedAt f end d place → ⊥
+          go : (steps : List ReadChange) (end : Cursor) (newest : List Record) → AreStepsIn f apex d at base steps end newest → end.at < end.until → IsReachedAt f end d place → ⊥
           go [] end newest read due there = direct (subst (λ (k : Cursor). k.at < k.until) read.0 due) (subst (λ (k : Cursor). IsReachedAt f k d place) read.0 there)
           go (s ∷ steps) end newest read due there =
               ends (subst (λ (y : List ℕ). IsNextHeadIn f at.until at.at at.version at.opened y) (sym read.0.found.head) read.0.found.next.head)
 
-      module _ (reached : IsReachedEntryIn f apex base at d place) (new : Cursor) (octets : List ℕ) (finds : Finds f at new d octets) where
+      module _ (reached : IsReachedEntryIn f apex base at d place) (new : Cursor) (octets : List ℕ) (finds : FindsEntry f at new d octets) where
         -- the first of the steps is the entry that was found
-        first_step : (steps : List Step) (end : Cursor) (newest : List Record) → AreStepsIn f apex d at base steps end newest → end.at < end.until → IsReachedAt f end d place
-            → (s : Step) × (rest : List Step) × IsTaken apex base octets s.change × (applied s.change base ≡ s.after) × (s.behind ≡ new) × AreStepsIn f apex d s.behind s.after rest end newest
+        first_step : (steps : List ReadChange) (end : Cursor) (newest : List Record) → AreStepsIn f apex d at base steps end newest → end.at < end.until → IsReachedAt f end d place
+            → (s : ReadChange) × (rest : List ReadChange) × IsTaken apex base octets s.change × (applied s.change base ≡ s.after) × (s.behind ≡ new) × AreStepsIn f apex d s.behind s.after rest end newest
         first_step [] end newest read due there = absurd (direct (subst (λ (k : Cursor). k.at < k.until) read.0 due) (subst (λ (k : Cursor). IsReachedAt f k d place) read.0 there))
         first_step (s ∷ steps) end newest read due there =
             let once = finds_once f at s.behind new d (entry s.change) octets read.0.found finds in

@@ -4,7 +4,7 @@ use Rattle.std.specs.List.{flat_map}
 use Rattle.dns_records.specs.Record.{Record, plain}
 use Rattle.dns_zone.specs.Zone.{IsZone}
 use Rattle.dns_sectors.specs.Device.{Content}
-use Rattle.dns_layout.specs.Apex.{IsPlain}
+use Rattle.dns_layout.specs.Apex.{IsPlainApex}
 use Rattle.dns_layout.specs.Sector.{sector_at}
 use Rattle.dns_layout.specs.Own.{IsIntactIn}
 use Rattle.dns_layout.specs.Forms.{SaysRootIn, bank_number}
@@ -52,7 +52,7 @@ module _ (f : Format) (s : Shape) (d : Content) (r : Root) (found : IsFoundRootI
       })) there
 
   -- the root isn't refused
-  pub root_reached : IsPlain (sizes_of s).apex → (place : ℕ) → (e : OpenError) → (e ≡ OpenError.Device) ⊎ NamesSpoiltIn f d 0 1 e ⊎ RootRefusalIn f (sizes_of s) (length d) (sector_at d 0) e → NamesSector place e
+  pub root_reached : IsPlainApex (sizes_of s).apex → (place : ℕ) → (e : OpenError) → (e ≡ OpenError.Device) ⊎ NamesSpoiltIn f d 0 1 e ⊎ RootRefusalIn f (sizes_of s) (length d) (sector_at d 0) e → NamesSector place e
   root_reached plain place e (inl failed) = inl failed
   root_reached plain place OpenError.Device (inr why) = inl refl
   root_reached plain place OpenError.Blank (inr (inl spoilt)) = absurd spoilt

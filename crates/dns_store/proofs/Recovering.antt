@@ -11,14 +11,14 @@ use Rattle.dns_layout.specs.Journal.{Entry, size_of, octets_of_in, place_behind,
 use Rattle.dns_layout.specs.declared.format.Format.{Format}
 use Rattle.dns_journal.specs.declared.read.Cursor.{Cursor}
 use Rattle.dns_journal.specs.declared.read.ReadError.{ReadError}
-use Rattle.dns_journal.specs.Reads.{Ends, Finds, ReadsFrom, IsRefusal, NamesSpoilt}
+use Rattle.dns_journal.specs.Reads.{IsJournalEnd, FindsEntry, ReadsFrom, IsRefusal, NamesSpoilt}
 use Rattle.dns_journal.proofs.Heads.{first_read, none_is_read, refused_read}
 use Rattle.dns_store.specs.declared.root.OpenError.{OpenError}
 use Rattle.dns_store.specs.Root.{open_error}
 use Rattle.dns_store.specs.Damage.{NamesSpoiltIn}
 use Rattle.dns_store.specs.Versions.{Versions, newest_after}
 use Rattle.dns_store.specs.Opens.{AreChangesIn}
-use Rattle.dns_store.specs.Recovered.{AreLed, IsRecovered}
+use Rattle.dns_store.specs.Recovered.{AreLed, IsNewestRecovered}
 use Rattle.dns_store.proofs.Leaves.{newest_append}
 
 -- The first versions were recovered; the others are still to be read.
@@ -54,7 +54,7 @@ pub record Next (f : Format) (old now next : Cursor) (c : Content) (apex : Label
   pub valid : IsZone (record { apex = apex; records = after })
   pub goes : Goes f old next c apex base vs es after (changes ++ change ∷ [])
 
-module _ (f : Format) (old now next : Cursor) (c : Content) (apex : Labels) (base : List Record) (vs : Versions) (es : List Entry) (newest : List Record) (changes : List Change) (octets : List ℕ) (finds : Finds f now next c octets) where
+module _ (f : Format) (old now next : Cursor) (c : Content) (apex : Labels) (base : List Record) (vs : Versions) (es : List Entry) (newest : List Record) (changes : List Change) (octets : List ℕ) (finds : FindsEntry f now next c octets) where
   with_first : (front rest : Versions) (left : List Entry) → vs ≡ front ++ rest → AreLed base front changes → newest ≡ newest_after base front → ReadsFrom f now c left → AreChangesIn f apex newest rest left
       → place_behind now.at left ≡ place_behind old.at es → version_behind now.version left ≡ version_behind old.version es → open_behind now.opened left ≡ open_behind old.opened es
       → (e : Entry) (behind : List Entry) → left ≡ e ∷ behind → octets ≡ octets_of_in f e → ReadsFrom f next c behind → next.at ≡ now.at + size_of e → next.opened ≡ open_count e.head
@@ -94,7 +94,7 @@ module _ (f : Format) (old now next : Cursor) (c : Content) (apex : Labels) (bas
       with_first so.front so.rest so.left so.versions so.led so.newest_is so.reads so.are so.place so.version_is so.opened_is first.0 first.1 first.2 first.3 first.4 (omega (arith, finds.place, finds.next.count, there.0.count, count)) (finds.opened_is ∙ ap (λ (y : List ℕ). open_count y) same)
 
 -- no entry is left
-pub all_recovered : (f : Format) (old now : Cursor) (c : Content) (apex : Labels) (base : List Record) (vs : Versions) (es : List Entry) (newest : List Record) (changes : List Change) → Ends f now c → Goes f old now c apex base vs es newest changes → IsRecovered old now base vs es newest changes
+pub all_recovered : (f : Format) (old now : Cursor) (c : Content) (apex : Labels) (base : List Record) (vs : Versions) (es : List Entry) (newest : List Record) (changes : List Change) → IsJournalEnd f now c → Goes f old now c apex base vs es newest changes → IsNewestRecovered old now base vs es newest changes
 all_recovered f old now c apex base vs es newest changes ends so =
     let none : so.left ≡ [] = none_is_read f now c ends so.left so.reads in
     let rest : so.rest ≡ [] = no_more so.rest (subst (λ (l : List Entry). AreChangesIn f apex newest so.rest l) none so.are) in

@@ -5,7 +5,7 @@ use Rattle.std.proofs.lemmas.List.{append-nil, length-drop}
 use Rattle.dns_store.specs.Versions.{Versions, Kept, moved_to}
 use Rattle.dns_store.specs.Room.{entries_along, sectors_left}
 use Rattle.dns_store.specs.Staged.{entries_length}
-use Rattle.dns_store.specs.Checkpoint.{IsKeptNumber, entries_of, newest_sectors}
+use Rattle.dns_store.specs.Checkpoint.{IsKeptNumber, entries_after_base, newest_sectors}
 use Rattle.dns_store.proofs.Keeping.{drop_end}
 
 -- A checkpoint leaves the room that it is made for.
@@ -14,7 +14,7 @@ room_left k keep room n none le is =
     let es = entries_along k.loaded k.shown in
     let whole : sum_by (λ s. s) (drop (length k.shown - n) (entries_along k.loaded (k.shown ++ k.staged))) ≡ sum_by (λ s. s) (drop (length k.shown - n) (entries_along k.loaded k.shown)) =
     ap (λ (vs : Versions). sum_by (λ s. s) (drop (length k.shown - n) (entries_along k.loaded vs))) (ap (λ (vs : Versions). k.shown ++ vs) none ∙ append-nil k.shown) in
-    let size : length (entries_of k) ≡ length k.shown - k.base = length-drop k.base (entries_along k.loaded k.shown) ∙ ap (λ j. j - k.base) (entries_length k.loaded k.shown) in
+    let size : length (entries_after_base k) ≡ length k.shown - k.base = length-drop k.base (entries_along k.loaded k.shown) ∙ ap (λ j. j - k.base) (entries_length k.loaded k.shown) in
     let there = is.there in
     let fits = is.fits in
     ⊎_elim
@@ -23,7 +23,7 @@ room_left k keep room n none le is =
     let nothing : sum_by (λ s. s) (drop (length k.shown - n) (entries_along k.loaded k.shown)) ≡ 0 = ap (λ j. sum_by (λ s. s) (drop j (entries_along k.loaded k.shown))) end ∙ ap (λ (xs : List ℕ). sum_by (λ s. s) xs) (drop_end (entries_along k.loaded k.shown)) in
     omega (arith, whole, nothing, le)))
     (λ (some : k.base ≤ length k.shown).
-    (let sum : k.base + (length (entries_of k) - n) ≡ length k.shown - n = omega (arith, size, some, there) in
-    let same : newest_sectors (λ s. s) (entries_of k) n ≡ sum_by (λ s. s) (drop (length k.shown - n) (entries_along k.loaded k.shown)) =
-    ap (λ (xs : List ℕ). sum_by (λ s. s) xs) (drop-drop (length (entries_of k) - n) k.base es ∙ ap (λ j. drop j es) sum) in
+    (let sum : k.base + (length (entries_after_base k) - n) ≡ length k.shown - n = omega (arith, size, some, there) in
+    let same : newest_sectors (λ s. s) (entries_after_base k) n ≡ sum_by (λ s. s) (drop (length k.shown - n) (entries_along k.loaded k.shown)) =
+    ap (λ (xs : List ℕ). sum_by (λ s. s) xs) (drop-drop (length (entries_after_base k) - n) k.base es ∙ ap (λ j. drop j es) sum) in
     omega (arith, whole, same, fits, le))) (cases_lt (length k.shown) k.base)

@@ -37,16 +37,16 @@ pub record IsMostKept {X : Type 0} (sectors : X → ℕ) (entries : List X) (kee
   pub fits : newest_sectors sectors entries n ≤ room
   pub most : (m : ℕ) → m ≤ keep → m ≤ length entries → newest_sectors sectors entries m ≤ room → m ≤ n
 
--- how many sectors the entry of each version behind the base takes
-abbrev pub entries_of : Kept → List ℕ
-entries_of k = drop k.base (entries_along k.loaded k.shown)
+-- how many sectors the entry of each version after the base takes
+abbrev pub entries_after_base : Kept → List ℕ
+entries_after_base k = drop k.base (entries_along k.loaded k.shown)
 
 -- So many of the newest changes a checkpoint keeps.
 abbrev pub IsKeptNumber : Kept → ℕ → ℕ → ℕ → Type 0
-IsKeptNumber k keep room n = IsMostKept (λ size. size) (entries_of k) keep (k.shape.journal - room) n
+IsKeptNumber k keep room n = IsMostKept (λ size. size) (entries_after_base k) keep (k.shape.journal - room) n
 
 -- Nothing is staged, and these are the base version and the changes from there to the durable one.
-pub record IsLent {D : Type 0} {g : Ghosts D} (journal : Journal D g) (base : Zone)
+pub record IsBaseLent {D : Type 0} {g : Ghosts D} (journal : Journal D g) (base : Zone)
     (changes : List Change) (k : Kept) : Type 0 where
   pub keeps : keeps_versions journal k
   pub nothing_staged : k.staged ≡ []

@@ -14,7 +14,7 @@ use Rattle.dns_layout.specs.Forms.{SaysRootIn, bank_number}
 use Rattle.dns_layout.specs.declared.format.Format.{Format}
 use Rattle.dns_layout.specs.declared.format.Format.TheVariants.{Two}
 use Rattle.dns_layout.specs.declared.root.Root.{Root}
-use Rattle.dns_journal.specs.Reads.{Finds, IsRefusal, IsSpoilt, AreIntact, IsReached as IsReachedAt}
+use Rattle.dns_journal.specs.Reads.{FindsEntry, IsRefusal, IsSpoilt, AreIntact, IsSectorReached as IsReachedAt}
 use Rattle.dns_journal.specs.declared.read.Cursor.{Cursor}
 use Rattle.dns_journal.specs.declared.read.ReadError.{ReadError}
 use Rattle.dns_store.specs.declared.root.OpenError.{OpenError}
@@ -29,7 +29,7 @@ use Rattle.dns_store.specs.Snapshot.{IsReachedPartIn}
 abbrev pub NamesSector : ℕ → OpenError → Type 0
 NamesSector place e = (e ≡ Device) ⊎ (e ≡ OutOfMemory) ⊎ (e ≡ Damaged place)
 
--- A sector is named, from a place on and before another, that is neither zeros nor its own.
+-- A sector is named, from one position on and before another, that is neither zeros nor its own.
 abbrev pub NamesSpoiltIn : Format → Content → ℕ → ℕ → OpenError → Type 0
 NamesSpoiltIn f d from until Device = ⊥
 NamesSpoiltIn f d from until Blank = ⊥
@@ -37,7 +37,7 @@ NamesSpoiltIn f d from until (Damaged place) = IsSpoilt f d from until place
 NamesSpoiltIn f d from until Geometry = ⊥
 NamesSpoiltIn f d from until OutOfMemory = ⊥
 
--- The sector is neither zeros nor its own, and isn't the one that stood there before.
+-- The sector is neither zeros nor its own, and isn't the one that was there before.
 pub record IsAlteredAt (f : Format) (before now : Content) (place : ℕ) : Type 0 where
   pub spoilt : IsIntactIn f place (sector_at now place) → ⊥
   pub other : sector_at now place ≢ sector_at before place
@@ -53,8 +53,8 @@ NamesAlteredIn f before now OutOfMemory = ⊥
 abbrev pub NamesAltered : Content → Content → OpenError → Type 0
 NamesAltered before now e = NamesAlteredIn Two before now e
 
--- A change that was read, the version that it makes, and the cursor behind its entry.
-pub record Step : Type 0 where
+-- A change that was read, the version that it makes, and the cursor after its entry.
+pub record ReadChange : Type 0 where
   pub change : Change
   pub after : List Record
   pub behind : Cursor
@@ -62,15 +62,15 @@ pub record Step : Type 0 where
 -- The entry at the cursor holds the change, which can be made of the version before and makes a valid zone of
 -- it.
 pub record IsStepAtIn (f : Format) (apex : Labels) (c : Content) (at : Cursor) (before : List Record)
-    (s : Step) : Type 0 where
-  pub found : Finds f at s.behind c (entry s.change)
+    (s : ReadChange) : Type 0 where
+  pub found : FindsEntry f at s.behind c (entry s.change)
   pub written : HasEntry s.change
   pub fits : change_fault s.change before ≡ None
   pub makes : applied s.change before ≡ s.after
   pub valid : IsZone (record { apex = apex; records = s.after })
 
--- Such entries stand one behind the other, up to that cursor and that version.
-abbrev pub AreStepsIn : Format → Labels → Content → Cursor → List Record → List Step → Cursor
+-- Such entries follow one another, up to that cursor and that version.
+abbrev pub AreStepsIn : Format → Labels → Content → Cursor → List Record → List ReadChange → Cursor
     → List Record → Type 0
 AreStepsIn f apex c from base [] at newest = (at ≡ from) × (newest ≡ base)
 AreStepsIn f apex c from base (s ∷ steps) at newest =
@@ -92,14 +92,14 @@ pub record IsNoStepAtIn (f : Format) (apex : Labels) (c : Content) (at : Cursor)
   pub place_is : place ≡ at.at
   pub octets : List ℕ
   pub behind : Cursor
-  pub found : Finds f at behind c octets
+  pub found : FindsEntry f at behind c octets
   pub none : IsNoStep apex before octets
 
--- Behind some entries that are right, the sector belongs to one that is wrong: a body, or the head of no such
+-- After some entries that are right, the sector belongs to one that is wrong: a body, or the head of no such
 -- change.
 pub record IsWrongEntryIn (f : Format) (apex : Labels) (base : List Record) (from : Cursor) (c : Content)
     (place : ℕ) : Type 0 where
-  pub steps : List Step
+  pub steps : List ReadChange
   pub at : Cursor
   pub newest : List Record
   pub read : AreStepsIn f apex c from base steps at newest
@@ -135,7 +135,7 @@ pub record IsNoZoneAtIn (f : Format) (s : Shape) (x : List ℕ) (r : Root) (c : 
   pub holds : HoldsSnapshotIn f x (bank_at s r) c octets
   pub none : IsNoSnapshot s.apex octets
 
--- The snapshot is a zone's, and the sector is wrong in the journal behind it.
+-- The snapshot is a zone's, and the sector is wrong in the journal after it.
 pub record IsWrongBehindIn (f : Format) (s : Shape) (x : List ℕ) (r : Root) (c : Content)
     (place : ℕ) : Type 0 where
   pub base : List Record
@@ -166,11 +166,11 @@ NamesWrongIn f s c OutOfMemory = Unit {0}
 abbrev pub NamesWrong : Shape → Content → OpenError → Type 0
 NamesWrong s c e = NamesWrongIn Two s c e
 
--- Behind entries that are right, of which each sector is intact, reading reaches the sector: where the next
+-- After entries that are right, of which each sector is intact, reading reaches the sector: where the next
 -- head is due, or a body that the head there announces.
 pub record IsReachedEntryIn (f : Format) (apex : Labels) (base : List Record) (from : Cursor)
     (c : Content) (place : ℕ) : Type 0 where
-  pub steps : List Step
+  pub steps : List ReadChange
   pub at : Cursor
   pub newest : List Record
   pub read : AreStepsIn f apex c from base steps at newest
@@ -178,7 +178,7 @@ pub record IsReachedEntryIn (f : Format) (apex : Labels) (base : List Record) (f
   pub due : at.at < at.until
   pub reached : IsReachedAt f at c place
 
--- The snapshot is a zone's and each of its sectors is intact, and the sector is reached in the journal behind
+-- The snapshot is a zone's and each of its sectors is intact, and the sector is reached in the journal after
 -- it.
 pub record IsReachedBehindIn (f : Format) (s : Shape) (x : List ℕ) (r : Root) (c : Content)
     (place : ℕ) : Type 0 where
@@ -189,13 +189,13 @@ pub record IsReachedBehindIn (f : Format) (s : Shape) (x : List ℕ) (r : Root) 
   pub reached : IsReachedEntryIn f s.apex base (journal_from s r) c place
 
 -- Reading reaches the sector in the bank that the root x names: it is a part of the snapshot, or of the
--- journal behind that.
+-- journal after that.
 abbrev pub IsReachedBankIn : Format → Shape → List ℕ → Root → Content → ℕ → Type 0
 IsReachedBankIn f s x r c place =
     ((index : ℕ) × (place ≡ bank_at s r + index) × IsReachedPartIn f x (bank_at s r) c index)
     ⊎ IsReachedBehindIn f s x r c place
 
--- Reading a store of this shape reaches the sector: it is the first; or, behind the root of such a store, one
+-- Reading a store of this shape reaches the sector: it is the first; or, after the root of such a store, one
 -- of the bank that the root names.
 abbrev pub IsReachedIn : Format → Shape → Content → ℕ → Type 0
 IsReachedIn f s c place =
@@ -203,5 +203,5 @@ IsReachedIn f s c place =
     ⊎ ((r : Root) × IsFoundRootIn f (sizes_of s) (length c) (sector_at c 0) r
     × IsReachedBankIn f s (sector_at c 0) r c place)
 
-abbrev pub IsReached : Shape → Content → ℕ → Type 0
-IsReached s c place = IsReachedIn Two s c place
+abbrev pub IsSectorRead : Shape → Content → ℕ → Type 0
+IsSectorRead s c place = IsReachedIn Two s c place

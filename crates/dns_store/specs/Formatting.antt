@@ -7,7 +7,7 @@ use Rattle.dns_layout.specs.Sector.{sector_at, blank, snapshot_sectors}
 use Rattle.dns_layout.specs.Forms.{SaysPart, SaysRoot}
 use Rattle.dns_layout.specs.declared.root.Root.{Root}
 use Rattle.dns_layout.specs.Own.{Own}
-use Rattle.dns_journal.specs.Bank.{piece, part_of, Holds}
+use Rattle.dns_journal.specs.Bank.{piece, part_of, HoldsOctets}
 use Rattle.dns_store.specs.Versions.{Shape, Opened}
 use Rattle.dns_store.specs.Opens.{opens}
 
@@ -22,16 +22,15 @@ pub record IsGeometry (snapshot journal count : ℕ) : Type 0 where
 -- The part of a new store's snapshot with this index, its own sector there.
 pub record IsNewPart (octets : List ℕ) (index : ℕ) (x : List ℕ) : Type 0 where
   pub says : SaysPart x (part_of 0 0 index)
-  pub holds : Holds x (piece octets index)
+  pub holds : HoldsOctets x (piece octets index)
   pub own : Own (index + 1) x
 
--- The sector that stands at this index behind the root of a new store: a part of the snapshot, or zeros
--- behind the last.
+-- The sector at this index after the root of a new store: a part of the snapshot, or zeros after the last.
 pub record IsLaid (octets : List ℕ) (index : ℕ) (x : List ℕ) : Type 0 where
   pub part : index < snapshot_sectors (length octets) → IsNewPart octets index x
   pub none : snapshot_sectors (length octets) ≤ index → x ≡ blank
 
--- ... at each place behind the root, up to that one
+-- ... at each index after the root, up to that position
 abbrev pub IsLaidTo : List ℕ → ℕ → Content → Type 0
 IsLaidTo octets place c = (index : ℕ) → index + 1 < place → IsLaid octets index (sector_at c (index + 1))
 
@@ -40,7 +39,7 @@ abbrev pub HasBlankRoot : Content → Type 0
 HasBlankRoot c = sector_at c 0 ≡ blank
 
 -- The root, the snapshot with these octets in the first bank, and zeros everywhere else.
-pub record IsMade (root : Root) (octets : List ℕ) (count : ℕ) (c : Content) : Type 0 where
+pub record IsFormatted (root : Root) (octets : List ℕ) (count : ℕ) (c : Content) : Type 0 where
   pub size : length c ≡ count
   pub says : SaysRoot (sector_at c 0) root
   pub own : Own 0 (sector_at c 0)
@@ -57,4 +56,5 @@ LeftByFormat g shape records device c =
 
 -- the same of one step: what it might have left before, a blank root, or all of it
 abbrev pub LeftByMaking : {D : Type 0} → Ghosts D → Root → List ℕ → ℕ → D → Content → Type 0
-LeftByMaking g root octets count device c = g.may_leave device c ⊎ HasBlankRoot c ⊎ IsMade root octets count c
+LeftByMaking g root octets count device c = g.may_leave device c ⊎ HasBlankRoot c
+    ⊎ IsFormatted root octets count c

@@ -10,7 +10,7 @@ use Rattle.dns_store.specs.Recovered.{AreLed}
 
 -- The journal keeps the versions; this is the zone at the base, and these are the changes from there to the
 -- newest version.
-pub record Holds {D : Type 0} {g : Ghosts D} (journal : Journal D g) (base : Zone)
+pub record HoldsVersions {D : Type 0} {g : Ghosts D} (journal : Journal D g) (base : Zone)
     (changes : List Change) (k : Kept) : Type 0 where
   pub keeps : keeps_versions journal k
   pub base_is : base ≡ record { apex = k.shape.apex; records = version_at k k.base }

@@ -12,7 +12,7 @@ use Rattle.dns_layout.specs.declared.root.Root.{Root}
 use Rattle.dns_layout.specs.declared.format.Format.TheVariants.{One}
 use Rattle.dns_store.specs.declared.root.OpenError.{OpenError}
 use Rattle.dns_store.specs.declared.root.OpenError.TheVariants as refused
-use Rattle.dns_journal.specs.State.{IsOpened}
+use Rattle.dns_journal.specs.State.{IsOpenedTimes}
 use Rattle.dns_journal.specs.declared.turn.TurnError.{TurnError}
 use Rattle.dns_journal.specs.declared.turn.TurnError.TheVariants as written
 use Rattle.dns_store.specs.declared.checkpoint.CheckpointError.{CheckpointError}
@@ -42,7 +42,8 @@ pub record IsMigrated (shape : Shape) (before after : Opened) : Type 0 where
 -- writing.
 abbrev pub old_opens : Shape → Opened → Content → Type 0
 old_opens shape o c =
-    (s : Stored) × OpensAsIn One (sizes_of shape) c s × IsPartOfIn One shape.apex o s × IsOpened o.openings c
+    (s : Stored) × OpensAsIn One (sizes_of shape) c s × IsPartOfIn One shape.apex o s
+    × IsOpenedTimes o.openings c
 
 -- `migrate` and then `open` open the content as these versions: what format 2 holds as it is, and what format
 -- 1 holds with the base that is chosen.
@@ -55,8 +56,8 @@ abbrev pub MayMigrate : {D : Type 0} → Ghosts D → Shape → D → Type 0
 MayMigrate g shape device = (c : Content) → g.may_leave device c → (o : Opened) × opens_migrated shape o c
 
 -- `migrate` and then `open` open it as they would have opened a content that a crash might have left of the
--- device before: its version and base were possible together. Which versions there were before that base
--- stands on no device, so this holds whichever they were.
+-- device before: its version and base were possible together. Which versions there were before that base is
+-- stored on no device, so this holds whichever they were.
 abbrev pub MigratesAsPossible : {D : Type 0} → Ghosts D → Shape → D → Content → Type 0
 MigratesAsPossible g shape device c =
     (d : Content) × g.may_leave device d
@@ -69,7 +70,7 @@ pub record IsReadOld (shape : Shape) (o : Opened) (s : Stored) (c : Content) (ro
     : Type 0 where
   pub opens : OpensAsIn One (sizes_of shape) c s
   pub part : IsPartOfIn One shape.apex o s
-  pub opened : IsOpened o.openings c
+  pub opened : IsOpenedTimes o.openings c
   pub says : SaysRootIn One (sector_at c 0) root
   pub version_is : version ≡ version_of s
   pub base_is : base ≡ record { apex = shape.apex; records = base_of o }
@@ -133,8 +134,8 @@ write_error written.Device = Device
 write_error written.Closed = Device
 write_error written.OutOfMemory = OutOfMemory
 
--- Why a device isn't migrated: reading it by the rules of format 1 was refused, for what stands there; or the
--- newest version takes more sectors of format 2 than a snapshot has.
+-- Why a device isn't migrated: reading it by the rules of format 1 was refused, for what is stored there; or
+-- the newest version takes more sectors of format 2 than a snapshot has.
 pub record IsUnread (shape : Shape) (count : ℕ) (c : Content) (e : MigrateError) : Type 0 where
   pub error : OpenError
   pub named : e ≡ migrate_error error

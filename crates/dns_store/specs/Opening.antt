@@ -20,7 +20,7 @@ use Rattle.dns_journal.specs.State.{device_of, newest_of}
 use Rattle.dns_zone.specs.Zone.{Zone}
 use Rattle.dns_store.specs.declared.kept_store.KeptStore.{KeptStore}
 use Rattle.dns_store.specs.Opens.{base_of, fresh, opens}
-use Rattle.dns_store.specs.Holding.{Holds}
+use Rattle.dns_store.specs.Holding.{HoldsVersions}
 use Rattle.dns_store.specs.Recovered.{AreLed}
 
 -- sizes that a store may have
@@ -50,8 +50,8 @@ IsRead sizes c o s root end base changes newest = IsReadIn Two sizes c o s root 
 
 -- Why a store that was opened so often is not opened again: the device failed, memory was refused, or it was
 -- opened too often.
-abbrev pub IsStopped : ℕ → OpenError → Type 0
-IsStopped openings e = (e ≡ Device) ⊎ (e ≡ OutOfMemory) ⊎ ((e ≡ Damaged 0) × (2 ^ 64 - 1 ≤ openings))
+abbrev pub IsNotReopened : ℕ → OpenError → Type 0
+IsNotReopened openings e = (e ≡ Device) ⊎ (e ≡ OutOfMemory) ⊎ ((e ≡ Damaged 0) × (2 ^ 64 - 1 ≤ openings))
 
 -- Each crash leaves a store that opens.
 abbrev pub MayOpen : {D : Type 0} → Ghosts D → Shape → D → Type 0
@@ -68,14 +68,14 @@ OpensAsPossible g shape device c =
 -- Why it isn't opened, by how often a content was opened that a crash might have left of the device before.
 abbrev pub StopsPossible : {D : Type 0} → Ghosts D → Shape → D → OpenError → Type 0
 StopsPossible g shape device e =
-    (d : Content) × g.may_leave device d × ((o : Opened) → opens shape o d → IsStopped o.openings e)
+    (d : Content) × g.may_leave device d × ((o : Opened) → opens shape o d → IsNotReopened o.openings e)
 
 abbrev pub store_device : {D I : Type 0} {g : Ghosts D} → KeptStore D I g → D
 store_device store = device_of store.journal
 
 -- The store keeps these versions.
 abbrev pub keeps : {D I : Type 0} {g : Ghosts D} → KeptStore D I g → Kept → Type 0
-keeps store k = Holds store.journal store.base store.changes.items k
+keeps store k = HoldsVersions store.journal store.base store.changes.items k
 
 -- The store keeps these versions from here on, and this is the newest.
 pub record IsTaken {D I : Type 0} {g : Ghosts D} (shape : Shape) (o : Opened) (store : KeptStore D I g)

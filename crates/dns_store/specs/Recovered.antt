@@ -13,9 +13,8 @@ AreLed before (v ∷ vs) (c ∷ cs) = IsChange before v c × AreLed v vs cs
 AreLed before [] (c ∷ cs) = ⊥
 AreLed before (v ∷ vs) [] = ⊥
 
--- The newest of the versions behind the base, and the changes that lead to it; the cursor is behind the
--- entries.
-pub record IsRecovered (old new : Cursor) (base : List Record) (vs : Versions) (es : List Entry)
+-- The newest of the versions after the base, and the changes that lead to it; the cursor is past the entries.
+pub record IsNewestRecovered (old new : Cursor) (base : List Record) (vs : Versions) (es : List Entry)
     (newest : List Record) (changes : List Change)
     : Type 0 where
   pub newest_is : newest ≡ newest_after base vs

@@ -1,6 +1,6 @@
--- What stands in a device's first sector. Words without a format are of format 2, or of both.
+-- What is stored in a device's first sector. Words without a format are of format 2, or of both.
 use Rattle.std.specs.Prelude.{◌≡◌, ◌≢◌, ◌⊎◌, ◌≤◌, ◌<◌, ◌-◌, ◌^◌, ℕ, List}
-use Rattle.dns_layout.specs.Apex.{IsPlain, apex_octets}
+use Rattle.dns_layout.specs.Apex.{IsPlainApex, apex_octets}
 use Rattle.dns_layout.specs.Sector.{blank, tag, open_count, number, snapshot_length, snapshot_room, clear_in}
 use Rattle.dns_layout.specs.Sector.{apex_field_in}
 use Rattle.dns_layout.specs.Sector.{snapshot_sectors_in, root_tag_in}
@@ -21,7 +21,7 @@ pub record IsSoundIn (f : Format) (x : List ℕ) : Type 0 where
   pub bank : number x ≤ 1
   pub clear : clear_in f x ≤ 1
   pub name : List ℕ
-  pub plain : IsPlain name
+  pub plain : IsPlainApex name
   pub apex : apex_field_in f x ≡ apex_octets name
   pub fits : snapshot_sectors_in f (snapshot_length x) ≤ snapshot_room x
   pub more : open_count x < 2 ^ 64 - 1
@@ -43,7 +43,7 @@ RootRefusalIn f s count x Geometry = IsSoundIn f x × (IsRootIn f s x → count 
 RootRefusalIn f s count x OutOfMemory = ⊥
 
 -- Why a device isn't opened as a store of this shape: sizes that no store has, what its first sector is; or
--- another sector isn't what it should be, behind a root of that shape.
+-- another sector isn't what it should be, after a root of that shape.
 abbrev pub OpenRefusalIn : Format → Shape → ℕ → List ℕ → OpenError → Type 0
 OpenRefusalIn f s count x Device = Unit {0}
 OpenRefusalIn f s count x Blank = x ≡ blank

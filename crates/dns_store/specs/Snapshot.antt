@@ -16,8 +16,8 @@ use Rattle.dns_journal.specs.declared.read.ReadError.TheVariants.{Device, Damage
 abbrev pub parts_in : Format → List ℕ → ℕ
 parts_in f x = snapshot_sectors_in f (snapshot_length x)
 
--- The parts of the snapshot that the root x names stand from this place on, with zeros behind its end, and
--- these are its octets.
+-- The parts of the snapshot that the root x names are stored from this position on, with zeros after its end,
+-- and these are its octets.
 pub record HoldsSnapshotIn (f : Format) (x : List ℕ) (at : ℕ) (c : Content) (octets : List ℕ) : Type 0 where
   pub parts : ArePartsIn f x 0 (sectors_from c at (parts_in f x))
   pub zeros : AreZeros (drop (snapshot_length x) (flat_map (payload_in f) (sectors_from c at (parts_in f x))))
@@ -32,7 +32,7 @@ pub record IsWrongPartIn (f : Format) (x : List ℕ) (at : ℕ) (c : Content) (p
   pub before : ArePartsIn f x 0 (sectors_from c at index)
   pub wrong : IsPartIn f x index (sector_at c place) → ⊥
 
--- All parts are the expected ones, and the last has something else than zeros behind the snapshot's end.
+-- All parts are the expected ones, and the last has something other than zeros after the snapshot's end.
 pub record IsWrongTailIn (f : Format) (x : List ℕ) (at : ℕ) (c : Content) (place : ℕ) : Type 0 where
   pub place_is : place + 1 ≡ at + parts_in f x
   pub expected : ArePartsIn f x 0 (sectors_from c at (parts_in f x))
@@ -49,7 +49,7 @@ IsBadSnapshotIn f x at c Device = Unit {0}
 IsBadSnapshotIn f x at c (Damaged place) = IsWrongPartIn f x at c place ⊎ IsWrongTailIn f x at c place
 IsBadSnapshotIn f x at c OutOfMemory = Unit {0}
 
--- Reading the snapshot that the root x names, from this place on, reaches this part: those before it are
+-- Reading the snapshot that the root x names, from this position on, reaches this part: those before it are
 -- intact and the expected ones.
 pub record IsReachedPartIn (f : Format) (x : List ℕ) (at : ℕ) (c : Content) (index : ℕ) : Type 0 where
   pub within : index < parts_in f x

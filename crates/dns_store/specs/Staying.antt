@@ -13,13 +13,13 @@ abbrev pub has_crowded_alias : List Record → Labels → Bool
 has_crowded_alias records name =
     nat_lt 1 (length (records_at records name)) && not (is_none_of (rrset records name type_cname))
 
--- The record stands under the apex, is no NS at a wildcard, and is at no name of a CNAME with other records.
+-- The record is under the apex, is no NS at a wildcard, and is at no name of a CNAME with other records.
 abbrev pub may_stand : Labels → List Record → Record → Bool
 may_stand apex records r =
     under r.owner apex && not (r.rtype == type_ns && is_wildcard r.owner)
     && not (has_crowded_alias records r.owner)
 
--- The apex owns a SOA and an NS, the records are not too many, and each that came may stand where it does.
+-- The apex owns a SOA and an NS, the records are not too many, and each that came may be where it is.
 abbrev pub stays_zone : Labels → List Record → Change → Bool
 stays_zone apex records c =
     not (is_none_of (rrset records apex type_soa)) && not (is_none_of (rrset records apex type_ns))

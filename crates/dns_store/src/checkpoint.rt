@@ -89,7 +89,7 @@ impl From<ChangeError> for CheckpointError {
 
 impl<D: Sectors, I: ZoneIndex> KeptStore<D, I> {
     ghost use Rattle.dns_store.specs.Opening.{store_device};
-    ghost use Rattle.dns_store.specs.Checkpoint.{IsKeptNumber, IsLent};
+    ghost use Rattle.dns_store.specs.Checkpoint.{IsKeptNumber, IsBaseLent};
 
     // Writes the new base's snapshot and the entries of the changes that are kept into the bank that isn't in
     // use, and makes them durable; then turns the root to that bank. It makes all growths before the first
@@ -97,24 +97,26 @@ impl<D: Sectors, I: ZoneIndex> KeptStore<D, I> {
     pub(crate) fn move_base(&mut self, keep: usize, room: usize) -> Result<(), CheckpointError>
         // A crash at any moment of it leaves the shown version, with the old base or the new one.
         ensures any_moment { (k : Kept) (n : ℕ)
-            → IsLent self.old.journal self.old.base self.old.changes.items k
+            → IsBaseLent self.old.journal self.old.base self.old.changes.items k
             → IsKeptNumber k keep room n → LeavesOnly D.moment D.left_since (store_device self.old)
             (store_device self.new) (OpensAsEither opens k (length k.shown - n)) }
-        ensures moved { (k : Kept) (n : ℕ) → IsLent self.old.journal self.old.base self.old.changes.items k
+        ensures moved { (k : Kept) (n : ℕ)
+            → IsBaseLent self.old.journal self.old.base self.old.changes.items k
             → IsKeptNumber k keep room n
-            → OnOk result (IsLent self.new.journal self.new.base self.new.changes.items
+            → OnOk result (IsBaseLent self.new.journal self.new.base self.new.changes.items
             (moved_to (length k.shown - n) k)) }
-        ensures failed { (k : Kept) (n : ℕ) → IsLent self.old.journal self.old.base self.old.changes.items k
+        ensures failed { (k : Kept) (n : ℕ)
+            → IsBaseLent self.old.journal self.old.base self.old.changes.items k
             → IsKeptNumber k keep room n → result ≡ Err CheckpointError.Device
             → (k.closed ≡ false) × IsClosedBy self.new.journal (closed_between (length k.shown - n) k) }
         ensures too_large { (k : Kept) (n : ℕ)
-            → IsLent self.old.journal self.old.base self.old.changes.items k
+            → IsBaseLent self.old.journal self.old.base self.old.changes.items k
             → IsKeptNumber k keep room n → result ≡ Err CheckpointError.ZoneTooLarge
             → k.shape.snapshot < sectors_of_snapshot (version_at k (length k.shown - n)) }
-        ensures fits { (k : Kept) (n : ℕ) → IsLent self.old.journal self.old.base self.old.changes.items k
+        ensures fits { (k : Kept) (n : ℕ) → IsBaseLent self.old.journal self.old.base self.old.changes.items k
             → IsKeptNumber k keep room n
             → OnOk result (sectors_of_snapshot (version_at k (length k.shown - n)) ≤ k.shape.snapshot) }
-        ensures right { (k : Kept) → IsLent self.old.journal self.old.base self.old.changes.items k
+        ensures right { (k : Kept) → IsBaseLent self.old.journal self.old.base self.old.changes.items k
             → result ≡ Err CheckpointError.WrongChanges → ⊥ }
         ensures closed { is_closed self.old.journal ≡ true ↔ result ≡ Err CheckpointError.Closed }
         ensures device { result ≡ Err CheckpointError.Device

@@ -1,4 +1,4 @@
-//! The format that a device is kept in, told by its first sector.
+//! The format that a device is kept in, identified by its first sector.
 ghost use Rattle.std.specs.Prelude.{◌≡◌, ◌↔◌, IsTrue, IfOk, Ok};
 ghost use Rattle.dns_sectors.specs.Device.{CountsFailure};
 ghost use Rattle.dns_layout.specs.Sector.{sector_at, tag, root_tag_in};
@@ -8,7 +8,7 @@ ghost use Rattle.dns_store.specs.Formats.{IsFormat};
 use dns_layout::{Format, LayoutError, Root};
 use dns_sectors::{DeviceError, Sector, Sectors};
 
-/// What stands in a device's first sector.
+/// What is stored in a device's first sector.
 #[derive(Clone, Copy, Debug, PartialEq, Eq)]
 pub enum DeviceFormat {
     /// Zeros: no store was ever made on the device.

@@ -1,4 +1,4 @@
-//! A store is made on a device: its root is made blank, everything behind it is written, and then the root.
+//! A store is made on a device: its root is made blank, everything after it is written, and then the root.
 ghost use Rattle.std.specs.Prelude.{◌≡◌, ◌⊎◌, ◌≤◌, ◌<◌, ◌+◌, ◌-◌, ◌*◌, ◌^◌, ◌↔◌, ℕ, List, length, IsTrue};
 ghost use Rattle.std.specs.Prelude.{IfOk, OnOk};
 ghost use Rattle.std.specs.List.{flat_map};
@@ -8,7 +8,8 @@ ghost use Rattle.dns_layout.specs.Sector.{sector_at, snapshot_sectors as sectors
 ghost use Rattle.dns_journal.specs.Reads.{HasRisen};
 ghost use Rattle.dns_store.specs.Versions.{shape_given};
 ghost use Rattle.dns_store.specs.Opens.{opens};
-ghost use Rattle.dns_store.specs.Formatting.{IsGeometry, IsLaid, IsLaidTo, HasBlankRoot, IsMade, first_of};
+ghost use Rattle.dns_store.specs.Formatting.{IsGeometry, IsLaid, IsLaidTo, HasBlankRoot, IsFormatted};
+ghost use Rattle.dns_store.specs.Formatting.{first_of};
 ghost use Rattle.dns_store.specs.Formatting.{LeftByFormat};
 ghost use Rattle.dns_store.specs.Formatting.{LeftByMaking};
 
@@ -143,14 +144,15 @@ pub(crate) fn snapshot_of<I: ZoneIndex>(
     Ok(octets)
 }
 
-// Makes the root blank, writes everything behind it, and then the root.
+// Makes the root blank, writes everything after it, and then the root.
 fn make<D: Sectors>(device: &mut D, root: &Root, octets: &[u8]) -> Result<(), DeviceError>
     requires some { 0 < D.count device.old }
     requires small { D.count device.old ≤ 2 ^ 20 }
     ensures any_moment { D.is_honest device.old → LeavesOnly D.moment D.left_since device.old device.new
         (LeftByMaking D.Sectors root.now octets.now (D.count device.old) device.old) }
     ensures made { D.is_honest device.old → OnOk result
-        ((c : List (List ℕ)) → D.may_leave device.new c → IsMade root.now octets.now (D.count device.old) c) }
+        ((c : List (List ℕ)) → D.may_leave device.new c
+        → IsFormatted root.now octets.now (D.count device.old) c) }
     ensures failed { CountsFailure result (D.failed device.old) (D.failed device.new) }
     ensures honest { D.is_honest device.new ↔ D.is_honest device.old }
     ensures count { D.count device.new ≡ D.count device.old }
@@ -169,7 +171,7 @@ fn make<D: Sectors>(device: &mut D, root: &Root, octets: &[u8]) -> Result<(), De
     Ok(())
 }
 
-// Writes each sector behind the root, in order, and makes them durable.
+// Writes each sector after the root, in order, and makes them durable.
 fn write_behind_root<D: Sectors>(device: &mut D, octets: &[u8]) -> Result<(), DeviceError>
     requires { D.count device.old ≤ 2 ^ 20 }
     ensures laid { D.is_honest device.old → OnOk result
@@ -191,7 +193,7 @@ fn write_behind_root<D: Sectors>(device: &mut D, octets: &[u8]) -> Result<(), De
     device.sync()
 }
 
-// The sector at this index behind the root of a new store with this snapshot.
+// The sector at this index after the root of a new store with this snapshot.
 fn sector_behind(octets: &[u8], index: u32) -> Sector
     ensures { IsLaid octets.now index result }
 {

@@ -36,7 +36,7 @@ pub(crate) fn zone_of<I: ZoneIndex>(
     }
 }
 
-// The records whose plain forms the octets are, one behind the other.
+// The records whose plain forms the octets are, one after the other.
 fn read_records(alloc: Heap, octets: &[u8]) -> Result<Vec<Record, Heap>, ChangeError>
     ensures found { IfOk result (λ records. AreStored octets.now records.items) }
     ensures refused { IfErr result (λ e. (e ≡ ChangeError.OutOfMemory)

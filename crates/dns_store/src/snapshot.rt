@@ -16,8 +16,8 @@ use dns_layout::{Format, Root, SnapshotPart, are_zeros, payload, snapshot_sector
 use dns_memory::Heap;
 use dns_sectors::{Sector, Sectors};
 
-// The octets of the snapshot that the root names, which stands from this place on. What it finds and what it
-// refuses is said of each content of which the device's is an altered one.
+// The octets of the snapshot that the root names, which is stored from this position on. What it finds and
+// what it refuses is said of each content of which the device's is an altered one.
 pub(crate) fn read_snapshot<D: Sectors>(
     alloc: Heap,
     device: &mut D,
@@ -53,7 +53,8 @@ pub(crate) fn read_snapshot<D: Sectors>(
     Ok(octets)
 }
 
-// Reads the parts of the snapshot that the root names, from this place on, and puts their octets at the end.
+// Reads the parts of the snapshot that the root names, from this position on, and puts their octets at the
+// end.
 fn read_parts<D: Sectors>(
     device: &mut D,
     format: Format,
@@ -105,7 +106,7 @@ fn is_part(format: Format, root: &Root, index: usize, sector: &Sector) -> bool
     part.bank_open == root.bank_open && part.base == root.base && part.index as usize == index
 }
 
-// Nothing but zeros from a place on.
+// Nothing but zeros from an offset on.
 fn has_end(octets: &[u8], from: usize) -> bool
     ensures { IsTrue result ↔ ((length octets.now ≤ from) ⊎ AreZeros (drop from octets.now)) }
 {

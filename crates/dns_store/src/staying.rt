@@ -14,8 +14,8 @@ use dns_records::Record;
 use dns_records::types::{CNAME, NS, SOA};
 use dns_zone::{Zone, ZoneIndex};
 
-// The zone of a set that a change made of a zone's. Where all that came may stand there, the rest is not
-// looked at again.
+// The zone of a set that a change made of a zone's. Where all that came may be there, the rest is not looked
+// at again.
 pub(crate) fn next_zone<I: ZoneIndex>(
     apex: Name,
     set: I,
@@ -57,7 +57,7 @@ fn all_may_stand<I: ZoneIndex>(apex: &NameRef<'_>, set: &I, records: &[Record]) 
     records.iter().all(|r| may_stand(apex, set, r))
 }
 
-// Whether the record may stand where it does in the zone of that apex.
+// Whether the record may be where it is in the zone of that apex.
 fn may_stand<I: ZoneIndex>(apex: &NameRef<'_>, set: &I, r: &Record) -> bool
     ensures { result ≡ may_stand apex.now (I.records set.now) r.now }
 {

@@ -1,4 +1,4 @@
-//! The versions behind the base, read from the journal.
+//! The versions after the base, read from the journal.
 ghost use Rattle.std.specs.Prelude.{◌≡◌, ◌⊎◌, ◌≤◌, ◌<◌, List, ℕ, None, true, IfOk, IfErr, OnOk, MatchResult};
 ghost use Rattle.std.specs.List.{AllByRecursion, flat_map};
 ghost use Rattle.dns_records.specs.Record.{Record as Stated};
@@ -11,7 +11,7 @@ ghost use Rattle.dns_changes.specs.Entry.{HasEntry, entry};
 ghost use Rattle.dns_journal.specs.Reads.{OnlyReads, HasRisen, ReadsFrom};
 ghost use Rattle.dns_store.specs.Versions.{Versions};
 ghost use Rattle.dns_store.specs.Opens.{AreChangesIn};
-ghost use Rattle.dns_store.specs.Recovered.{IsRecovered};
+ghost use Rattle.dns_store.specs.Recovered.{IsNewestRecovered};
 ghost use Rattle.dns_store.specs.Root.{IsOfBank};
 ghost use Rattle.dns_store.specs.Damage.{NamesSector, NamesSpoiltIn, NamesWrongEntryIn, IsReachedEntryIn};
 
@@ -71,7 +71,7 @@ fn take_step<I: ZoneIndex>(
 }
 
 // The newest version, and the changes that lead to it from the base, by the entries from the cursor on. The
-// cursor goes behind them. What it reads is said of each content of which the device's is an altered one.
+// cursor moves past them. What it reads is said of each content of which the device's is an altered one.
 pub(crate) fn read_versions<D: Sectors, I: ZoneIndex>(
     alloc: Heap,
     device: &mut D,
@@ -86,7 +86,8 @@ pub(crate) fn read_versions<D: Sectors, I: ZoneIndex>(
     ensures reads_all { D.is_honest device.old → (c : List (List ℕ)) → IsAltered format c (D.seen device.old)
         → (vs : Versions) (es : List Entry) → ReadsFrom format cursor.old c es
         → AreChangesIn format base.apex base.records vs es
-        → MatchResult result (λ r. IsRecovered cursor.old cursor.new base.records vs es r.0.records r.1.items)
+        → MatchResult result (λ r. IsNewestRecovered cursor.old cursor.new base.records vs es r.0.records
+        r.1.items)
         (λ e. (e ≡ OpenError.Device) ⊎ (e ≡ OpenError.OutOfMemory)
         ⊎ NamesSpoiltIn format (D.seen device.old) cursor.old.at cursor.old.until e) }
     ensures until { cursor.new.until ≡ cursor.old.until }

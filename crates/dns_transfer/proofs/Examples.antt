@@ -3,7 +3,7 @@ use Rattle.std.specs.Prelude.{◌≡◌, ℕ, List, [], ◌∷◌, Option, Some,
 use Rattle.dns_names.specs.Name.{Labels, wire}
 use Rattle.dns_records.specs.Types.{type_ns, type_soa, type_txt}
 use Rattle.dns_records.specs.Record.{Record, string}
-use Rattle.dns_zone.specs.ExampleZone.{of, soa_data}
+use Rattle.dns_zone.specs.ExampleZone.{of, soa_octets}
 use Rattle.dns_changes.specs.Change.{Change}
 use Rattle.dns_transfer.specs.Form.{Form, Current, Incremental, Full, form_of}
 use Rattle.dns_transfer.specs.Records.{transfer_of}
@@ -12,7 +12,7 @@ tiny : Labels
 tiny = codes "w" ∷ []
 
 abbrev soa_of : ℕ → Record
-soa_of serial = of (codes "w" ∷ []) type_soa (soa_data (codes "w" ∷ []) (codes "w" ∷ []) (serial ∷ 0 ∷ 0 ∷ 0 ∷ 0 ∷ []))
+soa_of serial = of (codes "w" ∷ []) type_soa (soa_octets (codes "w" ∷ []) (codes "w" ∷ []) (serial ∷ 0 ∷ 0 ∷ 0 ∷ 0 ∷ []))
 
 abbrev text_at : ℕ → Record
 text_at letter = of ((letter ∷ []) ∷ codes "w" ∷ []) type_txt (string (letter ∷ []))

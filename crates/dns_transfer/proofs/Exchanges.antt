@@ -2,7 +2,7 @@
 use Rattle.std.specs.Prelude.{◌≡◌, ℕ, true, false, List, [], ◌∷◌, ◌++◌, Option, Some, None, refl, codes, take, drop}
 use Rattle.dns_records.specs.Types.{type_soa, type_txt}
 use Rattle.dns_records.specs.Record.{Record, string}
-use Rattle.dns_zone.specs.ExampleZone.{of, soa_data, soa_e, ns_com, host1, example, example_records}
+use Rattle.dns_zone.specs.ExampleZone.{of, soa_octets, soa_e, ns_com, host1, example, example_records}
 use Rattle.dns_wire.specs.Text.{EchoedQuestion}
 use Rattle.dns_wire.specs.Message.{Message, Question}
 use Rattle.dns_wire.specs.Reading.{message_of}
@@ -25,7 +25,7 @@ whole_zone = refl
 
 -- the SOA of serial 8, and the TXT that came with it
 abbrev soa_8 : Record
-soa_8 = of example type_soa (soa_data ns_com (codes "hostmaster" ∷ example) (8 ∷ 7200 ∷ 900 ∷ 1209600 ∷ 300 ∷ []))
+soa_8 = of example type_soa (soa_octets ns_com (codes "hostmaster" ∷ example) (8 ∷ 7200 ∷ 900 ∷ 1209600 ∷ 300 ∷ []))
 
 abbrev text : Record
 text = of (codes "_tcp" ∷ host1) type_txt (string (codes "x"))

@@ -10,7 +10,7 @@ use Rattle.dns_wire.specs.Compress.{Compressing}
 use Rattle.dns_wire.specs.Puts.{compressed_all}
 use Rattle.dns_wire.proofs.TextPut.{all_append, text_size, first_all, second_all, third_all}
 use Rattle.dns_transfer.specs.Left.{left_in, left_at}
-use Rattle.dns_transfer.specs.Messages.{Heading, IsNext, message_with, octets_with, datagram_of}
+use Rattle.dns_transfer.specs.Messages.{Heading, IsNextMessage, message_with, octets_with, datagram_of}
 use Rattle.dns_transfer.specs.Session.{IsFilled, with_answer}
 use Rattle.dns_transfer.specs.declared.form.Form.TheVariants as form
 use Rattle.dns_transfer.specs.declared.rest.Place.{Place}
@@ -120,5 +120,5 @@ module _ (h : Heading) (question : Option EchoedQuestion) (left : List Record) (
       is ∙ sym (datagram_is false false (too_long r more rest message e f) (le_false (length (octets_with h question (soa ∷ []))) 512 over))
 
 -- by TCP
-pub next_of : (h : Heading) (question : Option EchoedQuestion) (left rest : List Record) (message : List ℕ) → IsFilled (message_with h question []) 16384 left message rest → IsNext h question left message rest
+pub next_of : (h : Heading) (question : Option EchoedQuestion) (left rest : List Record) (message : List ℕ) → IsFilled (message_with h question []) 16384 left message rest → IsNextMessage h question left message rest
 next_of h question left rest message f = record { sent = f.sent; in_order = f.in_order; packed = f.packed; fits = f.fits; most = f.most }

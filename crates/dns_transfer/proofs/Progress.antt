@@ -6,7 +6,7 @@ use Rattle.dns_wire.specs.Compress.{compressed_record}
 use Rattle.dns_wire.specs.Text.{EchoedQuestion, Reply, question_octets, question_places}
 use Rattle.dns_wire.proofs.Short.{record_short}
 use Rattle.dns_wire.proofs.TextPut.{asked_octets, text_size, first_all, second_all, third_all}
-use Rattle.dns_transfer.specs.Messages.{Heading, IsNext, message_with, octets_with}
+use Rattle.dns_transfer.specs.Messages.{Heading, IsNextMessage, message_with, octets_with}
 use Rattle.dns_transfer.specs.Progress.{IsShort, HasFewer}
 
 -- the message of one record
@@ -19,7 +19,7 @@ one_fits h question r short valid =
     let asks : length (question_octets reply) ≤ 259 = omega (arith, short, ap length (asked_octets reply)) in
     omega (arith, text_size reply, record_short (question_places reply) (12 + length (question_octets reply)) r valid, size, asks)
 
-pub progress : (h : Heading) (question : Option EchoedQuestion) (left rest more : List Record) (r : Record) (message : List ℕ) → IsShort question → left ≡ r ∷ more → IsRecord r → IsNext h question left message rest → HasFewer rest left
+pub progress : (h : Heading) (question : Option EchoedQuestion) (left rest more : List Record) (r : Record) (message : List ℕ) → IsShort question → left ≡ r ∷ more → IsRecord r → IsNextMessage h question left message rest → HasFewer rest left
 progress h question left rest more r message short e valid n = go n.sent refl
   where
     go : (sent : List Record) → n.sent ≡ sent → length rest < length left

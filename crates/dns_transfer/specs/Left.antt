@@ -1,15 +1,15 @@
--- The form in the code, and what is left of an answer at a place in it.
+-- The form in the code, and what is left of an answer at a position in it.
 use Rattle.std.specs.Prelude.{◌≡◌, ℕ, drop, List, [], ◌∷◌, ◌++◌}
 use Rattle.dns_records.specs.Record.{Record}
 use Rattle.dns_changes.specs.Change.{Change}
 use Rattle.dns_transfer.specs.Form.{Form, Current, Incremental, Full}
-use Rattle.dns_transfer.specs.Records.{answer_of, others, sequences}
+use Rattle.dns_transfer.specs.Records.{transfer_answer, others, sequences}
 use Rattle.dns_transfer.specs.declared.form.Form as code
 use Rattle.dns_transfer.specs.declared.form.Form.TheVariants as form
 use Rattle.dns_transfer.specs.declared.rest.Place.{Place}
 use Rattle.dns_transfer.specs.declared.rest.Place.TheVariants.{Opening, Zone, Sequence, End}
 
--- Changes are told by the number of the first among those that are kept.
+-- Changes are identified by the number of the first among those that are kept.
 abbrev pub stated_form : List Change → code.Form → Form
 stated_form changes form.Current = Current
 stated_form changes (form.Incremental first) = Incremental (drop first changes)
@@ -21,12 +21,12 @@ left_in changes number behind = drop behind (sequences (drop number changes))
 
 -- The records of an answer that are left.
 abbrev pub left_at : Record → List Record → List Change → Place → List Record
-left_at soa records changes (Opening form) = answer_of soa records (stated_form changes form)
+left_at soa records changes (Opening form) = transfer_answer soa records (stated_form changes form)
 left_at soa records changes (Zone place) = others (drop place records) ++ soa ∷ []
 left_at soa records changes (Sequence number behind) = left_in changes number behind ++ soa ∷ []
 left_at soa records changes End = []
 
--- An answer for a zone of that SOA, those records and those changes, and a place in it.
+-- An answer for a zone of that SOA, those records and those changes, and a position in it.
 pub record Remaining : Type 0 where
   pub soa : Record
   pub records : List Record
@@ -36,6 +36,6 @@ pub record Remaining : Type 0 where
 abbrev pub left_of : Remaining → List Record
 left_of r = left_at r.soa r.records r.changes r.place
 
--- Within the zone, its records from the place on stand ready.
-abbrev pub IsReady : Place → List Record → List Record → Type 0
-IsReady place ready records = (at : ℕ) → place ≡ Zone at → ready ≡ drop at records
+-- Within the zone, its records from the position on are ready.
+abbrev pub AreRecordsReady : Place → List Record → List Record → Type 0
+AreRecordsReady place ready records = (at : ℕ) → place ≡ Zone at → ready ≡ drop at records

@@ -33,7 +33,8 @@ abbrev pub message_limit : ℕ
 message_limit = 16384
 
 -- The next message: the first of the records that are left, as many as fit, and what is left then.
-pub record IsNext (h : Heading) (question : Option EchoedQuestion) (left : List Record) (message : List ℕ)
+pub record IsNextMessage (h : Heading) (question : Option EchoedQuestion)
+    (left : List Record) (message : List ℕ)
     (rest : List Record) : Type 0
   where
     pub sent : List Record
@@ -45,12 +46,12 @@ pub record IsNext (h : Heading) (question : Option EchoedQuestion) (left : List 
         → rest ≡ r ∷ more
         → message_limit < length (octets_with h question (sent ++ r ∷ []))
 
--- The messages of these records, as long as some are left. The question stands in the first alone (RFC 5936
+-- The messages of these records, as long as some are left. The question is in the first alone (RFC 5936
 -- 2.2.1).
 abbrev pub AreMessages : Heading → Option EchoedQuestion → List Record → List (List ℕ) → Type 0
 AreMessages h question left [] = left ≡ []
 AreMessages h question left (message ∷ messages) =
-    (left ≡ [] → ⊥) × (rest : List Record) × IsNext h question left message rest
+    (left ≡ [] → ⊥) × (rest : List Record) × IsNextMessage h question left message rest
     × AreMessages h None rest messages
 
 -- By UDP: the whole answer in 512 octets, else the SOA of the version that is shown, alone, else the header

@@ -19,7 +19,7 @@ abbrev pub is_client_soa : Question → ResourceRecord → Bool
 is_client_soa q i =
     names_eq i.owner q.name && i.rtype == type_soa && i.class == class_in && not (length i.rdata == 0)
 
--- It stands in the authority section of an IXFR, alone.
+-- It is in the authority section of an IXFR, alone.
 abbrev pub client_soa : Question → List ResourceRecord → Option ResourceRecord
 client_soa q [] = None
 client_soa q (i ∷ []) = if is_client_soa q i then Some i else None

@@ -11,7 +11,7 @@ use Rattle.dns_wire.specs.declared.codes.Rcode.{Rcode}
 use Rattle.dns_wire.specs.Echo.{echo_of}
 use Rattle.dns_request.specs.declared.request.Transport.{Transport}
 use Rattle.dns_request.specs.declared.request.Transport.TheVariants.{Udp, Tcp}
-use Rattle.dns_transfer.specs.Messages.{Heading, IsNext, datagram_of}
+use Rattle.dns_transfer.specs.Messages.{Heading, IsNextMessage, datagram_of}
 use Rattle.dns_transfer.specs.Records.{transfer_of}
 use Rattle.dns_transfer.specs.Refusal.{client_serial, refusal, serial_asked}
 
@@ -26,12 +26,12 @@ pub record Sending : Type 0 where
 
 -- The next message by TCP: as many records as fit (RFC 5936 2.2). By UDP there is one (RFC 1995 2).
 abbrev pub SendsBy : Transport → Sending → List ℕ → List Record → Type 0
-SendsBy Tcp s message rest = IsNext s.heading s.question s.left message rest
+SendsBy Tcp s message rest = IsNextMessage s.heading s.question s.left message rest
 SendsBy Udp s message rest = (message ≡ datagram_of s.heading s.question s.left s.soa) × (rest ≡ [])
 
 -- A message goes out, and these records are left.
-abbrev pub Sends : Sending → List ℕ → Sending → Type 0
-Sends s message next =
+abbrev pub SendsMessage : Sending → List ℕ → Sending → Type 0
+SendsMessage s message next =
     (next ≡ record s { question = None; left = next.left }) × SendsBy s.transport s message next.left
 
 -- A version of a zone that is held, and the changes that lead to it.
@@ -40,7 +40,7 @@ pub record Version : Type 0 where
   pub changes : List Change
 
 -- The answer to the request, from that version, is still to be sent.
-pub record IsOpened (transport : Transport) (octets : List ℕ) (m : Message) (q : Question)
+pub record IsTransferOpened (transport : Transport) (octets : List ℕ) (m : Message) (q : Question)
     (version : Version) (s : Sending) : Type 0 where
   pub by : s.transport ≡ transport
   pub heading : s.heading ≡ record { id = m.header.id; rd = m.header.rd }
@@ -56,7 +56,7 @@ Opens transport octets m q version allowed (Ok s) =
     (refusal transport q (client_serial q m.authorities) (is_some version) allowed ≡ None)
     × (v : Version)
     × (version ≡ Some v)
-    × IsOpened transport octets m q v s
+    × IsTransferOpened transport octets m q v s
 Opens transport octets m q version allowed (Err rcode) =
     refusal transport q (client_serial q m.authorities) (is_some version) allowed
     ≡ Some (number_of_rcode rcode)

@@ -10,15 +10,15 @@ use dns_wire::{MessageBuilder, Pushed, ReplyRecord};
 use dns_zone::ZoneIndex;
 use std::alloc::AllocError;
 
-/// A record as it goes out: as it stands in the zone.
+/// A record as it goes out: as it is in the zone.
 pub(crate) fn as_it_stands(record: &Record) -> ReplyRecord<'_>
     ensures { result ≡ record.now }
 {
     ReplyRecord::new(record.owner().lend(), record.ttl(), record)
 }
 
-/// Puts the records of an answer from a place on into a message, as many as fit: its octets, and the place
-/// behind them.
+/// Puts the records of an answer from a position on into a message, as many as fit: its octets, and the
+/// position after them.
 pub(crate) fn fill<'a, I: ZoneIndex>(
     mut message: MessageBuilder<'a>,
     soa: &'a Record,

@@ -57,7 +57,7 @@ impl History {
         }
     }
 
-    /// Puts a newer change behind the others.
+    /// Puts a newer change after the others.
     pub fn push(&mut self, alloc: Heap, change: Change) -> Result<(), AllocError>
         ensures ok { OnOk result (self.new ≡ self.old ++ change ∷ []) }
         ensures err { OnErr result (self.new ≡ self.old) }

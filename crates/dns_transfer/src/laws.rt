@@ -2,7 +2,7 @@
 ghost use Rattle.std.specs.Prelude.{◌≡◌, ◌∷◌, ℕ, List, Option};
 ghost use Rattle.dns_records.specs.Record.{Record, IsRecord};
 ghost use Rattle.dns_wire.specs.Text.{EchoedQuestion};
-ghost use Rattle.dns_transfer.specs.Messages.{Heading, IsNext};
+ghost use Rattle.dns_transfer.specs.Messages.{Heading, IsNextMessage};
 ghost use Rattle.dns_transfer.specs.Progress.{IsShort, HasFewer};
 
 /// While records are left, each message by TCP takes at least one of them, so that a transfer ends: a record
@@ -13,6 +13,6 @@ pub fn progress_law()
         → IsShort question
         → left ≡ r ∷ more
         → IsRecord r
-        → IsNext heading question left message rest
+        → IsNextMessage heading question left message rest
         → HasFewer rest left }
 {}

@@ -58,7 +58,7 @@ fn serial_of(alloc: Heap, soa: &RecordView<'_>) -> Result<u32, AllocError>
     }
 }
 
-/// The serial that the client has: that of the SOA which stands alone in the authority section of an IXFR
+/// The serial that the client has: that of the SOA which is alone in the authority section of an IXFR
 /// (RFC 1995 section 3).
 pub fn client_serial(alloc: Heap, request: &RequestMessage<'_>) -> Result<Option<u32>, AllocError>
     ensures { IfOk result

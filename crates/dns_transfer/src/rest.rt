@@ -15,17 +15,17 @@ use dns_records::types::SOA;
 use dns_zone::{Records, ZoneIndex};
 use std::marker::Model;
 
-/// A place in an answer, between two of its records.
+/// A position in an answer, between two of its records.
 #[derive(Clone, Copy, Debug)]
 pub enum Place {
     /// Before the first SOA of an answer of that form.
     Opening(Form),
-    /// In the full form, before the record of the zone that has this place in its order.
+    /// In the full form, before the record of the zone that has this position in its order.
     Zone(usize),
-    /// In the incremental form, within the sequence of the change with the first number, behind so many of
-    /// its records.
+    /// In the incremental form, within the sequence of the change with the first number, after so many of its
+    /// records.
     Sequence(usize, usize),
-    /// Behind the last record.
+    /// After the last record.
     End,
 }
 
@@ -39,7 +39,7 @@ impl Place {
 }
 
 impl Form {
-    /// The place behind the first SOA.
+    /// The position after the first SOA.
     fn behind_opening(self) -> Place
         ensures left { (soa : Stated) (records : List Stated) (changes : List StatedChange)
             → left_at soa records changes (Opening self) ≡ soa ∷ left_at soa records changes result }
@@ -78,7 +78,7 @@ fn sequence_len(change: &Change) -> usize
     change.removed().len() + change.added().len() + 2
 }
 
-/// The next record of the changes from one on, behind so many, and the place behind it.
+/// The next record of the changes from one on, after so many, and the position after it.
 fn next_of_changes(
     history: &History,
     first: usize,
@@ -101,7 +101,7 @@ fn next_of_changes(
     None
 }
 
-/// The next record of a zone that is no SOA, and the place behind it.
+/// The next record of a zone that is no SOA, and the position after it.
 fn next_other<'a, I: ZoneIndex>(
     index: &'a I,
     ready: &mut Records<'a, I>,
@@ -123,7 +123,7 @@ fn next_other<'a, I: ZoneIndex>(
     None
 }
 
-/// The records of an answer from a place on. They are lent from the zone and from the changes, and none is
+/// The records of an answer from a position on. They are lent from the zone and from the changes, and none is
 /// searched.
 #[derive(Drop)]
 pub struct Rest<'a, I: ZoneIndex> {
@@ -135,18 +135,18 @@ pub struct Rest<'a, I: ZoneIndex> {
 }
 
 impl<'a, I: ZoneIndex> Model for Rest<'a, I> {
-    ghost use Rattle.dns_transfer.specs.Left.{Remaining, IsReady};
+    ghost use Rattle.dns_transfer.specs.Left.{Remaining, AreRecordsReady};
 
     ghost Value = { Remaining };
 
     ghost view = { λ r.
         record { soa = r.soa.now; records = I.records r.index.now; changes = r.history.now; place = r.place } };
 
-    ghost invariant = { λ r. IsReady r.place r.ready (I.records r.index.now) };
+    ghost invariant = { λ r. AreRecordsReady r.place r.ready (I.records r.index.now) };
 }
 
 impl<'a, I: ZoneIndex> Rest<'a, I> {
-    /// The records from the place on of the answer for a zone of that SOA, those records and that history.
+    /// The records from the position on of the answer for a zone of that SOA, those records and that history.
     pub fn at(soa: &'a Record, index: &'a I, history: &'a History, place: Place) -> Rest<'a, I>
         ensures { result
             ≡ record { soa = soa.now; records = I.records index.now; changes = history.now; place = place } }
@@ -164,7 +164,7 @@ impl<'a, I: ZoneIndex> Rest<'a, I> {
         }
     }
 
-    /// The place of the next record.
+    /// The position of the next record.
     pub fn place(&self) -> Place
         ensures { result ≡ self.now.place }
     {

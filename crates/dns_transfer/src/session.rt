@@ -9,7 +9,7 @@ ghost use Rattle.dns_wire.specs.Text.{question_octets, text};
 ghost use Rattle.dns_transfer.specs.Left.{stated_form};
 ghost use Rattle.dns_transfer.specs.Messages.{message_with, datagram_of};
 ghost use Rattle.dns_transfer.specs.Refusal.{client_serial, serial_asked};
-ghost use Rattle.dns_transfer.specs.Session.{IsOpened, Opens, Sends};
+ghost use Rattle.dns_transfer.specs.Session.{IsTransferOpened, Opens, SendsMessage};
 
 use crate::filling::{as_it_stands, fill};
 use crate::{Form, History, Place, choose_form, client_serial, refusal_of};
@@ -169,7 +169,7 @@ impl<I: ZoneIndex> Session<I> {
     ) -> Result<Session<I>, AllocError>
         requires { client ≡ client_serial request.now.question request.now.message.message.authorities }
         ensures { IfOk result
-            (λ s. IsOpened transport request.now.message.octets request.now.message.message
+            (λ s. IsTransferOpened transport request.now.message.octets request.now.message.message
             request.now.question version.now s) }
     {
         let question = kept_question(alloc, request)?;
@@ -291,12 +291,12 @@ impl<I: ZoneIndex> Session<I> {
         self.place.is_end()
     }
 
-    /// The next message, made when it is asked for, or none behind the last. Where memory is refused the
+    /// The next message, made when it is asked for, or none after the last. Where memory is refused the
     /// session is as it was, so that the next call gives the same message.
     pub fn next_message(&mut self, alloc: Heap) -> Result<Option<Vec<u8, Heap>>, AllocError>
         ensures sent { IfOk result
             (λ message. MatchOption message ((self.new ≡ self.old) × (self.old.left ≡ []))
-            (λ octets. Sends self.old octets.items self.new)) }
+            (λ octets. SendsMessage self.old octets.items self.new)) }
         ensures more { IfOk result (λ message. OnSome message (self.old.left ≡ [] → ⊥)) }
         ensures refused { OnErr result (self.new ≡ self.old) }
     {

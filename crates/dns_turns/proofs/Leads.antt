@@ -20,8 +20,8 @@ use Rattle.dns_primary.specs.Machine.{Waits}
 use Rattle.dns_primary.specs.Step.{Event}
 use Rattle.dns_primary.specs.Keeps.{IsWaiting}
 use Rattle.dns_turns.specs.declared.network.Network.{Ghosts}
-use Rattle.dns_turns.specs.Delivery.{Served, Takes, AreSent, out_of}
-use Rattle.dns_turns.specs.Turn.{Moment, Moves, Happens, IsGiven, IsMoment, LeadsTo, NoneWaits}
+use Rattle.dns_turns.specs.Delivery.{Served, TakesEvent, AreSent, out_of}
+use Rattle.dns_turns.specs.Turn.{TurnMoment, Moves, Happens, IsGiven, IsMoment, LeadsTo, NoneWaits}
 use Rattle.dns_turns.proofs.Steps.{steps_on}
 
 -- a connection with no message and no rest has nothing to handle
@@ -62,14 +62,14 @@ module _ {S : Type 0} (s : stream.Ghosts S) where
       closed_still number (slice_set old number (Some e)) mid new is gone ∙ set-set old number (Some e) None
 
 module _ {I D S N : Type 0} {i : index.Ghosts I} {d : store.Ghosts D} (s : stream.Ghosts S) (n : Ghosts N S) where
-  pub by_one : (one : Moment) (a b : Served I D S N i d) → IsMoment s n one a b → LeadsTo s n a b
+  pub by_one : (one : TurnMoment) (a b : Served I D S N i d) → IsMoment s n one a b → LeadsTo s n a b
   by_one one a b h = (one ∷ [], (b, h, refl))
 
   pub and_on : (a b c : Served I D S N i d) → LeadsTo s n a b → LeadsTo s n b c → LeadsTo s n a c
   and_on a b c (first, is) (later, more) = (first ++ later, steps_on (λ old one new. IsMoment s n one old new) first later a b c is more)
 
   pub happens : (event : Event) (effects : Effects) (old given told new : Served I D S N i d) → IsGiven n event old given
-      → Takes given.primary event told.primary effects → told ≡ record given { primary = told.primary }
+      → TakesEvent given.primary event told.primary effects → told ≡ record given { primary = told.primary }
       → AreSent n (out_of effects) told new → LeadsTo s n old new
   happens event effects old given told new is_given takes rest sent =
       by_one (Happens event) old new (record { given = given; is_given = is_given; told = told; effects = effects; takes = takes; rest = rest; sent = sent })

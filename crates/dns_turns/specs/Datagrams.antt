@@ -10,7 +10,7 @@ use Rattle.dns_turns.specs.Steps.{AreSteps}
 abbrev pub Datagram : Type 0
 Datagram = List ℕ × Peer
 
--- the one that stands in a place
+-- the one that is stored in a place
 abbrev pub stands_in : Place → Datagram
 stands_in d = (take d.count d.octets, d.peer)
 
@@ -45,7 +45,7 @@ module _ {S : Type 0} where
     pub leaving : leaving_of new ≡ []
     pub arrived : arrived_of new ≡ arrived_of old
 
-  -- A datagram was put behind those that are to be sent, of which then the first were sent.
+  -- A datagram was put after those that are to be sent, of which then the first were sent.
   pub record IsLeaving (s : Ghosts S) (one : Datagram) (old new : Datagrams S) : Type 0 where
     pub gone : List Datagram
     pub sent : HaveGone s gone (socket_of old) (socket_of new)

@@ -21,11 +21,11 @@ abbrev pub out_of : Effects → List (To × List ℕ)
 out_of effects = map header_out effects.headers.items ++ reply_out effects.reply
 
 -- A primary took the step of an event, whichever machine it kept.
-abbrev pub Takes : {I D : Type 0} {i : index.Ghosts I} {d : store.Ghosts D} → Primary I D i d → Event
+abbrev pub TakesEvent : {I D : Type 0} {i : index.Ghosts I} {d : store.Ghosts D} → Primary I D i d → Event
     → Primary I D i d → Effects → Type 0
-Takes old event new effects = (m : Machine) → IsKept old m → SteppedBy m event old new effects
+TakesEvent old event new effects = (m : Machine) → IsKept old m → SteppedBy m event old new effects
 
--- What stands under each number, from 0 on.
+-- What is stored under each number, from 0 on.
 abbrev pub connections_of : {S : Type 0} → Edge S → List (Option (Connection S))
 connections_of edge = places_of edge.connections
 
@@ -43,11 +43,11 @@ module _ {I D S N : Type 0} {i : index.Ghosts I} {d : store.Ghosts D} where
   -- A connection was closed: its stream was let go, and the primary told.
   pub record IsClosed (number : ℕ) (old new : Served I D S N i d) : Type 0 where
     pub effects : Effects
-    pub told : Takes old.primary (Closed number) new.primary effects
+    pub told : TakesEvent old.primary (Closed number) new.primary effects
     pub gone : new.connections ≡ slice_set old.connections number None
     pub network : new.network ≡ old.network
 
-  -- A reply to a connection is queued there behind all that was queued before, with its length before it, or
+  -- A reply to a connection is queued there after all that was queued before, with its length before it, or
   -- that connection is closed; no other one is touched. One to a peer is handed to the network, and one to
   -- nowhere goes nowhere.
   abbrev pub IsSent : Ghosts N S → To → List ℕ → Served I D S N i d → Served I D S N i d → Type 0

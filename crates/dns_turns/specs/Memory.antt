@@ -29,8 +29,8 @@ Receives old None new = (datagrams_to old ≡ []) × SendsNothing old new
 Receives old (Some one) new =
     (rest : List ℕ) × (datagrams_to old ≡ (one.0 ++ rest, one.1) ∷ datagrams_to new) × SendsNothing old new
 
--- The datagram is sent behind the others, or dropped.
-abbrev pub Sends : MemoryNetwork → Peer → List ℕ → MemoryNetwork → Type 0
-Sends old peer octets new =
+-- The datagram is sent after the others, or dropped.
+abbrev pub SendsDatagram : MemoryNetwork → Peer → List ℕ → MemoryNetwork → Type 0
+SendsDatagram old peer octets new =
     (datagrams_from new ≡ datagrams_from old ++ (octets, peer) ∷ [])
     ⊎ (datagrams_from new ≡ datagrams_from old)

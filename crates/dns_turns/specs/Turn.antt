@@ -13,17 +13,17 @@ use Rattle.dns_primary.specs.Machine.{Machine}
 use Rattle.dns_primary.specs.Keeps.{IsKept}
 use Rattle.dns_primary.specs.Step.{Event, Datagram, Connect, Arrives, Flush, Checkpoint, Pump, Closed}
 use Rattle.dns_turns.specs.declared.network.Network.{Ghosts}
-use Rattle.dns_turns.specs.Delivery.{Served, Takes, IsClosed, AreSent, out_of}
+use Rattle.dns_turns.specs.Delivery.{Served, TakesEvent, IsClosed, AreSent, out_of}
 use Rattle.dns_turns.specs.Steps.{AreSteps}
 
 -- One thing that is done: the network is asked, and nothing came; octets move on the connection with a
 -- number; a peer connects; an event happens, and its replies go out; the connection with a number is closed.
-pub data Moment : Type 0 where
-  Asks : Moment
-  Moves : ℕ → Moment
-  Connects : Peer → Moment
-  Happens : Event → Moment
-  Closes : ℕ → Moment
+pub data TurnMoment : Type 0 where
+  Asks : TurnMoment
+  Moves : ℕ → TurnMoment
+  Connects : Peer → TurnMoment
+  Happens : Event → TurnMoment
+  Closes : ℕ → TurnMoment
 
 module _ {S : Type 0} where
   -- A connection on which nothing came and to which nothing goes yet is put in the place with the number that
@@ -45,7 +45,7 @@ module _ {I D S : Type 0} {i : index.Ghosts I} {d : store.Ghosts D} where
   pub record IsTakenUp (stream : S) (peer : Peer) (before after : Primary I D i d)
       (old new : List (Option (Connection S))) : Type 0 where
     pub effects : Effects
-    pub told : Takes before (Connect peer) after effects
+    pub told : TakesEvent before (Connect peer) after effects
     pub placed : IsPlaced stream effects.accepted old new
 
   -- It is, or it is and then it is closed again.
@@ -55,7 +55,7 @@ module _ {I D S : Type 0} {i : index.Ghosts I} {d : store.Ghosts D} where
       IsTakenUp stream peer before after old new
       ⊎ ((between : Primary I D i d) × (place : List (Option (Connection S))) × (number : ℕ)
       × (effects : Effects) × IsTakenUp stream peer before between old place
-      × Takes between (Closed number) after effects
+      × TakesEvent between (Closed number) after effects
       × (new ≡ slice_set place number None))
 
 module _ {I D S N : Type 0} {i : index.Ghosts I} {d : store.Ghosts D} where
@@ -96,11 +96,11 @@ module _ {I D S N : Type 0} {i : index.Ghosts I} {d : store.Ghosts D} where
     pub is_given : IsGiven n event old given
     pub told : Served I D S N i d
     pub effects : Effects
-    pub takes : Takes given.primary event told.primary effects
+    pub takes : TakesEvent given.primary event told.primary effects
     pub rest : told ≡ record given { primary = told.primary }
     pub sent : AreSent n (out_of effects) told new
 
-  abbrev pub IsMoment : stream.Ghosts S → Ghosts N S → Moment → Served I D S N i d
+  abbrev pub IsMoment : stream.Ghosts S → Ghosts N S → TurnMoment → Served I D S N i d
       → Served I D S N i d → Type 0
   IsMoment s n Asks old new = HasAsked n old new
   IsMoment s n (Moves number) old new = MovedOn s number old new
@@ -108,13 +108,13 @@ module _ {I D S N : Type 0} {i : index.Ghosts I} {d : store.Ghosts D} where
   IsMoment s n (Happens event) old new = HasHappened n event old new
   IsMoment s n (Closes number) old new = IsClosed number old new
 
-  abbrev pub AreMoments : stream.Ghosts S → Ghosts N S → List Moment → Served I D S N i d
+  abbrev pub AreMoments : stream.Ghosts S → Ghosts N S → List TurnMoment → Served I D S N i d
       → Served I D S N i d → Type 0
   AreMoments s n = AreSteps (λ old one new. IsMoment s n one old new)
 
   -- Nothing else is done from here to there.
   abbrev pub LeadsTo : stream.Ghosts S → Ghosts N S → Served I D S N i d → Served I D S N i d → Type 0
-  LeadsTo s n old new = (moments : List Moment) × AreMoments s n moments old new
+  LeadsTo s n old new = (moments : List TurnMoment) × AreMoments s n moments old new
 
   -- The network looks, there is a flush, and it looks again.
   pub record IsFlushedBetween (n : Ghosts N S) (old new : Served I D S N i d) : Type 0 where

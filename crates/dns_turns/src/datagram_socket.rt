@@ -5,8 +5,8 @@ ghost use Rattle.dns_primary.specs.declared.event.Peer.{Peer as StatedPeer};
 
 use dns_primary::Peer;
 
-/// A socket of datagrams, none of whose calls waits. Its calls are told by how it may go on behind each of
-/// them.
+/// A socket of datagrams, none of whose calls waits. Its calls are described by how it may go on after each
+/// of them.
 pub trait DatagramSocket {
     /// It may go on so where it was asked for a datagram, and this one had come, or none;
     ghost receives: { Self → Option (List ℕ × StatedPeer) → Self → Type 0 };

@@ -1,6 +1,6 @@
 //! Datagrams of a socket. Where many wait, some are read before the first of them is handed over, and replies
-//! are held back until the last of them is answered: a call of the system takes less time behind another of
-//! its kind, and a peer that waits is woken once for many.
+//! are held back until the last of them is answered: a system call takes less time after another of its kind,
+//! and a peer that waits is woken once for many.
 ghost use Rattle.std.specs.Prelude.{◌≡◌, ◌≤◌, ◌<◌, ◌++◌, ◌∷◌, [], List, ℕ, length, take, drop, IfOk, IfSome};
 ghost use Rattle.std.specs.Prelude.{IfNone, MatchOption, None, Some, true, false};
 ghost use Rattle.dns_turns.specs.Datagrams.{Datagram as Stated, AllHaveGone, AreRead, HaveGone, HaveCome};
@@ -17,8 +17,8 @@ use std::net::{IpAddr, Ipv4Addr};
 /// How many datagrams are read before the first of them is handed over, and how many are held back, at most.
 const MOST: usize = 64;
 
-/// Behind how many that came one behind the other more are read ahead. So who asks one question after the
-/// other costs no call in vain.
+/// After how many that came one after the other more are read ahead. So a peer that asks one question after
+/// the other costs no call in vain.
 const FEW: usize = 8;
 
 /// How many octets of a datagram are read: as many as the longest message has (RFC 1035 section 2.3.4), and
@@ -156,7 +156,7 @@ impl Queue {
         }
     }
 
-    /// Puts a datagram behind the others, if there is room for it.
+    /// Puts a datagram after the others, if there is room for it.
     fn push(&mut self, octets: &[u8], peer: Peer) -> bool
         ensures put { result ≡ true → self.new ≡ self.old ++ (octets.now, peer) ∷ [] }
         ensures full { result ≡ false → self.new ≡ self.old }
@@ -190,7 +190,7 @@ impl Queue {
         true
     }
 
-    /// Reads the next datagram of a socket behind the others, and tells whether one had come and there was
+    /// Reads the next datagram of a socket after the others, and tells whether one had come and there was
     /// room.
     fn read<S: DatagramSocket>(&mut self, socket: &mut S) -> bool
         ensures came { result ≡ true
@@ -311,7 +311,7 @@ impl<S: DatagramSocket + Drop> Datagrams<S> {
         Some((count, peer))
     }
 
-    /// Sends a datagram: at once where no other was read ahead, and else behind the replies to those.
+    /// Sends a datagram: at once where no other was read ahead, and else after the replies to those.
     pub fn send(&mut self, to: Peer, octets: &[u8])
         ensures leaving { IsLeaving S.DatagramSocket (octets.now, to) self.old self.new }
         ensures prompt { arrived_of self.old ≡ [] → leaving_of self.new ≡ [] }

@@ -3,7 +3,7 @@ ghost use Rattle.std.specs.Prelude.{◌≡◌, map, replicate, false, None, slic
 ghost use Rattle.dns_primary.specs.declared.event.Effects.{Effects as StatedEffects};
 ghost use Rattle.dns_primary.specs.Keeps.{header_out, reply_out};
 ghost use Rattle.dns_primary.specs.Step.{Closed};
-ghost use Rattle.dns_turns.specs.Delivery.{AreSent, IsSent, Takes, connections_of, out_of, served};
+ghost use Rattle.dns_turns.specs.Delivery.{AreSent, IsSent, TakesEvent, connections_of, out_of, served};
 ghost use Rattle.dns_turns.specs.Turn.{IsTurn, IsWelcomed, LeadsTo, NoneWaits};
 
 use crate::{Network, Note, Notes};
@@ -14,7 +14,8 @@ use dns_store::ZoneStore;
 use dns_zone::ZoneIndex;
 use std::alloc::AllocError;
 
-/// How many octets are read at once. A datagram of over 512 octets is told from shorter ones by its length.
+/// How many octets are read at once. A datagram of over 512 octets is distinguished from shorter ones by its
+/// length.
 const PIECE: usize = 4096;
 
 /// The longest message on a stream (RFC 1035 section 4.2.2).
@@ -59,7 +60,7 @@ impl<S: Stream + Drop> Edge<S> {
         self.connections.get_mut(number)
     }
 
-    /// Behind which number there is no connection.
+    /// After which number there is no connection.
     fn last_end(&self) -> usize {
         for number in (0..self.end).rev() {
             if self.connections.is_open(number) {
@@ -77,7 +78,8 @@ impl<S: Stream + Drop> Edge<S> {
         notes: &mut L,
         number: usize,
     )
-        ensures told { (effects : StatedEffects) × Takes primary.old (Closed number) primary.new effects }
+        ensures told { (effects : StatedEffects)
+            × TakesEvent primary.old (Closed number) primary.new effects }
         ensures gone { connections_of self.new ≡ slice_set (connections_of self.old) number None }
     {
         let _nothing = primary.step(alloc, Event::Closed(number));
@@ -153,7 +155,7 @@ impl<S: Stream + Drop> Edge<S> {
     }
 
     /// Lets the effects of an event happen: the replies that waited in their order, then the one to what
-    /// came; and tells the rest.
+    /// came; and reports the rest.
     #[inline(always)]
     fn deliver<I: ZoneIndex, D: ZoneStore, N: Network<S>, L: Notes>(
         &mut self,

@@ -1,7 +1,7 @@
 //! A network in memory, for tests.
 ghost use Rattle.std.specs.Prelude.{◌≡◌, ◌≤◌, ◌++◌, ◌∷◌, [], length, map, IfSome, OnOk, OnErr};
 ghost use Rattle.std.specs.Option.{option_map};
-ghost use Rattle.dns_turns.specs.Memory.{Accepts, Receives, Sends, SendsNothing, datagrams_from};
+ghost use Rattle.dns_turns.specs.Memory.{Accepts, Receives, SendsDatagram, SendsNothing, datagrams_from};
 
 use crate::{Network, Note, Notes};
 use dns_edge::{MemoryStream, Octets};
@@ -9,7 +9,7 @@ use dns_memory::Heap;
 use dns_primary::Peer;
 use std::alloc::AllocError;
 
-/// A network in memory. What is sent by it is kept, and so is what is told of turns.
+/// A network in memory. What is sent by it is kept, and so is what is reported of turns.
 pub struct MemoryNetwork {
     alloc: Heap,
     streams: Vec<(MemoryStream, Peer), Heap>,
@@ -86,7 +86,7 @@ impl Network<MemoryStream> for MemoryNetwork {
 
     ghost receives = { Receives };
 
-    ghost sends = { Sends };
+    ghost sends = { SendsDatagram };
 
     ghost looks = { SendsNothing };
 

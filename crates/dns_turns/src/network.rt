@@ -1,12 +1,12 @@
-//! The network as turns need it, and what they tell.
+//! The network as turns need it, and what they report.
 ghost use Rattle.std.specs.Prelude.{◌≤◌, ℕ, List, Option, length, take, IfSome};
 ghost use Rattle.std.specs.Option.{option_map};
 ghost use Rattle.dns_primary.specs.declared.event.Peer.{Peer as StatedPeer};
 
 use dns_primary::Peer;
 
-/// A network of datagrams and streams, of which no call waits but `wait`. Its calls are told by how it may go
-/// on behind each of them.
+/// A network of datagrams and streams, of which no call waits but `wait`. Its calls are described by how it
+/// may go on after each of them.
 pub trait Network<S> {
     /// It may go on so where it was asked for a connection, and a peer had made this one, or none had;
     ghost accepts: { Self → Option (S × StatedPeer) → Self → Type 0 };
@@ -34,7 +34,7 @@ pub trait Network<S> {
     fn send(&mut self, to: Peer, octets: &[u8])
         ensures { sends self.old to octets.now self.new };
 
-    /// Looks what came meanwhile. It is called before a flush and behind it, since that takes long.
+    /// Looks at what came meanwhile. It is called before a flush and after it, since that takes long.
     fn look(&mut self)
         ensures { looks self.old self.new };
 
@@ -53,11 +53,11 @@ pub enum Note {
     Closed(usize),
     /// Memory was refused.
     OutOfMemory,
-    /// The device of the zone at this place failed.
+    /// The device of the zone at this position failed.
     Device(usize),
 }
 
-/// Whom turns tell.
+/// To whom turns report.
 pub trait Notes {
     /// Takes a note.
     fn note(&mut self, note: Note);

@@ -9,7 +9,7 @@ use Rattle.dns_wire.specs.Message.{ResourceRecord}
 use Rattle.dns_wire.specs.declared.codes.Rcode.TheVariants.{NxDomain, Refused, YxDomain, YxRrset, NxRrset, NotZone}
 use Rattle.dns_changes.specs.Version.{serial_in}
 use Rattle.dns_update.specs.Verdict.{Verdict, Refuses, Keeps, Leaves, verdict}
-use Rattle.dns_zone.specs.ExampleZone.{example_zone, example, host1, host2, ns_com, ns_net, soa_data}
+use Rattle.dns_zone.specs.ExampleZone.{example_zone, example, host1, host2, ns_com, ns_net, soa_octets}
 
 abbrev records_in : Verdict → List Record
 records_in (Leaves records) = records
@@ -37,7 +37,7 @@ abbrev txt : Labels → ResourceRecord
 txt owner = adds owner type_txt (string (codes "x"))
 
 abbrev soa : ℕ → ℕ → ResourceRecord
-soa number minimum = adds example type_soa (soa_data ns_com (codes "hostmaster" ∷ example) (number ∷ 7200 ∷ 900 ∷ 1209600 ∷ minimum ∷ []))
+soa number minimum = adds example type_soa (soa_octets ns_com (codes "hostmaster" ∷ example) (number ∷ 7200 ∷ 900 ∷ 1209600 ∷ minimum ∷ []))
 
 abbrev updated : List ResourceRecord → Verdict
 updated items = verdict example_zone [] items

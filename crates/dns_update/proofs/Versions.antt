@@ -26,7 +26,7 @@ use Rattle.dns_update.specs.ResourceRecord.{HasForm, first_fault}
 use Rattle.dns_update.specs.Prescan.{prescan_fault}
 use Rattle.dns_update.specs.Effect.{effects}
 use Rattle.dns_update.specs.Verdict.{Verdict, Refuses, Keeps, Leaves, IsVerdict, same_set, versioned, with_next_serial}
-use Rattle.dns_changes.specs.Version.{serial_in, IsVersion, IsNext}
+use Rattle.dns_changes.specs.Version.{serial_in, IsVersion, IsVersionAfter}
 use Rattle.dns_update.proofs.OneSoa.{next_alone}
 use Rattle.dns_update.proofs.Sound.{IsSound, sound_from, fault_of_sound}
 use Rattle.dns_update.proofs.SoundEffects.{sound_stays, next_is_sound}
@@ -86,7 +86,7 @@ module _ (z : Zone) (after : List Record) (h : IsSound z.apex after) (each : ∥
       at false false false e f is = absurd cc
 
 -- a change to a version is one that leads to it
-next_from : {X : Type 0} (records : X → List Record) (z : Zone) → IsZone z → (v : Verdict) → ((xs : List Record) → v ≡ Leaves xs → IsVersion z xs) → (j : Judged X) → IsVerdict records z.records v j → (c : Change) (next : X) → j ≡ judged.Accepted c next → IsNext z c (records next)
+next_from : {X : Type 0} (records : X → List Record) (z : Zone) → IsZone z → (v : Verdict) → ((xs : List Record) → v ≡ Leaves xs → IsVersion z xs) → (j : Judged X) → IsVerdict records z.records v j → (c : Change) (next : X) → j ≡ judged.Accepted c next → IsVersionAfter z c (records next)
 next_from records z h (Refuses rcode) f j t c next e = absurd cc
 next_from records z h Keeps f j t c next e = absurd cc
 next_from records z h (Leaves after) f j (d, left, is, holds, change) c next e =
@@ -95,13 +95,13 @@ next_from records z h (Leaves after) f j (d, left, is, holds, change) c next e =
     let version = f after refl in
     let there : records next ≡ after = ap records (sym other) ∙ holds in
     let leads = change_leads z.records after c h.ordered version.ordered (subst (IsChange z.records after) same change) in
-    subst (IsNext z c) (sym there) (record { leads = leads; version = version })
+    subst (IsVersionAfter z c) (sym there) (record { leads = leads; version = version })
 
 -- what the items of an update that is not refused leave
 pub sound_after : (z : Zone) → IsZone z → (items : List ResourceRecord) → first_fault (prescan_fault z.apex) items ≡ None → AllByRecursion HasForm items → IsSound z.apex (effects z.apex z.records items)
 sound_after z h items e f = sound_stays z.apex z.records (sound_from z.apex z.records (sorted_from z.records h.ordered) (zone_soa z h) (conditions z.apex z.records h.valid)) items e f
 
 pub next_told : {X : Type 0} {E : Type 0} (records : X → List Record) (z : Zone) → IsZone z → (after : List Record) → IsSound z.apex after → ∥ AllByRecursion IsRecord after ∥₁ → (r : Result (Judged X) E)
-    → IfOk r (IsVerdict records z.records (versioned z.records after)) → IfOk r (λ j. (c : Change) (next : X) → j ≡ judged.Accepted c next → IsNext z c (records next))
+    → IfOk r (IsVerdict records z.records (versioned z.records after)) → IfOk r (λ j. (c : Change) (next : X) → j ≡ judged.Accepted c next → IsVersionAfter z c (records next))
 next_told records z h after sound each (Ok j) t = next_from records z h (versioned z.records after) (version_of z after sound each) j t
 next_told records z h after sound each (Err e) t = tt

@@ -57,8 +57,8 @@ verdict z prerequisites items =
     unless (otherwise (prerequisites_fault z prerequisites) (first_fault (prescan_fault z.apex) items))
     (versioned z.records (effects z.apex z.records items))
 
--- The judgement is this verdict: with the set that is left stands the change to it. `records` is what a set
--- of the code contains.
+-- The judgement is this verdict: the set that is left comes with the change to it. `records` is what a set of
+-- the code contains.
 abbrev pub IsVerdict : {X : Type 0} → (X → List Record) → List Record → Verdict → Judged X → Type 0
 IsVerdict records before (Refuses rcode) j = j ≡ judged.Refused rcode
 IsVerdict records before Keeps j = j ≡ judged.NoChange

@@ -1,4 +1,4 @@
-//! Changes of the records that one name owns, which stand in a list, in order.
+//! Changes of the records that one name owns, which are in a list, in order.
 ghost use Rattle.std.specs.Prelude.{◌≡◌, ◌≤◌, ◌++◌, ◌&&◌, ◌==◌, nat_lt, true, not, filter, length, take};
 ghost use Rattle.std.specs.Prelude.{drop, OnOk, IfOk};
 ghost use Rattle.std.specs.List.{list_any, list_all, find};
@@ -74,7 +74,7 @@ fn has_older(records: &[Record], serial: Serial) -> bool
     records.iter().any(|r| is_older(r, serial))
 }
 
-/// Takes out those from a place on up to another. Those behind move at once.
+/// Takes out those from one position up to another. Those after them move at once.
 fn take_between(records: &mut Vec<Record, Heap>, begin: usize, end: usize)
     requires order { begin ≤ end }
     requires inside { end ≤ length records.old.items }
@@ -96,7 +96,7 @@ pub(crate) fn take_types(records: &mut Vec<Record, Heap>, name: &NameRef<'_>, fi
     take_between(records, begin, end);
 }
 
-/// Takes those out of the records of a name whose types are behind one.
+/// Takes those out of the records of a name whose types are greater than `last`.
 pub(crate) fn take_types_behind(records: &mut Vec<Record, Heap>, name: &NameRef<'_>, last: u16)
     requires order { is_ordered records.old.items ≡ true }
     requires owned { are_of name.now records.old.items ≡ true }

@@ -222,7 +222,7 @@ fn take_owned(
     take_held::<Halves<Halves<Vec<Record, Heap>>>>(alloc, owned, apex, name, items)
 }
 
-/// Of a name that owns fewer records, copies are changed, and not those that stand in the zone.
+/// Of a name that owns fewer records, copies are changed, and not those that are stored in the zone.
 const MANY: usize = 8;
 
 /// What a name owns, to be changed and put back. Many records are taken out, so that none is copied but what

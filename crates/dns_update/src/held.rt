@@ -80,7 +80,7 @@ pub(crate) trait Held: Drop {
         requires owned { are_of name.now (records self.old) ≡ true }
         ensures { records self.new ≡ filter (is_outside first last) (records self.old) };
 
-    /// Takes those out whose types are behind one.
+    /// Takes those out whose types are greater than `last`.
     fn take_types_behind(&mut self, name: &NameRef<'_>, last: u16)
         requires order { is_ordered (records self.old) ≡ true }
         requires owned { are_of name.now (records self.old) ≡ true }
@@ -143,7 +143,7 @@ impl Held for Vec<Record, Heap> {
     }
 }
 
-/// The records in two parts, one behind the other. A record that comes or goes moves those of its part alone.
+/// The records in two parts, one after the other. A record that comes or goes moves those of its part alone.
 #[derive(Drop)]
 pub(crate) struct Halves<H: Held> {
     front: H,

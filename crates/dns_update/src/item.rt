@@ -107,7 +107,7 @@ impl ResourceRecord {
         self.rdata.is_empty()
     }
 
-    /// Whether its owner is the apex or stands under it.
+    /// Whether its owner is the apex or is under it.
     pub(crate) fn is_in_zone(&self, apex: &Name) -> bool
         ensures { result ≡ under self.now.owner apex.now }
     {

@@ -4,7 +4,7 @@ ghost use Rattle.std.specs.List.{AllWithin};
 ghost use Rattle.std.specs.List.Sorted.{IsSortedBy};
 ghost use Rattle.std.specs.Ordering.{is_lt};
 ghost use Rattle.dns_names.specs.Name.{Labels, name_cmp, names_eq};
-ghost use Rattle.dns_changes.specs.Group.{IsGroup};
+ghost use Rattle.dns_changes.specs.Group.{IsOwnerGroup};
 
 use crate::item::ResourceRecord;
 use dns_memory::Heap;
@@ -41,7 +41,7 @@ pub(crate) fn first_run(
 ) -> Option<(&ResourceRecord, &[ResourceRecord], &[ResourceRecord])>
     ensures { MatchOption result
         (length items.now ≡ 0)
-        (λ run. IsGroup (λ i. i.owner) items.now run.0.now run.1.now run.2.now) }
+        (λ run. IsOwnerGroup (λ i. i.owner) items.now run.0.now run.1.now run.2.now) }
 {
     let (first, others) = items.split_first()?;
     let count = count_named(others, &first.owner().lend());

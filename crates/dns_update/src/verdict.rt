@@ -12,7 +12,7 @@ ghost use Rattle.dns_update.specs.Prerequisites.{prerequisites_fault};
 ghost use Rattle.dns_update.specs.Prescan.{prescan_fault};
 ghost use Rattle.dns_update.specs.Effect.{effects};
 ghost use Rattle.dns_zone.specs.Soa.{HasSoa};
-ghost use Rattle.dns_changes.specs.Version.{IsNext};
+ghost use Rattle.dns_changes.specs.Version.{IsVersionAfter};
 ghost use Rattle.dns_update.specs.Verdict.{IsVerdict, IsJudged, Leaves, same_set, versioned};
 ghost use Rattle.dns_update.specs.Verdict.{with_next_serial};
 
@@ -169,7 +169,7 @@ fn judge_passed<I: ZoneIndex>(
     ensures next { IfOk result
         (λ judged. (change : StatedChange) (next : I)
         → judged ≡ Judged.Accepted change next
-        → IsNext zone.now change (I.records next)) }
+        → IsVersionAfter zone.now change (I.records next)) }
 {
     let mut after = zone.index().fork()?;
     take_effects(alloc, &mut after, &zone.apex().lend(), items)?;
@@ -191,7 +191,7 @@ fn judge_items<I: ZoneIndex>(
     ensures next { IfOk result
         (λ judged. (change : StatedChange) (next : I)
         → judged ≡ Judged.Accepted change next
-        → IsNext zone.now change (I.records next)) }
+        → IsVersionAfter zone.now change (I.records next)) }
 {
     if let Some(rcode) = fault(alloc, zone, prerequisites, &items)? {
         drop(items);
@@ -216,7 +216,7 @@ pub fn judge<I: ZoneIndex>(
     ensures next { IfOk result
         (λ judged. (change : StatedChange) (next : I)
         → judged ≡ Judged.Accepted change next
-        → IsNext zone.now change (I.records next)) }
+        → IsVersionAfter zone.now change (I.records next)) }
 {
     let _reads = message.octets();
     let prerequisites = items_of(alloc, message.answers())?;

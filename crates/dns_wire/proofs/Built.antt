@@ -5,7 +5,7 @@ use Rattle.dns_records.specs.Record.{Record}
 use Rattle.dns_wire.specs.Compress.{Place, Compressing, compressed_record}
 use Rattle.dns_wire.specs.Text.{Reply, header_octets, question_octets, question_places, text}
 use Rattle.dns_wire.specs.Puts.{compressed_all}
-use Rattle.dns_wire.specs.Building.{Building, with_record, compressed_answer, IsBuilt, StandsBuilt}
+use Rattle.dns_wire.specs.Building.{Building, with_record, compressed_answer, IsReplyBuilt, StandsBuilt}
 use Rattle.dns_wire.proofs.TextPut.{all_append, text_is, text_long, first_all, second_all, third_all}
 
 -- sections without records have no octets
@@ -26,7 +26,7 @@ plain_text : (r : Reply) → r.authority ≡ [] → r.additional ≡ [] → text
 plain_text r none nothing = text_is r ∙ ap (λ (xs : List ℕ). (header_octets r ++ question_octets r) ++ xs) (no_octets r none nothing)
 
 -- with its header the message is its text
-pub built_text : (r : Reply) (octets : List ℕ) → IsBuilt r octets → header_octets r ++ drop 12 octets ≡ text r
+pub built_text : (r : Reply) (octets : List ℕ) → IsReplyBuilt r octets → header_octets r ++ drop 12 octets ≡ text r
 built_text r octets h =
     let q = question_octets r in
     let c = (compressed_answer r).octets in
@@ -34,7 +34,7 @@ built_text r octets h =
     let behind : drop 12 octets ≡ q ++ c = ap (drop 12) whole ∙ drop_at h.head (q ++ c) 12 h.header in
     ap (λ (xs : List ℕ). header_octets r ++ xs) behind ∙ sym (append_assoc (header_octets r) q c) ∙ sym (plain_text r h.authority h.additional)
 
-pub built_size : (r : Reply) (octets : List ℕ) → IsBuilt r octets → length (text r) ≡ length octets
+pub built_size : (r : Reply) (octets : List ℕ) → IsReplyBuilt r octets → length (text r) ≡ length octets
 built_size r octets h =
     let twelve : length (header_octets r) ≡ 12 = refl in
     let c = (compressed_answer r).octets in
@@ -42,11 +42,11 @@ built_size r octets h =
     omega (arith, ap length (plain_text r h.authority h.additional), ap length h.written, h.header, length-append (header_octets r ++ q) c, length-append (header_octets r) q, length-append (h.head ++ q) c, length-append h.head q)
 
 -- the header can count its records
-pub built_few : (r : Reply) (octets : List ℕ) → IsBuilt r octets → length r.answer + length r.authority + length r.additional ≤ 16384
+pub built_few : (r : Reply) (octets : List ℕ) → IsReplyBuilt r octets → length r.answer + length r.authority + length r.additional ≤ 16384
 built_few r octets h = (let low : length octets ≤ 16384 = h.low in omega (arith, text_long r, built_size r octets h, low))
 
 -- with one record more
-answer_next : (r : Reply) (octets : List ℕ) (places : List Place) (x : Record) → IsBuilt r octets → places ≡ (compressed_answer r).places → (let here = compressed_record places (length octets) x in compressed_answer (with_record r x) ≡ record { octets = (compressed_answer r).octets ++ here.octets; places = here.places })
+answer_next : (r : Reply) (octets : List ℕ) (places : List Place) (x : Record) → IsReplyBuilt r octets → places ≡ (compressed_answer r).places → (let here = compressed_record places (length octets) x in compressed_answer (with_record r x) ≡ record { octets = (compressed_answer r).octets ++ here.octets; places = here.places })
 answer_next r octets places x h e =
     let n = 12 + length (question_octets r) in
     let one = compressed_answer r in
@@ -58,7 +58,7 @@ answer_next r octets places x h e =
     ∙ ap (λ (xs : List ℕ). record { octets = one.octets ++ xs; places = there.places }) (append-nil there.octets)
     ∙ ap (λ (c : Compressing). record { octets = one.octets ++ c.octets; places = c.places }) same
 
-next_written : (r : Reply) (octets after : List ℕ) (places : List Place) (x : Record) (h : IsBuilt r octets) → places ≡ (compressed_answer r).places → after ≡ octets ++ (compressed_record places (length octets) x).octets → after ≡ (h.head ++ question_octets r) ++ (compressed_answer (with_record r x)).octets
+next_written : (r : Reply) (octets after : List ℕ) (places : List Place) (x : Record) (h : IsReplyBuilt r octets) → places ≡ (compressed_answer r).places → after ≡ octets ++ (compressed_record places (length octets) x).octets → after ≡ (h.head ++ question_octets r) ++ (compressed_answer (with_record r x)).octets
 next_written r octets after places x h e grown =
     let here = compressed_record places (length octets) x in
     let front = h.head ++ question_octets r in
@@ -86,7 +86,7 @@ built_next b octets after places places' x h grown same fits =
     }
 
 -- the text with the record is as long as what was written
-pub longer_text : (r : Reply) (octets after : List ℕ) (places : List Place) (x : Record) → IsBuilt r octets → places ≡ (compressed_answer r).places → after ≡ octets ++ (compressed_record places (length octets) x).octets → length (text (with_record r x)) ≡ length after
+pub longer_text : (r : Reply) (octets after : List ℕ) (places : List Place) (x : Record) → IsReplyBuilt r octets → places ≡ (compressed_answer r).places → after ≡ octets ++ (compressed_record places (length octets) x).octets → length (text (with_record r x)) ≡ length after
 longer_text r octets after places x h e grown =
     let twelve : length (header_octets (with_record r x)) ≡ 12 = refl in
     let q = question_octets r in

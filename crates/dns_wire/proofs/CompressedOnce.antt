@@ -7,7 +7,7 @@ use Rattle.dns_names.specs.Name.{Labels, wire, labels_of}
 use Rattle.dns_records.specs.Types.{Field, Values, octet_count, Name, UncompressedName, Strings, form, class_in}
 use Rattle.dns_records.specs.Record.{Record}
 use Rattle.dns_wire.specs.Text.{Reply, header_octets, question_octets}
-use Rattle.dns_wire.specs.Compressed.{Used, StandsAt, OctetsAt, FieldCompressed, and_field, PartsCompressed, RecordCompressed, RecordsCompressed, question_fields, IsCompressed}
+use Rattle.dns_wire.specs.Compressed.{Used, OccursAt, OctetsAt, FieldCompressed, and_field, PartsCompressed, RecordCompressed, RecordsCompressed, question_fields, IsCompressed}
 use Rattle.dns_wire.proofs.Written.{written_once}
 
 -- two texts end a part at one offset and have the same fields behind it; if they agree up to it, they agree behind it
@@ -31,7 +31,7 @@ octets_same t u at i j x y a b e later h k = record {
 
 field_octets : (t u : List ℕ) (earlier : List Used) (at : ℕ) (name : Labels) (i j : ℕ) (h : FieldCompressed t earlier at name i) (k : FieldCompressed u earlier at name j) → h.octets ≡ k.octets
 field_octets t u earlier at name i j h k =
-    written_once (StandsAt earlier) (StandsAt earlier) name h.octets k.octets (λ o n s. s) (λ o n s. s) h.written k.written
+    written_once (OccursAt earlier) (OccursAt earlier) name h.octets k.octets (λ o n s. s) (λ o n s. s) h.written k.written
 
 field_same : (t u : List ℕ) (earlier : List Used) (at : ℕ) (name : Labels) (i j : ℕ) → FieldCompressed t earlier at name i → FieldCompressed u earlier at name j → Same t u at i j (and_field earlier at i name) (and_field earlier at j name)
 field_same t u earlier at name i j h k =

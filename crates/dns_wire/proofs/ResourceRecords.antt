@@ -8,18 +8,18 @@ use Rattle.dns_records.specs.Types.{Field, form}
 use Rattle.dns_records.specs.Record.{number_of}
 use Rattle.dns_wire.specs.Message.{Question, ResourceRecord}
 use Rattle.dns_wire.specs.Reads.{NumberAt, FieldsAt, RDataAt, QuestionAt, ResourceRecordAt}
-use Rattle.dns_wire.specs.Reading.{◌>>=◌, name_at, number_at, fields_at, rdata_at, question_at, question_behind, item_at, item_behind}
+use Rattle.dns_wire.specs.Reading.{◌>>=◌, name_at, number_read_at, fields_at, rdata_at, question_at, question_behind, item_at, item_behind}
 use Rattle.dns_wire.proofs.Binds.{bind_is, bind_some, passed, pass, le_true, true_le}
 use Rattle.dns_wire.proofs.NameRead.{name_at_is}
 use Rattle.dns_wire.proofs.NameStands.{name_at_stands}
 use Rattle.dns_wire.proofs.PartsRead.{fields_are, fields_stand}
 use Rattle.dns_records.specs.Laws.{form_last}
 
-pub number_is : (m : List ℕ) (at size value : ℕ) → NumberAt m at size value → number_at size m at ≡ Some value
+pub number_is : (m : List ℕ) (at size value : ℕ) → NumberAt m at size value → number_read_at size m at ≡ Some value
 number_is m at size value h =
     pass (nat_le (at + size) (length m)) (number_of (slice_range m at (at + size))) (le_true (at + size) (length m) h.inside) ∙ ap (λ (n : ℕ). Some n) (sym h.read)
 
-pub number_stands : (m : List ℕ) (at size value : ℕ) → number_at size m at ≡ Some value → NumberAt m at size value
+pub number_stands : (m : List ℕ) (at size value : ℕ) → number_read_at size m at ≡ Some value → NumberAt m at size value
 number_stands m at size value e =
     let one = passed (nat_le (at + size) (length m)) (number_of (slice_range m at (at + size))) value e in
     record { inside = true_le (at + size) (length m) one.0; read = sym one.1 }
@@ -56,16 +56,16 @@ question_is m at q stop h =
     let one = number_is m h.mid 2 q.qtype h.qtype in
     let two = number_is m (h.mid + 2) 2 q.qclass h.qclass in
     let behind : question_behind m (q.name, h.mid) ≡ Some (q, h.mid + 4) =
-    bind_is (number_at 2 m h.mid) (λ qtype. number_at 2 m (h.mid + 2) >>= λ qclass. Some (record { name = q.name; qtype = qtype; qclass = qclass }, h.mid + 4)) q.qtype (Some (q, h.mid + 4)) one
-    (bind_is (number_at 2 m (h.mid + 2)) (λ qclass. Some (record { name = q.name; qtype = q.qtype; qclass = qclass }, h.mid + 4)) q.qclass (Some (q, h.mid + 4)) two refl) in
+    bind_is (number_read_at 2 m h.mid) (λ qtype. number_read_at 2 m (h.mid + 2) >>= λ qclass. Some (record { name = q.name; qtype = qtype; qclass = qclass }, h.mid + 4)) q.qtype (Some (q, h.mid + 4)) one
+    (bind_is (number_read_at 2 m (h.mid + 2)) (λ qclass. Some (record { name = q.name; qtype = q.qtype; qclass = qclass }, h.mid + 4)) q.qclass (Some (q, h.mid + 4)) two refl) in
     bind_is (name_at m at) (question_behind m) (q.name, h.mid) (Some (q, stop)) (name_at_is m at q.name h.mid h.name) (behind ∙ ap (λ (k : ℕ). Some (q, k)) (sym h.last))
 
 pub question_stands : (m : List ℕ) (at : ℕ) (q : Question) (stop : ℕ) → AreOctets m → question_at m at ≡ Some (q, stop) → QuestionAt m at q stop
 question_stands m at q stop fits e =
     let n = bind_some (name_at m at) (question_behind m) (q, stop) e in
     let mid = n.value.1 in
-    let t = bind_some (number_at 2 m mid) (λ qtype. number_at 2 m (mid + 2) >>= λ qclass. Some (record { name = n.value.0; qtype = qtype; qclass = qclass }, mid + 4)) (q, stop) n.then in
-    let c = bind_some (number_at 2 m (mid + 2)) (λ qclass. Some (record { name = n.value.0; qtype = t.value; qclass = qclass }, mid + 4)) (q, stop) t.then in
+    let t = bind_some (number_read_at 2 m mid) (λ qtype. number_read_at 2 m (mid + 2) >>= λ qclass. Some (record { name = n.value.0; qtype = qtype; qclass = qclass }, mid + 4)) (q, stop) n.then in
+    let c = bind_some (number_read_at 2 m (mid + 2)) (λ qclass. Some (record { name = n.value.0; qtype = t.value; qclass = qclass }, mid + 4)) (q, stop) t.then in
     let made : Question = record { name = n.value.0; qtype = t.value; qclass = c.value } in
     let same = some_pair_parts made q (mid + 4) stop c.then in
     let stands : QuestionAt m at made (mid + 4) = record {
@@ -79,13 +79,13 @@ question_stands m at q stop fits e =
 
 -- the steps behind an owner, one for each number
 class_step : List ℕ → Labels → ℕ → ℕ → Option (ResourceRecord × ℕ)
-class_step m owner mid rtype = number_at 2 m (mid + 2) >>= λ class. number_at 4 m (mid + 4) >>= λ ttl. number_at 2 m (mid + 8) >>= λ size. rdata_at rtype size m (mid + 10) >>= λ rdata. Some (record { owner = owner; rtype = rtype; class = class; ttl = ttl; rdata = rdata }, mid + 10 + size)
+class_step m owner mid rtype = number_read_at 2 m (mid + 2) >>= λ class. number_read_at 4 m (mid + 4) >>= λ ttl. number_read_at 2 m (mid + 8) >>= λ size. rdata_at rtype size m (mid + 10) >>= λ rdata. Some (record { owner = owner; rtype = rtype; class = class; ttl = ttl; rdata = rdata }, mid + 10 + size)
 
 ttl_step : List ℕ → Labels → ℕ → ℕ → ℕ → Option (ResourceRecord × ℕ)
-ttl_step m owner mid rtype class = number_at 4 m (mid + 4) >>= λ ttl. number_at 2 m (mid + 8) >>= λ size. rdata_at rtype size m (mid + 10) >>= λ rdata. Some (record { owner = owner; rtype = rtype; class = class; ttl = ttl; rdata = rdata }, mid + 10 + size)
+ttl_step m owner mid rtype class = number_read_at 4 m (mid + 4) >>= λ ttl. number_read_at 2 m (mid + 8) >>= λ size. rdata_at rtype size m (mid + 10) >>= λ rdata. Some (record { owner = owner; rtype = rtype; class = class; ttl = ttl; rdata = rdata }, mid + 10 + size)
 
 size_step : List ℕ → Labels → ℕ → ℕ → ℕ → ℕ → Option (ResourceRecord × ℕ)
-size_step m owner mid rtype class ttl = number_at 2 m (mid + 8) >>= λ size. rdata_at rtype size m (mid + 10) >>= λ rdata. Some (record { owner = owner; rtype = rtype; class = class; ttl = ttl; rdata = rdata }, mid + 10 + size)
+size_step m owner mid rtype class ttl = number_read_at 2 m (mid + 8) >>= λ size. rdata_at rtype size m (mid + 10) >>= λ rdata. Some (record { owner = owner; rtype = rtype; class = class; ttl = ttl; rdata = rdata }, mid + 10 + size)
 
 rdata_step : List ℕ → Labels → ℕ → ℕ → ℕ → ℕ → ℕ → Option (ResourceRecord × ℕ)
 rdata_step m owner mid rtype class ttl size = rdata_at rtype size m (mid + 10) >>= λ rdata. Some (record { owner = owner; rtype = rtype; class = class; ttl = ttl; rdata = rdata }, mid + 10 + size)
@@ -98,10 +98,10 @@ unfolding class_step ttl_step size_step rdata_step made_step
 item_is m at r stop h =
     let y : Option (ResourceRecord × ℕ) = Some (r, h.mid + 10 + h.rdlength) in
     let five = bind_is (rdata_at r.rtype h.rdlength m (h.mid + 10)) (made_step r.owner h.mid r.rtype r.class r.ttl h.rdlength) r.rdata y (rdata_is m (h.mid + 10) r.rtype h.rdlength r.rdata h.rdata) refl in
-    let four = bind_is (number_at 2 m (h.mid + 8)) (rdata_step m r.owner h.mid r.rtype r.class r.ttl) h.rdlength y (number_is m (h.mid + 8) 2 h.rdlength h.counted) five in
-    let three = bind_is (number_at 4 m (h.mid + 4)) (size_step m r.owner h.mid r.rtype r.class) r.ttl y (number_is m (h.mid + 4) 4 r.ttl h.ttl) four in
-    let two = bind_is (number_at 2 m (h.mid + 2)) (ttl_step m r.owner h.mid r.rtype) r.class y (number_is m (h.mid + 2) 2 r.class h.class) three in
-    let one = bind_is (number_at 2 m h.mid) (class_step m r.owner h.mid) r.rtype y (number_is m h.mid 2 r.rtype h.rtype) two in
+    let four = bind_is (number_read_at 2 m (h.mid + 8)) (rdata_step m r.owner h.mid r.rtype r.class r.ttl) h.rdlength y (number_is m (h.mid + 8) 2 h.rdlength h.counted) five in
+    let three = bind_is (number_read_at 4 m (h.mid + 4)) (size_step m r.owner h.mid r.rtype r.class) r.ttl y (number_is m (h.mid + 4) 4 r.ttl h.ttl) four in
+    let two = bind_is (number_read_at 2 m (h.mid + 2)) (ttl_step m r.owner h.mid r.rtype) r.class y (number_is m (h.mid + 2) 2 r.class h.class) three in
+    let one = bind_is (number_read_at 2 m h.mid) (class_step m r.owner h.mid) r.rtype y (number_is m h.mid 2 r.rtype h.rtype) two in
     bind_is (name_at m at) (item_behind m) (r.owner, h.mid) (Some (r, stop)) (name_at_is m at r.owner h.mid h.owner) (one ∙ ap (λ (k : ℕ). Some (r, k)) (sym h.last))
 
 pub item_stands : (m : List ℕ) (at : ℕ) (r : ResourceRecord) (stop : ℕ) → AreOctets m → item_at m at ≡ Some (r, stop) → ResourceRecordAt m at r stop
@@ -111,10 +111,10 @@ item_stands m at r stop fits e =
     let n = bind_some (name_at m at) (item_behind m) y e in
     let owner = n.value.0 in
     let mid = n.value.1 in
-    let one = bind_some (number_at 2 m mid) (class_step m owner mid) y n.then in
-    let two = bind_some (number_at 2 m (mid + 2)) (ttl_step m owner mid one.value) y one.then in
-    let three = bind_some (number_at 4 m (mid + 4)) (size_step m owner mid one.value two.value) y two.then in
-    let four = bind_some (number_at 2 m (mid + 8)) (rdata_step m owner mid one.value two.value three.value) y three.then in
+    let one = bind_some (number_read_at 2 m mid) (class_step m owner mid) y n.then in
+    let two = bind_some (number_read_at 2 m (mid + 2)) (ttl_step m owner mid one.value) y one.then in
+    let three = bind_some (number_read_at 4 m (mid + 4)) (size_step m owner mid one.value two.value) y two.then in
+    let four = bind_some (number_read_at 2 m (mid + 8)) (rdata_step m owner mid one.value two.value three.value) y three.then in
     let five = bind_some (rdata_at one.value four.value m (mid + 10)) (made_step owner mid one.value two.value three.value four.value) y four.then in
     let made : ResourceRecord = record { owner = owner; rtype = one.value; class = two.value; ttl = three.value; rdata = five.value } in
     let same = some_pair_parts made r (mid + 10 + four.value) stop five.then in

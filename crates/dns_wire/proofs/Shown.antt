@@ -4,7 +4,7 @@ use Rattle.std.specs.Prelude.{unwrap_or, slice_range}
 use Rattle.std.proofs.lemmas.List.{append-nil, length-take, length-drop}
 use Rattle.dns_names.specs.Name.{Labels, wire}
 use Rattle.dns_records.specs.Record.{number_of}
-use Rattle.dns_wire.specs.Message.{Question, Message, Received, blank}
+use Rattle.dns_wire.specs.Message.{Question, Message, Received, empty_message}
 use Rattle.dns_wire.specs.NameAt.{NameAt, ends, points, FullNameAt}
 use Rattle.dns_wire.specs.NameLaws.{length-wire}
 use Rattle.dns_wire.specs.Reads.{NumberAt, QuestionsAt, Reads}
@@ -17,7 +17,7 @@ use Rattle.dns_wire.proofs.Whole.{message_is}
 
 pub received_is : (m : List ℕ) (x : Message) → Reads m x → x ≡ (received m).message
 unfolding received
-received_is m x h = sym (ap (λ (o : Option Message). unwrap_or o blank) (message_is m x h))
+received_is m x h = sym (ap (λ (o : Option Message). unwrap_or o empty_message) (message_is m x h))
 
 pub sections_received : (m : List ℕ) (x : Message) (i j k : ℕ) → AreSections m x i j k → AreSections m (received m).message i j k
 sections_received m x i j k h = subst (λ (y : Message). AreSections m y i j k) (received_is m x h.stands) h

@@ -8,7 +8,7 @@ use Rattle.dns_names.specs.Name.{Labels, wire, labels_of}
 use Rattle.dns_records.specs.Types.{Field, Values, octet_count, Name, UncompressedName, Strings, form, class_in}
 use Rattle.dns_records.specs.Record.{Record, AreFields, IsRecord}
 use Rattle.dns_wire.specs.Compress.{Place, Compressing, compress_name, new_places, compressed_name, compressed_fields, compressed_rdata, compressed_record, compressed_records}
-use Rattle.dns_wire.specs.Compressed.{Used, StandsAt, AreThePlaces, OctetsAt, FieldCompressed, and_field, PartsCompressed, RecordCompressed, RecordsCompressed, question_fields, IsCompressed}
+use Rattle.dns_wire.specs.Compressed.{Used, OccursAt, AreThePlaces, OctetsAt, FieldCompressed, and_field, PartsCompressed, RecordCompressed, RecordsCompressed, question_fields, IsCompressed}
 use Rattle.dns_wire.specs.Text.{EchoedQuestion, Reply, header_octets, question_octets, question_places, text}
 use Rattle.dns_wire.specs.Valid.{IsEchoed, IsReply}
 use Rattle.dns_wire.proofs.Table.{table_first, table_next, stands_cases}
@@ -43,7 +43,7 @@ rest_as text at at' rest rest' e f h = record { front = h.front; is = h.is ∙ a
 
 -- all that stands is below an offset
 pub record Under (earlier : List Used) (at : ℕ) : Type 0 where
-  pub below : (offset : ℕ) (suffix : Labels) → StandsAt earlier offset suffix → offset < at
+  pub below : (offset : ℕ) (suffix : Labels) → OccursAt earlier offset suffix → offset < at
 
 under_more : (earlier : List Used) (at at' : ℕ) → at ≤ at' → Under earlier at → Under earlier at'
 under_more earlier at at' up h = record { below = λ offset suffix s. (let low : offset < at = h.below offset suffix s in omega arith) }
@@ -60,15 +60,15 @@ under_field earlier at to name up h = record {
 -- a name that is compressed
 pub record NameDone (text : List ℕ) (earlier : List Used) (places : List Place) (at : ℕ) (name : Labels) (back : List ℕ) : Type 0 where
   pub field : FieldCompressed text earlier at name (at + length (compress_name places name))
-  pub table : AreThePlaces (StandsAt (and_field earlier at (at + length (compress_name places name)) name)) (compressed_name places at name).places
+  pub table : AreThePlaces (OccursAt (and_field earlier at (at + length (compress_name places name)) name)) (compressed_name places at name).places
   pub under : Under (and_field earlier at (at + length (compress_name places name)) name) (at + length (compress_name places name))
   pub behind : Rest text (at + length (compress_name places name)) back
 
-pub name_done : (text : List ℕ) (earlier : List Used) (places : List Place) (at : ℕ) (name : Labels) (back : List ℕ) → AreThePlaces (StandsAt earlier) places → Under earlier at → Rest text at (compress_name places name ++ back) → NameDone text earlier places at name back
+pub name_done : (text : List ℕ) (earlier : List Used) (places : List Place) (at : ℕ) (name : Labels) (back : List ℕ) → AreThePlaces (OccursAt earlier) places → Under earlier at → Rest text at (compress_name places name ++ back) → NameDone text earlier places at name back
 name_done text earlier places at name back table under h =
     let p = piece text at (compress_name places name) back h in
     record {
-      field = record { octets = compress_name places name; written = compressed_written (StandsAt earlier) places table name; here = p.here };
+      field = record { octets = compress_name places name; written = compressed_written (OccursAt earlier) places table name; here = p.here };
       table = table_next earlier places at name table under.below;
       under = under_field earlier at (at + length (compress_name places name)) name (omega arith) under;
       behind = p.behind;
@@ -78,11 +78,11 @@ name_done text earlier places at name back table under h =
 pub record PartsDone (text : List ℕ) (earlier : List Used) (places : List Place) (at : ℕ) (fields : List Field) (rdata back : List ℕ) : Type 0 where
   pub later : List Used
   pub compressed : PartsCompressed text earlier at fields rdata (at + length (compressed_fields places at fields rdata).octets) later
-  pub table : AreThePlaces (StandsAt later) (compressed_fields places at fields rdata).places
+  pub table : AreThePlaces (OccursAt later) (compressed_fields places at fields rdata).places
   pub under : Under later (at + length (compressed_fields places at fields rdata).octets)
   pub behind : Rest text (at + length (compressed_fields places at fields rdata).octets) back
 
-pub parts_done : (text : List ℕ) (earlier : List Used) (places : List Place) (at : ℕ) (fields : List Field) (rdata back : List ℕ) → AreFields fields rdata → AreThePlaces (StandsAt earlier) places → Under earlier at
+pub parts_done : (text : List ℕ) (earlier : List Used) (places : List Place) (at : ℕ) (fields : List Field) (rdata back : List ℕ) → AreFields fields rdata → AreThePlaces (OccursAt earlier) places → Under earlier at
     → Rest text at ((compressed_fields places at fields rdata).octets ++ back) → PartsDone text earlier places at fields rdata back
 parts_done text earlier places at [] rdata back form table under h =
     let p = piece text at rdata back h in
@@ -133,7 +133,7 @@ parts_done text earlier places at (Name ∷ fields) rdata back form table under 
 pub record RecordDone (text : List ℕ) (earlier : List Used) (places : List Place) (at : ℕ) (r : Record) (back : List ℕ) : Type 0 where
   pub later : List Used
   pub compressed : RecordCompressed text earlier at r (at + length (compressed_record places at r).octets) later
-  pub table : AreThePlaces (StandsAt later) (compressed_record places at r).places
+  pub table : AreThePlaces (OccursAt later) (compressed_record places at r).places
   pub under : Under later (at + length (compressed_record places at r).octets)
   pub behind : Rest text (at + length (compressed_record places at r).octets) back
 
@@ -141,11 +141,11 @@ pub record RecordDone (text : List ℕ) (earlier : List Used) (places : List Pla
 record DataDone (text : List ℕ) (earlier : List Used) (places : List Place) (at : ℕ) (r : Record) (f : Option (List Field)) (stop : ℕ) (back : List ℕ) : Type 0 where
   later : List Used
   compressed : MatchOption f (OctetsAt text at r.rdata stop × (later ≡ earlier)) (λ fields. PartsCompressed text earlier at fields r.rdata stop later)
-  table : AreThePlaces (StandsAt later) (compressed_rdata places at r).places
+  table : AreThePlaces (OccursAt later) (compressed_rdata places at r).places
   under : Under later stop
   behind : Rest text stop back
 
-rdata_done : (text : List ℕ) (earlier : List Used) (places : List Place) (at : ℕ) (r : Record) (back : List ℕ) → IfSome (form r.rtype) (λ fields. AreFields fields r.rdata) → AreThePlaces (StandsAt earlier) places → Under earlier at
+rdata_done : (text : List ℕ) (earlier : List Used) (places : List Place) (at : ℕ) (r : Record) (back : List ℕ) → IfSome (form r.rtype) (λ fields. AreFields fields r.rdata) → AreThePlaces (OccursAt earlier) places → Under earlier at
     → Rest text at ((compressed_rdata places at r).octets ++ back) → DataDone text earlier places at r (form r.rtype) (at + length (compressed_rdata places at r).octets) back
 rdata_done text earlier places at r back fits table under h = go (form r.rtype) refl fits
   where
@@ -159,7 +159,7 @@ rdata_done text earlier places at r back fits table under h = go (form r.rtype) 
           later = earlier;
           compressed = subst (λ (f : Option (List Field)). MatchOption f (OctetsAt text at r.rdata (at + length (compressed_rdata places at r).octets) × (earlier ≡ earlier)) (λ fields. PartsCompressed text earlier at fields r.rdata (at + length (compressed_rdata places at r).octets) earlier)) (sym e)
               (subst (λ (k : ℕ). OctetsAt text at r.rdata k) stop p.here, refl);
-          table = subst (λ (x : Compressing). AreThePlaces (StandsAt earlier) x.places) (sym same) table;
+          table = subst (λ (x : Compressing). AreThePlaces (OccursAt earlier) x.places) (sym same) table;
           under = under_more earlier at (at + length (compressed_rdata places at r).octets) (omega arith) under;
           behind = subst (λ (k : ℕ). Rest text k back) stop p.behind;
         }
@@ -172,7 +172,7 @@ rdata_done text earlier places at r back fits table under h = go (form r.rtype) 
           later = d.later;
           compressed = subst (λ (f : Option (List Field)). MatchOption f (OctetsAt text at r.rdata (at + length (compressed_rdata places at r).octets) × (d.later ≡ earlier)) (λ fields. PartsCompressed text earlier at fields r.rdata (at + length (compressed_rdata places at r).octets) d.later)) (sym e)
               (subst (λ (k : ℕ). PartsCompressed text earlier at fields r.rdata k d.later) stop d.compressed);
-          table = subst (λ (x : Compressing). AreThePlaces (StandsAt d.later) x.places) (sym same) d.table;
+          table = subst (λ (x : Compressing). AreThePlaces (OccursAt d.later) x.places) (sym same) d.table;
           under = subst (Under d.later) stop d.under;
           behind = subst (λ (k : ℕ). Rest text k back) stop d.behind;
         }
@@ -180,7 +180,7 @@ rdata_done text earlier places at r back fits table under h = go (form r.rtype) 
 regroup : (o t c l s d back : List ℕ) → (((((o ++ t) ++ c) ++ l) ++ s) ++ d) ++ back ≡ o ++ ((((t ++ c) ++ l) ++ s) ++ (d ++ back))
 regroup o t c l s d back = simp append_assoc
 
-pub record_done : (text : List ℕ) (earlier : List Used) (places : List Place) (at : ℕ) (r : Record) (back : List ℕ) → IsRecord r → AreThePlaces (StandsAt earlier) places → Under earlier at → Rest text at ((compressed_record places at r).octets ++ back) → RecordDone text earlier places at r back
+pub record_done : (text : List ℕ) (earlier : List Used) (places : List Place) (at : ℕ) (r : Record) (back : List ℕ) → IsRecord r → AreThePlaces (OccursAt earlier) places → Under earlier at → Rest text at ((compressed_record places at r).octets ++ back) → RecordDone text earlier places at r back
 record_done text earlier places at r back valid table under h =
     let owner = compress_name places r.owner in
     let here = compressed_name places at r.owner in
@@ -216,7 +216,7 @@ record_done text earlier places at r back valid table under h =
     grouped o t c l s d = simp append_assoc
 
 -- all records
-pub records_done : (text : List ℕ) (earlier : List Used) (places : List Place) (at : ℕ) (rs : List Record) → AllByRecursion IsRecord rs → AreThePlaces (StandsAt earlier) places → Under earlier at → Rest text at (compressed_records places at rs) → RecordsCompressed text earlier at rs (length text)
+pub records_done : (text : List ℕ) (earlier : List Used) (places : List Place) (at : ℕ) (rs : List Record) → AllByRecursion IsRecord rs → AreThePlaces (OccursAt earlier) places → Under earlier at → Rest text at (compressed_records places at rs) → RecordsCompressed text earlier at rs (length text)
 records_done text earlier places at [] valid table under h =
     let whole : length text ≡ length h.front + 0 = ap length h.is ∙ length-append h.front [] in
     omega (arith, whole, h.size)
@@ -231,7 +231,7 @@ in_full [] = refl
 in_full (label ∷ rest) = ap (λ (xs : List ℕ). length label ∷ label ++ xs) (in_full rest)
 
 pub record Asked (r : Reply) (at : ℕ) : Type 0 where
-  pub table : AreThePlaces (StandsAt (question_fields r)) (question_places r)
+  pub table : AreThePlaces (OccursAt (question_fields r)) (question_places r)
   pub under : Under (question_fields r) at
 
 nothing : Under [] 12
@@ -244,7 +244,7 @@ asked_by r (Some e) h =
     let full : 12 + length (compress_name [] name) ≡ 12 + length (wire name) = ap (λ (xs : List ℕ). 12 + length xs) (in_full name) in
     let size : length e.octets ≡ length (wire name) + 4 = h.size in
     record {
-      table = subst (λ (k : ℕ). AreThePlaces (StandsAt (and_field [] 12 k name)) (new_places [] 12 name)) full (table_next [] [] 12 name table_first nothing.below);
+      table = subst (λ (k : ℕ). AreThePlaces (OccursAt (and_field [] 12 k name)) (new_places [] 12 name)) full (table_next [] [] 12 name table_first nothing.below);
       under = under_more (and_field [] 12 (12 + length (wire name)) name) (12 + length (wire name)) (12 + length e.octets) (omega arith) (under_field [] 12 (12 + length (wire name)) name (omega arith) nothing);
     }
 

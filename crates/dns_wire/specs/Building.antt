@@ -10,7 +10,7 @@ pub record Building : Type 0 where
   pub reply : Reply
   pub limit : ℕ
 
--- One record more stands last in the answer.
+-- One more record, last in the answer.
 abbrev pub with_record : Reply → Record → Reply
 with_record reply r = record reply { answer = reply.answer ++ r ∷ [] }
 
@@ -20,13 +20,13 @@ pub record HasNoRecord (reply : Reply) : Type 0 where
   pub authority : reply.authority ≡ []
   pub additional : reply.additional ≡ []
 
--- The answer of a reply, compressed behind its question.
+-- The answer of a reply, compressed, after its question.
 abbrev pub compressed_answer : Reply → Compressing
 compressed_answer reply =
     compressed_all (question_places reply) (12 + length (question_octets reply)) reply.answer
 
--- Behind 12 octets for the header, the octets are those of the reply.
-pub record IsBuilt (reply : Reply) (octets : List ℕ) : Type 0 where
+-- After 12 octets for the header, the octets are those of the reply.
+pub record IsReplyBuilt (reply : Reply) (octets : List ℕ) : Type 0 where
   pub authority : reply.authority ≡ []
   pub additional : reply.additional ≡ []
   pub head : List ℕ
@@ -34,9 +34,9 @@ pub record IsBuilt (reply : Reply) (octets : List ℕ) : Type 0 where
   pub written : octets ≡ (head ++ question_octets reply) ++ (compressed_answer reply).octets
   pub low : length octets ≤ 16384
 
--- So far the message has these octets, and the table of places is that behind them.
+-- So far the message has these octets, and the table of targets is that after them.
 pub record StandsBuilt (b : Building) (octets : List ℕ) (places : List Place) : Type 0 where
-  pub built : IsBuilt b.reply octets
+  pub built : IsReplyBuilt b.reply octets
   pub table : places ≡ (compressed_answer b.reply).places
   pub low : b.limit ≤ 16384
   pub fits : length octets ≤ b.limit

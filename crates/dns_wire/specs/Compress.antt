@@ -8,7 +8,7 @@ use Rattle.dns_records.specs.Types.{Field, Values, octet_count, Name, Uncompress
 use Rattle.dns_records.specs.Types.{class_in}
 use Rattle.dns_records.specs.Record.{Record}
 
--- Where a suffix of an earlier name stands, the least offset first.
+-- A target: where a suffix of an earlier name occurs, the least offset first.
 pub record Place : Type 0 where
   pub offset : ℕ
   pub suffix : Labels
@@ -19,7 +19,7 @@ place_of places suffix = find (λ p. names_eq p.suffix suffix) places
 abbrev pub pointer : ℕ → List ℕ
 pointer offset = (192 + offset / 256) ∷ offset % 256 ∷ []
 
--- The fewest labels, and then a pointer to the rest, where some rest stands earlier (RFC 1035 4.1.4).
+-- The fewest labels, and then a pointer to the rest, where some rest occurs earlier (RFC 1035 4.1.4).
 abbrev pub compress_name : List Place → Labels → List ℕ
 compress_name places [] = 0 ∷ []
 compress_name places (label ∷ rest) = elim (place_of places (label ∷ rest)) [
@@ -37,7 +37,7 @@ new_places places at (label ∷ rest) = elim (place_of places (label ∷ rest)) 
       else []
 ]
 
--- Octets, and the places behind them.
+-- Octets, and the targets after them.
 pub record Compressing : Type 0 where
   pub octets : List ℕ
   pub places : List Place
@@ -46,7 +46,7 @@ abbrev pub compressed_name : List Place → ℕ → Labels → Compressing
 compressed_name places at name =
     record { octets = compress_name places name; places = places ++ new_places places at name }
 
--- The data of a record, by its parts. Uncompressed names stand in full, and no pointer names them (RFC 2782).
+-- The data of a record, by its parts. Uncompressed names are in full, and no pointer names them (RFC 2782).
 abbrev pub compressed_fields : List Place → ℕ → List Field → List ℕ → Compressing
 compressed_fields places at [] rdata = record { octets = rdata; places = places }
 compressed_fields places at (Values vs ∷ fields) rdata =
@@ -80,7 +80,7 @@ compressed_record places at r =
       places = rdata.places;
     }
 
--- Records one behind the other.
+-- Records one after the other.
 abbrev pub compressed_records : List Place → ℕ → List Record → List ℕ
 compressed_records places at [] = []
 compressed_records places at (r ∷ rs) =

@@ -20,9 +20,9 @@ abbrev pub run_octets : Labels → List ℕ
 run_octets [] = []
 run_octets (label ∷ rest) = length label ∷ label ++ run_octets rest
 
--- A suffix stands at an offset: that of the length octet of a label inside an earlier name field, where the
+-- A suffix occurs at an offset: that of the length octet of a label inside an earlier name field, where the
 -- suffix is what the name of that field has from this label on.
-pub record StandsAt (earlier : List Used) (offset : ℕ) (suffix : Labels) : Type 0 where
+pub record OccursAt (earlier : List Used) (offset : ℕ) (suffix : Labels) : Type 0 where
   pub low : offset < 16384
   pub field : Used
   pub among : Contains earlier field
@@ -34,14 +34,14 @@ pub record StandsAt (earlier : List Used) (offset : ℕ) (suffix : Labels) : Typ
   pub inside : offset + 1 + length label < field.to
   pub is : suffix ≡ label ∷ rest
 
--- No suffix of the name longer than the rest stands.
+-- No suffix of the name longer than the rest occurs.
 abbrev pub NoneLonger : (ℕ → Labels → Type 0) → Labels → Labels → Type 0
 NoneLonger Stands front rest =
     (a b : Labels) (label : List ℕ) (offset : ℕ) → front ≡ a ++ label ∷ b
     → Stands offset ((label ∷ b) ++ rest) → ⊥
 
--- The octets that a name is written in where these suffixes stand (RFC 1035 4.1.4): the fewest labels and a
--- pointer to the least offset of the rest, or the name in full where no suffix of one label or more stands.
+-- The octets that a name is written in where these suffixes occur (RFC 1035 4.1.4): the fewest labels and a
+-- pointer to the least offset of the rest, or the name in full where no suffix of one label or more occurs.
 pub data IsWritten (Stands : ℕ → Labels → Type 0) (name : Labels) (octets : List ℕ) : Type 0 where
   full : NoneLonger Stands name [] → octets ≡ wire name → IsWritten Stands name octets
   shortened : (front : Labels) (label : List ℕ) (more : Labels) (target : ℕ)
@@ -51,31 +51,31 @@ pub data IsWritten (Stands : ℕ → Labels → Type 0) (name : Labels) (octets 
       → NoneLonger Stands front (label ∷ more)
       → octets ≡ run_octets front ++ pointer target → IsWritten Stands name octets
 
--- A table of places for where these suffixes stand: the least offset of each, and no place for any other.
+-- A table of targets for where these suffixes occur: the least offset of each, and no target for any other.
 pub record AreThePlaces (Stands : ℕ → Labels → Type 0) (places : List Place) : Type 0 where
   pub found : (suffix : Labels) (p : Place)
       → place_of places suffix ≡ Some p
       → Stands p.offset suffix × ((offset : ℕ) → Stands offset suffix → p.offset ≤ offset)
   pub none : (suffix : Labels) → place_of places suffix ≡ None → (offset : ℕ) → Stands offset suffix → ⊥
 
--- These octets stand from an offset up to another.
+-- The text has these octets from an offset up to another.
 pub record OctetsAt (text : List ℕ) (at : ℕ) (octets : List ℕ) (stop : ℕ) : Type 0 where
   pub last : stop ≡ at + length octets
   pub inside : stop ≤ length text
   pub read : slice_range text at stop ≡ octets
 
--- A name field that is compressed, where these stand earlier.
+-- A name field that is compressed, where these are the earlier ones.
 pub record FieldCompressed (text : List ℕ) (earlier : List Used) (at : ℕ) (name : Labels)
     (stop : ℕ) : Type 0 where
   pub octets : List ℕ
-  pub written : IsWritten (StandsAt earlier) name octets
+  pub written : IsWritten (OccursAt earlier) name octets
   pub here : OctetsAt text at octets stop
 
 abbrev pub and_field : List Used → ℕ → ℕ → Labels → List Used
 and_field earlier from to name = earlier ++ (record { from = from; to = to; name = name }) ∷ []
 
--- The parts of a record's data, and the name fields that there are behind them. Names are compressed, targets
--- stand in full and are never named (RFC 2782), all else stands as it is.
+-- The parts of a record's data, and the name fields that there are after them. Names are compressed, an SRV's
+-- target is written in full and never named by a pointer (RFC 2782), all else is written as it is.
 abbrev pub PartsCompressed : List ℕ → List Used → ℕ → List Field → List ℕ → ℕ → List Used → Type 0
 PartsCompressed text earlier at [] rdata stop later = OctetsAt text at rdata stop × (later ≡ earlier)
 PartsCompressed text earlier at (Values vs ∷ fields) rdata stop later =

@@ -1,4 +1,4 @@
--- An index of a table of places: each stands in a bucket by a number of its suffix.
+-- An index of a table of targets: each is in a bucket by a number of its suffix.
 use Rattle.std.specs.Prelude.{◌≡◌, ◌+◌, ◌*◌, ◌%◌, ℕ, List, [], Option, get_or}
 use Rattle.std.specs.Option.{option_map}
 use Rattle.std.specs.List.{fold}
@@ -6,7 +6,7 @@ use Rattle.dns_names.specs.Name.{Labels, labels_of}
 use Rattle.dns_names.specs.Plain.{IsPlain}
 use Rattle.dns_wire.specs.Compress.{Place, place_of}
 
--- The least offset at which a suffix stands.
+-- The least offset at which a suffix occurs.
 abbrev pub offset_at : List Place → Labels → Option ℕ
 offset_at places suffix = option_map (λ p. p.offset) (place_of places suffix)
 
@@ -18,7 +18,7 @@ summed sum octet = (sum * 31 + octet) % 65536
 unfoldable pub bucket_of : List ℕ → ℕ
 bucket_of suffix = fold summed 0 suffix % 128
 
--- Each suffix has in its bucket the least offset at which it stands.
+-- Each suffix has in its bucket the least offset at which it occurs.
 pub record IsIndexed (places : List Place) (buckets : List (List Place)) : Type 0 where
   pub at : (suffix : List ℕ) → IsPlain suffix
       → offset_at (get_or buckets (bucket_of suffix) []) (labels_of suffix)

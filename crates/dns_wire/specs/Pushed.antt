@@ -6,7 +6,7 @@ use Rattle.dns_wire.specs.Building.{Building, with_record}
 use Rattle.dns_wire.specs.declared.builder.Pushed.{Pushed}
 use Rattle.dns_wire.specs.declared.builder.Pushed.TheVariants.{Open, Full}
 
--- It has the record behind the others; or it is done, since with the record it is over its limit.
+-- It has the record after the others; or it is done, since with the record it is over its limit.
 abbrev pub IsPushed : Building → Record → Pushed → Type 0
 IsPushed b r (Open next) = next ≡ record b { reply = with_record b.reply r }
 IsPushed b r (Full octets) =

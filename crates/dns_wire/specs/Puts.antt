@@ -10,7 +10,7 @@ use Rattle.dns_wire.specs.Text.{EchoedQuestion}
 use Rattle.dns_wire.specs.declared.WriteError.{WriteError}
 use Rattle.dns_wire.specs.declared.WriteError.TheVariants.{OutOfMemory, DoesNotFit}
 
--- More octets stand behind those that stood, within the limit, and the table of places is as said.
+-- More octets follow those that were there, within the limit, and the table of targets is as stated.
 pub record Wrote (limit : ℕ) (before after : List ℕ) (limit' : ℕ) (places' : List Place)
     (more : Compressing) : Type 0 where
   pub octets : after ≡ before ++ more.octets
@@ -23,11 +23,11 @@ abbrev pub RefusesUpTo : ℕ → ℕ → WriteError → Type 0
 RefusesUpTo limit size OutOfMemory = Unit {0}
 RefusesUpTo limit size DoesNotFit = limit < size
 
--- Octets alone, which add no place.
+-- Octets alone, which add no target.
 abbrev pub plain_octets : List Place → List ℕ → Compressing
 plain_octets places octets = record { octets = octets; places = places }
 
--- Records one behind the other, and the places behind them.
+-- Records one after the other, and the targets after them.
 abbrev pub compressed_all : List Place → ℕ → List Record → Compressing
 compressed_all places at [] = record { octets = []; places = places }
 compressed_all places at (r ∷ rs) =
@@ -35,7 +35,7 @@ compressed_all places at (r ∷ rs) =
     let after = compressed_all here.places (at + length here.octets) rs in
     record { octets = here.octets ++ after.octets; places = after.places }
 
--- The plain form of a name stands at the front of the octets.
+-- The plain form of a name is at the front of the octets.
 pub record BeginsWithName (octets : List ℕ) : Type 0 where
   pub name : Labels
   pub rest : List ℕ
@@ -49,16 +49,16 @@ is_name Name = true
 is_name UncompressedName = false
 is_name Strings = false
 
--- What stands between the owner and the data of a record, with no length of the data yet.
+-- The octets between the owner and the data of a record, with no length of the data yet.
 abbrev pub fixed_octets : ℕ → ℕ → List ℕ
 fixed_octets rtype ttl =
     to_be_bytes w16 rtype ++ to_be_bytes w16 class_in ++ to_be_bytes w32 ttl ++ 0 ∷ 0 ∷ []
 
--- The place of a suffix, if a pointer can name it.
+-- The target for a suffix at an offset, if a pointer can name the offset.
 abbrev pub noted : ℕ → Labels → List Place
 noted at name = if nat_lt at 16384 then record { offset = at; suffix = name } ∷ [] else []
 
--- The question of a reply, and the places of its name.
+-- The question of a reply, and the targets in its name.
 abbrev pub asked : Option EchoedQuestion → Compressing
 asked None = record { octets = []; places = [] }
 asked (Some q) = record { octets = q.octets; places = new_places [] 12 q.name }

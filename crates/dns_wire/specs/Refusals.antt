@@ -19,7 +19,7 @@ IsCut message stop =
     ((octet : ℕ) × IsCutAt message stop octet)
     ⊎ ((high : ℕ) × (slice_get message stop ≡ Some high) × (192 ≤ high) × (length message ≤ stop + 1))
 
--- What stands behind the labels of a run that begins at an offset and may take so many octets (RFC 1035 2.3.4
+-- What follows the labels of a run that begins at an offset and may take so many octets (RFC 1035 2.3.4
 -- and 4.1.4).
 abbrev pub EndRefused : List ℕ → ℕ → ℕ → ℕ → ReadError → Type 0
 EndRefused message run room stop NameTooLong = run + room < stop
@@ -38,7 +38,7 @@ pub record RunRefused (message : List ℕ) (run room : ℕ) (e : ReadError) : Ty
   pub stand : LabelsAt message run labels stop
   pub fault : EndRefused message run room stop e
 
--- The fault of a name is in its labels, or in those behind a pointer.
+-- The fault of a name is in its labels, or in those that a pointer leads to.
 pub data NameRefused (message : List ℕ) (e : ReadError) : ℕ → ℕ → Type 0 where
   here : {at room : ℕ} → RunRefused message at room e → NameRefused message e at room
   behind : {at room : ℕ}
@@ -54,7 +54,7 @@ pub data NameRefused (message : List ℕ) (e : ReadError) : ℕ → ℕ → Type
 abbrev pub NoName : List ℕ → ℕ → ReadError → Type 0
 NoName message at e = NameRefused message e at 254
 
--- A name that stands in data that ends at an offset, and doesn't end there.
+-- A name in data that ends at an offset: it is refused, or ends past the end of the data.
 abbrev pub NoNamePart : List ℕ → ℕ → ℕ → ReadError → Type 0
 NoNamePart message at stop e =
     NoName message at e
@@ -83,7 +83,7 @@ QuestionRefused message at e =
     NoName message at e
     ⊎ ((name : Labels) × (mid : ℕ) × FullNameAt message at name mid × (length message < mid + 4) × (e ≡ Cut))
 
--- Behind the owner of a record: its ten octets or its data are cut, or the data is refused.
+-- After the owner of a record: its ten octets or its data are cut, or the data is refused.
 pub record DataRefused (message : List ℕ) (mid : ℕ) (e : ReadError) : Type 0 where
   pub rtype : ℕ
   pub size : ℕ
@@ -97,13 +97,13 @@ ResourceRecordRefused message at e =
     ⊎ ((owner : Labels) × (mid : ℕ) × FullNameAt message at owner mid
     × (((length message < mid + 10) × (e ≡ Cut)) ⊎ DataRefused message mid e))
 
--- Of so many, one behind the other, the first that doesn't stand.
+-- Of so many, one after the other, the first that is refused.
 abbrev pub TimesRefused : (ℕ → ℕ → Type 0) → (ℕ → ReadError → Type 0) → ℕ → ℕ → ReadError → Type 0
 TimesRefused One Refused zero at e = ⊥
 TimesRefused One Refused (suc n) at e =
     Refused at e ⊎ ((mid : ℕ) × One at mid × TimesRefused One Refused n mid e)
 
--- The sections: so many questions or records each, and no octet behind the last (RFC 1035 4.1).
+-- The sections: so many questions or records each, and no octet after the last (RFC 1035 4.1).
 pub data Kind : Type 0 where
   Questions : Kind
   Records : Kind
@@ -134,6 +134,6 @@ pub record CountsRefused (octets : List ℕ) (e : ReadError) : Type 0 where
   pub fault : SectionsRefused octets
       ((Questions, qdcount) ∷ (Records, ancount) ∷ (Records, nscount) ∷ (Records, arcount) ∷ []) 12 e
 
--- There is no header, or what behind it is not what it counts.
+-- There is no header, or what follows it is not what it counts.
 abbrev pub MessageRefused : List ℕ → ReadError → Type 0
 MessageRefused octets e = ((length octets < 12) × (e ≡ Short)) ⊎ CountsRefused octets e

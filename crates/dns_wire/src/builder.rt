@@ -1,6 +1,6 @@
 //! A message whose answer is filled record by record, as far as it goes: a transfer's (RFC 5936 section 2.2).
 ghost use Rattle.std.specs.Prelude.{◌≡◌, ◌≤◌, ◌++◌, length, drop, IfOk, IfErr, OnOk};
-ghost use Rattle.dns_wire.specs.Building.{HasNoRecord, IsBuilt, StandsBuilt};
+ghost use Rattle.dns_wire.specs.Building.{HasNoRecord, IsReplyBuilt, StandsBuilt};
 ghost use Rattle.dns_wire.specs.Contents.{said};
 ghost use Rattle.dns_wire.specs.Compress.{compressed_record};
 ghost use Rattle.dns_wire.specs.Pushed.{IsPushed};
@@ -19,8 +19,8 @@ use std::marker::Model;
 /// The octets that a message and one record more have room in, whatever the record.
 const ROOM: usize = 65535;
 
-/// So many places are looked through one by one, behind those of the apex, under which most names of a
-/// transfer are.
+/// How many targets are searched one by one, after those of the apex, under which most names of a transfer
+/// are.
 const FEW_PLACES: usize = 2;
 
 /// What a message says so far, and its octets.
@@ -33,8 +33,8 @@ struct Contents<'a> {
     limit: usize,
 }
 
-/// A message that takes records into its answer, one behind the other, while they fit. It stands on the heap,
-/// so that it is handed on at the cost of a pointer.
+/// A message that takes records into its answer, one after the other, while they fit. It is stored on the
+/// heap, so that it is passed on at the cost of a pointer.
 #[derive(Drop)]
 pub struct MessageBuilder<'a> {
     contents: Box<Contents<'a>, Heap>,
@@ -64,7 +64,7 @@ pub enum Pushed<'a> {
     Full(Vec<u8, Heap>),
 }
 
-/// Writes a record behind octets of a message: whatever the record, there is room for it.
+/// Writes a record after octets of a message: whatever the record, there is room for it.
 fn put_any<'a>(compressor: &mut Compressor<'a>, one: &ReplyRecord<'a>) -> Result<(), AllocError>
     requires low { length compressor.old.octets.items ≤ 16384 }
     requires room { compressor.old.limit ≡ 65535 }
@@ -89,9 +89,9 @@ fn put_header(octets: &mut Vec<u8, Heap>, header: &[u8; 12])
     octets.as_mut_slice()[0..12].copy_from_slice(header);
 }
 
-/// The octets of a message with its header, in place of the twelve that stand there.
+/// The octets of a message with its header, in place of the first twelve.
 fn finished(reply: &Reply<'_, '_>, mut octets: Vec<u8, Heap>) -> Vec<u8, Heap>
-    requires { IsBuilt (stated reply.now) octets.items }
+    requires { IsReplyBuilt (stated reply.now) octets.items }
     ensures { result.items ≡ text (stated reply.now) }
 {
     match header(reply) {
@@ -103,7 +103,7 @@ fn finished(reply: &Reply<'_, '_>, mut octets: Vec<u8, Heap>) -> Vec<u8, Heap>
 
 /// The octets of a message with its header.
 fn octets_of(contents: Contents<'_>) -> Vec<u8, Heap>
-    requires { IsBuilt (said contents) contents.compressor.octets.items }
+    requires { IsReplyBuilt (said contents) contents.compressor.octets.items }
     ensures { result.items ≡ text (said contents.entry) }
 {
     let Contents {
@@ -162,7 +162,7 @@ impl<'a> MessageBuilder<'a> {
         Ok(MessageBuilder::of(alloc, contents)?)
     }
 
-    /// Puts a record behind the others, if the message fits its limit with it.
+    /// Puts a record after the others, if the message fits its limit with it.
     pub fn push(self, one: ReplyRecord<'a>) -> Result<Pushed<'a>, AllocError>
         ensures { IfOk result (λ pushed. IsPushed self.entry one.entry pushed) }
     {

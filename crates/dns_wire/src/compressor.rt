@@ -9,7 +9,7 @@ use crate::WriteError;
 use crate::known::Places;
 use dns_memory::Heap;
 
-/// A message while it is written: its octets so far, and the places that pointers can name.
+/// A message while it is written: its octets so far, and the targets that pointers can name.
 #[derive(Drop)]
 pub(crate) struct Compressor<'a> {
     pub(crate) octets: Vec<u8, Heap>,
@@ -34,7 +34,7 @@ impl<'a> Compressor<'a> {
         Ok(())
     }
 
-    /// Writes a name: the fewest labels, and a pointer to the rest where some rest stands earlier (RFC 1035
+    /// Writes a name: the fewest labels, and a pointer to the rest where some rest occurs earlier (RFC 1035
     /// section 4.1.4).
     #[inline(always)]
     pub(crate) fn put_name(&mut self, name: &'a [u8]) -> Result<(), WriteError>

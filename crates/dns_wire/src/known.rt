@@ -1,4 +1,4 @@
-//! The places that pointers can name: where a suffix was written before (RFC 1035 section 4.1.4).
+//! The targets that pointers can name: where a suffix was written before (RFC 1035 section 4.1.4).
 ghost use Rattle.std.specs.Prelude.{◌≡◌, ◌<◌, List, [], ◌∷◌, ◌++◌, length, get_or, IfOk, IfSome, MatchOption};
 ghost use Rattle.std.specs.Prelude.{OnErr, OnOk};
 ghost use Rattle.dns_names.specs.Name.{labels_of, names_eq};
@@ -11,7 +11,7 @@ use dns_memory::Heap;
 use std::alloc::AllocError;
 use std::marker::Model;
 
-/// Where a suffix of an earlier name stands: the plain form of the suffix is lent.
+/// Where a suffix of an earlier name occurs: the plain form of the suffix is lent.
 #[derive(Drop)]
 pub(crate) struct Target<'a> {
     offset: usize,
@@ -32,7 +32,7 @@ impl<'a> Model for Target<'a> {
 }
 
 impl<'a> Target<'a> {
-    /// Whether the suffix stands here.
+    /// Whether the suffix is the one that occurs here.
     fn is(&self, suffix: &[u8]) -> bool
         requires { IsPlain suffix.now }
         ensures { result ≡ names_eq self.now.suffix (labels_of suffix.now) }
@@ -41,7 +41,7 @@ impl<'a> Target<'a> {
     }
 }
 
-/// The least offset at which a suffix stands.
+/// The least offset at which a suffix occurs.
 fn place_of(places: &[Target<'_>], suffix: &[u8]) -> Option<usize>
     requires { IsPlain suffix.now }
     ensures place { result ≡ offset_at places.now (labels_of suffix.now) }
@@ -55,7 +55,7 @@ fn place_of(places: &[Target<'_>], suffix: &[u8]) -> Option<usize>
     None
 }
 
-/// Where a suffix of a name stands that is written in full behind the header.
+/// Where a suffix occurs in a name that is written in full after the header.
 fn place_within(name: &[u8], suffix: &[u8]) -> Option<usize>
     requires name { IsPlain name.now }
     requires suffix { IsPlain suffix.now }
@@ -76,7 +76,8 @@ fn place_within(name: &[u8], suffix: &[u8]) -> Option<usize>
     None
 }
 
-/// The places behind them whose suffixes have one number, in the order of their offsets.
+/// Of the targets after those that are searched one by one, the ones whose suffixes have the same number, in
+/// the order of their offsets.
 #[derive(Drop)]
 struct Bucket<'a> {
     places: Vec<Target<'a>, Heap>,
@@ -92,7 +93,7 @@ impl<'a> Model for Bucket<'a> {
 }
 
 impl<'a> Bucket<'a> {
-    /// No place.
+    /// An empty bucket.
     fn new(alloc: Heap) -> Bucket<'a>
         ensures { result ≡ [] }
     {
@@ -101,7 +102,7 @@ impl<'a> Bucket<'a> {
         }
     }
 
-    /// Keeps that a suffix stands at an offset that a pointer can name.
+    /// Notes that a suffix occurs at an offset that a pointer can name.
     fn push(&mut self, offset: usize, suffix: &'a [u8]) -> Result<(), AllocError>
         requires plain { IsPlain suffix.now }
         requires low { offset < 16384 }
@@ -114,8 +115,8 @@ impl<'a> Bucket<'a> {
     }
 }
 
-/// The number of the bucket in which a suffix is looked for: of its octets, so that most have one of their
-/// own.
+/// The number of the bucket in which a suffix is looked for: computed from its octets, so that most have one
+/// of their own.
 fn bucket_of(suffix: &[u8]) -> usize
     ensures { result ≡ bucket_of suffix.now }
 {
@@ -126,7 +127,7 @@ fn bucket_of(suffix: &[u8]) -> usize
     sum % 128
 }
 
-/// What stands in the bucket with a number.
+/// What the bucket with a number holds.
 fn places_in<'b, 'a>(buckets: &'b [Bucket<'a>], number: usize) -> &'b [Target<'a>]
     ensures { result.now ≡ get_or buckets.now number [] }
 {
@@ -137,7 +138,7 @@ fn places_in<'b, 'a>(buckets: &'b [Bucket<'a>], number: usize) -> &'b [Target<'a
     &[]
 }
 
-/// Puts empty buckets behind the others until there is one with that number.
+/// Appends empty buckets to the others until there is one with that number.
 fn reach(alloc: Heap, buckets: &mut Vec<Bucket<'_>, Heap>, number: usize) -> Result<(), AllocError>
     ensures there { OnOk result (number < length buckets.new.items) }
     ensures same { (places : List Place) → IsIndexed places buckets.old.items
@@ -149,7 +150,7 @@ fn reach(alloc: Heap, buckets: &mut Vec<Bucket<'_>, Heap>, number: usize) -> Res
     Ok(())
 }
 
-/// Keeps in the bucket with its number that a suffix stands at an offset.
+/// Notes in the bucket with its number that a suffix occurs at an offset.
 fn keep_later<'a>(
     alloc: Heap,
     buckets: &mut Vec<Bucket<'a>, Heap>,
@@ -170,12 +171,12 @@ fn keep_later<'a>(
     buckets[number].push(offset, suffix)
 }
 
-/// The places behind the first name's, in the order of their offsets.
+/// The targets after those of the first name, in the order of their offsets.
 struct Listed<'a> {
     all: Vec<Target<'a>, Heap>,
-    /// How many are looked through one by one.
+    /// How many are searched one by one.
     looked_through: usize,
-    /// Those behind them, by the number of their suffix.
+    /// Those after them, by the number of their suffix.
     later: Vec<Bucket<'a>, Heap>,
 }
 
@@ -204,8 +205,8 @@ impl<'a> Model for Listed<'a> {
 }
 
 impl<'a> Listed<'a> {
-    /// No place. So many will be looked through one by one, and the others by a number of theirs: what is
-    /// found is the same.
+    /// No target. The first `looked_through` will be searched one by one, and the others by the number of
+    /// their suffix: what is found is the same.
     fn new(alloc: Heap, looked_through: usize) -> Listed<'a>
         ensures { result ≡ [] }
     {
@@ -216,7 +217,7 @@ impl<'a> Listed<'a> {
         }
     }
 
-    /// The least offset at which a suffix stands here. Where it stands nowhere, it is kept that it stands at
+    /// The least offset at which a suffix occurs here. Where it occurs nowhere, it is noted that it occurs at
     /// this one, if a pointer can name that.
     #[inline(never)]
     fn find_or_keep(&mut self, offset: usize, suffix: &'a [u8]) -> Result<Option<usize>, AllocError>
@@ -252,11 +253,11 @@ impl<'a> Listed<'a> {
     }
 }
 
-/// The places of a message, in the order of their offsets: those of the name behind the header, and the
+/// The targets of a message, in the order of their offsets: those of the name after the header, and the
 /// others. Most replies have none but those of the question's name, and they take no memory.
 #[derive(Drop)]
 pub(crate) struct Places<'a> {
-    /// The name that stands in full behind the header: the root, where there is none.
+    /// The name that is written in full after the header: the root, where there is none.
     first: &'a [u8],
     listed: Listed<'a>,
 }
@@ -275,8 +276,8 @@ impl<'a> Model for Places<'a> {
 }
 
 impl<'a> Places<'a> {
-    /// No place. So many behind the first name's will be looked through one by one, and the others by a
-    /// number of theirs: what is found is the same.
+    /// No target. The first `looked_through` after those of the first name will be searched one by one, and
+    /// the others by the number of their suffix: what is found is the same.
     pub(crate) fn new(alloc: Heap, looked_through: usize) -> Places<'a>
         ensures { result ≡ [] }
     {
@@ -286,7 +287,7 @@ impl<'a> Places<'a> {
         }
     }
 
-    /// Keeps the places of the first name, which stands in full behind the header.
+    /// Keeps the targets of the first name, which is written in full after the header.
     pub(crate) fn begin(&mut self, name: &'a [u8])
         requires plain { IsPlain name.now }
         requires first { self.old ≡ [] }
@@ -295,7 +296,7 @@ impl<'a> Places<'a> {
         self.first = name;
     }
 
-    /// The least offset at which a suffix stands. Where it stands nowhere, it is kept that it stands at this
+    /// The least offset at which a suffix occurs. Where it occurs nowhere, it is noted that it occurs at this
     /// one, if a pointer can name that.
     pub(crate) fn find_or_keep(
         &mut self,

@@ -24,7 +24,7 @@ fn append_name(message: &[u8], at: usize, out: &mut Vec<u8, Heap>) -> Result<usi
     out.extend_from_slice(&octets[..size])?;
     match name_end(message, at) {
         Ok(end) => Ok(end),
-        // A name stands there.
+        // There is a name at the offset.
         Err(_) => unreachable!(),
     }
 }

@@ -17,7 +17,7 @@ fn copy_lower(text: &[u8], out: &mut [u8], at: usize)
     field.make_ascii_lowercase();
 }
 
-/// Writes the plain form of the name that stands at an offset, in lower case, and gives its length.
+/// Writes the plain form of the name at an offset, in lower case, and gives its length.
 pub(crate) fn copy_plain(message: &[u8], at: usize, out: &mut [u8]) -> usize
     requires there { IsViewed message.now at }
     requires room { 255 ≤ length out.old }

@@ -1,4 +1,4 @@
-//! A record written behind a message's octets, its names compressed.
+//! A record written after a message's octets, its names compressed.
 ghost use Rattle.std.specs.Prelude.{◌≡◌, ◌+◌, ◌-◌, ◌<◌, ◌≤◌, ◌++◌, length, take, drop, IfErr, OnOk};
 ghost use Rattle.std.specs.Int.{w16, to_be_bytes as be_octets};
 ghost use Rattle.dns_names.specs.Name.{labels_of, wire};
@@ -14,7 +14,7 @@ use crate::compressor::Compressor;
 use crate::{ReplyRecord, WriteError};
 use dns_records::{Field, count_within, form};
 
-/// The name at the front of plain octets, and the octets behind it.
+/// The name at the front of plain octets, and the octets after it.
 fn split_name(octets: &[u8]) -> (&[u8], &[u8])
     requires { BeginsWithName octets.now }
     ensures plain { IsPlain result.0.now }
@@ -46,8 +46,8 @@ fn have_name(fields: &[Field]) -> bool
 }
 
 impl<'a> Compressor<'a> {
-    /// Writes the parts of the data of a record. Uncompressed names stand in full, and no
-    /// pointer names them (RFC 2782).
+    /// Writes the parts of the data of a record. Uncompressed names are written in full, and no pointer names
+    /// them (RFC 2782).
     fn put_fields(&mut self, fields: &[Field], rdata: &'a [u8]) -> Result<(), WriteError>
         requires form { AreFields (stated_fields fields.now) rdata.now }
         requires room { length self.old.octets.items ≤ self.old.limit }
@@ -139,7 +139,7 @@ impl<'a> Compressor<'a> {
         Ok(())
     }
 
-    /// Writes records one behind the other. Most sections have none, which costs no call.
+    /// Writes records one after the other. Most sections have none, which costs no call.
     #[inline(always)]
     pub(crate) fn put_records(&mut self, records: &[ReplyRecord<'a>]) -> Result<(), WriteError>
         requires room { length self.old.octets.items ≤ self.old.limit }

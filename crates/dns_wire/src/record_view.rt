@@ -12,7 +12,7 @@ use dns_records::{RData, Record, RecordError};
 use std::alloc::AllocError;
 use std::marker::Model;
 
-/// A record in a message, which stays where it is (RFC 1035 section 4.1.3). Any class and type can stand
+/// A record in a message, which stays where it is (RFC 1035 section 4.1.3). Any class and type can occur
 /// there, and a TTL of any 32 bits.
 #[derive(Drop)]
 pub struct RecordView<'a> {
@@ -61,7 +61,7 @@ impl<'a> RecordView<'a> {
         long_number(self.message, self.behind_owner + 4)
     }
 
-    /// The data in plain form, names in full and in lower case: empty where RDLENGTH is 0, and as it stands
+    /// The data in plain form, names in full and in lower case: empty where RDLENGTH is 0, and as it is
     /// where the type is not known (RFC 3597 section 3).
     pub fn rdata(&self, alloc: Heap) -> Result<Vec<u8, Heap>, AllocError>
         ensures { IfOk result (λ octets. octets.items ≡ self.now.rdata) }

@@ -9,14 +9,14 @@ ghost use Rattle.dns_wire.specs.Valid.{IsReply, message_of_reply};
 ghost use Rattle.dns_wire.specs.Text.{Reply as Stated, text, header_octets};
 ghost use Rattle.dns_names.specs.Name.{Labels};
 ghost use Rattle.dns_wire.specs.Compress.{Place, compress_name, new_places};
-ghost use Rattle.dns_wire.specs.Compressed.{Used, StandsAt, IsWritten, AreThePlaces, IsCompressed, and_field};
+ghost use Rattle.dns_wire.specs.Compressed.{Used, OccursAt, IsWritten, AreThePlaces, IsCompressed, and_field};
 
 use crate::compressor::Compressor;
 use crate::known::Places;
 use crate::{EchoedQuestion, Reply, ReplyRecord, WriteError};
 use dns_memory::Heap;
 
-/// Few replies have more places that pointers can name, behind those of the question.
+/// Few replies have more targets that pointers can name, after those of the question.
 const FEW_PLACES: usize = 12;
 
 /// Writes messages.
@@ -68,7 +68,7 @@ pub(crate) fn header(reply: &Reply<'_, '_>) -> Result<[u8; 12], WriteError>
 }
 
 impl<'a> Compressor<'a> {
-    /// Writes the question of a reply as it came, behind the header.
+    /// Writes the question of a reply as it came, after the header.
     pub(crate) fn put_question(
         &mut self,
         question: &Option<EchoedQuestion<'a>>,
@@ -113,7 +113,7 @@ impl<'a> Compressor<'a> {
 
 impl Writer {
     /// The one compressed text of a reply (RFC 1035 section 4.1), if it has at most so many octets: a
-    /// datagram takes 512, and the length before a message on a stream tells at most 65,535 (RFC 1035
+    /// datagram takes 512, and the length before a message on a stream is at most 65,535 (RFC 1035
     /// section 4.2). It refuses with `DoesNotFit` where the text is longer, and with `OutOfMemory` where
     /// memory is wanting.
     pub fn write(
@@ -138,7 +138,7 @@ impl Writer {
 
 /// A reply has at most one compressed text, and the computed text is that, and reads as the reply. Each
 /// record takes ten octets or more. The computed compression writes a name as it is to be written, and keeps
-/// its table of places right.
+/// its table of targets right.
 pub fn one_compressed_text()
     ensures once { (t u : List ℕ) (r : Stated) → IsCompressed t r → IsCompressed u r → t ≡ u }
     ensures compressed { (r : Stated) → IsReply r → IsCompressed (text r) r }
@@ -146,12 +146,12 @@ pub fn one_compressed_text()
         → 12 + 10 * (length r.answer + length r.authority + length r.additional) ≤ length (text r) }
     ensures reads_back { (r : Stated) → IsReply r → Reads (text r) (message_of_reply r) }
     ensures written { (earlier : List Used) (places : List Place) (name : Labels)
-        → AreThePlaces (StandsAt earlier) places
-        → IsWritten (StandsAt earlier) name (compress_name places name) }
-    ensures first { AreThePlaces (StandsAt []) [] }
+        → AreThePlaces (OccursAt earlier) places
+        → IsWritten (OccursAt earlier) name (compress_name places name) }
+    ensures first { AreThePlaces (OccursAt []) [] }
     ensures next { (earlier : List Used) (places : List Place) (at : ℕ) (name : Labels)
-        → AreThePlaces (StandsAt earlier) places
-        → ((offset : ℕ) (suffix : Labels) → StandsAt earlier offset suffix → offset < at)
-        → AreThePlaces (StandsAt (and_field earlier at (at + length (compress_name places name)) name))
+        → AreThePlaces (OccursAt earlier) places
+        → ((offset : ℕ) (suffix : Labels) → OccursAt earlier offset suffix → offset < at)
+        → AreThePlaces (OccursAt (and_field earlier at (at + length (compress_name places name)) name))
         (places ++ new_places places at name) }
 {}

@@ -14,7 +14,7 @@ use Rattle.dns_zone.specs.Sets.{Sorted, Below, below_less, below_tied, equal_is,
 use Rattle.dns_zone.specs.Twice.{alike_is}
 use Rattle.std.proofs.lemmas.List.{get_or_default}
 use Rattle.std.proofs.lemmas.Option.{slice_get-get_or}
-use Rattle.dns_zone.specs.Place.{StandsAt, BelongsAt}
+use Rattle.dns_zone.specs.Place.{IsRecordAt, BelongsAt}
 
 turned : (a b : Ordering) → a ≡ ordering_reverse b → b ≡ Less → a ≡ Greater
 turned a b e l = e ∙ ap ordering_reverse l
@@ -29,7 +29,7 @@ none_above : (r : Record) (xs : List Record) → Below r xs → has r xs ≡ fal
 none_above r [] h = refl
 none_above r (x ∷ xs) h = ap (λ (o : Ordering). is_eq o || has r xs) h.0 ∙ none_above r xs h.1
 
-pub stands : (r : Record) (xs : List Record) (at : ℕ) → Sorted xs → at < length xs → AllWithin (λ s. is_lt (record_cmp s r) ≡ true) xs 0 at → record_cmp (get_or xs at r) r ≡ Equal → StandsAt r xs at
+pub stands : (r : Record) (xs : List Record) (at : ℕ) → Sorted xs → at < length xs → AllWithin (λ s. is_lt (record_cmp s r) ≡ true) xs 0 at → record_cmp (get_or xs at r) r ≡ Equal → IsRecordAt r xs at
 stands r [] at h inside before e = absurd (omega arith)
 stands r (s ∷ rest) zero h inside before e =
     let back : record_cmp r s ≡ Equal = tied_back record_total s r e in

@@ -10,7 +10,7 @@ use borrow.Author.Tests.{ltb-true, lt-ltb}
 use Rattle.dns_records.specs.Record.{Record, record_cmp}
 use Rattle.dns_zone.specs.Order.{record_total}
 use Rattle.dns_zone.specs.Sets.{Sorted, Below}
-use Rattle.dns_zone.specs.Survey.{behind}
+use Rattle.dns_zone.specs.Survey.{records_after}
 
 -- a count that stops one behind its limit
 pub capped : (limit c m : ℕ) → nat_lt limit (c + suc m) ≡ nat_lt limit (min c limit + 1 + m)
@@ -31,13 +31,13 @@ or_assoc true b c = refl
 or_assoc false b c = refl
 
 -- the records behind one, in order
-found_head : (r x : Record) (xs : List Record) (b : Bool) (y : Record) → cond b (Some x) (find (λ s. is_lt (record_cmp r s)) xs) ≡ Some y → (find (λ s. is_lt (record_cmp r s)) xs ≡ Some y → (tail : List Record) × (behind (Some r) xs ≡ y ∷ tail)) → (tail : List Record) × (cond b (x ∷ xs) (behind (Some r) xs) ≡ y ∷ tail)
+found_head : (r x : Record) (xs : List Record) (b : Bool) (y : Record) → cond b (Some x) (find (λ s. is_lt (record_cmp r s)) xs) ≡ Some y → (find (λ s. is_lt (record_cmp r s)) xs ≡ Some y → (tail : List Record) × (records_after (Some r) xs ≡ y ∷ tail)) → (tail : List Record) × (cond b (x ∷ xs) (records_after (Some r) xs) ≡ y ∷ tail)
 found_head r x xs true y e inner = let same : x ≡ y = cc in (xs, ap (λ (s : Record). s ∷ xs) same)
 found_head r x xs false y e inner = inner e
 
-behind_below : (r : Record) (xs : List Record) → Below r xs → behind (Some r) xs ≡ xs
+behind_below : (r : Record) (xs : List Record) → Below r xs → records_after (Some r) xs ≡ xs
 behind_below r [] h = refl
-behind_below r (x ∷ xs) h = ap (λ (o : Ordering). cond (is_lt o) (x ∷ xs) (behind (Some r) xs)) h.0
+behind_below r (x ∷ xs) h = ap (λ (o : Ordering). cond (is_lt o) (x ∷ xs) (records_after (Some r) xs)) h.0
 
 below_dropped : (x : Record) (xs : List Record) (k : ℕ) (r : Record) (tail : List Record) → Below x xs → drop k xs ≡ r ∷ tail → record_cmp x r ≡ Less
 below_dropped x [] zero r tail h e = absurd cc
@@ -45,17 +45,17 @@ below_dropped x [] (suc k) r tail h e = absurd cc
 below_dropped x (y ∷ ys) zero r tail h e = let same : y ≡ r = cc in subst (λ (s : Record). record_cmp x s ≡ Less) same h.0
 below_dropped x (y ∷ ys) (suc k) r tail h e = below_dropped x ys k r tail h.1 e
 
-pub behind_at : (xs : List Record) (k : ℕ) (r : Record) (tail : List Record) → Sorted xs → drop k xs ≡ r ∷ tail → behind (Some r) xs ≡ tail
+pub behind_at : (xs : List Record) (k : ℕ) (r : Record) (tail : List Record) → Sorted xs → drop k xs ≡ r ∷ tail → records_after (Some r) xs ≡ tail
 behind_at [] zero r tail h e = absurd cc
 behind_at [] (suc k) r tail h e = absurd cc
 behind_at (x ∷ xs) zero r tail h e =
     let same : x ≡ r = cc in
     let rest : xs ≡ tail = cc in
-    ap (λ (s : Record). behind (Some s) (x ∷ xs)) (sym same) ∙ ap (λ (o : Ordering). cond (is_lt o) (x ∷ xs) (behind (Some x) xs)) (tied_itself record_total x) ∙ behind_below x xs h.0 ∙ rest
+    ap (λ (s : Record). records_after (Some s) (x ∷ xs)) (sym same) ∙ ap (λ (o : Ordering). cond (is_lt o) (x ∷ xs) (records_after (Some x) xs)) (tied_itself record_total x) ∙ behind_below x xs h.0 ∙ rest
 behind_at (x ∷ xs) (suc k) r tail h e =
     let less = below_dropped x xs k r tail h.0 e in
     let past : record_cmp r x ≡ Greater = record_total.antisymm r x ∙ ap ordering_reverse less in
-    ap (λ (o : Ordering). cond (is_lt o) (x ∷ xs) (behind (Some r) xs)) past ∙ behind_at xs k r tail h.1 e
+    ap (λ (o : Ordering). cond (is_lt o) (x ∷ xs) (records_after (Some r) xs)) past ∙ behind_at xs k r tail h.1 e
 
 pub dropped_next : (xs : List Record) (k : ℕ) (r : Record) (tail : List Record) → drop k xs ≡ r ∷ tail → drop (k + 1) xs ≡ tail
 dropped_next [] zero r tail e = absurd cc

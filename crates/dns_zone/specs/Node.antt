@@ -10,7 +10,7 @@ use Rattle.dns_zone.specs.Zone.{Zone}
 use Rattle.dns_zone.specs.declared.node.Match.{Match}
 use Rattle.dns_zone.specs.declared.node.Match.TheVariants as found
 
--- The zone is cut there: the name stands under the apex and owns NS (RFC 1034 4.2.1).
+-- The zone is cut there: the name is under the apex and owns NS (RFC 1034 4.2.1).
 abbrev pub cuts_at : Zone → Labels → Bool
 cuts_at z a = under a z.apex && not (names_eq a z.apex) && owns_type z.records a type_ns
 
@@ -52,7 +52,7 @@ pub record EndsNowhere (z : Zone) (name : Labels) : Type 0 where
   pub absent : exists z.records name ≡ false
   pub unmatched : exists z.records (source z.records name) ≡ false
 
--- What is told of a name is what the zone has for it.
+-- What is reported for a name is what the zone has for it.
 abbrev pub IsMatch : Zone → Labels → Match → Type 0
 IsMatch z name (found.Cut at owned) = EndsAtCut z name at owned.now
 IsMatch z name (found.Name owned) = EndsAtName z name owned.now

@@ -11,16 +11,16 @@ use Rattle.dns_zone.specs.Records.{records_at, rrset, owns, owns_type}
 above_zero : (n : ℕ) → (suc n == 0) ≡ false
 above_zero n = grind (arith, nat_tests)
 
-counted : (p : Record → Bool) (x : Record) (xs : List Record) (b : Bool)
+none_counted : (p : Record → Bool) (x : Record) (xs : List Record) (b : Bool)
     → (length (filter p xs) == 0) ≡ not (list_any p xs)
     → (length (cond b (x ∷ filter p xs) (filter p xs)) == 0) ≡ not (b || list_any p xs)
-counted p x xs true rest = above_zero (length (filter p xs))
-counted p x xs false rest = rest
+none_counted p x xs true rest = above_zero (length (filter p xs))
+none_counted p x xs false rest = rest
 
 -- none is kept by a test exactly where none passes it
 pub none_passes : (p : Record → Bool) (xs : List Record) → (length (filter p xs) == 0) ≡ not (list_any p xs)
 none_passes p [] = refl
-none_passes p (x ∷ xs) = counted p x xs (p x) (none_passes p xs)
+none_passes p (x ∷ xs) = none_counted p x xs (p x) (none_passes p xs)
 
 pub owns_none : (xs : List Record) (name : Labels) → (length (records_at xs name) == 0) ≡ not (owns xs name)
 owns_none xs name = none_passes (λ r. names_eq r.owner name) xs

@@ -1,4 +1,4 @@
--- The place of a record, or of a name, in a list in order.
+-- The position of a record, or of a name, in a list in order.
 use Rattle.std.specs.Prelude.{◌≡◌, ℕ, ◌-◌, ◌<◌, ◌≤◌, nat_lt, Bool, true, false, ◌&&◌, ◌||◌, List, length}
 use Rattle.std.specs.Prelude.{insert, remove, slice_set, slice_get, Some, None}
 use Rattle.std.specs.List.{AllWithin, find}
@@ -7,32 +7,32 @@ use Rattle.dns_names.specs.Name.{Labels, name_cmp, under}
 use Rattle.dns_records.specs.Record.{Record, record_cmp}
 use Rattle.dns_zone.specs.Records.{put, without, has}
 
--- One of equal owner, type and data stands there.
-pub record StandsAt (r : Record) (records : List Record) (at : ℕ) : Type 0 where
+-- One of equal owner, type and data is there.
+pub record IsRecordAt (r : Record) (records : List Record) (at : ℕ) : Type 0 where
   pub inside : at < length records
   pub there : has r records ≡ true
   pub found : slice_get records at ≡ find (λ s. is_eq (record_cmp r s)) records
   pub put_is : put r records ≡ slice_set records at r
   pub without_is : without r records ≡ remove records at
 
--- None stands in the list, and the record goes there.
+-- None is in the list, and the record goes there.
 pub record BelongsAt (r : Record) (records : List Record) (at : ℕ) : Type 0 where
   pub inside : at ≤ length records
   pub absent : has r records ≡ false
   pub put_is : put r records ≡ insert records at r
   pub without_is : without r records ≡ records
 
--- The place of a name: so many records stand before it.
+-- The position of a name: so many records precede it.
 pub record IsPlaceOf (name : Labels) (records : List Record) (place : ℕ) : Type 0 where
   pub inside : place ≤ length records
   pub before : AllWithin (λ r. is_lt (name_cmp r.owner name) ≡ true) records 0 place
   pub behind : AllWithin (λ r. is_lt (name_cmp r.owner name) ≡ false) records place (length records)
 
--- The record at a place has an owner at the name or under it.
+-- The record at a position has an owner at the name or under it.
 abbrev pub is_owned_at : List Record → ℕ → Labels → Bool
 is_owned_at records place name = elim (slice_get records place) [ Some r ↦ under r.owner name | None ↦ false ]
 
--- One of the two records beside a place has.
+-- One of the two records on either side of a position has.
 abbrev pub is_owned_beside : List Record → ℕ → Labels → Bool
 is_owned_beside records place name =
     is_owned_at records place name || nat_lt 0 place && is_owned_at records (place - 1) name

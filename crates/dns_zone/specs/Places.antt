@@ -2,6 +2,6 @@
 use Rattle.std.specs.Prelude.{◌≡◌, ℕ, List, ◌++◌, drop}
 use Rattle.dns_records.specs.Record.{Record}
 
--- These records stand one behind another from the place on.
+-- These records follow one another from the position on.
 abbrev pub IsRun : List Record → ℕ → List Record → Type 0
 IsRun records place run = (rest : List Record) × (drop place records ≡ run ++ rest)

@@ -12,7 +12,7 @@ use Rattle.dns_zone.specs.declared.laws.Reply.{Reply}
 use Rattle.dns_zone.specs.declared.laws.Reply.TheVariants.{Held, Found, Next, Cut, Owner, Wildcard, Nothing}
 use Rattle.dns_zone.specs.declared.laws.Reply.TheVariants.{Done}
 
--- The set behind a call. What is put into the source of a fork isn't in the fork.
+-- The set after a call. What is put into the source of a fork isn't in the fork.
 abbrev pub set_after : List Record → Command → List Record
 set_after set (RecordsAt name) = set
 set_after set (Rrset name rtype) = set
@@ -57,7 +57,7 @@ abbrev pub replies_of : List Record → List Command → List Reply
 replies_of set [] = []
 replies_of set (call ∷ rest) = reply_of set call ∷ replies_of (set_after set call) rest
 
--- The set behind all of them.
+-- The set after all of them.
 abbrev pub set_left : List Record → List Command → List Record
 set_left set [] = set
 set_left set (call ∷ rest) = set_left (set_after set call) rest

@@ -117,7 +117,7 @@ same_sets (x ∷ xs) (y ∷ ys) g h is =
           λ i. heads i ∷ rest i
     ] refl
 
--- a record in its place
+-- a record at its position
 shadowed : (b : Bool) (x y z : Option Record) → cond b x z ≡ cond b x (cond b y z)
 shadowed true x y z = refl
 shadowed false x y z = refl

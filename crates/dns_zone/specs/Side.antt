@@ -1,4 +1,4 @@
--- On which side of what is looked for a record stands, in the order of records.
+-- On which side of what is looked for a record lies, in the order of records.
 use Rattle.std.specs.Ordering.{nat_cmp, ordering_then}
 use Rattle.std.specs.declared.cmp.Ordering.{Ordering}
 use Rattle.dns_names.specs.Name.{name_cmp}

@@ -1,4 +1,4 @@
--- What one pass over the records of a set tells of them, as far as the refusals of a zone go.
+-- What one pass over the records of a set yields about them, as far as the refusals of a zone go.
 use Rattle.std.specs.Prelude.{◌≡◌, ◌+◌, Bool, not, ◌&&◌, ◌||◌, ◌==◌, nat_lt, List, [], ◌∷◌, length, Option}
 use Rattle.std.specs.Prelude.{Some, None, cond, if◌then◌else◌}
 use Rattle.std.specs.List.{list_any, list_all}
@@ -19,7 +19,7 @@ is_shared_alias records r = r.rtype == type_cname && nat_lt 1 (length (records_a
 abbrev pub is_wildcard_ns : Record → Bool
 is_wildcard_ns r = r.rtype == type_ns && is_wildcard r.owner
 
--- What is told so far, and what the rest would tell, is what all tell.
+-- What is found so far, combined with what the rest would yield, is what all yield.
 pub record Surveys (apex : Labels) (records rest : List Record) (s : Survey) : Type 0 where
   pub soas_of : nat_lt 1 (s.soas + length (soas rest)) ≡ nat_lt 1 (length (soas records))
   pub inside_of : (s.inside && list_all (λ r. under r.owner apex) rest)
@@ -29,11 +29,11 @@ pub record Surveys (apex : Labels) (records rest : List Record) (s : Survey) : T
   pub wildcard_of : (s.wildcard_ns || list_any is_wildcard_ns rest) ≡ list_any is_wildcard_ns records
   pub count_of : nat_lt 65536 (s.count + length rest) ≡ nat_lt 65536 (length records)
 
--- The records behind one, or all.
-abbrev pub behind : Option Record → List Record → List Record
-behind None records = records
-behind (Some r) [] = []
-behind (Some r) (x ∷ xs) = cond (is_lt (record_cmp r x)) (x ∷ xs) (behind (Some r) xs)
+-- The records after one, or all.
+abbrev pub records_after : Option Record → List Record → List Record
+records_after None records = records
+records_after (Some r) [] = []
+records_after (Some r) (x ∷ xs) = cond (is_lt (record_cmp r x)) (x ∷ xs) (records_after (Some r) xs)
 
 -- The lowest refusal that applies to a set.
 abbrev pub fault_found : Survey → (no_soa no_ns : Bool) → Option ZoneError

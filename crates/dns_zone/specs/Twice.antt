@@ -34,7 +34,7 @@ none_alike x (y ∷ ys) h =
     [ inl e ↦ (let tied = alike_tied x y e in let less = h.0 in absurd cc) | inr e ↦ e ] in
     ap (λ (b : Bool). b || list_any (alike x) ys) apart ∙ none_alike x ys h.1
 
--- no record of a list in order stands twice in it
+-- no record of a list in order occurs twice in it
 pub once : (xs : List Record) → Sorted xs → has_twice xs ≡ false
 once [] h = refl
 once (x ∷ xs) h = ap (λ (b : Bool). b || has_twice xs) (none_alike x xs h.0) ∙ once xs h.1

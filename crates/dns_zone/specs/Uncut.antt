@@ -1,4 +1,4 @@
--- What is left where no cut stands above a name.
+-- What is left where no cut is above a name.
 use Rattle.std.specs.Prelude.{◌≡◌, Some, None, cond}
 use Rattle.dns_names.specs.Name.{Labels}
 use Rattle.dns_zone.specs.Zone.{Zone}

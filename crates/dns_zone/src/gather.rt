@@ -15,7 +15,7 @@ use dns_records::Record;
 use dns_records::types::{NS, SOA};
 use std::alloc::AllocError;
 
-/// Puts the records in order. Those of equal owner, type and data stand beside one another then.
+/// Puts the records in order. Those of equal owner, type and data are adjacent then.
 pub(crate) fn sort(records: &mut Vec<Record, Heap>) -> Result<(), AllocError>
     ensures same { IsPermutation records.old.items records.new.items }
     ensures sorted { OnOk result (IsSorted record_cmp records.new.items) }

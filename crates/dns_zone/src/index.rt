@@ -23,7 +23,7 @@ pub trait ZoneIndex: Drop {
     fn empty(alloc: Heap) -> Result<Self, AllocError>
         ensures { IfOk result (λ set. records set ≡ []) };
 
-    /// The set of these records, which are in order, so that each stands once. It is made in one go, and no
+    /// The set of these records, which are in order, so that each occurs once. It is made in one go, and no
     /// record is searched.
     fn from_sorted(alloc: Heap, sorted: Vec<Record, Heap>) -> Result<Self, AllocError>
         requires { is_ordered sorted.items ≡ true }
@@ -84,17 +84,17 @@ pub trait ZoneIndex: Drop {
     fn len(&self) -> usize
         ensures { result ≡ length (records self.now) };
 
-    /// Records one behind another from the place-th on, as many as the set can lend in one piece, and none
-    /// only where none is left.
+    /// Successive records from position `place` on, as many as the set can lend in one piece, and none only
+    /// where none is left.
     fn run_from(&self, place: usize) -> &[Record]
         ensures run { IsRun (records self.now) place result.now }
         ensures some { result.now ≡ [] → drop place (records self.now) ≡ [] };
 
-    /// The first record, or the first behind one.
+    /// The first record, or the first after one.
     fn walk(&self, after: Option<&Record>) -> Option<&Record>
         ensures { option_copied result ≡ next_after (option_copied after.entry) (records self.now) };
 
-    /// The records strictly rise, so that each stands once.
+    /// The records strictly rise, so that each occurs once.
     ghost ordered: { (set : Self) → is_ordered (records set) ≡ true };
 
     /// Each is a valid record.

@@ -1,4 +1,4 @@
-//! What the calls of an index do one behind the other.
+//! What the calls of an index do one after the other.
 ghost use Rattle.std.specs.Prelude.{◌≡◌, drop, IfOk, OnOk};
 ghost use Rattle.std.specs.Option.{option_copied};
 ghost use Rattle.dns_names.specs.Name.{Labels};
@@ -31,9 +31,9 @@ pub enum Command {
     Clear(Name),
     /// Takes all records of the name out but those of the type.
     Alone(Name, u16),
-    /// Asks for the first record, or the first behind one.
+    /// Asks for the first record, or the first after one.
     Walk(Option<Record>),
-    /// Asks for the records from a place on.
+    /// Asks for the records from a position on.
     From(usize),
     /// Asks what the zone of an apex has for a name.
     Match(Name, Name),
@@ -98,7 +98,7 @@ impl Copies {
     }
 }
 
-/// A copy of the record behind one, or of the first.
+/// A copy of the record after one, or of the first.
 fn next<I: ZoneIndex>(index: &I, after: Option<&Record>) -> Result<Reply, AllocError>
     ensures { IfOk result
         (λ reply. reply ≡ Reply.Next (next_after (option_copied after.entry) (I.records index.now))) }
@@ -109,7 +109,7 @@ fn next<I: ZoneIndex>(index: &I, after: Option<&Record>) -> Result<Reply, AllocE
     }
 }
 
-/// Copies of the records from a place on.
+/// Copies of the records from a position on.
 fn copies_from<I: ZoneIndex>(alloc: Heap, index: &I, place: usize) -> Result<Copies, AllocError>
     ensures { IfOk result (λ copies. copies ≡ drop place (I.records index.now)) }
 {

@@ -24,7 +24,7 @@ pub struct RecordList {
 
 impl RecordList {
     /// Where a search for the name begins, which makes no difference to what it finds: at the front, where
-    /// the records of a zone's apex stand, if they are the name's.
+    /// the records of a zone's apex are, if they are the name's.
     fn near(&self, name: &NameRef<'_>) -> Option<usize> {
         if self.items.first()?.owner().lend().is(name) {
             return Some(0);
@@ -33,7 +33,7 @@ impl RecordList {
     }
 }
 
-/// Moves the first ones behind a place, so many, to the end.
+/// Moves the first ones from a position on, so many, to the end.
 fn move_to_end(items: &mut Vec<Record, Heap>, from: usize, count: usize)
     requires inside { from + count ≤ length items.old.items }
     ensures { items.new.items ≡ take from items.old.items ++ drop (from + count) items.old.items
@@ -42,7 +42,7 @@ fn move_to_end(items: &mut Vec<Record, Heap>, from: usize, count: usize)
     items.slice_mut(from..).rotate_left(count);
 }
 
-/// Puts records in place of those from a place on up to another. Memory is asked for once, before anything
+/// Puts records in place of those from one position up to another. Memory is asked for once, before anything
 /// moves.
 fn replace_between(
     items: &mut Vec<Record, Heap>,
@@ -63,7 +63,7 @@ fn replace_between(
     Ok(())
 }
 
-/// Puts records of a name in place of all that it owns. A place near those is where the search for them
+/// Puts records of a name in place of all that it owns. A position near those is where the search for them
 /// begins.
 fn replace_owned(
     items: &mut Vec<Record, Heap>,

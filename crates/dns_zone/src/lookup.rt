@@ -1,5 +1,5 @@
-//! Matching a name in a list of records in order: one search for the name's place tells by its neighbours how
-//! much of it exists, and what stands above it is found by short searches from there.
+//! Matching a name in a list of records in order: one search for the name's position shows by its neighbours
+//! how much of it exists, and what is above it is found by short searches from there.
 ghost use Rattle.std.specs.Prelude.{◌≡◌, ◌≤◌, true, false, not, ◌&&◌, List, length, None, IfSome, IfNone};
 ghost use Rattle.dns_names.specs.Name.{Labels, wire, labels_of, wildcard, under, names_eq};
 ghost use Rattle.dns_names.specs.Plain.{IsPlain};
@@ -16,7 +16,7 @@ use arrayvec::ArrayVec;
 use dns_names::NameRef;
 use dns_records::{Record, types};
 
-/// Whether the record at the place has an owner at the name or under it.
+/// Whether the record at the position has an owner at the name or under it.
 fn is_owned_at(records: &[Record], place: usize, name: &NameRef<'_>) -> bool
     ensures { result ≡ is_owned_at records.now place name.now }
 {
@@ -26,7 +26,7 @@ fn is_owned_at(records: &[Record], place: usize, name: &NameRef<'_>) -> bool
     false
 }
 
-/// The records that the name owns, which is looked for near a place if one is given.
+/// The records that the name owns, which is looked for near a position if one is given.
 pub(crate) fn records_near<'s>(
     records: &'s [Record],
     name: &NameRef<'_>,
@@ -38,7 +38,7 @@ pub(crate) fn records_near<'s>(
     matching(records, &Key::Owner(name.reborrow()), near)
 }
 
-/// The records that the name owns, where its place is known.
+/// The records that the name owns, where its position is known.
 fn records_from<'s>(records: &'s [Record], name: &NameRef<'_>, place: usize) -> &'s [Record]
     requires order { is_ordered records.now ≡ true }
     requires place { IsPlaceOf name.now records.now place }
@@ -48,14 +48,14 @@ fn records_from<'s>(records: &'s [Record], name: &NameRef<'_>, place: usize) -> 
     &records[place..end_of_match(records, &key, place)]
 }
 
-/// Whether the name stands under the other and is not the other.
+/// Whether the name is under the other and is not the other.
 fn is_below(name: &NameRef<'_>, other: &NameRef<'_>) -> bool
     ensures { result ≡ (under name.now other.now && not (names_eq name.now other.now)) }
 {
     name.is_under(other) & !name.is(other)
 }
 
-/// The closest encloser of a name that doesn't exist, by the owners on either side of its place (RFC 4592
+/// The closest encloser of a name that doesn't exist, by the owners on either side of its position (RFC 4592
 /// section 3.3.1).
 fn closest_encloser<'n>(records: &[Record], name: &NameRef<'n>, place: usize) -> NameRef<'n>
     requires order { is_ordered records.now ≡ true }
@@ -72,7 +72,7 @@ fn closest_encloser<'n>(records: &[Record], name: &NameRef<'n>, place: usize) ->
     here
 }
 
-/// Whether one of the two records beside a place has an owner at the name or under it.
+/// Whether one of the two records on either side of a position has an owner at the name or under it.
 fn is_owned_beside(records: &[Record], place: usize, name: &NameRef<'_>) -> bool
     ensures { result ≡ is_owned_beside records.now place name.now }
 {
@@ -90,8 +90,8 @@ fn has_servers(owned: &[Record]) -> bool
     !of_type(owned, types::NS).is_empty()
 }
 
-/// The cut above the name or at it, and the records that it owns: of all, the one with the fewest labels
-/// (RFC 1034 section 4.3.2, step 3b). Each ancestor is looked for near a place.
+/// The cut above the name or at it, and the records that it owns: of all, the one with the fewest labels (RFC
+/// 1034 section 4.3.2, step 3b). Each ancestor is looked for near a position.
 fn shortest_cut<'n, 's>(
     records: &'s [Record],
     apex: &NameRef<'_>,
@@ -184,7 +184,7 @@ fn starred(name: &NameRef<'_>) -> ArrayVec<u8, 255>
     octets
 }
 
-/// The records of the wildcard before a name, which is looked for near a place, if it exists.
+/// The records of the wildcard before a name, which is looked for near a position, if it exists.
 fn wildcard_near<'s>(
     records: &'s [Record],
     above: &NameRef<'_>,
@@ -224,7 +224,7 @@ fn match_encloser<'n, 's>(
     if let Some((cut, owned)) = shortest_cut(records, apex, &above, place) {
         return Match::Cut(cut, owned);
     }
-    // In the order of names a wildcard comes soon behind its encloser, and the apex comes first.
+    // In the order of names a wildcard comes soon after its encloser, and the apex comes first.
     let near = if above.is(apex) { 0 } else { place };
     match wildcard_near(records, &above, near) {
         Some(owned) => Match::Wildcard(above, owned),

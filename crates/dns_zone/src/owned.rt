@@ -8,8 +8,8 @@ use crate::ZoneIndex;
 use dns_names::NameRef;
 use dns_records::Record;
 
-/// Those of a type among the records that a name owns, which stand in order of type (RFC 2181 section 5).
-/// Most names own one record, which is asked at once.
+/// Those of a type among the records that a name owns, which are in order of type (RFC 2181 section 5). Most
+/// names own one record, which is checked at once.
 pub fn of_type(records: &[Record], rtype: u16) -> &[Record]
     ensures { (set : List Stated) (name : Labels)
         → is_ordered set ≡ true

@@ -7,8 +7,8 @@ use crate::ZoneIndex;
 use dns_records::Record;
 use std::marker::Model;
 
-/// The records of a set from a place on, in order of owner, type and data. They are lent run by run, as the
-/// set keeps them.
+/// The records of a set from a position on, in order of owner, type and data. They are lent run by run, as
+/// the set keeps them.
 #[derive(Drop)]
 pub struct Records<'a, I: ZoneIndex> {
     index: &'a I,
@@ -38,7 +38,7 @@ impl<'a, I: ZoneIndex> Records<'a, I> {
         Records::from_place(index, 0)
     }
 
-    /// The records from the place-th on: where so many were taken, those that are left.
+    /// The records from position `place` on: where so many were taken, those that are left.
     pub fn from_place(index: &'a I, place: usize) -> Records<'a, I>
         ensures { result ≡ drop place (I.records index.now) }
     {

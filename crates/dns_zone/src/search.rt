@@ -5,7 +5,7 @@ ghost use Rattle.std.specs.Ordering.{is_lt, is_eq};
 ghost use Rattle.std.specs.Option.{option_copied};
 ghost use Rattle.dns_records.specs.Record.{record_cmp};
 ghost use Rattle.dns_zone.specs.Records.{alike, is_ordered, next_after};
-ghost use Rattle.dns_zone.specs.Place.{StandsAt, BelongsAt};
+ghost use Rattle.dns_zone.specs.Place.{IsRecordAt, BelongsAt};
 ghost use Rattle.dns_zone.specs.Side.{side_of};
 
 use dns_names::NameRef;
@@ -25,8 +25,8 @@ pub(crate) enum Key<'a> {
     Parts(NameRef<'a>, u16, &'a [u8]),
 }
 
-/// On which side of an owner, a type and data in plain form the record stands. Most records that a search
-/// looks at have the owner, so that the order of names is asked for only where the two differ.
+/// On which side of an owner, a type and data in plain form the record lies. Most records that a search looks
+/// at have the owner, so that the order of names is asked for only where the two differ.
 fn side_of_parts(r: &Record, owner: &NameRef<'_>, rtype: u16, rdata: &[u8]) -> Ordering
     ensures { result
         ≡ record_cmp r.now (record { owner = owner.now; rtype = rtype; ttl = 0; rdata = rdata.now }) }
@@ -38,7 +38,7 @@ fn side_of_parts(r: &Record, owner: &NameRef<'_>, rtype: u16, rdata: &[u8]) -> O
     own.cmp(owner)
 }
 
-/// On which side of the key the record stands.
+/// On which side of the key the record lies.
 fn side(key: &Key<'_>, r: &Record) -> Ordering
     ensures { result ≡ side_of key.now r.now }
 {
@@ -62,7 +62,7 @@ fn is_match(key: &Key<'_>, r: &Record) -> bool
     }
 }
 
-/// The place that is looked at next: the wished one if it lies between the two, else the middle.
+/// The position that is looked at next: the wished one if it lies between the two, else the middle.
 fn place_between(low: usize, high: usize, wished: usize) -> usize
     requires { low < high }
     ensures from { low ≤ result }
@@ -74,8 +74,8 @@ fn place_between(low: usize, high: usize, wished: usize) -> usize
     low + (high - low) / 2
 }
 
-/// How many records stand before what is looked for. A search from a place goes away from it in steps that
-/// double, and then by halves; from no place it goes by halves at once.
+/// How many records precede what is looked for. A search from a position moves away from it in steps that
+/// double, and then by halves; without a position it goes by halves at once.
 pub(crate) fn count_before(records: &[Record], key: &Key<'_>, near: Option<usize>) -> usize
     requires { is_ordered records.now ≡ true }
     ensures bound { result ≤ length records.now }
@@ -102,8 +102,8 @@ pub(crate) fn count_before(records: &[Record], key: &Key<'_>, near: Option<usize
     low
 }
 
-/// Where the records end that are what is looked for, none of which stands before the place. The search goes
-/// away from the place in steps that double, and then by halves.
+/// Where the records end that are what is looked for, none of which is before the position. The search moves
+/// away from the position in steps that double, and then by halves.
 pub(crate) fn end_of_match(records: &[Record], key: &Key<'_>, begin: usize) -> usize
     requires order { is_ordered records.now ≡ true }
     requires inside { begin ≤ length records.now }
@@ -134,7 +134,7 @@ pub(crate) fn end_of_match(records: &[Record], key: &Key<'_>, begin: usize) -> u
     low
 }
 
-/// The records that are what is looked for, which stand one behind the other. A place near them is where the
+/// The records that are what is looked for, which follow one another. A position near them is where the
 /// search begins.
 pub(crate) fn matching<'r>(
     records: &'r [Record],
@@ -148,11 +148,11 @@ pub(crate) fn matching<'r>(
     &records[begin..end_of_match(records, key, begin)]
 }
 
-/// Where the record of equal owner, type and data stands among records in order, or where it would go. A
-/// place near it, if one is given, is where the search begins, which makes no difference to what it finds.
+/// Where the record of equal owner, type and data is among records in order, or where it would go. A position
+/// near it, if one is given, is where the search begins, which makes no difference to what it finds.
 pub fn find_record(records: &[Record], wanted: &Record, near: Option<usize>) -> Result<usize, usize>
     requires { is_ordered records.now ≡ true }
-    ensures found { IfOk result (StandsAt wanted.now records.now) }
+    ensures found { IfOk result (IsRecordAt wanted.now records.now) }
     ensures absent { IfErr result (BelongsAt wanted.now records.now) }
 {
     let key = Key::Data(wanted);
@@ -182,7 +182,7 @@ pub fn find_parts<'r>(
     None
 }
 
-/// The first record behind another.
+/// The first record after another.
 pub(crate) fn first_behind<'r>(records: &'r [Record], after: &Record) -> Option<&'r Record>
     requires { is_ordered records.now ≡ true }
     ensures { option_copied result ≡ next_after (Some after.now) records.now }

@@ -10,7 +10,7 @@ use dns_names::NameRef;
 use dns_records::Record;
 use dns_records::types::{CNAME, NS, SOA};
 
-/// What is told of the records so far. The counts stop one behind the limits that they are compared with.
+/// What is found of the records so far. The counts stop one past the limits that they are compared with.
 #[derive(Clone, Copy)]
 pub(crate) struct Survey {
     pub soas: usize,
@@ -44,7 +44,7 @@ fn soas_with(soas: usize, r: &Record) -> usize
     soas
 }
 
-/// What is told with one record more, of which it is known whether it is an alias that shares its owner.
+/// What is found with one record more, of which it is known whether it is an alias that shares its owner.
 fn with_record(survey: Survey, r: &Record, apex: &NameRef<'_>, shared: bool) -> Survey
     ensures { (records rest : List Stated)
         → shared ≡ is_shared_alias records r.now
@@ -61,7 +61,7 @@ fn with_record(survey: Survey, r: &Record, apex: &NameRef<'_>, shared: bool) -> 
     }
 }
 
-/// What all records tell.
+/// What all records yield.
 pub(crate) fn survey_of<I: ZoneIndex>(index: &I, apex: &NameRef<'_>) -> Survey
     ensures { Surveys apex.now (I.records index.now) [] result }
 {

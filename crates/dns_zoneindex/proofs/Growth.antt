@@ -22,7 +22,7 @@ use Rattle.dns_zoneindex.specs.Owned.{records_of, are_owned}
 use Rattle.dns_zoneindex.specs.Setting.{before}
 use Rattle.dns_zoneindex.specs.Size.{weight}
 use Rattle.dns_zoneindex.specs.Falls.{weight-append, weight-pushed}
-use Rattle.dns_zoneindex.specs.Growth.{entry_at, from_depth, path_cmp, NotBefore, Rising, HasLabel, EndsWithout, IsFront, IsTakenOff}
+use Rattle.dns_zoneindex.specs.Growth.{entry_below, from_depth, path_cmp, NotBefore, Rising, HasLabel, EndsWithout, IsFront, IsTakenOff}
 use Rattle.dns_zoneindex.proofs.Sides.{label_total, all_map}
 use Rattle.dns_zoneindex.proofs.Under.{labels_same}
 use Rattle.dns_zoneindex.proofs.Owned.{AreOwned, owned_test, rising}
@@ -33,7 +33,7 @@ abbrev path : ℕ → Record → Labels
 path n r = drop n (reverse r.owner)
 
 pub from-append : (n : ℕ) (a b : List Record) → from_depth n (a ++ b) ≡ from_depth n a ++ from_depth n b
-from-append n a b = map-append (entry_at n) a b
+from-append n a b = map-append (entry_below n) a b
 
 -- records of one label
 pub from-same : (n : ℕ) (l : List ℕ) (rs : List Record) → AllByRecursion (HasLabel n l) rs → from_depth n rs ≡ map (pushed l) (from_depth (n + 1) rs)
@@ -120,7 +120,7 @@ all_ahead n l (r ∷ []) x rest h e never =
     ap (λ (b : Bool). b && true) one
 all_ahead n l (r ∷ s ∷ front) x rest h e never =
     let next = all_ahead n l (s ∷ front) x rest h.1 e never in
-    let both = both_true (before l (entry_at n s)) (list_all (before l) (from_depth n front)) next in
+    let both = both_true (before l (entry_below n s)) (list_all (before l) (from_depth n front)) next in
     λ i. two_ahead l (path n r) (path n s) h.0.0 both.0 i && next i
 
 pub ends_here : (n : ℕ) (l : List ℕ) (front : List Record) (r : Record) → (HasLabel n l r → ⊥) → EndsWithout n l (front ++ r ∷ [])
@@ -133,9 +133,9 @@ abbrev pub AheadOf : List Child → List Entry → Type 0
 AheadOf [] es = Unit {0}
 AheadOf (c ∷ cs) es = list_all (before c.label) es ≡ true
 
-one_of : (n : ℕ) (l : List ℕ) (front : List Record) (g : Record) (rest : List Record) → list_all (before l) (from_depth n (front ++ g ∷ rest)) ≡ true → before l (entry_at n g) ≡ true
-one_of n l [] g rest h = (both_true (before l (entry_at n g)) (list_all (before l) (from_depth n rest)) h).0
-one_of n l (r ∷ front) g rest h = one_of n l front g rest (both_true (before l (entry_at n r)) (list_all (before l) (from_depth n (front ++ g ∷ rest))) h).1
+one_of : (n : ℕ) (l : List ℕ) (front : List Record) (g : Record) (rest : List Record) → list_all (before l) (from_depth n (front ++ g ∷ rest)) ≡ true → before l (entry_below n g) ≡ true
+one_of n l [] g rest h = (both_true (before l (entry_below n g)) (list_all (before l) (from_depth n rest)) h).0
+one_of n l (r ∷ front) g rest h = one_of n l front g rest (both_true (before l (entry_below n r)) (list_all (before l) (from_depth n (front ++ g ∷ rest))) h).1
 
 less_than : (n : ℕ) (l : List ℕ) (front group : List Record) (m : List ℕ) → 0 < length group → AllByRecursion (HasLabel n l) group → list_all (before m) (from_depth n (front ++ group)) ≡ true → label_cmp l m ≡ Less
 less_than n l front [] m p h all = absurd (omega (arith, p))

@@ -12,7 +12,7 @@ use Rattle.dns_zone.proofs.Enclosers.{encloser_here, encloser_up}
 use Rattle.dns_zone.proofs.Uncut.{cut_up, cut_past, owns_nothing, uncut_outside, under_above}
 use Rattle.dns_zoneindex.specs.Entries.{Entry, step, below, here_of, some}
 use Rattle.dns_zoneindex.specs.Owned.{records_of}
-use Rattle.dns_zoneindex.specs.Reach.{zone_of, LeadsTo, LeadsAbove}
+use Rattle.dns_zoneindex.specs.Reach.{zone_of, LeadsToName, LeadsAbove}
 use Rattle.dns_zoneindex.proofs.Down.{down}
 use Rattle.dns_zoneindex.proofs.Exists.{exists_at, some_of}
 use Rattle.dns_zoneindex.proofs.Led.{owned_at}
@@ -53,7 +53,7 @@ none_below (x ∷ xs) l n e = told_it (under x.owner (l ∷ n)) refl (none_below
     told_it false is k = ap (λ b. b || exists xs (l ∷ n)) is ∙ k
 
 -- ---- the states
-pub at_root : (apex : Labels) (es : List Entry) (name : Labels) → name ≡ [] → LeadsTo (zone_of apex es) es name es
+pub at_root : (apex : Labels) (es : List Entry) (name : Labels) → name ≡ [] → LeadsToName (zone_of apex es) es name es
 at_root apex es name is = record {
   uncut = subst (λ n. cut (zone_of apex es) n ≡ None) (sym is) (uncut_outside (zone_of apex es) [] (never (names_eq [] apex)));
   own_is = ap (λ n. below (reverse n) es) (sym is);
@@ -64,7 +64,7 @@ at_root apex es name is = record {
     never false = refl
 
 -- the name is a cut
-pub to_cut : (apex : Labels) (es : List Entry) (name above : Labels) (l : List ℕ) (own : List Entry) (rs : List Record) → name ≡ l ∷ above → LeadsTo (zone_of apex es) es above own
+pub to_cut : (apex : Labels) (es : List Entry) (name above : Labels) (l : List ℕ) (own : List Entry) (rs : List Record) → name ≡ l ∷ above → LeadsToName (zone_of apex es) es above own
     → rs ≡ records_at (records_of es) name → cuts_at (zone_of apex es) name ≡ true → EndsAtCut (zone_of apex es) name name rs
 to_cut apex es name above l own rs is h held cuts =
     let z = zone_of apex es in
@@ -75,8 +75,8 @@ to_cut apex es name above l own rs is h held cuts =
     }
 
 -- the name exists and is none
-pub to_there : (apex : Labels) (es : List Entry) (name above : Labels) (l : List ℕ) (own child : List Entry) → name ≡ l ∷ above → LeadsTo (zone_of apex es) es above own
-    → child ≡ below (reverse name) es → cuts_at (zone_of apex es) name ≡ false → LeadsTo (zone_of apex es) es name child
+pub to_there : (apex : Labels) (es : List Entry) (name above : Labels) (l : List ℕ) (own child : List Entry) → name ≡ l ∷ above → LeadsToName (zone_of apex es) es above own
+    → child ≡ below (reverse name) es → cuts_at (zone_of apex es) name ≡ false → LeadsToName (zone_of apex es) es name child
 to_there apex es name above l own child is h child_is cuts =
     let z = zone_of apex es in
     record {
@@ -85,7 +85,7 @@ to_there apex es name above l own child is h child_is cuts =
     }
 
 -- the name doesn't exist, and the one above does
-pub to_above : (apex : Labels) (es : List Entry) (name above : Labels) (l : List ℕ) (own child : List Entry) → AreOwned es → name ≡ l ∷ above → LeadsTo (zone_of apex es) es above own
+pub to_above : (apex : Labels) (es : List Entry) (name above : Labels) (l : List ℕ) (own child : List Entry) → AreOwned es → name ≡ l ∷ above → LeadsToName (zone_of apex es) es above own
     → 0 < length own → child ≡ step l own → child ≡ [] → LeadsAbove (zone_of apex es) es name above own
 to_above apex es name above l own child h is led pos child_is none =
     let z = zone_of apex es in
@@ -119,7 +119,7 @@ stays_above apex es name above l at own is h =
     })
 
 -- ---- the answers
-pub end_name : (apex : Labels) (es : List Entry) (name : Labels) (own : List Entry) (rs : List Record) → AreOwned es → LeadsTo (zone_of apex es) es name own → 0 < length own → rs ≡ here_of own → EndsAtName (zone_of apex es) name rs
+pub end_name : (apex : Labels) (es : List Entry) (name : Labels) (own : List Entry) (rs : List Record) → AreOwned es → LeadsToName (zone_of apex es) es name own → 0 < length own → rs ≡ here_of own → EndsAtName (zone_of apex es) name rs
 end_name apex es name own rs h led pos here = record {
   uncut = led.uncut;
   there = there name es own h led.own_is pos;

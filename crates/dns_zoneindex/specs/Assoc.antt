@@ -8,7 +8,7 @@ abbrev pub child_of : List ℕ → List Child → Option Child
 child_of label [] = None
 child_of label (c ∷ rest) = by_order (label_cmp label c.label) None (Some c) (child_of label rest)
 
--- The child in its place. It replaces one of equal label.
+-- The child at its position in order. It replaces one of equal label.
 abbrev pub put_child : Child → List Child → List Child
 put_child c [] = c ∷ []
 put_child c (d ∷ rest) = by_order (label_cmp c.label d.label) (c ∷ d ∷ rest) (c ∷ rest) (d ∷ put_child c rest)

@@ -17,7 +17,7 @@ items Empty = []
 items (One n) = n ∷ []
 items (Many g) = g.value
 
--- The children of slots, one slot behind the other.
+-- The children of slots, one slot after the other.
 abbrev pub joined : List (List Child) → List Child
 joined [] = []
 joined (s ∷ slots) = s ++ joined slots
@@ -78,7 +78,7 @@ node_of label records children = record { label = label; own = own_of records ch
 abbrev pub leaf_label : Record → List ℕ
 leaf_label r = get_or r.owner 0 []
 
--- What stands at and under a name: of a leaf its only record.
+-- What is stored at and under a name: for a leaf, its only record.
 abbrev pub child_in : Kind → Child
 child_in (Leaf r) = record { label = leaf_label r; own = here r ∷ [] }
 child_in (Branch b) = b.value

@@ -1,4 +1,4 @@
--- Records with what is left of the labels that lead to them, behind as many as a depth tells.
+-- Records with what is left of the labels that lead to them, after as many as a depth says.
 use Rattle.std.specs.Prelude.{◌≡◌, false, true, ℕ, ◌+◌, ◌<◌, List, [], ◌∷◌, ◌++◌, length, map, drop, reverse}
 use Rattle.std.specs.List.{list_all, AllByRecursion}
 use Rattle.std.specs.Ordering.{nat_cmp, is_gt}
@@ -9,11 +9,11 @@ use Rattle.dns_records.specs.Record.{Record}
 use Rattle.dns_zoneindex.specs.Entries.{Entry, here}
 use Rattle.dns_zoneindex.specs.Setting.{before}
 
-abbrev pub entry_at : ℕ → Record → Entry
-entry_at depth r = record { path = drop depth (reverse r.owner); record_there = r }
+abbrev pub entry_below : ℕ → Record → Entry
+entry_below depth r = record { path = drop depth (reverse r.owner); record_there = r }
 
 abbrev pub from_depth : ℕ → List Record → List Entry
-from_depth depth records = map (entry_at depth) records
+from_depth depth records = map (entry_below depth) records
 
 abbrev pub path_cmp : Labels → Labels → Ordering
 path_cmp p q = slice_cmp (slice_cmp nat_cmp) p q
@@ -27,7 +27,7 @@ abbrev pub Rising : List Entry → Type 0
 Rising [] = Unit {0}
 Rising (e ∷ es) = NotBefore e.path es × Rising es
 
--- The label stands at the depth of the owner's.
+-- At this depth, counted from the root, the owner has this label.
 abbrev pub HasLabel : ℕ → List ℕ → Record → Type 0
 HasLabel depth label r = drop depth (reverse r.owner) ≡ label ∷ drop (depth + 1) (reverse r.owner)
 
@@ -52,6 +52,6 @@ pub record IsTakenOff (depth : ℕ) (label : List ℕ) (records front group : Li
   pub ahead : list_all (before label) (from_depth depth front) ≡ true
 
 -- All records are those of the name itself.
-pub record AreOwn (depth : ℕ) (records left : List Record) : Type 0 where
+pub record BelongToName (depth : ℕ) (records left : List Record) : Type 0 where
   pub unchanged : left ≡ records
   pub own : from_depth depth records ≡ map here records

@@ -2,7 +2,7 @@
 use Rattle.std.specs.Prelude.{◌≡◌, ℕ, zero, suc, ◌+◌, ◌*◌, ◌^◌, List, drop, get_or}
 use Rattle.dns_names.specs.Lower.{AreOctets}
 
--- So many octets, the first of them highest, with zeros behind the last one.
+-- So many octets, the first of them highest, with zeros after the last one.
 abbrev pub leading : ℕ → List ℕ → ℕ
 leading zero octets = 0
 leading (suc n) octets = get_or octets 0 0 * 256 ^ n + leading n (drop 1 octets)

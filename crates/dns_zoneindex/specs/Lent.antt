@@ -5,12 +5,12 @@ use Rattle.dns_zone.specs.Places.{IsRun}
 use Rattle.dns_zoneindex.specs.Entries.{Child, flat}
 use Rattle.dns_zoneindex.specs.Children.{joined}
 
--- The run stands from the place on, and has a record where one is left.
+-- The run starts at this index, and has a record where one is left.
 pub record IsLent (records : List Record) (place : ℕ) (lent : List Record) : Type 0 where
   pub run : IsRun records place lent
   pub some : place < length records → 0 < length lent
 
--- The place among the records of all slots is another among those of one of them.
+-- The index among the records of all slots is another index among those of one of them.
 pub record IsThere (slots : List (List Child)) (place : ℕ) (slot : List Child) (left : ℕ) : Type 0 where
   pub front : List (List Child)
   pub back : List (List Child)
@@ -18,6 +18,6 @@ pub record IsThere (slots : List (List Child)) (place : ℕ) (slot : List Child)
   pub before : place ≡ length (flat (joined front)) + left
   pub within : left < length (flat slot)
 
--- No slot has the place.
+-- The index is past the records of all slots.
 abbrev pub IsBeyond : List (List Child) → ℕ → Type 0
 IsBeyond slots place = length (flat (joined slots)) ≤ place

@@ -1,4 +1,4 @@
--- A set of records as its entries: each stands at the labels of its owner, from the root down.
+-- A set of records as its entries: each is at the labels of its owner, from the root down.
 use Rattle.std.specs.Prelude.{Bool, List, map, reverse}
 use Rattle.std.specs.List.{list_all}
 use Rattle.dns_names.specs.Name.{names_eq}

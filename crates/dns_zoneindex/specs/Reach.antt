@@ -1,4 +1,4 @@
--- How far the labels of a name lead, in the zone that is told by its records with the labels that lead to
+-- How far the labels of a name lead, in the zone that is given by its records with the labels that lead to
 -- them.
 use Rattle.std.specs.Prelude.{◌≡◌, false, List, reverse, None}
 use Rattle.dns_names.specs.Name.{Labels}
@@ -13,12 +13,12 @@ use Rattle.dns_zoneindex.specs.declared.descent.Reached.TheVariants as found
 abbrev pub zone_of : Labels → List Entry → Zone
 zone_of apex es = record { apex = apex; records = records_of es }
 
--- The name is below no cut, and this is what stands at and under it.
-pub record LeadsTo (z : Zone) (es : List Entry) (name : Labels) (own : List Entry) : Type 0 where
+-- The name is below no cut, and these are the entries at and under it.
+pub record LeadsToName (z : Zone) (es : List Entry) (name : Labels) (own : List Entry) : Type 0 where
   pub uncut : cut z name ≡ None
   pub own_is : own ≡ below (reverse name) es
 
--- The name is below no cut and doesn't exist, and this is what stands at and under its closest encloser.
+-- The name is below no cut and doesn't exist, and these are the entries at and under its closest encloser.
 pub record LeadsAbove (z : Zone) (es : List Entry) (name at : Labels) (own : List Entry) : Type 0 where
   pub uncut : cut z name ≡ None
   pub absent : exists z.records name ≡ false
@@ -27,5 +27,5 @@ pub record LeadsAbove (z : Zone) (es : List Entry) (name at : Labels) (own : Lis
 
 abbrev pub IsReached : Zone → List Entry → Labels → Reached → Type 0
 IsReached z es name (found.Cut at owned) = EndsAtCut z name at owned.now
-IsReached z es name (found.There node) = LeadsTo z es name node.now.own
+IsReached z es name (found.There node) = LeadsToName z es name node.now.own
 IsReached z es name (found.Above at node) = LeadsAbove z es name at node.now.own

@@ -1,17 +1,17 @@
--- Where the child of a label stands among slots of children.
+-- Where the child of a label is, among slots of children.
 use Rattle.std.specs.Prelude.{◌≡◌, ℕ, suc, Bool, false, ◌<◌, List, [], ◌∷◌, length, take, drop}
 use Rattle.std.specs.Ordering.{is_lt}
 use Rattle.std.specs.declared.cmp.Ordering.TheVariants.{Less, Greater}
 use Rattle.dns_zoneindex.specs.Entries.{Child}
 use Rattle.dns_zoneindex.specs.Children.{label_cmp, joined, AllChildren}
 
--- The label stands before the first of the children.
+-- The label sorts before the first of the children.
 abbrev pub is_before : List ℕ → List Child → Bool
 is_before label [] = false
 is_before label (c ∷ rest) = is_lt (label_cmp label c.label)
 
--- All children of the slots before the place stand before the label, and all of those behind it behind the
--- label.
+-- All children of the slots before this index sort before the label, and all children of the slots after it
+-- sort after the label.
 pub record IsPlace (label : List ℕ) (slots : List (List Child)) (place : ℕ) : Type 0 where
   pub there : place < length slots
   pub ahead : AllChildren (λ c. label_cmp label c.label ≡ Greater) (joined (take place slots))

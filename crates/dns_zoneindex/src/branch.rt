@@ -28,7 +28,7 @@ pub(crate) fn first_label(r: &Record) -> &[u8]
 }
 
 impl Branch {
-    /// What stands at and under a name: its records, and what its children have.
+    /// What is stored at and under a name: its records, and what its children have.
     pub(crate) fn new(
         alloc: Heap,
         label: &[u8],
@@ -74,7 +74,7 @@ impl Branch {
         self.children.share()
     }
 
-    /// How many records stand at and under the name: at least one, or the name would not be kept.
+    /// How many records are at and under the name: at least one, or the name would not be kept.
     pub(crate) fn count(&self) -> usize
         ensures own { result ≡ length self.now.own }
         ensures kept { 0 < result }

@@ -34,7 +34,7 @@ impl Children {
         }
     }
 
-    /// How many records stand at and under them.
+    /// How many records are at and under them.
     pub(crate) fn count(&self) -> usize
         ensures { result ≡ length (flat (items self.now)) }
     {
@@ -59,7 +59,7 @@ impl Children {
         }
     }
 
-    /// The child of a label. An only child is told by its label alone.
+    /// The child of a label. An only child is identified by its label alone.
     #[inline(always)]
     pub(crate) fn find(&self, label: &[u8]) -> Option<&Node>
         ensures { option_copied result ≡ child_of label.now (items self.now) }
@@ -111,7 +111,7 @@ impl Children {
         }
     }
 
-    /// The children with one put in, which replaces one of equal label, in slots: few enough to stand in
+    /// The children with one put in, which replaces one of equal label, in slots: few enough to be put in
     /// place of one.
     fn put(&self, alloc: Heap, node: Node) -> Result<Vec<Slot, Heap>, AllocError>
         requires some { 0 < length node.own }

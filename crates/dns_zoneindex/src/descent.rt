@@ -8,7 +8,7 @@ ghost use Rattle.dns_zone.specs.Node.{cuts_at, IsMatch};
 ghost use Rattle.dns_zone.specs.Records.{is_ordered, owns_type, records_at};
 ghost use Rattle.dns_zoneindex.specs.Entries.{Entry};
 ghost use Rattle.dns_zoneindex.specs.Owned.{records_of, are_owned};
-ghost use Rattle.dns_zoneindex.specs.Reach.{zone_of, LeadsTo, IsReached};
+ghost use Rattle.dns_zoneindex.specs.Reach.{zone_of, LeadsToName, IsReached};
 
 use crate::node::Node;
 use crate::path::split;
@@ -21,9 +21,9 @@ use dns_zone::{Match, of_type};
 pub(crate) enum Reached<'n, 's> {
     /// The zone is cut above the name or at it: the cut, and the records that it owns.
     Cut(NameRef<'n>, &'s [Record]),
-    /// The name exists, below no cut: what stands at and under it.
+    /// The name exists, below no cut: what is stored at and under it.
     There(&'s Node),
-    /// The name doesn't exist, below no cut: its closest encloser, and what stands at and under that.
+    /// The name doesn't exist, below no cut: its closest encloser, and what is stored at and under that.
     Above(NameRef<'n>, &'s Node),
 }
 
@@ -62,7 +62,7 @@ fn next<'n, 's>(
         → are_owned es ≡ true
         → is_ordered (records_of es) ≡ true
         → name.now ≡ label.now ∷ above.entry
-        → LeadsTo (zone_of apex.now es) es above.entry node.now.own
+        → LeadsToName (zone_of apex.now es) es above.entry node.now.own
         → IsReached (zone_of apex.now es) es name.now result }
 {
     match node.child(label) {

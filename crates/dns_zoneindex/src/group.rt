@@ -13,10 +13,10 @@ use dns_memory::Heap;
 use std::alloc::AllocError;
 use std::rc::Rc;
 
-/// At most so many slots stand in one group.
+/// At most so many slots are in one group.
 pub(crate) const MOST: usize = 16;
 
-/// So many slots stand in a group that is made of many, with room for more.
+/// So many slots are in a group that is made of many, with room for more.
 const USUAL: usize = 14;
 
 impl Slot {
@@ -67,7 +67,7 @@ impl Slot {
         })
     }
 
-    /// Whether a label stands before the first of the children.
+    /// Whether a label sorts before the first of the children.
     fn is_behind(&self, key: u64, label: &[u8]) -> bool
         requires { IsKey key label.now }
         ensures { result ≡ is_before label.now self.now }
@@ -87,7 +87,7 @@ impl Slot {
     }
 }
 
-/// How many records stand at and under all children of slots.
+/// How many records are at and under all children of slots.
 fn count_of(slots: &[Slot]) -> Result<usize, AllocError>
     ensures { IfOk result (λ n. n ≡ length (flat (joined slots.now))) }
 {
@@ -111,9 +111,9 @@ fn keys_of(slots: &[Slot]) -> [u64; MOST]
     keys
 }
 
-/// The last place whose key is at most this one, or the first where there is none. The keys rise. So three of
-/// them tell in which quarter it is, and three the place there; they are counted, so that no jump depends on
-/// one of them.
+/// The last index whose key is at most this one, or the first index where there is none. The keys rise. So
+/// three of them tell in which quarter it is, and three the index there; they are counted, so that no jump
+/// depends on one of them.
 #[inline(always)]
 fn last_up_to(keys: &[u64; MOST], key: u64) -> usize {
     let quarters = usize::from(keys[4] <= key)
@@ -126,7 +126,7 @@ fn last_up_to(keys: &[u64; MOST], key: u64) -> usize {
         + usize::from(keys[first + 3] <= key)
 }
 
-/// The slot in which the child of a label stands, or would stand, by halves.
+/// The index of the slot that holds the child of a label, or would hold it, by bisection.
 fn place_by_halves(slots: &[Slot], key: u64, label: &[u8]) -> usize
     requires key { IsKey key label.now }
     requires some { 0 < length slots.now }
@@ -147,8 +147,8 @@ fn place_by_halves(slots: &[Slot], key: u64, label: &[u8]) -> usize
     place
 }
 
-/// The slot in which the child of a label stands, or would stand. The keys tell it, where the first octets of
-/// labels differ.
+/// The index of the slot that holds the child of a label, or would hold it. The keys determine it, where the
+/// first octets of labels differ.
 #[inline(always)]
 pub(crate) fn place_of(keys: &[u64; MOST], slots: &[Slot], key: u64, label: &[u8]) -> usize
     requires keys { AreKeys keys.now slots.now }
@@ -177,7 +177,7 @@ pub(crate) fn place_of(keys: &[u64; MOST], slots: &[Slot], key: u64, label: &[u8
     place_by_halves(slots, key, label)
 }
 
-/// Puts slots behind others, shared.
+/// Puts slots after others, shared.
 fn push_shared(made: &mut Vec<Slot, Heap>, slots: &[Slot]) -> Result<(), AllocError>
     ensures { OnOk result (made.new.items ≡ made.old.items ++ slots.now) }
 {

@@ -5,7 +5,7 @@ ghost use Rattle.std.specs.Prelude.{IfNone, MatchOption};
 ghost use Rattle.std.specs.List.{slice_get};
 ghost use Rattle.std.specs.Option.{option_copied};
 ghost use Rattle.dns_zoneindex.specs.Children.{items, AreChildren};
-ghost use Rattle.dns_zoneindex.specs.Growth.{from_depth, AreOwn, HasLabel, IsFront, IsTakenOff, Rising};
+ghost use Rattle.dns_zoneindex.specs.Growth.{from_depth, BelongToName, HasLabel, IsFront, IsTakenOff, Rising};
 
 use crate::count::sum;
 use crate::group::in_levels;
@@ -30,7 +30,7 @@ fn label_behind<'n>(name: &NameRef<'n>, skipped: usize) -> Option<&'n [u8]>
     }
 }
 
-/// The label of the owner at a depth: the one next to the root stands at 0.
+/// The label of the owner at a depth: the one next to the root is at 0.
 fn label_at(r: &Record, depth: usize) -> Option<&[u8]>
     ensures found { IfSome result (λ label. HasLabel depth label.now r.now) }
     ensures none { IfNone result (drop depth (reverse r.now.owner) ≡ []) }
@@ -76,7 +76,7 @@ fn take_off(
 ) -> Result<Option<(SmallVec<u8, 24, Heap>, Vec<Record, Heap>)>, AllocError>
     requires { Rising (from_depth depth records.old.items) }
     ensures { IfOk result (λ taken. MatchOption taken
-        (AreOwn depth records.old.items records.new.items)
+        (BelongToName depth records.old.items records.new.items)
         (λ p. IsTakenOff depth p.0.items records.old.items records.new.items p.1.items)) }
 {
     let Some((last, others)) = records.split_last() else {
@@ -118,8 +118,8 @@ fn children_of(alloc: Heap, nodes: &[Node]) -> Result<Children, AllocError>
     in_levels(alloc, slots)
 }
 
-/// What stands at and under a name, by its label and by the records, whose owners' labels down to the depth
-/// lead to it.
+/// What is stored at and under a name, by its label and by the records, whose owners' labels down to the
+/// depth lead to it.
 pub(crate) fn grow(
     alloc: Heap,
     label: &[u8],

@@ -6,7 +6,7 @@ ghost use Rattle.dns_zoneindex.specs.Keys.{IsKey};
 use crate::node::Node;
 use std::cmp::Ordering;
 
-/// The octet at a place, or zero behind the last one.
+/// The octet at an index, or zero past the last one.
 fn octet_at(label: &[u8], place: usize) -> u8
     ensures { result ≡ get_or label.now place 0 }
 {
@@ -16,7 +16,7 @@ fn octet_at(label: &[u8], place: usize) -> u8
     }
 }
 
-/// The first eight octets of a label as a number, the first of them highest, with zeros behind the last one.
+/// The first eight octets of a label as a number, the first of them highest, with zeros after the last one.
 pub(crate) fn key_of(label: &[u8]) -> u64
     ensures { IsKey result label.now }
 {

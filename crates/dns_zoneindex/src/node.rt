@@ -1,4 +1,4 @@
-//! The nodes of the tree of names (RFC 1034 section 3.1): what stands at and under a name, in parts that
+//! The nodes of the tree of names (RFC 1034 section 3.1): what is stored at and under a name, in parts that
 //! trees share. Each is found and written by the labels that lead to it.
 ghost use Rattle.std.specs.Prelude.{◌≡◌, ◌<◌, [], length, reverse, IfOk, IfSome};
 ghost use Rattle.std.specs.Option.{option_copied};
@@ -40,21 +40,21 @@ pub(crate) struct Group {
     /// The keys of the slots, side by side.
     pub(crate) keys: [u64; MOST],
     pub(crate) slots: Vec<Slot, Heap>,
-    /// How many records stand at and under all of them.
+    /// How many records are at and under all of them.
     pub(crate) count: usize,
 }
 
 /// Neighbouring children in a group, at least one.
 #[cycle(tree)]
 pub(crate) struct Slot {
-    /// How many records stand at and under all of them.
+    /// How many records are at and under all of them.
     pub(crate) count: usize,
     /// The first octets of the first one's label, by which the slot is found.
     pub(crate) key: u64,
     pub(crate) children: Children,
 }
 
-/// What stands at and under a name, without the name above it. It is moved and shared like one pointer.
+/// What is stored at and under a name, without the name above it. It is moved and shared like one pointer.
 #[cycle(tree)]
 pub(crate) struct Node {
     pub(crate) kind: Kind,
@@ -70,7 +70,7 @@ pub(crate) enum Kind {
     Branch(Rc<Branch, Heap>),
 }
 
-/// What stands at and under a name, with memory for its label, its records and its children.
+/// What is stored at and under a name, with memory for its label, its records and its children.
 #[cycle(tree)]
 #[derive(Drop)]
 pub(crate) struct Branch {
@@ -79,7 +79,7 @@ pub(crate) struct Branch {
     pub(crate) key: u64,
     pub(crate) records: Records,
     pub(crate) children: Children,
-    /// How many records stand at and under the name.
+    /// How many records are at and under the name.
     pub(crate) count: usize,
 }
 
@@ -231,8 +231,8 @@ impl Slot {
 }
 
 impl Node {
-    /// What stands at and under a name: its records, and what its children have. It is a leaf where the label
-    /// and what stands there allow it.
+    /// What is stored at and under a name: its records, and what its children have. It is a leaf where the
+    /// label and what is stored there allow it.
     pub(crate) fn new(
         alloc: Heap,
         label: &[u8],
@@ -322,7 +322,7 @@ impl Node {
         }
     }
 
-    /// How many records stand at and under the name: at least one, or the name would not be kept.
+    /// How many records are at and under the name: at least one, or the name would not be kept.
     pub(crate) fn count(&self) -> usize
         ensures own { result ≡ length self.now.own }
         ensures kept { 0 < result }
@@ -344,7 +344,7 @@ impl Node {
         }
     }
 
-    /// What stands at and under a name, whose labels lead to it from here.
+    /// What is stored at and under a name, whose labels lead to it from here.
     pub(crate) fn under(&self, name: &NameRef<'_>) -> Option<&Node>
         ensures { own_at (option_copied result) ≡ below (reverse name.now) self.now.own }
     {

@@ -1,5 +1,5 @@
 //! The records that one name owns, shared by all trees in which they are the same. Most names have one
-//! record, which stands in their node.
+//! record, which is stored in their node.
 ghost use Rattle.std.specs.Prelude.{◌≡◌, IfOk};
 ghost use Rattle.dns_zoneindex.specs.Held.{held};
 

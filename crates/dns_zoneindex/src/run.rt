@@ -1,4 +1,4 @@
-//! Records by their places in order, a run of them in one piece.
+//! Records by their indices in order, a run of them in one piece.
 ghost use Rattle.std.specs.Prelude.{◌≡◌, IfSome, IfNone};
 ghost use Rattle.dns_zoneindex.specs.Children.{items};
 ghost use Rattle.dns_zoneindex.specs.Entries.{flat};
@@ -9,7 +9,7 @@ use crate::node::{Branch, Children, Group, Kind, Node, Slot};
 use dns_records::Record;
 use std::slice;
 
-/// The slot with the place-th of all records, and the record's place among those of the slot.
+/// The slot that holds the record at an index among all records, and its index among those of the slot.
 fn slot_of(slots: &[Slot], place: usize) -> Option<(&Slot, usize)>
     ensures found { IfSome result (λ p. IsThere slots.now place p.0.now p.1) }
     ensures none { IfNone result (IsBeyond slots.now place) }
@@ -25,7 +25,7 @@ fn slot_of(slots: &[Slot], place: usize) -> Option<(&Slot, usize)>
 }
 
 impl Children {
-    /// Records from the place-th on, of all that stand at and under the children.
+    /// Records from an index on, of all that are at and under the children.
     #[cycle(run)]
     pub(crate) fn run_from(&self, place: usize) -> &[Record]
         ensures { IsLent (records_of (flat (items self.now))) place result.now }
@@ -45,7 +45,7 @@ impl Children {
 }
 
 impl Node {
-    /// Records from the place-th on, of all that stand at and under the name.
+    /// Records from an index on, of all that are at and under the name.
     #[cycle(run)]
     pub(crate) fn run_from(&self, place: usize) -> &[Record]
         ensures { IsLent (records_of self.now.own) place result.now }
@@ -63,7 +63,7 @@ impl Node {
 }
 
 impl Branch {
-    /// Records from the place-th on, of all that stand at and under the name.
+    /// Records from an index on, of all that are at and under the name.
     #[cycle(run)]
     fn run_from(&self, place: usize) -> &[Record]
         ensures { IsLent (records_of self.now.own) place result.now }

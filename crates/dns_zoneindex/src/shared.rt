@@ -1,4 +1,4 @@
-//! The tree that is a set of records: each stands at its owner, and they rise.
+//! The tree that is a set of records: each is at its owner, and they rise.
 ghost use Rattle.std.specs.Prelude.{◌≡◌, true};
 ghost use Rattle.std.specs.List.{AllByRecursion};
 ghost use Rattle.dns_records.specs.Record.{IsRecord};

@@ -29,7 +29,7 @@ pub(crate) struct Tree {
     root: Root,
 }
 
-/// What stands at and under the root.
+/// What is stored at and under the root.
 #[derive(Drop)]
 enum Root {
     /// No record.
@@ -92,7 +92,7 @@ impl Tree {
         }
     }
 
-    /// What stands at and under a name.
+    /// What is stored at and under a name.
     pub(crate) fn at(&self, name: &NameRef<'_>) -> Option<&Node>
         ensures { own_at (option_copied result) ≡ below (reverse name.now) self.now }
     {
@@ -112,7 +112,7 @@ impl Tree {
         }
     }
 
-    /// Records from the place-th on, in one piece.
+    /// Records from an index on, in one piece.
     pub(crate) fn run_from(&self, place: usize) -> &[Record]
         ensures { IsLent (records_of self.now) place result.now }
     {

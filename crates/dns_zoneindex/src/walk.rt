@@ -1,4 +1,4 @@
-//! The place of a record in order.
+//! The index of a record in order.
 ghost use Rattle.std.specs.Prelude.{◌≡◌, ◌<◌, true, length, slice_get, Some};
 ghost use Rattle.dns_zone.specs.Records.{is_ordered, next_after};
 ghost use Rattle.dns_zoneindex.specs.Owned.{records_of};
@@ -25,7 +25,7 @@ impl Tree {
         low
     }
 
-    /// The record of a place.
+    /// The record at an index.
     fn record(&self, place: usize) -> &Record
         requires { place < length (records_of self.now) }
         ensures { slice_get (records_of self.now) place ≡ Some result.now }

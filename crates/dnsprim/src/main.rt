@@ -258,7 +258,7 @@ fn start(rt: &HostRuntime) -> io::Result<u8> {
 }
 
 /// Tells in one line what kept the program from its task, and gives the exit status. Of a stream that fails
-/// nothing can be told.
+/// nothing can be reported.
 fn tell(rt: &HostRuntime, kind: io::ErrorKind) -> u8 {
     let (line, status) = match kind {
         io::ErrorKind::InvalidData => ("a word is no UTF-8", USAGE),

@@ -1,5 +1,5 @@
 use Rattle.std.proofs.Common.{◌≢◌, ℕ, get_or, Option, sym, subst, rules}
-use Rattle.dns_configuration.specs.Settings.{Finds, IsPort}
+use Rattle.dns_configuration.specs.Settings.{FindsIfAny, IsPort}
 use Rattle.dns_configuration.proofs.Hosts.{found_none}
 use Rattle.dns_configuration.proofs.Ports.{no_empty_port, no_port_behind, port_is}
 use Rattle.dns_configuration.proofs.configuration.port.Goals as goal
@@ -15,4 +15,4 @@ returns c =
     let no_zero : get_or c.args.text.now 0 0 ≢ 48 = search rules in
     let no_plus : get_or c.args.text.now 0 0 ≢ 43 = search rules in
     let port = port_is c.args.text.now c.parse.result c.parse.ensures.value.0 no_zero no_plus in
-    subst (λ (o : Option ℕ). Finds (IsPort c.args.text.now) o) (sym c.ok.ensures.value) port
+    subst (λ (o : Option ℕ). FindsIfAny (IsPort c.args.text.now) o) (sym c.ok.ensures.value) port

@@ -3,7 +3,7 @@ use Rattle.std.specs.Prelude.{◌⊎◌}
 use Rattle.std.specs.String.{string_bytes}
 use Rattle.dns_configuration.specs.declared.configuration.ZoneSettings.{ZoneSettings}
 use Rattle.dns_configuration.specs.Faults.{is_memory}
-use Rattle.dns_configuration.specs.Files.{IsLoaded, loaded_by}
+use Rattle.dns_configuration.specs.Files.{IsLoadedFrom, loaded_by}
 use Rattle.dns_configuration.proofs.Loaded.{fault_or_memory, zip_more}
 use Rattle.dns_configuration.proofs.loading.load_all.Goals as goal
 
@@ -17,5 +17,5 @@ returns-in-Err g c =
 
 pub loop-own-preserved : goal.loop-own-preserved
 loop-own-preserved g c =
-    let one = subst (λ (z : ZoneSettings). IsLoaded c.args.files.now z c.in-Ok.zone) c.own-item.is c.in-Ok.ensures in
-    rw (add-one, c.in-Ok-push.ensures.items) (zip_more (IsLoaded c.args.files.now) c.args.settings.now c.loop-own.own-index c.own-item.result c.loop-own.zones.items c.in-Ok.zone (omega arith) c.loop-own.invariant one)
+    let one = subst (λ (z : ZoneSettings). IsLoadedFrom c.args.files.now z c.in-Ok.zone) c.own-item.is c.in-Ok.ensures in
+    rw (add-one, c.in-Ok-push.ensures.items) (zip_more (IsLoadedFrom c.args.files.now) c.args.settings.now c.loop-own.own-index c.own-item.result c.loop-own.zones.items c.in-Ok.zone (omega arith) c.loop-own.invariant one)

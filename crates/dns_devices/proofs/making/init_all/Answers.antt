@@ -2,7 +2,7 @@ use Rattle.std.proofs.Common.{ℕ, inl, refl, sym, ap, length, ◌∙◌}
 use Rattle.std.specs.Prelude.{All}
 use Rattle.std.specs.List.{AllZip}
 use Rattle.dns_configuration.specs.Faults.{fault_text}
-use Rattle.dns_configuration.specs.Files.{IsLoaded}
+use Rattle.dns_configuration.specs.Files.{IsLoadedFrom}
 use Rattle.dns_devices.specs.Faults.{device_text}
 use Rattle.dns_devices.specs.Making.{InitEnds, IsFirstFound, IsGiven, is_absent}
 use Rattle.dns_devices.proofs.Ended.{device_told, fault_told}
@@ -59,8 +59,8 @@ returns-in-Some g c =
 
 pub make_all-requires : goal.make_all-requires
 make_all-requires g c =
-    let loaded : AllZip (IsLoaded c.args.files.now) c.in-Ok.configuration.zones.items c.in-Ok-load_all.zones.items = rw c.deref.ensures.value at c.in-Ok-load_all.ensures in
-    ap length c.deref-3.ensures.value ∙ zip_length (IsLoaded c.args.files.now) c.in-Ok.configuration.zones.items c.in-Ok-load_all.zones.items loaded ∙ sym (ap length c.deref-4.ensures.value)
+    let loaded : AllZip (IsLoadedFrom c.args.files.now) c.in-Ok.configuration.zones.items c.in-Ok-load_all.zones.items = rw c.deref.ensures.value at c.in-Ok-load_all.ensures in
+    ap length c.deref-3.ensures.value ∙ zip_length (IsLoadedFrom c.args.files.now) c.in-Ok.configuration.zones.items c.in-Ok-load_all.zones.items loaded ∙ sym (ap length c.deref-4.ensures.value)
 
 pub returns : goal.returns
 returns g c =

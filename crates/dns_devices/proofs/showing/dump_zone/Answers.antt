@@ -1,7 +1,7 @@
 use Rattle.std.proofs.Common.{ℕ, inl, refl, sym, ap, ◌∙◌}
 use Rattle.dns_configuration.specs.declared.files.Fault.TheVariants.{BadOrigin}
 use Rattle.dns_configuration.specs.Faults.{fault_text}
-use Rattle.dns_devices.specs.Showing.{DumpEnds, IsNamed, zone_named}
+use Rattle.dns_devices.specs.Showing.{DumpEnds, IsNamed, zone_configured}
 use Rattle.dns_devices.proofs.Ended.{fault_told}
 use Rattle.dns_devices.proofs.Shown.{dump_failed, dump_shown_ok, dump_unnamed, no_name, no_zone}
 use Rattle.dns_devices.proofs.showing.dump_zone.Goals as goal
@@ -39,7 +39,7 @@ returns-in-Some g c =
       name = c.in-Ok-apex.name;
       holds = c.in-Ok.ensures.held;
       named = c.in-Ok-apex.ensures;
-      found = ap (zone_named c.in-Ok-apex.name) (sym c.deref.ensures.value) ∙ sym c.in-Some.ensures;
+      found = ap (zone_configured c.in-Ok-apex.name) (sym c.deref.ensures.value) ∙ sym c.in-Some.ensures;
     } in
     dump_shown_ok g.D.Sectors (g.F.Devices.opened c.args.devices.now) c.args.config.now origin c.in-Some.own.now c.args.explain (g.W.Write.contents c.args.out.now) (g.W.Write.contents c.show.new.out) (g.E.Write.contents c.args.err.now) (g.E.Write.contents c.show.new.err) c.show.result named c.show.ensures
 

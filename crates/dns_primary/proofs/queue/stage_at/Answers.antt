@@ -12,7 +12,7 @@ use Rattle.dns_primary.specs.Machine.{Machine, kept_of}
 use Rattle.dns_primary.specs.Flush.{Sent}
 use Rattle.dns_primary.specs.Update.{Admission, admitted, judged_in, replies}
 use Rattle.dns_primary.specs.Outcome.{IsStageable, end_of}
-use Rattle.dns_primary.specs.Queue.{Holds, IsUntouched, asked_of}
+use Rattle.dns_primary.specs.Queue.{HoldsZones, IsUntouched, asked_of}
 use Rattle.dns_primary.proofs.Places.{changed2}
 use Rattle.dns_primary.proofs.Queued.{by_state, ends_waiting, ends_at_once, was_held, still_holds, holds_more}
 use Rattle.dns_primary.proofs.queue.stage_at.Goals as goal
@@ -52,8 +52,8 @@ returns-in-Waits-clause-done g c settings m held holds =
     let is = subst (λ y. HasVersions keeps y new (end_of (kept_of z) v).versions) c.index-zones-place.is done.1 in
     let one : Waiting = record { to = c.args.update.now.to; request = c.args.update.now.header.now; rcode = c.in-Waits.rcode; zone = place } in
     let all = holds_more keeps zones behind settings waiting m place z zone new a c.in-Waits.rcode (end_of (kept_of z) v).versions (judged_in m a place z v) one held there (ends_waiting m a place z there v c.in-Waits.rcode done.0) is refl c.requires.header refl refl in
-    let after = subst (λ l. Holds keeps zones (slice_set behind place new) settings l m.connections (judged_in m a place z v).0) (sym c.push.ensures.items) all.1 in
-    subst (λ (d : Admission). ((admitted m a d).1 ≡ []) × Holds keeps zones (slice_set behind place new) settings c.push.new.self.items m.connections (admitted m a d).0) (sym (holds.admits opened)) (all.0, after)))
+    let after = subst (λ l. HoldsZones keeps zones (slice_set behind place new) settings l m.connections (judged_in m a place z v).0) (sym c.push.ensures.items) all.1 in
+    subst (λ (d : Admission). ((admitted m a d).1 ≡ []) × HoldsZones keeps zones (slice_set behind place new) settings c.push.new.self.items m.connections (admitted m a d).0) (sym (holds.admits opened)) (all.0, after)))
 
 pub returns-in-Waits-clause-still : goal.returns-in-Waits-clause-still
 returns-in-Waits-clause-still g c =
@@ -83,15 +83,15 @@ returns-in-AtOnce-clause-done g c settings m held holds =
     let code : c.in-AtOnce.rcode ≡ ServFail = cc same in
     let is = subst (λ y. HasVersions keeps y new (kept_of z)) c.index-zones-place.is closed.1 in
     let after = still_holds keeps zones behind settings waiting m place z zone new held there is in
-    subst (λ (d : Admission). ((admitted m a d).1 ≡ replies a (number_of_rcode c.in-AtOnce.rcode) ∷ []) × Holds keeps zones (slice_set behind place new) settings waiting m.connections (admitted m a d).0) (sym (holds.shut shut))
+    subst (λ (d : Admission). ((admitted m a d).1 ≡ replies a (number_of_rcode c.in-AtOnce.rcode) ∷ []) × HoldsZones keeps zones (slice_set behind place new) settings waiting m.connections (admitted m a d).0) (sym (holds.shut shut))
     (ap (λ (r : Rcode). replies a (number_of_rcode r) ∷ []) (sym code), after)))
     (λ opened.
     (let done = c.in-AtOnce.ensures.done (kept_of z) v here opened holds.is in
     let ends = ends_at_once m a place z there v c.in-AtOnce.rcode done.0 in
     let is = subst (λ y. HasVersions keeps y new (kept_of z)) c.index-zones-place.is (subst (λ k. HasVersions keeps zone new k) ends.1 done.1) in
     let after = still_holds keeps zones behind settings waiting m place z zone new held there is in
-    subst (λ (d : Admission). ((admitted m a d).1 ≡ replies a (number_of_rcode c.in-AtOnce.rcode) ∷ []) × Holds keeps zones (slice_set behind place new) settings waiting m.connections (admitted m a d).0) (sym (holds.admits opened))
-    (ap (λ (p : Machine × List Sent). p.1) ends.0, subst (λ (p : Machine × List Sent). Holds keeps zones (slice_set behind place new) settings waiting m.connections p.0) (sym ends.0) after)))
+    subst (λ (d : Admission). ((admitted m a d).1 ≡ replies a (number_of_rcode c.in-AtOnce.rcode) ∷ []) × HoldsZones keeps zones (slice_set behind place new) settings waiting m.connections (admitted m a d).0) (sym (holds.admits opened))
+    (ap (λ (p : Machine × List Sent). p.1) ends.0, subst (λ (p : Machine × List Sent). HoldsZones keeps zones (slice_set behind place new) settings waiting m.connections p.0) (sym ends.0) after)))
 
 pub returns-in-AtOnce-clause-still : goal.returns-in-AtOnce-clause-still
 returns-in-AtOnce-clause-still g c =

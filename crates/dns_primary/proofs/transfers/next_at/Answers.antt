@@ -1,6 +1,6 @@
 use Rattle.std.proofs.Common.{◌≡◌, List, [], sym, ap, subst, ◌∙◌}
 use Rattle.std.specs.Prelude.{MatchOption, OnErr, true, false, Option, None, Some, Result, Ok, Err}
-use Rattle.dns_transfer.specs.Session.{Sending, Sends}
+use Rattle.dns_transfer.specs.Session.{Sending, SendsMessage}
 use Rattle.dns_primary.specs.declared.transfers.OpenTransfer.{OpenTransfer}
 use Rattle.dns_primary.specs.Sending.{EndsOn, SendsOn}
 use Rattle.dns_primary.proofs.Moved.{got}
@@ -39,7 +39,7 @@ returns-then-not-is_done-clause-sent g c =
     of_message c.in_ok-message.message
     (subst
     (λ (t : OpenTransfer g.row.I.Denot). MatchOption c.in_ok-message.message ((u.session ≡ t.session) × ((t.session).left ≡ []))
-    (λ octets. ((t.session).left ≡ [] → ⊥) × Sends t.session octets.items u.session)) here c.in_ok-message.ensures.sent)
+    (λ octets. ((t.session).left ≡ [] → ⊥) × SendsMessage t.session octets.items u.session)) here c.in_ok-message.ensures.sent)
     (λ h. absurd (more (ap (λ (s : Sending). s.left) h.0 ∙ h.1))) (λ octets h. sends_on c.args.number c.args.place items one u number_is octets.items h.0 h.1 more)
 
 pub returns-clause-sent : goal.returns-clause-sent
@@ -54,7 +54,7 @@ returns-clause-sent g c =
     of_message c.in_ok-message.message
     (subst
     (λ (t : OpenTransfer g.row.I.Denot). MatchOption c.in_ok-message.message ((u.session ≡ t.session) × ((t.session).left ≡ []))
-    (λ octets. ((t.session).left ≡ [] → ⊥) × Sends t.session octets.items u.session)) here c.in_ok-message.ensures.sent)
+    (λ octets. ((t.session).left ≡ [] → ⊥) × SendsMessage t.session octets.items u.session)) here c.in_ok-message.ensures.sent)
     (λ h. subst (λ (l : List (OpenTransfer g.row.I.Denot)). EndsOn c.args.number items l) (sym c.forget.ensures) (ends c.args.number c.args.place items one u number_is h.1))
     (λ octets h. subst (λ (l : List (OpenTransfer g.row.I.Denot)). SendsOn c.args.number octets.items items l) (sym c.forget.ensures)
     (sends_last c.args.number c.args.place items one u number_is octets.items h.0 h.1 none))

@@ -1,7 +1,7 @@
 use Rattle.std.proofs.Common.{◌≡◌, inl, inr, refl, sym, subst, ◌∙◌, ap}
 use Rattle.dns_zone.specs.Zone.{Zone}
 use Rattle.dns_changes.specs.Change.{IsChange}
-use Rattle.dns_changes.specs.Version.{IsNext}
+use Rattle.dns_changes.specs.Version.{IsVersionAfter}
 use Rattle.dns_update.specs.Verdict.{Refuses, Keeps, Leaves, verdict, IsVerdict}
 use Rattle.dns_update.specs.declared.Judged.{Judged}
 use Rattle.dns_update.specs.declared.Judged.TheVariants as judged
@@ -52,7 +52,7 @@ returns-in-Ok-NoChange-clause-lacks g c k held =
 
 pub sectors_lacked-lacked-requires-clause-next : goal.sectors_lacked-lacked-requires-clause-next
 sectors_lacked-lacked-requires-clause-next g c =
-    subst (λ (z : Zone). IsNext z c.in-Ok-Accepted.change (g.I.ZoneIndex.records c.in-Ok-Accepted.records)) c.newest.ensures.either
+    subst (λ (z : Zone). IsVersionAfter z c.in-Ok-Accepted.change (g.I.ZoneIndex.records c.in-Ok-Accepted.records)) c.newest.ensures.either
     (c.in-Ok-Accepted.ensures.next c.in-Ok-Accepted.change c.in-Ok-Accepted.records c.in-Ok-Accepted.field-0-is)
 
 pub sectors_lacked-lacked-requires-clause-change : goal.sectors_lacked-lacked-requires-clause-change
@@ -95,7 +95,7 @@ returns-in-Ok-Accepted-clause-stageable g c =
     let here : IsVerdict g.I.ZoneIndex.records before.records (verdict before answers items) (judged.Accepted c.in-Ok-Accepted.change c.in-Ok-Accepted.records) =
     subst (λ (j : Judged g.row.I.Denot). IsVerdict g.I.ZoneIndex.records before.records (verdict before answers items) j) c.in-Ok-Accepted.field-0-is c.in-Ok-Accepted.ensures.verdict in
     let l = leaving g.I.ZoneIndex.records before.records (verdict before answers items) c.in-Ok-Accepted.change c.in-Ok-Accepted.records here in (
-      subst (λ (z : Zone). IsNext z c.in-Ok-Accepted.change (g.I.ZoneIndex.records c.in-Ok-Accepted.records)) c.newest.ensures.either
+      subst (λ (z : Zone). IsVersionAfter z c.in-Ok-Accepted.change (g.I.ZoneIndex.records c.in-Ok-Accepted.records)) c.newest.ensures.either
           (c.in-Ok-Accepted.ensures.next c.in-Ok-Accepted.change c.in-Ok-Accepted.records c.in-Ok-Accepted.field-0-is),
       subst (λ (z : Zone). IsChange z.records (g.I.ZoneIndex.records c.in-Ok-Accepted.records) c.in-Ok-Accepted.change) c.newest.ensures.either l.change,
     )

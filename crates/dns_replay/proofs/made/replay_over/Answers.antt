@@ -1,18 +1,18 @@
 use Rattle.std.proofs.Common.{length, ap, ◌∙◌}
 use Rattle.dns_zone.specs.Zone.{Zone}
 use Rattle.dns_script.specs.Lines.{lines}
-use Rattle.dns_replay.specs.Made.{IsMade}
+use Rattle.dns_replay.specs.Made.{IsMadeOf}
 use Rattle.dns_replay.specs.Runs.{AreSame}
 use Rattle.dns_replay.proofs.Crashed.{each_long}
 use Rattle.dns_replay.proofs.Loaded.{each3_first, each3_long, runs_from}
 use Rattle.dns_replay.proofs.made.replay_over.Goals as goal
 
 pub open-requires-clause-as_many : goal.open-requires-clause-as_many
-open-requires-clause-as_many g c = each3_long (IsMade g.D.Sectors) c.args.zones.now c.args.world.settings.now c.args.devices.items c.requires.made ∙ each_long AreSame c.args.world.settings.now c.args.again.items c.requires.same
+open-requires-clause-as_many g c = each3_long (IsMadeOf g.D.Sectors) c.args.zones.now c.args.world.settings.now c.args.devices.items c.requires.made ∙ each_long AreSame c.args.world.settings.now c.args.again.items c.requires.same
 
 pub open-requires-clause-named : goal.open-requires-clause-named
 open-requires-clause-named g c =
-    ap length c.requires.named ∙ each3_first (λ (z : Zone). z.apex) (IsMade g.D.Sectors) c.args.zones.now c.args.world.settings.now c.args.devices.items c.requires.made ∙ each_long AreSame c.args.world.settings.now c.args.again.items c.requires.same
+    ap length c.requires.named ∙ each3_first (λ (z : Zone). z.apex) (IsMadeOf g.D.Sectors) c.args.zones.now c.args.world.settings.now c.args.devices.items c.requires.made ∙ each_long AreSame c.args.world.settings.now c.args.again.items c.requires.same
 
 pub returns-in-Ok : goal.returns-in-Ok
 returns-in-Ok g c = λ not.

@@ -1,14 +1,14 @@
 use Rattle.std.proofs.Common.{◌≡◌, true, ap}
 use Rattle.std.specs.Prelude.{◌⊎◌}
 use Rattle.dns_configuration.specs.Faults.{is_memory}
-use Rattle.dns_configuration.specs.Files.{IsFirstFault, IsLoaded}
+use Rattle.dns_configuration.specs.Files.{IsFirstFault, IsLoadedFrom}
 use Rattle.dns_configuration.specs.Known.{IsSettingOf}
 use Rattle.dns_server.specs.Replays.{devices_of}
 use Rattle.dns_server.proofs.Replayed.{as_many, file_told, script_ran}
 use Rattle.dns_server.proofs.run.replayed.Goals as goal
 
 pub run-requires : goal.run-requires
-run-requires g c = as_many (IsLoaded c.args.files.now) IsSettingOf c.in-Ok.configuration.zones.items c.in-Ok-loaded.zones.items c.in_ok-known.known.items (rw c.deref-2.ensures.value at c.in-Ok-loaded.ensures) (rw c.deref.ensures.value at c.in_ok-known.ensures)
+run-requires g c = as_many (IsLoadedFrom c.args.files.now) IsSettingOf c.in-Ok.configuration.zones.items c.in-Ok-loaded.zones.items c.in_ok-known.known.items (rw c.deref-2.ensures.value at c.in-Ok-loaded.ensures) (rw c.deref.ensures.value at c.in_ok-known.ensures)
 
 pub returns-in-Ok-loaded : goal.returns-in-Ok-loaded
 returns-in-Ok-loaded g c =

@@ -11,14 +11,14 @@ use Rattle.dns_journal.proofs.Altered.{altered_itself}
 use Rattle.dns_store.specs.Versions.{Shape, Opened}
 use Rattle.dns_store.specs.Opens.{sizes_of, opens}
 use Rattle.dns_store.specs.Migrating.{StaysOrMigrates, IsReadOld, IsMigrateStopped, migrate_error}
-use Rattle.dns_store.specs.Opening.{IsStopped}
+use Rattle.dns_store.specs.Opening.{IsNotReopened}
 use Rattle.dns_store.specs.declared.root.OpenError.{OpenError}
 use Rattle.dns_store.proofs.Entering.{none_altered}
 use Rattle.std.proofs.lemmas.Result.{err_from_is_err_and}
 use Rattle.dns_records.specs.Record.{Record}
 use Rattle.dns_zone.specs.Zone.{soas}
 use Rattle.dns_layout.specs.Sector.{open_count}
-use Rattle.dns_journal.specs.State.{IsOpened}
+use Rattle.dns_journal.specs.State.{IsOpenedTimes}
 use Rattle.dns_store.specs.Versions.{Versions, newest_after}
 use Rattle.dns_store.specs.Opens.{IsPartOfIn}
 use Rattle.dns_layout.specs.Store.{Stored}
@@ -110,7 +110,7 @@ returns-then-branch-clause-migrated g c honest range may =
     )
 
 -- it was opened too often to be migrated
-stopped_so : (n m : ℕ) (e : OpenError) → m ≡ n + 1 → IsStopped n e → IsMigrateStopped m (migrate_error e)
+stopped_so : (n m : ℕ) (e : OpenError) → m ≡ n + 1 → IsNotReopened n e → IsMigrateStopped m (migrate_error e)
 stopped_so n m e more (inl failed) = inl (ap migrate_error failed)
 stopped_so n m e more (inr (inl memory)) = inr (inl (ap migrate_error memory))
 stopped_so n m e more (inr (inr worn)) = inr (inr (ap migrate_error worn.0, omega (arith, worn.1, more)))
@@ -157,7 +157,7 @@ returns-in_err-write_anew-clause-migrated g c honest range may =
     let near = one.honest.1 honest in
     let here = first.honest.1 honest in
     let not_new = λ (is : tag (sector_at (g.D.Sectors.seen c.args.device.now) 0) ≡ root_tag). not_true _ (c.in_ok-is_new.ensures.new near) c.if-branch.false (subst (λ (x : Content). tag (sector_at x 0) ≡ root_tag) (sym (one.seen honest)) is) in
-    let reader : (o : Opened) (s : Stored) → OpensAsIn One (sizes_of shape) d s → IsPartOfIn One c.args.apex.now o s → IsOpened o.openings d → IsReadOld shape o s (g.D.Sectors.seen c.read_store.new.device) c.in_ok-found.found.root c.in_ok-found.found.end.version c.in_ok-found.found.base c.deref.result.now =
+    let reader : (o : Opened) (s : Stored) → OpensAsIn One (sizes_of shape) d s → IsPartOfIn One c.args.apex.now o s → IsOpenedTimes o.openings d → IsReadOld shape o s (g.D.Sectors.seen c.read_store.new.device) c.in_ok-found.found.root c.in_ok-found.found.end.version c.in_ok-found.found.base c.deref.result.now =
     λ o s is part opened. subst (λ (cs : List Change). IsReadOld shape o s (g.D.Sectors.seen c.read_store.new.device) c.in_ok-found.found.root c.in_ok-found.found.end.version c.in_ok-found.found.base cs) (sym c.deref.ensures.value)
     (subst (λ (x : Content). IsReadOld shape o s x c.in_ok-found.found.root c.in_ok-found.found.end.version c.in_ok-found.found.base c.in_ok-found.found.changes.items) (sym same)
     (read_old shape o s (g.D.Sectors.seen c.is_new.new.device) d c.in_ok-found.found.root c.in_ok-found.found.end c.in_ok-found.found.base c.in_ok-found.found.changes.items c.in_ok-found.found.newest.records (first.seen honest)
@@ -192,7 +192,7 @@ returns-in_err-write_anew-clause-too_large g c = λ honest o is range large.
     let near = one.honest.1 honest in
     let here = first.honest.1 honest in
     let not_new = λ (is : tag (sector_at (g.D.Sectors.seen c.args.device.now) 0) ≡ root_tag). not_true _ (c.in_ok-is_new.ensures.new near) c.if-branch.false (subst (λ (x : Content). tag (sector_at x 0) ≡ root_tag) (sym (one.seen honest)) is) in
-    let reader : (o : Opened) (s : Stored) → OpensAsIn One (sizes_of shape) d s → IsPartOfIn One c.args.apex.now o s → IsOpened o.openings d → IsReadOld shape o s (g.D.Sectors.seen c.read_store.new.device) c.in_ok-found.found.root c.in_ok-found.found.end.version c.in_ok-found.found.base c.deref.result.now =
+    let reader : (o : Opened) (s : Stored) → OpensAsIn One (sizes_of shape) d s → IsPartOfIn One c.args.apex.now o s → IsOpenedTimes o.openings d → IsReadOld shape o s (g.D.Sectors.seen c.read_store.new.device) c.in_ok-found.found.root c.in_ok-found.found.end.version c.in_ok-found.found.base c.deref.result.now =
     λ o s is part opened. subst (λ (cs : List Change). IsReadOld shape o s (g.D.Sectors.seen c.read_store.new.device) c.in_ok-found.found.root c.in_ok-found.found.end.version c.in_ok-found.found.base cs) (sym c.deref.ensures.value)
     (subst (λ (x : Content). IsReadOld shape o s x c.in_ok-found.found.root c.in_ok-found.found.end.version c.in_ok-found.found.base c.in_ok-found.found.changes.items) (sym same)
     (read_old shape o s (g.D.Sectors.seen c.is_new.new.device) d c.in_ok-found.found.root c.in_ok-found.found.end c.in_ok-found.found.base c.in_ok-found.found.changes.items c.in_ok-found.found.newest.records (first.seen honest)
@@ -243,7 +243,7 @@ returns-clause-migrated g c honest range may =
     let not_new = λ (is : tag (sector_at (g.D.Sectors.seen c.args.device.now) 0) ≡ root_tag). not_true _ (c.in_ok-is_new.ensures.new near) c.if-branch.false (subst (λ (x : Content). tag (sector_at x 0) ≡ root_tag) (sym (one.seen honest)) is) in
     let only : Only (g.D.Sectors.seen c.read_store.new.device) (g.D.Sectors.may_leave c.read_store.new.device) =
     λ x l. c.in_ok-settle.ensures.durable honest x (two.crash near x (three.crash here x l)) ∙ sym same in
-    let reader : (o : Opened) (s : Stored) → OpensAsIn One (sizes_of shape) d s → IsPartOfIn One c.args.apex.now o s → IsOpened o.openings d → IsReadOld shape o s (g.D.Sectors.seen c.read_store.new.device) c.in_ok-found.found.root c.in_ok-found.found.end.version c.in_ok-found.found.base c.deref.result.now =
+    let reader : (o : Opened) (s : Stored) → OpensAsIn One (sizes_of shape) d s → IsPartOfIn One c.args.apex.now o s → IsOpenedTimes o.openings d → IsReadOld shape o s (g.D.Sectors.seen c.read_store.new.device) c.in_ok-found.found.root c.in_ok-found.found.end.version c.in_ok-found.found.base c.deref.result.now =
     λ o s is part opened. subst (λ (cs : List Change). IsReadOld shape o s (g.D.Sectors.seen c.read_store.new.device) c.in_ok-found.found.root c.in_ok-found.found.end.version c.in_ok-found.found.base cs) (sym c.deref.ensures.value)
     (subst (λ (x : Content). IsReadOld shape o s x c.in_ok-found.found.root c.in_ok-found.found.end.version c.in_ok-found.found.base c.in_ok-found.found.changes.items) (sym same)
     (read_old shape o s (g.D.Sectors.seen c.is_new.new.device) d c.in_ok-found.found.root c.in_ok-found.found.end c.in_ok-found.found.base c.in_ok-found.found.changes.items c.in_ok-found.found.newest.records (first.seen honest)

@@ -6,7 +6,7 @@ use Rattle.dns_layout.specs.Store.{journal_place, bank_end, version_of}
 use Rattle.dns_store.specs.Versions.{Shape, opened_again}
 use Rattle.dns_store.specs.Opens.{base_of, sizes_of}
 use Rattle.dns_store.specs.Recovered.{AreLed}
-use Rattle.dns_store.specs.Opening.{OpensAsPossible, IsStopped}
+use Rattle.dns_store.specs.Opening.{OpensAsPossible, IsNotReopened}
 use Rattle.dns_store.specs.Damage.{NamesAltered}
 use Rattle.dns_store.proofs.Leaves.{part_opened}
 use Rattle.dns_journal.proofs.Altered.{altered_itself}
@@ -19,7 +19,7 @@ returns-in-Err-clause-opened g c honest range may =
     let d = g.D.Sectors.seen c.args.device in (
       d,
       g.met.D.Sectors.seen_may_stay c.args.device honest,
-      λ o is. subst (λ n. IsStopped n c.in-Err.error) is.4 (none_altered Two _ d c.in-Err.error (c.in-Err.ensures.found honest range d (altered_itself Two d) o is.0 is.1 is.3)),
+      λ o is. subst (λ n. IsNotReopened n c.in-Err.error) is.4 (none_altered Two _ d c.in-Err.error (c.in-Err.ensures.found honest range d (altered_itself Two d) o is.0 is.1 is.3)),
     )
 
 pub returns-in-Err-raise_root-clause-opened : goal.returns-in-Err-raise_root-clause-opened
@@ -28,7 +28,7 @@ returns-in-Err-raise_root-clause-opened g c honest range may =
 
 pub returns-in-Err-clause-altered : goal.returns-in-Err-clause-altered
 returns-in-Err-clause-altered g c honest range before o is altered =
-    subst (λ n. IsStopped n c.in-Err.error ⊎ NamesAltered before (g.D.Sectors.seen c.args.device) c.in-Err.error) is.4 (c.in-Err.ensures.found honest range before altered o is.0 is.1 is.3)
+    subst (λ n. IsNotReopened n c.in-Err.error ⊎ NamesAltered before (g.D.Sectors.seen c.args.device) c.in-Err.error) is.4 (c.in-Err.ensures.found honest range before altered o is.0 is.1 is.3)
 
 pub returns-in-Err-raise_root-clause-any_moment : goal.returns-in-Err-raise_root-clause-any_moment
 returns-in-Err-raise_root-clause-any_moment g c honest range =

@@ -4,8 +4,8 @@ use Rattle.dns_layout.specs.Sector.{sector_at, open_count}
 use Rattle.dns_layout.specs.Own.{IsIntactIn, IsAltered}
 use Rattle.dns_layout.specs.declared.format.Format.TheVariants.{Two}
 use Rattle.dns_store.specs.Versions.{Shape}
-use Rattle.dns_store.specs.Damage.{NamesAltered, IsReached}
-use Rattle.dns_store.specs.Opening.{IsStopped}
+use Rattle.dns_store.specs.Damage.{NamesAltered, IsSectorRead}
+use Rattle.dns_store.specs.Opening.{IsNotReopened}
 use Rattle.dns_store.proofs.recovery.read_settled.Goals as goal
 
 pub returns-in-Ok-clause-found : goal.returns-in-Ok-clause-found
@@ -17,7 +17,7 @@ pub returns-in-Err-clause-found : goal.returns-in-Err-clause-found
 returns-in-Err-clause-found g c honest range before altered o s is part =
     let reads = c.settle.ensures.reads in
     let error = c.in-Err.error in
-    subst (λ (d : Content). IsStopped (open_count (sector_at before 0)) error ⊎ NamesAltered before d error) (reads.seen honest)
+    subst (λ (d : Content). IsNotReopened (open_count (sector_at before 0)) error ⊎ NamesAltered before d error) (reads.seen honest)
     (c.in-Err.ensures.found (reads.honest.1 honest) range before (subst (λ (d : Content). IsAltered Two before d) (sym (reads.seen honest)) altered) o s is part)
 
 pub returns-in-Ok-clause-not_own : goal.returns-in-Ok-clause-not_own
@@ -25,7 +25,7 @@ returns-in-Ok-clause-not_own g c honest range place reached spoilt =
     let shape : Shape = record { apex = c.args.apex.now; snapshot = c.args.snapshot; journal = c.args.journal } in
     let reads = c.settle.ensures.reads in
     let same = reads.seen honest in
-    c.in-Ok.ensures.not_own (reads.honest.1 honest) range place (subst (λ (d : Content). IsReached shape d place) (sym same) reached)
+    c.in-Ok.ensures.not_own (reads.honest.1 honest) range place (subst (λ (d : Content). IsSectorRead shape d place) (sym same) reached)
     (λ own. spoilt (subst (λ (d : Content). IsIntactIn Two place (sector_at d place)) same own))
 
 pub returns-in-Err-clause-not_own : goal.returns-in-Err-clause-not_own
@@ -33,5 +33,5 @@ returns-in-Err-clause-not_own g c honest range place reached spoilt =
     let shape : Shape = record { apex = c.args.apex.now; snapshot = c.args.snapshot; journal = c.args.journal } in
     let reads = c.settle.ensures.reads in
     let same = reads.seen honest in
-    c.in-Err.ensures.not_own (reads.honest.1 honest) range place (subst (λ (d : Content). IsReached shape d place) (sym same) reached)
+    c.in-Err.ensures.not_own (reads.honest.1 honest) range place (subst (λ (d : Content). IsSectorRead shape d place) (sym same) reached)
     (λ own. spoilt (subst (λ (d : Content). IsIntactIn Two place (sector_at d place)) same own))

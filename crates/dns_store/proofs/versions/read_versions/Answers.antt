@@ -7,11 +7,11 @@ use Rattle.dns_layout.specs.Sector.{sector_at}
 use Rattle.dns_layout.specs.Own.{IsIntactIn, IsAltered}
 use Rattle.dns_journal.specs.declared.read.Found.{Found}
 use Rattle.dns_journal.specs.declared.read.Cursor.{Cursor}
-use Rattle.dns_journal.specs.Reads.{Ends, Finds, IsRefusal, NamesSpoilt, IsThat, IsReached as IsReachedAt}
+use Rattle.dns_journal.specs.Reads.{IsJournalEnd, FindsEntry, IsRefusal, NamesSpoilt, IsThat, IsSectorReached as IsReachedAt}
 use Rattle.dns_journal.proofs.Looking.{none_read, reads_then}
 use Rattle.dns_journal.proofs.Altered.{altered_itself}
-use Rattle.dns_store.specs.Recovered.{IsRecovered}
-use Rattle.dns_store.specs.Damage.{Step, IsStepAtIn}
+use Rattle.dns_store.specs.Recovered.{IsNewestRecovered}
+use Rattle.dns_store.specs.Damage.{ReadChange, IsStepAtIn}
 use Rattle.dns_store.proofs.Damage.{named_within, one_more, refusal_named, fault_named}
 use Rattle.dns_store.proofs.Recovering.{Goes, begins, next_is, all_recovered, not_refused}
 use Rattle.dns_store.proofs.Reached.{reach_refused, reach_ended, reach_taken, reach_on}
@@ -50,7 +50,7 @@ returns-in-Err-clause-reads_all g c honest k altered vs es reads are =
     let f = c.args.format in
     let so = c.entries.invariant.goes honest k altered vs es reads are in
     let still = subst (λ e. IsAltered f k e) (sym (c.entries.invariant.reads.seen honest)) altered in
-    let finds = subst (λ (r : Option Found). MatchOption r (Ends f c.entries.cursor k) (λ e. Finds f c.entries.cursor c.next_entry.new.cursor k e.octets.items × (e.head ≡ c.entries.cursor.at))) c.in-Some.is
+    let finds = subst (λ (r : Option Found). MatchOption r (IsJournalEnd f c.entries.cursor k) (λ e. FindsEntry f c.entries.cursor c.next_entry.new.cursor k e.octets.items × (e.head ≡ c.entries.cursor.at))) c.in-Some.is
     (c.in_ok-found.ensures.found (c.entries.invariant.reads.honest.1 honest) k still) in
     let next = next_is f c.args.cursor.now c.entries.cursor c.next_entry.new.cursor k c.args.base.apex c.args.base.records vs es c.entries.zone.records c.entries.changes.items c.in-Some.found.octets.items finds.0 so in
     let valid = subst (λ a. IsZone (record { apex = a; records = next.after })) (sym c.entries.invariant.apex) next.valid in
@@ -69,12 +69,12 @@ entries-preserved g c = record {
       let so = c.entries.invariant.steps honest in
       let d = g.D.Sectors.seen c.args.device.now in
       let still = subst (λ e. IsAltered f d e) (sym (c.entries.invariant.reads.seen honest)) (altered_itself f d) in
-      let finds = subst (λ (r : Option Found). MatchOption r (Ends f c.entries.cursor d) (λ e. Finds f c.entries.cursor c.next_entry.new.cursor d e.octets.items × (e.head ≡ c.entries.cursor.at))) c.in-Some.is
+      let finds = subst (λ (r : Option Found). MatchOption r (IsJournalEnd f c.entries.cursor d) (λ e. FindsEntry f c.entries.cursor c.next_entry.new.cursor d e.octets.items × (e.head ≡ c.entries.cursor.at))) c.in-Some.is
       (c.in_ok-found.ensures.found (c.entries.invariant.reads.honest.1 honest) d still) in
       let mine = c.in-Ok.ensures.found in
-      let step : Step = record { change = c.in-Ok.step.0; after = c.in-Ok.step.1.records; behind = c.next_entry.new.cursor } in
+      let step : ReadChange = record { change = c.in-Ok.step.0; after = c.in-Ok.step.1.records; behind = c.next_entry.new.cursor } in
       let is : IsStepAtIn f c.args.base.apex d c.entries.cursor c.entries.zone.records step = record {
-        found = subst (λ (xs : List ℕ). Finds f c.entries.cursor c.next_entry.new.cursor d xs) (sym (mine.1 ∙ c.deref.ensures.value)) finds.0;
+        found = subst (λ (xs : List ℕ). FindsEntry f c.entries.cursor c.next_entry.new.cursor d xs) (sym (mine.1 ∙ c.deref.ensures.value)) finds.0;
         written = mine.0;
         fits = mine.2;
         makes = mine.3;
@@ -85,7 +85,7 @@ entries-preserved g c = record {
       let f = c.args.format in
       let so = c.entries.invariant.goes honest k altered vs es reads are in
       let still = subst (λ e. IsAltered f k e) (sym (c.entries.invariant.reads.seen honest)) altered in
-      let finds = subst (λ (r : Option Found). MatchOption r (Ends f c.entries.cursor k) (λ e. Finds f c.entries.cursor c.next_entry.new.cursor k e.octets.items × (e.head ≡ c.entries.cursor.at))) c.in-Some.is
+      let finds = subst (λ (r : Option Found). MatchOption r (IsJournalEnd f c.entries.cursor k) (λ e. FindsEntry f c.entries.cursor c.next_entry.new.cursor k e.octets.items × (e.head ≡ c.entries.cursor.at))) c.in-Some.is
       (c.in_ok-found.ensures.found (c.entries.invariant.reads.honest.1 honest) k still) in
       let next = next_is f c.args.cursor.now c.entries.cursor c.next_entry.new.cursor k c.args.base.apex c.args.base.records vs es c.entries.zone.records c.entries.changes.items c.in-Some.found.octets.items finds.0 so in
       let valid = subst (λ a. IsZone (record { apex = a; records = next.after })) (sym c.entries.invariant.apex) next.valid in
@@ -99,7 +99,7 @@ entries-preserved g c = record {
       let same = c.entries.invariant.reads.seen honest in
       let honest' = c.entries.invariant.reads.honest.1 honest in
       let still = subst (λ e. IsAltered f d e) (sym same) (altered_itself f d) in
-      let finds = subst (λ (r : Option Found). MatchOption r (Ends f c.entries.cursor d) (λ e. Finds f c.entries.cursor c.next_entry.new.cursor d e.octets.items × (e.head ≡ c.entries.cursor.at))) c.in-Some.is
+      let finds = subst (λ (r : Option Found). MatchOption r (IsJournalEnd f c.entries.cursor d) (λ e. FindsEntry f c.entries.cursor c.next_entry.new.cursor d e.octets.items × (e.head ≡ c.entries.cursor.at))) c.in-Some.is
       (c.in_ok-found.ensures.found honest' d still) in
       let direct : c.entries.cursor.at < c.entries.cursor.until → IsReachedAt f c.entries.cursor d place → ⊥ = λ lt there.
       c.in_ok-found.ensures.not_own honest' lt place (subst (λ e. IsReachedAt f c.entries.cursor e place) (sym same) there) (subst (λ e. IsIntactIn f place (sector_at e place) → ⊥) (sym same) not) in
@@ -113,10 +113,10 @@ returns-clause-reads_all g c honest k altered vs es reads are =
     let f = c.args.format in
     let so = c.entries.invariant.goes honest k altered vs es reads are in
     let still = subst (λ e. IsAltered f k e) (sym (c.entries.invariant.reads.seen honest)) altered in
-    let ends = subst (λ (r : Option Found). MatchOption r (Ends f c.entries.cursor k) (λ e. Finds f c.entries.cursor c.next_entry.new.cursor k e.octets.items × (e.head ≡ c.entries.cursor.at))) c.in_default.is
+    let ends = subst (λ (r : Option Found). MatchOption r (IsJournalEnd f c.entries.cursor k) (λ e. FindsEntry f c.entries.cursor c.next_entry.new.cursor k e.octets.items × (e.head ≡ c.entries.cursor.at))) c.in_default.is
     (c.in_ok-found.ensures.found (c.entries.invariant.reads.honest.1 honest) k still) in
     let same : c.next_entry.new.cursor ≡ c.entries.cursor = search rules in
-    subst (λ (n : Cursor). IsRecovered c.args.cursor.now n c.args.base.records vs es c.entries.zone.records c.entries.changes.items) (sym same)
+    subst (λ (n : Cursor). IsNewestRecovered c.args.cursor.now n c.args.base.records vs es c.entries.zone.records c.entries.changes.items) (sym same)
     (all_recovered f c.args.cursor.now c.entries.cursor k c.args.base.apex c.args.base.records vs es c.entries.zone.records c.entries.changes.items ends so)
 
 pub returns-in_err-found-clause-damaged : goal.returns-in_err-found-clause-damaged
@@ -138,7 +138,7 @@ returns-in-Err-clause-damaged g c honest =
     let so = c.entries.invariant.steps honest in
     let d = g.D.Sectors.seen c.args.device.now in
     let still = subst (λ e. IsAltered f d e) (sym (c.entries.invariant.reads.seen honest)) (altered_itself f d) in
-    let finds = subst (λ (r : Option Found). MatchOption r (Ends f c.entries.cursor d) (λ e. Finds f c.entries.cursor c.next_entry.new.cursor d e.octets.items × (e.head ≡ c.entries.cursor.at))) c.in-Some.is
+    let finds = subst (λ (r : Option Found). MatchOption r (IsJournalEnd f c.entries.cursor d) (λ e. FindsEntry f c.entries.cursor c.next_entry.new.cursor d e.octets.items × (e.head ≡ c.entries.cursor.at))) c.in-Some.is
     (c.in_ok-found.ensures.found (c.entries.invariant.reads.honest.1 honest) d still) in
     inr
     (fault_named f c.args.base.apex c.args.base.records c.args.cursor.now d so.0 c.entries.cursor c.next_entry.new.cursor c.entries.zone.records c.in-Some.found.octets.items c.in-Some.found.head so.1 finds.0 finds.1 c.fault_at.result
@@ -159,7 +159,7 @@ returns-in_err-found-clause-not_own g c honest place reached not =
     c.in_err-found.ensures.not_own honest' lt place (subst (λ e. IsReachedAt f c.entries.cursor e place) (sym same) there) (subst (λ e. IsIntactIn f place (sector_at e place) → ⊥) (sym same) not) in
     rw p.1
     (reach_refused f c.args.base.apex d c.entries.zone.records c.entries.cursor place (c.entries.invariant.reached honest place reached not) e p.0 p.2 direct
-    (λ new octets finds. subst (λ k. NamesSpoilt f k c.entries.cursor.at new.at e) same (c.in_err-found.ensures.near honest' new octets (subst (λ k. Finds f c.entries.cursor new k octets) (sym same) finds))))
+    (λ new octets finds. subst (λ k. NamesSpoilt f k c.entries.cursor.at new.at e) same (c.in_err-found.ensures.near honest' new octets (subst (λ k. FindsEntry f c.entries.cursor new k octets) (sym same) finds))))
 
 pub returns-in-Err-clause-not_own : goal.returns-in-Err-clause-not_own
 returns-in-Err-clause-not_own g c honest place reached not =
@@ -168,7 +168,7 @@ returns-in-Err-clause-not_own g c honest place reached not =
     let same = c.entries.invariant.reads.seen honest in
     let honest' = c.entries.invariant.reads.honest.1 honest in
     let still = subst (λ e. IsAltered f d e) (sym same) (altered_itself f d) in
-    let finds = subst (λ (r : Option Found). MatchOption r (Ends f c.entries.cursor d) (λ e. Finds f c.entries.cursor c.next_entry.new.cursor d e.octets.items × (e.head ≡ c.entries.cursor.at))) c.in-Some.is
+    let finds = subst (λ (r : Option Found). MatchOption r (IsJournalEnd f c.entries.cursor d) (λ e. FindsEntry f c.entries.cursor c.next_entry.new.cursor d e.octets.items × (e.head ≡ c.entries.cursor.at))) c.in-Some.is
     (c.in_ok-found.ensures.found honest' d still) in
     let direct : c.entries.cursor.at < c.entries.cursor.until → IsReachedAt f c.entries.cursor d place → ⊥ = λ lt there.
     c.in_ok-found.ensures.not_own honest' lt place (subst (λ e. IsReachedAt f c.entries.cursor e place) (sym same) there) (subst (λ e. IsIntactIn f place (sector_at e place) → ⊥) (sym same) not) in
@@ -183,7 +183,7 @@ returns-clause-not_own g c honest place reached not =
     let same = c.entries.invariant.reads.seen honest in
     let honest' = c.entries.invariant.reads.honest.1 honest in
     let still = subst (λ e. IsAltered f d e) (sym same) (altered_itself f d) in
-    let ends = subst (λ (r : Option Found). MatchOption r (Ends f c.entries.cursor d) (λ e. Finds f c.entries.cursor c.next_entry.new.cursor d e.octets.items × (e.head ≡ c.entries.cursor.at))) c.in_default.is
+    let ends = subst (λ (r : Option Found). MatchOption r (IsJournalEnd f c.entries.cursor d) (λ e. FindsEntry f c.entries.cursor c.next_entry.new.cursor d e.octets.items × (e.head ≡ c.entries.cursor.at))) c.in_default.is
     (c.in_ok-found.ensures.found honest' d still) in
     let direct : c.entries.cursor.at < c.entries.cursor.until → IsReachedAt f c.entries.cursor d place → ⊥ = λ lt there.
     c.in_ok-found.ensures.not_own honest' lt place (subst (λ e. IsReachedAt f c.entries.cursor e place) (sym same) there) (subst (λ e. IsIntactIn f place (sector_at e place) → ⊥) (sym same) not) in

@@ -5,7 +5,7 @@ use Rattle.dns_layout.specs.Journal.{Entry}
 use Rattle.dns_journal.specs.Reads.{OnlyReads, ReadsFrom}
 use Rattle.dns_store.specs.Versions.{Versions}
 use Rattle.dns_store.specs.Opens.{AreChangesIn}
-use Rattle.dns_store.specs.Damage.{Step, AreStepsIn, IsReachedEntryIn}
+use Rattle.dns_store.specs.Damage.{ReadChange, AreStepsIn, IsReachedEntryIn}
 use Rattle.dns_store.proofs.Recovering.{Goes}
 use Rattle.dns_store.proofs.versions.read_versions.Given as goal
 
@@ -17,7 +17,7 @@ invariant-entries g l = record {
   within : l.cursor.at ≤ l.cursor.until;
   rises : l.fn.cursor.at ≤ l.cursor.at;
   apex : l.zone.apex ≡ l.fn.base.apex;
-  steps : g.D.Sectors.is_honest l.fn.device → (ss : List Step) × AreStepsIn l.format l.fn.base.apex (g.D.Sectors.seen l.fn.device) l.fn.cursor l.fn.base.records ss l.cursor l.zone.records;
+  steps : g.D.Sectors.is_honest l.fn.device → (ss : List ReadChange) × AreStepsIn l.format l.fn.base.apex (g.D.Sectors.seen l.fn.device) l.fn.cursor l.fn.base.records ss l.cursor l.zone.records;
   goes : g.D.Sectors.is_honest l.fn.device → (k : List (List ℕ)) → IsAltered l.format k (g.D.Sectors.seen l.fn.device) → (vs : Versions) (es : List Entry) → ReadsFrom l.format l.fn.cursor k es → AreChangesIn l.format l.fn.base.apex l.fn.base.records vs es
       → Goes l.format l.fn.cursor l.cursor k l.fn.base.apex l.fn.base.records vs es l.zone.records l.changes.items;
   reached : g.D.Sectors.is_honest l.fn.device → (place : ℕ) → IsReachedEntryIn l.format l.fn.base.apex l.fn.base.records l.fn.cursor (g.D.Sectors.seen l.fn.device) place → (IsIntactIn l.format place (sector_at (g.D.Sectors.seen l.fn.device) place) → ⊥)

@@ -1,5 +1,5 @@
 use Rattle.dns_wire.proofs.ReadsBack.{reads_back}
-use Rattle.dns_wire.specs.Compressed.{StandsAt}
+use Rattle.dns_wire.specs.Compressed.{OccursAt}
 use Rattle.dns_wire.proofs.Written.{compressed_written}
 use Rattle.dns_wire.proofs.Table.{table_first, table_next}
 use Rattle.dns_wire.proofs.CompressedOnce.{compressed_once}
@@ -11,7 +11,7 @@ pub returns-clause-once : goal.returns-clause-once
 returns-clause-once c = λ t u r h k. compressed_once t u r h k
 
 pub returns-clause-written : goal.returns-clause-written
-returns-clause-written c = λ earlier places name h. compressed_written (StandsAt earlier) places h name
+returns-clause-written c = λ earlier places name h. compressed_written (OccursAt earlier) places h name
 
 pub returns-clause-first : goal.returns-clause-first
 returns-clause-first c = table_first

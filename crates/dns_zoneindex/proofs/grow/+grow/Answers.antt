@@ -1,6 +1,6 @@
 use Rattle.std.proofs.Common.{◌<◌, reverse, ap, subst, sym, ◌∙◌, arith}
 use Rattle.std.specs.Prelude.{MatchOption}
-use Rattle.dns_zoneindex.specs.Growth.{from_depth, AreOwn, IsTakenOff, Rising}
+use Rattle.dns_zoneindex.specs.Growth.{from_depth, BelongToName, IsTakenOff, Rising}
 use Rattle.dns_zoneindex.specs.Size.{weight}
 use Rattle.dns_zoneindex.proofs.Growth.{turned_more, group_rising, taken_falls}
 use Rattle.dns_zoneindex.proofs.grow.+grow.Goals as goal
@@ -12,7 +12,7 @@ grow-requires t c =
     let front = c.take_off.new.records.items in
     let label = c.in-Some.label.items in
     let group = c.in-Some.group.items in
-    let taken = subst (λ o. MatchOption o (AreOwn n left front) (λ p. IsTakenOff n p.0.items left front p.1.items)) c.in-Some.is c.in_ok-label.ensures in
+    let taken = subst (λ o. MatchOption o (BelongToName n left front) (λ p. IsTakenOff n p.0.items left front p.1.items)) c.in-Some.is c.in_ok-label.ensures in
     let falls = taken_falls n label c.args.records.items left front group (reverse c.groups.nodes.items) taken c.groups.invariant.whole in
     let less : weight (from_depth c.in_ok-below.below group) < weight (from_depth n c.args.records.items) = subst (λ k. weight (from_depth k group) < weight (from_depth n c.args.records.items)) (sym c.in_ok-below.ensures) falls in
     let down : weight (from_depth c.in_ok-below.below group) < t = omega (arith, less, c.decreases) in
@@ -24,7 +24,7 @@ groups-preserved-in_ok-push t c =
     let left = c.groups.own.items in
     let front = c.take_off.new.records.items in
     let group = c.in-Some.group.items in
-    let taken = subst (λ o. MatchOption o (AreOwn n left front) (λ p. IsTakenOff n p.0.items left front p.1.items)) c.in-Some.is c.in_ok-label.ensures in
+    let taken = subst (λ o. MatchOption o (BelongToName n left front) (λ p. IsTakenOff n p.0.items left front p.1.items)) c.in-Some.is c.in_ok-label.ensures in
     let labelled = c.in_ok-node.ensures.label ∙ c.as_slice.ensures in
     let owns = c.in_ok-node.ensures.own ∙ ap (λ k. from_depth k group) c.in_ok-below.ensures in
     let i = c.groups.invariant in
@@ -37,7 +37,7 @@ groups-preserved t c =
     let left = c.groups.own.items in
     let front = c.take_off.new.records.items in
     let group = c.in-Some.group.items in
-    let taken = subst (λ o. MatchOption o (AreOwn n left front) (λ p. IsTakenOff n p.0.items left front p.1.items)) c.in-Some.is c.in_ok-label.ensures in
+    let taken = subst (λ o. MatchOption o (BelongToName n left front) (λ p. IsTakenOff n p.0.items left front p.1.items)) c.in-Some.is c.in_ok-label.ensures in
     let labelled = c.in_ok-node.ensures.label ∙ c.as_slice.ensures in
     let owns = c.in_ok-node.ensures.own ∙ ap (λ k. from_depth k group) c.in_ok-below.ensures in
     let i = c.groups.invariant in

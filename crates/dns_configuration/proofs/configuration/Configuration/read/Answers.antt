@@ -3,11 +3,11 @@ use Rattle.std.specs.Prelude.{IfOk}
 use Rattle.toml.specs.Data.{Data}
 use Rattle.dns_configuration.specs.declared.configuration.Configuration.{Configuration}
 use Rattle.dns_configuration.specs.declared.configuration.ConfigurationError.{ConfigurationError}
-use Rattle.dns_configuration.specs.Settings.{Describes, IsConfiguration, Reads}
+use Rattle.dns_configuration.specs.Settings.{Describes, IsConfiguration, ReadsOrFails}
 use Rattle.dns_configuration.proofs.Zipped.{described_valid}
 use Rattle.dns_configuration.proofs.configuration.Configuration.read.Goals as goal
 
-valid : (d : Data) (r : Result Configuration ConfigurationError) → Reads (Describes d) r → IfOk r IsConfiguration
+valid : (d : Data) (r : Result Configuration ConfigurationError) → ReadsOrFails (Describes d) r → IfOk r IsConfiguration
 valid d (Ok c) h = described_valid d c h
 valid d (Err e) h = tt
 

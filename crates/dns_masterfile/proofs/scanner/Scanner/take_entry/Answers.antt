@@ -6,13 +6,13 @@ use Rattle.dns_masterfile.specs.declared.FileError.TheVariants.{OutOfMemory}
 use Rattle.dns_masterfile.specs.Pieces.{Word}
 use Rattle.dns_masterfile.specs.Left.{Left, entry_at, no_words}
 use Rattle.dns_masterfile.specs.Meaning.{Context, Said}
-use Rattle.dns_masterfile.specs.Reading.{Outcome, said_by, directive_in}
+use Rattle.dns_masterfile.specs.Reading.{ReadResult, said_by, directive_in}
 use Rattle.dns_masterfile.specs.Scan.{stated_word}
 use Rattle.dns_masterfile.specs.Contexts.{stated_context}
 use Rattle.dns_masterfile.proofs.Items.{directive_said}
 use Rattle.dns_masterfile.proofs.scanner.Scanner.take_entry.Goals as goal
 
-faults : (f g : ℕ → Outcome Said) (e : FileError) → ((line : ℕ) → g line ≡ f line) → (e ≡ OutOfMemory) ⊎ ((line : ℕ) → f line ≡ Err e) → (e ≡ OutOfMemory) ⊎ ((line : ℕ) → g line ≡ Err e)
+faults : (f g : ℕ → ReadResult Said) (e : FileError) → ((line : ℕ) → g line ≡ f line) → (e ≡ OutOfMemory) ⊎ ((line : ℕ) → f line ≡ Err e) → (e ≡ OutOfMemory) ⊎ ((line : ℕ) → g line ≡ Err e)
 faults f g e same (inl oom) = inl oom
 faults f g e same (inr h) = inr (λ line. same line ∙ h line)
 

@@ -5,7 +5,7 @@ use Rattle.dns_records.specs.Types.{Field}
 use Rattle.dns_names.specs.Name.{Labels}
 use Rattle.dns_masterfile.specs.Pieces.{Word}
 use Rattle.dns_masterfile.specs.Left.{Left}
-use Rattle.dns_masterfile.specs.Reading.{Taken, take_data}
+use Rattle.dns_masterfile.specs.Reading.{TakenValue, take_data}
 use Rattle.dns_masterfile.proofs.Joins.{drop_next, no_field, joined, fields_more, Completes, completes_more}
 use Rattle.dns_masterfile.proofs.scanner.Scanner.take_fields.Goals as goal
 
@@ -21,7 +21,7 @@ fields-preserved c =
     let words : List Word = c.fields.self.words in
     let rest : List Word = c.take_field.new.self.words in
     let put = c.in_ok-take_field.ensures in
-    let whole : Taken (List ℕ) = take_data origin (stated_fields fields) c.args.self.now.words in
+    let whole : TakenValue (List ℕ) = take_data origin (stated_fields fields) c.args.self.now.words in
     let all : whole ≡ joined so_far.0 (take_data origin (f ∷ fs) words) = so_far.1 ∙ ap (λ (fs : List Field). joined so_far.0 (take_data origin fs words)) at in
     let completes : Completes (stated_fields fields) (f ∷ fs) so_far.0 = subst (λ (fs : List Field). Completes (stated_fields fields) fs so_far.0) at so_far.3 in
     record {

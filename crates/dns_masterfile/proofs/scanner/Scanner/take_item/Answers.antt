@@ -6,13 +6,13 @@ use Rattle.dns_masterfile.specs.declared.FileError.TheVariants.{OutOfMemory}
 use Rattle.dns_masterfile.specs.Pieces.{Word}
 use Rattle.dns_masterfile.specs.Left.{Left, entry_at}
 use Rattle.dns_masterfile.specs.Meaning.{Context}
-use Rattle.dns_masterfile.specs.Reading.{Taken, item_in, take_rdata}
+use Rattle.dns_masterfile.specs.Reading.{TakenValue, item_in, take_rdata}
 use Rattle.dns_masterfile.specs.Contexts.{ended_at, stated_context}
-use Rattle.dns_masterfile.specs.Taking.{Refuses}
+use Rattle.dns_masterfile.specs.Taking.{RefusesFor}
 use Rattle.dns_masterfile.proofs.Items.{item_data, data_refused, data_left}
 use Rattle.dns_masterfile.proofs.scanner.Scanner.take_item.Goals as goal
 
-refuses : (taken : Taken (List ℕ)) (read : ℕ → FileError → Type 0) (e : FileError) → (taken ≡ Err e → (line : ℕ) → read line e) → Refuses taken e → (e ≡ OutOfMemory) ⊎ ((line : ℕ) → read line e)
+refuses : (taken : TakenValue (List ℕ)) (read : ℕ → FileError → Type 0) (e : FileError) → (taken ≡ Err e → (line : ℕ) → read line e) → RefusesFor taken e → (e ≡ OutOfMemory) ⊎ ((line : ℕ) → read line e)
 refuses taken read e f (inl oom) = inl oom
 refuses taken read e f (inr h) = inr (f h)
 
@@ -30,7 +30,7 @@ returns-in_err-rdata c =
     rw (p.1, p.2) (refuses (take_rdata ctx.origin old.whole rtype words) (λ line fault. item_in ctx (entry_at line blank old) old.words ≡ Err fault) e
     (λ refused line. data_refused ctx (entry_at line blank old) words (item_in ctx (entry_at line blank old) old.words) c.in_ok-owner.owner c.in_ok-written.written rtype c.in-Some.ttl e
     (item_data ctx (entry_at line blank old) old.words c.take_owner.new.self.words c.take_middle.new.self.words words c.in_ok-owner.owner c.in_ok-written.written rtype c.in-Some.ttl c.in_ok-owner.ensures.0 c.in_ok-written.ensures.0 c.in_ok-rtype.ensures.taken.0 (sym c.in-Some.ensures)) refused)
-    (subst (λ (b : Bool). Refuses (take_rdata ctx.origin b rtype words) e) whole c.in_err-rdata.ensures))
+    (subst (λ (b : Bool). RefusesFor (take_rdata ctx.origin b rtype words) e) whole c.in_err-rdata.ensures))
 
 pub returns-in_err-end : goal.returns-in_err-end
 returns-in_err-end c =

@@ -6,7 +6,7 @@ use Rattle.dns_records.specs.declared.parts.Value.TheVariants as part
 use Rattle.dns_masterfile.specs.Pieces.{Word, text_of}
 use Rattle.dns_masterfile.specs.Data.{octets_of_text}
 use Rattle.dns_masterfile.specs.Left.{Left}
-use Rattle.dns_masterfile.specs.Reading.{Taken, take_values}
+use Rattle.dns_masterfile.specs.Reading.{TakenValue, take_values}
 use Rattle.dns_masterfile.specs.Scan.{stated_word}
 use Rattle.dns_masterfile.specs.Taking.{PutsValue}
 use Rattle.dns_masterfile.proofs.Joins.{drop_next, joined, fixed_more, fixed_missing, length_both}
@@ -42,7 +42,7 @@ parts-preserved c =
     let took = c.in_ok-word.ensures in
     let put : PutsValue f c.text.result.now c.parts.octets.items c.put_value.new.octets.items = c.in_ok-put_value.ensures in
     let text : octets_of_text f (text_of w) ≡ Some put.0 = ap (octets_of_text f) (sym c.text.ensures) ∙ put.1 in
-    let whole : Taken (List ℕ) = take_values (stated_values items) c.args.self.now.words in
+    let whole : TakenValue (List ℕ) = take_values (stated_values items) c.args.self.now.words in
     let all : whole ≡ joined so_far.0 (take_values (f ∷ fs) words) = so_far.1 ∙ ap (λ (fs : List Value). joined so_far.0 (take_values fs words)) at in
     let sizes : octet_count (stated_values (drop i items)) ≡ octet_count (f ∷ fs) = ap octet_count at in
     let long : length put.0 ≡ _ = put.3 in

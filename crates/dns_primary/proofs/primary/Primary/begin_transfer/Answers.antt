@@ -10,7 +10,7 @@ use Rattle.dns_primary.specs.declared.transfers.OpenTransfer.{OpenTransfer}
 use Rattle.dns_primary.specs.Machine.{kept_of}
 use Rattle.dns_primary.specs.Flush.{Replied, rcode_servfail}
 use Rattle.dns_primary.specs.Transfer.{TransferBegins, is_free, set_transfer, with_transfer}
-use Rattle.dns_primary.specs.Keeps.{AreEffects, IsThere, sending_on}
+use Rattle.dns_primary.specs.Keeps.{AreEffects, HasConnection, sending_on}
 use Rattle.dns_primary.specs.Steps.{nothing, one_reply}
 use Rattle.dns_primary.specs.Sending.{TransferBeginsOrLacks, SetsOn}
 use Rattle.dns_primary.proofs.Transferred.{none_of, peer_with, pushed, set_are}
@@ -29,7 +29,7 @@ returns-in-Ok g c = record {
       let here : is_free (Connection number) old.connections ≡ true = subst (λ (t : To). is_free t old.connections ≡ true) c.in-Connection.is free in
       let none : sending_on number items ≡ None = kept.transfers_are number ∙ none_of _ here in
       let sets : SetsOn number (Some s) items news = subst (λ (l : List (OpenTransfer g.row.I.Denot)). SetsOn number (Some s) items l) (sym more) (pushed number items one refl none) in
-      let there : IsThere c.args.self.now.connections (Connection number) = subst (λ (t : To). IsThere c.args.self.now.connections t) c.in-Connection.is c.requires.there in
+      let there : HasConnection c.args.self.now.connections (Connection number) = subst (λ (t : To). HasConnection c.args.self.now.connections t) c.in-Connection.is c.requires.there in
       let next = with_transfer number (Some s) old in
       record {
         fails = [];

@@ -6,7 +6,7 @@ use Rattle.dns_held.specs.Held.{HasVersions, newest_each}
 use Rattle.dns_primary.specs.Machine.{kept_of, peer_at, sending_at}
 use Rattle.dns_primary.specs.Update.{answer}
 use Rattle.dns_primary.specs.Keeps.{IsKept}
-use Rattle.dns_primary.specs.Queue.{Holds, IsStageableAt, IsUntouched, asked_of}
+use Rattle.dns_primary.specs.Queue.{HoldsZones, IsStageableAt, IsUntouched, asked_of}
 use Rattle.dns_primary.proofs.Flushed.{refilled, moved3}
 use Rattle.dns_primary.proofs.Places.{itself2}
 use Rattle.dns_primary.proofs.Served.{held_as}
@@ -20,14 +20,14 @@ returns-clause-done g c m kept holds =
     let zones = c.as_slice-zones.ensures.value in
     let behind = c.deref_mut.ensures.value in
     let y = refilled self.behind.len new self.behind.items (omega (arith, c.stage_at.auto.behind, ap length behind, self.behind.ok)) in
-    let given : Holds g.S.ZoneStore.keeps c.as_slice-zones.result.now c.deref_mut.result.now self.settings.items self.waiting.items m.connections m = record {
+    let given : HoldsZones g.S.ZoneStore.keeps c.as_slice-zones.result.now c.deref_mut.result.now self.settings.items self.waiting.items m.connections m = record {
       zones_are = moved3 (sym zones) (sym behind) (map kept_of m.zones) (λ z b k. HasVersions g.S.ZoneStore.keeps z b k) kept.zones_are;
       settings_are = kept.settings_are;
       waiting_are = kept.waiting_are;
       connections_are = refl;
     } in
     let done = c.stage_at.ensures.done self.settings.items m given holds in
-    held_as (Holds g.S.ZoneStore.keeps c.as_slice-zones.result.now new self.settings.items c.stage_at.new.waiting.items m.connections)
+    held_as (HoldsZones g.S.ZoneStore.keeps c.as_slice-zones.result.now new self.settings.items c.stage_at.new.waiting.items m.connections)
     (IsKept {i = g.I.ZoneIndex} {s = g.S.ZoneStore} (record { zones = self.zones; behind = with_items self.behind new; settings = self.settings; waiting = c.stage_at.new.waiting; places = c.reserve_exact.new.self; connections = self.connections; transfers = self.transfers; as_many = _; settled = _; unused = _; reserved = _ }))
     (λ n h. record {
       zones_are = moved3 zones (sym y) (map kept_of n.zones) (λ z b k. HasVersions g.S.ZoneStore.keeps z b k) h.zones_are;

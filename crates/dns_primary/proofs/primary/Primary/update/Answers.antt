@@ -8,10 +8,10 @@ use Rattle.dns_primary.specs.Flush.{Replied, rcode_servfail}
 use Rattle.dns_primary.specs.declared.update.Outcome.TheVariants as outcome
 use Rattle.dns_primary.specs.declared.queue.Tested.{Tested}
 use Rattle.dns_primary.specs.Update.{Admission, Rejects, admission, admitted, room_lacked}
-use Rattle.dns_primary.specs.Step.{IsBegun}
+use Rattle.dns_primary.specs.Step.{IsUpdateBegun}
 use Rattle.dns_primary.specs.Steps.{IsUpdatedOrLacks, answered_with}
 use Rattle.dns_primary.specs.Keeps.{IsKept}
-use Rattle.dns_primary.specs.Queue.{IsAnswered, IsJudged, IsTested, IsReady, asked_of}
+use Rattle.dns_primary.specs.Queue.{IsAnswered, IsUpdateJudged, IsTested, IsReady, asked_of}
 use Rattle.dns_primary.specs.Machine.{Machine, kept_of}
 use Rattle.dns_primary.proofs.Served.{rests, lack, stays, answered}
 use Rattle.dns_primary.proofs.Moved.{on_any}
@@ -45,7 +45,7 @@ returns-in-Ok-AtOnce g c = record {
       let code = number_of_rcode c.in-Ok-AtOnce.rcode in
       let rejected : admission old.zones a ≡ Rejects code = subst (λ (t : Tested g.row.I.Denot). IsTested g.I.ZoneIndex.records old a t) c.in-Ok-AtOnce.field-0-is (c.in-Ok-AtOnce.ensures.tested old kept) in
       let placed = c.make_place-effects.ensures.step old kept in
-      let begun = subst (λ (o : Option (ℕ × ℕ)). IsBegun placed.fails old o placed.stated placed.next) (sym (rejected_lacks old a code rejected)) placed.is in
+      let begun = subst (λ (o : Option (ℕ × ℕ)). IsUpdateBegun placed.fails old o placed.stated placed.next) (sym (rejected_lacks old a code rejected)) placed.is in
       let still = still_rejected old placed.next a (begun_follows placed.fails old None placed.stated placed.next placed.is) code rejected in
       let held = λ (m : Machine). IsKept c.make_place-effects.new.self m in
       let done : IsAnswered held placed.next a (admitted placed.next a (admission placed.next.zones a)) (outcome.AtOnce c.in-Ok-AtOnce.rcode) =
@@ -68,7 +68,7 @@ pub returns-in-Ok-Judged : goal.returns-in-Ok-Judged
 returns-in-Ok-Judged g c = record {
   step = λ old kept.
       let a = asked_of c.args.update.now in
-      let judged : IsJudged g.I.ZoneIndex.records old a c.in-Ok-Judged.place c.in-Ok-Judged.judged = subst (λ (t : Tested g.row.I.Denot). IsTested g.I.ZoneIndex.records old a t) c.in-Ok-Judged.field-0-is (c.in-Ok-Judged.ensures.tested old kept) in
+      let judged : IsUpdateJudged g.I.ZoneIndex.records old a c.in-Ok-Judged.place c.in-Ok-Judged.judged = subst (λ (t : Tested g.row.I.Denot). IsTested g.I.ZoneIndex.records old a t) c.in-Ok-Judged.field-0-is (c.in-Ok-Judged.ensures.tested old kept) in
       c.answer.ensures.step old kept judged;
 }
 

@@ -11,7 +11,7 @@ use Rattle.dns_journal.specs.declared.turn.TurnError.{TurnError}
 use Rattle.dns_store.specs.Versions.{newest_after, OpensAsEither, moved_to, closed_between, version_at}
 use Rattle.dns_store.specs.Opens.{IsClosedBy, opens}
 use Rattle.dns_store.specs.Recovered.{AreLed}
-use Rattle.dns_store.specs.Checkpoint.{IsBaseOf, IsLent, checkpoint_error, sectors_of_snapshot}
+use Rattle.dns_store.specs.Checkpoint.{IsBaseOf, IsBaseLent, checkpoint_error, sectors_of_snapshot}
 use Rattle.dns_store.specs.declared.checkpoint.CheckpointError.{CheckpointError}
 use Rattle.dns_store.proofs.Lent.{rest_either, snapshot_is, kept_is, gone_led, gone_zones, next_records, is_base, is_lent}
 use Rattle.dns_store.proofs.kept_store.KeptStore.move_base.Goals as goal
@@ -170,8 +170,8 @@ returns-clause-moved g c k n lent is =
     let moved = c.in_ok-turn_bank.ensures.moved k (length k.shown - m) lent.keeps lent.nothing_staged base_here in
     let after = is_lent journal base items k lent opened m le c.turn_bank.new.journal c.in_ok-base.base c.in_ok-base.octets.items found moved in
     let newest : c.keep_newest.new.entries.items ≡ drop (length c.args.self.now.changes.items - c.kept_number-kept.result) c.args.self.now.changes.items = c.keep_newest.ensures ∙ ap (λ i. drop i c.args.self.now.changes.items) gone in
-    subst (λ j. IsLent c.turn_bank.new.journal c.in_ok-base.base c.keep_newest.new.entries.items (moved_to (length k.shown - j) k)) same
-    (subst (λ (l : List Change). IsLent c.turn_bank.new.journal c.in_ok-base.base l (moved_to (length k.shown - m) k)) (sym newest) after)
+    subst (λ j. IsBaseLent c.turn_bank.new.journal c.in_ok-base.base c.keep_newest.new.entries.items (moved_to (length k.shown - j) k)) same
+    (subst (λ (l : List Change). IsBaseLent c.turn_bank.new.journal c.in_ok-base.base l (moved_to (length k.shown - m) k)) (sym newest) after)
 
 pub returns-clause-fits : goal.returns-clause-fits
 returns-clause-fits g c k n lent is =

@@ -6,7 +6,7 @@ use Rattle.dns_layout.specs.Sector.{entry_sectors}
 use Rattle.dns_journal.specs.State.{is_closed}
 use Rattle.dns_journal.specs.declared.journal.StageError.{StageError}
 use Rattle.dns_store.specs.Versions.{staged_with}
-use Rattle.dns_store.specs.Holding.{Holds}
+use Rattle.dns_store.specs.Holding.{HoldsVersions}
 use Rattle.dns_store.proofs.Kept.{stage_keeps, stage_stays, closed_is}
 use Rattle.dns_store.proofs.Places.{left_keeps, number_keeps}
 use Rattle.dns_store.proofs.Holding.{held_staged, held_still}
@@ -18,12 +18,12 @@ returns-in-Ok-clause-staged g c k after kept next =
     let journal = stage_keeps c.args.self.now.journal c.stage.new.self k after c.args.change next c.in-Ok.ensures.written c.in-Ok.ensures.staged c.stage.ensures.opened not k.closed kept.keeps in
     let held = held_staged c.args.self.now.journal c.stage.new.self c.args.self.now.base c.args.self.now.changes.items k kept after c.args.change not next journal in
     let more : c.push_reserved.new.self.items ≡ c.args.self.now.changes.items ++ c.args.change ∷ [] = search rules in
-    subst (λ (l : List Change). Holds c.stage.new.self c.args.self.now.base l (staged_with after k)) (sym more) held
+    subst (λ (l : List Change). HoldsVersions c.stage.new.self c.args.self.now.base l (staged_with after k)) (sym more) held
 
 pub returns-in-Err-clause-stays : goal.returns-in-Err-clause-stays
 returns-in-Err-clause-stays g c k kept =
     let journal = stage_stays c.args.self.now.journal c.stage.new.self k c.in-Err.ensures.stays c.stage.ensures.device c.stage.ensures.opened c.stage.ensures.stays_open c.in-Err.ensures.left c.in-Err.ensures.newest k.closed kept.keeps in
-    subst (λ (l : List Change). Holds c.stage.new.self c.args.self.now.base l k) (sym c.reserve.ensures.items)
+    subst (λ (l : List Change). HoldsVersions c.stage.new.self c.args.self.now.base l k) (sym c.reserve.ensures.items)
     (held_still c.args.self.now.journal c.stage.new.self c.args.self.now.base c.args.self.now.changes.items k kept journal)
 
 pub returns-then-is_closed-clause-full : goal.returns-then-is_closed-clause-full

@@ -4,14 +4,14 @@ use Rattle.std.specs.List.{AllByRecursion}
 use Rattle.std.proofs.Math.Logic.{∥∥₁_map}
 use Rattle.dns_records.specs.Record.{Record, IsRecord}
 use Rattle.dns_zone.specs.Records.{is_ordered}
-use Rattle.dns_zone.specs.Place.{StandsAt, BelongsAt}
+use Rattle.dns_zone.specs.Place.{IsRecordAt, BelongsAt}
 use Rattle.dns_zone.proofs.Listed.{put_ordered, put_valid}
 use Rattle.dns_zone.proofs.list.RecordListZoneIndex.insert.Goals as goal
 
 pub invariant_of-self : goal.invariant_of-self
 invariant_of-self c =
     let old = c.args.self.now.items.items in
-    let found : StandsAt c.args.added old c.in-Ok.at = subst (λ (xs : List Record). StandsAt c.args.added xs c.in-Ok.at) c.deref.ensures.value c.in-Ok.ensures.found in
+    let found : IsRecordAt c.args.added old c.in-Ok.at = subst (λ (xs : List Record). IsRecordAt c.args.added xs c.in-Ok.at) c.deref.ensures.value c.in-Ok.ensures.found in
     record {
       in_order = subst (λ (xs : List Record). is_ordered xs ≡ true) found.put_is (put_ordered c.args.added old c.args.self.now.in_order);
       each_valid = ∥∥₁_map c.args.self.now.each_valid (λ h. subst (AllByRecursion IsRecord) found.put_is (put_valid c.args.added old c.rdata-valid.ensures.valid h));
