@@ -1,4 +1,4 @@
--- Records put into the additional section one behind the other.
+-- Records put into the additional section one after the other.
 use Rattle.std.proofs.Common.{◌≡◌, ℕ, ◌+◌, ◌<◌, Bool, true, false, ◌||◌, List, [], ◌∷◌, ◌++◌, length, get_or, take, refl, sym, ap, ◌∙◌, append_assoc}
 use Rattle.std.specs.Prelude.{Option, Some, None}
 use Rattle.std.specs.List.{list_any, flat_map}
@@ -59,7 +59,7 @@ unseen_append s (r ∷ xs) ys =
 pub adds_none : (s : Sections) → AddsUnseen s s []
 adds_none s = record { answer = refl; authority = refl; additional = sym (append-nil s.additional.items) }
 
--- one step behind another
+-- one step after another
 pub adds_then : (a b c : Sections) (xs ys : List Record) → AddsUnseen a b xs → AddsUnseen b c ys → AddsUnseen a c (xs ++ ys)
 adds_then a b c xs ys one two =
     let u = unseen (stood a) xs in
@@ -105,7 +105,7 @@ next_addresses z rs i r inside is =
     ∙ flat_map-append addresses_for (from_zone z (take i rs)) (shown_in z r ∷ [])
     ∙ ap (λ (xs : List Record). flat_map addresses_for (from_zone z (take i rs)) ++ xs) (append-nil (addresses_for (shown_in z r)))
 
--- both kinds of addresses behind both sections
+-- both kinds of addresses after both sections
 pub gathered : (t : ℕ) (fs : List Found) (bare whole : Sections) → bare.answer.items ≡ records_of (answer_of t fs) → bare.authority.items ≡ records_of (authority_of fs) → bare.additional.items ≡ []
     → AddsUnseen bare whole (flat_map addresses_for (answer_of t fs) ++ flat_map addresses_for (authority_of fs)) → AreReplySections t fs whole
 gathered t fs bare whole answer authority none added =

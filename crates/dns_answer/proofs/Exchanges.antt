@@ -5,7 +5,7 @@ use Rattle.dns_answer.specs.Answer.{NoReply, Replies, handled}
 use Rattle.dns_wire.proofs.Hex.{hex}
 use Rattle.dns_zone.specs.ExampleZone.{example_zone}
 
--- an address that stands
+-- an address that is there
 pub address_of_host1 : handled (example_zone ∷ []) (hex (codes "12340000000100000000000005686f737431076578616d706c650000010001")) Udp ≡ Replies (hex (codes "12348400000100010000000005686f737431076578616d706c650000010001c00c0001000100000e100004c0000201"))
 address_of_host1 = refl
 

@@ -1,6 +1,7 @@
 -- Names held by their octets.
 use Rattle.std.proofs.Common.{◌≡◌, ℕ, Bool, true, false, ◌||◌, List, [], ◌∷◌, map, Bor, refl, sym, ap, ◌∙◌}
 use Rattle.std.specs.List.{AllByRecursion, list_any}
+use Rattle.std.specs.Prelude.{Option, Some, None, is_some, length}
 use Rattle.std.specs.Ordering.{is_eq, nat_cmp, match_ordering}
 use Rattle.std.specs.Cmp.Lexicographic.{slice_cmp, texts_ties}
 use Rattle.std.specs.FinMap.{nat_cmp-IsAntisymmetric, slice_cmp-IsAntisymmetric}
@@ -11,6 +12,7 @@ use Rattle.dns_names.specs.Name.{Labels, IsName, wire, labels_of, names_eq}
 use Rattle.dns_names.specs.Plain.{IsPlain}
 use Rattle.dns_names.specs.PlainLaws.{plain_of}
 use Rattle.dns_names.specs.Compare.{same_plain-labels}
+use Rattle.dns_zone.specs.Order.{names_same}
 
 abbrev pub by_octets : Bor (List ℕ) → Bor (List ℕ) → Ordering
 by_octets a b = slice_cmp nat_cmp a.now b.now
@@ -34,7 +36,7 @@ doubled : (a b : Bool) → (a || b) ≡ (a || (a || b))
 doubled true b = refl
 doubled false b = refl
 
-turned : (a b c : Bool) → (b || (a || c)) ≡ (a || (b || c))
+pub turned : (a b c : Bool) → (b || (a || c)) ≡ (a || (b || c))
 turned true true c = refl
 turned true false c = refl
 turned false b c = refl
@@ -60,3 +62,20 @@ plain_put w (k ∷ keys) v h =
     let rest = plain_put w keys v h.1 in
     elim (by_octets w k) as (λ o. ArePlain (match_ordering o (w ∷ k ∷ keys) (k ∷ keys) (k ∷ insert_key by_octets keys w)))
     [ Less ↦ (v, h) | Equal ↦ h | Greater ↦ (h.0, rest) ]
+
+-- a name that is among others adds nothing to them
+pub absorbed : (names : List Labels) (name other : Labels) → list_any (names_eq name) names ≡ true → list_any (names_eq other) names ≡ (names_eq other name || list_any (names_eq other) names)
+absorbed names name other among = by_test (names_eq other name) refl
+  where
+    by_test : (b : Bool) → names_eq other name ≡ b → list_any (names_eq other) names ≡ (b || list_any (names_eq other) names)
+    by_test true e = ap (λ (n : Labels). list_any (names_eq n) names) (names_same other name e) ∙ among
+    by_test false e = refl
+
+-- no name, and no octets
+pub no_name : (o : Option Labels) → is_some o ≡ false → o ≡ None
+no_name None h = refl
+no_name (Some a) h = absurd cc
+
+pub no_octets : (keys : List (Bor (List ℕ))) → length keys ≡ 0 → keys ≡ []
+no_octets [] h = refl
+no_octets (k ∷ keys) h = absurd cc

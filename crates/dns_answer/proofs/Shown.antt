@@ -124,7 +124,7 @@ two_tests true true x y rest e = absurd cc
 two_tests true false x y rest e = (refl, refl)
 two_tests false b x y rest e = absurd cc
 
--- a zone has one SOA, and it stands at the apex
+-- a zone has one SOA, and it is at the apex
 pub lent_soa : (z : Zone) → IsZone z → rrset z.records z.apex type_soa ≡ soas z.records
 lent_soa z valid =
     let returned = two_tests (owns_type z.records z.apex type_soa) (nat_lt 1 (length (soas z.records))) _ _ _ valid.valid in
@@ -167,7 +167,7 @@ negative_authority z at kinds.Answers no_cut no_alias no_data = absurd (no_data 
 negative_authority z at kinds.NoData no_cut no_alias no_data = records_back z (negative_soa z)
 negative_authority z at kinds.NameError no_cut no_alias no_data = records_back z (negative_soa z)
 
--- the zone at a place
+-- the zone at a position
 pub lent_at : (zones : List Zone) (i : ℕ) (z stored : Zone) → stored ≡ get_or zones i stored → slice_get zones i ≡ Some z → stored ≡ z
 lent_at zones i z stored is e = is ∙ get_or_from_slice_get zones i z stored e
 

@@ -1,4 +1,4 @@
--- Records put in until there are too many, and hosts whose addresses stand.
+-- Records put in until there are too many, and hosts whose addresses are there.
 use Rattle.std.proofs.Common.{◌≡◌, ◌⊎◌, inl, inr, ℕ, zero, suc, ◌<◌, ◌≤◌, Bool, true, false, ◌||◌, List, [], ◌∷◌, ◌++◌, length, take, drop, refl, sym, ap, subst, ◌∙◌, arith, append_assoc}
 use Rattle.std.specs.Prelude.{Option, Some, None, is_some, not, ◌&&◌, ◌==◌}
 use Rattle.std.proofs.lemmas.Bool.Decides.{nat_tests}
@@ -33,7 +33,7 @@ up_to_none most s = record { first = []; rest = []; split = refl; added = adds_n
 pub up_to_all : (most : ℕ) (a b : Sections) (xs : List Record) → (most < count_of a → ⊥) → AddsUnseen a b xs → AddsUpTo most a b xs
 up_to_all most a b xs room h = record { first = xs; rest = []; split = sym (append-nil xs); added = h; stopped = inl refl; idle = λ over. absurd (room over) }
 
--- what is left out behind too many
+-- what is left out after too many
 pub up_to_more : (most : ℕ) (a b : Sections) (xs ys : List Record) → most < count_of b → AddsUpTo most a b xs → AddsUpTo most a b (xs ++ ys)
 up_to_more most a b xs ys over h = record {
   first = h.first;
@@ -44,7 +44,7 @@ up_to_more most a b xs ys over h = record {
   idle = h.idle;
 }
 
--- one step behind another
+-- one step after another
 pub up_to_then : (most : ℕ) (a b c : Sections) (xs ys : List Record) → AddsUpTo most a b xs → AddsUpTo most b c ys → AddsUpTo most a c (xs ++ ys)
 up_to_then most a b c xs ys one two = elim one.stopped [ inl none ↦ goes_on none | inr over ↦ stops over ]
   where
@@ -72,7 +72,7 @@ up_to_then most a b c xs ys one two = elim one.stopped [ inl none ↦ goes_on no
           idle = one.idle;
         }
 
--- records that stand
+-- records that are there
 or_left : (b c : Bool) → b ≡ true → (b || c) ≡ true
 or_left b c e = ap (λ (x : Bool). x || c) e
 
@@ -107,7 +107,7 @@ stand_all s (r ∷ xs) = chosen_stand s xs r (list_any (same r) s) refl (stand_a
 stood_after : (a b : Sections) (xs : List Record) → AddsUnseen a b xs → stood b ≡ stood a ++ unseen (stood a) xs
 stood_after a b xs h = (λ i. (h.answer i ++ h.authority i) ++ h.additional i) ∙ sym (append_assoc (a.answer.items ++ a.authority.items) a.additional.items (unseen (stood a) xs))
 
--- what was put in stands, and what stood goes on
+-- what was put in is there, and what was there stays
 stands_after : (a b : Sections) (xs : List Record) → AddsUnseen a b xs → all_stand (stood b) xs ≡ true
 stands_after a b xs h = ap (λ (s : List Record). all_stand s xs) (stood_after a b xs h) ∙ stand_all (stood a) xs
 
@@ -135,7 +135,7 @@ known_more most z known more host a b put room h are other e =
           subst (λ (n : Labels). all_stand (stood b) (rrset z.records n type_a ++ rrset z.records n type_aaaa) ≡ true) (sym is) there)
     ]
 
--- what stands had stood, or was put in
+-- what is there was there before, or was put in
 or_right : (a b : Bool) → b ≡ true → (a || b) ≡ true
 or_right true b e = refl
 or_right false b e = e
@@ -201,7 +201,7 @@ hosts_same most z owners known more host s among put are =
     absorbed other true e = sym (ap (λ (n : Labels). list_any (names_eq n) known) (names_same other host e) ∙ among)
     absorbed other false e = refl
 
--- records in order of which none stands
+-- records in order of which none is there
 pub none_stand_of : (s xs : List Record) → Sorted xs → ((q : Record) → list_any (same q) xs ≡ true → list_any (same q) s ≡ false) → none_stands s xs ≡ true
 none_stand_of s [] h f = refl
 none_stand_of s (r ∷ xs) h f =
@@ -218,7 +218,7 @@ none_stand_of s (r ∷ xs) h f =
         absurd cc
     behind q e false once = (λ i. once i || list_any (same q) s) ∙ f q (or_right (same q r) (list_any (same q) xs) e)
 
--- what stands nowhere goes behind as it is
+-- what is nowhere goes to the end as it is
 all_unseen : (s xs : List Record) → none_stands s xs ≡ true → unseen s xs ≡ xs
 all_unseen s [] e = refl
 all_unseen s (r ∷ xs) e =
@@ -254,7 +254,7 @@ up_to_new most a b xs i none answer authority additional idle stop = record {
   idle = λ over. ap (λ (n : ℕ). take n xs) (idle over);
 }
 
--- the addresses of one type at a host of which none stands
+-- the addresses of one type at a host of which none is there
 sorted_rrset : (records : List Record) (host : Labels) (t : ℕ) → is_ordered records ≡ true → Sorted (rrset records host t)
 sorted_rrset records host t ordered = sorted_filter (λ (r : Record). names_eq r.owner host && r.rtype == t) records (sorted_from records ordered)
 
@@ -312,7 +312,7 @@ adds_known z known host s are e =
     let none = none_unseen (stood s) (rrset z.records host type_a ++ rrset z.records host type_aaaa) (are host e) in
     record { answer = refl; authority = refl; additional = sym (append-nil s.additional.items) ∙ ap (λ (xs : List Record). s.additional.items ++ xs) (sym none) }
 
--- both kinds of addresses behind both sections
+-- both kinds of addresses after both sections
 pub gathered_up_to : (most t : ℕ) (fs : List Found) (bare s : Sections) → bare.answer.items ≡ records_of (answer_of t fs) → bare.authority.items ≡ records_of (authority_of fs) → bare.additional.items ≡ []
     → AddsUpTo most bare s (flat_map addresses_for (answer_of t fs) ++ flat_map addresses_for (authority_of fs)) → AreSectionsUpTo most t fs s
 gathered_up_to most t fs bare s answer authority none up =

@@ -10,6 +10,7 @@ ghost use Rattle.dns_answer.specs.Known.{HasNoAddressOf};
 ghost use Rattle.dns_answer.specs.Added.{AddsUnseen, AddsUpTo, count_of};
 
 use crate::names::Names;
+use crate::section::Section;
 use dns_memory::Heap;
 use dns_names::NameRef;
 use dns_records::{Record, types};
@@ -20,9 +21,9 @@ use std::alloc::AllocError;
 /// The three sections of a reply.
 #[derive(Drop)]
 pub(crate) struct Sections<'a> {
-    pub answer: Vec<ReplyRecord<'a>, Heap>,
-    pub authority: Vec<ReplyRecord<'a>, Heap>,
-    pub additional: Vec<ReplyRecord<'a>, Heap>,
+    pub answer: Section<'a>,
+    pub authority: Section<'a>,
+    pub additional: Section<'a>,
 }
 
 /// Whether a record that goes out is the record of a zone, its TTL too.

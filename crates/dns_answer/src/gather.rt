@@ -8,10 +8,10 @@ ghost use Rattle.dns_answer.specs.Sections.{records_of, answer_of, authority_of,
 ghost use Rattle.dns_answer.specs.Added.{AddsUpTo, AreSectionsUpTo};
 
 use crate::additional::Sections;
+use crate::section::Section;
 use crate::sections::{answer_section, answers, authority_section, searched, servers};
 use dns_lookup::Found;
 use dns_memory::Heap;
-use dns_wire::ReplyRecord;
 use dns_zone::{Zone, ZoneIndex};
 use std::alloc::AllocError;
 
@@ -20,7 +20,7 @@ fn last_authority<'a, I: ZoneIndex>(
     alloc: Heap,
     zones: &'a [Zone<I>],
     found: &[Found<'a>],
-) -> Result<Vec<ReplyRecord<'a>, Heap>, AllocError>
+) -> Result<Section<'a>, AllocError>
     requires { (fs : List Stated) × RepresentAll zones.now fs found.now }
     ensures { IfOk result
         (λ shown. (t : ℕ) (fs : List Stated)
@@ -30,7 +30,7 @@ fn last_authority<'a, I: ZoneIndex>(
 {
     match found.last() {
         Some(last) => authority_section(alloc, zones, last),
-        None => Ok(Vec::new(alloc)),
+        None => Ok(Section::new(alloc)),
     }
 }
 
@@ -58,7 +58,7 @@ fn without_addresses<'a, I: ZoneIndex>(
     Ok(Sections {
         answer,
         authority,
-        additional: Vec::new(alloc),
+        additional: Section::new(alloc),
     })
 }
 

@@ -1,6 +1,7 @@
 //! Sets of names, lent.
 ghost use Rattle.std.specs.Prelude.{◌≡◌, ◌||◌, [], not, IfOk, OnOk};
 ghost use Rattle.std.specs.List.{list_any};
+ghost use Rattle.std.specs.Option.{option_to_list};
 ghost use Rattle.dns_names.specs.Name.{Labels, names_eq};
 
 use dns_memory::Heap;
@@ -9,21 +10,33 @@ use std::alloc::AllocError;
 use std::collections::BTreeSet;
 use std::marker::Model;
 
-/// Names, each held once, by their octets.
+/// Whether the name is the one that is given, if one is.
+fn is_one(one: &Option<NameRef<'_>>, name: &NameRef<'_>) -> bool
+    ensures { result ≡ list_any (names_eq name.now) (option_to_list one.now) }
+{
+    match one {
+        Some(one) => name.is(one),
+        None => false,
+    }
+}
+
+/// Names, each held once. One alone is stored in place, and takes no memory; more are found by their octets.
 #[derive(Drop)]
 pub(crate) struct Names<'a> {
+    first: Option<NameRef<'a>>,
     octets: BTreeSet<&'a [u8], Heap>,
 }
 
 impl<'a> Model for Names<'a> {
-    ghost use Rattle.std.specs.Prelude.{List, map};
+    ghost use Rattle.std.specs.Prelude.{List, map, ◌++◌};
+    ghost use Rattle.std.specs.Option.{option_to_list};
     ghost use Rattle.std.specs.List.{AllByRecursion};
     ghost use Rattle.dns_names.specs.Name.{Labels, labels_of};
     ghost use Rattle.dns_names.specs.Plain.{IsPlain};
 
     ghost Value = { List Labels };
 
-    ghost view = { λ n. map (λ o. labels_of o.now) n.octets.keys };
+    ghost view = { λ n. option_to_list n.first ++ map (λ o. labels_of o.now) n.octets.keys };
 
     ghost invariant = { λ n. AllByRecursion (λ o. IsPlain o.now) n.octets.keys };
 }
@@ -34,6 +47,7 @@ impl<'a> Names<'a> {
         ensures { result ≡ [] }
     {
         Names {
+            first: None,
             octets: BTreeSet::new(alloc),
         }
     }
@@ -42,7 +56,7 @@ impl<'a> Names<'a> {
     pub(crate) fn has(&self, name: &NameRef<'_>) -> bool
         ensures { result ≡ list_any (names_eq name.now) self.now }
     {
-        self.octets.contains(name.as_wire())
+        is_one(&self.first, name) || self.octets.contains(name.as_wire())
     }
 
     /// Puts a name in, and answers whether it was none of them.
@@ -53,6 +67,13 @@ impl<'a> Names<'a> {
             → list_any (names_eq other) self.new
             ≡ (names_eq other name.entry || list_any (names_eq other) self.old)) }
     {
+        if self.first.is_none() & self.octets.is_empty() {
+            self.first = Some(name);
+            return Ok(true);
+        }
+        if is_one(&self.first, &name) {
+            return Ok(false);
+        }
         Ok(self.octets.insert(name.as_wire())?)
     }
 }

@@ -96,8 +96,8 @@ fn reply_of_sections<'a, I: ZoneIndex>(
         additional,
     } = sections;
     let mut first = Reply {
-        answer: &answer,
-        authority: &authority,
+        answer: answer.as_slice(),
+        authority: authority.as_slice(),
         additional: &[],
         ..reply
     };
@@ -105,7 +105,7 @@ fn reply_of_sections<'a, I: ZoneIndex>(
         return fit_first_sections(alloc, &mut first, transport);
     }
     let mut whole = Reply {
-        additional: &additional,
+        additional: additional.as_slice(),
         ..first
     };
     fit(alloc, &mut whole, transport)

@@ -9,6 +9,7 @@ ghost use Rattle.dns_answer.specs.Added.{IsAll};
 ghost use Rattle.dns_answer.specs.Sections.{from_zone, as_owner, records_of, answers_of, answer_of};
 ghost use Rattle.dns_answer.specs.Sections.{negative_soa, authority_at, authority_of, addresses_for};
 
+use crate::section::Section;
 use dns_lookup::{Found, Kind};
 use dns_memory::Heap;
 use dns_names::NameRef;
@@ -107,10 +108,10 @@ pub(crate) fn server_count(found: &[Found<'_>]) -> usize
 
 /// Appends records of a zone to others, with the name that was asked as their owner (RFC 1034 section 4.3.2,
 /// step 3c).
-fn put_under<'a>(
-    shown: &mut Vec<ReplyRecord<'a>, Heap>,
-    name: &NameRef<'a>,
-    records: &'a [Record],
+fn put_under<'a, 'b: 'a>(
+    shown: &mut Section<'a>,
+    name: &NameRef<'b>,
+    records: &'b [Record],
 ) -> Result<(), AllocError>
     ensures { OnOk result (shown.new.items ≡ shown.old.items ++ as_owner name.now records.now) }
 {
@@ -124,14 +125,14 @@ fn put_under<'a>(
 pub(crate) fn answer_section<'a>(
     alloc: Heap,
     found: &[Found<'a>],
-) -> Result<Vec<ReplyRecord<'a>, Heap>, AllocError>
+) -> Result<Section<'a>, AllocError>
     ensures { IfOk result
         (λ shown. (zones : List Lent) (t : ℕ) (fs : List Stated)
         → RepresentAll zones fs found.now
         → AllLend zones t found.now
         → shown.items ≡ records_of (answer_of t fs)) }
 {
-    let mut shown = Vec::with_capacity(alloc, answer_count(found))?;
+    let mut shown = Section::with_capacity(alloc, answer_count(found))?;
     for one in found {
         put_under(&mut shown, &one.name, answers(one))?;
     }
@@ -139,13 +140,10 @@ pub(crate) fn answer_section<'a>(
 }
 
 /// Records as they are stored in their zone.
-fn as_they_are<'a>(
-    alloc: Heap,
-    records: &'a [Record],
-) -> Result<Vec<ReplyRecord<'a>, Heap>, AllocError>
+fn as_they_are<'a>(alloc: Heap, records: &'a [Record]) -> Result<Section<'a>, AllocError>
     ensures { IfOk result (λ shown. shown.items ≡ records.now) }
 {
-    let mut shown = Vec::with_capacity(alloc, records.len())?;
+    let mut shown = Section::with_capacity(alloc, records.len())?;
     for record in records {
         shown.push(ReplyRecord::new(record.owner().lend(), record.ttl(), record))?;
     }
@@ -156,10 +154,10 @@ fn as_they_are<'a>(
 fn start_of_authority<'a, I: ZoneIndex>(
     alloc: Heap,
     zone: &'a Zone<I>,
-) -> Result<Vec<ReplyRecord<'a>, Heap>, AllocError>
+) -> Result<Section<'a>, AllocError>
     ensures { IfOk result (λ shown. shown.items ≡ negative_soa zone.now) }
 {
-    let mut shown = Vec::new(alloc);
+    let mut shown = Section::new(alloc);
     let owned = zone.index().records_at(&zone.apex().lend());
     for record in of_type(owned, types::SOA) {
         let ttl = record.ttl().min(record.minimum());
@@ -174,7 +172,7 @@ pub(crate) fn authority_section<'a, I: ZoneIndex>(
     alloc: Heap,
     zones: &'a [Zone<I>],
     last: &Found<'a>,
-) -> Result<Vec<ReplyRecord<'a>, Heap>, AllocError>
+) -> Result<Section<'a>, AllocError>
     requires { last.now.zone < length zones.now }
     ensures { IfOk result
         (λ shown. (t : ℕ) (f : Stated)
@@ -185,7 +183,7 @@ pub(crate) fn authority_section<'a, I: ZoneIndex>(
     let zone = &zones[last.zone];
     match last.kind {
         Kind::Referral => as_they_are(alloc, last.records),
-        Kind::Alias | Kind::Answers => Ok(Vec::new(alloc)),
+        Kind::Alias | Kind::Answers => Ok(Section::new(alloc)),
         _ => start_of_authority(alloc, zone),
     }
 }

@@ -24,7 +24,7 @@ plain_parts r rest =
 abbrev made : Labels → ℕ → ℕ → List ℕ → Record
 made owner rtype ttl rdata = record { owner = owner; rtype = rtype; ttl = ttl; rdata = rdata }
 
--- one valid record stands at the front of octets at most
+-- one valid record is at the front of octets at most
 pub plain_first : (r s : Record) (x y : List ℕ) → IsRecord r → IsRecord s → plain r ++ x ≡ plain s ++ y → (r ≡ s) × (x ≡ y)
 plain_first r s x y f g e =
     let name_r : IsName r.owner = f.owner in
@@ -44,7 +44,7 @@ plain_first r s x y f g e =
 flat_parts : (r : Record) (rs : List Record) (x : List ℕ) → flat_map plain (r ∷ rs) ++ x ≡ plain r ++ (flat_map plain rs ++ x)
 flat_parts r rs x = append_assoc (plain r) (flat_map plain rs) x
 
--- as many records stand there in one way at most
+-- as many records are there in one way at most
 flat_first : (rs ss : List Record) (x y : List ℕ) → AllByRecursion IsRecord rs → AllByRecursion IsRecord ss → length rs ≡ length ss → flat_map plain rs ++ x ≡ flat_map plain ss ++ y → (rs ≡ ss) × (x ≡ y)
 flat_first [] [] x y f g n e = (refl, e)
 flat_first [] (s ∷ ss) x y f g n e = absurd (omega arith)
@@ -57,7 +57,7 @@ flat_first (r ∷ rs) (s ∷ ss) x y f g n e =
 counted_parts : (rs : List Record) (x : List ℕ) → counted rs ++ x ≡ to_be_bytes w32 (length rs) ++ (flat_map plain rs ++ x)
 counted_parts rs x = append_assoc (to_be_bytes w32 (length rs)) (flat_map plain rs) x
 
--- what stands behind a count
+-- what is after a count
 pub count_first : (n : ℕ) (rs : List Record) (behind x : List ℕ) → n < 2 ^ 32 → length rs < 2 ^ 32 → to_be_bytes w32 n ++ behind ≡ counted rs ++ x → (n ≡ length rs) × (behind ≡ flat_map plain rs ++ x)
 count_first n rs behind x few short e =
     let both = parts_same (to_be_bytes w32 n) (to_be_bytes w32 (length rs)) behind (flat_map plain rs ++ x) (e ∙ counted_parts rs x) refl in
@@ -68,7 +68,7 @@ counted_first rs ss x y f g few short e =
     let both = count_first (length rs) ss (flat_map plain rs ++ x) y few short (sym (counted_parts rs x) ∙ e) in
     flat_first rs ss x y f g both.0 both.1
 
--- behind fewer records of a list one more stands
+-- after fewer records of a list there is one more
 pub record OneMore (x : List ℕ) : Type 0 where
   pub next : Record
   pub rest : List ℕ
@@ -82,12 +82,12 @@ flat_more (r ∷ rs) (s ∷ ss) x y f g n e =
     let first = plain_first r s (flat_map plain rs ++ x) (flat_map plain ss ++ y) f.0 g.0 (sym (flat_parts r rs x) ∙ e ∙ flat_parts s ss y) in
     flat_more rs ss x y f.1 g.1 (omega arith) first.1
 
--- records read so far, and what is left of the octets behind the count
+-- records read so far, and what is left of the octets after the count
 pub record IsRead (behind : List ℕ) (rs : List Record) (rest : List ℕ) : Type 0 where
   pub valid : AllByRecursion IsRecord rs
   pub stands : flat_map plain rs ++ rest ≡ behind
 
--- where a list is to be read one more record stands
+-- where a list is to be read there is one more record
 pub one_more : (octets behind : List ℕ) (n : ℕ) (rs : List Record) (rest : List ℕ) → (n < 2 ^ 32) × (octets ≡ to_be_bytes w32 n ++ behind) → IsRead behind rs rest → length rs < n
     → (ss : List Record) (x : List ℕ) → AllByRecursion IsRecord ss → length ss < 2 ^ 32 → octets ≡ counted ss ++ x → OneMore rest
 one_more octets behind n rs rest count h less ss x valid few e =

@@ -1,4 +1,4 @@
--- Records taken out of a set and put into it one behind another.
+-- Records taken out of a set and put into it one after another.
 use Rattle.std.proofs.Common.{◌≡◌, ℕ, zero, suc, ◌+◌, ◌<◌, length, drop, get_or, arith, Bool, true, false, not, ◌&&◌, ◌||◌, inl, inr, List, [], ◌∷◌, Option, Some, None, Ok, Err, refl, sym, ap, subst, ◌∙◌}
 use Rattle.std.specs.Prelude.{cond, filter, ◌==◌, is_some, is_ok, Result, IfOk, IfErr, if◌then◌else◌}
 use Rattle.std.specs.List.{list_any, list_all}
@@ -51,7 +51,7 @@ split_not true true c = refl
 split_not true false c = refl
 split_not false b c = refl
 
--- the first record is there, and the others are held behind it
+-- the first record is there, and the others are held after it
 pub present_next : (xs : List Record) (r : Record) (rest : List Record) → contains xs r ≡ true → are_present xs (r ∷ rest) ≡ are_present (without r xs) rest
 present_next xs r rest e =
     let others : list_all (contains (without r xs)) rest ≡ (list_all (contains xs) rest && not (list_any (alike r) rest)) =
@@ -134,7 +134,7 @@ joined_not true false c = refl
 joined_not false true c = refl
 joined_not false false c = refl
 
--- the first record is new, and the others are new behind it
+-- the first record is new, and the others are new after it
 pub new_next : (xs : List Record) (r : Record) (rest : List Record) → has r xs ≡ false → are_new xs (r ∷ rest) ≡ are_new (put r xs) rest
 new_next xs r rest e =
     let others : list_any (λ s. has s (put r xs)) rest ≡ (list_any (alike r) rest || list_any (λ s. has s xs) rest) =

@@ -1,4 +1,4 @@
--- Records kept one behind another.
+-- Records kept one after another.
 use Rattle.std.proofs.Common.{◌≡◌, Bool, true, false, List, [], ◌∷◌, ◌++◌, ◌∙◌, cond, append_assoc}
 use Rattle.std.specs.Prelude.{filter}
 use Rattle.dns_records.specs.Record.{Record}

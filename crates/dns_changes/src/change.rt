@@ -1,6 +1,7 @@
 //! A change between two versions of a zone: the SOAs, and the records that go and that come (RFC 1995
 //! section 4).
 ghost use Rattle.std.specs.Prelude.{◌≡◌, ◌⊎◌, true, false, not, ◌∷◌, Some, None, IfOk, IfErr, OnOk, OnErr};
+ghost use Rattle.std.specs.Prelude.{MatchResult};
 ghost use Rattle.dns_zone.specs.Records.{contains, has, is_ordered, put, united, without};
 ghost use Rattle.dns_changes.specs.Change.{AreFew, is_formed, applied, are_present, are_new, change_fault};
 ghost use Rattle.dns_changes.specs.Change.{removed_from};
@@ -43,11 +44,21 @@ impl Model for Change {
     ghost Value = { Stated };
 
     ghost view = { λ c.
-        record { old_soa = c.old_soa; removed = c.removed.items; new_soa = c.new_soa; added = c.added.items } };
+        record {
+          old_soa = c.old_soa;
+          removed = c.removed.items;
+          new_soa = c.new_soa;
+          added = c.added.items;
+        } };
 
     ghost invariant = { λ c. AreFew c.removed.items c.added.items
         × (is_formed
-        (record { old_soa = c.old_soa; removed = c.removed.items; new_soa = c.new_soa; added = c.added.items })
+        (record {
+          old_soa = c.old_soa;
+          removed = c.removed.items;
+          new_soa = c.new_soa;
+          added = c.added.items;
+        })
         ≡ true) };
 }
 
@@ -65,7 +76,12 @@ impl Change {
             (record { old_soa = old_soa; removed = removed.items; new_soa = new_soa; added = added.items })
             ≡ true }
         ensures { result
-            ≡ record { old_soa = old_soa; removed = removed.entry.items; new_soa = new_soa; added = added.entry.items } }
+            ≡ record {
+              old_soa = old_soa;
+              removed = removed.entry.items;
+              new_soa = new_soa;
+              added = added.entry.items;
+            } }
     {
         Change {
             old_soa,
@@ -207,6 +223,8 @@ pub fn take_out<I: ZoneIndex>(set: &mut I, gone: &Record) -> Result<bool, AllocE
     ensures present { IfOk result (λ present. present ≡ contains (I.records set.old) gone.now) }
     ensures left { IfOk result
         (λ present. present ≡ true → I.records set.new ≡ without gone.now (I.records set.old)) }
+    ensures stays { MatchResult result (λ present. present ≡ false → I.records set.new ≡ I.records set.old)
+        (λ _. I.records set.new ≡ I.records set.old) }
 {
     if !holds(set, gone) {
         return Ok(false);

@@ -18,7 +18,7 @@ pub no_host : (text : List ℕ) → ((a : Ipv4Addr) → IsHost text (V4 a) → �
 no_host text four six (V4 a) h = four a h
 no_host text four six (V6 a) h = six a h
 
--- What stands between brackets is one text.
+-- What is between brackets is one text.
 inner_same : (text xs ys : List ℕ) → text ≡ 91 ∷ xs ++ 93 ∷ [] → text ≡ 91 ∷ ys ++ 93 ∷ [] → xs ≡ ys
 inner_same text xs ys e f = append_cancel_right xs ys (93 ∷ []) (tails (xs ++ 93 ∷ []) (ys ++ 93 ∷ []) (sym e ∙ f))
   where

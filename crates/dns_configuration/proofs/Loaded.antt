@@ -12,7 +12,7 @@ use Rattle.dns_configuration.specs.declared.files.Fault.{Fault}
 use Rattle.dns_configuration.specs.Faults.{is_memory}
 use Rattle.dns_configuration.specs.Files.{IsFirstFault, IsLoadedFrom, loaded_by, octets_at}
 
--- The first file with a path, from a place on.
+-- The first file with a path, from a position on.
 pub file_here : (files : List File) (path : List ℕ) (i : ℕ) (f : File) → i < length files → bytes_eq (get_or files i f).path.now path ≡ true → octets_at (drop i files) path ≡ option_copied (get_or files i f).octets
 file_here files path i f inside e = ap (λ (fs : List File). octets_at fs path) (drop_more files i f inside) ∙ ap (λ (b : Bool). if b then option_copied (get_or files i f).octets else octets_at (drop (i + 1) files) path) e
 

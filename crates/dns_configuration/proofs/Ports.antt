@@ -49,7 +49,7 @@ parted text (Some parts) h =
       λ i inside e. NoCharPasses-char 58 (drop h.1 text) i h.2.0 (lit< tt) (omega (arith, inside, ap length h.4)) (ap (λ (t : List ℕ). get_or t i 0) (sym h.4) ∙ e),
     )
 
--- No colon stands in a port.
+-- No colon occurs in a port.
 no_colon : (text : List ℕ) (n : ℕ) → IsPort text n → HasNone 58 text
 no_colon text n h i inside e =
     let digits = decimal_is_IsNumeral n (omega (arith, h.1)) in
@@ -78,7 +78,7 @@ parted_once (x ∷ a) b (y ∷ c) d e none other = (let more = parted_once a b c
 pub no_parts : (text : List ℕ) → HasNone 58 text → (a : SocketAddr) → IsListener text a → ⊥
 no_parts text none a h = (let at = get_or-append-add h.host (58 ∷ h.port) 0 0 in none (length h.host) (omega (arith, ap length h.spelled, length-append h.host (58 ∷ h.port))) (ap (λ (t : List ℕ). get_or t (length h.host) 0) h.spelled ∙ ap (λ (i : ℕ). get_or (h.host ++ 58 ∷ h.port) i 0) {x = length h.host} {y = length h.host + 0} (omega arith) ∙ at))
 
--- What stands around the last colon is the host and the port of each listener that the text is.
+-- What is around the last colon is the host and the port of each listener that the text is.
 pub parts_of : (text : List ℕ) (front digits : List ℕ) → IsLastParted 58 text (front, digits) → (a : SocketAddr) → IsListener text a → IsHost front (socket_ip a) × IsPort digits (socket_port a)
 parts_of text front digits h a l =
     let same = parted_once front digits l.host l.port (sym h.0 ∙ l.spelled) h.1 (no_colon l.port (socket_port a) l.port_is) in

@@ -30,7 +30,7 @@ pub count_of_keys : (xs : List (String Global × Data)) → key_count (members_o
 count_of_keys [] = refl
 count_of_keys (x ∷ xs) = ap suc (count_of_keys xs)
 
--- A place that fits nothing.
+-- A position that fits nothing.
 pub misfit : {A B C : Type 0} (f : A → B) (R : B → C → Type 0) (xs : List A) (i : ℕ) (d : A) (ys : List C) → i < length xs → ((y : C) → R (f (get_or xs i d)) y → ⊥) → AllZip R (map f xs) ys → ⊥
 misfit f R [] i d ys small none h = omega (arith, small)
 misfit f R (x ∷ xs) i d [] small none h = h

@@ -8,7 +8,7 @@ use Rattle.dns_configuration.specs.declared.files.Fault.{Fault}
 use Rattle.dns_configuration.specs.Faults as files
 use Rattle.dns_configuration.specs.Faults.{IsTold, fault_text, line}
 use Rattle.dns_devices.specs.declared.faults.DeviceFault.{DeviceFault}
-use Rattle.dns_devices.specs.declared.faults.DeviceFault.TheVariants.{Exists, Device, Blank, Damaged, OldFormat, Geometry, ZoneTooLarge, OutOfMemory}
+use Rattle.dns_devices.specs.declared.faults.DeviceFault.TheVariants.{Exists, Device, Blank, Damaged, OldFormat, Geometry, ZoneTooLarge, SerialNotRaised, NoRoom, OutOfMemory}
 use Rattle.dns_devices.specs.Faults.{IsDeviceTold, device_text, is_memory, status_of}
 
 -- What holds of the status of a run that went on, and of 3, holds of the status.
@@ -24,6 +24,8 @@ status_known (Damaged sector) = inl refl
 status_known OldFormat = inl refl
 status_known Geometry = inl refl
 status_known ZoneTooLarge = inl refl
+status_known SerialNotRaised = inl refl
+status_known NoRoom = inl refl
 status_known OutOfMemory = inr refl
 
 -- The fault of a device was told: the status is 3, or it is 1 and the fault is one of those that are refusals.

@@ -19,7 +19,7 @@ use Rattle.dns_configuration.specs.Faults.{line, printed_word}
 use Rattle.dns_devices.specs.declared.faults.DeviceFault.{DeviceFault}
 use Rattle.dns_devices.specs.declared.faults.DeviceFault.TheVariants.{Exists, Device, Blank, Damaged}
 use Rattle.dns_devices.specs.declared.faults.DeviceFault.TheVariants.{OldFormat, Geometry, ZoneTooLarge}
-use Rattle.dns_devices.specs.declared.faults.DeviceFault.TheVariants.{OutOfMemory}
+use Rattle.dns_devices.specs.declared.faults.DeviceFault.TheVariants.{SerialNotRaised, NoRoom, OutOfMemory}
 
 -- Why the device is not opened.
 abbrev pub fault_of_device : OpenDeviceError → DeviceFault
@@ -72,6 +72,8 @@ device_word (Damaged sector) = codes "Damaged(" ++ decimal sector ++ codes ")"
 device_word OldFormat = codes "OldFormat"
 device_word Geometry = codes "Geometry"
 device_word ZoneTooLarge = codes "ZoneTooLarge"
+device_word SerialNotRaised = codes "SerialNotRaised"
+device_word NoRoom = codes "NoRoom"
 device_word OutOfMemory = codes "OutOfMemory"
 
 abbrev pub advice : DeviceFault → List ℕ
@@ -86,6 +88,10 @@ advice Geometry =
     codes "the file is cut, or was made for another zone or with other snapshot_sectors or journal_sectors"
 advice ZoneTooLarge =
     codes "the zone takes more sectors than snapshot_sectors allows; a sector holds 480 octets of records"
+advice SerialNotRaised =
+    codes "the file's serial is not greater than that of the newest version; raise it in the SOA of the file"
+advice NoRoom =
+    codes "the next version takes more sectors than snapshot_sectors or journal_sectors allows, or has no number"
 advice OutOfMemory = codes "memory was refused"
 
 -- Memory was refused, of which nothing is reported.

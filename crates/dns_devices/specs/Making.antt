@@ -25,7 +25,7 @@ use Rattle.dns_configuration.specs.Files.{HoldsConfiguration, IsFirstFault, IsLo
 use Rattle.dns_devices.specs.declared.faults.DeviceFault.{DeviceFault}
 use Rattle.dns_devices.specs.declared.faults.DeviceFault.TheVariants.{Exists, Device, Blank, Damaged}
 use Rattle.dns_devices.specs.declared.faults.DeviceFault.TheVariants.{OldFormat, Geometry, ZoneTooLarge}
-use Rattle.dns_devices.specs.declared.faults.DeviceFault.TheVariants.{OutOfMemory}
+use Rattle.dns_devices.specs.declared.faults.DeviceFault.TheVariants.{SerialNotRaised, NoRoom, OutOfMemory}
 use Rattle.dns_devices.specs.Faults.{device_text, status_of}
 
 -- What may be answered for a device that is to be made, of so many sectors; and where it is asked whether
@@ -79,6 +79,8 @@ IsNotMade g made own zone Exists = ⊥
 IsNotMade g made own zone Blank = ⊥
 IsNotMade g made own zone (Damaged sector) = ⊥
 IsNotMade g made own zone OldFormat = ⊥
+IsNotMade g made own zone SerialNotRaised = ⊥
+IsNotMade g made own zone NoRoom = ⊥
 
 -- Nothing is at the path of the zone's device.
 abbrev pub is_absent : Finds → ZoneSettings → Type 0

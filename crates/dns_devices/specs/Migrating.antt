@@ -13,7 +13,7 @@ use Rattle.dns_store.specs.declared.migrating.MigrateError.{MigrateError}
 use Rattle.dns_store.specs.declared.migrating.MigrateError.TheVariants as told
 use Rattle.dns_store.specs.declared.migrating.Migration.{Migration}
 use Rattle.dns_store.specs.declared.migrating.Migration.TheVariants.{Already, Migrated}
-use Rattle.dns_store.specs.Checkpoint.{sectors_of_snapshot}
+use Rattle.dns_store.specs.Plain.{sectors_of_snapshot}
 use Rattle.dns_store.specs.Migrating.{MayMigrate, MigrateRefusal, StopsMigrating, MigratesAsPossible}
 use Rattle.dns_store.specs.Migrating.{TakesMigrated, old_opens}
 use Rattle.dns_store.specs.Opening.{IsInRange}

@@ -7,7 +7,7 @@ use Rattle.dns_names.specs.Name.{Labels, names_eq}
 use Rattle.dns_names.specs.Text.{name_of_text}
 use Rattle.dns_names.specs.declared.NameError.{NameError}
 use Rattle.dns_zone.specs.Zone.{Zone}
-use Rattle.dns_sectors.specs.Device.{Content}
+use Rattle.dns_sectors.specs.Device.{Content, LeavesOnly}
 use Rattle.dns_sectors.specs.declared.device.Sectors.{Ghosts}
 use Rattle.dns_files.specs.declared.device.OpenDeviceError.{OpenDeviceError}
 use Rattle.dns_layout.specs.Sector.{sector_at}
@@ -16,7 +16,7 @@ use Rattle.dns_journal.specs.Reads.{OnlyReads}
 use Rattle.dns_store.specs.declared.root.OpenError.{OpenError}
 use Rattle.dns_store.specs.declared.root.OpenError.TheVariants as told
 use Rattle.dns_store.specs.Damage.{NamesWrong}
-use Rattle.dns_store.specs.Opening.{IsInRange, MayOpen, StopsPossible}
+use Rattle.dns_store.specs.Opening.{IsInRange, MayOpen, OpensAsPossible, StopsPossible}
 use Rattle.dns_store.specs.Opens.{opens, sizes_of}
 use Rattle.dns_store.specs.Root.{OpenRefusal}
 use Rattle.dns_store.specs.Versions.{Opened, Shape, newest_after}
@@ -58,7 +58,7 @@ pub record IsDumped {D : Type 0} (g : Ghosts D) (opened : Gives D) (own : ZoneSe
 
 -- Why the device shows none: where each crash leaves a store that opens, the device failed, memory was
 -- refused, or it was opened too often; else the reason is in what is stored on it. It was only read, unless
--- it failed.
+-- it failed; and a crash at any moment leaves what opens as one might have left it before.
 pub record IsClosed {D : Type 0} (g : Ghosts D) (opened : Gives D) (own : ZoneSettings)
     (fault : DeviceFault) : Type 0 where
   pub device : D
@@ -76,6 +76,9 @@ pub record IsClosed {D : Type 0} (g : Ghosts D) (opened : Gives D) (own : ZoneSe
   pub refused : g.is_honest device
       → OpenRefusal (sizes_of (own_shape own)) (g.count device) (sector_at (g.seen device) 0) error
   pub damaged : g.is_honest device → NamesWrong (own_shape own) (g.seen device) error
+  pub any_moment : g.is_honest device
+      → IsInRange own.snapshot_sectors own.journal_sectors
+      → LeavesOnly g.moment g.left_since device back (OpensAsPossible g (own_shape own) device)
 
 -- ... or none was given.
 abbrev pub IsNotShown : {D : Type 0} → Ghosts D → Gives D → ZoneSettings → DeviceFault → Type 0

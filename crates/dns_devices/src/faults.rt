@@ -32,6 +32,11 @@ pub enum DeviceFault {
     Geometry,
     /// The zone's records take more sectors than a snapshot may have.
     ZoneTooLarge,
+    /// The serial of the zone's master file isn't greater than that of its newest version (RFC 1982).
+    SerialNotRaised,
+    /// There is no room for the next version: its snapshot or its entry takes more sectors than there are, or
+    /// there is no number for it.
+    NoRoom,
     /// Memory was refused.
     OutOfMemory,
 }
@@ -118,6 +123,8 @@ impl fmt::Display for DeviceFault {
             DeviceFault::OldFormat => write!(f, "OldFormat"),
             DeviceFault::Geometry => write!(f, "Geometry"),
             DeviceFault::ZoneTooLarge => write!(f, "ZoneTooLarge"),
+            DeviceFault::SerialNotRaised => write!(f, "SerialNotRaised"),
+            DeviceFault::NoRoom => write!(f, "NoRoom"),
             DeviceFault::OutOfMemory => write!(f, "OutOfMemory"),
         }
     }
@@ -145,6 +152,12 @@ fn advice(fault: DeviceFault) -> &'static str
         }
         DeviceFault::ZoneTooLarge => {
             "the zone takes more sectors than snapshot_sectors allows; a sector holds 480 octets of records"
+        }
+        DeviceFault::SerialNotRaised => {
+            "the file's serial is not greater than that of the newest version; raise it in the SOA of the file"
+        }
+        DeviceFault::NoRoom => {
+            "the next version takes more sectors than snapshot_sectors or journal_sectors allows, or has no number"
         }
         DeviceFault::OutOfMemory => "memory was refused",
     }

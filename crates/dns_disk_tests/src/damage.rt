@@ -93,8 +93,8 @@ fn first_other(
     Some(None)
 }
 
-/// The first of the sectors of a store that are read, and of the bits of each, for which something else is said
-/// than that it is damaged.
+/// The first of the sectors of a store that are read, and of the bits of each, for which something else is
+/// said than that it is damaged.
 fn first_missed(heap: Heap, case: usize) -> Option<Option<(usize, usize)>> {
     let Some((kept, sectors, _, _)) = CASES.get(case) else {
         return None;

@@ -251,7 +251,7 @@ fn a_device_with_a_checkpoint(rt: HostRuntime) -> Result<(), Fail> {
 fn left(heap: Heap, size: usize) -> Option<usize> {
     let mut store = fresh(heap)?;
     let text = Text(b"\x01t\x07example\0", b'a', size);
-    if stage(heap, &mut store, &EXAMPLE, 8, text) == Some(true) && store.flush().is_ok() {
+    if stage(heap, &mut store, &EXAMPLE, 8, text, false) == Some(true) && store.flush().is_ok() {
         Some(store.left())
     } else {
         None

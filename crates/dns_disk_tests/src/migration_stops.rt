@@ -76,8 +76,8 @@ fn is_taken_up(heap: Heap, case: Case) -> bool {
     true
 }
 
-/// Whether migrating does the rest after a stop; where the first part of what may be kept is, also where it is
-/// stopped again.
+/// Whether migrating does the rest after a stop; where the first part of what may be kept is, also where it
+/// is stopped again.
 fn is_right(heap: Heap, case: Case) -> bool {
     let done = (Ok(answer(case)), Ok(Migration::Already), UPDATED, 8);
     found(heap, case, 0, Keep::All) == Some(done) && (case.1 > 0 || is_taken_up(heap, case))

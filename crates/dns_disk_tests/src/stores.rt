@@ -116,23 +116,24 @@ pub(crate) fn write(device: &mut Device, at: usize, sector: &Sector) -> Option<(
     device.write(at, sector).ok()
 }
 
-/// Stages the change that adds a text, and says whether it was staged.
+/// Stages the change that adds a text, or takes it away, and says whether it was staged.
 pub(crate) fn stage(
     heap: Heap,
     store: &mut Store,
     shape: &Shape,
     serial: u8,
     text: Text,
+    is_gone: bool,
 ) -> Option<bool> {
     let mut octets = Vec::new(heap);
-    shape.push_entry(&mut octets, serial, text, false)?;
+    shape.push_entry(&mut octets, serial, text, is_gone)?;
     let change = Change::decode(heap, &octets).ok()?;
     Some(store.stage(change).is_ok())
 }
 
-/// Stages and flushes it, and says whether both were done.
+/// Stages and flushes the change that adds a text, and says whether both were done.
 pub(crate) fn enter(heap: Heap, store: &mut Store, shape: &Shape, serial: u8, text: Text) -> bool {
-    stage(heap, store, shape, serial, text) == Some(true) && store.flush().is_ok()
+    stage(heap, store, shape, serial, text, false) == Some(true) && store.flush().is_ok()
 }
 
 /// Makes the store of version 0, and says what came of it.

@@ -1,4 +1,4 @@
--- What is done with what stands at a place.
+-- What is done with what is at a position.
 use Rattle.std.proofs.Common.{◌≡◌, inr, ℕ, ◌<◌, List, [], ◌∷◌, ◌++◌, length, Option, Some, None, Result, Ok, Err, refl, sym, ap, ◌∙◌, subst, slice_set, get_or}
 use Rattle.std.specs.Prelude.{slice_get, OnOk, IfNone, MatchOption}
 use Rattle.std.specs.Option.{option_map}
@@ -17,7 +17,7 @@ pub on_ok : {T E P Q : Type 0} (r : Result T E) → (P → Q) → OnOk r P → O
 on_ok (Ok x) f p = f p
 on_ok (Err e) f p = tt
 
--- the messages that wait on what stands at a place
+-- the messages that wait on what is at a position
 abbrev held_at : {S : Type 0} → Option (Option (Connection S)) → List (List ℕ)
 held_at None = []
 held_at (Some None) = []

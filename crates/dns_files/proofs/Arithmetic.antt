@@ -11,14 +11,14 @@ drop_none : (j : ℕ) → drop {A = ℕ} j [] ≡ []
 drop_none zero = refl
 drop_none (suc j) = refl
 
--- what stands in front of a write
+-- what is in front of a write
 pub padded_front : (j m : ℕ) (o r : List ℕ) → j ≤ m → padded j (padded m o ++ r) ≡ padded j o
 padded_front zero m o r le = refl
 padded_front (suc j) zero o r le = absurd (omega arith)
 padded_front (suc j) (suc m) [] r le = ap (λ (l : List ℕ). 0 ∷ l) (padded_front j m [] r (omega arith))
 padded_front (suc j) (suc m) (x ∷ o) r le = ap (λ (l : List ℕ). x ∷ l) (padded_front j m o r (omega arith))
 
--- and what stands from there on
+-- and what comes from there on
 pub drop_front : (j k m : ℕ) (o r : List ℕ) → m ≡ j + k → drop j (padded m o ++ r) ≡ padded k (drop j o) ++ r
 drop_front zero k m o r is = ap (λ (n : ℕ). padded n o ++ r) (let e : m ≡ k = omega (arith, is) in e)
 drop_front (suc j) k zero o r is = absurd (omega (arith, is))

@@ -11,7 +11,7 @@ pub after-push : (octets : List ℕ) (changes : List Change) (change : Change) �
 after-push octets [] change = refl
 after-push octets (x ∷ changes) change = after-push (file_after octets x) changes change
 
--- before the new change, or behind it
+-- before the new change, or after it
 last_or_earlier : (k n : ℕ) → k ≤ n + 1 → (k ≤ n) ⊎ (n + 1 ≤ k)
 last_or_earlier zero n le = inl (omega arith)
 last_or_earlier (suc k) zero le = inr (omega arith)
@@ -35,7 +35,7 @@ passes start changes change = record {
         (λ last. inr (is ∙ ap (after_all start) (take_all k (changes ++ change ∷ []) (omega (arith, last, size)))))
         (last_or_earlier k (length changes) (omega (arith, to, size)))
 
--- What stands once the change is in the record.
+-- What holds once the change is in the record.
 module _ (start : List ℕ) (changes changes' : List Change) (change : Change) (pushed : changes' ≡ changes ++ change ∷ []) where
   pub changed : after_all start changes' ≡ file_after (after_all start changes) change
   changed = ap (after_all start) pushed ∙ after-push start changes change

@@ -22,8 +22,12 @@ HeldSince start changes t c =
 
 pub now_is_since : (start : List ℕ) (changes : List Change) (t : ℕ) (c : List ℕ) → t ≤ length changes
     → c ≡ after_all start changes → HeldSince start changes t c
-now_is_since start changes t c le is =
-    (length changes, le, omega arith, is ∙ ap (after_all start) (sym (take_all (length changes) changes (omega arith))))
+now_is_since start changes t c le is = (
+  length changes,
+  le,
+  omega arith,
+  is ∙ ap (after_all start) (sym (take_all (length changes) changes (omega arith))),
+)
 
 pub since_now : (start : List ℕ) (changes : List Change) (c : List ℕ)
     → HeldSince start changes (length changes) c → c ≡ after_all start changes

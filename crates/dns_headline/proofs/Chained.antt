@@ -16,7 +16,7 @@ use Rattle.dns_wire.specs.Message.{ResourceRecord}
 use Rattle.dns_transfer.specs.Form.{Form, Current, Incremental, Full, advances, is_journalled, since, form_since, form_of}
 use Rattle.dns_transfer.specs.Records.{sequence, sequences, others, transfer_answer, transfer_from, transfer_of}
 use Rattle.dns_update.proofs.Accepted.{IsSent, IsLeft, accepted}
-use Rattle.dns_copies.specs.Versions.{IsStep, LeadTo, EndAlike}
+use Rattle.dns_headline.specs.Versions.{IsStep, LeadTo, EndAlike}
 use Rattle.dns_store.specs.Versions.{Versions, newest_after}
 use Rattle.dns_primary.specs.Machine.{Setting, Made, versions_of}
 use Rattle.dns_primary.specs.Transfer.{change_by, changes_along}

@@ -25,12 +25,12 @@ use Rattle.dns_update.proofs.Accepted.{IsSent, updates_sent}
 use Rattle.dns_secondary.specs.Receiving.{Receiving, type_asked}
 use Rattle.dns_secondary.specs.Request.{question_asked, soas_held, request_message, request_octets}
 use Rattle.dns_secondary.proofs.Asked.{asked_reads, type_small}
-use Rattle.dns_copies.specs.Versions.{LeadTo, EndAlike}
-use Rattle.dns_copies.specs.Copies.{IsFollowed, AreAnswers, SendsAll, FollowsInOrder, answer_for, serial_held}
-use Rattle.dns_copies.specs.Copies as copies
-use Rattle.dns_copies.proofs.Chains.{behind, last_zone}
-use Rattle.dns_copies.proofs.Fed.{transfer_is_followed}
-use Rattle.dns_copies.proofs.Sessions.{opened_for}
+use Rattle.dns_headline.specs.Versions.{LeadTo, EndAlike}
+use Rattle.dns_headline.specs.Copies.{IsFollowed, AreAnswers, SendsAll, FollowsInOrder, answer_for, serial_held}
+use Rattle.dns_headline.specs.Copies as copies
+use Rattle.dns_headline.proofs.Chains.{behind, last_zone}
+use Rattle.dns_headline.proofs.Fed.{transfer_is_followed}
+use Rattle.dns_headline.proofs.Sessions.{opened_for}
 use Rattle.dns_store.specs.Versions.{Versions, newest_after, shown_of, version_at}
 use Rattle.dns_held.specs.Each.{Each2, Each3}
 use Rattle.dns_held.specs.Held.{shown_zone}

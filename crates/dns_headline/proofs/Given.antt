@@ -6,7 +6,7 @@ use Rattle.dns_records.specs.Record.{Record}
 use Rattle.dns_zone.specs.Order.{number_itself}
 use Rattle.dns_zone.proofs.Kept.{numbers_same}
 use Rattle.dns_transfer.specs.Session.{Sending, SendsMessage}
-use Rattle.dns_copies.specs.Copies.{SendsAll}
+use Rattle.dns_headline.specs.Copies.{SendsAll}
 use Rattle.dns_primary.specs.Machine.{sending_at}
 use Rattle.dns_primary.specs.Flush.{Sent}
 use Rattle.dns_primary.specs.Transfer.{open_still}

@@ -1,3 +1,10 @@
+pub mod Serials
+pub mod Chains
+pub mod Wholes
+pub mod Forms
+pub mod Prefixes
+pub mod Sessions
+pub mod Fed
 pub mod Given
 pub mod Chained
 pub mod Read

@@ -1,5 +1,6 @@
 -- A transfer in a run of the machine: who asks for it, what it gives out, and what that comes to.
-use Rattle.std.specs.Prelude.{◌≡◌, ◌<◌, ◌^◌, ℕ, Bool, ◌==◌, List, [], ◌∷◌, ◌++◌, drop, length, Option, Some, None, if◌then◌else◌}
+use Rattle.std.specs.Prelude.{◌≡◌, ◌<◌, ◌^◌, ℕ, Bool, ◌==◌, List, [], ◌∷◌, ◌++◌, drop, length}
+use Rattle.std.specs.Prelude.{Option, Some, None, if◌then◌else◌}
 use Rattle.std.specs.List.{AllByRecursion, flat_map}
 use Rattle.dns_names.specs.Name.{Labels, IsName}
 use Rattle.dns_records.specs.Record.{Record, IsRecord}
@@ -11,15 +12,16 @@ use Rattle.dns_request.specs.declared.request.Transport.TheVariants.{Tcp}
 use Rattle.dns_secondary.specs.Receiving.{Receiving}
 use Rattle.dns_secondary.specs.Request.{request_octets}
 use Rattle.dns_secondary.specs.State.{Begun}
-use Rattle.dns_copies.specs.Copies as copies
-use Rattle.dns_copies.specs.Copies.{FollowsInOrder}
+use Rattle.dns_headline.specs.Copies as copies
+use Rattle.dns_headline.specs.Copies.{FollowsInOrder}
 use Rattle.dns_store.specs.Versions.{shown_of}
 use Rattle.dns_held.specs.Held.{shown_zone}
 use Rattle.dns_primary.specs.declared.primary.ZoneSettings.{ZoneSettings}
 use Rattle.dns_primary.specs.Machine.{ZoneState, Machine, kept_of, versions_of, sending_at}
 use Rattle.dns_primary.specs.Flush.{Sent, Answered, Replied}
 use Rattle.dns_primary.specs.Transfer.{changes_along, zone_named}
-use Rattle.dns_primary.specs.Step.{Event, Datagram, Arrives, Connect, Flush, Checkpoint, Pump, Closed, Effects}
+use Rattle.dns_primary.specs.Step.{Event, Datagram, Arrives, Connect, Flush, Checkpoint, Pump, Closed}
+use Rattle.dns_primary.specs.Step.{Effects}
 use Rattle.dns_primary.specs.Fresh.{IsFresh}
 use Rattle.dns_primary.specs.Runs.{Moment, Took, Stopped, Run, last_of}
 
@@ -46,8 +48,8 @@ pub record IsSoundZone (z : Zone) : Type 0 where
 abbrev pub changes_to : ZoneState → ZoneState → List Change
 changes_to z w = changes_along (shown_of (kept_of z)) (drop (length z.shown) (versions_of w.shown))
 
--- What is held of the zone with this apex: nothing, or the version that the machine showed of it earlier, from which the serial goes
--- less than 2^31 to the one that it shows now (RFC 1982 3.2).
+-- What is held of the zone with this apex: nothing, or the version that the machine showed of it earlier,
+-- from which the serial goes less than 2^31 to the one that it shows now (RFC 1982 3.2).
 abbrev pub IsHeldOf : Labels → Machine → Machine → Option Zone → Type 0
 IsHeldOf apex earlier now None = Unit {0}
 IsHeldOf apex earlier now (Some held) =
@@ -66,7 +68,8 @@ pub record Asks (s : Receiving) (earlier now : Machine) : Type 0 where
   pub held : IsHeldOf s.apex earlier now s.held
 
 -- The request comes on a connection, on which no transfer was open, and opens one.
-pub record OpensFor (s : Receiving) (number : ℕ) (old : Machine) (event : Event) (new : Machine) (sending : Sending) : Type 0 where
+pub record OpensFor (s : Receiving) (number : ℕ) (old : Machine) (event : Event) (new : Machine)
+    (sending : Sending) : Type 0 where
   pub comes : event ≡ Arrives number (request_octets s.apex s.held s.id)
   pub none : sending_at number old.connections ≡ None
   pub opens : sending_at number new.connections ≡ Some sending
@@ -90,7 +93,8 @@ pumped_in number [] = []
 pumped_in number (Took event fails effects new ∷ rest) = pumped number event effects ++ pumped_in number rest
 pumped_in number (Stopped event tries new ∷ rest) = pumped_in number rest
 
--- The transfer is open up to the last of these moments, and neither a stop nor the end of its connection ends it.
+-- The transfer is open up to the last of these moments, and neither a stop nor the end of its connection
+-- ends it.
 abbrev pub IsGivenOut : ℕ → Option Sending → List Moment → Type 0
 IsGivenOut number None run = run ≡ []
 IsGivenOut number (Some s) [] = ⊥
@@ -98,12 +102,14 @@ IsGivenOut number (Some s) (Took event fails effects new ∷ rest) =
     (event ≡ Closed number → ⊥) × IsGivenOut number (sending_at number new.connections) rest
 IsGivenOut number (Some s) (Stopped event tries new ∷ rest) = ⊥
 
--- Whoever asks for a transfer in a run is fed what it gives out, in order: the next message is not refused but for memory, and after
--- the last, and after no other, the version is held that was shown when the transfer was opened.
+-- Whoever asks for a transfer in a run is fed what it gives out, in order: the next message is not refused
+-- but for memory, and after the last, and after no other, the version is held that was shown when the
+-- transfer was opened.
 abbrev pub TransfersAreFollowed : Type 0
 TransfersAreFollowed =
-    (zones : List Zone) (settings : List ZoneSettings) (start : Machine) (earlier between later : List Moment) (event : Event)
-    (fails : List Bool) (effects : Effects) (opened : Machine) (s : Receiving) (number : ℕ) (sending : Sending)
+    (zones : List Zone) (settings : List ZoneSettings) (start : Machine)
+    (earlier between later : List Moment) (event : Event) (fails : List Bool) (effects : Effects)
+    (opened : Machine) (s : Receiving) (number : ℕ) (sending : Sending)
     (before : List (List ℕ)) (message : List ℕ) (rest : List (List ℕ)) (now : Receiving)
     → AllByRecursion IsSoundZone zones
     → IsFresh zones settings start

@@ -1,1 +1,3 @@
+pub mod Versions
+pub mod Copies
 pub mod Headline

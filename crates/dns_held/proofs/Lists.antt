@@ -1,4 +1,4 @@
--- Places of lists that go together, and lists of failures.
+-- Positions of lists that go together, and lists of failures.
 use Rattle.std.proofs.Common.{◌≡◌, ◌<◌, ◌+◌, ℕ, zero, suc, Bool, true, false, List, [], ◌∷◌, ◌++◌, length, drop, refl, sym, ◌∙◌, ap, arith, add-one}
 use Rattle.std.specs.Prelude.{Option, Some, None, slice_get, slice_set, slice_index_or, option_map}
 use Rattle.dns_store.specs.Versions.{Kept}
@@ -77,7 +77,7 @@ first_found fails f n e = first_more fails f ∙ ap (λ (o : Option ℕ). or_mor
 pub first_fails : (fails : List Bool) (f : Bool) → first_true fails ≡ None → first_true (fails ++ f ∷ []) ≡ or_more None f (length fails)
 first_fails fails f e = first_more fails f ∙ ap (λ (o : Option ℕ). or_more o f (length fails)) e
 
--- one place more
+-- one position more
 pub fails_more : {A : Type 0} (failed : A → ℕ) (fails : List Bool) (olds news : List A) (i : ℕ) (f : Bool) (b d : A) → length fails ≡ i → FailedWhere failed fails olds news → i < length olds → i < length news
     → IsCounted f (failed (slice_index_or olds i d)) (failed b) → FailedWhere failed (fails ++ f ∷ []) olds (slice_set news i b)
 fails_more failed [] [] news i f b d e was lo ln now = absurd (omega arith)
@@ -99,7 +99,7 @@ drop_one xs zero = refl
 drop_one [] (suc i) = refl
 drop_one (x ∷ xs) (suc i) = drop_one xs i
 
--- the elements behind the place stay
+-- the elements after the position stay
 pub untouched : {A : Type 0} (xs ys : List A) (i : ℕ) (b : A) → drop i xs ≡ drop i ys → drop (i + 1) (slice_set xs i b) ≡ drop (i + 1) ys
 untouched xs ys i b e = ap (λ n. drop n (slice_set xs i b)) (add-one i) ∙ drop_set xs i b ∙ drop_one xs i ∙ ap (drop 1) e ∙ sym (drop_one ys i) ∙ sym (ap (λ n. drop n ys) (add-one i))
 

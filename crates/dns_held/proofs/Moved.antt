@@ -1,4 +1,4 @@
--- A zone whose base is moved, behind a flush.
+-- A zone whose base is moved, after a flush.
 use Rattle.std.proofs.Common.{◌≡◌, inl, inr, ⊎_elim, ℕ, ◌-◌, Bool, true, false, List, [], ◌∷◌, ◌++◌, length, Option, refl, sym, ◌∙◌, ap, arith}
 use Rattle.std.proofs.lemmas.List.{append-nil}
 use Rattle.dns_records.specs.Record.{Record}
@@ -16,7 +16,7 @@ none_by shape loaded shown [] base second openings false is = refl
 none_by shape loaded shown (v ∷ vs) base second openings false is = refl
 none_by shape loaded shown staged base second openings true is = absurd cc
 
--- A zone that isn't closed has nothing staged behind a flush.
+-- A zone that isn't closed has nothing staged after a flush.
 none_staged : (k : Kept) → k.closed ≡ false → (flushed false k).staged ≡ []
 none_staged k is = none_by k.shape k.loaded k.shown k.staged k.base k.second k.openings k.closed is
 
@@ -87,4 +87,4 @@ module _ {S : Type 0} (moment : S → ℕ) (left_since : S → ℕ → Content �
           let d = number_there (flushed false k) keep room in
           let base = length (flushed false k).shown - d.0 in
           joined moment left_since old mid new (OpensAsCheckpointed opens keep room k) (OpensAsEither opens (flushed false k) base) (flush_leaves mid first) (moves d.0 (none_staged k (sym (closed_still k) ∙ is)) d.1)
-          (λ c left. ⊎_elim (λ before. inl (flushed_left opens k c before)) (λ after. inr (base, (d.0, d.1, refl), after)) left)
+          (λ c left. ⊎_elim (λ before. inl (flushed_left opens k c before)) (λ after. inr (sym (closed_still k) ∙ is, (base, (d.0, d.1, refl), after))) left)

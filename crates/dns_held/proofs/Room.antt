@@ -18,7 +18,7 @@ use Rattle.dns_store.specs.Staged.{newest_append}
 use Rattle.dns_held.specs.Staging.{has_room, HasRoomBy, staging_error}
 use Rattle.std.specs.Result.{IsErrAnd}
 use Rattle.dns_held.specs.declared.staging.StagingError.{StagingError}
-use Rattle.dns_store.specs.Plain.{octets_of}
+use Rattle.dns_store.specs.Plain.{octets_of, sectors_of_snapshot}
 use Rattle.dns_held.specs.Held.{HasVersions, IsTip, newer, newest_zone, shown_zone}
 use Rattle.dns_held.specs.declared.behind.Behind.{Behind}
 use Rattle.dns_store.proofs.Counts.{counts}
@@ -54,6 +54,9 @@ next_valid before after c next few = record {
 
 pub room_number : (k : Kept) (after : List Record) → has_room k after ≡ true → length k.shown + length k.staged < 2 ^ 64 - 1
 room_number k after e = grind (arith, nat_tests, e)
+
+pub room_fits : (k : Kept) (after : List Record) → has_room k after ≡ true → sectors_of_snapshot after ≤ k.shape.snapshot
+room_fits k after e = grind (arith, nat_tests, e)
 
 -- why the store refused it
 refused_room : (T : Type 0) (k : Kept) (after : List Record) (e : StageError) → has_room k after ≡ true → (e ≡ lower.Full → sectors_left k < entry_between (newest_of k) after) → (e ≡ lower.Closed → k.closed ≡ true)

@@ -11,8 +11,11 @@ abbrev pub IsNextBaseNumber : ℕ → ℕ → Kept → ℕ → Type 0
 IsNextBaseNumber keep room k base =
     (d : ℕ) × IsKeptNumber (flushed false k) keep room d × (base ≡ length (flushed false k).shown - d)
 
--- A crash leaves the shown version with some of those staged, or all of them with the new base.
+-- A crash leaves the shown version with some of those staged; or, where the zone isn't closed, all of them
+-- with the new base.
 abbrev pub OpensAsCheckpointed : (Shape → Opened → Content → Type 0) → ℕ → ℕ → Kept → Content → Type 0
 OpensAsCheckpointed opens keep room k c =
     OpensAsLeft opens k c
-    ⊎ ((base : ℕ) × IsNextBaseNumber keep room k base × OpensAsLeft opens (moved_to base (flushed false k)) c)
+    ⊎ ((k.closed ≡ false)
+    × ((base : ℕ) × IsNextBaseNumber keep room k base
+    × OpensAsLeft opens (moved_to base (flushed false k)) c))

@@ -64,7 +64,7 @@ pub own_append : (xs ys : List Write) → AreOwn xs → AreOwn ys → AreOwn (xs
 own_append [] ys left right = right
 own_append (x ∷ xs) ys left right = (left.0, own_append xs ys left.1 right)
 
--- a wider place
+-- a wider range
 pub spoilt_within : (f : Format) (d : Content) (low from until high : ℕ) (e : ReadError) → low ≤ from → until ≤ high → NamesSpoilt f d from until e → NamesSpoilt f d low high e
 spoilt_within f d low from until high Device a b s = tt
 spoilt_within f d low from until high (Damaged place) a b s = record { first = omega (arith, a, s.first); last = omega (arith, b, s.last); spoilt = s.spoilt }
@@ -90,7 +90,7 @@ bank_intact f s k c root parts opens at from to =
     apart (suc zero) le low high left right = absurd (omega (arith, low, right))
     apart (suc (suc n)) le low high left right = absurd (omega (arith, le))
 
--- Of sectors that are read one behind the other, of which those before one are intact and it isn't: it is the first that is named.
+-- Of sectors that are read one after the other, of which those before one are intact and it isn't: it is the first that is named.
 pub first_spoilt : (f : Format) (d : Content) (at i index : ℕ) (e : ReadError) → NamesSpoilt f d (at + i) (at + i + 1) e → AreIntact f d at i → AreIntact f d at index
     → (IsIntactIn f (at + index) (sector_at d (at + index)) → ⊥) → IsThat (at + index) e
 first_spoilt f d at i index Device named passed before not = inl refl

@@ -1,4 +1,4 @@
--- Places of a store: its root, and its two banks.
+-- Positions of a store: its root, and its two banks.
 use Rattle.std.proofs.Common.{◌≡◌, ◌≢◌, ◌⊎◌, inl, inr, ⊎_elim, ℕ, zero, suc, ◌+◌, ◌≤◌, ◌<◌, List, [], ◌∷◌, ◌++◌, length, replicate, ◌∙◌, ap, arith}
 use Rattle.std.proofs.lemmas.Bool.{cases_lt}
 use Rattle.std.specs.Prelude.{slice_set}
@@ -12,7 +12,7 @@ use Rattle.dns_layout.specs.Store.{Shape, all_sectors, snapshot_place, bank_end,
 use Rattle.dns_journal.proofs.Places.{at_set-same, at_set-other, some-length, all_are_some}
 use Rattle.dns_journal.proofs.Altered.{same_or_not}
 
--- each write is to a place from the first on, and before the second
+-- each write is to a position from the first on, and before the second
 abbrev pub AllBetween : ℕ → ℕ → List Write → Type 0
 AllBetween low high [] = Unit {0}
 AllBetween low high (w ∷ ws) = (low ≤ w.0) × (w.0 < high) × AllBetween low high ws
@@ -40,7 +40,7 @@ banks_apart s (suc (suc n)) q le from to = absurd (omega (arith, le))
 pub root_apart : (s : Shape) (n : ℕ) → 0 < snapshot_place s n
 root_apart s n = omega arith
 
--- each place behind the root is in one of the banks
+-- each position after the root is in one of the banks
 pub which_bank : (s : Shape) (n q : ℕ) → n ≤ 1 → 0 < q → q < all_sectors s
     → ((snapshot_place s n ≤ q) × (q < bank_end s n)) ⊎ ((snapshot_place s (other_of n) ≤ q) × (q < bank_end s (other_of n)))
 which_bank s zero q le some lt =
@@ -57,7 +57,7 @@ zeros_between low high from (suc n) le to = append (zeros_from from n) (zeros_be
     append [] all = (omega (arith, le), omega (arith, to), tt)
     append (w ∷ ws) all = (all.0, all.1, append ws all.2)
 
--- zeros that are all written stand there
+-- zeros that are all written are there
 pub zeros_stand : (from n q : ℕ) (d : Content) → from ≤ q → q < from + n → from + n ≤ length d → sector_at (applied (zeros_from from n) d) q ≡ blank
 zeros_stand from zero q d le lt size = absurd (omega (arith, le, lt))
 zeros_stand from (suc n) q d le lt size =

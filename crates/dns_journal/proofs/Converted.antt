@@ -141,7 +141,7 @@ module _ (r : Root) (bank opened base : ℕ) (octets : List ℕ) (changes : List
   entries_end = sectors_within lays.entries (bank_end (rooms_of r) bank) (journal_place (rooms_of r) bank) base opened (omega arith) lays.batch
 
   module _ (p : Places) (places : ArePlaces r bank p) where
-    -- all of the writes to the bank, by its places
+    -- all of the writes to the bank, by its positions
     pub whole_is : bank_writes p (take (snapshot_sectors (length octets)) ws) (drop (snapshot_sectors (length octets)) ws) ≡
         (writes_from (snapshot_place (rooms_of r) bank) lays.parts
         ++ zeros_from (snapshot_place (rooms_of r) bank + length lays.parts) (journal_place (rooms_of r) bank - (snapshot_place (rooms_of r) bank + length lays.parts)))

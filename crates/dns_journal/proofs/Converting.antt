@@ -134,11 +134,11 @@ module _ (d : Content) (first journal until : ℕ) (parts entries : List (List �
       (cases_lt q journal))
       (cases_lt q (first + length parts))
 
-  -- Behind the entries there are zeros.
+  -- After the entries there are zeros.
   pub behind_blank : journal + length entries < until → sector_at after_all (journal + length entries) ≡ blank
   behind_blank lt = zeros_stand (journal + length entries) (until - (journal + length entries)) (journal + length entries) after_entries (omega arith) (omega (arith, lt)) (omega (arith, entries_in, inside, size_three))
 
-  -- The parts and the entries stand there.
+  -- The parts and the entries are there.
   pub parts_there : Stand after_all first parts
   parts_there =
       stand_same parts first (first + length parts) after_all after_parts (omega arith)

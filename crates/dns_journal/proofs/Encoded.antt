@@ -97,7 +97,7 @@ parts_whole : (octets : ℕ) → octets ≤ payload_room * snapshot_sectors octe
 unfolding snapshot_sectors
 parts_whole octets = omega arith
 
--- parts that hold octets, with zeros behind them
+-- parts that hold octets, with zeros after them
 module _ (parts : List (List ℕ)) (octets : List ℕ) (len : ℕ) (len_is : len ≡ length octets)
     (holds : flat_map payload parts ≡ take (payload_room * snapshot_sectors (length octets)) octets ++ replicate (payload_room * snapshot_sectors (length octets) - length octets) 0) where
   flat : flat_map payload parts ≡ octets ++ replicate (payload_room * snapshot_sectors (length octets) - length octets) 0

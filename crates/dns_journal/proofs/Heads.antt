@@ -1,4 +1,4 @@
--- A head, and the bodies behind it.
+-- A head, and the bodies after it.
 use Rattle.std.proofs.Common.{◌≡◌, ◌⊎◌, inl, inr, ⊎_elim, ℕ, zero, suc, ◌+◌, ◌-◌, ◌*◌, ◌≤◌, List, [], ◌∷◌, ◌++◌, length, take, drop, refl, sym, ◌∙◌, ap, subst, arith}
 use Rattle.std.proofs.Math.Seq.{drop-append-add}
 use Rattle.std.proofs.lemmas.Bool.{cases_lt}
@@ -72,7 +72,7 @@ module _ (f : Format) where
     no_end items is not zeros =
         ⊎_elim (λ less. not (inl less)) (λ more. not (inr (subst (λ (l : List ℕ). AreZeros l) (sym (ap (λ (l : List ℕ). drop h.length l) is ∙ drop_is more)) zeros))) (le_or_less h.length (head_room_in f))
 
-  -- what stands at a cursor, as an entry
+  -- what is at a cursor, as an entry
   pub found : (old new : Cursor) (x : List ℕ) (h : Head) (c : Content) (octets : List ℕ) → sector_at c old.at ≡ x → IsNextHeadIn f old.until old.at old.version old.opened x → SaysHeadIn f x h → HoldsEntry f x old.at c octets
       → new.at ≡ old.at + entry_sectors_in f h.length → new.until ≡ old.until → new.version ≡ h.version → new.opened ≡ h.open_count → FindsEntry f old new c octets
   found old new x h c octets stands next says holds place until version opened = record {
@@ -108,7 +108,7 @@ module _ (f : Format) where
   refused_read cursor c place (next, inl fault) = nothing_read cursor (sector_at c cursor.at) c refl next (λ are zeros. no_body (sector_at c cursor.at) (cursor.at + 1) c place fault are)
   refused_read cursor c place (next, inr fault) = nothing_read cursor (sector_at c cursor.at) c refl next (λ are zeros. fault.wrong zeros)
 
-  -- nor does an entry stand there
+  -- nor is an entry there
   pub refused_found : (cursor new : Cursor) (c : Content) (octets : List ℕ) → FindsEntry f cursor new c octets → (place : ℕ) → IsRefusal f cursor c (Damaged place) → ⊥
   refused_found cursor new c octets finds place refusal =
       let x = sector_at c cursor.at in
@@ -126,7 +126,7 @@ module _ (f : Format) where
       (subst (λ (y : List ℕ). IsNextHeadIn f cursor.until cursor.at cursor.version cursor.opened y) (sym stands) next, subst (λ (y : List ℕ). IsWrongBody f y (cursor.at + 1) c place ⊎ IsWrongEnd f y (cursor.at + 1) c place) (sym stands) not)
   refused cursor x c OutOfMemory stands next not = tt
 
-  -- where an entry stands, what reading refuses is that a sector isn't intact
+  -- where an entry is, what reading refuses is that a sector isn't intact
   pub bad_found : (cursor new : Cursor) (x : List ℕ) (d c : Content) (from until : ℕ) (octets : List ℕ) (e : ReadError) → sector_at c cursor.at ≡ x → IsNextHeadIn f cursor.until cursor.at cursor.version cursor.opened x
       → FindsEntry f cursor new c octets → NamesSpoilt f d from until e ⊎ IsBadEntry f x cursor.at c e → NamesSpoilt f d from until e
   bad_found cursor new x d c from until octets e stands next finds (inl spoilt) = spoilt
@@ -151,7 +151,7 @@ module _ (f : Format) where
       (subst (λ o. ReadsIn f old.until c (old.at + size_of e) (old.version + 1) o es) (sym (finds.opened_is ∙ ap (λ (y : List ℕ). open_count y) head)) there.3)) in
       (e, es, refl, finds.octets_are ∙ ap (octets_of_in f) same, subst (λ u. ReadsIn f u c new.at new.version new.opened es) (sym finds.until_stays) behind)
 
-  -- nothing stands there, so nothing is read
+  -- nothing is there, so nothing is read
   pub none_is_read : (cursor : Cursor) (c : Content) → (IsNextHeadIn f cursor.until cursor.at cursor.version cursor.opened (sector_at c cursor.at) → ⊥) → (es : List Entry) → ReadsFrom f cursor c es → es ≡ []
   none_is_read cursor c ends [] there = refl
   none_is_read cursor c ends (e ∷ es) there = absurd (ends (subst (λ (y : List ℕ). IsNextHeadIn f cursor.until cursor.at cursor.version cursor.opened y) (sym there.1) there.0.head))

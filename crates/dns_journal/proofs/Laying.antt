@@ -137,7 +137,7 @@ pub versions_count : (es : List Entry) (version : ℕ) → version_behind versio
 versions_count [] version = omega arith
 versions_count (e ∷ es) version = versions_count es (version + 1) ∙ omega arith
 
--- A bank's parts, and the entries behind its snapshot's room.
+-- A bank's parts, and the entries after its snapshot's room.
 pub lays : (s : Shape) (bank opened base first : ℕ) (octets : List ℕ) (changes : List Change) (next new : Cursor) (middle ws : List Write)
     → first ≡ snapshot_place s bank → next.at ≡ journal_place s bank → next.until ≡ bank_end s bank → next.version ≡ base → next.opened ≡ opened
     → PushesParts first opened base octets (snapshot_sectors (length octets)) [] middle → PushesEntries next new changes middle ws → LaysBank s bank opened base octets changes ws new
@@ -162,7 +162,7 @@ lays s bank opened base first octets changes next new middle ws first_is at_is u
   opened_is = entries.opened_stays ∙ opened_is;
 }
 
--- room for the next of the changes, and for those behind it
+-- room for the next of the changes, and for those after it
 pub entry_room : (changes : List Change) (i : ℕ) (c : Change) (at until : ℕ) → i < length changes → c ≡ get_or changes i c → at + sum_by sectors_for (drop i changes) ≤ until → at + sectors_for c + sum_by sectors_for (drop (i + 1) changes) ≤ until
 entry_room changes i c at until lt is room = omega (arith, room, sum_by-drop_more sectors_for changes i c lt, ap sectors_for is)
 

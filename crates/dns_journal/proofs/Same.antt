@@ -1,4 +1,4 @@
--- What stands in a bank alone decides what is stored in it.
+-- What is in a bank alone decides what is stored in it.
 use Rattle.std.proofs.Common.{◌≡◌, ℕ, ◌+◌, ◌≤◌, ◌<◌, List, [], ◌∷◌, length, take, drop, sym, ◌∙◌, ap, subst, arith}
 use Rattle.std.specs.List.{flat_map}
 use Rattle.dns_sectors.specs.Device.{Content}
@@ -11,7 +11,7 @@ use Rattle.dns_journal.specs.Clearing.{NamesSameBank}
 use Rattle.dns_journal.proofs.Reading.{stand_same}
 
 module _ (f : Format) where
-  -- a head's entry ends within the journal, so reading asks for no sector behind it
+  -- a head's entry ends within the journal, so reading asks for no sector after it
   pub reads_same : (es : List Entry) (until at version opened : ℕ) (c d : Content) → ((q : ℕ) → at ≤ q → q < until → sector_at c q ≡ sector_at d q) → ReadsIn f until d at version opened es → ReadsIn f until c at version opened es
   reads_same [] until at version opened c d same there = λ next. there (subst (λ (x : List ℕ). IsNextHeadIn f until at version opened x) (same at (omega arith) (omega (arith, next.within))) next)
   reads_same (e ∷ es) until at version opened c d same there =

@@ -1,4 +1,4 @@
--- What stands in a bank that was written, and a root that names it.
+-- What is in a bank that was written, and a root that names it.
 use Rattle.std.proofs.Common.{◌≡◌, ℕ, suc, ◌+◌, ◌≤◌, ◌<◌, List, [], ◌∷◌, ◌++◌, length, take, drop, sym, ◌∙◌, subst, arith, length-append}
 use Rattle.std.proofs.lemmas.List.{length-set}
 use Rattle.std.specs.Prelude.{slice_set}
@@ -23,7 +23,7 @@ stand_rest : (xs ys : List (List ℕ)) (at : ℕ) (c : Content) → Stand c at (
 stand_rest [] ys at c there = let same : at ≡ at + 0 = omega arith in subst (λ n. Stand c n ys) same there
 stand_rest (x ∷ xs) ys at c there = let same : at + 1 + length xs ≡ at + suc (length xs) = omega arith in subst (λ n. Stand c n ys) same (stand_rest xs ys (at + 1) c there.1)
 
--- Entries of one open count that stand there are read, where no valid head stands behind them.
+-- Entries of one open count that are there are read, where no valid head comes after them.
 pub stand_reads : (es : List Entry) (until at version opened : ℕ) (c : Content) → IsBatch until at version opened es → Stand c at (sectors_of_entries es)
     → (IsNextHead until (place_behind at es) (version_behind version es) opened (sector_at c (place_behind at es)) → ⊥) → ReadsEntries until c at version opened es
 stand_reads [] until at version opened c batch there ends = ends

@@ -32,7 +32,7 @@ still_stored {D} {g} shape old k keeps octets changes c is =
     subst (λ (d : Content). LeavesEither shape k octets changes (opened_of old) d) (sym is)
     (inl (keeps.0, keeps.1, keeps.2.opens), tidy_from shape (g.seen old.device) keeps.0 (version_of k) keeps.2.opens.stands keeps.2.bank keeps.2.behind, ap open_count keeps.2.opens.stands ∙ keeps.2.says.opened_is)
 
--- the places of a bank depend on the two rooms alone
+-- the positions of a bank depend on the two rooms alone
 module _ {D : Type 0} {g : Ghosts D} (shape : Shape) (old : Journal D g) (k : Stored) (keeps : Keeps shape old k []) (octets : List ℕ) (changes : List Change) (bank : Bank) (base : ℕ) (ws : List Write) (next : Cursor)
     (bank_is : bank_number bank ≡ other_of (bank_number old.root.bank)) (base_is : base + length changes ≡ old.next.version) (fits : snapshot_sectors (length octets) ≤ old.root.snapshot_room)
     (lays : LaysBank (rooms_of old.root) (other_of (bank_number old.root.bank)) old.root.open_count base octets changes ws next) where

@@ -18,7 +18,7 @@ use Rattle.dns_journal.proofs.Altered.{same_or_not}
 use Rattle.dns_journal.proofs.Between.{AllBetween, some_outside, banks_apart, root_apart, which_bank, bank_inside, zeros_between, zeros_stand}
 use Rattle.dns_journal.proofs.Same.{opens_same}
 
--- what a root that stands there says of the heads
+-- what a root that is there says of the heads
 pub tidy_of : (s : Shape) (c : Content) (x : List ℕ) → sector_at c 0 ≡ x
     → ((at : ℕ) → (IsLeftOver Two s x at → ⊥) → tag (sector_at c at) ≡ head_tag → open_count (sector_at c at) ≤ open_count x) → bank_open x ≤ open_count x → IsTidy s c
 tidy_of s c x is heads bank = record {
@@ -98,7 +98,7 @@ module _ (s : Shape) (k : Stored) (d : Content) (x : List ℕ) (parts : List (Li
   stays : (c : Content) → SomeApplied (zeros_from from (until - from)) d c → OpensBy s c x parts k
   stays c some = new_stays s k d x parts begun.opens begun.not_clear (zeros_from from (until - from)) between c some
 
-  -- what stands outside of the bank that is cleared stays, and so do its heads
+  -- what is outside of the bank that is cleared stays, and so do its heads
   heads_stay : (c : Content) → SomeApplied (zeros_from from (until - from)) d c → (at : ℕ) → (at < snapshot_place s (other_of (number x))) ⊎ (bank_end s (other_of (number x)) ≤ at)
       → tag (sector_at c at) ≡ head_tag → open_count (sector_at c at) ≤ open_count x
   heads_stay c some at out =

@@ -94,7 +94,7 @@ goes_on zones t whole (suc more) returned here z one target some c at is goes =
     let f = found_in z here t in
     record { left = more; one_less = refl; chained = record { before = c.before ++ f ∷ []; are = represented_more zones c.before f returned one c.are is; rest = stretched zones t whole more returned here z one (Some target) c at is goes } }
 
--- behind the question's name
+-- after the question's name
 pub goes_behind : (zones : List Zone) (t : ℕ) (name : Labels) (z : Zone) (one : Found) (target : Labels) → zone_of zones name ≡ Some z → Represents zones (found_in z name t) one → Some target ≡ next_name (found_in z name t) (one.name ∷ []) → resolve zones name t ≡ found_in z name t ∷ chain 7 zones (name ∷ []) target t
 goes_behind zones t name z one target at is goes =
     let f = found_in z name t in

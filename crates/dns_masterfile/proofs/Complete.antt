@@ -74,7 +74,7 @@ first_of_each (Some s) (Some ss) strings h = (s, ss, refl, refl, sym (some_same 
 fits_is : (n : ℕ) → n ≤ 4096 → fits_data (nat_lt 4096 n) ≡ Ok true
 fits_is n h = let room : nat_lt 4096 n ≡ false = grind (arith, nat_tests) in rw room refl
 
--- the first string and those behind it, which are read
+-- the first string and those after it, which are read
 strings_step : (size : ℕ) (w : Word) (words : List Word) (strings : List (List ℕ)) → ((more : ℕ) (ss : List (List ℕ)) → strings_of words ≡ Some ss → more + length (flat_map string ss) ≤ 4096 → take_strings more words ≡ Ok (flat_map string ss)) → FirstOf (string_of_text (text_of w)) (strings_of words) strings → size + length (flat_map string strings) ≤ 4096 → take_strings size (w ∷ words) ≡ Ok (flat_map string strings)
 strings_step size w words strings again (s, ss, one, others, all) room =
     let tail : List ℕ = flat_map string ss in
@@ -300,7 +300,7 @@ class_skipped word rest h = ap (λ (b : Bool). class_or_not b word rest) h
 none_skipped : (word : Word) (rest : List Word) → is_class word ≡ false → skip_class (word ∷ rest) ≡ word ∷ rest
 none_skipped word rest h = ap (λ (b : Bool). class_or_not b word rest) h
 
--- a TTL, or none, and then the words left behind the class
+-- a TTL, or none, and then the words left after the class
 ttl_then : (words : List Word) (written : Option ℕ) (left rest : List Word) → take_ttl words ≡ Ok (written, left) → skip_class left ≡ rest → ttl_then_class words ≡ Ok (written, rest)
 ttl_then words written left rest h k = bind_is (take_ttl words) (λ ttl. Ok (ttl.0, skip_class ttl.1)) (written, left) (written, rest) h (ap (λ (ws : List Word). Ok (written, ws)) k)
 

@@ -1,4 +1,4 @@
--- The pieces that are computed are the octets, where no fault stands among them.
+-- The pieces that are computed are the octets, where no fault is among them.
 use Rattle.std.proofs.Common.{◌≡◌, ℕ, ◌<◌, ◌⊎◌, inl, inr, Bool, true, false, ◌==◌, ◌||◌, List, [], ◌∷◌, ◌++◌, refl, sym, ap, subst, ◌∙◌, arith, append_assoc}
 use Rattle.std.specs.Prelude.{⊤, cond, nat_lt}
 use Rattle.std.specs.List.{AllByRecursion}
@@ -58,7 +58,7 @@ kind_is c =
 of_kind : (c : ℕ) (k : Kind) → kind c ≡ k → OfKind c k
 of_kind c k e = subst (OfKind c) e (kind_is c)
 
--- The octets behind a carriage return, from within a comment on, from within a bare word or a quoted string on.
+-- The octets after a carriage return, from within a comment on, from within a bare word or a quoted string on.
 record LineAt (ps : List Piece) (octets : List ℕ) : Type 0 where
   rest : List ℕ
   more : List Piece
@@ -101,7 +101,7 @@ Covers BehindEscape ps octets = BareAt (92 ∷ []) ps octets
 Covers InQuotes ps octets = QuotedAt [] ps octets
 Covers BehindQuotedEscape ps octets = QuotedAt (92 ∷ []) ps octets
 
--- What is known of the octets behind one.
+-- What is known of the octets after one.
 abbrev Behind : (PiecesWithin → List Piece) → List ℕ → Type 0
 Behind next rest = (w : PiecesWithin) → NoFault (next w) → Covers w (next w) rest
 
@@ -137,7 +137,7 @@ more_bare unit text rest u (inl (word, ends)) = inl (more_word IsPlain unit text
 more_bare unit text rest u (inr (front, e, word, ends)) =
     inr (unit ++ front, ap (λ (t : List ℕ). unit ++ t) e ∙ sym (append_assoc unit front (92 ∷ [])), more_word IsPlain unit front u word, ends)
 
--- a line end behind a carriage return
+-- a line end after a carriage return
 return_pieces : (c : ℕ) (ps : List Piece) (rest : List ℕ) → c ≡ 13 → LineAt ps rest → ArePieces ps (c ∷ rest)
 return_pieces c ps rest e at =
     let here : ArePieces (LineEnd ∷ at.more) (c ∷ rest) = (13 ∷ 10 ∷ [], at.rest, ap (λ (x : ℕ). x ∷ rest) e ∙ ap (λ (xs : List ℕ). 13 ∷ xs) at.parts, inr refl, tt, at.others) in

@@ -63,7 +63,7 @@ pub tiny_read_again : read_file tiny_print (codes "other" ∷ []) ≡ Ok tiny_re
 unfolding read_ipv4 read_octet read_number read_ipv6 read_segments read_segment
 tiny_read_again = refl
 
--- a blank in the owner's place, and no entry before it
+-- a blank in place of the owner, and no entry before it
 pub no_owner : read_file (lines (codes "$TTL 3600" ∷ codes " A 192.0.2.1" ∷ [])) tiny ≡ Err (2, NoOwner)
 no_owner = refl
 

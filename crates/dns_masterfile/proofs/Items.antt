@@ -29,7 +29,7 @@ not_ended : {A : Type 0} (e : FileEntry) (words : List Word) (x : A) → ended_a
 not_ended e [] x h = ap (λ (b : Bool). value_only_if b x) h
 not_ended e (w ∷ rest) x h = refl
 
--- the data is refused, or something is left behind it
+-- the data is refused, or something is left after it
 pub data_refused : (ctx : Context) (e : FileEntry) (third : List Word) (all : ReadResult Said) (owner : Labels) (written : Option ℕ) (rtype ttl : ℕ) (fault : FileError) → all ≡ (take_rdata ctx.origin e.whole rtype third >>= with_data e owner rtype ttl written) → take_rdata ctx.origin e.whole rtype third ≡ Err fault → all ≡ Err fault
 data_refused ctx e third all owner written rtype ttl fault h no_data = h ∙ ap (λ (r : TakenValue (List ℕ)). r >>= with_data e owner rtype ttl written) no_data
 

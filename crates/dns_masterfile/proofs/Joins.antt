@@ -1,4 +1,4 @@
--- Octets taken one behind the other.
+-- Octets taken one after the other.
 use Rattle.std.proofs.Common.{◌≡◌, ℕ, ◌+◌, ◌<◌, ◌≤◌, inl, inr, Bool, true, false, List, [], ◌∷◌, ◌++◌, length, refl, sym, ap, subst, ◌∙◌, arith, append_assoc, append-nil, length-append, suc, drop, get_or}
 use Rattle.std.specs.Prelude.{Option, Some, None, Ok, Err, map, flat_map, nat_lt, ok_or, option_and_then, if◌then◌else◌}
 use Rattle.std.specs.List.{AllByRecursion, list_all}
@@ -99,7 +99,7 @@ pub strings_fault : (words : List Word) (e : FileError) → 0 < length words →
 strings_fault [] e some h = absurd (omega arith)
 strings_fault (w ∷ words) e some h = ap (λ (r : ReadResult (List ℕ)). r >>= λ octets. Ok (octets, [])) h
 
--- strings behind one another
+-- strings one after another
 pub strings_push : (strings : List (List ℕ)) (s : List ℕ) → flat_map string (strings ++ s ∷ []) ≡ flat_map string strings ++ string s
 strings_push [] s = append-nil (string s)
 strings_push (x ∷ strings) s = ap (λ (rest : List ℕ). string x ++ rest) (strings_push strings s) ∙ sym (append_assoc (string x) (flat_map string strings) (string s))
@@ -135,7 +135,7 @@ put_two old pushed new slice s n p q e m =
     q ∙ ap (λ (front : List ℕ). front ++ slice) p ∙ append_assoc old (n ∷ []) slice
     ∙ ap (λ (octets : List ℕ). old ++ n ∷ octets) e ∙ ap (λ (k : ℕ). old ++ k ∷ s) m
 
--- the string that stands next is refused
+-- the string that comes next is refused
 pub refused_string : (all self words : List Word) (size : ℕ) (front text : List ℕ) (w : Word) (e : FileError) → 0 < length all → take_strings 0 all ≡ strung front (take_strings size self) → self ≡ w ∷ words → text ≡ text_of w → RefusesFor (string_at size text) e → RefusesFor (strings_in all) e
 refused_string all self words size front text w e some h at same (inl oom) = inl oom
 refused_string all self words size front text w e some h at same (inr fault) =
@@ -159,6 +159,6 @@ digits_more all front text words rest w h at same digits =
     ∙ strung_twice front (text_of w) (digits_in rest)
     ∙ ap (λ (x : List ℕ). strung (front ++ x) (digits_in rest)) (sym same)
 
--- what stands behind the last part of data
+-- what is after the last part of data
 abbrev pub no_field : Part
 no_field = part.Values (record { ref_ptr = (0, 0); now = [] })

@@ -35,7 +35,7 @@ entries_begun line blank ps h =
     ap (λ (e : FileEntry). entries_from false e line ps) h
     ∙ entries_left false (record { line = line; blank = blank; words = []; whole = true }) line ps refl
 
--- a line end outside parentheses, behind which an entry begins so
+-- a line end outside parentheses, after which an entry begins so
 abbrev at_next : Bool → ℕ → ℕ → Bool → List Piece → Left
 at_next inside line start blank ps = let left = left_from inside line ps in no_words true (entry_at start blank left ∷ left.behind)
 

@@ -10,7 +10,7 @@ use Rattle.dns_masterfile.specs.Pieces.{Bare, Quoted, Piece, Gap, Comment, LineE
 use Rattle.dns_masterfile.specs.Steps.{grown_by}
 use Rattle.dns_masterfile.proofs.Scanning.{grown_bare, grown_quoted, grown_more}
 
--- No fault stands among them.
+-- No fault is among them.
 abbrev pub NoFault : List Piece → Type 0
 NoFault [] = ⊤
 NoFault (Fault ∷ ps) = ⊥
@@ -35,7 +35,7 @@ comment_read : (text rest : List ℕ) → AllByRecursion (λ c. IsVisible (kind 
 comment_read [] rest visible ends = comment_ends rest ends
 comment_read (c ∷ cs) rest visible ends = visible_comment (kind c) (λ w. pieces_from w (cs ++ rest)) visible.0 ∙ comment_read cs rest visible.1 ends
 
--- what stands behind a `\`
+-- what is after a `\`
 visible_escape : (k : Kind) (c : ℕ) (next : PiecesWithin → List Piece) → IsVisible k → behind_escape c k next ≡ grown c (next InWord)
 visible_escape LineFeed c next h = absurd h
 visible_escape Return c next h = absurd h
@@ -174,7 +174,7 @@ quoted_read text rest (units, e, all) =
     ∙ grown_quoted (concat units) [] (pieces_of rest)
     ∙ ap (λ (t : List ℕ). Text (Quoted t) ∷ pieces_of rest) (append-nil (concat units) ∙ sym e)
 
--- a piece is read, and then what stands behind it
+-- a piece is read, and then what is after it
 piece_read : (p : Piece) (front rest : List ℕ) → IsPiece p front → IsWholePiece p rest → NoFault (pieces_of rest) → pieces_of (front ++ rest) ≡ p ∷ pieces_of rest
 piece_read Gap front rest (inl e) whole n = rw e refl
 piece_read Gap front rest (inr e) whole n = rw e refl

@@ -17,7 +17,7 @@ use Rattle.dns_masterfile.proofs.Written.{written, IsWritten, name_written, name
 use Rattle.dns_masterfile.proofs.StringsBack.{number_reads_back}
 use Rattle.dns_masterfile.proofs.DataText.{all_append, TypeText, type_text, RDataText, rdata_text}
 
--- Words behind a first one, as pieces.
+-- Words after a first one, as pieces.
 abbrev spaced_pieces : List Word → List Piece
 spaced_pieces [] = []
 spaced_pieces (w ∷ ws) = Gap ∷ Text w ∷ spaced_pieces ws
@@ -51,7 +51,7 @@ words_in (w ∷ ws) e line ps =
 abbrev line_entry : ℕ → List Word → FileEntry
 line_entry line words = record { line = line; blank = false; words = words; whole = true }
 
--- A record's line: its words behind the owner, which say the record.
+-- A record's line: its words after the owner, which say the record.
 record RecordText (r : Record) : Type 0 where
   words : List Word
   text : printed_record r ≡ (printed_name r.owner ++ spaced (map written words)) ++ 10 ∷ []

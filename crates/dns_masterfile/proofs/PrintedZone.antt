@@ -8,7 +8,7 @@ use Rattle.dns_masterfile.specs.Printed.{is_wanted, printed_record}
 abbrev pub printed_wanted : Bool → List Record → List ℕ
 printed_wanted soa records = flat_map printed_record (filter (is_wanted soa) records)
 
--- a record, and those behind it
+-- a record, and those after it
 pub wanted_step : (soa : Bool) (r : Record) (rest : List Record) → printed_wanted soa (r ∷ rest) ≡ (if is_wanted soa r then printed_record r else []) ++ printed_wanted soa rest
 wanted_step soa r rest = go (is_wanted soa r)
   where
@@ -16,7 +16,7 @@ wanted_step soa r rest = go (is_wanted soa r)
     go true = refl
     go false = refl
 
--- one text behind another
+-- one text after another
 pub appends_two : (a b c : Option (List ℕ)) (x y : List ℕ) → Appends a b x → Appends b c y → Appends a c (x ++ y)
 appends_two None b c x y h k = tt
 appends_two (Some xs) None c x y h k = absurd h

@@ -1,4 +1,4 @@
--- Octets from a place on, and octets put before a word, one after the other.
+-- Octets from a position on, and octets put before a word, one after the other.
 use Rattle.std.proofs.Common.{◌≡◌, ℕ, zero, suc, ◌<◌, ◌-◌, List, [], ◌∷◌, ◌++◌, length, take, drop, refl, ap, arith}
 use Rattle.std.proofs.lemmas.List.{take_all, length-drop}
 use Rattle.dns_masterfile.specs.Pieces.{Piece, Fault, Text, Bare, Quoted, grown, pieces_of}
@@ -23,7 +23,7 @@ pub grown_quoted : (octets text : List ℕ) (ps : List Piece) → grown_by octet
 grown_quoted [] text ps = refl
 grown_quoted (c ∷ cs) text ps = ap (grown c) (grown_quoted cs text ps)
 
--- a piece that is none of the octets behind it has octets
+-- a piece that is none of the octets after it has octets
 pub some_octets : (octets : List ℕ) (n : ℕ) (p : Piece) → pieces_of octets ≡ p ∷ pieces_of (drop n octets) → 0 < n
 some_octets octets zero p h = absurd (omega (arith, ap length h))
 some_octets octets (suc n) p h = omega arith

@@ -62,7 +62,7 @@ take_number_ok (w ∷ more) n rest h =
     let p = ok_pair got.0 n more rest got.2 in
     (w, ap (λ (xs : List Word). w ∷ xs) p.1, ok_or_ok _ BadNumber got.0 got.1 ∙ ap Some p.0)
 
--- A TTL stands first, or none is taken.
+-- A TTL is first, or none is taken.
 abbrev TtlFirst : List Word → Option ℕ → List Word → Type 0
 TtlFirst words None rest = words ≡ rest
 TtlFirst words (Some ttl) rest = (word : Word) × (words ≡ word ∷ rest) × IsTtl word ttl
@@ -81,7 +81,7 @@ take_ttl_ok [] written rest h = let p = ok_pair None written [] rest h in subst 
 take_ttl_ok (Quoted text ∷ more) written rest h = let p = ok_pair None written (Quoted text ∷ more) rest h in subst (λ (o : Option ℕ). TtlFirst (Quoted text ∷ more) o rest) p.0 p.1
 take_ttl_ok (Bare text ∷ more) written rest h = ttl_or_not_ok (is_decimal text) text more written rest h
 
--- What stands before the type.
+-- What is before the type.
 abbrev MiddleFirst : List Word → Option ℕ → List Word → Type 0
 MiddleFirst words written rest = (middle : List Word) × (words ≡ middle ++ rest) × IsMiddle middle written
 

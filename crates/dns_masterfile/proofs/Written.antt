@@ -18,12 +18,12 @@ use Rattle.dns_masterfile.proofs.OnlyPieces.{IsPlain}
 use Rattle.dns_masterfile.proofs.Complete.{true_false}
 use Rattle.dns_masterfile.proofs.Covered.{OfKind, kind_is, empty_word, more_word}
 
--- A word as it stands in a line.
+-- A word as it is in a line.
 abbrev pub written : Word → List ℕ
 written (Bare text) = text
 written (Quoted text) = 34 ∷ text ++ 34 ∷ []
 
--- What stands there is the word, before a blank or a line end.
+-- What is there is the word, before a blank or a line end.
 abbrev pub IsWritten : Word → Type 0
 IsWritten (Bare text) = (0 < length text) × IsWord IsPlain text
 IsWritten (Quoted text) = IsWord IsQuotable text

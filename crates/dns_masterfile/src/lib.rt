@@ -36,7 +36,7 @@ pub enum FileError {
     #[error("memory was refused")]
     OutOfMemory,
     /// An octet, a quote or a parenthesis occurs where none may, or a word is missing or left over.
-    #[error("a word is missing or left over, or an octet, a quote or a parenthesis stands where none may")]
+    #[error("a word is missing or left over, or an octet, a quote or a parenthesis is where none may be")]
     Syntax,
     /// A word where a name is expected is not a name.
     #[error("a name is expected")]
@@ -52,7 +52,7 @@ pub enum FileError {
     #[error("no TTL is written here, and none was before")]
     NoTtl,
     /// The line begins with a blank, and no record precedes it.
-    #[error("the line begins with a blank, and no record stands before it")]
+    #[error("the line begins with a blank, and there is no record before it")]
     NoOwner,
     /// The word where the type is expected is no type that has a form here, and no `TYPE` with the number of
     /// another type of which a zone can have records.

@@ -16,13 +16,13 @@ use Rattle.dns_names.proofs.Parsed.{parsed, refused_none}
 read_of : (m : List ℕ) (name : Labels) (rest : List ℕ) → IsName name → m ≡ wire name ++ rest → map to_ascii_lowercase (take (length (wire name)) m) ≡ wire name
 read_of m name rest valid e = ap (λ (x : List ℕ). map to_ascii_lowercase (take (length (wire name)) x)) e ∙ ap (map to_ascii_lowercase) (take_at (wire name) rest (length (wire name)) refl) ∙ wire_lower name valid.labels
 
--- where octets are refused, no name in lower case stands
+-- where octets are refused, there is no name in lower case
 pub none_first : (m : List ℕ) (e : NameError) → ExplainsName m e → (e ≡ OutOfMemory → ⊥) → (name : Labels) (rest : List ℕ) → IsName name → m ≡ wire name ++ rest → ⊥
 none_first m e why other name rest valid same =
     let size = ap length same ∙ length-append (wire name) rest in
     refused_none m e name (length (wire name)) valid (omega (arith, size)) (read_of m name rest valid same) why other
 
--- nor where the octets of the name that stands have a capital
+-- nor where the octets of the name that is there have a capital
 pub none_lower : (m : List ℕ) (stop : ℕ) (labels : Labels) → LabelsAt m 0 labels stop → slice_get m stop ≡ Some 0 → (map to_ascii_lowercase (take (stop + 1) m) ≡ take (stop + 1) m → ⊥) → (name : Labels) (rest : List ℕ) → IsName name → m ≡ wire name ++ rest → ⊥
 none_lower m stop labels h z high name rest valid same =
     let size = ap length same ∙ length-append (wire name) rest in
@@ -34,7 +34,7 @@ none_lower m stop labels h z high name rest valid same =
     let text : take (stop + 1) m ≡ wire name = ap (λ (k : ℕ). take k m) width ∙ ap (take (length (wire name))) same ∙ take_at (wire name) rest (length (wire name)) refl in
     high (ap (map to_ascii_lowercase) text ∙ wire_lower name valid.labels ∙ sym text)
 
--- the name that stands
+-- the name that is there
 pub record Firsts (m plain rest : List ℕ) : Type 0 where
   pub shape : IsPlain plain
   pub whole : m ≡ wire (labels_of plain) ++ rest

@@ -29,7 +29,7 @@ longer (l ∷ p) q (k ∷ y) apart = step (slice_cmp nat_cmp l k) refl (λ n. lo
         let same : l ≡ k = slice_cmp-IsAntisymmetric nat_cmp-IsAntisymmetric l k is in
         ap (ordering_then (slice_cmp nat_cmp l k)) (inner (λ t e. apart t (ap (λ (z : Labels). k ∷ z) e ∙ ap (λ (z : List ℕ). z ∷ (p ++ t)) (sym same))))
 
--- a label before a name that the other does not stand under decides nothing
+-- a label before a name that the other is not under decides nothing
 pub before_decides : (l : List ℕ) (n y : Labels) → (IsUnder y n → ⊥) → name_cmp (l ∷ n) y ≡ name_cmp n y
 before_decides l n y apart =
     ap (λ (z : Labels). labels_cmp z (reverse y)) (reverse-append (l ∷ []) n) ∙ longer (reverse n) (l ∷ []) (reverse y) (λ t e. apart (reverse t, back t e))

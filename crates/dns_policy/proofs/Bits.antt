@@ -83,7 +83,7 @@ leading : (rest x : ℕ) (xs : List ℕ) → rest < 8 → take rest (bits_of (x 
 leading rest x xs small =
     take-append-le rest (bits 8 x) (bits_of xs) (omega (arith, length_bits 8 x)) ∙ take_bits (8 - rest) rest 8 x (omega arith)
 
--- the octet of both at a place, and its leading bits
+-- the octet of both at a position, and its leading bits
 module _ (whole rest : ℕ) (xs ys : List ℕ) (ox : AreOctets xs) (oy : AreOctets ys) (small : rest < 8) (wx : whole < length xs) (wy : whole < length ys) where
   leading_at : (zs : List ℕ) → whole < length zs → take rest (bits_of (drop whole zs)) ≡ bits rest (get_or zs whole 0 / 2 ^ (8 - rest))
   leading_at zs w = ap (λ l. take rest (bits_of l)) (drop-cons zs whole 0 w) ∙ leading rest (get_or zs whole 0) _ small

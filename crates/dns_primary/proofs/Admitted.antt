@@ -60,7 +60,7 @@ get2 {A} {B} R (x ∷ xs) (z ∷ ys) zero d y each e = let is : z ≡ y = cc e i
 get2 R (x ∷ xs) (z ∷ ys) (suc i) d y each e = get2 R xs ys i d y each.1 e
 get2 R _ _ i d y each e = absurd each
 
--- the zone at a place that was found
+-- the zone at a position that was found
 pub record At {I S : Type 0} (keeps : S → Kept → Type 0) (zones : List Zone) (behind : List (Behind I S)) (settings : List ZoneSettings) (states : List ZoneState) (place : ℕ) (b : Behind I S) (s : ZoneSettings) : Type 0 where
   pub zone : Zone
   pub state : ZoneState

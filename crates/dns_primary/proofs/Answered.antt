@@ -1,4 +1,4 @@
--- An update that is answered behind what came first, over a primary.
+-- An update that is answered after what came first, over a primary.
 use Rattle.std.proofs.Common.{◌≡◌, inl, inr, ℕ, Bool, List, Option}
 use Rattle.dns_zone.specs.declared.index.ZoneIndex as index
 use Rattle.dns_store.specs.declared.zone_store.ZoneStore as store
@@ -14,7 +14,7 @@ use Rattle.dns_primary.specs.Queue.{IsUntouched}
 use Rattle.dns_primary.specs.Steps.{AtAnyMomentOf, IsBegunOrLacks, OpensAsEvent, with_rooms}
 use Rattle.dns_primary.proofs.Served.{failed_still, still_leaves}
 
--- no device is touched behind it
+-- no device is touched after it
 module _ {I S : Type 0} {i : index.Ghosts I} {s : store.Ghosts S} (m : Machine) (old mid new : Primary I S i s)
     (still : Each2 (λ (a b : Behind I S). IsUntouched s.moment s.left_since s.failed a.store b.store) mid.behind.items new.behind.items)
   where

@@ -86,8 +86,7 @@ rebased_fits n false base z h = record { few = h.few; wait = h.wait }
 
 moved_fits : (n : ℕ) (fails : Bool) (room : ℕ) (z new : ZoneState) → IsMovedUnlessClosed fails room z new → Fits n z → Fits n new
 moved_fits n fails room z new (inl same) h = subst (Fits n) (sym same.2) h
-moved_fits n fails room z new (inr (opened, (base, next, inl is))) h = subst (Fits n) (sym is) (rebased_fits n fails base z h)
-moved_fits n fails room z new (inr (opened, (base, next, inr stays))) h = subst (Fits n) (sym stays.1) h
+moved_fits n fails room z new (inr (opened, (base, next, is))) h = subst (Fits n) (sym is) (rebased_fits n fails base z h)
 
 -- what comes before an update leaves room for its reply
 record HasRoom (m : Machine) : Type 0 where
@@ -147,12 +146,9 @@ AnswerFits p = AllFit p.0
 
 accepted_fits : (m : Machine) (a : Asked) (place : ℕ) (z : ZoneState) (records : List Record) → slice_get m.zones place ≡ Some z → z.closed ≡ false → HasRoom m → AnswerFits (accepted_in m a place z records)
 accepted_fits m a place z records stands opened h =
-    tested AnswerFits (not (has_room (kept_of z) records)) (waits m a place rcode_servfail (updates_of z), [])
-    (if nat_le (entry_between (newest_of (kept_of z)) records) (sectors_left (kept_of z)) then (stages m a place z records, []) else (m, replies a rcode_servfail ∷ []))
-    (λ _. wait_fits m a place rcode_servfail (updates_of z) h)
-    (λ _. tested AnswerFits (nat_le (entry_between (newest_of (kept_of z)) records) (sectors_left (kept_of z))) (stages m a place z records, []) (m, replies a rcode_servfail ∷ [])
+    tested AnswerFits (has_room (kept_of z) records) (stages m a place z records, []) (waits m a place rcode_servfail (updates_of z), [])
     (λ _. stage_fits m a place z records stands opened h)
-    (λ _. h.fit))
+    (λ _. wait_fits m a place rcode_servfail (updates_of z) h)
 
 judged_fits : (m : Machine) (a : Asked) (place : ℕ) (z : ZoneState) (v : Verdict) → slice_get m.zones place ≡ Some z → z.closed ≡ false → HasRoom m → AnswerFits (judged_in m a place z v)
 judged_fits m a place z (Refuses rcode) stands opened h = wait_fits m a place (number_of_rcode rcode) (updates_of z) h

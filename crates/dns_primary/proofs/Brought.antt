@@ -175,15 +175,12 @@ module _ (old : Machine) (event : Event) (a : Asked) (b : IsBrought old event a)
 
   accepted_brings : (m : Machine) (place : ℕ) (z : ZoneState) (records : List Record) → IsAllowed m.zones a place z → Goes_to m (accepted_in m a place z records)
   accepted_brings m place z records h =
-      tested (Goes_to m) (not (has_room (kept_of z) records)) (waits m a place rcode_servfail (updates_of z), [])
-      (if nat_le (entry_between (newest_of (kept_of z)) records) (sectors_left (kept_of z)) then (stages m a place z records, []) else (m, replies a rcode_servfail ∷ []))
-      (λ _. still m)
-      (λ _. tested (Goes_to m) (nat_le (entry_between (newest_of (kept_of z)) records) (sectors_left (kept_of z))) (stages m a place z records, []) (m, replies a rcode_servfail ∷ [])
+      tested (Goes_to m) (has_room (kept_of z) records) (stages m a place z records, []) (waits m a place rcode_servfail (updates_of z), [])
       (λ _.
       (let made : Made = record { update = a.message; records = records } in
       pair_set (IsWith (Brings old event)) (with_itself (Brings old event)) m.zones place z (with_staged made z) h.stands
       (record { setting = refl; updates = inr (made, sym (append_assoc z.shown z.staged (made ∷ [])), brings (with_staged made z) h.named h.allowed); openings = refl })))
-      (λ _. still m))
+      (λ _. still m)
 
   judged_brings : (m : Machine) (place : ℕ) (z : ZoneState) (v : Verdict) → IsAllowed m.zones a place z → Goes_to m (judged_in m a place z v)
   judged_brings m place z (Refuses rcode) h = still m

@@ -25,7 +25,6 @@ use Rattle.dns_transfer.specs.Refusal.{client_serial, is_malformed, refusal as r
 use Rattle.dns_transfer.specs.Session.{Sending, SendsBy}
 use Rattle.dns_update.specs.Verdict.{Verdict, Refuses, Keeps, Leaves, verdict}
 use Rattle.dns_store.specs.Versions.{newest_of}
-use Rattle.dns_store.specs.Room.{entry_between, sectors_left}
 use Rattle.dns_held.specs.Held.{newest_zone}
 use Rattle.dns_held.specs.Staging.{has_room}
 use Rattle.dns_primary.specs.declared.event.Peer.{Peer}
@@ -96,30 +95,13 @@ one_more Cause old m a place rcode updates before cause = record { sent = tt; wa
 at_once : (Cause : Type 0) (old m : Machine) (a : Asked) (rcode : ℕ) → AreWaiting Cause old m → (rcode % 16 ≡ 2 → Cause) → Ended Cause old (m, replies a rcode ∷ [])
 at_once Cause old m a rcode before cause = record { sent = (cause, tt); waiting = before }
 
-room_first : (b c : Bool) → b ≡ false → (b && c) ≡ false
-room_first true c e = absurd (cc e)
-room_first false c e = refl
-
-room_second : (b c : Bool) → c ≡ false → (b && c) ≡ false
-room_second true c e = e
-room_second false c e = refl
-
-not_false : (b : Bool) → not b ≡ true → b ≡ false
-not_false true e = absurd (cc e)
-not_false false e = refl
-
 ends_accepted : (old m : Machine) (a : Asked) (place : ℕ) (z : ZoneState) (records : List Record) → AreWaiting (AnswerCause m a) old m → admission m.zones a ≡ Admits place z
     → verdict (newest_zone (kept_of z)) a.message.answers a.message.authorities ≡ Leaves records → Ended (AnswerCause m a) old (accepted_in m a place z records)
 ends_accepted old m a place z records before admits leaves =
     let Cause = AnswerCause m a in
-    let room = has_room (kept_of z) records in
-    let journal = nat_le (entry_between (newest_of (kept_of z)) records) (sectors_left (kept_of z)) in
-    let lacks : (room && journal) ≡ false → LacksRoom m a = λ e. record { place = place; zone = z; records = records; admits = admits; leaves = leaves; room = e } in
-    tested (Ended Cause old) (not room) (waits m a place rcode_servfail (updates_of z), []) (if journal then (stages m a place z records, []) else (m, replies a rcode_servfail ∷ []))
-    (λ e. one_more Cause old m a place rcode_servfail (updates_of z) before (λ _. inr (lacks (room_first room journal (not_false room e)))))
-    (λ _. tested (Ended Cause old) journal (stages m a place z records, []) (m, replies a rcode_servfail ∷ [])
+    tested (Ended Cause old) (has_room (kept_of z) records) (stages m a place z records, []) (waits m a place rcode_servfail (updates_of z), [])
     (λ _. record { sent = tt; waiting = all_more (WaitsBy Cause old) m.waiting _ before (λ e. absurd (omega (arith, e))) })
-    (λ e. at_once Cause old m a rcode_servfail before (λ _. inr (lacks (room_second room journal e)))))
+    (λ none. one_more Cause old m a place rcode_servfail (updates_of z) before (λ _. inr (record { place = place; zone = z; records = records; admits = admits; leaves = leaves; room = none })))
 
 ends_judged : (old m : Machine) (a : Asked) (place : ℕ) (z : ZoneState) (v : Verdict) → AreWaiting (AnswerCause m a) old m → admission m.zones a ≡ Admits place z
     → verdict (newest_zone (kept_of z)) a.message.answers a.message.authorities ≡ v → OtherVerdict v → Ended (AnswerCause m a) old (judged_in m a place z v)

@@ -39,7 +39,7 @@ SameConnections old new = new.connections ≡ old.connections
 accepted_same : (m : Machine) (a : Asked) (place : ℕ) (z : ZoneState) (records : List Record) → SameConnections m (accepted_in m a place z records).0
 accepted_same m a place z records =
     let P = λ (r : Machine × List Sent). SameConnections m r.0 in
-    tested P (not (has_room (kept_of z) records)) _ _ (λ _. refl) (λ _. tested P (nat_le (entry_between (newest_of (kept_of z)) records) (sectors_left (kept_of z))) _ _ (λ _. refl) (λ _. refl))
+    tested P (has_room (kept_of z) records) _ _ (λ _. refl) (λ _. refl)
 
 judged_same : (m : Machine) (a : Asked) (place : ℕ) (z : ZoneState) (v : Verdict) → SameConnections m (judged_in m a place z v).0
 judged_same m a place z (Refuses rcode) = refl

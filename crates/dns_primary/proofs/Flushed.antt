@@ -29,7 +29,7 @@ kept_flushed_all [] zs = refl
 kept_flushed_all (f ∷ fails) [] = refl
 kept_flushed_all (f ∷ fails) (z ∷ zs) = λ i. kept_flushed f z i ∷ kept_flushed_all fails zs i
 
--- what a vector holds behind a write of all its elements
+-- what a vector holds after a write of all its elements
 pub refilled : {A : Type 0} (n : ℕ) (xs ys : List A) → length xs ≡ n → take n (xs ++ drop (length xs) ys) ≡ xs
 refilled n xs ys e = ap (λ m. take m (xs ++ drop (length xs) ys)) (sym e) ∙ front xs (drop (length xs) ys)
   where

@@ -1,4 +1,4 @@
--- Zones behind what comes first: an update is admitted there as before, unless its zone is closed then.
+-- Zones after what comes first: an update is admitted there as before, unless its zone is closed then.
 use Rattle.std.proofs.Common.{◌≡◌, inl, inr, ⊎_elim, ℕ, zero, suc, Bool, true, false, not, List, [], ◌∷◌, ◌++◌, Option, Some, None, refl, sym, ap, subst, ◌∙◌, append-nil}
 use Rattle.std.specs.Prelude.{slice_get, slice_set, option_map, ◌==◌, if◌then◌else◌}
 use Rattle.std.specs.declared.net.ip_addr.IpAddr.{IpAddr}
@@ -64,7 +64,7 @@ same_follows z w e = subst (λ (x : ZoneState). Follows z x) (sym e) (follows_it
 
 moved_follows : (fails : Bool) (room : ℕ) (z w : ZoneState) → IsMovedUnlessClosed fails room z w → Follows z w
 moved_follows fails room z w (inl h) = same_follows z w h.2
-moved_follows fails room z w (inr h) = ⊎_elim (λ e. subst (λ (x : ZoneState). Follows z x) (sym e) (rebased_follows fails (h.1).0 z)) (λ e. same_follows z w e.1) (h.1).2
+moved_follows fails room z w (inr h) = subst (λ (x : ZoneState). Follows z x) (sym (h.1).2) (rebased_follows fails (h.1).0 z)
 
 checkpoint_follows : (place room : ℕ) (old : Machine) (fails : List Bool) (moving : Bool) (new : Machine) → IsCheckpoint place room old fails moving new → Each2 Follows old.zones new.zones
 checkpoint_follows place room old fails moving new made =
@@ -102,7 +102,7 @@ place_follows apex (z ∷ zones) (w ∷ news) h =
     let rest = place_follows apex zones news h.1 in
     λ i. if names_eq (same i).shape.apex apex then Some 0 else option_map suc (rest i)
 
--- The zone that was admitted, as it stands now.
+-- The zone that was admitted, as it is now.
 pub record StandsStill (news : List ZoneState) (place : ℕ) (z : ZoneState) (new : Admission) : Type 0 where
   pub zone : ZoneState
   pub stands : slice_get news place ≡ Some zone
@@ -148,17 +148,6 @@ admission_goes zones news a h =
 module _ (old mid : Machine) (a : Asked) (h : Each2 Follows old.zones mid.zones) where
   pub still_rejected : (code : ℕ) → admission old.zones a ≡ Rejects code → admission mid.zones a ≡ Rejects code
   still_rejected code e = subst (λ (d : Admission). Goes mid.zones d (admission mid.zones a)) e (admission_goes old.zones mid.zones a h)
-
-  pub still_judged : {X : Type 0} (records : X → List Record) (place : ℕ) (j : Judgement X) → IsUpdateJudged records old a place j → HoldsStill records mid a place j
-  still_judged records place j is =
-      let g : StandsStill mid.zones place is.zone (admission mid.zones a) = subst (λ (d : Admission). Goes mid.zones d (admission mid.zones a)) is.admits (admission_goes old.zones mid.zones a h) in
-      record {
-        zone = g.zone;
-        stands = g.stands;
-        shut = g.shut;
-        admits = g.admits;
-        is = subst (λ (z : Zone). IsVerdictOf records (verdict z a.message.answers a.message.authorities) j) (sym (g.follows).newest) is.is;
-      }
 
 pub rejected_lacks : (old : Machine) (a : Asked) (code : ℕ) → admission old.zones a ≡ Rejects code → room_lacked old a ≡ None
 rejected_lacks old a code e = ap (lacked_at a) e

@@ -15,7 +15,7 @@ use Rattle.dns_held.specs.declared.staging.StagingError.TheVariants as staging
 use Rattle.dns_held.specs.Staging.{HasRoomBy, has_room}
 use Rattle.dns_primary.specs.declared.update.Outcome.{Outcome}
 use Rattle.dns_primary.specs.declared.update.Outcome.TheVariants.{Waits, AtOnce}
-use Rattle.dns_primary.specs.Outcome.{Ends, end_of, IsDone, refused_as}
+use Rattle.dns_primary.specs.Outcome.{Ends, HasLeft, end_of, IsDone, refused_as}
 
 pub refused_is : {X : Type 0} (records : X → List Record) (before : List Record) (v : Verdict) (rcode : Rcode) → IsVerdict records before v (judged.Refused rcode) → v ≡ Refuses rcode
 refused_is records before (Refuses r) rcode e = let same : r ≡ rcode = cc e in ap (λ x. Refuses x) same
@@ -50,13 +50,10 @@ untested true x y e = absurd (cc e)
 untested false x y e = refl
 
 pub ends_without_room : (k : Kept) (after : List Record) → has_room k after ≡ false → end_of k (Leaves after) ≡ record { outcome = Waits ServFail; versions = k }
-ends_without_room k after none = tested (not (has_room k after)) _ _ (ap not none)
+ends_without_room k after none = untested (has_room k after) _ _ none
 
-pub ends_staged : (k : Kept) (after : List Record) → has_room k after ≡ true → entry_between (newest_of k) after ≤ sectors_left k → end_of k (Leaves after) ≡ record { outcome = Waits NoError; versions = staged_with after k }
-ends_staged k after room fits = untested (not (has_room k after)) _ _ (ap not room) ∙ tested (nat_le (entry_between (newest_of k) after) (sectors_left k)) _ _ (grind (arith, nat_tests, fits))
-
-pub ends_full : (k : Kept) (after : List Record) → has_room k after ≡ true → sectors_left k < entry_between (newest_of k) after → end_of k (Leaves after) ≡ record { outcome = AtOnce ServFail; versions = k }
-ends_full k after room over = untested (not (has_room k after)) _ _ (ap not room) ∙ untested (nat_le (entry_between (newest_of k) after) (sectors_left k)) _ _ (grind (arith, nat_tests, over))
+pub ends_staged : (k : Kept) (after : List Record) → has_room k after ≡ true → end_of k (Leaves after) ≡ record { outcome = Waits NoError; versions = staged_with after k }
+ends_staged k after room = tested (has_room k after) _ _ room
 
 module _ (held : Kept → Type 0) (k : Kept) where
   pub done_refused : (v : Verdict) (rcode : Rcode) → v ≡ Refuses rcode → held k → IsDone held k v (Waits rcode)
@@ -70,11 +67,11 @@ module _ (held : Kept → Type 0) (k : Kept) where
   ended v after o kept e is h =
       subst (λ (x : Verdict). (o ≡ (end_of k x).outcome) × held (end_of k x).versions) (sym e) (sym (ap (λ (d : Ends). d.outcome) is), subst (λ (d : Ends). held d.versions) (sym is) h)
 
-  pub done_staged : (v : Verdict) (after : List Record) → v ≡ Leaves after → has_room k after ≡ true → entry_between (newest_of k) after ≤ sectors_left k → held (staged_with after k) → IsDone held k v (Waits NoError)
-  done_staged v after e room fits h = ended v after (Waits NoError) (staged_with after k) e (ends_staged k after room fits) h
+  pub done_staged : (v : Verdict) (after : List Record) → v ≡ Leaves after → has_room k after ≡ true → held (staged_with after k) → IsDone held k v (Waits NoError)
+  done_staged v after e room h = ended v after (Waits NoError) (staged_with after k) e (ends_staged k after room) h
 
-  pub done_unstaged : (v : Verdict) (after : List Record) (error : StagingError) → v ≡ Leaves after → HasRoomBy {T = Unit {0}} k after (Err error) → k.closed ≡ false → held k → IsDone held k v (refused_as error)
-  done_unstaged v after staging.NoRoom e room opened h = ended v after (Waits ServFail) k e (ends_without_room k after room) h
-  done_unstaged v after staging.Full e room opened h = ended v after (AtOnce ServFail) k e (ends_full k after room.0 room.1) h
-  done_unstaged v after staging.Closed e room opened h = absurd (let clash : true ≡ false = sym room ∙ opened in cc clash)
-  done_unstaged v after staging.OutOfMemory e room opened h = h
+  pub done_unstaged : (v : Verdict) (after : List Record) (error : StagingError) → v ≡ Leaves after → HasLeft k v → HasRoomBy {T = Unit {0}} k after (Err error) → k.closed ≡ false → held k → IsDone held k v (refused_as error)
+  done_unstaged v after staging.NoRoom e left room opened h = ended v after (Waits ServFail) k e (ends_without_room k after room) h
+  done_unstaged v after staging.Full e left room opened h = absurd (omega (arith, room.1, left after e room.0))
+  done_unstaged v after staging.Closed e left room opened h = absurd (let clash : true ≡ false = sym room ∙ opened in cc clash)
+  done_unstaged v after staging.OutOfMemory e left room opened h = h

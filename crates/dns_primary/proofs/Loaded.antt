@@ -11,7 +11,7 @@ use Rattle.dns_primary.specs.Keeps.{HaveVersions}
 use Rattle.dns_primary.specs.Fresh.{IsShown}
 use Rattle.dns_primary.proofs.Places.{at3, map_get, some_at}
 
--- what is shown at a place
+-- what is shown at a position
 pub shown_at : {I S : Type 0} (keeps : S → Kept → Type 0) (zones : List Zone) (behind : List (Behind I S)) (states : List ZoneState) (place : ℕ) (zone : Zone) (b : Behind I S) → HaveVersions keeps zones behind states
     → place < length states → zone ≡ slice_index_or zones place zone → b ≡ slice_index_or behind place b → IsShown b.number zone (slice_get states place)
 shown_at {I} {S} keeps zones behind states place zone b held lt zone_is b_is =

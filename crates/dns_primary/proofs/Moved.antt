@@ -1,4 +1,4 @@
--- A step that moves the base of a zone, behind a flush.
+-- A step that moves the base of a zone, after a flush.
 use Rattle.std.proofs.Common.{◌≡◌, ◌⊎◌, inl, inr, ⊎_elim, ◌<◌, ◌≤◌, ◌-◌, ◌^◌, ℕ, zero, suc, Bool, true, false, List, [], ◌∷◌, length, map, Option, Some, None, Result, Ok, Err, refl, sym, ap, subst, ◌∙◌, arith, append-nil}
 use Rattle.std.specs.Prelude.{nat_lt, slice_get, slice_set, slice_index_or, is_some}
 use Rattle.std.proofs.lemmas.Bool.Decides.{nat_tests}
@@ -33,7 +33,7 @@ use Rattle.dns_primary.specs.Steps.{Stepped, SteppedOn, SteppedBy, IsBegunOrLack
 use Rattle.dns_primary.proofs.Flushed.{kept_flushed}
 use Rattle.dns_primary.proofs.Served.{gives_none}
 use Rattle.dns_store.specs.Versions.{closed_between, version_at, OpensAsEither, StandsStill}
-use Rattle.dns_store.specs.Checkpoint.{IsKeptNumber, sectors_of_snapshot}
+use Rattle.dns_store.specs.Checkpoint.{IsKeptNumber}
 use Rattle.dns_held.proofs.Moved.{number_there, move_leaves}
 use Rattle.dns_held.specs.Held.{IsTip}
 use Rattle.dns_primary.specs.Machine.{Setting, versions_of}
@@ -47,7 +47,7 @@ without store moment left_since opens [] [] [] each = tt
 without store moment left_since opens (a ∷ olds) (b ∷ news) (z ∷ zones) each = (each.0, without store moment left_since opens olds news zones each.1)
 without store moment left_since opens _ _ _ each = absurd each
 
--- a zone of which nothing is staged, or that is closed, is as it would be behind a flush
+-- a zone of which nothing is staged, or that is closed, is as it would be after a flush
 settled_by : (s : Setting) (l : List Record) (shown staged : List Made) (base : ℕ) (second : Option ℕ) (openings : ℕ) (closed : Bool) → (closed ≡ true) ⊎ (staged ≡ [])
     → held.flushed false (kept_of (record { setting = s; loaded = l; shown = shown; staged = staged; base = base; second = second; openings = openings; closed = closed })) ≡ kept_of (record { setting = s; loaded = l; shown = shown; staged = staged; base = base; second = second; openings = openings; closed = closed })
 settled_by s l shown staged base second openings true settled = refl
@@ -95,7 +95,7 @@ module _ {I S : Type 0} (keeps : S → Kept → Type 0) (zone : Zone) (b : Behin
       let is_open = open_of z.closed shut in
       let base = length (kept_of z).shown - number.0 in (
         rebased false base z,
-        (is_open, (base, next_base number.0 number.1, inl refl)),
+        (is_open, (base, next_base number.0 number.1, refl)),
         moved_is base (clause number.0 (open_staged z settled is_open) number.1),
       )
 
@@ -103,29 +103,19 @@ module _ {I S : Type 0} (keeps : S → Kept → Type 0) (zone : Zone) (b : Behin
       → (z.closed ≡ true → ◌≡◌ {A = Result T CheckpointError} (Err e) (Err refused.Closed))
       → (◌≡◌ {A = Result T CheckpointError} (Err e) (Err refused.Closed) → z.closed ≡ true)
       → ((n : ℕ) → (kept_of z).staged ≡ [] → IsKeptNumber (kept_of z) keep room n → ◌≡◌ {A = Result T CheckpointError} (Err e) (Err refused.Device) → keeps store (closed_between (length (kept_of z).shown - n) (kept_of z)))
-      → ((n : ℕ) → (kept_of z).staged ≡ [] → IsKeptNumber (kept_of z) keep room n → ◌≡◌ {A = Result T CheckpointError} (Err e) (Err refused.ZoneTooLarge) → (kept_of z).shape.snapshot < sectors_of_snapshot (version_at (kept_of z) (length (kept_of z).shown - n)))
-      → ((kept_of z).staged ≡ [] → ◌≡◌ {A = Result T CheckpointError} (Err e) (Err refused.WrongChanges) → ⊥)
       → ◌≡◌ {A = Result T CheckpointError} (Err e) (Err refused.Device) ⊎ keeps store (kept_of z)
       → (new : ZoneState) × IsMovedBy {T = T} room z (Err e) new × HasVersions keeps zone (record b { store = store }) (kept_of new)
-  moved_refused refused.Device shuts shut closes large right stays =
+  moved_refused refused.Device shuts shut closes stays =
       let is_open = open_of z.closed (λ is. (let other = shuts is in absurd cc)) in
       let base = length (kept_of z).shown - number.0 in (
         rebased true base z,
-        (is_open, (base, next_base number.0 number.1, inl refl)),
+        (is_open, (base, next_base number.0 number.1, refl)),
         between_is base (closes number.0 (open_staged z settled is_open) number.1 refl),
       )
-  moved_refused refused.Closed shuts shut closes large right stays = ⊎_elim (λ failed. absurd cc) (λ kept. (z, (shut refl, refl), still_is kept)) stays
-  moved_refused refused.ZoneTooLarge shuts shut closes large right stays =
-      let is_open = open_of z.closed (λ is. (let other = shuts is in absurd cc)) in
-      let base = length (kept_of z).shown - number.0 in
-      ⊎_elim (λ failed. absurd cc)
-      (λ kept. (z, (is_open, (base, next_base number.0 number.1, inr (refl, refl, large number.0 (open_staged z settled is_open) number.1 refl))), still_is kept)) stays
-  moved_refused refused.WrongChanges shuts shut closes large right stays =
-      let is_open = open_of z.closed (λ is. (let other = shuts is in absurd cc)) in
-      absurd (right (open_staged z settled is_open) refl)
-  moved_refused refused.OutOfMemory shuts shut closes large right stays = ⊎_elim (λ failed. absurd cc) (λ kept. (z, refl, still_is kept)) stays
+  moved_refused refused.Closed shuts shut closes stays = ⊎_elim (λ failed. absurd cc) (λ kept. (z, (shut refl, refl), still_is kept)) stays
+  moved_refused refused.OutOfMemory shuts shut closes stays = ⊎_elim (λ failed. absurd cc) (λ kept. (z, refl, still_is kept)) stays
 
--- a zone behind a flush
+-- a zone after a flush
 zone_by : (f : Bool) (s : Setting) (l : List Record) (shown staged : List Made) (base : ℕ) (second : Option ℕ) (openings : ℕ) (closed : Bool)
     → IsSettled (flushed_zone f (record { setting = s; loaded = l; shown = shown; staged = staged; base = base; second = second; openings = openings; closed = closed }))
 zone_by f s l shown staged base second openings true = inl refl
@@ -228,7 +218,7 @@ not_there {s = s} m place p effects none rest kept effects_are = record {
   kept = kept;
 }
 
--- the move behind the flush, at any moment
+-- the move after the flush, at any moment
 module _ {S : Type 0} (moment : S → ℕ) (left_since : S → ℕ → Content → Type 0) (opens : Shape → Opened → Content → Type 0) (room : ℕ) (z : ZoneState) (f : Bool) (old mid new : S) where
   pub move_at : LeavesOnly moment left_since old mid (OpensAsLeft opens (kept_of z))
       → ((k : Kept) (n : ℕ) → k ≡ kept_of (flushed_zone f z) → k.staged ≡ [] → IsKeptNumber k z.setting.keep room n → LeavesOnly moment left_since mid new (OpensAsEither opens k (length k.shown - n)))
@@ -257,16 +247,12 @@ abbrev pub moved_by : {T : Type 0} → Result T CheckpointError → Bool
 moved_by (Ok v) = false
 moved_by (Err refused.Device) = true
 moved_by (Err refused.Closed) = false
-moved_by (Err refused.ZoneTooLarge) = false
-moved_by (Err refused.WrongChanges) = false
 moved_by (Err refused.OutOfMemory) = false
 
 pub device_of : {T : Type 0} (r : Result T CheckpointError) → moved_by r ≡ true → r ≡ Err refused.Device
 device_of (Ok v) e = absurd (cc e)
 device_of (Err refused.Device) e = refl
 device_of (Err refused.Closed) e = absurd (cc e)
-device_of (Err refused.ZoneTooLarge) e = absurd (cc e)
-device_of (Err refused.WrongChanges) e = absurd (cc e)
 device_of (Err refused.OutOfMemory) e = absurd (cc e)
 
 noted_first : (o : Option ℕ) (place : ℕ) → noted_of (first_to_fail o true place) ≡ noted_then (noted_of o) place
@@ -282,14 +268,12 @@ rebased_setting true base z = refl
 rebased_setting false base z = refl
 
 moved_setting : (fails : Bool) (room : ℕ) (z new : ZoneState) → IsMoved fails room z new → new.setting ≡ z.setting
-moved_setting fails room z new h = ⊎_elim (λ e. ap (λ (x : ZoneState). x.setting) e ∙ rebased_setting fails h.0 z) (λ e. ap (λ (x : ZoneState). x.setting) e.1) h.2
+moved_setting fails room z new h = ap (λ (x : ZoneState). x.setting) h.2 ∙ rebased_setting fails h.0 z
 
 pub setting_of : {T : Type 0} (room : ℕ) (z new : ZoneState) (r : Result T CheckpointError) → IsMovedBy room z r new → new.setting ≡ z.setting
 setting_of room z new (Ok v) h = moved_setting false room z new h.1
 setting_of room z new (Err refused.Device) h = moved_setting true room z new h.1
 setting_of room z new (Err refused.Closed) h = ap (λ (x : ZoneState). x.setting) h.1
-setting_of room z new (Err refused.ZoneTooLarge) h = moved_setting false room z new h.1
-setting_of room z new (Err refused.WrongChanges) h = absurd h
 setting_of room z new (Err refused.OutOfMemory) h = ap (λ (x : ZoneState). x.setting) h
 
 -- the step, by what the move gave
@@ -322,8 +306,6 @@ module _ (m : Machine) (place : ℕ) (fails : List Bool) (z zf new : ZoneState) 
   stepped room (Ok v) h = checkpointed room false (noted_of (first_true fails)) (inr h) (sym (noted_same (first_true fails) place))
   stepped room (Err refused.Device) h = checkpointed room true (noted_then (noted_of (first_true fails)) place) (inr h) (sym (noted_first (first_true fails) place))
   stepped room (Err refused.Closed) h = checkpointed room false (noted_of (first_true fails)) (inl (h.0, refl, h.1)) (sym (noted_same (first_true fails) place))
-  stepped room (Err refused.ZoneTooLarge) h = checkpointed room false (noted_of (first_true fails)) (inr h) (sym (noted_same (first_true fails) place))
-  stepped room (Err refused.WrongChanges) h = absurd h
   stepped room (Err refused.OutOfMemory) h = without_memory room h
 
 -- a checkpoint that is asked for

@@ -1,4 +1,4 @@
--- One place of lists that go together is changed, or one element more stands at their ends.
+-- One position of lists that go together is changed, or one element more is at their ends.
 use Rattle.std.proofs.Common.{◌≡◌, ◌<◌, ℕ, zero, suc, List, [], ◌∷◌, ◌++◌, length, arith, map, refl, ap, subst}
 use Rattle.std.specs.Prelude.{Some, slice_get, slice_set, slice_index_or}
 use Rattle.dns_held.specs.Each.{Each2, Each3}

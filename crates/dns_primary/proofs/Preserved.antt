@@ -40,12 +40,9 @@ accepted_preserves : (m : Machine) (a : Asked) (place : ℕ) (z : ZoneState) (re
     → verdict (newest_zone (kept_of z)) a.message.answers a.message.authorities ≡ Leaves records
     → Carries m (accepted_in m a place z records)
 accepted_preserves m a place z records s e j =
-    tested (Carries m) (not (has_room (kept_of z) records)) (waits m a place rcode_servfail (updates_of z), [])
-    (if nat_le (entry_between (newest_of (kept_of z)) records) (sectors_left (kept_of z)) then (stages m a place z records, []) else (m, replies a rcode_servfail ∷ []))
+    tested (Carries m) (has_room (kept_of z) records) (stages m a place z records, []) (waits m a place rcode_servfail (updates_of z), [])
+    (λ has_it. stage_preserves m a place z records s e j has_it)
     (λ _. wait_preserves m a place rcode_servfail z s e)
-    (λ has_it. tested (Carries m) (nat_le (entry_between (newest_of (kept_of z)) records) (sectors_left (kept_of z))) (stages m a place z records, []) (m, replies a rcode_servfail ∷ [])
-    (λ _. stage_preserves m a place z records s e j (has (has_room (kept_of z) records) has_it))
-    (λ _. with_reply m m [] a.to (text (bare_reply a.message.header rcode_servfail)) (stays m s)))
 
 judged_preserves : (m : Machine) (a : Asked) (place : ℕ) (z : ZoneState) (v : Verdict) → IsSound m → slice_get m.zones place ≡ Some z
     → verdict (newest_zone (kept_of z)) a.message.answers a.message.authorities ≡ v → Carries m (judged_in m a place z v)
@@ -53,7 +50,7 @@ judged_preserves m a place z (Refuses rcode) s e j = wait_preserves m a place (n
 judged_preserves m a place z Keeps s e j = wait_preserves m a place 0 z s e
 judged_preserves m a place z (Leaves records) s e j = accepted_preserves m a place z records s e j
 
--- a zone that is admitted stands there
+-- a zone that is admitted is there
 abbrev pub StandsIn : List ZoneState → Admission → Type 0
 StandsIn zones (Rejects rcode) = Unit {0}
 StandsIn zones (Admits place z) = slice_get zones place ≡ Some z
@@ -113,7 +110,7 @@ same_zone z w e = subst (λ (x : ZoneState). IsSameBut z x) (sym e) (record { se
 
 pub same_moved : (fails : Bool) (room : ℕ) (z w : ZoneState) → IsMovedUnlessClosed fails room z w → IsSameBut z w
 same_moved fails room z w (inl h) = same_zone z w h.2
-same_moved fails room z w (inr h) = ⊎_elim (λ e. subst (λ (x : ZoneState). IsSameBut z x) (sym e) (same_rebased fails (h.1).0 z)) (λ e. same_zone z w e.1) (h.1).2
+same_moved fails room z w (inr h) = subst (λ (x : ZoneState). IsSameBut z x) (sym (h.1).2) (same_rebased fails (h.1).0 z)
 
 same_lasts : (z w : ZoneState) → IsSameBut z w → Lasts z w
 same_lasts z w s = record { setting = s.setting; loaded = s.loaded; more = []; shown = s.shown ∙ sym (append-nil z.shown) }
@@ -152,7 +149,7 @@ update_goes fails old a effects new s u =
     reaches old new ended.0 effects.sent ((u.first).sent ++ ended.1) u.state u.sent
     (and_then old u.mid ended.0 (u.first).sent ended.1 p (admitted_preserves u.mid a (admission (u.mid).zones a) p.sound (admission_stands (u.mid).zones a)))
 
--- a connection that closes: the replies that wait keep their places
+-- a connection that closes: the replies that wait keep their positions
 redirected : (number : ℕ) (zones : List ZoneState) (ws : List Waits) → AllByRecursion (IsPlaced zones) ws
     → AllByRecursion (IsPlaced zones) (map (λ (w : Waits). record w { to = without_connection number w.to }) ws)
 redirected number zones [] h = tt

@@ -11,7 +11,6 @@ use Rattle.dns_zone.specs.Zone.{Zone}
 use Rattle.dns_update.specs.Verdict.{Verdict, Refuses, Keeps, Leaves}
 use Rattle.dns_policy.specs.Prefix.{IsAllowed}
 use Rattle.dns_store.specs.Versions.{Kept, newest_of, staged_with}
-use Rattle.dns_store.specs.Room.{entry_between, sectors_left}
 use Rattle.dns_held.specs.declared.behind.Behind.{Behind}
 use Rattle.dns_held.specs.Each.{Each3}
 use Rattle.dns_held.specs.Held.{HasVersions}
@@ -31,7 +30,7 @@ use Rattle.dns_primary.proofs.Places.{set_same, map_set, map_get, at3, mid_set, 
 pub kept_staged : (made : Made) (z : ZoneState) → kept_of (with_staged made z) ≡ staged_with made.records (kept_of z)
 kept_staged made z = λ i. record { shape = z.setting.shape; loaded = z.loaded; shown = versions_of z.shown; staged = map-append (λ (x : Made). x.records) z.staged (made ∷ []) i; base = z.base; second = z.second; openings = z.openings; closed = z.closed }
 
--- the reply waits, and the zone at the place has these versions
+-- the reply waits, and the zone at the position has these versions
 pub record Waited (m : Machine) (a : Asked) (place : ℕ) (z : ZoneState) (rcode : Rcode) (versions : Kept) (ended : Machine × List Sent) : Type 0 where
   pub zone : ZoneState
   pub updates : List Made
@@ -63,27 +62,24 @@ module _ (m : Machine) (a : Asked) (place : ℕ) (z : ZoneState) (there : slice_
     setting_is = refl;
   }
 
-  abbrev end_by : Bool → Bool → List Record → Ends
-  end_by b c after =
-      if not b then record { outcome = outcome.Waits ServFail; versions = kept_of z }
-      else if c then record { outcome = outcome.Waits NoError; versions = staged_with after (kept_of z) }
-      else record { outcome = outcome.AtOnce ServFail; versions = kept_of z }
+  abbrev end_by : Bool → List Record → Ends
+  end_by b after =
+      if b then record { outcome = outcome.Waits NoError; versions = staged_with after (kept_of z) }
+      else record { outcome = outcome.Waits ServFail; versions = kept_of z }
 
-  abbrev ended_by : Bool → Bool → List Record → Machine × List Sent
-  ended_by b c after =
-      if not b then (waits m a place rcode_servfail (updates_of z), [])
-      else if c then (stages m a place z after, [])
-      else (m, replies a rcode_servfail ∷ [])
+  abbrev ended_by : Bool → List Record → Machine × List Sent
+  ended_by b after =
+      if b then (stages m a place z after, [])
+      else (waits m a place rcode_servfail (updates_of z), [])
 
-  accepted : (b c : Bool) (after : List Record) → EndsAs m a place z (end_by b c after).outcome (end_by b c after).versions (ended_by b c after)
-  accepted true true after = staged after
-  accepted true false after = (refl, refl)
-  accepted false c after = unchanged ServFail
+  accepted : (b : Bool) (after : List Record) → EndsAs m a place z (end_by b after).outcome (end_by b after).versions (ended_by b after)
+  accepted true after = staged after
+  accepted false after = unchanged ServFail
 
   pub ends_as : (v : Verdict) → EndsAs m a place z (end_of (kept_of z) v).outcome (end_of (kept_of z) v).versions (judged_in m a place z v)
   ends_as (Refuses rcode) = unchanged rcode
   ends_as Keeps = unchanged NoError
-  ends_as (Leaves after) = accepted (has_room (kept_of z) after) (nat_le (entry_between (newest_of (kept_of z)) after) (sectors_left (kept_of z))) after
+  ends_as (Leaves after) = accepted (has_room (kept_of z) after) after
 
   pub ends_waiting : (v : Verdict) (rcode : Rcode) → outcome.Waits rcode ≡ (end_of (kept_of z) v).outcome → Waited m a place z rcode (end_of (kept_of z) v).versions (judged_in m a place z v)
   ends_waiting v rcode e = subst (λ (o : Outcome). EndsAs m a place z o (end_of (kept_of z) v).versions (judged_in m a place z v)) (sym e) (ends_as v)
@@ -97,7 +93,7 @@ module _ {I S : Type 0} (keeps : S → Kept → Type 0) (zones : List Zone) (beh
       → HasVersions keeps (slice_index_or zones place d) (slice_index_or behind place e) (kept_of z)
   was_held d e held there = at3 (λ (z : Zone) (b : Behind I S) (k : Kept). HasVersions keeps z b k) zones behind (map kept_of m.zones) place d e (kept_of z) held.zones_are (map_get kept_of m.zones place z there)
 
-  -- the machine stays, and what stands behind the zone keeps the same versions
+  -- the machine stays, and what is after the zone keeps the same versions
   pub still_holds : (d : Zone) (new : Behind I S) → HoldsZones keeps zones behind settings waiting m.connections m → slice_get m.zones place ≡ Some z
       → HasVersions keeps (slice_index_or zones place d) new (kept_of z) → HoldsZones keeps zones (slice_set behind place new) settings waiting m.connections m
   still_holds d new held there one = record {

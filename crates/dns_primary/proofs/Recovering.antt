@@ -79,4 +79,4 @@ moved_recovered z making base c made =
 
 pub checkpoint_recovered : (m : Machine) (event : Event) (place room : ℕ) (z : ZoneState) (c : Content) → Checkpoints m event place room → OpensAsCheckpointed opens z.setting.keep room (kept_of z) c → OpensAsRecovered opens 0 (IsMaking m event place z) z c
 checkpoint_recovered m event place room z c makes (inl left) = left_recovered (IsMaking m event place z) z c left
-checkpoint_recovered m event place room z c makes (inr (base, next, left)) = moved_recovered z (IsMaking m event place z) base c (room, makes, next) left
+checkpoint_recovered m event place room z c makes (inr (opened, (base, next, left))) = moved_recovered z (IsMaking m event place z) base c (opened, (room, makes, next)) left

@@ -113,12 +113,9 @@ replied_so m a rcode = record { alike = λ n. refl; sent = λ old. (tt, tt) }
 
 accepted_so : (m : Machine) (a : Asked) (place : ℕ) (z : ZoneState) (records : List Record) → slice_get m.zones place ≡ Some z → IsAnsweredIn m (accepted_in m a place z records)
 accepted_so m a place z records e =
-    tested (IsAnsweredIn m) (not (has_room (kept_of z) records)) (waits m a place rcode_servfail (updates_of z), [])
-    (if nat_le (entry_between (newest_of (kept_of z)) records) (sectors_left (kept_of z)) then (stages m a place z records, []) else (m, replies a rcode_servfail ∷ []))
-    (λ _. waits_so m a place rcode_servfail (updates_of z))
-    (λ _. tested (IsAnsweredIn m) (nat_le (entry_between (newest_of (kept_of z)) records) (sectors_left (kept_of z))) (stages m a place z records, []) (m, replies a rcode_servfail ∷ [])
+    tested (IsAnsweredIn m) (has_room (kept_of z) records) (stages m a place z records, []) (waits m a place rcode_servfail (updates_of z), [])
     (λ _. record { alike = set_alike m.zones place (record { update = a.message; records = records }) z e; sent = λ old. tt })
-    (λ _. replied_so m a rcode_servfail))
+    (λ _. waits_so m a place rcode_servfail (updates_of z))
 
 judged_so : (m : Machine) (a : Asked) (place : ℕ) (z : ZoneState) (v : Verdict) → slice_get m.zones place ≡ Some z → IsAnsweredIn m (judged_in m a place z v)
 judged_so m a place z (Refuses rcode) e = waits_so m a place (number_of_rcode rcode) (updates_of z)

@@ -1,4 +1,4 @@
--- In a run no base stays for want of room, and a checkpoint leaves the room that it is made for.
+-- A checkpoint leaves the room that it is made for, so that what was judged before it can be staged.
 use Rattle.std.proofs.Common.{◌≡◌, ◌⊎◌, ◌<◌, ◌≤◌, ◌+◌, ◌-◌, ◌^◌, ℕ, zero, suc, Bool, true, false, inl, inr, ⊎_elim, List, [], ◌∷◌, ◌++◌, length, take, drop, sum_by, Option, Some, None, refl, sym, ap, subst, ◌∙◌, arith, append_assoc, append-nil}
 use Rattle.std.specs.Prelude.{slice_get, slice_set, not, ◌&&◌, ◌||◌, nat_le, nat_lt, option_map, if◌then◌else◌}
 use Rattle.std.specs.List.{AllByRecursion}
@@ -6,15 +6,15 @@ use Rattle.std.proofs.lemmas.List.{length-append}
 use Rattle.std.proofs.lemmas.Bool.{cases_Bool}
 use Rattle.std.proofs.lemmas.Bool.Decides.{nat_tests}
 use Rattle.dns_records.specs.Record.{Record}
-use Rattle.dns_layout.specs.Sector.{snapshot_sectors}
 use Rattle.dns_wire.proofs.Binds.{true_le, true_lt}
 use Rattle.dns_zone.specs.Zone.{Zone}
 use Rattle.dns_zone.specs.Order.{both_true}
 use Rattle.dns_update.specs.Verdict.{Verdict, Leaves, verdict}
+use Rattle.dns_layout.specs.Sector.{snapshot_sectors}
 use Rattle.dns_store.specs.Versions.{Shape, Opened, Kept, newest_after, newest_of, version_at, moved_to}
 use Rattle.dns_store.specs.Plain.{octets_of}
 use Rattle.dns_store.specs.Room.{entry_between, entries_along, sectors_left}
-use Rattle.dns_store.specs.Checkpoint.{IsKeptNumber, sectors_of_snapshot}
+use Rattle.dns_store.specs.Checkpoint.{IsKeptNumber}
 use Rattle.dns_store.proofs.Sizes.{room_left}
 use Rattle.dns_held.specs.Each.{Each2, Each3}
 use Rattle.dns_held.specs.Checkpoint.{IsNextBaseNumber}
@@ -24,77 +24,17 @@ use Rattle.dns_primary.specs.declared.primary.ZoneSettings.{ZoneSettings}
 use Rattle.dns_primary.specs.Machine.{Setting, Made, ZoneState, Machine, kept_of, updates_of, versions_of}
 use Rattle.dns_primary.specs.Flush.{Sent, is_none_made, flushed, flushed_zone, flushed_zones, flush_sends, rcode_servfail}
 use Rattle.dns_primary.specs.Update.{Asked, Admission, Rejects, Admits, admission, is_full, made_place, lacked_at, lacked_by, room_lacked}
+use Rattle.dns_primary.specs.declared.update.Judgement.{Judgement}
+use Rattle.dns_primary.specs.Outcome.{HasLeft, IsVerdictOf}
+use Rattle.dns_primary.specs.Queue.{HoldsStill, IsUpdateJudged}
 use Rattle.dns_primary.specs.Checkpoint.{rebased, IsMovedUnlessClosed, IsCheckpoint, IsSettled}
 use Rattle.dns_primary.specs.Step.{Effects, IsUpdateBegun}
-use Rattle.dns_primary.specs.Causes.{LacksRoom}
-use Rattle.dns_primary.specs.Rooms.{IsRebased, HasNoRoom}
-use Rattle.dns_primary.specs.Fresh.{IsFresh, IsResumed, IsStart, FitLoaded}
-use Rattle.dns_primary.specs.Runs.{Moment, Run, last_of, Lasts, AllLast, IsHistory, HasHistory}
 use Rattle.dns_primary.proofs.Zonewise.{tested, all_found, pair_over, pair_same, pair_on, pair_set, pair_found, same_history, versions_joined, zone_flushed}
 use Rattle.dns_primary.proofs.Preserved.{StandsIn, admission_stands}
 use Rattle.dns_primary.proofs.Moved.{settled_flushed, open_staged, zone_settled}
-use Rattle.dns_primary.proofs.Stopping.{history_front, start_keeps}
 use Rattle.dns_primary.proofs.Follows.{Follows, StandsStill, Goes, begun_follows, admission_goes}
 
--- ---- each version fits in a snapshot
-abbrev FitsOne : ZoneState → Type 0
-FitsOne z = snapshot_sectors (octets_of z.loaded) ≤ z.setting.shape.snapshot
-
-history_fits : (s : Setting) (number : ℕ) (before : List Record) (us : List Made) (n : ℕ) → IsHistory s number before us → snapshot_sectors (octets_of before) ≤ s.shape.snapshot
-    → snapshot_sectors (octets_of (newest_after before (take n (versions_of us)))) ≤ s.shape.snapshot
-history_fits s number before [] zero h fits = fits
-history_fits s number before [] (suc n) h fits = fits
-history_fits s number before (u ∷ us) zero h fits = fits
-history_fits s number before (u ∷ us) (suc n) h fits = history_fits s (suc number) u.records us n h.1 (h.0).snapshot
-
-version_fits : (z : ZoneState) (n : ℕ) → HasHistory z → FitsOne z → sectors_of_snapshot (version_at (kept_of z) n) ≤ z.setting.shape.snapshot
-version_fits z n h fits = history_fits z.setting 0 z.loaded z.shown n (history_front z.setting 0 z.loaded z.shown z.staged h) fits
-
-moves : (fails : Bool) (room : ℕ) (z new : ZoneState) → HasHistory z → FitsOne z → IsMovedUnlessClosed fails room z new → IsRebased fails room z new
-moves fails room z new h fits (inl shut) = inl shut
-moves fails room z new h fits (inr (opened, (base, next, inl is))) = inr (opened, (base, next, is))
-moves fails room z new h fits (inr (opened, (base, next, inr stays))) = (let within = version_fits z base h fits in let over = stays.2 in absurd (omega (arith, within, over)))
-
--- what a flush keeps of that
-flushed_loaded : (f : Bool) (z : ZoneState) → FitsOne z → FitsOne (flushed_zone f z)
-flushed_loaded f z fits =
-    let same = (zone_flushed f z).same in
-    subst (λ (s : Setting). snapshot_sectors (octets_of (flushed_zone f z).loaded) ≤ s.shape.snapshot) (sym same.setting)
-    (subst (λ (rs : List Record). snapshot_sectors (octets_of rs) ≤ z.setting.shape.snapshot) (sym same.loaded) fits)
-
-all_flushed : (fails : List Bool) (zones : List ZoneState) → AllByRecursion HasHistory zones → AllByRecursion FitsOne zones → AllByRecursion HasHistory (flushed_zones fails zones) × AllByRecursion FitsOne (flushed_zones fails zones)
-all_flushed [] zones h fits = (h, fits)
-all_flushed (f ∷ fails) [] h fits = (tt, tt)
-all_flushed (f ∷ fails) (z ∷ zones) h fits =
-    let rest = all_flushed fails zones h.1 fits.1 in
-    ((same_history z (flushed_zone f z) (zone_flushed f z).same h.0, rest.0), (flushed_loaded f z fits.0, rest.1))
-
-record IsRoomy (m : Machine) : Type 0 where
-  history : AllByRecursion HasHistory m.zones
-  fit : AllByRecursion FitsOne m.zones
-
-checkpoint_moves : (m : Machine) (place room : ℕ) (fails : List Bool) (moving : Bool) (new : Machine) → IsRoomy m → (made : IsCheckpoint place room m fails moving new) → IsRebased moving room made.zone made.next
-checkpoint_moves m place room fails moving new r made =
-    let both = all_flushed fails m.zones r.history r.fit in
-    let zones = flushed_zones fails m.zones in
-    moves moving room made.zone made.next (all_found HasHistory zones place made.zone both.0 made.stands) (all_found FitsOne zones place made.zone both.1 made.stands) made.moved
-
--- ---- in a run
-lasts_loaded : (z w : ZoneState) → Lasts z w → FitsOne z → FitsOne w
-lasts_loaded z w l fits =
-    subst (λ (s : Setting). snapshot_sectors (octets_of w.loaded) ≤ s.shape.snapshot) (sym l.setting)
-    (subst (λ (rs : List Record). snapshot_sectors (octets_of rs) ≤ z.setting.shape.snapshot) (sym l.loaded) fits)
-
-run_roomy : (start : Machine) (run : List Moment) → IsStart start → FitLoaded start → Run start run → IsRoomy (last_of start run)
-run_roomy start run begins fits r =
-    let kept = start_keeps start run begins r in
-    record { history = kept.1; fit = pair_over Lasts FitsOne lasts_loaded start.zones (last_of start run).zones kept.0 fits }
-
-pub run_moves : (start : Machine) (run : List Moment) (place room : ℕ) (fails : List Bool) (moving : Bool) (new : Machine)
-    → IsStart start → FitLoaded start → Run start run → (made : IsCheckpoint place room (last_of start run) fails moving new) → IsRebased moving room made.zone made.next
-run_moves start run place room fails moving new begins fits r made = checkpoint_moves (last_of start run) place room fails moving new (run_roomy start run begins fits r) made
-
--- ---- what is left behind a flush is what was left
+-- ---- what is left after a flush is what was left
 abbrev number_of : ZoneState → ℕ
 number_of z = length (versions_of z.shown) + length (versions_of z.staged)
 
@@ -130,7 +70,7 @@ flushed_alike f z =
       left = ap (λ (vs : List (List Record)). sectors_by_versions z vs) (versions_whole z.shown z.staged);
     }))
 
--- the zone at a place behind a flush
+-- the zone at a position after a flush
 record FlushedAt (zones : List ZoneState) (place : ℕ) (w : ZoneState) : Type 0 where
   fails : Bool
   zone : ZoneState
@@ -163,8 +103,7 @@ rebased_counted false base z = refl
 
 moved_counted : (fails : Bool) (room : ℕ) (z new : ZoneState) → IsMovedUnlessClosed fails room z new → Counted z new
 moved_counted fails room z new (inl same) = ap number_of same.2
-moved_counted fails room z new (inr (opened, (base, next, inl is))) = ap number_of is ∙ rebased_counted fails base z
-moved_counted fails room z new (inr (opened, (base, next, inr stays))) = ap number_of stays.1
+moved_counted fails room z new (inr (opened, (base, next, is))) = ap number_of is ∙ rebased_counted fails base z
 
 all_counted : (fails : List Bool) (zones : List ZoneState) → Each2 Counted zones (flushed_zones fails zones)
 all_counted [] zones = pair_same Counted (λ z. refl) zones
@@ -221,7 +160,7 @@ clash : {X : Type 0} (b : Bool) → b ≡ true → b ≡ false → X
 clash true e f = absurd (cc f)
 clash false e f = absurd (cc e)
 
-moved_room : (moving : Bool) (room : ℕ) (z new : ZoneState) → IsSettled z → room ≤ z.setting.shape.journal → new.closed ≡ false → IsRebased moving room z new → room ≤ sectors_left (kept_of new)
+moved_room : (moving : Bool) (room : ℕ) (z new : ZoneState) → IsSettled z → room ≤ z.setting.shape.journal → new.closed ≡ false → IsMovedUnlessClosed moving room z new → room ≤ sectors_left (kept_of new)
 moved_room moving room z new rest le opened (inl shut) = clash new.closed (ap (λ (x : ZoneState). x.closed) shut.2 ∙ shut.0) opened
 moved_room true room z new rest le opened (inr (before, (base, next, is))) = clash new.closed (ap (λ (x : ZoneState). x.closed) is) opened
 moved_room false room z new rest le opened (inr (before, (base, next, is))) =
@@ -239,9 +178,9 @@ set_stands [] place z w e = absurd cc
 set_stands (a ∷ zones) zero z w e = refl
 set_stands (a ∷ zones) (suc place) z w e = set_stands zones place z w e
 
-checkpoint_room : (old : Machine) (place room : ℕ) (fails : List Bool) (moving : Bool) (mid : Machine) (z w : ZoneState) → IsRoomy old → IsCheckpoint place room old fails moving mid
+checkpoint_room : (old : Machine) (place room : ℕ) (fails : List Bool) (moving : Bool) (mid : Machine) (z w : ZoneState) → IsCheckpoint place room old fails moving mid
     → slice_get old.zones place ≡ Some z → slice_get mid.zones place ≡ Some w → room ≤ z.setting.shape.journal → w.closed ≡ false → room ≤ sectors_left (kept_of w)
-checkpoint_room old place room fails moving mid z w roomy made there here le opened =
+checkpoint_room old place room fails moving mid z w made there here le opened =
     let zones = flushed_zones fails old.zones in
     let next_here : slice_get mid.zones place ≡ Some made.next = ap (λ (m : Machine). slice_get m.zones place) made.is ∙ set_stands zones place made.zone made.next made.stands in
     let same : made.next ≡ w = same_some made.next w (sym next_here ∙ here) in
@@ -252,8 +191,7 @@ checkpoint_room old place room fails moving mid z w roomy made there here le ope
     (λ is. ap (λ (x : ZoneState). x.setting) (is ∙ sym first)) at.is in
     let le_here : room ≤ (made.zone).setting.shape.journal = subst (λ (s : Setting). room ≤ s.shape.journal) (sym setting) le in
     subst (λ (x : ZoneState). room ≤ sectors_left (kept_of x)) same
-    (moved_room moving room made.zone made.next (settled_at fails old.zones place made.zone made.all made.stands) le_here (ap (λ (x : ZoneState). x.closed) same ∙ opened)
-    (checkpoint_moves old place room fails moving mid roomy made))
+    (moved_room moving room made.zone made.next (settled_at fails old.zones place made.zone made.all made.stands) le_here (ap (λ (x : ZoneState). x.closed) same ∙ opened) made.moved)
 
 -- what is left where nothing lacks
 place_left : (old : Machine) (fails : List Bool) (mid : Machine) (place : ℕ) (z w : ZoneState) → mid ≡ (made_place fails old).0 → slice_get old.zones place ≡ Some z → slice_get mid.zones place ≡ Some w
@@ -283,76 +221,50 @@ not_within a b e = grind (arith, nat_tests, e)
 abbrev lacking : ℕ → Option ℕ → Option (ℕ × ℕ)
 lacking place lacked = option_map (λ (sectors : ℕ). (place, sectors)) lacked
 
-left_behind : (fails : List Bool) (old : Machine) (first : Effects) (mid : Machine) (place : ℕ) (z w : ZoneState) (records : List Record) → IsRoomy old
+left_behind : (fails : List Bool) (old : Machine) (first : Effects) (mid : Machine) (place : ℕ) (z w : ZoneState) (records : List Record)
     → IsUpdateBegun fails old (lacking place (sectors_lacked (kept_of z) records)) first mid
     → slice_get old.zones place ≡ Some z → slice_get mid.zones place ≡ Some w → w.closed ≡ false → has_room (kept_of z) records ≡ true
     → entry_between (newest_of (kept_of z)) records ≤ sectors_left (kept_of w)
-left_behind fails old first mid place z w records roomy begun there here opened room =
+left_behind fails old first mid place z w records begun there here opened room =
     let k = kept_of z in
     let entry = entry_between (newest_of k) records in
     let less = nat_lt (sectors_left k) entry in
     ⊎_elim
     (λ is. (let b : IsUpdateBegun fails old (Some (place, entry)) first mid = subst (λ (o : Option ℕ). IsUpdateBegun fails old (lacking place o) first mid) (lacks_then (has_room k records) less entry room is) begun in
-    checkpoint_room old place entry b.0 b.1 mid z w roomy b.3 there here (entry_within k records room) opened))
+    checkpoint_room old place entry b.0 b.1 mid z w b.3 there here (entry_within k records room) opened))
     (λ is. (let b : IsUpdateBegun fails old None first mid = subst (λ (o : Option ℕ). IsUpdateBegun fails old (lacking place o) first mid) (lacks_not (has_room k records) less entry is) begun in
     let same = place_left old fails mid place z w (b.1).state there here in
     let le : entry ≤ sectors_left k = not_less (sectors_left k) entry is in
     omega (arith, le, same)))
     (cases_Bool less)
 
-same_zone : (p q : ℕ) (z w : ZoneState) → Admits p z ≡ Admits q w → z ≡ w
-same_zone p q z w e = cc
-
-no_rejection : (code place : ℕ) (z : ZoneState) → Rejects code ≡ Admits place z → ⊥
-no_rejection code place z e = cc
-
-second_false : (b c : Bool) → b ≡ true → (b && c) ≡ false → c ≡ false
-second_false true c e f = f
-second_false false c e f = absurd (cc e)
-
-refuted : (b : Bool) → (b ≡ true → ⊥) → b ≡ false
-refuted true denied = absurd (denied refl)
-refuted false denied = refl
-
-module _ (fails : List Bool) (old : Machine) (a : Asked) (first : Effects) (mid : Machine) (roomy : IsRoomy old) (begun : IsUpdateBegun fails old (room_lacked old a) first mid) (l : LacksRoom mid a) where
+module _ (fails : List Bool) (old : Machine) (a : Asked) (first : Effects) (mid : Machine) (begun : IsUpdateBegun fails old (room_lacked old a) first mid) where
   abbrev judged : ZoneState → Verdict
   judged z = verdict (newest_zone (kept_of z)) a.message.answers a.message.authorities
 
-  still : (place : ℕ) (z : ZoneState) → admission old.zones a ≡ Admits place z → StandsStill mid.zones place z (admission mid.zones a) → has_room (kept_of l.zone) l.records ≡ true → ⊥
-  still place z admits s room =
-      let is_open : (s.zone).closed ≡ false = refuted (s.zone).closed (λ shut. no_rejection rcode_servfail l.place l.zone (sym (s.shut shut) ∙ l.admits)) in
-      let zone : s.zone ≡ l.zone = same_zone place l.place s.zone l.zone (sym (s.admits is_open) ∙ l.admits) in
-      let here : slice_get mid.zones place ≡ Some l.zone = s.stands ∙ ap (λ (x : ZoneState). Some x) zone in
-      let follows : Follows z l.zone = subst (Follows z) zone s.follows in
+  -- What came first left room for the entry.
+  has_left : (place : ℕ) (z : ZoneState) → admission old.zones a ≡ Admits place z → (s : StandsStill mid.zones place z (admission mid.zones a)) → (s.zone).closed ≡ false → HasLeft (kept_of s.zone) (judged s.zone)
+  has_left place z admits s is_open records leaves room =
       let there : slice_get old.zones place ≡ Some z = subst (StandsIn old.zones) admits (admission_stands old.zones a) in
       let found = pair_found Counted old.zones mid.zones place z (begun_counted fails old (room_lacked old a) first mid begun) there in
-      let counted : Counted z l.zone = subst (Counted z) (same_some found.zone l.zone (sym found.stands ∙ here)) found.holds in
-      let room_before : has_room (kept_of z) l.records ≡ true = sym (room_same z l.zone l.records follows counted) ∙ room in
-      let verdict_before : judged z ≡ Leaves l.records = ap (λ (x : Zone). verdict x a.message.answers a.message.authorities) (sym follows.newest) ∙ l.leaves in
-      let lacked : room_lacked old a ≡ lacking place (sectors_lacked (kept_of z) l.records) =
+      let counted : Counted z s.zone = subst (Counted z) (same_some found.zone s.zone (sym found.stands ∙ s.stands)) found.holds in
+      let room_before : has_room (kept_of z) records ≡ true = sym (room_same z s.zone records s.follows counted) ∙ room in
+      let verdict_before : judged z ≡ Leaves records = ap (λ (x : Zone). verdict x a.message.answers a.message.authorities) (sym s.follows.newest) ∙ leaves in
+      let lacked : room_lacked old a ≡ lacking place (sectors_lacked (kept_of z) records) =
       ap (lacked_at a) admits ∙ ap (λ (v : Verdict). lacking place (lacked_by (kept_of z) v)) verdict_before in
-      let left = left_behind fails old first mid place z l.zone l.records roomy (subst (λ (o : Option (ℕ × ℕ)). IsUpdateBegun fails old o first mid) lacked begun) there here
-      (ap (λ (x : ZoneState). x.closed) (sym zone) ∙ is_open) room_before in
-      let entry = entry_same z l.zone l.records follows in
-      let over : nat_le (entry_between (newest_of (kept_of l.zone)) l.records) (sectors_left (kept_of l.zone)) ≡ false = second_false (has_room (kept_of l.zone) l.records) _ room l.room in
-      let more = not_within _ _ over in
-      omega (arith, more, left, entry)
+      let left = left_behind fails old first mid place z s.zone records (subst (λ (o : Option (ℕ × ℕ)). IsUpdateBegun fails old o first mid) lacked begun) there s.stands is_open room_before in
+      let entry = entry_same z s.zone records s.follows in
+      omega (arith, left, entry)
 
-  admitted : (d : Admission) → admission old.zones a ≡ d → Goes mid.zones d (admission mid.zones a) → has_room (kept_of l.zone) l.records ≡ true → ⊥
-  admitted (Rejects code) e g room = no_rejection code l.place l.zone (sym g ∙ l.admits)
-  admitted (Admits place z) e g room = still place z e g room
-
-  none_by_rules : HasNoRoom mid a
-  none_by_rules = record {
-    place = l.place;
-    zone = l.zone;
-    records = l.records;
-    admits = l.admits;
-    leaves = l.leaves;
-    room = refuted (has_room (kept_of l.zone) l.records) (admitted (admission old.zones a) refl (admission_goes old.zones mid.zones a (begun_follows fails old (room_lacked old a) first mid begun)));
-  }
-
-pub run_leaves : (start : Machine) (run : List Moment) (fails : List Bool) (a : Asked) (first : Effects) (mid : Machine)
-    → IsStart start → FitLoaded start → Run start run
-    → IsUpdateBegun fails (last_of start run) (room_lacked (last_of start run) a) first mid → LacksRoom mid a → HasNoRoom mid a
-run_leaves start run fails a first mid begins fits r begun l = none_by_rules fails (last_of start run) a first mid (run_roomy start run begins fits r) begun l
+  -- What was judged before it still holds.
+  pub still_judged : {X : Type 0} (records : X → List Record) (place : ℕ) (j : Judgement X) → IsUpdateJudged records old a place j → HoldsStill records mid a place j
+  still_judged records place j is =
+      let g : StandsStill mid.zones place is.zone (admission mid.zones a) = subst (λ (d : Admission). Goes mid.zones d (admission mid.zones a)) is.admits (admission_goes old.zones mid.zones a (begun_follows fails old (room_lacked old a) first mid begun)) in
+      record {
+        zone = g.zone;
+        stands = g.stands;
+        shut = g.shut;
+        admits = g.admits;
+        is = subst (λ (z : Zone). IsVerdictOf records (verdict z a.message.answers a.message.authorities) j) (sym (g.follows).newest) is.is;
+        left = has_left place is.zone is.admits g;
+      }

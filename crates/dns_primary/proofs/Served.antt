@@ -94,7 +94,7 @@ pub failure_is : (to : To) (octets : List ℕ) (h : Header) → is_asking octets
 failure_is to octets h asks is =
     tested (is_asking octets) (Replied to (text (bare_reply (header_of octets) rcode_servfail)) ∷ []) [] asks ∙ ap (λ (x : Header). Replied to (text (bare_reply x rcode_servfail)) ∷ []) (sym is)
 
--- a place was made for the reply of an update
+-- room was made for the reply of an update
 full_place : (old : Machine) (fails : List Bool) → is_full old ≡ true → made_place fails old ≡ (flushed fails old, flush_sends fails old)
 full_place old fails e = tested (is_full old) (flushed fails old, flush_sends fails old) (old, []) e
 
@@ -139,7 +139,7 @@ lacks_by false old mid a fails stated is h = record {
       );
 }
 
--- memory was refused behind what came first
+-- memory was refused after what came first
 pub lacks_behind : (o : Option (ℕ × ℕ)) (old mid : Machine) (a : Asked) (fails : List Bool) (stated : machine.Effects) → room_lacked old a ≡ o → IsUpdateBegun fails old o stated mid
     → LacksUpdate fails old a (record stated { sent = stated.sent ++ replies a rcode_servfail ∷ []; noted = OutOfMemory }) mid
 lacks_behind None old mid a fails stated is h = lacks_by (is_full old) old mid a fails stated refl h
@@ -162,7 +162,7 @@ lacks_begun old mid a fails stated (inr (some, l)) = record {
   stays = inr (inl (or_second (is_full old) (is_some (room_lacked old a)) some, l.failures, l.state, ap (λ (x : List Sent). x ++ replies a rcode_servfail ∷ []) l.sent));
 }
 
--- behind it the update is answered
+-- after it the update is answered
 pub record Answers (held : Machine → Type 0) (old : Machine) (a : Asked) (fails : List Bool) (effects : machine.Effects) : Type 0 where
   pub next : Machine
   pub is : IsUpdatedOrLacks old a fails effects next

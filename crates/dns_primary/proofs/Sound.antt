@@ -38,7 +38,7 @@ pub record Preserves (old new : Machine) (sent : List Sent) : Type 0 where
   pub sound : IsSound new
   pub good : AllByRecursion (IsTrueIn new.zones) sent
 
--- more updates behind those of before
+-- more updates after those of before
 pub record Grows (z w : ZoneState) : Type 0 where
   pub more : List Made
   pub updates : updates_of w ≡ updates_of z ++ more

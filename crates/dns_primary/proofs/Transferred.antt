@@ -60,7 +60,7 @@ module _ (number : ℕ) (s : Option Sending) where
       ∙ sending_other n rest ne ∙ sym (untested (c.number == n) c.transfer (sending_at n rest) other)))
       (λ e. ap (λ (x : Connection). sending_at n (x ∷ map (set_transfer number s) rest)) (set_not c e) ∙ ap (λ (o : Option Sending). if c.number == n then c.transfer else o) (sending_other n rest ne))
 
-  -- what is stored is what the machine has, behind a change to one
+  -- what is stored is what the machine has, after a change to one
   pub set_are : {I : Type 0} (olds news : List (OpenTransfer I)) (cs : List Connection) → SetsOn number s olds news → ((n : ℕ) → sending_on n olds ≡ sending_at n cs) → (peer_at number cs ≡ None → ⊥)
       → (n : ℕ) → sending_on n news ≡ sending_at n (map (set_transfer number s) cs)
   set_are olds news cs sets were there n = by_test (number == n)

@@ -77,7 +77,7 @@ all_last_same zones = pair_same Lasts lasts_same zones
 pub all_last_on : (old mid new : List ZoneState) → AllLast old mid → AllLast mid new → AllLast old new
 all_last_on old mid new p q = pair_on Lasts lasts_on old mid new p q
 
--- the same updates behind the same records
+-- the same updates after the same records
 pub record Same (z w : ZoneState) : Type 0 where
   pub setting : w.setting ≡ z.setting
   pub loaded : w.loaded ≡ z.loaded

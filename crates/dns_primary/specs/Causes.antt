@@ -1,5 +1,5 @@
 -- What a reply with SERVFAIL comes of, where no memory is refused.
-use Rattle.std.specs.Prelude.{◌≡◌, ◌⊎◌, ◌<◌, ◌&&◌, nat_le, ℕ, Bool, true, false, List, length, slice_get}
+use Rattle.std.specs.Prelude.{◌≡◌, ◌⊎◌, ◌<◌, ℕ, Bool, true, false, List, length, slice_get}
 use Rattle.std.specs.Prelude.{Option, Some, None}
 use Rattle.std.specs.List.{AllByRecursion, Contains}
 use Rattle.dns_records.specs.Record.{Record}
@@ -11,8 +11,6 @@ use Rattle.dns_request.specs.declared.request.Transport.{Transport}
 use Rattle.dns_request.specs.declared.request.Transport.TheVariants.{Udp, Tcp}
 use Rattle.dns_answer.specs.Answer.{answered, with_question}
 use Rattle.dns_update.specs.Verdict.{Leaves, verdict}
-use Rattle.dns_store.specs.Versions.{newest_of}
-use Rattle.dns_store.specs.Room.{entry_between, sectors_left}
 use Rattle.dns_held.specs.Held.{newest_zone}
 use Rattle.dns_held.specs.Staging.{has_room}
 use Rattle.dns_primary.specs.declared.event.Peer.{Peer}
@@ -38,16 +36,15 @@ pub record IsForClosed (m : Machine) (a : Asked) : Type 0 where
   pub stands : slice_get m.zones place ≡ Some zone
   pub closed : zone.closed ≡ true
 
--- The update is accepted, and there is no room for the version that it leaves, or none in the journal for its
--- entry after what came first.
+-- The update is accepted, and there is no room for the version that it leaves: it has too many records, its
+-- snapshot or its entry takes more sectors than a bank has, or there is no number for it.
 pub record LacksRoom (m : Machine) (a : Asked) : Type 0 where
   pub place : ℕ
   pub zone : ZoneState
   pub records : List Record
   pub admits : admission m.zones a ≡ Admits place zone
   pub leaves : verdict (newest_zone (kept_of zone)) a.message.answers a.message.authorities ≡ Leaves records
-  pub room : (has_room (kept_of zone) records
-      && nat_le (entry_between (newest_of (kept_of zone)) records) (sectors_left (kept_of zone))) ≡ false
+  pub room : has_room (kept_of zone) records ≡ false
 
 -- A reply by TCP is over 65,535 octets (RFC 1035 4.2.2).
 abbrev pub IsTooLong : Transport → Reply → Type 0

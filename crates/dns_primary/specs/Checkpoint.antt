@@ -1,8 +1,6 @@
 -- What a checkpoint makes of the zones.
-use Rattle.std.specs.Prelude.{◌≡◌, ◌⊎◌, ◌<◌, ℕ, Bool, true, false, List, [], length, slice_get, slice_set}
+use Rattle.std.specs.Prelude.{◌≡◌, ◌⊎◌, ℕ, Bool, true, false, List, [], length, slice_get, slice_set}
 use Rattle.std.specs.Prelude.{Option, Some, None, Result, Ok, Err}
-use Rattle.dns_store.specs.Versions.{version_at}
-use Rattle.dns_store.specs.Checkpoint.{sectors_of_snapshot}
 use Rattle.dns_store.specs.declared.checkpoint.CheckpointError.{CheckpointError}
 use Rattle.dns_store.specs.declared.checkpoint.CheckpointError.TheVariants as refused
 use Rattle.dns_held.specs.Checkpoint.{IsNextBaseNumber}
@@ -16,14 +14,10 @@ rebased false base z = record z { base = base }
 rebased true base z = record z { second = Some base; closed = true }
 
 -- The base that the zone gets is that of so many of its newest changes, at most as many as it is to keep, as
--- leave so much room. It may stay as it is only where the records of that base take more sectors than a
--- snapshot has.
+-- leave so much room.
 abbrev pub IsMoved : Bool → ℕ → ZoneState → ZoneState → Type 0
 IsMoved fails room z new =
-    (base : ℕ) × IsNextBaseNumber z.setting.keep room (kept_of z) base
-    × ((new ≡ rebased fails base z)
-    ⊎ ((fails ≡ false) × (new ≡ z)
-    × (z.setting.shape.snapshot < sectors_of_snapshot (version_at (kept_of z) base))))
+    (base : ℕ) × IsNextBaseNumber z.setting.keep room (kept_of z) base × (new ≡ rebased fails base z)
 
 -- A zone that is closed stays.
 abbrev pub IsMovedUnlessClosed : Bool → ℕ → ZoneState → ZoneState → Type 0
@@ -56,8 +50,6 @@ abbrev pub IsMovedBy : {T : Type 0} → ℕ → ZoneState → Result T Checkpoin
 IsMovedBy room z (Ok v) new = (z.closed ≡ false) × IsMoved false room z new
 IsMovedBy room z (Err refused.Device) new = (z.closed ≡ false) × IsMoved true room z new
 IsMovedBy room z (Err refused.Closed) new = (z.closed ≡ true) × (new ≡ z)
-IsMovedBy room z (Err refused.ZoneTooLarge) new = (z.closed ≡ false) × IsMoved false room z new
-IsMovedBy room z (Err refused.WrongChanges) new = ⊥
 IsMovedBy room z (Err refused.OutOfMemory) new = new ≡ z
 
 -- Nothing of the zone is staged, or it is closed, as after a flush.

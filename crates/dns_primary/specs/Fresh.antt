@@ -51,10 +51,6 @@ IsStart m =
     ((zones : List Zone) × (settings : List ZoneSettings) × IsFresh zones settings m)
     ⊎ ((held : List Opened) × IsResumed held m)
 
--- The version that each zone was loaded as fits in its snapshot, as `format` asks.
-abbrev pub FitLoaded : Machine → Type 0
-FitLoaded m = AllByRecursion (λ z. snapshot_sectors (octets_of z.loaded) ≤ z.setting.shape.snapshot) m.zones
-
 -- The number of the version that is shown, and the zone.
 abbrev pub IsShown : ℕ → Zone → Option ZoneState → Type 0
 IsShown number zone None = ⊥

@@ -19,4 +19,3 @@ pub mod Runs
 pub mod Continues
 pub mod Causes
 pub mod Bounds
-pub mod Rooms

@@ -1,5 +1,5 @@
 -- What becomes of an update of a zone that isn't closed, by its verdict.
-use Rattle.std.specs.Prelude.{◌≡◌, ◌⊎◌, ℕ, not, nat_le, List, Option, None, if◌then◌else◌}
+use Rattle.std.specs.Prelude.{◌≡◌, ◌⊎◌, ◌≤◌, ℕ, true, List, Option, None, if◌then◌else◌}
 use Rattle.dns_records.specs.Record.{Record}
 use Rattle.dns_zone.specs.Zone.{Zone}
 use Rattle.dns_changes.specs.Change.{IsChange}
@@ -22,16 +22,19 @@ pub record Ends : Type 0 where
   pub versions : Kept
 
 -- What is refused, and what changes nothing, waits. What leaves a version without room is SERVFAIL, and
--- waits; one whose entry exceeds what is left of the journal, after what made room, is SERVFAIL at once; else
--- it is staged.
+-- waits; else it is staged.
 abbrev pub end_of : Kept → Verdict → Ends
 end_of k (Refuses rcode) = record { outcome = Waits rcode; versions = k }
 end_of k Keeps = record { outcome = Waits NoError; versions = k }
 end_of k (Leaves after) =
-    if not (has_room k after) then record { outcome = Waits ServFail; versions = k }
-    else if nat_le (entry_between (newest_of k) after) (sectors_left k) then
-    record { outcome = Waits NoError; versions = staged_with after k }
-    else record { outcome = AtOnce ServFail; versions = k }
+    if has_room k after then record { outcome = Waits NoError; versions = staged_with after k }
+    else record { outcome = Waits ServFail; versions = k }
+
+-- Where the verdict leaves a version for which there is room, its entry fits in what is left of the journal.
+abbrev pub HasLeft : Kept → Verdict → Type 0
+HasLeft k v =
+    (after : List Record) → v ≡ Leaves after → has_room k after ≡ true
+    → entry_between (newest_of k) after ≤ sectors_left k
 
 -- It ends so, or memory was refused and the versions stay.
 abbrev pub IsDone : (Kept → Type 0) → Kept → Verdict → Outcome → Type 0

@@ -20,7 +20,7 @@ use Rattle.dns_primary.specs.declared.update.Outcome.TheVariants as outcome
 use Rattle.dns_primary.specs.Machine.{ZoneState, Machine, Connection, kept_of}
 use Rattle.dns_primary.specs.Flush.{Sent, rcode_servfail}
 use Rattle.dns_primary.specs.Update.{Asked, Rejects, Admits, admission, replies, lacked_by}
-use Rattle.dns_primary.specs.Outcome.{IsVerdictOf, IsStageable, lacked_of}
+use Rattle.dns_primary.specs.Outcome.{HasLeft, IsVerdictOf, IsStageable, lacked_of}
 use Rattle.dns_primary.specs.Keeps.{HaveVersions, IsSet, IsWaiting}
 
 -- The update that the request is.
@@ -53,7 +53,8 @@ IsAnswered held m a ended (outcome.AtOnce rcode) =
 IsAnswered held m a ended outcome.OutOfMemory = held m
 
 -- What was judged before what came first still holds of the zone at the position: it is refused where the
--- zone is closed then, and else admitted, and the verdict on its newest version is the same.
+-- zone is closed then, and else admitted, and the verdict on its newest version is the same. What came first
+-- left room in its journal.
 pub record HoldsStill {X : Type 0} (records : X → List Record) (m : Machine) (a : Asked) (place : ℕ)
     (j : Judgement X) : Type 0 where
   pub zone : ZoneState
@@ -62,6 +63,9 @@ pub record HoldsStill {X : Type 0} (records : X → List Record) (m : Machine) (
   pub admits : zone.closed ≡ false → admission m.zones a ≡ Admits place zone
   pub is : IsVerdictOf records
       (verdict (newest_zone (kept_of zone)) a.message.answers a.message.authorities) j
+  pub left : zone.closed ≡ false
+      → HasLeft (kept_of zone)
+      (verdict (newest_zone (kept_of zone)) a.message.answers a.message.authorities)
 
 -- The update is judged, for the zone at the position.
 pub record IsUpdateJudged {X : Type 0} (records : X → List Record) (m : Machine) (a : Asked) (place : ℕ)

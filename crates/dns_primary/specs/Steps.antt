@@ -126,8 +126,6 @@ abbrev pub noted_moved : {T : Type 0} → Noted → ℕ → Result T CheckpointE
 noted_moved noted place (Ok v) = noted
 noted_moved noted place (Err refused.Device) = noted_then noted place
 noted_moved noted place (Err refused.Closed) = noted
-noted_moved noted place (Err refused.ZoneTooLarge) = noted
-noted_moved noted place (Err refused.WrongChanges) = noted
 noted_moved noted place (Err refused.OutOfMemory) = OutOfMemory
 
 -- Nothing goes out; or one reply alone.

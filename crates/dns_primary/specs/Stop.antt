@@ -10,10 +10,11 @@ use Rattle.dns_primary.specs.Step.{Event, base_moved}
 abbrev pub Checkpoints : Machine → Event → ℕ → ℕ → Type 0
 Checkpoints m event place room = base_moved m event ≡ Some (place, room)
 
--- The base that the event is making of the zone at this position.
+-- The base that the event is making of the zone at this position, which isn't closed.
 abbrev pub IsMaking : Machine → Event → ℕ → ZoneState → ℕ → Type 0
 IsMaking m event place z base =
-    (room : ℕ) × Checkpoints m event place room × IsNextBaseNumber z.setting.keep room (kept_of z) base
+    (z.closed ≡ false)
+    × ((room : ℕ) × Checkpoints m event place room × IsNextBaseNumber z.setting.keep room (kept_of z) base)
 
 -- A zone as it is opened again: it shows the version that was shown and some of the updates staged after it,
 -- in order, and begins at its base, at the second one left by a checkpoint that failed, or at one that is

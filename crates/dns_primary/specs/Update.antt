@@ -89,15 +89,12 @@ stages m a place z records =
 abbrev pub replies : Asked → ℕ → Sent
 replies a rcode = Replied a.to (text (bare_reply a.message.header rcode))
 
--- An accepted update is staged. One for which there is no room is refused, and its reply waits. One whose
--- entry is over what is left of the journal is refused at once: a checkpoint came before, and could not leave
--- that room.
+-- An accepted update is staged. One for which there is no room is refused, and its reply waits. (The entry of
+-- the first fits in what is left of the journal, by what came before.)
 abbrev pub accepted_in : Machine → Asked → ℕ → ZoneState → List Record → Machine × List Sent
 accepted_in m a place z records =
-    if not (has_room (kept_of z) records) then (waits m a place rcode_servfail (updates_of z), [])
-    else if nat_le (entry_between (newest_of (kept_of z)) records) (sectors_left (kept_of z))
-    then (stages m a place z records, [])
-    else (m, replies a rcode_servfail ∷ [])
+    if has_room (kept_of z) records then (stages m a place z records, [])
+    else (waits m a place rcode_servfail (updates_of z), [])
 
 -- What is judged waits, whether or not it changes the zone.
 abbrev pub judged_in : Machine → Asked → ℕ → ZoneState → Verdict → Machine × List Sent

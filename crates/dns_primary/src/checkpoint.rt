@@ -58,8 +58,6 @@ fn noted_behind(noted: Noted, place: usize, moved: Result<(), CheckpointError>) 
             Noted::Device(earlier) => Noted::Device(earlier),
         },
         Err(CheckpointError::Closed) => noted,
-        Err(CheckpointError::ZoneTooLarge) => noted,
-        Err(CheckpointError::WrongChanges) => noted,
         Err(CheckpointError::OutOfMemory) => Noted::OutOfMemory,
     }
 }

@@ -8,15 +8,12 @@ ghost use Rattle.dns_store.specs.Formatting.{first_of};
 ghost use Rattle.dns_held.specs.Checkpoint.{OpensAsCheckpointed};
 ghost use Rattle.dns_transfer.specs.Session.{Sending};
 ghost use Rattle.dns_primary.specs.Machine.{Machine, ZoneState, kept_of, sending_at};
-ghost use Rattle.dns_primary.specs.Checkpoint.{IsCheckpoint};
-ghost use Rattle.dns_primary.specs.Update.{Asked, room_lacked};
-ghost use Rattle.dns_primary.specs.Step.{Effects as StatedEffects, Event as StatedEvent, IsUpdateBegun, Step};
+ghost use Rattle.dns_primary.specs.Step.{Effects as StatedEffects, Event as StatedEvent, Step};
 ghost use Rattle.dns_primary.specs.Stop.{Checkpoints, IsMaking, OpensAsRecovered};
-ghost use Rattle.dns_primary.specs.Fresh.{FitLoaded, IsFresh, IsLoaded, IsResumed, IsStart};
+ghost use Rattle.dns_primary.specs.Fresh.{IsFresh, IsLoaded, IsResumed, IsStart};
 ghost use Rattle.dns_primary.specs.Open.{shape_of};
 ghost use Rattle.dns_primary.specs.Continues.{Continues, OpensOn};
-ghost use Rattle.dns_primary.specs.Causes.{HaveCauses, LacksRoom};
-ghost use Rattle.dns_primary.specs.Rooms.{HasNoRoom, IsRebased};
+ghost use Rattle.dns_primary.specs.Causes.{HaveCauses};
 ghost use Rattle.dns_primary.specs.declared.event.Noted.TheVariants.{OutOfMemory};
 ghost use Rattle.dns_primary.specs.Runs.{IsReleasedFrom, Moment, Run, Promise, Continuation, last_of};
 ghost use Rattle.dns_primary.specs.Bounds.{IsBounded};
@@ -54,23 +51,6 @@ pub fn resumed_law()
 pub fn flush_law()
     ensures { (start : Machine) (run : List Moment) → IsStart start → Run start run
         → IsBounded (last_of start run) }
-{}
-
-/// In every run a checkpoint moves the base: it never stays for want of room in a snapshot, since each
-/// version had that room. And it leaves the room in the journal that it is made for: an update that lacks
-/// room after it has none by the rules, which count its version's records, the sectors of their snapshot and
-/// of its entry, and its number.
-pub fn room_law()
-    ensures moved { (start : Machine) (run : List Moment) (place room : ℕ) (fails : List Bool)
-        (moving : Bool) (new : Machine)
-        → IsStart start → FitLoaded start → Run start run
-        → (made : IsCheckpoint place room (last_of start run) fails moving new)
-        → IsRebased moving room made.zone made.next }
-    ensures left { (start : Machine) (run : List Moment) (fails : List Bool) (a : Asked)
-        (first : StatedEffects) (mid : Machine)
-        → IsStart start → FitLoaded start → Run start run
-        → IsUpdateBegun fails (last_of start run) (room_lacked (last_of start run) a) first mid
-        → LacksRoom mid a → HasNoRoom mid a }
 {}
 
 /// What a crash leaves of a zone's device is what the machine's stop leaves of the zone: the version that was
@@ -116,11 +96,12 @@ pub fn transfers_law()
         → Run start run → Continues number run (sending_at number start.connections) }
 {}
 
-/// Zones and as many settings have a machine to which nothing has happened: what is said of each such machine is said of one. And each
-/// of its zones is what the store is opened as that `format` made of the zone.
+/// Zones and as many settings have a machine to which nothing has happened: what is said of each such machine
+/// is said of one. And each of its zones is what the store is opened as that `format` made of the zone.
 pub fn fresh_law()
     ensures exists { (zones : List StatedZone) (settings : List StatedSettings)
         → length zones ≡ length settings → (m : Machine) × IsFresh zones settings m }
-    ensures formatted { (zone : StatedZone) (settings : StatedSettings) (z : ZoneState) → IsLoaded zone settings z
+    ensures formatted { (zone : StatedZone) (settings : StatedSettings) (z : ZoneState)
+        → IsLoaded zone settings z
         → kept_of z ≡ fresh (shape_of zone.apex settings) (opened_again (first_of zone.records)) }
 {}

@@ -19,8 +19,7 @@ mod waits;
 
 pub use event::{Effects, Event, HeaderTo, Noted, Peer, Reply, ReplyOctets, To, Waiting};
 pub use laws::{
-    fresh_law, replies_wait_law, resumed_law, room_law, servfail_law, stop_law, transfers_law,
-    versions_law,
+    fresh_law, replies_wait_law, resumed_law, servfail_law, stop_law, transfers_law, versions_law,
 };
 pub use open::NotOpened;
 pub use primary::{Primary, ZoneSettings};

@@ -11,7 +11,8 @@ ghost use Rattle.dns_primary.specs.HandOut.{AreSetAs};
 ghost use Rattle.dns_primary.specs.Stop.{IsStopped};
 ghost use Rattle.dns_primary.specs.Keeps.{IsKept};
 ghost use Rattle.dns_primary.specs.Open.{AreOpened, AreRecoverable, AreRefused, IsNotOpened, IsOpened};
-ghost use Rattle.dns_primary.specs.Open.{IsRecoveryStopped, LeaveRecovered, count_of, device_behind, devices_of};
+ghost use Rattle.dns_primary.specs.Open.{IsRecoveryStopped, LeaveRecovered, count_of};
+ghost use Rattle.dns_primary.specs.Open.{device_behind, devices_of};
 
 use crate::{Primary, ZoneSettings};
 use arrayvec::ArrayVec;

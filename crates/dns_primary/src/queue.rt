@@ -56,7 +56,8 @@ pub(crate) enum Tested<I: ZoneIndex> {
     Judged(usize, Judgement<I>),
 }
 
-/// Tests an update, and judges it where it is admitted. The name is that of the zone that it names. Nothing changes.
+/// Tests an update, and judges it where it is admitted. The name is that of the zone that it names. Nothing
+/// changes.
 pub(crate) fn admit_and_judge<I: ZoneIndex, S: ZoneStore>(
     alloc: Heap,
     zones: &[Zone<I>],

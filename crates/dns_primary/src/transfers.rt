@@ -199,7 +199,8 @@ fn refusal(alloc: Heap, to: To, request: &RequestMessage<'_>, rcode: Rcode) -> E
         request.now.question rcode))) result
         ⊎ AreEffects
         (record (one_reply
-        (Replied to (text (bare_reply request.now.message.message.header rcode_servfail)))) { noted = StatedLack })
+        (Replied to (text (bare_reply request.now.message.message.header rcode_servfail))))
+        { noted = StatedLack })
         result }
 {
     let header = header_octets(request);

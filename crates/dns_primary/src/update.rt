@@ -6,7 +6,7 @@ ghost use Rattle.dns_held.specs.Held.{HasVersions, newer, newest_zone};
 ghost use Rattle.dns_wire.specs.declared.codes.Rcode.TheVariants.{ServFail};
 ghost use Rattle.dns_primary.specs.declared.update.Outcome.TheVariants.{AtOnce};
 ghost use Rattle.dns_primary.specs.Update.{lacked_by};
-ghost use Rattle.dns_primary.specs.Outcome.{IsDone, IsStageable, IsVerdictOf, lacked_of, refused_as};
+ghost use Rattle.dns_primary.specs.Outcome.{HasLeft, IsDone, IsStageable, IsVerdictOf, lacked_of, refused_as};
 
 use dns_changes::Change;
 use dns_held::{Behind, StagingError, newest, sectors_lacked, stage};
@@ -98,7 +98,7 @@ pub(crate) fn stage_judged<I: ZoneIndex, S: ZoneStore>(
 ) -> Outcome
     requires stageable { IsStageable I.records (newer zone.now behind.old.tip) judged }
     ensures done { (k : Kept) (v : Verdict) → HasVersions S.keeps zone.now behind.old k → k.closed ≡ false
-        → IsVerdictOf I.records v judged
+        → HasLeft k v → IsVerdictOf I.records v judged
         → IsDone (λ k. HasVersions S.keeps zone.now behind.new k) k v result }
     ensures closed { (k : Kept) → HasVersions S.keeps zone.now behind.old k → k.closed ≡ true
         → (result ≡ AtOnce ServFail) × HasVersions S.keeps zone.now behind.new k }

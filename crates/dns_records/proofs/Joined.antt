@@ -1,4 +1,4 @@
--- Strings that are put one behind the other.
+-- Strings that are put one after the other.
 use Rattle.std.proofs.Common.{◌≡◌, ℕ, ◌<◌, List, [], ◌∷◌, ◌++◌, length, map, refl, sym, ap, subst, ◌∙◌, append_assoc, append-nil, arith}
 use Rattle.std.specs.List.{AllByRecursion, flat_map}
 use Rattle.dns_records.specs.Types.{type_txt}

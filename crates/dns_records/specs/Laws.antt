@@ -206,7 +206,12 @@ address-valid t v o f fits size =
     let whole : length o ≡ octet_count (v ∷ []) = omega (arith, size) in
     let parts : AreFields (Values (v ∷ []) ∷ []) o = (o, [], sym (append-nil o), whole, refl) in
     let short : length o ≤ 16 = value_short v (length o) size in
-    record { rtype = formed_is_data t (Values (v ∷ []) ∷ []) f; octets = octets_all o fits; short = omega arith; form = rw f parts }
+    record {
+      rtype = formed_is_data t (Values (v ∷ []) ∷ []) f;
+      octets = octets_all o fits;
+      short = omega arith;
+      form = rw f parts;
+    }
 
 -- an address is so many octets
 pub address_whole : (vs : List Value) (o : List ℕ) → AreFields (Values vs ∷ []) o → length o ≡ octet_count vs

@@ -1,4 +1,4 @@
--- Devices behind a crash, and settings that are the same.
+-- Devices after a crash, and settings that are the same.
 use Rattle.std.proofs.Common.{◌≡◌, ◌<◌, ◌+◌, ℕ, zero, suc, ◌↔◌, IsTrue, List, [], ◌∷◌, ◌++◌, length, take, drop, refl, sym, ap, subst, ◌∙◌, arith}
 use Rattle.std.specs.Prelude.{slice_index_or}
 use Rattle.std.specs.declared.net.ip_addr.IpAddr.{IpAddr}
@@ -14,7 +14,7 @@ use Rattle.dns_primary.specs.Machine.{Machine, ZoneState}
 use Rattle.dns_primary.specs.Step.{Event}
 use Rattle.dns_primary.specs.Stop.{IsMaking}
 use Rattle.dns_primary.specs.Open.{AreRecoverable, IsRecoverable}
-use Rattle.dns_script.specs.Keeps.{ZoneKeep}
+use Rattle.dns_replay.specs.Keeps.{ZoneKeep}
 use Rattle.dns_replay.specs.Crashes.{AreLeftBy, IsLeftBy, keep_at}
 use Rattle.dns_replay.specs.Runs.{AreSame}
 

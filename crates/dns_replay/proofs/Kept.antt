@@ -1,9 +1,9 @@
 -- What is said of a zone, as the code reads it.
 use Rattle.std.proofs.Common.{◌≡◌, ℕ, Bool, true, false, cond, List, [], ◌∷◌, map, Option, Some, None, refl, sym, ap, ◌∙◌}
 use Rattle.std.specs.Prelude.{◌==◌, find, option_map}
-use Rattle.dns_script.specs.declared.keeps.ZoneKeep.{ZoneKeep as CodeZoneKeep}
-use Rattle.dns_script.specs.Commands.{said_keep, said_zone_keep}
-use Rattle.dns_script.specs.Keeps.{These, ZoneKeep}
+use Rattle.dns_replay.specs.declared.keeps.ZoneKeep.{ZoneKeep as CodeZoneKeep}
+use Rattle.dns_replay.specs.Commands.{said_keep, said_zone_keep}
+use Rattle.dns_replay.specs.Keeps.{These, ZoneKeep}
 use Rattle.dns_replay.specs.Crashes.{keep_at, keep_or_none}
 
 found_said : (keeps : List CodeZoneKeep) (place : ℕ) → find (λ (k : ZoneKeep). k.zone == place) (map said_zone_keep keeps) ≡ option_map said_zone_keep (find (λ (k : CodeZoneKeep). k.zone == place) keeps)

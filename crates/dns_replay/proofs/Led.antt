@@ -22,11 +22,11 @@ use Rattle.dns_primary.specs.Stop.{IsStopped}
 use Rattle.dns_primary.specs.Open.{AreRecoverable, IsRecoveryStopped}
 use Rattle.dns_primary.specs.HandOut.{AreSetAs}
 use Rattle.dns_primary.specs.Runs.{Took, Stopped}
-use Rattle.dns_script.specs.Commands.{Command, SaysCommand}
+use Rattle.dns_replay.specs.Commands.{Command, SaysCommand}
 use Rattle.dns_replay.specs.declared.run.After.{After}
 use Rattle.dns_replay.specs.declared.run.After.TheVariants.{GoesOn, NoCommand, Refused}
 use Rattle.dns_replay.specs.Scripts.{Standing, Takes, Stands, machine_of, event_in, tries_in, Commanded, Nothing, Happens, Plans, Led, EventLeads, LeadsByCommand, PlanLeads, Recovers, idle, halted, said_by, printed_effects, printed_refusal, printed_stop, recovered_zones}
-use Rattle.dns_script.specs.Keeps.{ZoneKeep}
+use Rattle.dns_replay.specs.Keeps.{ZoneKeep}
 use Rattle.dns_replay.specs.Crashes.{AreLeftBy, IsCrash}
 use Rattle.dns_replay.specs.Runs.{AreSame, DoesBy, IsAt, IsOpeningRefused, LeadsOn, LineDoes, crash_by}
 use Rattle.dns_replay.proofs.Crashed.{crashed_recoverable, reset_recoverable, same_back}
@@ -34,7 +34,7 @@ use Rattle.dns_replay.proofs.Reopened.{opened_over}
 use Rattle.dns_replay.proofs.Printing.{nothing_more}
 
 module _ {D I : Type 0} {g : Ghosts D} {i : index.Ghosts I} {s : store.Ghosts (KeptStore D I g)} (names : List Labels) (settings : List ZoneSettings) where
-  -- behind a stop an event is told as one
+  -- after a stop an event is told as one
   pub still_halted : (event : Event) (p q : Option (Primary I (KeptStore D I g) i s)) (devices : List D) (out out_after : Option (List ℕ)) → p ≡ None → q ≡ None → Appends out out_after printed_stop
       → LeadsOn names settings (λ from led. EventLeads names from event led) p devices q devices out out_after
   still_halted event (Some p) q devices out out_after e f a from at set = absurd cc
@@ -42,7 +42,7 @@ module _ {D I : Type 0} {g : Ghosts D} {i : index.Ghosts I} {s : store.Ghosts (K
   still_halted event None None devices out out_after e f a (Takes m) at set = absurd at
   still_halted event None None devices out out_after e f a (Stands m stopped tries) at set = (halted m stopped tries, refl, a, at)
 
-  -- of the primary that stood there
+  -- of the primary that was there
   pub leads_from : (leads : Standing → Led → Type 0) (o : Option (Primary I (KeptStore D I g) i s)) (p : Primary I (KeptStore D I g) i s) (devices : List D) (q : Option (Primary I (KeptStore D I g) i s)) (rest : List D) (out out_after : Option (List ℕ)) → o ≡ Some p
       → LeadsOn names settings leads (Some p) devices q rest out out_after → LeadsOn names settings leads o devices q rest out out_after
   leads_from leads o p devices q rest out out_after e h = subst (λ (x : Option (Primary I (KeptStore D I g) i s)). LeadsOn names settings leads x devices q rest out out_after) (sym e) h
@@ -124,7 +124,7 @@ module _ {D I : Type 0} {g : Ghosts D} {i : index.Ghosts I} {s : store.Ghosts (K
       does None h = h
       does (Some n) h = inl h
 
-  -- a store was refused behind a crash
+  -- a store was refused after a crash
   pub refused : (keeps : List ZoneKeep) (stop : Option ℕ) (after : After) (o : Option (Primary I (KeptStore D I g) i s)) (devices left crashed back rest : List D) (out out_after : Option (List ℕ))
       → ((names : List Labels) (settings : List ZoneSettings) (from : Standing) → IsAt names settings o devices from → AreSetAs names settings (machine_of from).zones → AreRecoverable g (tries_in from) (machine_of from) (event_in from) 0 (machine_of from).zones names settings left)
       → AreLeftBy g kept keeps 0 left crashed
@@ -190,7 +190,7 @@ module _ {D I : Type 0} {g : Ghosts D} {i : index.Ghosts I} {s : store.Ghosts (K
       (printed_refusal (slice_get names h.1.place) h.1.error, record { command = command; says = says; crashes = h.0; place = h.1.place; error = h.1.error; printed = refl }, h.1.printed)
   line_does line command (Ok NoCommand) p q devices left out out_after says h = absurd h
 
--- the devices of a primary that stood there, or those that were left
+-- the devices of a primary that was there, or those that were left
 module _ {D I : Type 0} {g : Ghosts D} {i : index.Ghosts I} {s : store.Ghosts (KeptStore D I g)} where
   pub taken_running : (o : Option (Primary I (KeptStore D I g) i s)) (p : Primary I (KeptStore D I g) i s) (devices left : List D) → o ≡ Some p
       → ((m : Machine) (event : Event) (names : List Labels) (settings : List ZoneSettings) → IsKept p m → AreSetAs names settings m.zones → AreRecoverable g 0 m event 0 m.zones names settings left)

@@ -1,3 +1,5 @@
+pub mod Words
+pub mod KeepLists
 pub mod Printing
 pub mod Running
 pub mod Kept

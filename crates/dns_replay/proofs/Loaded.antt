@@ -114,7 +114,7 @@ all_set g (y ∷ zones) (s ∷ settings) [] devices made each = absurd each
 all_set g [] [] [] (d ∷ devices) made each = absurd made
 all_set g (y ∷ zones) (s ∷ settings) (z ∷ states) [] made each = absurd made
 
--- a machine to which nothing has happened, behind a stop before its first event
+-- a machine to which nothing has happened, after a stop before its first event
 same_zone : (m : Machine) (place : ℕ) (y : Zone) (s : ZoneSettings) (z w : ZoneState) → IsLoaded y s z → IsRecovered 1 1 (IsMaking m Flush place (unopened z)) (unopened z) w → w ≡ z
 same_zone m place y s z w is r =
     let kept = none_kept r.kept r.lost (sym is.staged ∙ r.front) in
@@ -126,7 +126,7 @@ same_zone m place y s z w is r =
       | inl e ↦ e
       | inr h ↦ elim h [
         | inl e ↦ (let never : None ≡ Some w.base = sym is.second ∙ e in absurd cc)
-        | inr making ↦ absurd (none_moved (place, making.0) making.1)
+        | inr making ↦ absurd (none_moved (place, making.1.0) making.1.1)
       ]
     ] in
     λ i. record {

@@ -1,4 +1,4 @@
--- Texts behind one another.
+-- Texts one after another.
 use Rattle.std.proofs.Common.{◌≡◌, ℕ, None, Some, Option, Result, Ok, Err, OnOk, List, [], ◌∷◌, ◌++◌, flat_map, sym, ap, subst, ◌∙◌, append-nil, append_assoc}
 use Rattle.std.specs.Io.KnownBytes.{Appends}
 use Rattle.std.proofs.lemmas.Grind.{flat_map-append}
@@ -15,7 +15,7 @@ appends_more (Some u) None c x y p q = absurd p
 appends_more (Some u) (Some v) None x y p q = absurd q
 appends_more (Some u) (Some v) (Some w) x y p q = q ∙ ap (λ (t : List ℕ). t ++ y) p ∙ append_assoc u x y
 
--- One reply behind others.
+-- One reply after others.
 pub prints_both : {E : Type 0} (a b c : Option (List ℕ)) (before : List (To × List ℕ)) (one : To × List ℕ) (r : Result (Unit {0}) E) → Appends a b (flat_map printed_reply before) → OnOk r (Appends b c (printed_reply one)) → OnOk r (Appends a c (flat_map printed_reply (before ++ one ∷ [])))
 prints_both a b c before one (Err e) h k = tt
 prints_both a b c before one (Ok v) h k =

@@ -1,4 +1,4 @@
--- Behind a crash each zone is what is left on its device, opened again.
+-- After a crash each zone is what is left on its device, opened again.
 use Rattle.std.proofs.Common.{◌≡◌, ℕ, zero, suc, inl, inr, Some, None, List, [], ◌∷◌, ◌++◌, refl, sym, ap, subst, ◌∙◌, append-nil, arith}
 use Rattle.std.specs.Prelude.{◌⊎◌}
 use Rattle.dns_names.specs.Name.{Labels}
@@ -12,7 +12,7 @@ use Rattle.dns_primary.specs.Keeps.{IsSet}
 use Rattle.dns_primary.specs.Step.{Event, Flush}
 use Rattle.dns_primary.specs.Stop.{IsMaking, IsRecovered, AreRecovered, IsStopped, reopened_as}
 use Rattle.dns_primary.specs.Open.{AreRecoverable, IsRecoverable}
-use Rattle.dns_script.specs.Keeps.{ZoneKeep}
+use Rattle.dns_replay.specs.Keeps.{ZoneKeep}
 use Rattle.dns_replay.specs.Crashes.{AreLeftBy, AreOpenedOver, IsLeftBy, IsOpenedOver, keep_at}
 use Rattle.dns_replay.proofs.Crashed.{crashed_recoverable}
 
@@ -100,7 +100,7 @@ set_again s z w e set =
     record { keep = same.keep; update = same.update; transfer = same.transfer }
 
 module _ {D : Type 0} (g : Ghosts D) (stays : (device : D) → g.is_honest device → g.may_leave device (g.seen device)) (tries : ℕ) (m : Machine) (event : Event) where
-  -- what stands on the device of the zone there
+  -- what is on the device of the zone there
   record IsHeld (place : ℕ) (z : ZoneState) (device : D) (w : ZoneState) : Type 0 where
     recovered : IsRecovered 0 tries (IsMaking m event place z) z w
     opens_as : opens w.setting.shape (reopened_as w) (g.seen device)
@@ -148,7 +148,7 @@ module _ {D : Type 0} (g : Ghosts D) (stays : (device : D) → g.is_honest devic
   opened_over_all : (other : Machine) (place : ℕ) (zones : List ZoneState) (devices : List D) (held news : List ZoneState) → AreHeld place zones devices held → AreRecovered 1 1 other Flush place held news → AreRecovered 1 (suc tries) m event place zones news × AreOpenedOver g devices news
   opened_over_all other place [] [] [] [] h r = (tt, tt)
   opened_over_all other place (z ∷ zones) (d ∷ devices) (w ∷ held) (v ∷ news) h r =
-      let never : (b : ℕ) → IsMaking other Flush place w b → ⊥ = λ b made. none_moved (place, made.0) made.1 in
+      let never : (b : ℕ) → IsMaking other Flush place w b → ⊥ = λ b made. none_moved (place, made.1.0) made.1.1 in
       let making = IsMaking m event place z in
       let later = IsMaking other Flush place w in
       let rest = opened_over_all other (suc place) zones devices held news h.1 r.1 in (

@@ -20,11 +20,11 @@ use Rattle.dns_replay.specs.declared.run.Ending.{Ending}
 use Rattle.dns_replay.specs.declared.run.Ending.TheVariants.{Done, Syntax, Refused}
 use Rattle.dns_replay.proofs.Printing.{appends_more, nothing_more}
 use Rattle.dns_replay.specs.Scripts.{Standing, Takes, Stands, machine_of, Commanded, Nothing, Happens, Plans, Crashes, Reopens, Crash, Led, LeadsByCommand, Recovers, LineLeads, LineRefuses, IsNoCommand, Runs, idle}
-use Rattle.dns_script.specs.Keeps.{ZoneKeep}
+use Rattle.dns_replay.specs.Keeps.{ZoneKeep}
 use Rattle.dns_replay.specs.Crashes.{IsCrash}
 use Rattle.dns_replay.specs.Runs.{IsAt, IsMachineReached, LeadsOn, RanScript}
 
--- moments behind others
+-- moments after others
 pub runs_joined : (start : Machine) (xs ys : List Moment) → Run start xs → Run (last_of start xs) ys → Run start (xs ++ ys)
 runs_joined start [] ys r q = q
 runs_joined start (x ∷ xs) ys r q = (r.0, runs_joined _ xs ys r.1 q)

@@ -10,7 +10,7 @@ use Rattle.dns_primary.specs.declared.primary.ZoneSettings.{ZoneSettings}
 use Rattle.dns_primary.specs.Machine.{Machine, ZoneState}
 use Rattle.dns_primary.specs.Open.{AreRecoverable}
 use Rattle.dns_primary.specs.Stop.{IsRecovered, reopened_as}
-use Rattle.dns_script.specs.Keeps.{Keep, All, These, ZoneKeep}
+use Rattle.dns_replay.specs.Keeps.{Keep, All, These, ZoneKeep}
 use Rattle.dns_replay.specs.Scripts.{Standing, event_in, machine_of, tries_in}
 
 -- What is kept of the writes that are pending on the device of the zone at a position: none where nothing is

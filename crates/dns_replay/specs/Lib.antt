@@ -1,3 +1,6 @@
+pub mod Commands
+pub mod Keeps
+pub mod Lines
 pub mod Crashes
 pub mod Made
 pub mod Runs

@@ -19,7 +19,7 @@ use Rattle.dns_primary.specs.Open.{AreRecoverable}
 use Rattle.dns_primary.specs.HandOut.{AreSetAs}
 use Rattle.dns_primary.specs.Runs.{Moment, Run, last_of}
 use Rattle.dns_primary.specs.Fresh.{IsFresh}
-use Rattle.dns_script.specs.Keeps.{ZoneKeep}
+use Rattle.dns_replay.specs.Keeps.{ZoneKeep}
 use Rattle.dns_replay.specs.Crashes.{IsCrash}
 use Rattle.dns_replay.specs.Scripts.{Standing, Takes, Stands, machine_of, Commanded, Crashes, Reopens, Led}
 use Rattle.dns_replay.specs.Scripts.{LeadsByCommand}

@@ -22,9 +22,9 @@ use Rattle.dns_primary.specs.Step.{Effects, Event, Step, Arrives, Closed}
 use Rattle.dns_primary.specs.Step as machine
 use Rattle.dns_primary.specs.Stop.{IsStopped}
 use Rattle.dns_primary.specs.Runs.{Moment, Took, Stopped}
-use Rattle.dns_script.specs.Commands.{Command, SaysCommand}
-use Rattle.dns_script.specs.Commands as script
-use Rattle.dns_script.specs.Keeps.{ZoneKeep}
+use Rattle.dns_replay.specs.Commands.{Command, SaysCommand}
+use Rattle.dns_replay.specs.Commands as script
+use Rattle.dns_replay.specs.Keeps.{ZoneKeep}
 use Rattle.dns_replay.specs.declared.run.Ending.{Ending}
 use Rattle.dns_replay.specs.declared.run.Ending.TheVariants.{Done, Syntax, Refused}
 
@@ -182,7 +182,11 @@ halted m event tries = record { moments = []; text = printed_stop; standing = St
 abbrev pub EventLeads : List Labels → Standing → Event → Led → Type 0
 EventLeads origins (Takes m) event led =
     ((fails : List Bool) × (effects : Effects) × (next : Machine) × Step fails m event effects next
-    × (led ≡ record { moments = Took event fails effects next ∷ []; text = printed_effects origins event effects; standing = Takes next }))
+    × (led ≡ record {
+      moments = Took event fails effects next ∷ [];
+      text = printed_effects origins event effects;
+      standing = Takes next;
+    }))
     ⊎ (led ≡ halted m event 0)
 EventLeads origins (Stands m stopped tries) event led = led ≡ halted m stopped tries
 
@@ -247,7 +251,11 @@ Runs origins crash s number [] led ending = (led ≡ idle s) × (ending ≡ Done
 Runs origins crash s number (line ∷ rest) led ending =
     ((first more : Led) × LineLeads origins crash s line first
     × Runs origins crash first.standing (number + 1) rest more ending
-    × (led ≡ record { moments = first.moments ++ more.moments; text = first.text ++ more.text; standing = more.standing }))
+    × (led ≡ record {
+      moments = first.moments ++ more.moments;
+      text = first.text ++ more.text;
+      standing = more.standing;
+    }))
     ⊎ (IsNoCommand origins line × (led ≡ idle s) × (ending ≡ Syntax number))
     ⊎ ((text : List ℕ) × LineRefuses origins line text × (led ≡ record (idle s) { text = text })
     × (ending ≡ Refused))

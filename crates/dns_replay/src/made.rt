@@ -2,7 +2,7 @@
 //! over them.
 ghost use Rattle.std.specs.Prelude.{◌≡◌, ◌≢◌, ◌∷◌, ◌++◌, [], length, map, IfErr, IfOk, OnOk};
 ghost use Rattle.dns_held.specs.Each.{Each2, Each3};
-ghost use Rattle.dns_script.specs.Lines.{lines};
+ghost use Rattle.dns_replay.specs.Lines.{lines};
 ghost use Rattle.dns_replay.specs.Made.{IsMadeOf};
 ghost use Rattle.dns_replay.specs.Runs.{AreSame, RunsFrom};
 

@@ -1,16 +1,17 @@
 //! Scripts run over a primary, a line at a time.
 ghost use Rattle.std.specs.Prelude.{◌≡◌, ◌≢◌, IfOk};
-ghost use Rattle.dns_script.specs.Commands.{said};
-ghost use Rattle.dns_script.specs.Lines.{lines};
+ghost use Rattle.dns_replay.specs.Commands.{said};
+ghost use Rattle.dns_replay.specs.Lines.{lines};
 ghost use Rattle.dns_replay.specs.Scripts.{PlanLeads, peer_of, said_by};
 ghost use Rattle.dns_replay.specs.Runs.{DoesBy, LeadsOn, LineDoes, RanScript};
 
+use crate::command::{Command, read_command};
 use crate::device::ScriptDevice;
+use crate::lines::split_line;
 use crate::print::print_stop;
 use crate::standing::{World, crash, run_event};
 use dns_memory::Heap;
 use dns_primary::{Event, Peer, Primary};
-use dns_script::{Command, read_command, split_line};
 use dns_sectors::Plan;
 use dns_store::KeptStore;
 use dns_zone::ZoneIndex;

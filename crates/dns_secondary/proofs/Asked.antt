@@ -46,7 +46,7 @@ is_echoed q valid = subst (λ (octets : List ℕ). IsEchoed (record { octets = o
 drop_behind : (name rest : List ℕ) (n : ℕ) → drop (length name + n) (name ++ rest) ≡ drop n rest
 drop_behind name rest n = sym (drop-drop n (length name) (name ++ rest)) ∙ ap (drop n) (drop_at name rest (length name) refl)
 
--- octets behind the name
+-- octets after the name
 behind : (name rest : List ℕ) (from to : ℕ) → slice_range (name ++ rest) (length name + from) (length name + to) ≡ slice_range rest from to
 behind name rest from to =
     let less : length name + to - (length name + from) ≡ to - from = omega arith in
@@ -68,7 +68,7 @@ question_is q h k =
     let two = ap number_of second ∙ back' in
     λ i. record { name = q.name; qtype = one i; qclass = two i }
 
--- behind the flags
+-- after the flags
 abbrev rest_with : Question → ℕ → List Record → List ℕ
 rest_with q count authority =
     0 ∷ to_be_bytes w16 1 ++ to_be_bytes w16 0 ++ to_be_bytes w16 count ++ to_be_bytes w16 0 ++ asked_octets q

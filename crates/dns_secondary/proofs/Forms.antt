@@ -56,7 +56,7 @@ lone_fault apex soa is e =
     let none = third.0 in
     absurd cc
 
--- sequences and what stands behind them
+-- sequences and what is after them
 abbrev pub along : List Change → List Record → List Record
 along [] end = end
 along (c ∷ rest) end = c.old_soa ∷ (c.removed ++ (c.new_soa ∷ (c.added ++ along rest end)))

@@ -1,4 +1,4 @@
--- The records of an answer one behind another.
+-- The records of an answer one after another.
 use Rattle.std.proofs.Common.{◌≡◌, ◌≢◌, inl, inr, List, [], ◌∷◌, ◌++◌, Option, None, sym, subst, ◌∙◌}
 use Rattle.std.specs.Prelude.{◌↔◌}
 use Rattle.dns_names.specs.Name.{Labels}
@@ -39,7 +39,7 @@ module _ (apex : Labels) (held : Option Zone) where
   reached_from at mid next (x ∷ xs) ys h g =
       reached_from h.0 mid next xs ys h.2 (subst (λ s. Reaches apex held s (xs ++ ys) next) (one_next at g.0 h.0 x g.1 h.1) g.2)
 
-  -- what follows means from the state behind the records what it means behind them
+  -- what follows means from the state after the records what it means after them
   pub rest_on : (at next : State) (xs more : List ResourceRecord) (set : List Record)
       → Reaches apex held at xs next
       → (Rest apex held at (xs ++ more) set ↔ Rest apex held next more set)
@@ -62,7 +62,7 @@ module _ (apex : Labels) (held : Option Zone) where
       let of = rest_of h.0 next xs set h.2 in
       (λ r. of.0 (subst (λ s. Rest apex held s xs set) (one_next at r.0 h.0 x r.1 h.1) r.2), λ r. (h.0, h.1, of.1 r))
 
-  -- behind a fault nothing has a meaning
+  -- after a fault nothing has a meaning
   pub fails_lost : (at : State) (xs more : List ResourceRecord) (fault : Fault) (set : List Record)
       → FailsBy apex held at xs fault
       → Rest apex held at (xs ++ more) set

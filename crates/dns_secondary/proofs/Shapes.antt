@@ -44,7 +44,7 @@ not_false false e = absurd cc
 pub both_is : (a b : Bool) → a ≡ true → (a && b) ≡ false → b ≡ false
 both_is a b t e = ap (λ x. x && b) (sym t) ∙ e
 
--- what stands behind the records that come
+-- what is after the records that come
 abbrev Closes : Labels → (soa reached : Record) → List Record → List Record → List Record → Type 0
 Closes apex soa reached mid rest out =
     (((serial_of reached == serial_of soa) ≡ true) × (rest ≡ soa ∷ []) × (out ≡ mid))

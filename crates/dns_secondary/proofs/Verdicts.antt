@@ -1,4 +1,4 @@
--- What is told behind the records of a message.
+-- What is told after the records of a message.
 use Rattle.std.proofs.Common.{◌≡◌, ◌⊎◌, inl, inr, Bool, true, false, List, Some, None, refl, sym, ap, subst, ◌∙◌}
 use Rattle.std.specs.Prelude.{ℕ, Result, Ok, Err, IfOk, IfErr, if◌then◌else◌}
 use Rattle.dns_records.specs.Record.{Record}

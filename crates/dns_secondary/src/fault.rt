@@ -34,7 +34,7 @@ pub enum Fault {
     #[error("the server refuses, with a response code")]
     Refused(u8),
     /// A record occurs where no answer to a transfer has it, or no zone can have it.
-    #[error("a record stands where no answer has it")]
+    #[error("a record comes where no answer has it")]
     BadSequence,
     /// A record that goes isn't there, with its TTL.
     #[error("a record that goes is not there")]

@@ -28,7 +28,7 @@ use Rattle.dns_sectors.specs.declared.device.Sectors.{Ghosts}
 use Rattle.dns_sectors.specs.declared.memory.Keep as told
 use Rattle.dns_primary.specs.declared.primary.ZoneSettings as primary
 use Rattle.dns_devices.specs.Faults.{device_text, fault_of_format}
-use Rattle.dns_script.specs.Lines.{lines}
+use Rattle.dns_replay.specs.Lines.{lines}
 use Rattle.dns_replay.specs.Crashes.{IsCrash}
 use Rattle.dns_replay.specs.Scripts.{Crash, Led, Runs, Takes}
 

@@ -166,11 +166,11 @@ fn explain_clash<E: Write>(
     match error {
         ZoneError::CnameAndOther => writeln!(
             err,
-            "{what}:{line}: {owner} {rtype} stands beside the record on line {first}"
+            "{what}:{line}: {owner} {rtype} is beside the record on line {first}"
         ),
         _ => writeln!(
             err,
-            "{what}:{line}: {owner} {rtype} stands on line {first} already"
+            "{what}:{line}: {owner} {rtype} is on line {first} already"
         ),
     }
 }

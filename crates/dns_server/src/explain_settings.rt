@@ -4,7 +4,7 @@ use crate::explain::explain_file;
 use dns_configuration::{Configuration, File, PrintedWord, explain_configuration, origins_of};
 use dns_memory::Heap;
 use dns_names::Name;
-use dns_script::{read_command, split_line};
+use dns_replay::{read_command, split_line};
 use std::alloc::Global;
 use std::io::{self, Write};
 

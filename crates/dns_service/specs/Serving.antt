@@ -1,5 +1,5 @@
 -- How a server ends.
-use Rattle.std.specs.Prelude.{◌≡◌, ◌⊎◌, ◌≤◌, ℕ, zero, suc, Bool, List, [], ◌∷◌, Option, Ok, Err}
+use Rattle.std.specs.Prelude.{◌≡◌, ◌⊎◌, ◌≤◌, ℕ, zero, suc, Bool, List, [], ◌∷◌, length, Option, Ok, Err}
 use Rattle.std.specs.Option.{option_copied}
 use Rattle.std.specs.String.{string_bytes}
 use Rattle.std.specs.Io.KnownBytes.{Appends}
@@ -13,7 +13,9 @@ use Rattle.dns_configuration.specs.Files.{HoldsConfiguration}
 use Rattle.dns_devices.specs.declared.faults.DeviceFault.{DeviceFault}
 use Rattle.dns_devices.specs.Faults.{device_text, status_of}
 use Rattle.dns_devices.specs.Showing.{Gives}
-use Rattle.dns_service.specs.Opening.{AreGiven, IsNotServed}
+use Rattle.dns_turns.specs.Turn.{TurnMoment}
+use Rattle.dns_service.specs.Opening.{IsNotServed, IsServed}
+use Rattle.dns_service.specs.Turns.{HaveRun}
 
 -- The path of the device of the zone there.
 abbrev pub IsPathAt : List ZoneSettings → ℕ → List ℕ → Type 0
@@ -33,15 +35,21 @@ pub record IsDeviceRefused {D : Type 0} (g : Ghosts D) (opened : Gives D) (zones
   pub says : text ≡ device_text path fault explain
   pub status : status_of fault ≡ 1
 
+-- So many turns were made of a primary over the devices of these zones: on those of a machine that stopped,
+-- their events are those of a run from one that recovered from that stop.
+abbrev pub IsServedFor : {D : Type 0} → Ghosts D → Gives D → List ZoneSettings → ℕ → Type 0
+IsServedFor g opened zones count =
+    (turns : List (List TurnMoment)) × (length turns ≡ count) × IsServed g opened zones (HaveRun turns)
+
 -- How a server ends: all its turns were made, over the devices of the zones of its configuration; or nothing
 -- was served, and the fault of the configuration or of the first device that is refused is reported. With
 -- status 3 a device or the address can't be had, a writer failed or memory was refused.
-pub record ServingEnds {D : Type 0} (g : Ghosts D) (opened : Gives D) (config : File) (explain : Bool)
-    (err err_after : Option (List ℕ)) (status : ℕ)
+pub record ServingEnds {D : Type 0} (g : Ghosts D) (opened : Gives D) (config : File) (count : ℕ)
+    (explain : Bool) (err err_after : Option (List ℕ)) (status : ℕ)
     : Type 0 where
   pub done : status ≡ 0
       → (c : Configuration) × HoldsConfiguration (option_copied config.octets) (Ok c)
-      × ((devices : List D) × AreGiven opened c.zones.items devices)
+      × IsServedFor g opened c.zones.items count
   pub refused : status ≡ 1
       → (text : List ℕ) × Appends err err_after (line text)
       × (((fault : Fault) × HoldsConfiguration (option_copied config.octets) (Err fault)

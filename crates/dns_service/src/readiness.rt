@@ -61,9 +61,11 @@ impl Readiness {
         }
     }
 
-    /// Whether there are connections.
-    pub(crate) fn has_connections(&self) -> bool {
-        self.taken.0.get() != 0
+    /// Whether on each connection both the last read and the last write said that it would wait. One that has
+    /// octets to write isn't read, and one that has none isn't written to: so one that is ready for either is
+    /// counted as ready until an event or a call tells more.
+    pub(crate) fn is_still(&self) -> bool {
+        self.taken.0.get() & self.may_read.0.get() & self.may_write.0.get() == 0
     }
 
     /// Takes up an event of the connection with this number: it may be ready for both.

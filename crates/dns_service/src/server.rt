@@ -1,7 +1,8 @@
 //! A server over devices and sockets.
 ghost use Rattle.std.specs.Prelude.{◌≡◌, ◌⊎◌, IfOk};
 ghost use Rattle.dns_service.specs.Serving.{IsRefusalTold, ServingEnds};
-ghost use Rattle.dns_service.specs.Turns.{HasPaused, IsServedOn};
+ghost use Rattle.dns_service.specs.Turns.{HasPaused, HasTurned, IsServedOn};
+ghost use Rattle.dns_primary.specs.Keeps.{IsKept};
 
 use crate::log::Log;
 use crate::opening::{Refusal, open_primary};
@@ -102,7 +103,7 @@ fn run<R: Clock, I: ZoneIndex, D: ZoneStore, S: Stream + Drop, N: Network<S>, L:
     turns: u32,
 ) -> io::Result<()>
     ensures { IfOk result
-        (λ _. IsServedOn S.Stream N.Network primary.old network.old primary.new network.new) }
+        (λ _. IsServedOn S.Stream N.Network turns primary.old network.old primary.new network.new) }
 {
     let mut edge: Edge<S> = Edge::new(heap)?;
     let start = Instant::now(rt)?;
@@ -125,7 +126,8 @@ fn listen<R: Net + Clock, I: ZoneIndex, S: ZoneStore, E: Write>(
     turns: u32,
     err: &mut E,
 ) -> io::Result<u8>
-    ensures { IfOk result (λ status. (status ≡ DONE) ⊎ (status ≡ FAILED)) }
+    ensures { IfOk result (λ status. (status ≡ FAILED)
+        ⊎ ((status ≡ DONE) × HasTurned turns (λ m. IsKept primary.old m))) }
 {
     let Ok(mut sockets) = Sockets::bind(heap, rt, address) else {
         writeln!(err, "{address}: Unavailable")?;
@@ -147,7 +149,8 @@ fn serve_primary<R: Net + Clock, I: ZoneIndex, S: ZoneStore, E: Write>(
     turns: u32,
     err: &mut E,
 ) -> io::Result<u8>
-    ensures { IfOk result (λ status. (status ≡ DONE) ⊎ (status ≡ FAILED)) }
+    ensures { IfOk result (λ status. (status ≡ FAILED)
+        ⊎ ((status ≡ DONE) × HasTurned turns (λ m. IsKept primary m))) }
 {
     let mut primary = primary;
     tell_zones(err, &primary, origins)?;
@@ -169,13 +172,18 @@ struct Service<'a, R, E> {
 /// What can be served so. (A call that names both a store over a device and the memory of every collection
 /// has no proof, so that the service is a type parameter.)
 trait Servable<S> {
+    /// All turns of a service were made of it.
+    ghost is_served: { Self → S → Type 0 };
+
     /// Serves it, and gives the exit status.
     fn serve_as(self, service: &mut S) -> u8
-        ensures { (result ≡ DONE) ⊎ (result ≡ FAILED) };
+        ensures { (result ≡ FAILED) ⊎ ((result ≡ DONE) × is_served self service.old) };
 }
 
 impl<R: Net + Clock, I: ZoneIndex, S: ZoneStore, E: Write> Servable<Service<'_, R, E>>
     for Primary<I, S> {
+    ghost is_served = { λ primary service. HasTurned service.turns (λ m. IsKept primary m) };
+
     fn serve_as(self, service: &mut Service<'_, R, E>) -> u8 {
         serve_primary(
             service.heap,
@@ -192,7 +200,7 @@ impl<R: Net + Clock, I: ZoneIndex, S: ZoneStore, E: Write> Servable<Service<'_, 
 
 /// Serves a primary, and gives the exit status.
 fn serve_as<S, P: Servable<S>>(primary: P, service: &mut S) -> u8
-    ensures { (result ≡ DONE) ⊎ (result ≡ FAILED) }
+    ensures { (result ≡ FAILED) ⊎ ((result ≡ DONE) × P.is_served primary service.old) }
 {
     primary.serve_as(service)
 }
@@ -226,7 +234,7 @@ fn serve_all<D: Sectors + Drop, F: Devices<D>, I: ZoneIndex, R: Net + Clock, E: 
     err: &mut E,
 ) -> io::Result<u8>
     ensures { IfOk result
-        (λ status. ServingEnds D.Sectors (F.opened devices.now) config.now explain (E.contents err.old)
+        (λ status. ServingEnds D.Sectors (F.opened devices.now) config.now turns explain (E.contents err.old)
         (E.contents err.new) status) }
 {
     let configuration = match read_configuration(alloc, heap, config) {
@@ -269,7 +277,7 @@ pub fn serve<D: Sectors + Drop, F: Devices<D>, I: ZoneIndex, R: Net + Clock, E: 
     explain: bool,
     err: &mut E,
 ) -> u8
-    ensures { ServingEnds D.Sectors (F.opened devices.now) config.now explain (E.contents err.old)
+    ensures { ServingEnds D.Sectors (F.opened devices.now) config.now turns explain (E.contents err.old)
         (E.contents err.new) result }
 {
     serve_all::<D, F, I, R, E>(alloc, heap, rt, devices, config, turns, explain, err).unwrap_or(

@@ -144,10 +144,11 @@ impl Network<Socket> for Sockets {
         self.datagrams.receive(into)
     }
 
-    /// Sends a datagram. Where there are connections a turn may take long, so nothing is held back.
+    /// Sends a datagram. Where a connection may have something to do a turn may take long, so nothing is held
+    /// back.
     fn send(&mut self, to: Peer, octets: &[u8]) {
         self.datagrams.send(to, octets);
-        if self.readiness.has_connections() {
+        if !self.readiness.is_still() {
             self.datagrams.send_all();
         }
     }
@@ -157,6 +158,10 @@ impl Network<Socket> for Sockets {
     fn look(&mut self) {
         self.datagrams.send_all();
         self.take_events(Duration::ZERO);
+    }
+
+    fn is_still(&self) -> bool {
+        self.readiness.is_still()
     }
 
     /// Waits until a socket is ready, or about a second has passed. Each of them had nothing to do.

@@ -27,11 +27,12 @@ use Rattle.dns_store.specs.Versions.{Versions, Shape, Opened, newest_after, move
 use Rattle.dns_store.specs.Opens.{IsPartOf, IsPartOfIn, base_of, durable_part, fresh, opens, sizes_of}
 use Rattle.dns_store.proofs.Leaves.{part_opened}
 use Rattle.dns_store.specs.Recovered.{AreLed}
-use Rattle.dns_store.specs.Checkpoint.{AllZones, IsBaseOf, IsNextBase, sectors_of_snapshot}
+use Rattle.dns_store.specs.Plain.{sectors_of_snapshot}
+use Rattle.dns_store.specs.Checkpoint.{AllZones, IsBaseOf, IsNextBase}
 use Rattle.dns_store.specs.Choosing.{IsChosen, version_from}
 use Rattle.dns_store.specs.Migrating.{IsMigrated, IsReadOld, StaysOrMigrates, MigratesAsPossible, old_opens}
 use Rattle.dns_store.proofs.Places.{versions_behind}
-use Rattle.dns_store.proofs.Moving.{led_count, newest_on, part_turned}
+use Rattle.dns_store.proofs.Moving.{AllFit, fit_last, led_count, newest_on, part_turned}
 use Rattle.dns_store.proofs.Lent.{led_take, led_drop, zones_of, zones_take}
 use Rattle.dns_store.proofs.Opening.{stands_first}
 
@@ -67,7 +68,7 @@ module _ (shape : Shape) (o : Opened) (s : Stored) (d : Content) (root : Root) (
   pub zones : AllZones base.apex vs
   zones =
       subst (λ a. AllZones a vs) (sym (ap (λ (z : Zone). z.apex) read.base_is))
-      (zones_of One shape.apex (base_of o) vs s.entries read.part.changes)
+      (zones_of One shape.apex shape.snapshot (base_of o) vs s.entries read.part.changes)
 
   pub long : length changes ≡ length vs
   long = led_count (base_of o) vs changes read.led
@@ -76,7 +77,7 @@ module _ (shape : Shape) (o : Opened) (s : Stored) (d : Content) (root : Root) (
   behind = length-drop o.base o.versions
 
   pub number : version_of s ≡ length o.versions
-  number = omega (arith, versions_behind One shape.apex s.base (base_of o) vs s.entries read.part.changes, read.part.number, read.part.so_far, behind)
+  number = omega (arith, versions_behind One shape.apex shape.snapshot s.base (base_of o) vs s.entries read.part.changes, read.part.number, read.part.so_far, behind)
 
   first : (parts : List (List ℕ)) × OpensByIn One (sizes_of shape) d (sector_at d 0) parts s
   first = stands_first One (sizes_of shape) d s read.opens
@@ -113,6 +114,13 @@ module _ (shape : Shape) (o : Opened) (s : Stored) (d : Content) (root : Root) (
     there : n ≤ length vs
     there = chosen.may.there
 
+    fit : AllFit shape.snapshot (drop next o.versions)
+    fit =
+        let place : length vs - n ≡ gone = omega (arith, long) in
+        let sum : o.base + gone ≡ next = omega (arith, long, behind, there, read.part.so_far) in
+        let rest : drop gone vs ≡ drop next o.versions = drop-drop gone o.base o.versions ∙ ap (λ m. drop m o.versions) sum in
+        subst (AllFit shape.snapshot) (ap (λ m. drop m vs) place ∙ rest) (fit_last shape.snapshot (base_of o) vs n there choice.may.rooms)
+
     pub gone_led : AreLed base.records (take (length changes - n) vs) (take (length changes - n) changes)
     gone_led = led_take gone base.records vs changes led
 
@@ -145,13 +153,13 @@ module _ (shape : Shape) (o : Opened) (s : Stored) (d : Content) (root : Root) (
 
     -- What is stored after the turn is what is migrated.
     pub migrated : (octets : List ℕ) (new : Stored) → IsBaseOf (fresh shape o) (length o.versions - n) octets (drop (length changes - n) changes) → IsTurned s octets (drop (length changes - n) changes) new
-        → (after : Opened) → IsMigrated shape o after → IsPartOf shape.apex after new
+        → (after : Opened) → IsMigrated shape o after → IsPartOf shape after new
     migrated octets new is turned after to =
         let same : to.kept ≡ n = one_choice shape.snapshot shape.journal (base_of o) vs to.kept n to.chosen choice in
         let place : next ≡ after.base = omega (arith, to.base, same) in
-        let part = part_turned One (fresh shape o) s new next octets (drop gone changes) read.part is turned in
-        subst (λ (a : Opened). IsPartOf shape.apex a new) (λ i. record { loaded = sym to.loaded i; versions = sym to.versions i; base = place i; openings = after.openings })
-        (part_opened shape.apex (durable_part (moved_to next (fresh shape o))) after.openings new part)
+        let part = part_turned One (fresh shape o) s new next octets (drop gone changes) read.part fit is turned in
+        subst (λ (a : Opened). IsPartOf shape a new) (λ i. record { loaded = sym to.loaded i; versions = sym to.versions i; base = place i; openings = after.openings })
+        (part_opened shape (durable_part (moved_to next (fresh shape o))) after.openings new part)
 
     -- A crash leaves what was read, or what is migrated.
     pub converted : (zone : Zone) (octets lent : List ℕ) (m : ℕ) → m ≡ version - n → lent ≡ octets → IsNextBase base zone (take (length changes - n) vs) octets → (c : Content)
@@ -206,7 +214,7 @@ old_tag shape o c is new = tags_differ (sym new ∙ ap (λ (x : List ℕ). tag x
 
 -- what was read, as it is told to what writes it anew
 pub read_old : (shape : Shape) (o : Opened) (s : Stored) (e d : Content) (root : Root) (end : Cursor) (base : Zone) (changes : List Change) (newest : List Record) → e ≡ d
-    → IsReadIn One (sizes_of shape) e o s root end base.records changes newest → base.apex ≡ shape.apex → OpensAsIn One (sizes_of shape) d s → IsPartOfIn One shape.apex o s → IsOpenedTimes o.openings d → IsReadOld shape o s d root end.version base changes
+    → IsReadIn One (sizes_of shape) e o s root end base.records changes newest → base.apex ≡ shape.apex → OpensAsIn One (sizes_of shape) d s → IsPartOfIn One shape o s → IsOpenedTimes o.openings d → IsReadOld shape o s d root end.version base changes
 read_old shape o s e d root end base changes newest same is apex opens part opened = record {
   opens = opens;
   part = part;
@@ -222,8 +230,8 @@ module _ {D : Type 0} {g : Ghosts D} (shape : Shape) (old mid : D) (honest : g.i
   reads_migrate = weaker g.moment g.left_since old mid (g.may_leave old) (MigratesAsPossible g shape old) (reads.any_moment honest) (λ c left. (c, left, λ o is. is))
 
   module _ (new : D) (root : Root) (version : ℕ) (base : Zone) (changes : List Change) (left : g.may_leave old (g.seen old)) (not_new : tag (sector_at (g.seen old) 0) ≡ root_tag → ⊥)
-      (read : (o : Opened) (s : Stored) → OpensAsIn One (sizes_of shape) (g.seen old) s → IsPartOfIn One shape.apex o s → IsOpenedTimes o.openings (g.seen old) → IsReadOld shape o s (g.seen old) root version base changes) where
-    read_there : (o : Opened) (s : Stored) → OpensAsIn One (sizes_of shape) (g.seen old) s → IsPartOfIn One shape.apex o s → IsOpenedTimes o.openings (g.seen old) → IsReadOld shape o s (g.seen mid) root version base changes
+      (read : (o : Opened) (s : Stored) → OpensAsIn One (sizes_of shape) (g.seen old) s → IsPartOfIn One shape o s → IsOpenedTimes o.openings (g.seen old) → IsReadOld shape o s (g.seen old) root version base changes) where
+    read_there : (o : Opened) (s : Stored) → OpensAsIn One (sizes_of shape) (g.seen old) s → IsPartOfIn One shape o s → IsOpenedTimes o.openings (g.seen old) → IsReadOld shape o s (g.seen mid) root version base changes
     read_there o s is part opened = subst (λ (x : Content). IsReadOld shape o s x root version base changes) (sym (reads.seen honest)) (read o s is part opened)
 
     pub writes_migrate : LeavesOnly g.moment g.left_since mid new (StaysOrMigrates root version base changes (g.seen mid)) → LeavesOnly g.moment g.left_since old new (MigratesAsPossible g shape old)

@@ -1,5 +1,5 @@
 -- What is chosen of the changes of a store that is migrated.
-use Rattle.std.proofs.Common.{◌≡◌, ◌⊎◌, inl, inr, ⊎_elim, ℕ, zero, suc, ◌+◌, ◌-◌, ◌*◌, ◌^◌, ◌≤◌, ◌<◌, true, List, [], ◌∷◌, length, drop, refl, sym, ◌∙◌, ap, subst, arith, get_or}
+use Rattle.std.proofs.Common.{◌≡◌, ◌⊎◌, inl, inr, ⊎_elim, ℕ, zero, suc, ◌+◌, ◌-◌, ◌*◌, ◌^◌, ◌≤◌, ◌<◌, true, List, [], ◌∷◌, None, length, drop, refl, sym, ◌∙◌, ap, subst, arith, get_or}
 use Rattle.std.proofs.Math.Bool.{Bool-set}
 use Rattle.std.proofs.Math.Logic.{∥∥₁_elim}
 use Rattle.std.proofs.lemmas.Bool.{cases_lt}
@@ -12,7 +12,8 @@ use Rattle.dns_records.specs.Record.{Record, IsRecord, plain}
 use Rattle.dns_zone.specs.Zone.{IsZone}
 use Rattle.dns_zone.specs.Sets.{sorted_from}
 use Rattle.dns_zone.proofs.OneSoa.{zone_few}
-use Rattle.dns_changes.specs.Change.{Change, IsChange}
+use Rattle.dns_changes.specs.Change.{Change, IsChange, applied, change_fault}
+use Rattle.dns_changes.specs.Applied.{change_leads}
 use Rattle.dns_changes.proofs.Entries.{plain_length}
 use Rattle.dns_layout.specs.Sector.{snapshot_sectors}
 use Rattle.dns_journal.specs.Bank.{sectors_for}
@@ -20,10 +21,11 @@ use Rattle.dns_store.specs.Versions.{Versions, newest_after}
 use Rattle.dns_store.specs.Room.{entries_along}
 use Rattle.dns_store.specs.Staged.{entries_length}
 use Rattle.dns_store.specs.Recovered.{AreLed}
-use Rattle.dns_store.specs.Checkpoint.{newest_sectors, sectors_of_snapshot, IsMostKept, AllZones}
+use Rattle.dns_store.specs.Checkpoint.{newest_sectors, IsMostKept, AllZones}
 use Rattle.dns_store.specs.Choosing.{version_from, IsChosen, IsFirstFitting}
-use Rattle.dns_store.specs.Plain.{octets_of}
-use Rattle.dns_store.proofs.Counts.{counts, octets_more}
+use Rattle.dns_store.specs.Plain.{octets_of, sectors_of_snapshot}
+use Rattle.dns_store.proofs.Counts.{octets_more}
+use Rattle.dns_store.proofs.Applying.{counts_applied}
 use Rattle.dns_store.proofs.Lent.{led_sums}
 
 -- the change to the next version
@@ -53,15 +55,23 @@ pub short_all : (rs : List Record) → AllByRecursion IsRecord rs → octets_of 
 short_all [] each = omega arith
 short_all (r ∷ rs) each = let one = short_one r each.0 in let rest = short_all rs each.1 in omega (arith, octets_more r rs, one, rest)
 
--- what is counted from a version on are the octets of the next one
-pub octets_next : (apex : Labels) (before after : List Record) (c : Change) (octets n : ℕ) → IsZone (record { apex = apex; records = before }) → IsZone (record { apex = apex; records = after }) → IsChange before after c → octets ≡ octets_of before
+-- what is counted from a version on are the octets of the one that a change makes of it
+pub octets_made : (apex : Labels) (before after : List Record) (c : Change) (octets n : ℕ) → IsZone (record { apex = apex; records = before }) → IsZone (record { apex = apex; records = after }) → change_fault c before ≡ None → applied c before ≡ after → octets ≡ octets_of before
     → ((kept : ℕ) → octets ≡ octets_of (c.old_soa ∷ c.removed) + kept → octets_of (c.new_soa ∷ c.added) + kept < 2 ^ 64 → n ≡ octets_of (c.new_soa ∷ c.added) + kept) → n ≡ octets_of after
-octets_next apex before after c octets n valid next change is moved =
-    let sum = counts before after c (sorted_from before valid.ordered) (sorted_from after next.ordered) change in
+octets_made apex before after c octets n valid next applies makes is moved =
+    let sum = counts_applied before c (sorted_from before valid.ordered) applies in
+    let new : octets_of after ≡ octets_of (c.new_soa ∷ c.added) + sum.kept = ap octets_of (sym makes) ∙ sum.new in
     let test : nat_le (octets_of after) (4359 * length after) ≡ true = ∥∥₁_elim next.each (Bool-set (nat_le (octets_of after) (4359 * length after)) true) (λ all. let short = short_all after all in grind (arith, nat_tests, short)) in
     let short : octets_of after ≤ 4359 * length after = grind (arith, nat_tests, test) in
     let few = zone_few (record { apex = apex; records = after }) next in
-    moved sum.kept (is ∙ sum.old) (omega (arith, short, few, sum.new)) ∙ sym sum.new
+    moved sum.kept (is ∙ sum.old) (omega (arith, short, few, new)) ∙ sym new
+
+-- ... and of the next one
+pub octets_next : (apex : Labels) (before after : List Record) (c : Change) (octets n : ℕ) → IsZone (record { apex = apex; records = before }) → IsZone (record { apex = apex; records = after }) → IsChange before after c → octets ≡ octets_of before
+    → ((kept : ℕ) → octets ≡ octets_of (c.old_soa ∷ c.removed) + kept → octets_of (c.new_soa ∷ c.added) + kept < 2 ^ 64 → n ≡ octets_of (c.new_soa ∷ c.added) + kept) → n ≡ octets_of after
+octets_next apex before after c octets n valid next change is moved =
+    let leads = change_leads before after c valid.ordered next.ordered change in
+    octets_made apex before after c octets n valid next leads.fits leads.result is moved
 
 -- the first fitting one, up to the base
 pub fits_first : (room : ℕ) (base : List Record) (vs : Versions) (octets r : ℕ) → octets ≡ octets_of base → (room < snapshot_sectors octets → r ≡ 0 + 1) → (snapshot_sectors octets ≤ room → r ≡ 0) → IsFirstFitting room base vs 0 r

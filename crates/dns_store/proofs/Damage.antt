@@ -19,6 +19,7 @@ use Rattle.dns_journal.specs.declared.read.ReadError.{ReadError}
 use Rattle.dns_store.specs.declared.root.OpenError.{OpenError}
 use Rattle.dns_store.specs.Root.{open_error, RootRefusalIn}
 use Rattle.dns_store.specs.Versions.{Shape}
+use Rattle.dns_store.specs.Plain.{sectors_of_snapshot_in}
 use Rattle.dns_store.specs.Snapshot.{HoldsSnapshotIn, IsBadSnapshotIn, IsNoSnapshot}
 use Rattle.dns_store.specs.Damage.{NamesSector, NamesSpoiltIn, ReadChange, IsStepAtIn, AreStepsIn, NamesWrongEntryIn, NamesWrongIn, bank_at}
 
@@ -39,7 +40,7 @@ sector_named place e r is (inr (inl memory)) = inr (inl (is ∙ ap open_error me
 sector_named place e r is (inr (inr that)) = inr (inr (is ∙ ap open_error that))
 
 module _ (f : Format) where
-  -- in a wider place
+  -- in a wider range
   pub named_within : (d : Content) (low from until high : ℕ) (r : OpenError) → low ≤ from → until ≤ high → NamesSpoiltIn f d from until r → NamesSpoiltIn f d low high r
   named_within d low from until high OpenError.Device a b s = s
   named_within d low from until high OpenError.Blank a b s = s
@@ -47,44 +48,44 @@ module _ (f : Format) where
   named_within d low from until high OpenError.Geometry a b s = s
   named_within d low from until high OpenError.OutOfMemory a b s = s
 
-  pub one_more : (apex : Labels) (c : Content) (from : Cursor) (base : List Record) (steps : List ReadChange) (at : Cursor) (newest : List Record) (s : ReadChange)
-      → AreStepsIn f apex c from base steps at newest
-      → IsStepAtIn f apex c at newest s
-      → AreStepsIn f apex c from base (steps ++ s ∷ []) s.behind s.after
-  one_more apex c from base [] at newest s read next =
-      (subst (λ (r : List Record). IsStepAtIn f apex c from r s) read.1 (subst (λ (k : Cursor). IsStepAtIn f apex c k newest s) read.0 next), (refl, refl))
-  one_more apex c from base (t ∷ steps) at newest s read next = (read.0, one_more apex c t.behind t.after steps at newest s read.1 next)
+  pub one_more : (apex : Labels) (room : ℕ) (c : Content) (from : Cursor) (base : List Record) (steps : List ReadChange) (at : Cursor) (newest : List Record) (s : ReadChange)
+      → AreStepsIn f apex room c from base steps at newest
+      → IsStepAtIn f apex room c at newest s
+      → AreStepsIn f apex room c from base (steps ++ s ∷ []) s.behind s.after
+  one_more apex room c from base [] at newest s read next =
+      (subst (λ (r : List Record). IsStepAtIn f apex room c from r s) read.1 (subst (λ (k : Cursor). IsStepAtIn f apex room c k newest s) read.0 next), (refl, refl))
+  one_more apex room c from base (t ∷ steps) at newest s read next = (read.0, one_more apex room c t.behind t.after steps at newest s read.1 next)
 
   -- what reading an entry refuses
-  pub refusal_named : (apex : Labels) (base : List Record) (from : Cursor) (c : Content) (steps : List ReadChange) (at : Cursor) (newest : List Record)
-      → AreStepsIn f apex c from base steps at newest
+  pub refusal_named : (apex : Labels) (room : ℕ) (base : List Record) (from : Cursor) (c : Content) (steps : List ReadChange) (at : Cursor) (newest : List Record)
+      → AreStepsIn f apex room c from base steps at newest
       → (low high : ℕ) → low ≤ at.at → at.until ≤ high
       → (e : ReadError) (r : OpenError)
       → r ≡ open_error e
       → NamesSpoilt f c at.at at.until e ⊎ IsRefusal f at c e
-      → NamesSpoiltIn f c low high r ⊎ NamesWrongEntryIn f apex base from c r
-  refusal_named apex base from c steps at newest read low high a b ReadError.Device r is wrong = inr (subst (λ (q : OpenError). NamesWrongEntryIn f apex base from c q) (sym is) tt)
-  refusal_named apex base from c steps at newest read low high a b (ReadError.Damaged place) r is (inl spoilt) =
+      → NamesSpoiltIn f c low high r ⊎ NamesWrongEntryIn f apex room base from c r
+  refusal_named apex room base from c steps at newest read low high a b ReadError.Device r is wrong = inr (subst (λ (q : OpenError). NamesWrongEntryIn f apex room base from c q) (sym is) tt)
+  refusal_named apex room base from c steps at newest read low high a b (ReadError.Damaged place) r is (inl spoilt) =
       inl (named_within c low at.at at.until high r a b (subst (λ (q : OpenError). NamesSpoiltIn f c at.at at.until q) (sym is) spoilt))
-  refusal_named apex base from c steps at newest read low high a b (ReadError.Damaged place) r is (inr wrong) =
-      inr (subst (λ (q : OpenError). NamesWrongEntryIn f apex base from c q) (sym is)
+  refusal_named apex room base from c steps at newest read low high a b (ReadError.Damaged place) r is (inr wrong) =
+      inr (subst (λ (q : OpenError). NamesWrongEntryIn f apex room base from c q) (sym is)
       (record { steps = steps; at = at; newest = newest; read = read; wrong = inl wrong }))
-  refusal_named apex base from c steps at newest read low high a b ReadError.OutOfMemory r is wrong = inr (subst (λ (q : OpenError). NamesWrongEntryIn f apex base from c q) (sym is) tt)
+  refusal_named apex room base from c steps at newest read low high a b ReadError.OutOfMemory r is wrong = inr (subst (λ (q : OpenError). NamesWrongEntryIn f apex room base from c q) (sym is) tt)
 
   -- an entry that was read and holds no change
-  pub fault_named : (apex : Labels) (base : List Record) (from : Cursor) (c : Content) (steps : List ReadChange) (at behind : Cursor) (newest : List Record) (octets : List ℕ) (head : ℕ)
-      → AreStepsIn f apex c from base steps at newest
+  pub fault_named : (apex : Labels) (room : ℕ) (base : List Record) (from : Cursor) (c : Content) (steps : List ReadChange) (at behind : Cursor) (newest : List Record) (octets : List ℕ) (head : ℕ)
+      → AreStepsIn f apex room c from base steps at newest
       → FindsEntry f at behind c octets
       → head ≡ at.at
       → (r : OpenError)
-      → ((after : List Record) (d : Change) → IsChange newest after d → HasEntry d → entry d ≡ octets → IsZone (record { apex = apex; records = after }) → r ≡ OpenError.OutOfMemory)
+      → ((after : List Record) (d : Change) → IsChange newest after d → HasEntry d → entry d ≡ octets → IsZone (record { apex = apex; records = after }) → sectors_of_snapshot_in f after ≤ room → r ≡ OpenError.OutOfMemory)
       → (r ≡ OpenError.OutOfMemory) ⊎ (r ≡ OpenError.Damaged head)
-      → NamesWrongEntryIn f apex base from c r
-  fault_named apex base from c steps at behind newest octets head read found place r only told =
+      → NamesWrongEntryIn f apex room base from c r
+  fault_named apex room base from c steps at behind newest octets head read found place r only told =
       ⊎_elim
-      (λ (memory : r ≡ OpenError.OutOfMemory). subst (λ (q : OpenError). NamesWrongEntryIn f apex base from c q) (sym memory) tt)
+      (λ (memory : r ≡ OpenError.OutOfMemory). subst (λ (q : OpenError). NamesWrongEntryIn f apex room base from c q) (sym memory) tt)
       (λ (damaged : r ≡ OpenError.Damaged head).
-      subst (λ (q : OpenError). NamesWrongEntryIn f apex base from c q) (sym damaged)
+      subst (λ (q : OpenError). NamesWrongEntryIn f apex room base from c q) (sym damaged)
       (record {
         steps = steps;
         at = at;
@@ -95,7 +96,7 @@ module _ (f : Format) where
           octets = octets;
           behind = behind;
           found = found;
-          none = λ after d leads written is valid. let both : OpenError.OutOfMemory ≡ OpenError.Damaged head = sym (only after d leads written is valid) ∙ damaged in absurd cc;
+          none = λ after d leads written is valid fits. let both : OpenError.OutOfMemory ≡ OpenError.Damaged head = sym (only after d leads written is valid fits) ∙ damaged in absurd cc;
         });
       }))
       told
@@ -142,7 +143,7 @@ module _ (f : Format) where
 
     -- what the entries are refused for
     pub journal_named : (base : List Record) → HoldsSnapshotIn f (sector_at c 0) at c (flat_map plain base) → IsZone (record { apex = s.apex; records = base }) → (r : OpenError)
-        → NamesSpoiltIn f c (at + s.snapshot) (at + s.snapshot + s.journal) r ⊎ NamesWrongEntryIn f s.apex base (record { at = at + s.snapshot; until = at + s.snapshot + s.journal; version = root.base; opened = root.bank_open }) c r → NamesWrongIn f s c r
+        → NamesSpoiltIn f c (at + s.snapshot) (at + s.snapshot + s.journal) r ⊎ NamesWrongEntryIn f s.apex s.snapshot base (record { at = at + s.snapshot; until = at + s.snapshot + s.journal; version = root.base; opened = root.bank_open }) c r → NamesWrongIn f s c r
     journal_named base holds valid OpenError.Device wrong = tt
     journal_named base holds valid OpenError.Blank wrong = tt
     journal_named base holds valid (OpenError.Damaged place) (inl spoilt) =
@@ -155,7 +156,7 @@ module _ (f : Format) where
             base = base;
             holds = subst (λ n. HoldsSnapshotIn f (sector_at c 0) n c (flat_map plain base)) at_is holds;
             valid = valid;
-            wrong = subst (λ n. NamesWrongEntryIn f s.apex base (record { at = n + s.snapshot; until = n + s.snapshot + s.journal; version = root.base; opened = root.bank_open }) c (OpenError.Damaged place)) at_is wrong;
+            wrong = subst (λ n. NamesWrongEntryIn f s.apex s.snapshot base (record { at = n + s.snapshot; until = n + s.snapshot + s.journal; version = root.base; opened = root.bank_open }) c (OpenError.Damaged place)) at_is wrong;
           }))),
         )
     journal_named base holds valid OpenError.Geometry wrong = tt

@@ -23,7 +23,7 @@ use Rattle.dns_store.specs.Opening.{OpensAsPossible, IsNotReopened}
 use Rattle.dns_store.specs.Turn.{StaysStored}
 use Rattle.dns_store.proofs.Opening.{stands_first}
 
--- what was read stands by its root, in what is there now as in what was there before
+-- what was read is there by its root, in what is there now as in what was there before
 pub record Stands (shape : Shape) (old now : Content) (root : Root) (s : Stored) : Type 0 where
   pub parts : List (List ℕ)
   pub by : OpensBy (sizes_of shape) now (sector_at old 0) parts s
@@ -40,7 +40,7 @@ module _ {D : Type 0} {g : Ghosts D} (shape : Shape) (old mid : D) (honest : g.i
 
   -- the root that was read is raised
   pub raise_leaves : (new : D) (root : Root) → g.may_leave old (g.seen old)
-      → ((o : Opened) (s : Stored) → OpensAs (sizes_of shape) (g.seen old) s → IsPartOf shape.apex o s → SaysRoot (sector_at (g.seen old) 0) root)
+      → ((o : Opened) (s : Stored) → OpensAs (sizes_of shape) (g.seen old) s → IsPartOf shape o s → SaysRoot (sector_at (g.seen old) 0) root)
       → LeavesOnly g.moment g.left_since mid new (StaysStored (g.seen mid) root)
       → LeavesOnly g.moment g.left_since old new (OpensAsPossible g shape old)
   raise_leaves new root left says run =
@@ -52,7 +52,7 @@ module _ {D : Type 0} {g : Ghosts D} (shape : Shape) (old mid : D) (honest : g.i
             (let there = stands shape (g.seen old) (g.seen mid) root is.0 (reads.seen honest) is.1 is.2 in
             let now = stays (sizes_of shape) is.0 (sector_at (g.seen old) 0) there.parts there.by there.tidy (says o is.0 is.1 is.3) in
             ⊎_elim (λ same. inl (is.0, now.0, now.1, is.3, same ∙ is.4))
-            (λ more. inr (is.0, now.0, now.1, part_opened shape.apex o (o.openings + 1) is.0 is.3, more ∙ ap (λ n. n + 1) is.4)) now.2),
+            (λ more. inr (is.0, now.0, now.1, part_opened shape o (o.openings + 1) is.0 is.3, more ∙ ap (λ n. n + 1) is.4)) now.2),
       ))
 
 -- of a device that wasn't altered no altered sector is named
@@ -65,6 +65,6 @@ none_altered f n c errors.Geometry (inr named) = absurd named
 none_altered f n c errors.OutOfMemory (inr named) = absurd named
 
 -- the number of the newest version
-pub newest_number : (apex : Labels) (o : Opened) (s : Stored) → IsPartOf apex o s → version_of s ≡ length o.versions
-newest_number apex o s part =
-    omega (arith, versions_behind Two apex s.base (base_of o) (drop o.base o.versions) s.entries part.changes, part.number, part.so_far, length-drop o.base o.versions)
+pub newest_number : (shape : Shape) (o : Opened) (s : Stored) → IsPartOf shape o s → version_of s ≡ length o.versions
+newest_number shape o s part =
+    omega (arith, versions_behind Two shape.apex shape.snapshot s.base (base_of o) (drop o.base o.versions) s.entries part.changes, part.number, part.so_far, length-drop o.base o.versions)

@@ -1,4 +1,4 @@
--- A store's base and changes, behind each of its calls.
+-- A store's base and changes, after each of its calls.
 use Rattle.std.proofs.Common.{◌≡◌, ◌≤◌, ℕ, Bool, true, false, List, [], ◌∷◌, ◌++◌, length, take, drop, sym, ◌∙◌, ap, subst, arith, append_assoc, length-append}
 use Rattle.std.proofs.lemmas.List.{append-nil, take-append-le, drop-append-le}
 use Rattle.dns_records.specs.Record.{Record}

@@ -1,6 +1,6 @@
 -- A store with its base and its changes: what a checkpoint keeps of them.
-use Rattle.std.proofs.Common.{◌≡◌, inl, ℕ, zero, suc, ◌+◌, ◌-◌, ◌≤◌, Bool, true, false, List, [], ◌∷◌, length, take, drop, refl, sym, ◌∙◌, ap, subst, arith, drop-drop}
-use Rattle.std.proofs.lemmas.List.{length-drop}
+use Rattle.std.proofs.Common.{◌≡◌, inl, ℕ, zero, suc, ◌+◌, ◌-◌, ◌≤◌, Bool, true, false, List, [], ◌∷◌, ◌++◌, length, take, drop, refl, sym, ◌∙◌, ap, subst, arith, drop-drop}
+use Rattle.std.proofs.lemmas.List.{length-drop, length-take, take-append-le}
 use Rattle.std.proofs.lemmas.List.Sums.{sum_by-cons}
 use Rattle.std.specs.Prelude.{sum_by, min}
 use Rattle.std.specs.List.{flat_map}
@@ -12,7 +12,8 @@ use Rattle.dns_sectors.specs.Device.{Content, LeavesOnly}
 use Rattle.dns_sectors.specs.declared.device.Sectors.{Ghosts}
 use Rattle.dns_sectors.proofs.Moments.{started}
 use Rattle.dns_layout.specs.Journal.{Entry}
-use Rattle.dns_layout.specs.Store.{Stored}
+use Rattle.dns_layout.specs.Sector.{snapshot_length, snapshot_sectors, payload_in}
+use Rattle.dns_layout.specs.Store.{Shape as Sizes, Stored, OpensBy}
 use Rattle.dns_journal.specs.State.{is_closed, device_of, newest_of}
 use Rattle.dns_journal.specs.Bank.{sectors_for, journal_room_of, snapshot_room_of}
 use Rattle.dns_journal.specs.declared.journal.Journal.{Journal}
@@ -21,12 +22,15 @@ use Rattle.dns_store.specs.Room.{entry_between, entries_along}
 use Rattle.dns_store.specs.Staged.{entry_is, entries_length}
 use Rattle.dns_layout.specs.declared.format.Format.{Format}
 use Rattle.dns_layout.specs.declared.format.Format.TheVariants.{Two}
-use Rattle.dns_store.specs.Opens.{AreChangesIn, IsKeptBy, KeepsVersionsBy, opens}
+use Rattle.dns_store.specs.Opens.{AreChangesIn, AreChanges, IsKeptBy, durable_part, KeepsVersionsBy, opens, sizes_of}
+use Rattle.dns_store.specs.Plain.{sectors_of_snapshot}
+use Rattle.dns_store.specs.Holding.{HoldsVersions}
 use Rattle.dns_store.specs.Laws.{at_rest_of}
 use Rattle.dns_store.specs.Recovered.{AreLed}
 use Rattle.dns_store.specs.Checkpoint.{newest_sectors, IsMostKept, IsKeptNumber, IsBaseLent, AllZones, IsBaseOf, IsNextBase, entries_after_base}
+use Rattle.dns_store.proofs.Leaves.{part_more}
 use Rattle.dns_store.proofs.Places.{along_drop, number_kept}
-use Rattle.dns_store.proofs.Moving.{led_count, newest_on}
+use Rattle.dns_store.proofs.Moving.{changes_fit, newest_fits, led_count, newest_on}
 
 -- the sectors of the entries of changes, and of those between the versions
 pub led_sums : (before : List Record) (vs : Versions) (cs : List Change) (i : ℕ) → AreLed before vs cs → sum_by sectors_for (drop i cs) ≡ sum_by (λ size. size) (drop i (entries_along before vs))
@@ -40,10 +44,10 @@ led_sums before (v ∷ vs) (c ∷ cs) zero led =
     sum_by-cons sectors_for c cs ∙ omega (arith, rest, here) ∙ sym (sum_by-cons (λ size. size) (entry_between before v) (entries_along v vs))
 led_sums before (v ∷ vs) (c ∷ cs) (suc i) led = led_sums v vs cs i led.1
 
-pub zones_of : (f : Format) (apex : Labels) (before : List Record) (vs : Versions) (es : List Entry) → AreChangesIn f apex before vs es → AllZones apex vs
-zones_of f apex before [] es are = tt
-zones_of f apex before (v ∷ vs) [] are = absurd are
-zones_of f apex before (v ∷ vs) (e ∷ es) are = (are.0.valid, zones_of f apex v vs es are.1)
+pub zones_of : (f : Format) (apex : Labels) (room : ℕ) (before : List Record) (vs : Versions) (es : List Entry) → AreChangesIn f apex room before vs es → AllZones apex vs
+zones_of f apex room before [] es are = tt
+zones_of f apex room before (v ∷ vs) [] are = absurd are
+zones_of f apex room before (v ∷ vs) (e ∷ es) are = (are.0.valid, zones_of f apex room v vs es are.1)
 
 pub zones_take : (apex : Labels) (n : ℕ) (vs : Versions) → AllZones apex vs → AllZones apex (take n vs)
 zones_take apex zero vs zones = tt
@@ -75,6 +79,17 @@ most_one f xs h ys keep keep' room m n same sums less more one other =
 pub kept_open : {D : Type 0} {g : Ghosts D} (journal : Journal D g) (k : Kept) (closed : Bool) → is_closed journal ≡ false → KeepsVersionsBy journal k closed → (s : Stored) × (staged : List Entry) × IsKeptBy journal k s staged
 kept_open journal k false is_open kept = kept
 kept_open journal k true is_open kept = let both = kept.closed in absurd cc
+
+-- What is stored takes at most as many sectors as a snapshot has.
+sectors_grow : (a b : ℕ) → a ≤ b → snapshot_sectors a ≤ snapshot_sectors b
+unfolding snapshot_sectors
+sectors_grow a b le = omega (arith, le)
+
+stored_fits : (sizes : Sizes) (c : Content) (root : List ℕ) (parts : List (List ℕ)) (s : Stored) → OpensBy sizes c root parts s → snapshot_sectors (length s.snapshot) ≤ sizes.snapshot
+stored_fits sizes c root parts s by =
+    let short : length s.snapshot ≤ snapshot_length root = subst (λ (xs : List ℕ). length xs ≤ snapshot_length root) by.snapshot (omega (arith, length-take (snapshot_length root) (flat_map (payload_in Two) parts))) in
+    let grows = sectors_grow (length s.snapshot) (snapshot_length root) short in
+    omega (arith, grows, by.valid.fits)
 
 -- No device call was made.
 pub rest_either : {D : Type 0} {g : Ghosts D} (only_now : (d : D) (c : Content) → g.is_honest d → g.left_since d (g.moment d) c → g.may_leave d c) (old new : Journal D g) (k : Kept) (base : ℕ) → device_of new ≡ device_of old → KeepsVersionsBy old k k.closed
@@ -161,7 +176,16 @@ module _ {D : Type 0} {g : Ghosts D} (journal : Journal D g) (base : Zone) (chan
     pub gone_zones : AllZones base.apex (take (length changes - m) (drop k.base k.shown))
     gone_zones =
         subst (λ (a : Labels). AllZones a (take (length changes - m) (drop k.base k.shown))) (sym apex_is)
-        (zones_take k.shape.apex (length changes - m) (drop k.base k.shown) (zones_of Two k.shape.apex (version_at k k.base) (drop k.base k.shown) kept_as.0.entries kept.part.changes))
+        (zones_take k.shape.apex (length changes - m) (drop k.base k.shown) (zones_of Two k.shape.apex k.shape.snapshot (version_at k k.base) (drop k.base k.shown) kept_as.0.entries kept.part.changes))
+
+    -- the version that the kept changes begin at fits
+    pub gone_fits : sectors_of_snapshot (newest_after base.records (take (length changes - m) (drop k.base k.shown))) ≤ k.shape.snapshot
+    gone_fits =
+        let first : sectors_of_snapshot (version_at k k.base) ≤ k.shape.snapshot =
+        subst (λ (xs : List ℕ). snapshot_sectors (length xs) ≤ k.shape.snapshot) kept.part.snapshot (stored_fits (sizes_of k.shape) _ kept.keeps.0 kept.keeps.1 kept_as.0 kept.keeps.2.opens) in
+        newest_fits k.shape.snapshot (length changes - m) base.records (drop k.base k.shown)
+        (subst (λ (rs : List Record). sectors_of_snapshot rs ≤ k.shape.snapshot) (sym records_are) first)
+        (changes_fit k.shape.apex k.shape.snapshot (version_at k k.base) (drop k.base k.shown) kept_as.0.entries kept.part.changes)
 
     pub next_records : newest_after base.records (take (length changes - m) (drop k.base k.shown)) ≡ version_at k (length k.shown - m)
     next_records = ap (λ (rs : List Record). newest_after rs (take (length changes - m) (drop k.base k.shown))) records_are ∙ next_is
@@ -187,3 +211,42 @@ module _ {D : Type 0} {g : Ghosts D} (journal : Journal D g) (base : Zone) (chan
       base_is = λ i. record { apex = (found.apex ∙ apex_is) i; records = (found.records ∙ next_records) i };
       led = rest_led;
     }
+
+-- The same of all versions, staged ones among them.
+module _ {D : Type 0} {g : Ghosts D} (journal : Journal D g) (base : Zone) (changes : List Change) (k : Kept) (held : HoldsVersions journal base changes k) (is_open : is_closed journal ≡ false) where
+  abbrev held_as : (s : Stored) × (staged : List Entry) × IsKeptBy journal k s staged
+  held_as = kept_open journal k k.closed is_open held.keeps
+
+  abbrev all : Versions
+  all = drop k.base (k.shown ++ k.staged)
+
+  stored : IsKeptBy journal k (kept_open journal k k.closed is_open held.keeps).0 (kept_open journal k k.closed is_open held.keeps).1
+  stored = (kept_open journal k k.closed is_open held.keeps).2
+
+  held_records : base.records ≡ version_at k k.base
+  held_records = ap (λ (z : Zone). z.records) held.base_is
+
+  held_changes : AreChanges k.shape.apex k.shape.snapshot (version_at k k.base) (drop k.base (k.shown ++ k.staged)) (held_as.0.entries ++ held_as.1)
+  held_changes =
+      let whole = part_more k.shape (durable_part k) held_as.0 k.staged held_as.1 stored.part stored.changes in
+      subst (λ (rs : List Record). AreChanges k.shape.apex k.shape.snapshot rs (drop k.base (k.shown ++ k.staged)) (held_as.0.entries ++ held_as.1))
+      (ap (λ (vs : Versions). newest_after k.loaded vs) (take-append-le k.base k.shown k.staged stored.part.so_far)) whole.changes
+
+  pub held_room : snapshot_room_of journal ≡ k.shape.snapshot
+  held_room = sym stored.keeps.2.says.snapshot_room_is ∙ stored.keeps.2.opens.valid.snapshot
+
+  pub held_led : (n : ℕ) → AreLed base.records (take n (drop k.base (k.shown ++ k.staged))) (take n changes)
+  held_led n = subst (λ (rs : List Record). AreLed rs (take n (drop k.base (k.shown ++ k.staged))) (take n changes)) (sym held_records) (led_take n (version_at k k.base) (drop k.base (k.shown ++ k.staged)) changes held.led)
+
+  pub held_zones : (n : ℕ) → AllZones base.apex (take n (drop k.base (k.shown ++ k.staged)))
+  held_zones n =
+      subst (λ (a : Labels). AllZones a (take n (drop k.base (k.shown ++ k.staged)))) (sym (ap (λ (z : Zone). z.apex) held.base_is))
+      (zones_take k.shape.apex n (drop k.base (k.shown ++ k.staged)) (zones_of Two k.shape.apex k.shape.snapshot (version_at k k.base) (drop k.base (k.shown ++ k.staged)) (held_as.0.entries ++ held_as.1) held_changes))
+
+  pub held_fits : (n : ℕ) → sectors_of_snapshot (newest_after base.records (take n (drop k.base (k.shown ++ k.staged)))) ≤ k.shape.snapshot
+  held_fits n =
+      let first : sectors_of_snapshot (version_at k k.base) ≤ k.shape.snapshot =
+      subst (λ (xs : List ℕ). snapshot_sectors (length xs) ≤ k.shape.snapshot) stored.part.snapshot (stored_fits (sizes_of k.shape) _ stored.keeps.0 stored.keeps.1 held_as.0 stored.keeps.2.opens) in
+      newest_fits k.shape.snapshot n base.records (drop k.base (k.shown ++ k.staged))
+      (subst (λ (rs : List Record). sectors_of_snapshot rs ≤ k.shape.snapshot) (sym held_records) first)
+      (changes_fit k.shape.apex k.shape.snapshot (version_at k k.base) (drop k.base (k.shown ++ k.staged)) (held_as.0.entries ++ held_as.1) held_changes)

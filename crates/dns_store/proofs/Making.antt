@@ -1,4 +1,4 @@
--- A store that is made: what the sectors behind its root say, and that it opens.
+-- A store that is made: what the sectors after its root say, and that it opens.
 use Rattle.std.proofs.Common.{◌≡◌, ◌⊎◌, inl, inr, ⊎_elim, ℕ, zero, suc, ◌+◌, ◌-◌, ◌*◌, ◌≤◌, ◌<◌, true, List, [], ◌∷◌, ◌++◌, length, take, drop, replicate, refl, sym, ◌∙◌, ap, subst, arith, add-one}
 use Rattle.std.specs.Prelude.{get_or, slice_set}
 use Rattle.std.proofs.Math.Seq.{take-append_seam, drop-append_seam}
@@ -56,7 +56,7 @@ parts_hold : (octets : ℕ) → octets ≤ payload_room * snapshot_sectors octet
 unfolding snapshot_sectors
 parts_hold octets = omega arith
 
--- So many parts of a snapshot stand there, one behind the other.
+-- So many parts of a snapshot are there, one after the other.
 module _ (opened base : ℕ) (octets : List ℕ) (c : Content) (at : ℕ) where
   abbrev pub PartsStand : ℕ → Type 0
   PartsStand n = (i : ℕ) → i < n → SaysPart (sector_at c (at + i)) (part_of opened base i) × HoldsOctets (sector_at c (at + i)) (piece octets i)
@@ -78,7 +78,7 @@ module _ (opened base : ℕ) (octets : List ℕ) (c : Content) (at : ℕ) where
       (flat_from Two c at n ∙ ap (λ (l : List ℕ). flat_map payload (sectors_from c at n) ++ l) holds
       ∙ part_more octets (flat_map payload (sectors_from c at n)) (piece octets n) n (parts_of (length octets) n (omega (arith, le))) before refl)
 
-  -- All of them: the octets, and zeros behind.
+  -- All of them: the octets, and zeros after.
   module _ (stand : PartsStand (snapshot_sectors (length octets))) where
     abbrev all : List ℕ
     all = flat_map payload (sectors_from c at (snapshot_sectors (length octets)))
@@ -198,7 +198,7 @@ made_is shape records octets r valid octets_are new some fits c made = (
   made.says.opened_is ∙ new.opened,
 )
 
--- one sector more behind the root
+-- one sector more after the root
 pub laid_more : (octets : List ℕ) (at : ℕ) (d : Content) (x : List ℕ) → 0 < at → at < length d → IsLaid octets (at - 1) x → IsLaidTo octets at d → IsLaidTo octets (at + 1) (slice_set d at x)
 laid_more octets at d x some inside here before index lt = ⊎_elim
     (λ (less : index + 1 < at). subst (λ (y : List ℕ). IsLaid octets index y) (sym (at_set-other d at (index + 1) x (λ (same : index + 1 ≡ at). absurd (omega (arith, same, less))))) (before index less))

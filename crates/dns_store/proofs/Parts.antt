@@ -33,7 +33,7 @@ module _ (f : Format) where
       (λ (same : k ≡ n). subst (λ q. IsPartIn f x q (sector_at c (at + q))) (sym same) (subst (λ q. IsPartIn f x q (sector_at c (at + n))) (omega (arith, length-from c at n)) parts.1))
       (λ (less : k < n). are_at n x c at k parts.0 less) (eq-or-lt_of_le (omega (arith, lt)))
 
-  -- a snapshot that stands there has no wrong sector
+  -- a snapshot that is there has no wrong sector
   pub part_held : (x : List ℕ) (at : ℕ) (c : Content) (octets : List ℕ) → HoldsSnapshotIn f x at c octets → (place : ℕ) → IsWrongPartIn f x at c place → ⊥
   part_held x at c octets holds place fault =
       fault.wrong (subst (λ n. IsPartIn f x fault.index (sector_at c n)) (sym fault.place_is) (are_at (parts_in f x) x c at fault.index holds.parts fault.within))

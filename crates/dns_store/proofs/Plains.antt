@@ -1,4 +1,4 @@
--- Records in plain form, one behind the other, are read in one way.
+-- Records in plain form, one after the other, are read in one way.
 use Rattle.std.proofs.Common.{◌≡◌, ◌<◌, ℕ, List, [], ◌∷◌, ◌++◌, length, refl, sym, ◌∙◌, ap, arith, append_assoc, length-append, Bool, false}
 use Rattle.std.proofs.Math.Logic.{∥∥₁_elim}
 use Rattle.std.proofs.Props.{props}
@@ -20,7 +20,7 @@ not_none (x ∷ xs) b is not = omega arith
 flat_parts : (r : Record) (rs : List Record) (x : List ℕ) → flat_map plain (r ∷ rs) ++ x ≡ plain r ++ (flat_map plain rs ++ x)
 flat_parts r rs x = append_assoc (plain r) (flat_map plain rs) x
 
--- where octets are left, one more record stands there
+-- where octets are left, there is one more record
 next_one : (rs ss : List Record) (x : List ℕ) → 0 < length x → AllByRecursion IsRecord rs → AllByRecursion IsRecord ss → flat_map plain rs ++ x ≡ flat_map plain ss → OneMore x
 next_one [] [] x some f g is = absurd (omega (arith, some, ap (λ (l : List ℕ). length l) is))
 next_one [] (s ∷ ss) x some f g is = record { next = s; rest = flat_map plain ss; valid = g.0; is = is }

@@ -1,4 +1,4 @@
--- Where a sector of a store is reached, all that is read before it stands.
+-- Where a sector of a store is reached, all that is read before it is there.
 use Rattle.std.proofs.Common.{◌≡◌, ◌⊎◌, inl, inr, ⊎_elim, ℕ, ◌+◌, ◌*◌, ◌-◌, List, length, refl, sym, ◌∙◌, ap, subst, arith}
 use Rattle.std.specs.List.{flat_map}
 use Rattle.dns_records.specs.Record.{Record, plain}
@@ -22,13 +22,13 @@ use Rattle.dns_store.specs.Damage.{NamesSector, NamesSpoiltIn, IsReachedEntryIn,
 use Rattle.dns_store.proofs.Opening.{not_blank}
 use Rattle.dns_store.proofs.Parts.{part_held}
 
--- The snapshot that stands at this place is a zone's and intact, and the sector is reached from the cursor on.
+-- The snapshot that is at this position is a zone's and intact, and the sector is reached from the cursor on.
 pub record Behind (f : Format) (s : Shape) (x : List ℕ) (at : ℕ) (from : Cursor) (d : Content) (place : ℕ) : Type 0 where
   pub base : List Record
   pub holds : HoldsSnapshotIn f x at d (flat_map plain base)
   pub own : AreIntact f d at (parts_in f x)
   pub valid : IsZone (record { apex = s.apex; records = base })
-  pub reached : IsReachedEntryIn f s.apex base from d place
+  pub reached : IsReachedEntryIn f s.apex s.snapshot base from d place
 
 abbrev pub Reaches : Format → Shape → List ℕ → ℕ → Cursor → Content → ℕ → Type 0
 Reaches f s x at from d place = ((index : ℕ) × (place ≡ at + index) × IsReachedPartIn f x at d index) ⊎ Behind f s x at from d place
@@ -48,7 +48,7 @@ module _ (f : Format) (s : Shape) (d : Content) (r : Root) (found : IsFoundRootI
         holds = subst (λ n. HoldsSnapshotIn f x n d (flat_map plain behind.base)) at behind.holds;
         own = subst (λ n. AreIntact f d n (parts_in f x)) at behind.own;
         valid = behind.valid;
-        reached = subst (λ (k : Cursor). IsReachedEntryIn f s.apex behind.base k d place) from behind.reached;
+        reached = subst (λ (k : Cursor). IsReachedEntryIn f s.apex s.snapshot behind.base k d place) from behind.reached;
       })) there
 
   -- the root isn't refused

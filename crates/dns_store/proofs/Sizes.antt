@@ -1,4 +1,4 @@
--- The sizes of entries that a store in memory keeps, behind a checkpoint.
+-- The sizes of entries that a store in memory keeps, after a checkpoint.
 use Rattle.std.proofs.Common.{◌≡◌, ⊎_elim, ℕ, ◌+◌, ◌-◌, ◌≤◌, ◌<◌, sum_by, List, [], ◌++◌, length, drop, ◌∙◌, ap, arith, drop-drop}
 use Rattle.std.proofs.lemmas.Bool.{cases_lt}
 use Rattle.std.proofs.lemmas.List.{append-nil, length-drop}

@@ -4,7 +4,6 @@ use Rattle.std.specs.List.{flat_map}
 use Rattle.dns_records.specs.Record.{Record, plain}
 use Rattle.dns_names.specs.Name.{Labels}
 use Rattle.dns_zone.specs.Zone.{Zone, IsZone}
-use Rattle.dns_layout.specs.Sector.{snapshot_sectors}
 use Rattle.dns_changes.specs.Change.{Change}
 use Rattle.dns_changes.specs.declared.ChangeError.{ChangeError}
 use Rattle.dns_journal.specs.declared.turn.TurnError.{TurnError}
@@ -14,8 +13,7 @@ use Rattle.dns_store.specs.Versions.{Versions, Kept, newest_after, version_at}
 use Rattle.dns_store.specs.Room.{entries_along}
 use Rattle.dns_store.specs.Opens.{keeps as keeps_versions}
 use Rattle.dns_store.specs.declared.checkpoint.CheckpointError.{CheckpointError}
-use Rattle.dns_store.specs.declared.checkpoint.CheckpointError.TheVariants.{Device, Closed, WrongChanges}
-use Rattle.dns_store.specs.declared.checkpoint.CheckpointError.TheVariants.{OutOfMemory}
+use Rattle.dns_store.specs.declared.checkpoint.CheckpointError.TheVariants.{Device, Closed, OutOfMemory}
 use Rattle.dns_store.specs.Recovered.{AreLed}
 
 -- Base is the number of a durable version that isn't older than the base; these octets are its snapshot, and
@@ -58,11 +56,7 @@ abbrev pub AllZones : Labels → Versions → Type 0
 AllZones apex [] = Unit {0}
 AllZones apex (v ∷ vs) = IsZone (record { apex = apex; records = v }) × AllZones apex vs
 
--- how many sectors the snapshot of these records takes
-abbrev pub sectors_of_snapshot : List Record → ℕ
-sectors_of_snapshot records = snapshot_sectors (length (flat_map plain records))
-
--- The new base with its snapshot, or why there is none.
+-- The new base with its snapshot.
 pub record IsNextBase (base next : Zone) (vs : Versions) (octets : List ℕ) : Type 0 where
   pub apex : next.apex ≡ base.apex
   pub records : next.records ≡ newest_after base.records vs
@@ -75,7 +69,7 @@ checkpoint_error TurnError.OutOfMemory = OutOfMemory
 
 abbrev pub change_error : ChangeError → CheckpointError
 change_error ChangeError.OutOfMemory = OutOfMemory
-change_error ChangeError.WrongSoa = WrongChanges
-change_error ChangeError.RemovesAbsent = WrongChanges
-change_error ChangeError.AddsPresent = WrongChanges
-change_error ChangeError.BadBytes = WrongChanges
+change_error ChangeError.WrongSoa = Closed
+change_error ChangeError.RemovesAbsent = Closed
+change_error ChangeError.AddsPresent = Closed
+change_error ChangeError.BadBytes = Closed

@@ -3,7 +3,8 @@ use Rattle.std.specs.Prelude.{◌≡◌, ◌⊎◌, ◌≤◌, ◌<◌, ◌+◌,
 use Rattle.dns_records.specs.Record.{Record}
 use Rattle.dns_store.specs.Versions.{Versions, newest_after}
 use Rattle.dns_store.specs.Room.{entries_along}
-use Rattle.dns_store.specs.Checkpoint.{newest_sectors, sectors_of_snapshot}
+use Rattle.dns_store.specs.Plain.{sectors_of_snapshot}
+use Rattle.dns_store.specs.Checkpoint.{newest_sectors}
 
 -- The base, or the version after it with this number from there.
 abbrev pub version_from : List Record → Versions → ℕ → List Record

@@ -14,12 +14,14 @@ use Rattle.dns_layout.specs.Forms.{SaysRootIn, bank_number}
 use Rattle.dns_layout.specs.declared.format.Format.{Format}
 use Rattle.dns_layout.specs.declared.format.Format.TheVariants.{Two}
 use Rattle.dns_layout.specs.declared.root.Root.{Root}
-use Rattle.dns_journal.specs.Reads.{FindsEntry, IsRefusal, IsSpoilt, AreIntact, IsSectorReached as IsReachedAt}
+use Rattle.dns_journal.specs.Reads.{FindsEntry, IsRefusal, IsSpoilt, AreIntact}
+use Rattle.dns_journal.specs.Reads.{IsSectorReached as IsReachedAt}
 use Rattle.dns_journal.specs.declared.read.Cursor.{Cursor}
 use Rattle.dns_journal.specs.declared.read.ReadError.{ReadError}
 use Rattle.dns_store.specs.declared.root.OpenError.{OpenError}
 use Rattle.dns_store.specs.declared.root.OpenError.TheVariants.{Device, Blank, Damaged, Geometry, OutOfMemory}
 use Rattle.dns_store.specs.Versions.{Shape}
+use Rattle.dns_store.specs.Plain.{sectors_of_snapshot_in}
 use Rattle.dns_store.specs.Opens.{sizes_of}
 use Rattle.dns_store.specs.Root.{IsSoundIn, IsFoundRootIn}
 use Rattle.dns_store.specs.Snapshot.{parts_in, HoldsSnapshotIn, IsBadSnapshotIn, IsNoSnapshot}
@@ -60,57 +62,59 @@ pub record ReadChange : Type 0 where
   pub behind : Cursor
 
 -- The entry at the cursor holds the change, which can be made of the version before and makes a valid zone of
--- it.
-pub record IsStepAtIn (f : Format) (apex : Labels) (c : Content) (at : Cursor) (before : List Record)
-    (s : ReadChange) : Type 0 where
+-- it whose snapshot takes at most so many sectors.
+pub record IsStepAtIn (f : Format) (apex : Labels) (room : ℕ) (c : Content) (at : Cursor)
+    (before : List Record) (s : ReadChange) : Type 0 where
   pub found : FindsEntry f at s.behind c (entry s.change)
   pub written : HasEntry s.change
-  pub fits : change_fault s.change before ≡ None
+  pub applies : change_fault s.change before ≡ None
   pub makes : applied s.change before ≡ s.after
   pub valid : IsZone (record { apex = apex; records = s.after })
+  pub fits : sectors_of_snapshot_in f s.after ≤ room
 
 -- Such entries follow one another, up to that cursor and that version.
-abbrev pub AreStepsIn : Format → Labels → Content → Cursor → List Record → List ReadChange → Cursor
+abbrev pub AreStepsIn : Format → Labels → ℕ → Content → Cursor → List Record → List ReadChange → Cursor
     → List Record → Type 0
-AreStepsIn f apex c from base [] at newest = (at ≡ from) × (newest ≡ base)
-AreStepsIn f apex c from base (s ∷ steps) at newest =
-    IsStepAtIn f apex c from base s × AreStepsIn f apex c s.behind s.after steps at newest
+AreStepsIn f apex room c from base [] at newest = (at ≡ from) × (newest ≡ base)
+AreStepsIn f apex room c from base (s ∷ steps) at newest =
+    IsStepAtIn f apex room c from base s × AreStepsIn f apex room c s.behind s.after steps at newest
 
--- The octets are the entry of no change to a valid zone.
-abbrev pub IsNoStep : Labels → List Record → List ℕ → Type 0
-IsNoStep apex before octets =
+-- The octets are the entry of no change to a valid zone that takes at most so many sectors.
+abbrev pub IsNoStepIn : Format → Labels → ℕ → List Record → List ℕ → Type 0
+IsNoStepIn f apex room before octets =
     (after : List Record) (d : Change)
     → IsChange before after d
     → HasEntry d
     → entry d ≡ octets
     → IsZone (record { apex = apex; records = after })
+    → sectors_of_snapshot_in f after ≤ room
     → ⊥
 
--- The head at the cursor is named: its entry is that of no change to a valid zone.
-pub record IsNoStepAtIn (f : Format) (apex : Labels) (c : Content) (at : Cursor) (before : List Record)
-    (place : ℕ) : Type 0 where
+-- The head at the cursor is named: its entry is that of no change to such a zone.
+pub record IsNoStepAtIn (f : Format) (apex : Labels) (room : ℕ) (c : Content) (at : Cursor)
+    (before : List Record) (place : ℕ) : Type 0 where
   pub place_is : place ≡ at.at
   pub octets : List ℕ
   pub behind : Cursor
   pub found : FindsEntry f at behind c octets
-  pub none : IsNoStep apex before octets
+  pub none : IsNoStepIn f apex room before octets
 
 -- After some entries that are right, the sector belongs to one that is wrong: a body, or the head of no such
 -- change.
-pub record IsWrongEntryIn (f : Format) (apex : Labels) (base : List Record) (from : Cursor) (c : Content)
-    (place : ℕ) : Type 0 where
+pub record IsWrongEntryIn (f : Format) (apex : Labels) (room : ℕ) (base : List Record) (from : Cursor)
+    (c : Content) (place : ℕ) : Type 0 where
   pub steps : List ReadChange
   pub at : Cursor
   pub newest : List Record
-  pub read : AreStepsIn f apex c from base steps at newest
-  pub wrong : IsRefusal f at c (ReadError.Damaged place) ⊎ IsNoStepAtIn f apex c at newest place
+  pub read : AreStepsIn f apex room c from base steps at newest
+  pub wrong : IsRefusal f at c (ReadError.Damaged place) ⊎ IsNoStepAtIn f apex room c at newest place
 
-abbrev pub NamesWrongEntryIn : Format → Labels → List Record → Cursor → Content → OpenError → Type 0
-NamesWrongEntryIn f apex base from c Device = Unit {0}
-NamesWrongEntryIn f apex base from c Blank = Unit {0}
-NamesWrongEntryIn f apex base from c (Damaged place) = IsWrongEntryIn f apex base from c place
-NamesWrongEntryIn f apex base from c Geometry = Unit {0}
-NamesWrongEntryIn f apex base from c OutOfMemory = Unit {0}
+abbrev pub NamesWrongEntryIn : Format → Labels → ℕ → List Record → Cursor → Content → OpenError → Type 0
+NamesWrongEntryIn f apex room base from c Device = Unit {0}
+NamesWrongEntryIn f apex room base from c Blank = Unit {0}
+NamesWrongEntryIn f apex room base from c (Damaged place) = IsWrongEntryIn f apex room base from c place
+NamesWrongEntryIn f apex room base from c Geometry = Unit {0}
+NamesWrongEntryIn f apex room base from c OutOfMemory = Unit {0}
 
 -- where the bank begins that this root names, where it ends, and where its journal is read from
 abbrev pub bank_at : Shape → Root → ℕ
@@ -141,7 +145,7 @@ pub record IsWrongBehindIn (f : Format) (s : Shape) (x : List ℕ) (r : Root) (c
   pub base : List Record
   pub holds : HoldsSnapshotIn f x (bank_at s r) c (flat_map plain base)
   pub valid : IsZone (record { apex = s.apex; records = base })
-  pub wrong : IsWrongEntryIn f s.apex base (journal_from s r) c place
+  pub wrong : IsWrongEntryIn f s.apex s.snapshot base (journal_from s r) c place
 
 -- The sector is wrong in the bank that the root x names: it is neither zeros nor its own, or not what is due
 -- there.
@@ -168,12 +172,12 @@ NamesWrong s c e = NamesWrongIn Two s c e
 
 -- After entries that are right, of which each sector is intact, reading reaches the sector: where the next
 -- head is due, or a body that the head there announces.
-pub record IsReachedEntryIn (f : Format) (apex : Labels) (base : List Record) (from : Cursor)
+pub record IsReachedEntryIn (f : Format) (apex : Labels) (room : ℕ) (base : List Record) (from : Cursor)
     (c : Content) (place : ℕ) : Type 0 where
   pub steps : List ReadChange
   pub at : Cursor
   pub newest : List Record
-  pub read : AreStepsIn f apex c from base steps at newest
+  pub read : AreStepsIn f apex room c from base steps at newest
   pub own : (q : ℕ) → from.at ≤ q → q < at.at → IsIntactIn f q (sector_at c q)
   pub due : at.at < at.until
   pub reached : IsReachedAt f at c place
@@ -186,7 +190,7 @@ pub record IsReachedBehindIn (f : Format) (s : Shape) (x : List ℕ) (r : Root) 
   pub holds : HoldsSnapshotIn f x (bank_at s r) c (flat_map plain base)
   pub own : AreIntact f c (bank_at s r) (parts_in f x)
   pub valid : IsZone (record { apex = s.apex; records = base })
-  pub reached : IsReachedEntryIn f s.apex base (journal_from s r) c place
+  pub reached : IsReachedEntryIn f s.apex s.snapshot base (journal_from s r) c place
 
 -- Reading reaches the sector in the bank that the root x names: it is a part of the snapshot, or of the
 -- journal after that.

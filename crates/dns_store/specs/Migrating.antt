@@ -15,8 +15,8 @@ use Rattle.dns_store.specs.declared.root.OpenError.TheVariants as refused
 use Rattle.dns_journal.specs.State.{IsOpenedTimes}
 use Rattle.dns_journal.specs.declared.turn.TurnError.{TurnError}
 use Rattle.dns_journal.specs.declared.turn.TurnError.TheVariants as written
-use Rattle.dns_store.specs.declared.checkpoint.CheckpointError.{CheckpointError}
-use Rattle.dns_store.specs.declared.checkpoint.CheckpointError.TheVariants as made
+use Rattle.dns_changes.specs.declared.ChangeError.{ChangeError}
+use Rattle.dns_changes.specs.declared.ChangeError.TheVariants as changed
 use Rattle.dns_store.specs.declared.migrating.Migration.{Migration}
 use Rattle.dns_store.specs.declared.migrating.Migration.TheVariants.{Migrated, Already}
 use Rattle.dns_store.specs.declared.migrating.MigrateError.{MigrateError}
@@ -42,7 +42,7 @@ pub record IsMigrated (shape : Shape) (before after : Opened) : Type 0 where
 -- writing.
 abbrev pub old_opens : Shape → Opened → Content → Type 0
 old_opens shape o c =
-    (s : Stored) × OpensAsIn One (sizes_of shape) c s × IsPartOfIn One shape.apex o s
+    (s : Stored) × OpensAsIn One (sizes_of shape) c s × IsPartOfIn One shape o s
     × IsOpenedTimes o.openings c
 
 -- `migrate` and then `open` open the content as these versions: what format 2 holds as it is, and what format
@@ -69,7 +69,7 @@ pub record IsReadOld (shape : Shape) (o : Opened) (s : Stored) (c : Content) (ro
     (version : ℕ) (base : Zone) (changes : List Change)
     : Type 0 where
   pub opens : OpensAsIn One (sizes_of shape) c s
-  pub part : IsPartOfIn One shape.apex o s
+  pub part : IsPartOfIn One shape o s
   pub opened : IsOpenedTimes o.openings c
   pub says : SaysRootIn One (sector_at c 0) root
   pub version_is : version ≡ version_of s
@@ -122,12 +122,13 @@ migrate_error (refused.Damaged sector) = Damaged sector
 migrate_error refused.Geometry = Geometry
 migrate_error refused.OutOfMemory = OutOfMemory
 
-abbrev pub base_error : CheckpointError → MigrateError
-base_error made.Device = Device
-base_error made.Closed = Device
-base_error made.ZoneTooLarge = ZoneTooLarge
-base_error made.WrongChanges = ZoneTooLarge
-base_error made.OutOfMemory = OutOfMemory
+-- A fault of the changes that lead to the base that is chosen.
+abbrev pub base_error : ChangeError → MigrateError
+base_error changed.OutOfMemory = OutOfMemory
+base_error changed.WrongSoa = ZoneTooLarge
+base_error changed.RemovesAbsent = ZoneTooLarge
+base_error changed.AddsPresent = ZoneTooLarge
+base_error changed.BadBytes = ZoneTooLarge
 
 abbrev pub write_error : TurnError → MigrateError
 write_error written.Device = Device

@@ -13,7 +13,8 @@ ghost use Rattle.dns_store.specs.Versions.{Versions, Kept, newest_after, version
 ghost use Rattle.dns_store.specs.Versions.{closed_between};
 ghost use Rattle.dns_store.specs.Recovered.{AreLed};
 ghost use Rattle.dns_store.specs.Opens.{IsClosedBy, opens, keeps as keeps_versions};
-ghost use Rattle.dns_store.specs.Checkpoint.{AllZones, IsBaseOf, IsMostKept, IsNextBase, sectors_of_snapshot};
+ghost use Rattle.dns_store.specs.Plain.{sectors_of_snapshot};
+ghost use Rattle.dns_store.specs.Checkpoint.{AllZones, IsBaseOf, IsMostKept, IsNextBase};
 
 use crate::KeptStore;
 use crate::formatting::snapshot_of;
@@ -36,12 +37,6 @@ pub enum CheckpointError {
     /// The device has failed before: the store is to be opened again.
     #[error("the device has failed before: the store is to be opened again")]
     Closed,
-    /// The new base's records take more sectors than a snapshot may have.
-    #[error("the new base's records take more sectors than a snapshot may have")]
-    ZoneTooLarge,
-    /// The changes don't lead from the base to a zone, as those of a store that was opened do.
-    #[error("the changes do not lead from the base to a zone")]
-    WrongChanges,
     /// Memory was refused.
     #[error("memory was refused")]
     OutOfMemory,
@@ -76,13 +71,14 @@ impl From<ChangeError> for CheckpointError {
 
     ghost from_gives = { λ c e. e ≡ change_error c };
 
+    // The changes of an open store lead from its base to versions that fit: none of the others comes.
     fn from(error: ChangeError) -> CheckpointError {
         match error {
             ChangeError::OutOfMemory => CheckpointError::OutOfMemory,
-            ChangeError::WrongSoa => CheckpointError::WrongChanges,
-            ChangeError::RemovesAbsent => CheckpointError::WrongChanges,
-            ChangeError::AddsPresent => CheckpointError::WrongChanges,
-            ChangeError::BadBytes => CheckpointError::WrongChanges,
+            ChangeError::WrongSoa => CheckpointError::Closed,
+            ChangeError::RemovesAbsent => CheckpointError::Closed,
+            ChangeError::AddsPresent => CheckpointError::Closed,
+            ChangeError::BadBytes => CheckpointError::Closed,
         }
     }
 }
@@ -90,6 +86,7 @@ impl From<ChangeError> for CheckpointError {
 impl<D: Sectors, I: ZoneIndex> KeptStore<D, I> {
     ghost use Rattle.dns_store.specs.Opening.{store_device};
     ghost use Rattle.dns_store.specs.Checkpoint.{IsKeptNumber, IsBaseLent};
+    ghost use Rattle.dns_store.specs.Holding.{HoldsVersions};
 
     // Writes the new base's snapshot and the entries of the changes that are kept into the bank that isn't in
     // use, and makes them durable; then turns the root to that bank. It makes all growths before the first
@@ -109,16 +106,8 @@ impl<D: Sectors, I: ZoneIndex> KeptStore<D, I> {
             → IsBaseLent self.old.journal self.old.base self.old.changes.items k
             → IsKeptNumber k keep room n → result ≡ Err CheckpointError.Device
             → (k.closed ≡ false) × IsClosedBy self.new.journal (closed_between (length k.shown - n) k) }
-        ensures too_large { (k : Kept) (n : ℕ)
-            → IsBaseLent self.old.journal self.old.base self.old.changes.items k
-            → IsKeptNumber k keep room n → result ≡ Err CheckpointError.ZoneTooLarge
-            → k.shape.snapshot < sectors_of_snapshot (version_at k (length k.shown - n)) }
-        ensures fits { (k : Kept) (n : ℕ) → IsBaseLent self.old.journal self.old.base self.old.changes.items k
-            → IsKeptNumber k keep room n
-            → OnOk result (sectors_of_snapshot (version_at k (length k.shown - n)) ≤ k.shape.snapshot) }
-        ensures right { (k : Kept) → IsBaseLent self.old.journal self.old.base self.old.changes.items k
-            → result ≡ Err CheckpointError.WrongChanges → ⊥ }
-        ensures closed { is_closed self.old.journal ≡ true ↔ result ≡ Err CheckpointError.Closed }
+        ensures closed { (k : Kept) → HoldsVersions self.old.journal self.old.base self.old.changes.items k
+            → result ≡ Err CheckpointError.Closed ↔ k.closed ≡ true }
         ensures device { result ≡ Err CheckpointError.Device
             → HasRisen (D.failed (store_device self.old)) (D.failed (store_device self.new)) }
         ensures grows { D.failed (store_device self.old) ≤ D.failed (store_device self.new) }
@@ -234,14 +223,12 @@ pub(crate) fn most_kept<E: Entry>(entries: &[E], keep: usize, room: usize) -> us
 }
 
 // Makes these changes of a set, one after the other.
-fn apply_all<I: ZoneIndex>(set: &mut I, changes: &[Change]) -> Result<(), CheckpointError>
+fn apply_all<I: ZoneIndex>(set: &mut I, changes: &[Change]) -> Result<(), ChangeError>
     ensures applied { (apex : Labels) (vs : Versions) → AreLed (I.records set.old) vs changes.now
         → AllZones apex vs
         → is_ordered (I.records set.old) ≡ true
         → MatchResult result (λ _. I.records set.new ≡ newest_after (I.records set.old) vs)
-        (λ e. e ≡ CheckpointError.OutOfMemory) }
-    ensures only { IfErr result (λ e. (e ≡ CheckpointError.OutOfMemory)
-        ⊎ (e ≡ CheckpointError.WrongChanges)) }
+        (λ e. e ≡ ChangeError.OutOfMemory) }
 {
     for change in changes {
         change.apply(set)?;
@@ -249,47 +236,38 @@ fn apply_all<I: ZoneIndex>(set: &mut I, changes: &[Change]) -> Result<(), Checkp
     Ok(())
 }
 
-// The version that these changes lead to from a base.
-fn version_after<I: ZoneIndex>(
-    base: &Zone<I>,
-    changes: &[Change],
-) -> Result<Zone<I>, CheckpointError>
+// The version that these changes lead to from a base; `BadBytes` where it is no zone.
+fn version_after<I: ZoneIndex>(base: &Zone<I>, changes: &[Change]) -> Result<Zone<I>, ChangeError>
     ensures found { (vs : Versions) → AreLed base.now.records vs changes.now → AllZones base.now.apex vs
         → MatchResult result (λ z. (z.apex ≡ base.now.apex) × (z.records ≡ newest_after base.now.records vs))
-        (λ e. e ≡ CheckpointError.OutOfMemory) }
-    ensures only { IfErr result (λ e. (e ≡ CheckpointError.OutOfMemory)
-        ⊎ (e ≡ CheckpointError.WrongChanges)) }
+        (λ e. e ≡ ChangeError.OutOfMemory) }
 {
     let apex = base.apex().clone()?;
     let mut set = base.index().fork()?;
     apply_all(&mut set, changes)?;
     match Zone::from_index(apex, set) {
         Ok(zone) => Ok(zone),
-        Err(_) => Err(CheckpointError::WrongChanges),
+        Err(_) => Err(ChangeError::BadBytes),
     }
 }
 
-// The version that these changes lead to from a base, and its snapshot, which is to have at most so many
-// sectors.
+// The version that these changes lead to from a base, and its snapshot; `BadBytes` where that one takes more
+// than so many sectors.
 pub(crate) fn next_base<I: ZoneIndex>(
     alloc: Heap,
     base: &Zone<I>,
     changes: &[Change],
     room: u32,
-) -> Result<(Zone<I>, Vec<u8, Heap>), CheckpointError>
+) -> Result<(Zone<I>, Vec<u8, Heap>), ChangeError>
     ensures found { (vs : Versions) → AreLed base.now.records vs changes.now → AllZones base.now.apex vs
-        → MatchResult result (λ r. IsNextBase base.now r.0 vs r.1.items)
-        (λ e. (e ≡ CheckpointError.OutOfMemory)
-        ⊎ ((e ≡ CheckpointError.ZoneTooLarge)
-        × (room < sectors_of_snapshot (newest_after base.now.records vs)))) }
+        → sectors_of_snapshot (newest_after base.now.records vs) ≤ room
+        → MatchResult result (λ r. IsNextBase base.now r.0 vs r.1.items) (λ e. e ≡ ChangeError.OutOfMemory) }
     ensures fits { IfOk result (λ r. sectors_of_octets (length r.1.items) ≤ room) }
-    ensures only { IfErr result (λ e. (e ≡ CheckpointError.OutOfMemory) ⊎ (e ≡ CheckpointError.WrongChanges)
-        ⊎ (e ≡ CheckpointError.ZoneTooLarge)) }
 {
     let next = version_after(base, changes)?;
     let _valid = next.apex();
     if snapshot_sectors(snapshot_len(&next)) > room as usize {
-        return Err(CheckpointError::ZoneTooLarge);
+        return Err(ChangeError::BadBytes);
     }
     let octets = snapshot_of(alloc, &next)?;
     Ok((next, octets))

@@ -5,7 +5,8 @@ ghost use Rattle.dns_layout.specs.Sector.{snapshot_sectors as sectors_of_octets}
 ghost use Rattle.dns_store.specs.Versions.{Versions, newest_after};
 ghost use Rattle.dns_store.specs.Recovered.{AreLed};
 ghost use Rattle.dns_journal.specs.Bank.{sectors_for};
-ghost use Rattle.dns_store.specs.Checkpoint.{AllZones, newest_sectors, sectors_of_snapshot};
+ghost use Rattle.dns_store.specs.Plain.{sectors_of_snapshot};
+ghost use Rattle.dns_store.specs.Checkpoint.{AllZones, newest_sectors};
 ghost use Rattle.dns_store.specs.Choosing.{IsChosen, IsFirstFitting};
 
 use crate::checkpoint::most_kept;

@@ -73,7 +73,7 @@ impl<D: Sectors, I: ZoneIndex> KeptStore<D, I> {
             → D.is_honest device → Only (D.seen device) (D.may_leave device)
             → OpensBy (sizes_of shape) (D.seen device) x parts s → SaysRoot x root
             → bank_open x ≤ open_count x
-            → AllBehind (open_count x) (version_of s) (D.seen device) → IsPartOf shape.apex o s
+            → AllBehind (open_count x) (version_of s) (D.seen device) → IsPartOf shape o s
             → next.until ≡ bank_end (sizes_of shape) (number x)
             → next.at ≡ place_behind (journal_place (sizes_of shape) (number x)) s.entries
             → next.version ≡ version_of s → next.opened ≡ open_count x → open_count x ≡ o.openings
@@ -186,8 +186,10 @@ impl<D: Sectors + Drop, I: ZoneIndex> ZoneStore for KeptStore<D, I> {
         }
     }
 
-    ghost some_left = { λ s k kept.
-        (D.seen (device_of s.journal), D.seen_may_stay (device_of s.journal) (honest_of s.journal k k.closed kept.keeps)) };
+    ghost some_left = { λ s k kept. (
+      D.seen (device_of s.journal),
+      D.seen_may_stay (device_of s.journal) (honest_of s.journal k k.closed kept.keeps),
+    ) };
 
     ghost counts_now = { λ s k t c kept earlier left.
         D.counts_now (device_of s.journal) t c (honest_of s.journal k k.closed kept.keeps) earlier left };

@@ -8,17 +8,17 @@ ghost use Rattle.dns_store.specs.Opening.{IsInRange};
 ghost use Rattle.dns_layout.specs.Store.{Stored};
 ghost use Rattle.dns_store.specs.Versions.{Shape, Opened, newest_after, shape_given};
 ghost use Rattle.dns_store.specs.Opens.{opens};
-ghost use Rattle.dns_store.specs.Checkpoint.{sectors_of_snapshot};
+ghost use Rattle.dns_store.specs.Plain.{sectors_of_snapshot};
 ghost use Rattle.dns_store.specs.Migrating.{MayMigrate, MigratesAsPossible, TakesMigrated, StopsMigrating};
 ghost use Rattle.dns_store.specs.Migrating.{MigrateRefusal, IsMigratedStore, IsMigrated, IsReadOld};
 ghost use Rattle.dns_store.specs.Migrating.{StaysOrMigrates, old_opens};
 
+use crate::OpenError;
 use crate::checkpoint::next_base;
 use crate::choosing::chosen;
 use crate::device_format::{DeviceFormat, format_of};
 use crate::recovery::{Recovered, read_store, settle};
-use crate::{CheckpointError, OpenError};
-use dns_changes::Change;
+use dns_changes::{Change, ChangeError};
 use dns_journal::{TurnError, convert};
 use dns_layout::{Format, Root};
 use dns_memory::Heap;
@@ -90,19 +90,20 @@ impl From<OpenError> for MigrateError {
     }
 }
 
-impl From<CheckpointError> for MigrateError {
+impl From<ChangeError> for MigrateError {
     ghost use Rattle.dns_store.specs.Migrating.{base_error};
 
     ghost from_gives = { λ r e. e ≡ base_error r };
 
-    // Changes that were read from a store lead from its base to zones.
-    fn from(error: CheckpointError) -> MigrateError {
+    // Changes that were read from a store lead from its base to zones, and the one that is chosen fits: none
+    // of the others comes.
+    fn from(error: ChangeError) -> MigrateError {
         match error {
-            CheckpointError::Device => MigrateError::Device,
-            CheckpointError::Closed => MigrateError::Device,
-            CheckpointError::ZoneTooLarge => MigrateError::ZoneTooLarge,
-            CheckpointError::WrongChanges => MigrateError::ZoneTooLarge,
-            CheckpointError::OutOfMemory => MigrateError::OutOfMemory,
+            ChangeError::OutOfMemory => MigrateError::OutOfMemory,
+            ChangeError::WrongSoa => MigrateError::ZoneTooLarge,
+            ChangeError::RemovesAbsent => MigrateError::ZoneTooLarge,
+            ChangeError::AddsPresent => MigrateError::ZoneTooLarge,
+            ChangeError::BadBytes => MigrateError::ZoneTooLarge,
         }
     }
 }

@@ -10,16 +10,18 @@ ghost use Rattle.dns_changes.specs.Change.{Change as StatedChange, IsChange, app
 ghost use Rattle.dns_changes.specs.Entry.{HasEntry, entry};
 ghost use Rattle.dns_journal.specs.Reads.{OnlyReads, HasRisen, ReadsFrom};
 ghost use Rattle.dns_store.specs.Versions.{Versions};
+ghost use Rattle.dns_store.specs.Plain.{octets_of, sectors_of_snapshot_in};
 ghost use Rattle.dns_store.specs.Opens.{AreChangesIn};
 ghost use Rattle.dns_store.specs.Recovered.{IsNewestRecovered};
 ghost use Rattle.dns_store.specs.Root.{IsOfBank};
 ghost use Rattle.dns_store.specs.Damage.{NamesSector, NamesSpoiltIn, NamesWrongEntryIn, IsReachedEntryIn};
 
 use crate::OpenError;
+use crate::octets::{octets_after, snapshot_len};
 use crate::staying::next_zone;
 use dns_changes::{Change, ChangeError};
 use dns_journal::{Cursor, ReadError, next_entry};
-use dns_layout::Format;
+use dns_layout::{Format, snapshot_sectors_in};
 use dns_memory::Heap;
 use dns_sectors::Sectors;
 use dns_zone::{Zone, ZoneIndex};
@@ -45,39 +47,60 @@ fn next_by<I: ZoneIndex>(zone: &Zone<I>, change: &Change) -> Result<Zone<I>, Cha
     }
 }
 
-// The change with these octets, and the zone that it makes of another; an error other than `OutOfMemory`
-// where there is no such change, or it makes no zone.
+// The change with these octets, the zone that it makes of another whose snapshot has so many octets, and how
+// many that one's has; an error other than `OutOfMemory` where there is no such change, or it makes no zone
+// whose snapshot takes at most so many sectors.
 fn take_step<I: ZoneIndex>(
     alloc: Heap,
     zone: &Zone<I>,
+    len: usize,
     octets: &[u8],
-) -> Result<(Change, Zone<I>), ChangeError>
+    format: Format,
+    room: u32,
+) -> Result<(Change, Zone<I>, usize), ChangeError>
+    requires { len ≡ octets_of zone.now.records }
     ensures found { IfOk result (λ r. HasEntry r.0 × (entry r.0 ≡ octets.now)
         × (change_fault r.0 zone.now.records ≡ None) × (applied r.0 zone.now.records ≡ r.1.records)
         × (r.1.apex ≡ zone.now.apex) × IsZone r.1) }
+    ensures fits { IfOk result (λ r. (r.2 ≡ octets_of r.1.records)
+        × (sectors_of_snapshot_in format r.1.records ≤ room)) }
     ensures only { (after : List Stated) (c : StatedChange) → IsChange zone.now.records after c → HasEntry c
         → entry c ≡ octets.now → IsZone (record { apex = zone.now.apex; records = after })
+        → sectors_of_snapshot_in format after ≤ room
         → MatchResult result (λ r. (r.0 ≡ c) × (r.1.records ≡ after)) (λ e. e ≡ ChangeError.OutOfMemory) }
     ensures taken { (c : StatedChange) → HasEntry c → entry c ≡ octets.now
         → change_fault c zone.now.records ≡ None
         → IsZone (record { apex = zone.now.apex; records = applied c zone.now.records })
+        → sectors_of_snapshot_in format (applied c zone.now.records) ≤ room
         → MatchResult result (λ r. r.0 ≡ c) (λ e. e ≡ ChangeError.OutOfMemory) }
 {
+    let _valid = zone.apex();
     let change = Change::decode(alloc, octets)?;
-    match next_by(zone, &change) {
-        Ok(next) => Ok((change, next)),
-        Err(error) => Err(error),
+    let next = match next_by(zone, &change) {
+        Ok(next) => next,
+        Err(error) => {
+            drop(change);
+            return Err(error);
+        }
+    };
+    let len = octets_after(len, &change);
+    if snapshot_sectors_in(format, len) > room as usize {
+        drop((change, next));
+        return Err(ChangeError::BadBytes);
     }
+    Ok((change, next, len))
 }
 
-// The newest version, and the changes that lead to it from the base, by the entries from the cursor on. The
-// cursor moves past them. What it reads is said of each content of which the device's is an altered one.
+// The newest version, and the changes that lead to it from the base, by the entries from the cursor on; each
+// version's snapshot has to take at most so many sectors. The cursor moves past the entries. What it reads is
+// said of each content of which the device's is an altered one.
 pub(crate) fn read_versions<D: Sectors, I: ZoneIndex>(
     alloc: Heap,
     device: &mut D,
     format: Format,
     cursor: &mut Cursor,
     base: Zone<I>,
+    room: u32,
 ) -> Result<(Zone<I>, Vec<Change, Heap>), OpenError>
     requires until { cursor.old.until ≤ D.count device.old }
     requires at { cursor.old.at ≤ cursor.old.until }
@@ -85,7 +108,7 @@ pub(crate) fn read_versions<D: Sectors, I: ZoneIndex>(
     ensures apex { IfOk result (λ r. r.0.apex ≡ base.apex) }
     ensures reads_all { D.is_honest device.old → (c : List (List ℕ)) → IsAltered format c (D.seen device.old)
         → (vs : Versions) (es : List Entry) → ReadsFrom format cursor.old c es
-        → AreChangesIn format base.apex base.records vs es
+        → AreChangesIn format base.apex room base.records vs es
         → MatchResult result (λ r. IsNewestRecovered cursor.old cursor.new base.records vs es r.0.records
         r.1.items)
         (λ e. (e ≡ OpenError.Device) ⊎ (e ≡ OpenError.OutOfMemory)
@@ -95,10 +118,10 @@ pub(crate) fn read_versions<D: Sectors, I: ZoneIndex>(
     // `Damaged` names a sector that is neither zeros nor its own, or that of the first entry that is wrong.
     ensures damaged { D.is_honest device.old → IfErr result (λ e.
         NamesSpoiltIn format (D.seen device.old) cursor.old.at cursor.old.until e
-        ⊎ NamesWrongEntryIn format base.apex base.records cursor.old (D.seen device.old) e) }
+        ⊎ NamesWrongEntryIn format base.apex room base.records cursor.old (D.seen device.old) e) }
     // Of a sector that is reached and is neither zeros nor its own it says so.
     ensures not_own { D.is_honest device.old → (place : ℕ)
-        → IsReachedEntryIn format base.apex base.records cursor.old (D.seen device.old) place
+        → IsReachedEntryIn format base.apex room base.records cursor.old (D.seen device.old) place
         → (IsIntactIn format place (sector_at (D.seen device.old) place) → ⊥)
         → MatchResult result (λ _. ⊥) (NamesSector place) }
     ensures device { result ≡ Err OpenError.Device → HasRisen (D.failed device.old) (D.failed device.new) }
@@ -106,14 +129,23 @@ pub(crate) fn read_versions<D: Sectors, I: ZoneIndex>(
     ensures reads { OnlyReads D.Sectors device.old device.new }
 {
     let mut zone = base;
+    let mut len = snapshot_len(&zone);
     let mut changes = Vec::new(alloc);
     'entries: while let Some(found) = next_entry(alloc, device, format, cursor)? {
-        let (change, next) = match take_step(alloc, &zone, &found.octets) {
+        let (change, next, next_len) = match take_step(
+            alloc,
+            &zone,
+            len,
+            &found.octets,
+            format,
+            room,
+        ) {
             Ok(step) => step,
             Err(error) => return Err(fault_at(found.head, error)),
         };
         changes.push(change).map_err(AllocError::from)?;
         zone = next;
+        len = next_len;
     }
     Ok((zone, changes))
 }

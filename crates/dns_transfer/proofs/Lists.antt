@@ -1,4 +1,4 @@
--- An element of a list by its number, and what is behind it.
+-- An element of a list by its number, and what is after it.
 use Rattle.std.proofs.Common.{◌≡◌, ℕ, zero, suc, ◌+◌, ◌-◌, ◌<◌, ◌≤◌, List, [], ◌∷◌, ◌++◌, Some, None, length, get_or, drop, refl, ap, ◌∙◌, arith}
 use Rattle.std.specs.Prelude.{slice_get}
 
@@ -29,7 +29,7 @@ drop_get (y ∷ ys) zero x e = let is : y ≡ x = cc in ap (λ z. z ∷ ys) is
 drop_get (y ∷ ys) (suc k) x e =
     let next : suc (k + 1) ≡ suc k + 1 = omega arith in drop_get ys k x e ∙ ap (λ n. x ∷ drop n (y ∷ ys)) next
 
--- behind the last
+-- after the last
 pub drop_past : {X : Type 0} (xs : List X) (k : ℕ) → length xs ≤ k → drop k xs ≡ []
 drop_past [] zero h = refl
 drop_past [] (suc k) h = refl

@@ -140,7 +140,12 @@ impl<'a, I: ZoneIndex> Model for Rest<'a, I> {
     ghost Value = { Remaining };
 
     ghost view = { λ r.
-        record { soa = r.soa.now; records = I.records r.index.now; changes = r.history.now; place = r.place } };
+        record {
+          soa = r.soa.now;
+          records = I.records r.index.now;
+          changes = r.history.now;
+          place = r.place;
+        } };
 
     ghost invariant = { λ r. AreRecordsReady r.place r.ready (I.records r.index.now) };
 }

@@ -1,4 +1,5 @@
 mod Leads
 mod ReadAhead
-mod Steps
+pub mod Running
+pub mod Steps
 mod Taken

@@ -11,7 +11,7 @@ use Rattle.dns_turns.proofs.Steps.{step_more}
 pub one_less : (places : List Place) (done : ℕ) → map stands_in (drop (done + 1) places) ≡ drop 1 (map stands_in (drop done places))
 one_less places done = ap (map stands_in) (sym (drop-drop 1 done places)) ∙ sym (drop-map stands_in 1 (drop done places))
 
--- the places from one to another
+-- the positions from one to another
 pub between_places : (places : List Place) (done end : ℕ) → done ≤ end
     → map stands_in (take (end - done) (drop done places)) ≡ map stands_in (drop done (take end places))
 between_places places done end le =
@@ -45,12 +45,12 @@ copied_least octets into made n least is =
 pub first_of : (list left : List Datagram) (one : Datagram) → (rest : List Datagram) × (list ≡ one ∷ rest) → left ≡ drop 1 list → list ≡ one ∷ left
 first_of list left one (rest, is) gone = is ∙ ap (λ (l : List Datagram). one ∷ l) (sym (gone ∙ ap (drop 1) is))
 
--- where one stands behind others there is one
+-- where one comes after others there is one
 pub more_than_none : (old new : List Datagram) (one : Datagram) → new ≡ old ++ one ∷ [] → 0 < length new
 more_than_none old new one is = omega (arith, ap length is, length_push old one)
 
 module _ {S : Type 0} (s : Ghosts S) where
-  -- a datagram is sent behind all that were to be sent
+  -- a datagram is sent after all that were to be sent
   pub leaves_last : (one : Datagram) (old between new : Datagrams S) → AllHaveGone s old between → s.sends (socket_of between) one (socket_of new)
       → leaving_of new ≡ leaving_of between → arrived_of new ≡ arrived_of between
       → IsLeaving s one old new

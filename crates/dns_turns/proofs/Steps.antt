@@ -11,7 +11,7 @@ module _ {S T : Type 0} (step : S → T → S → Type 0) where
   pub step_more : (first : List T) (one : T) (a b c : S) → AreSteps step first a b → step b one c → AreSteps step (first ++ one ∷ []) a c
   step_more first one a b c is more = steps_on first (one ∷ []) a b c is (c, more, refl)
 
-  -- one more, behind those of a list
+  -- one more, after those of a list
   pub and_one : (old new : List T) (a b c : S) → AreSteps step old a b
       → (one : T) × (new ≡ old ++ one ∷ []) × AreSteps step (one ∷ []) b c
       → AreSteps step new a c

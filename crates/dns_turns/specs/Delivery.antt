@@ -1,5 +1,6 @@
 -- What a server by turns has, and where the replies of its machine go.
-use Rattle.std.specs.Prelude.{◌≡◌, ◌⊎◌, ◌++◌, ℕ, List, map, Option, None, slice_set}
+use Rattle.std.specs.Prelude.{◌≡◌, ◌⊎◌, ◌++◌, ℕ, Bool, true, false, List, map, Option, None}
+use Rattle.std.specs.Prelude.{slice_set}
 use Rattle.dns_edge.specs.declared.connection.Connection.{Connection}
 use Rattle.dns_edge.specs.Connections.{IsPushed, places_of}
 use Rattle.dns_zone.specs.declared.index.ZoneIndex as index
@@ -19,6 +20,16 @@ use Rattle.dns_turns.specs.Steps.{AreSteps}
 -- What goes out with the effects of an event, in its order.
 abbrev pub out_of : Effects → List (To × List ℕ)
 out_of effects = map header_out effects.headers.items ++ reply_out effects.reply
+
+-- A reply that goes out. It is cut where the connection to which it goes is closed in its stead, since it
+-- can't be queued there.
+pub record Going : Type 0 where
+  pub to : To
+  pub octets : List ℕ
+  pub cut : Bool
+
+abbrev pub reply_of : Going → To × List ℕ
+reply_of going = (going.to, going.octets)
 
 -- A primary took the step of an event, whichever machine it kept.
 abbrev pub TakesEvent : {I D : Type 0} {i : index.Ghosts I} {d : store.Ghosts D} → Primary I D i d → Event
@@ -47,18 +58,25 @@ module _ {I D S N : Type 0} {i : index.Ghosts I} {d : store.Ghosts D} where
     pub gone : new.connections ≡ slice_set old.connections number None
     pub network : new.network ≡ old.network
 
-  -- A reply to a connection is queued there after all that was queued before, with its length before it, or
-  -- that connection is closed; no other one is touched. One to a peer is handed to the network, and one to
-  -- nowhere goes nowhere.
-  abbrev pub IsSent : Ghosts N S → To → List ℕ → Served I D S N i d → Served I D S N i d → Type 0
-  IsSent n (to.Address peer) reply old new =
+  -- A reply to a connection is queued there after all that was queued before, with its length before it, or,
+  -- where it is cut, that connection is closed; no other one is touched. One to a peer is handed to the
+  -- network, and one to nowhere goes nowhere.
+  abbrev pub IsSent : Ghosts N S → To → List ℕ → Bool → Served I D S N i d → Served I D S N i d → Type 0
+  IsSent n (to.Address peer) reply false old new =
       (new ≡ record old { network = new.network }) × n.sends old.network peer reply new.network
-  IsSent n (to.Connection number) reply old new =
-      ((new ≡ record old { connections = new.connections })
-      × IsPushed number reply old.connections new.connections)
-      ⊎ IsClosed number old new
-  IsSent n to.Nowhere reply old new = new ≡ old
+  IsSent n (to.Connection number) reply false old new =
+      (new ≡ record old { connections = new.connections })
+      × IsPushed number reply old.connections new.connections
+  IsSent n (to.Connection number) reply true old new = IsClosed number old new
+  IsSent n to.Nowhere reply false old new = new ≡ old
+  IsSent n (to.Address peer) reply true old new = ⊥
+  IsSent n to.Nowhere reply true old new = ⊥
 
-  -- so does each of these replies, one after the other
+  -- so does each of these, one after the other
+  abbrev pub AreGoing : Ghosts N S → List Going → Served I D S N i d → Served I D S N i d → Type 0
+  AreGoing n = AreSteps (λ old one new. IsSent n one.to one.octets one.cut old new)
+
+  -- so does each of these replies, some of them cut
   abbrev pub AreSent : Ghosts N S → List (To × List ℕ) → Served I D S N i d → Served I D S N i d → Type 0
-  AreSent n = AreSteps (λ old one new. IsSent n one.0 one.1 old new)
+  AreSent n out old new =
+      (goings : List Going) × (map reply_of goings ≡ out) × AreGoing n goings old new

@@ -1,10 +1,10 @@
 //! Turns: what is done with the network, one turn after the other.
-ghost use Rattle.std.specs.Prelude.{◌≡◌, map, replicate, false, None, slice_set, IfOk};
+ghost use Rattle.std.specs.Prelude.{◌≡◌, Bool, List, map, replicate, false, None, slice_set, IfOk};
 ghost use Rattle.dns_primary.specs.declared.event.Effects.{Effects as StatedEffects};
 ghost use Rattle.dns_primary.specs.Keeps.{header_out, reply_out};
 ghost use Rattle.dns_primary.specs.Step.{Closed};
 ghost use Rattle.dns_turns.specs.Delivery.{AreSent, IsSent, TakesEvent, connections_of, out_of, served};
-ghost use Rattle.dns_turns.specs.Turn.{IsTurn, IsWelcomed, LeadsTo, NoneWaits};
+ghost use Rattle.dns_turns.specs.Turn.{IsTurn, IsWelcomed, LeadsTo, NoneWaits, TurnMoment};
 
 use crate::{Network, Note, Notes};
 use dns_edge::{Connection, Connections, Moved, Stream};
@@ -26,6 +26,9 @@ pub struct Edge<S: Stream> {
     connections: Connections<S>,
     // the numbers of all connections are below it
     end: usize,
+    // the second in which a visit of each connection last found nothing to do, and since when none has got
+    // something to send
+    rested: Option<u64>,
     buffer: Vec<u8, Heap>,
 }
 
@@ -35,6 +38,7 @@ impl<S: Stream + Drop> Drop for Edge<S> {
         let Edge {
             connections,
             end: _,
+            rested: _,
             buffer,
         } = self;
         drop((connections, buffer));
@@ -51,6 +55,7 @@ impl<S: Stream + Drop> Edge<S> {
         Ok(Edge {
             connections: Connections::new(alloc)?,
             end: 0,
+            rested: None,
             buffer,
         })
     }
@@ -100,12 +105,13 @@ impl<S: Stream + Drop> Edge<S> {
         to: To,
         reply: &[u8],
     )
-        ensures { IsSent N.Network to reply.now (served primary.old self.old network.old)
+        ensures { (cut : Bool) × IsSent N.Network to reply.now cut (served primary.old self.old network.old)
             (served primary.new self.new network.new) }
     {
         match to {
             To::Address(peer) => network.send(peer, reply),
             To::Connection(number) => {
+                self.rested = None;
                 if reply.len() > LONGEST {
                     self.close(alloc, primary, notes, number);
                 } else if let Err(_) = self.connections.push(number, reply) {
@@ -200,6 +206,7 @@ impl<S: Stream + Drop> Edge<S> {
             return;
         }
         self.end = self.end.max(number.saturating_add(1));
+        self.rested = None;
     }
 
     /// Accepts one connection, if a peer made one.
@@ -320,6 +327,32 @@ impl<S: Stream + Drop> Edge<S> {
         self.hear(alloc, network, primary, notes, number, now)
     }
 
+    /// Visits each connection, by rising number, and answers whether one had something to do. Where none had
+    /// in this second, and the network is still, they are not visited again.
+    fn visit_each<I: ZoneIndex, D: ZoneStore, N: Network<S>, L: Notes>(
+        &mut self,
+        alloc: Heap,
+        network: &mut N,
+        primary: &mut Primary<I, D>,
+        notes: &mut L,
+        now: u64,
+    ) -> bool
+        ensures { LeadsTo S.Stream N.Network (served primary.old self.old network.old)
+            (served primary.new self.new network.new) }
+    {
+        if self.rested == Some(now) && network.is_still() {
+            return false;
+        }
+        let mut is_done = false;
+        for number in 0..self.end {
+            if self.visit(alloc, network, primary, notes, number, now) {
+                is_done = true;
+            }
+        }
+        self.rested = if is_done { None } else { Some(now) };
+        is_done
+    }
+
     /// Makes one turn, in the second `now`, and answers whether anything was done in it: at most one
     /// connection is accepted and at most one datagram read; each connection has its part, by rising number;
     /// then there is a flush if a reply waits for one.
@@ -334,18 +367,14 @@ impl<S: Stream + Drop> Edge<S> {
         notes: &mut L,
         now: u64,
     ) -> bool
-        ensures turn { IsTurn S.Stream N.Network (served primary.old self.old network.old)
-            (served primary.new self.new network.new) }
+        ensures turn { (moments : List TurnMoment) × IsTurn S.Stream N.Network moments
+            (served primary.old self.old network.old) (served primary.new self.new network.new) }
         ensures idle { result ≡ false → NoneWaits primary.new }
     {
         let accepted = self.accept(alloc, network, primary, notes, now);
         let received = self.receive(alloc, network, primary, notes);
-        let mut is_done = accepted || received;
-        for number in 0..self.end {
-            if self.visit(alloc, network, primary, notes, number, now) {
-                is_done = true;
-            }
-        }
+        let visited = self.visit_each(alloc, network, primary, notes, now);
+        let mut is_done = accepted || received || visited;
         if primary.has_waiting() {
             network.look();
             let effects = primary.step(alloc, Event::Flush);

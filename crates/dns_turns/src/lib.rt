@@ -5,11 +5,13 @@
 mod datagram_socket;
 mod datagrams;
 mod edge;
+mod laws;
 mod memory;
 mod network;
 
 pub use datagram_socket::DatagramSocket;
 pub use datagrams::Datagrams;
 pub use edge::Edge;
+pub use laws::turns_law;
 pub use memory::{MemoryNetwork, MemoryNotes};
 pub use network::{Network, Note, Notes};

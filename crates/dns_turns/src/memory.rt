@@ -115,6 +115,10 @@ impl Network<MemoryStream> for MemoryNetwork {
 
     fn look(&mut self) {}
 
+    fn is_still(&self) -> bool {
+        false
+    }
+
     fn wait(&mut self) {}
 }
 

@@ -38,6 +38,11 @@ pub trait Network<S> {
     fn look(&mut self)
         ensures { looks self.old self.new };
 
+    /// Whether no stream has something to read, or room for what is to be written, as far as it has looked:
+    /// until it looks or waits again, no call of a stream moves an octet. A network that doesn't know that
+    /// answers false.
+    fn is_still(&self) -> bool;
+
     /// Waits until something may have come, or about a second has passed. It is called where nothing was to
     /// be done.
     fn wait(&mut self)

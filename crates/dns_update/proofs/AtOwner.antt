@@ -232,7 +232,7 @@ twice p (x ∷ xs) = step (p x) refl (twice p xs)
     step true e n = ap (λ b. cond b (x ∷ filter p (filter p xs)) (filter p (filter p xs))) e ∙ ap (λ z. x ∷ z) n
     step false e n = n
 
--- ---- runs one behind another
+-- ---- runs one after another
 pub effects_behind : (apex : Labels) (run rest : List ResourceRecord) (xs : List Record) → effects apex xs (run ++ rest) ≡ effects apex (effects apex xs run) rest
 effects_behind apex [] rest xs = refl
 effects_behind apex (i ∷ run) rest xs = effects_behind apex run rest (effect apex xs i)

@@ -24,7 +24,7 @@ use Rattle.dns_update.proofs.Aside.{found_at}
 use Rattle.dns_update.proofs.AtOwner.{effect_at, effect_ordered, effects_ordered, effects_others, is_named}
 use Rattle.dns_update.proofs.ResourceRecords.{no_fault}
 
--- ---- what a name owns behind the items
+-- ---- what a name owns after the items
 -- those of all names but one, of another
 at_others : (m n : Labels) (xs : List Record) → names_eq m n ≡ false → records_at (others xs m) n ≡ records_at xs n
 at_others m n xs e =

@@ -1,4 +1,4 @@
--- A name's records in two parts, one behind the other.
+-- A name's records in two parts, one after the other.
 use Rattle.std.proofs.Common.{◌≡◌, ℕ, ◌+◌, Bool, true, false, not, ◌&&◌, List, [], ◌∷◌, ◌++◌, Some, None, length, refl, sym, ap, ◌∙◌, arith, length-append}
 use Rattle.std.specs.Prelude.{filter, slice_get, ◌==◌}
 use Rattle.std.specs.List.{list_any, list_all}
@@ -60,7 +60,7 @@ above_each r (x ∷ xs) e = (let both = both_true (is_lt (record_cmp r x)) (all_
 pub put_front : (r : Record) (xs ys : List Record) → all_above r ys ≡ true → put r xs ++ ys ≡ put r (xs ++ ys)
 put_front r xs ys e = sym (put_before r xs ys (above_each r ys e))
 
--- one that is below all of those behind a record, but for those above it
+-- one that is below all of those after a record, but for those above it
 reached : (r x : Record) (ys : List Record) → Below x ys → all_above r ys ≡ false → record_cmp r x ≡ Greater
 reached r x [] h e = absurd cc
 reached r x (y ∷ ys) h e = step (record_cmp r y) refl e (reached r x ys h.1)

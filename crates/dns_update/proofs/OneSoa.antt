@@ -168,7 +168,7 @@ module _ (apex : Labels) where
   pub next_soa : (xs : List Record) → HasSoa apex xs → HasSoa apex (with_next_serial (soas xs) xs)
   next_soa xs h = record { soa = with_serial h.soa (next_serial (serial_of h.soa)); one = next_alone xs h; owner = h.owner }
 
-  -- behind all items the zone has one SOA still
+  -- after all items the zone has one SOA still
   pub soa_stays : (xs : List Record) → HasSoa apex xs → (items : List ResourceRecord) → HasSoa apex (effects apex xs items)
   soa_stays xs h [] = h
   soa_stays xs h (i ∷ rest) = soa_stays (effect apex xs i) (takes_effect xs h i) rest

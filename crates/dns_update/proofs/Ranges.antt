@@ -1,4 +1,4 @@
--- What is left of a name's records where some of their types go: their types rise, so that those of a range stand together.
+-- What is left of a name's records where some of their types go: their types rise, so that those of a range are together.
 use Rattle.std.proofs.Common.{◌≡◌, ℕ, zero, suc, ◌<◌, ◌≤◌, Bool, true, false, not, ◌&&◌, ◌||◌, ◌⊎◌, inl, inr, List, [], ◌∷◌, ◌++◌, length, get_or, take, drop, refl, sym, ap, subst, ◌∙◌, arith, cond}
 use Rattle.std.specs.Prelude.{filter, nat_lt, ◌==◌}
 use Rattle.std.specs.List.{AllWithin, list_all}
@@ -56,7 +56,7 @@ ends_later first last (x ∷ xs) begin end met inside low high = elim (nat_dec_l
     apart : (m : ℕ) → nat_lt m first ≡ true → not (nat_lt last m) ≡ false → ⊥
     apart m e f = grind (arith, nat_tests)
 
--- what a test keeps where it passes up to one place and from another on, and nowhere between
+-- what a test keeps where it passes up to one position and from another on, and nowhere between
 pub range_goes : (p : Record → Bool) (xs : List Record) (low high : ℕ) → low ≤ high → high ≤ length xs
     → AllWithin (λ r. p r ≡ true) xs 0 low → AllWithin (λ r. p r ≡ false) xs low high → AllWithin (λ r. p r ≡ true) xs high (length xs)
     → take low xs ++ drop high xs ≡ filter p xs
@@ -179,7 +179,7 @@ all_go apex name t xs any other own = sym (none_stays name (λ r. not (is_of nam
     by : (m : ℕ) → not ((t == type_any || m == t) && not (names_eq name apex && (m == type_soa || m == type_ns))) ≡ false
     by m = λ i. not ((any i || m == t) && not (other i && (m == type_soa || m == type_ns)))
 
--- of the apex the SOA and the NS stay, and no other type: none behind the SOA's, between the two, or below that of NS
+-- of the apex the SOA and the NS stay, and no other type: none after the SOA's, between the two, or below that of NS
 pub but_vital : (apex : Labels) (xs : List Record) → are_of apex xs ≡ true → names_eq apex apex ≡ true → filter (is_outside 0 1) (filter (is_outside 3 5) (filter (λ r. not (nat_lt 6 r.rtype)) xs)) ≡ deleted_set apex xs apex type_any
 but_vital apex xs own same =
     ap (filter (is_outside 0 1)) (kept_twice (λ r. not (nat_lt 6 r.rtype)) (is_outside 3 5) xs)

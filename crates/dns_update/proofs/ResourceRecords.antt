@@ -34,7 +34,7 @@ stops : (o x : Option Rcode) → is_some o ≡ true → otherwise o x ≡ o
 stops (Some rcode) x e = refl
 stops None x e = absurd cc
 
--- the item at a place fails, and none before it did
+-- the item at a position fails, and none before it did
 pub fault_stops : (fault : ResourceRecord → Option Rcode) (xs : List ResourceRecord) (i : ℕ) (r : ResourceRecord) (o : Option Rcode) → i < length xs → r ≡ get_or xs i r → o ≡ fault r → is_some o ≡ true → first_fault fault xs ≡ first_fault fault (drop i xs) → o ≡ first_fault fault xs
 fault_stops fault xs i r o lt is e some h = sym (h ∙ fault_at fault xs i r lt is ∙ ap (λ (x : Option Rcode). otherwise x (first_fault fault (drop (i + 1) xs))) (sym e) ∙ stops o _ some)
 

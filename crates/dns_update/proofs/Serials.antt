@@ -46,7 +46,7 @@ serial_small r h =
 data_valid : (r : Record) → IsRecord r → IsData (data_of r)
 data_valid r h = record { rtype = h.rtype; octets = h.octets; short = h.short; form = h.rdata }
 
--- behind the two names stand five numbers
+-- after the two names there are five numbers
 pub soa_long : (r : Record) → IsRecord r → r.rtype ≡ type_soa → 20 ≤ length r.rdata
 soa_long r h e =
     let p = parts_of (data_of r) 6 (Name ∷ Name ∷ Values (U32 ∷ U32 ∷ U32 ∷ U32 ∷ U32 ∷ []) ∷ []) (data_valid r h) e refl in

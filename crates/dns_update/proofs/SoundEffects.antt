@@ -1,4 +1,4 @@
--- What makes records a valid zone stays behind each item of an update (RFC 2136 3.4.2).
+-- What makes records a valid zone stays after each item of an update (RFC 2136 3.4.2).
 use Rattle.std.proofs.Common.{◌≡◌, ℕ, Bool, true, false, not, ◌&&◌, ◌||◌, inl, inr, List, [], ◌∷◌, None, length, refl, sym, ap, subst, ◌∙◌}
 use Rattle.std.specs.Prelude.{filter, ◌==◌, if◌then◌else◌}
 use Rattle.std.specs.List.{AllByRecursion, list_any}
@@ -36,7 +36,7 @@ over_left : (a b : Bool) → (a || b) ≡ false → b ≡ false
 over_left true b e = absurd cc
 over_left false b e = e
 
--- of two records and more of a set one is left behind one that goes
+-- of two records and more of a set one is left after one that goes
 one_left : (ys : List Record) (r : Record) → Sorted ys → (length ys == 0) ≡ false → (length ys == 1) ≡ false → (a : Record) × (contains ys a ≡ true) × (ties r a ≡ false)
 one_left [] r h some more = absurd cc
 one_left (a ∷ []) r h some more = absurd cc

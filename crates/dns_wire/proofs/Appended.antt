@@ -33,7 +33,7 @@ strings_appended m at mid stop old new h e =
     let here : SomeField m at Strings stop stop = subst (λ (k : ℕ). SomeField m at Strings k stop) end h in
     (here, e ∙ ap (λ (xs : List ℕ). old ++ xs) (sym here.stands.1))
 
--- the parts that are still to come, behind those that are appended
+-- the parts that are still to come, after those that are appended
 abbrev pub Joins : List ℕ → ℕ → List Field → ℕ → ℕ → List Field → List ℕ → List ℕ → Type 0
 Joins m at all stop next left old now =
     (rest : List ℕ) → FieldsAt m next left rest stop → (plain : List ℕ) × FieldsAt m at all plain stop × (now ++ rest ≡ old ++ plain)

@@ -10,7 +10,7 @@ use Rattle.dns_wire.specs.Text.{Reply, header_octets, question_octets}
 use Rattle.dns_wire.specs.Compressed.{Used, OccursAt, OctetsAt, FieldCompressed, and_field, PartsCompressed, RecordCompressed, RecordsCompressed, question_fields, IsCompressed}
 use Rattle.dns_wire.proofs.Written.{written_once}
 
--- two texts end a part at one offset and have the same fields behind it; if they agree up to it, they agree behind it
+-- two texts end a part at one offset and have the same fields after it; if they agree up to it, they agree after it
 record Same (t u : List ℕ) (at i j : ℕ) (a b : List Used) : Type 0 where
   stop : i ≡ j
   later : a ≡ b
@@ -73,7 +73,7 @@ data_same : (t u : List ℕ) (earlier earlier' : List Used) (at at' : ℕ) (f : 
 data_same t u earlier earlier' at at' None rdata i j a b p q h k = parts_same t u earlier earlier' at at' [] rdata i j a b p q h k
 data_same t u earlier earlier' at at' (Some fields) rdata i j a b p q h k = parts_same t u earlier earlier' at at' fields rdata i j a b p q h k
 
--- RDLENGTH is the same, since the data behind it ends at one offset
+-- RDLENGTH is the same, since the data after it ends at one offset
 record_same : (t u : List ℕ) (earlier : List Used) (at : ℕ) (r : Record) (i j : ℕ) (a b : List Used) → RecordCompressed t earlier at r i a → RecordCompressed u earlier at r j b → Same t u at i j a b
 record_same t u earlier at r i j a b h k =
     let one = field_same t u earlier at r.owner h.mid k.mid h.owner k.owner in

@@ -1,4 +1,4 @@
--- The plain form of a name that stands, copied run by run.
+-- The plain form of a name that is there, copied run by run.
 use Rattle.std.proofs.Common.{◌≡◌, ℕ, suc, ◌+◌, ◌-◌, ◌<◌, ◌≤◌, List, [], ◌∷◌, ◌++◌, length, map, get_or, take, drop, Some, refl, sym, ap, subst, ◌∙◌, arith, append_assoc, take-add, drop-drop}
 use Rattle.std.specs.Prelude.{slice_get, slice_range}
 use Rattle.std.specs.Char.{to_ascii_lowercase}
@@ -13,7 +13,7 @@ use Rattle.dns_wire.specs.NameAt.{IsPointer, NameAt}
 use Rattle.dns_wire.specs.NameLaws.{length-wire, opening, Closing, closing, by_root, by_pointer, zero_ends, pointer_ends, pointer_unique, some_octet}
 use Rattle.dns_wire.specs.Compressed.{run_octets}
 
--- the octets of labels that stand, in lower case
+-- the octets of labels that are there, in lower case
 pub run_read : (m : List ℕ) (at : ℕ) (labels : Labels) (stop : ℕ) → LabelsAt m at labels stop → map to_ascii_lowercase (take (length (run_octets labels)) (drop at m)) ≡ run_octets labels
 run_read m at [] stop e = refl
 run_read m at (l ∷ ls) stop h =
@@ -57,7 +57,7 @@ pub copied_size : (m out : List ℕ) (run size : ℕ) (name : Labels) (h : Copie
 copied_size m out run size name h =
     ap length h.whole ∙ length-append (take size out) (wire h.rest) ∙ ap (λ (k : ℕ). k + length (wire h.rest)) (length-take-le size out h.inside)
 
--- more octets behind those that were written
+-- more octets after those that were written
 pub record More (size : ℕ) (out text new : List ℕ) : Type 0 where
   pub taken : take (size + length text) new ≡ take size out ++ text
   pub inside : size + length text ≤ length new

@@ -14,7 +14,7 @@ use Rattle.dns_wire.proofs.NamesBack.{Readable, readable_more, readable_next, na
 use Rattle.dns_wire.proofs.Places.{some_written}
 use Rattle.dns_wire.proofs.TextCompressed.{Rest, piece, rest_as}
 
--- what stands, read as octets
+-- what is there, read as octets
 plain_at : (text : List ℕ) (at : ℕ) (octets back : List ℕ) → Rest text at (octets ++ back) → (at + length octets ≤ length text) × (octets ≡ slice_range text at (at + length octets))
 plain_at text at octets back h = let p = piece text at octets back h in (p.here.inside, sym p.here.read)
 
@@ -36,7 +36,7 @@ plain_back text at (field ∷ fields) rdata back (front, rest, is, one, more) h 
     let stop : at + length front + length rest ≡ at + length rdata = omega (arith, ap length is, length-append front rest) in
     (front, rest, at + length front, is, field_back text at field front (rest ++ back) one here, subst (λ (k : ℕ). FieldsAt text (at + length front) fields rest k) stop (plain_back text (at + length front) fields rest back more behind))
 
--- a name in front, and what is behind it
+-- a name in front, and what is after it
 pub name_split : (fields : List Field) (rdata : List ℕ) → AreFields (Name ∷ fields) rdata → IsName (labels_of rdata) × (rdata ≡ wire (labels_of rdata) ++ drop (length (wire (labels_of rdata))) rdata)
 name_split fields rdata (front, rest, is, (name, valid, plain), more) =
     let whole : rdata ≡ wire name ++ rest = is ∙ ap (λ (xs : List ℕ). xs ++ rest) plain in

@@ -1,4 +1,4 @@
--- The places of the name that stands in full behind the header.
+-- The positions of the name that is in full after the header.
 use Rattle.std.proofs.Common.{◌≡◌, ℕ, ◌+◌, ◌<◌, ◌≤◌, Bool, true, false, List, [], ◌∷◌, ◌++◌, length, Option, Some, None, refl, sym, ap, ◌∙◌, arith}
 use Rattle.std.specs.Prelude.{nat_lt}
 use Rattle.std.specs.Option.{option_or}
@@ -22,7 +22,7 @@ apart a b h = go (names_eq a b) refl
     go false e = refl
     go true e = absurd (h (ap (λ (n : Labels). length (wire n)) (names_same a b e)))
 
--- another suffix stands at none but the places behind the first
+-- another suffix is at none but the positions after the first
 passed : (at : ℕ) (label : List ℕ) (rest suffix : Labels) (after : ℕ) → after ≡ at + 1 + length label → names_eq (label ∷ rest) suffix ≡ false
     → offset_at (new_places [] at (label ∷ rest)) suffix ≡ offset_at (new_places [] after rest) suffix
 passed at label rest suffix after place other =
@@ -30,14 +30,14 @@ passed at label rest suffix after place other =
     ∙ offset_at-append (noted at (label ∷ rest)) (new_places [] after rest) suffix
     ∙ ap (λ (o : Option ℕ). option_or o (offset_at (new_places [] after rest) suffix)) (noted_other at label rest suffix other)
 
--- a longer name stands at no place of a name
+-- a longer name is at no position of a name
 none_longer : (at : ℕ) (name suffix : Labels) → length (wire name) < length (wire suffix) → offset_at (new_places [] at name) suffix ≡ None
 none_longer at [] suffix h = refl
 none_longer at (label ∷ rest) suffix h =
     passed at label rest suffix (at + 1 + length label) refl (apart (label ∷ rest) suffix (λ same. omega (arith, same, h)))
     ∙ none_longer (at + 1 + length label) rest suffix (omega (arith, h, length-append label (wire rest)))
 
--- the suffix is looked for behind a label of a longer name
+-- the suffix is looked for after a label of a longer name
 pub looked_on : (at : ℕ) (octets suffix behind : List ℕ) (after : ℕ) (f : FirstLabel octets) → IsPlain octets → IsPlain suffix → length suffix < length octets → after ≡ at + 1 + length f.label → labels_of behind ≡ f.rest
     → offset_at (new_places [] at (labels_of octets)) (labels_of suffix) ≡ offset_at (new_places [] after (labels_of behind)) (labels_of suffix)
 looked_on at octets suffix behind after f h k short place back =
@@ -76,12 +76,12 @@ found_none at octets suffix h none = sym (ap (λ (n : Labels). offset_at (new_pl
 pub plain_short : (octets : List ℕ) → IsPlain octets → length octets ≤ 255
 plain_short octets h = let short = h.valid.short in omega (arith, short, ap length h.whole)
 
--- behind no place is none
+-- after no positions there are none
 pub none_behind : (front back : List Place) → front ++ back ≡ [] → back ≡ []
 none_behind [] back e = e
 none_behind (p ∷ front) back e = absurd (let size = ap length e in omega (arith, size))
 
--- what stands among the first places is found there, and else behind them
+-- what is among the first positions is found there, and else after them
 pub among_first : (front back : List Place) (name : Labels) (offset : ℕ) → Some offset ≡ offset_at front name → Some offset ≡ offset_at (front ++ back) name
 among_first front back name offset e = ap (λ (o : Option ℕ). option_or o (offset_at back name)) e ∙ sym (offset_at-append front back name)
 

@@ -1,4 +1,4 @@
--- An index of a table of places grows with the table.
+-- An index of a table of positions grows with the table.
 use Rattle.std.proofs.Common.{min, ◌≡◌, ◌≢◌, ◌⊎◌, inl, inr, ◌≤◌, ◌<◌, ℕ, Bool, true, false, List, [], ◌∷◌, ◌++◌, length, take, drop, set, get_or, nat_eq, Option, Some, None, refl, sym, ap, subst, ◌∙◌, arith, if◌then◌else◌}
 use Rattle.std.specs.Prelude.{nat_lt}
 use Rattle.std.specs.Option.{option_map, option_or}
@@ -14,7 +14,7 @@ use Rattle.dns_wire.specs.Puts.{noted}
 use Rattle.dns_wire.proofs.Places.{bytes_same, names_same}
 use Rattle.dns_wire.proofs.Suffixes.{plain_eq}
 
--- what stands in the front is found there, and else behind it
+-- what is in the front is found there, and else after it
 pub offset_at-append : (front back : List Place) (name : Labels) → offset_at (front ++ back) name ≡ option_or (offset_at front name) (offset_at back name)
 offset_at-append front back name = ap (option_map (λ (p : Place). p.offset)) (find-append (λ (p : Place). names_eq p.suffix name) front back) ∙ go (place_of front name)
   where
@@ -36,11 +36,11 @@ at_one offset octets suffix h k = go (bytes_eq octets suffix) (sym (plain_eq oct
     go true is = rw (is) refl
     go false is = rw (is) refl
 
--- what stands in the bucket with a number
+-- what is in the bucket with a number
 abbrev bucket_at : List (List Place) → ℕ → List Place
 bucket_at buckets number = get_or buckets number []
 
--- a suffix is put behind the others of its bucket
+-- a suffix is put after the others of its bucket
 pub indexed_more : (places : List Place) (buckets : List (List Place)) (offset : ℕ) (octets : List ℕ) (bucket : List Place) → IsPlain octets
     → bucket_of octets < length buckets → bucket ≡ bucket_at buckets (bucket_of octets) ++ one offset octets
     → IsIndexed places buckets → IsIndexed (places ++ one offset octets) (set buckets (bucket_of octets) bucket)
@@ -54,7 +54,7 @@ indexed_more places buckets offset octets bucket plain inside grown h = record {
         ∙ ap (λ (o : Option ℕ). option_or o (offset_at (one offset octets) (labels_of octets))) (h.at octets plain)
         ∙ sym (offset_at-append places (one offset octets) (labels_of octets))
 
-    -- another suffix is not the new place's, whichever bucket it has
+    -- another suffix is not the new position's, whichever bucket it has
     still : (suffix : List ℕ) → IsPlain suffix → bytes_eq octets suffix ≡ false → offset_at places (labels_of suffix) ≡ offset_at (places ++ one offset octets) (labels_of suffix)
     still suffix k other =
         or_none (offset_at places (labels_of suffix))
@@ -83,7 +83,7 @@ indexed_more places buckets offset octets bucket plain inside grown h = record {
     by true suffix same k = subst (λ (s : List ℕ). offset_at (bucket_at (set buckets (bucket_of octets) bucket) (bucket_of s)) (labels_of s) ≡ offset_at (places ++ one offset octets) (labels_of s)) (bytes_same octets suffix same) own
     by false suffix other k = looked suffix (eqb_tells (bucket_of octets) (bucket_of suffix)) k other ∙ h.at suffix k ∙ still suffix k other
 
--- the first so many places, and the others
+-- the first so many positions, and the others
 parted : (k : ℕ) (places : List Place) (suffix : Labels) → offset_at places suffix ≡ option_or (offset_at (take (min k (length places)) places) suffix) (offset_at (drop k places) suffix)
 parted k places suffix =
     ap (λ (ps : List Place). offset_at ps suffix) (sym (take-append-drop k places))
@@ -96,7 +96,7 @@ found_first k places suffix offset e = ap (λ (o : Option ℕ). option_or o (off
 pub found_later : (k : ℕ) (places : List Place) (suffix : Labels) → None ≡ offset_at (take (min k (length places)) places) suffix → offset_at (drop k places) suffix ≡ offset_at places suffix
 found_later k places suffix e = ap (λ (o : Option ℕ). option_or o (offset_at (drop k places) suffix)) e ∙ sym (parted k places suffix)
 
--- the suffixes of a name that is being written stood nowhere else: none is as short as what is left of it
+-- the suffixes of a name that is being written were nowhere else: none is as short as what is left of it
 abbrev pub StillKnown : List Place → List Place → Labels → Type 0
 StillKnown known places left = (name : Labels) → length name ≤ length left → offset_at places name ≡ offset_at known name
 

@@ -40,7 +40,7 @@ not_known known name e = go (place_of known name) refl
 pub compressed_label : (known : List Place) (label : List ℕ) (rest : Labels) → place_of known (label ∷ rest) ≡ None → compress_name known (label ∷ rest) ≡ (length label ∷ label) ++ compress_name known rest
 compressed_label known label rest e = rw (e, compress_name) refl
 
--- behind the places that a pointer can name, none is added
+-- after the positions that a pointer can name, none is added
 none_high : (known : List Place) (at : ℕ) (name : Labels) → nat_lt at 16384 ≡ false → new_places known at name ≡ []
 none_high known at [] high = refl
 none_high known at (label ∷ rest) high = go (place_of known (label ∷ rest)) refl

@@ -34,7 +34,7 @@ tail_label : (text : List ℕ) (start at : ℕ) (label : List ℕ) (rest : Label
 tail_label text start at label rest end l (to_root stop h z e) = to_root stop (l, h) z e
 tail_label text start at label rest end l (to_pointer labels more stop target after h p far back inner is e) = to_pointer (label ∷ labels) more stop target after (l, h) p far back inner (ap (λ (xs : Labels). label ∷ xs) is) e
 
--- the places of a table are names that stand
+-- the positions of a table are names that are there
 pub record ReadAt (text : List ℕ) (at offset : ℕ) (suffix : Labels) : Type 0 where
   pub far : 12 ≤ offset
   pub back : offset < at
@@ -55,7 +55,7 @@ readable_more text places at at' up h = record {
       record { far = r.far; back = omega arith; end = r.end; stands = r.stands });
 }
 
--- a label that is written stands
+-- a label that is written is there
 record LabelDone (text : List ℕ) (at : ℕ) (label more : List ℕ) : Type 0 where
   label-at : LabelAt text at label
   behind : Rest text (at + 1 + length label) more
@@ -119,7 +119,7 @@ full_back text at name back valid h =
     subst (λ (xs : List ℕ). FullNameAt text at name (at + length xs)) (in_full name)
     (name_back text [] at name back (readable_none text at) valid (rest_as text at at (wire name ++ back) (compress_name [] name ++ back) refl (ap (λ (xs : List ℕ). xs ++ back) (sym (in_full name))) h))
 
--- the places that a name adds stand
+-- each suffix is at the position that a name adds for it
 new_back : (text : List ℕ) (places : List Place) (start at : ℕ) (name : Labels) (back : List ℕ) → Readable text places start → start ≤ at → 12 ≤ at → AllByRecursion IsLabel name → Rest text at (compress_name places name ++ back)
     → (suffix : Labels) (p : Place) → place_of (new_places places at name) suffix ≡ Some p → ReadAt text (at + length (compress_name places name)) p.offset suffix
 new_back text places start at [] back table up far valid h suffix p e = absurd (none-some p e)

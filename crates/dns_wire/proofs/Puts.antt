@@ -6,7 +6,7 @@ use Rattle.dns_wire.specs.Puts.{Wrote, RefusesUpTo}
 use Rattle.dns_wire.specs.declared.WriteError.{WriteError}
 use Rattle.dns_wire.specs.declared.WriteError.TheVariants.{OutOfMemory, DoesNotFit}
 
--- behind what stands now are still to come these octets, and then the table is as said
+-- after what is there now these octets are still to come, and then the table is as said
 pub record Leaves (before : List ℕ) (whole : Compressing) (octets rest : List ℕ) (places : List Place) : Type 0 where
   pub octets-are : before ++ whole.octets ≡ octets ++ rest
   pub places-are : whole.places ≡ places

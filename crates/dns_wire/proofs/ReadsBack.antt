@@ -58,7 +58,7 @@ slice_within text at octets back i inside h =
     let two : length one ≡ 2 = length-take-le k (drop i octets) (omega (arith, length-drop i octets)) ∙ (let same : k ≡ 2 = omega arith in same) in
     number_done text (at + i) 2 (number_of one) one (rest ++ back) two refl (rest_as text (at + length front) (at + i) (one ++ (rest ++ back)) (one ++ (rest ++ back)) (ap (λ (x : ℕ). at + x) width) refl p.behind)
 
--- the name of a question stands in full
+-- the name of a question is in full
 asked_name : (text : List ℕ) (e : EchoedQuestion) (back : List ℕ) → IsEchoed e → Rest text 12 (e.octets ++ back) → Front text 12 (length (wire e.name)) e.name
 asked_name text e back valid h =
     let n = length (wire e.name) in
@@ -89,7 +89,7 @@ questions_back text None octets back valid e h = omega (arith, ap length e)
 questions_back text (Some q) octets back valid e h =
     (12 + length octets, subst (λ (xs : List ℕ). QuestionAt text 12 (question_of q) (12 + length xs)) (sym e) (question_back text q back valid (rest_as text 12 12 (octets ++ back) (q.octets ++ back) refl (ap (λ (xs : List ℕ). xs ++ back) e) h)), refl)
 
--- the places of a name that stands in full
+-- the positions of a name that is in full
 stood : (text : List ℕ) (at : ℕ) (name : Labels) (stop : ℕ) → LabelsAt text at name stop → slice_get text stop ≡ Some 0 → 12 ≤ at → (suffix : Labels) (p : Place) → place_of (new_places [] at name) suffix ≡ Some p → ReadAt text (stop + 1) p.offset suffix
 stood text at [] stop h z far suffix p e = absurd (none-some p e)
 stood text at (label ∷ rest) stop h z far suffix p e =

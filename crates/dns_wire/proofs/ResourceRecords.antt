@@ -77,7 +77,7 @@ question_stands m at q stop fits e =
     } in
     subst (λ (x : Question). QuestionAt m at x stop) same.0 (subst (λ (k : ℕ). QuestionAt m at made k) same.1 stands)
 
--- the steps behind an owner, one for each number
+-- the steps after an owner, one for each number
 class_step : List ℕ → Labels → ℕ → ℕ → Option (ResourceRecord × ℕ)
 class_step m owner mid rtype = number_read_at 2 m (mid + 2) >>= λ class. number_read_at 4 m (mid + 4) >>= λ ttl. number_read_at 2 m (mid + 8) >>= λ size. rdata_at rtype size m (mid + 10) >>= λ rdata. Some (record { owner = owner; rtype = rtype; class = class; ttl = ttl; rdata = rdata }, mid + 10 + size)
 

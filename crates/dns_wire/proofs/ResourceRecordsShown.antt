@@ -1,7 +1,6 @@
--- Records that are walked where they stand.
-use Rattle.std.proofs.Common.{◌≡◌, ◌≢◌, ℕ, suc, ◌+◌, ◌-◌, ◌*◌, ◌≤◌, List, [], ◌∷◌, length, get_or, take, drop, Option, Some, None, refl, sym, ap, subst, ◌∙◌, arith, zero-add}
+-- Records that are walked where they are.
+use Rattle.std.proofs.Common.{◌≡◌, ◌≢◌, ℕ, ◌+◌, ◌-◌, ◌≤◌, List, [], ◌∷◌, length, Option, Some, None, refl, sym, ap, subst, ◌∙◌, arith}
 use Rattle.std.specs.Prelude.{slice_range}
-use Rattle.std.proofs.Math.Seq.{drop-cons}
 use Rattle.dns_names.specs.Name.{Labels}
 use Rattle.dns_records.specs.Record.{number_of}
 use Rattle.dns_wire.specs.Message.{ResourceRecord, Received}
@@ -15,24 +14,7 @@ use Rattle.dns_wire.proofs.ResourceRecords.{rdata_is}
 use Rattle.dns_wire.proofs.Lists.{items_are}
 use Rattle.dns_wire.proofs.NameRead.{name_unique, viewed}
 
--- a number of four octets
-pub long_number_is : (m : List ℕ) (at : ℕ) → at + 4 ≤ length m → ((get_or m at 0 * 256 + get_or m (at + 1) 0) * 256 + get_or m (at + 2) 0) * 256 + get_or m (at + 3) 0 ≡ number_of (slice_range m at (at + 4))
-long_number_is m at inside =
-    let width : at + 4 - at ≡ 4 = omega arith in
-    let one : suc at ≡ at + 1 = omega arith in
-    let two : suc (suc at) ≡ at + 2 = omega arith in
-    let three : suc (suc (suc at)) ≡ at + 3 = omega arith in
-    let d0 : drop at m ≡ get_or m at 0 ∷ drop (suc at) m = drop-cons m at 0 (omega arith) in
-    let d1 : drop (suc at) m ≡ get_or m (suc at) 0 ∷ drop (suc (suc at)) m = drop-cons m (suc at) 0 (omega arith) in
-    let d2 : drop (suc (suc at)) m ≡ get_or m (suc (suc at)) 0 ∷ drop (suc (suc (suc at))) m = drop-cons m (suc (suc at)) 0 (omega arith) in
-    let d3 : drop (suc (suc (suc at))) m ≡ get_or m (suc (suc (suc at))) 0 ∷ drop (suc (suc (suc (suc at)))) m = drop-cons m (suc (suc (suc at))) 0 (omega arith) in
-    let all : drop at m ≡ get_or m at 0 ∷ get_or m (at + 1) 0 ∷ get_or m (at + 2) 0 ∷ get_or m (at + 3) 0 ∷ drop (suc (suc (suc (suc at)))) m =
-    d0 ∙ ap (λ (xs : List ℕ). get_or m at 0 ∷ xs) (d1 ∙ ap (λ (k : ℕ). get_or m k 0 ∷ drop (suc (suc at)) m) one)
-    ∙ ap (λ (xs : List ℕ). get_or m at 0 ∷ get_or m (at + 1) 0 ∷ xs) (d2 ∙ ap (λ (k : ℕ). get_or m k 0 ∷ drop (suc (suc (suc at))) m) two)
-    ∙ ap (λ (xs : List ℕ). get_or m at 0 ∷ get_or m (at + 1) 0 ∷ get_or m (at + 2) 0 ∷ xs) (d3 ∙ ap (λ (k : ℕ). get_or m k 0 ∷ drop (suc (suc (suc (suc at)))) m) three) in
-    sym (ap (λ (k : ℕ). number_of (take k (drop at m))) width ∙ ap (λ (xs : List ℕ). number_of (take 4 xs)) all ∙ ap (λ (k : ℕ). ((k * 256 + get_or m (at + 1) 0) * 256 + get_or m (at + 2) 0) * 256 + get_or m (at + 3) 0) (zero-add (get_or m at 0)))
-
--- what a view shows is the record that stands
+-- what a view shows is the record that is there
 pub data_read : (m : List ℕ) (mid rtype size : ℕ) (plain : List ℕ) → rtype ≡ number_of (slice_range m mid (mid + 2)) → size ≡ number_of (slice_range m (mid + 8) (mid + 8 + 2)) → RDataAt m (mid + 10) rtype size plain → data_shown m mid ≡ plain
 unfolding data_shown
 data_read m mid rtype size plain typed counted h =
@@ -56,7 +38,7 @@ unfolding items_left
 left_is m at n h =
     ap (λ (o : Option _). elim o [ None ↦ [] | Some found ↦ found.0 ]) (ap (λ (k : ℕ). items_at k m at) (sym h.count) ∙ items_are m at h.items h.stop h.stand)
 
--- the next record and those behind it
+-- the next record and those after it
 pub record NextItem (m : List ℕ) (at n : ℕ) (items : List ResourceRecord) : Type 0 where
   pub item : ResourceRecord
   pub rest : List ResourceRecord

@@ -33,7 +33,7 @@ reads_of m r e h = subst (λ (x : Received). Reads x.octets x.message) e h
 pub questions_of_message : (m : List ℕ) (r : Received) → received m ≡ r → (received m).message.questions ≡ r.message.questions
 questions_of_message m r e = ap (λ (x : Received). x.message.questions) e
 
--- questions stand within the octets
+-- questions are within the octets
 pub questions_within : (m : List ℕ) (at : ℕ) (qs : List Question) (stop : ℕ) → at ≤ length m → QuestionsAt m at qs stop → (at ≤ stop) × (stop ≤ length m)
 questions_within m at [] stop here e = (omega arith, omega arith)
 questions_within m at (q ∷ qs) stop here (mid, first, behind) =
@@ -69,7 +69,7 @@ only_of [] e = absurd (omega (arith, e))
 only_of (q ∷ []) e = (q, refl)
 only_of (q ∷ r ∷ rest) e = absurd (omega (arith, e))
 
--- no pointer stands in a name right behind the header
+-- no pointer occurs in a name right after the header
 pub first_name : {m : List ℕ} {name : Labels} {end : ℕ} → NameAt m 12 name end → end ≡ 12 + length (wire name)
 first_name {m = m} {name = name} (ends stop h z e) =
     let size : 12 + length (wire name) ≡ stop + 1 = subst (λ (x : Labels). 12 + length (wire x) ≡ stop + 1) (append-nil name) (length-wire m 12 name stop [] h) in
@@ -89,7 +89,7 @@ asked m x i j k n h c e =
     let one = only_of x.questions (count ∙ e) in
     (one.0, one.1, one_question m one.0 i (subst (λ (qs : List Question). QuestionsAt m 12 qs i) one.1 h.questions))
 
--- a view's name stands
+-- a view's name is there
 pub record NameShown (m : List ℕ) (at : ℕ) : Type 0 where
   pub end : ℕ
   pub stands : FullNameAt m at (labels_at m at) end

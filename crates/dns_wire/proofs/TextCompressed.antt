@@ -15,7 +15,7 @@ use Rattle.dns_wire.proofs.Table.{table_first, table_next, stands_cases}
 use Rattle.dns_wire.proofs.Written.{compressed_written}
 use Rattle.dns_wire.proofs.FieldsPut.{octets_room, octets_behind, name_behind}
 
--- these octets stand from an offset on, up to the end
+-- these octets are there from an offset on, up to the end
 pub record Rest (text : List ℕ) (at : ℕ) (rest : List ℕ) : Type 0 where
   pub front : List ℕ
   pub is : text ≡ front ++ rest
@@ -41,7 +41,7 @@ piece text at octets back h =
 pub rest_as : (text : List ℕ) (at at' : ℕ) (rest rest' : List ℕ) → at ≡ at' → rest ≡ rest' → Rest text at rest → Rest text at' rest'
 rest_as text at at' rest rest' e f h = record { front = h.front; is = h.is ∙ ap (λ (xs : List ℕ). h.front ++ xs) f; size = h.size ∙ e }
 
--- all that stands is below an offset
+-- all that is there is below an offset
 pub record Under (earlier : List Used) (at : ℕ) : Type 0 where
   pub below : (offset : ℕ) (suffix : Labels) → OccursAt earlier offset suffix → offset < at
 
@@ -225,7 +225,7 @@ records_done text earlier places at (r ∷ rs) valid table under h =
     let d = record_done text earlier places at r (compressed_records here.places (at + length here.octets) rs) valid.0 table under h in
     (at + length here.octets, d.later, d.compressed, records_done text d.later here.places (at + length here.octets) rs valid.1 d.table d.under d.behind)
 
--- a name where nothing stands is in full
+-- where no suffix is there yet, a name is in full
 pub in_full : (name : Labels) → compress_name [] name ≡ wire name
 in_full [] = refl
 in_full (label ∷ rest) = ap (λ (xs : List ℕ). length label ∷ label ++ xs) (in_full rest)

@@ -6,7 +6,9 @@ ghost use Rattle.dns_wire.specs.Compress.{compressed_name, pointer as stated_poi
 ghost use Rattle.dns_wire.specs.Puts.{Wrote, RefusesUpTo, plain_octets};
 
 use crate::WriteError;
+use crate::fields::two_octets;
 use crate::known::Places;
+use crate::name::POINTER_BITS;
 use dns_memory::Heap;
 
 /// A message while it is written: its octets so far, and the targets that pointers can name.
@@ -68,5 +70,5 @@ fn pointer(offset: usize) -> [u8; 2]
     requires { offset < 16384 }
     ensures { result ≡ stated_pointer offset }
 {
-    [(192 + offset / 256) as u8, (offset % 256) as u8]
+    two_octets(POINTER_BITS + offset as u16)
 }

@@ -12,6 +12,8 @@ ghost use Rattle.dns_wire.specs.Puts.{is_name};
 
 use crate::compressor::Compressor;
 use crate::{ReplyRecord, WriteError};
+use byteorder::{BigEndian, ByteOrder};
+use dns_records::types::CLASS_IN;
 use dns_records::{Field, count_within, form};
 
 /// The name at the front of plain octets, and the octets after it.
@@ -33,9 +35,11 @@ fn split_name(octets: &[u8]) -> (&[u8], &[u8])
 fn fixed(rtype: u16, ttl: u32) -> [u8; 10]
     ensures { result ≡ fixed_octets rtype ttl }
 {
-    let t = rtype.to_be_bytes();
-    let l = ttl.to_be_bytes();
-    [t[0], t[1], 0, 1, l[0], l[1], l[2], l[3], 0, 0]
+    let mut octets = [0; 10];
+    BigEndian::write_u16(&mut octets, rtype);
+    BigEndian::write_u16(&mut octets[2..], CLASS_IN);
+    BigEndian::write_u32(&mut octets[4..], ttl);
+    octets
 }
 
 /// Whether one of the parts is a name that a message may compress (RFC 1035 section 4.1.4).
@@ -96,7 +100,7 @@ impl<'a> Compressor<'a> {
         ensures limit { self.new.limit ≡ self.old.limit }
     {
         let size = (self.octets.len() - start) as u16;
-        self.octets.as_mut_slice()[start - 2..start].copy_from_slice(&size.to_be_bytes());
+        BigEndian::write_u16(&mut self.octets.as_mut_slice()[start - 2..start], size);
     }
 
     /// Writes the data of a record, by the form of its type: in one piece, where there is no name to

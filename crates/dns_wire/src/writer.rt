@@ -12,6 +12,7 @@ ghost use Rattle.dns_wire.specs.Compress.{Place, compress_name, new_places};
 ghost use Rattle.dns_wire.specs.Compressed.{Used, OccursAt, IsWritten, AreThePlaces, IsCompressed, and_field};
 
 use crate::compressor::Compressor;
+use crate::fields::two_octets;
 use crate::known::Places;
 use crate::{EchoedQuestion, Reply, ReplyRecord, WriteError};
 use dns_memory::Heap;
@@ -28,7 +29,7 @@ fn count(records: &[ReplyRecord<'_>]) -> Result<[u8; 2], WriteError>
     ensures refused { IfErr result (λ e. (e ≡ WriteError.DoesNotFit) × (65535 < length records.now)) }
 {
     match u16::try_from(records.len()) {
-        Ok(count) => Ok(count.to_be_bytes()),
+        Ok(count) => Ok(two_octets(count)),
         Err(_) => Err(WriteError::DoesNotFit),
     }
 }
@@ -41,7 +42,7 @@ pub(crate) fn header(reply: &Reply<'_, '_>) -> Result<[u8; 12], WriteError>
         × (65535 < length reply.now.answer.now + length reply.now.authority.now
         + length reply.now.additional.now)) }
 {
-    let id = reply.id.to_be_bytes();
+    let id = two_octets(reply.id);
     let questions = if reply.question.is_some() { 1 } else { 0 };
     let answers = count(reply.answer)?;
     let authorities = count(reply.authority)?;

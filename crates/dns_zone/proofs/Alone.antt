@@ -1,4 +1,4 @@
--- What each record of a set is, where one comes from, and a CNAME that stands alone at its owner (RFC 1034 section 3.6.2).
+-- What each record of a set is, where one comes from, and a CNAME that is alone at its owner (RFC 1034 section 3.6.2).
 use Rattle.std.proofs.Common.{◌≡◌, ℕ, suc, Bool, true, false, ◌&&◌, ◌||◌, ◌⊎◌, inl, inr, List, [], ◌∷◌, length, refl, sym, ap, ◌∙◌, arith}
 use Rattle.std.specs.Prelude.{◌==◌, nat_lt}
 use Rattle.std.specs.List.{list_any, list_all}

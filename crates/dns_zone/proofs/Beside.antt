@@ -1,4 +1,4 @@
--- The owners beside the place of a name tell which of its ancestors exist.
+-- The owners beside the position of a name tell which of its ancestors exist.
 use Rattle.std.proofs.Common.{◌≡◌, ℕ, zero, suc, ◌-◌, ◌<◌, ◌≤◌, Bool, true, false, ◌&&◌, ◌||◌, ◌⊎◌, inl, inr, List, [], ◌∷◌, length, get_or, refl, sym, ap, subst, ◌∙◌, arith}
 use Rattle.std.specs.Prelude.{nat_lt, slice_get, Option, Some, None}
 use borrow.Author.Tests.{lt-ltb}
@@ -21,7 +21,7 @@ use Rattle.dns_zone.proofs.Under.{before_apart, convex, none_under, exists_some,
 no_less : (o : Ordering) → (is_lt o ≡ true → ⊥) → is_lt o ≡ false
 no_less o h = elim (true_or_false (is_lt o)) [ inl e ↦ absurd (h e) | inr e ↦ e ]
 
--- a name under another does not stand before it
+-- a name under another is not before it
 under_behind : (a n : Labels) → under a n ≡ true → is_lt (name_cmp a n) ≡ false
 under_behind a n e = no_less (name_cmp a n) (λ l. (let apart = before_apart a n l in cc))
 
@@ -34,7 +34,7 @@ before_both : (a h n : Labels) → name_cmp a h ≡ Less → (name_cmp h n ≡ L
 before_both a h n l (inl m) = name_total.trans a h n l m
 before_both a h n l (inr m) = subst (λ (x : Labels). name_cmp a x ≡ Less) (name_cmp-same h n m) l
 
--- what does not stand before a name does not stand before its ancestors
+-- what is not before a name is not before its ancestors
 not_before : (a n here : Labels) → is_lt (name_cmp a n) ≡ false → under n here ≡ true → is_lt (name_cmp a here) ≡ false
 not_before a n here e u = no_less (name_cmp a here) (λ l. (
     let order = reversed (name_cmp n here) (name_cmp here n) (name_total.antisymm here n) (under_behind n here u) in
@@ -66,7 +66,7 @@ later x xs name place h = record {
   behind = λ k d from to. h.behind (suc k) d (omega arith) (omega arith);
 }
 
--- at the front no record stands before the name
+-- at the front no record is before the name
 at_front : (xs : List Record) (name here : Labels) → Sorted xs → IsPlaceOf name xs 0 → under name here ≡ true → is_owned_at xs 0 here ≡ exists xs here
 at_front [] name here s h u = refl
 at_front (x ∷ xs) name here s h u =
@@ -106,7 +106,7 @@ beside_is xs name here place order h u = beside_at xs name here place (sorted_fr
 abbrev owned : Labels → Option Record → Bool
 owned n o = elim o [ Some r ↦ under r.owner n | None ↦ false ]
 
--- the owner at the place of a name tells whether it exists
+-- the owner at the position of a name tells whether it exists
 pub place_tells : (xs : List Record) (name : Labels) (place : ℕ) → is_ordered xs ≡ true → IsPlaceOf name xs place → is_owned_at xs place name ≡ exists xs name
 place_tells xs name place order h = elim (told_nat place (length xs)) [
   | inl inside ↦ (let there = slice_get_found xs place inside in

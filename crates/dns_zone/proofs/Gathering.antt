@@ -145,7 +145,7 @@ pub neighbours : (xs : List Record) (r : Bool) → IsAllAdjacentAnswer (λ x y b
 neighbours xs true h = sym (rising xs h)
 neighbours xs false h = sym (broken xs h.0 h.1 h.2)
 
--- ---- the refusal of a list in which records stand twice and no lower one applies
+-- ---- the refusal of a list in which records occur twice and no lower one applies
 pub doubled : (apex : Labels) (xs : List Record) → true ≡ owns_type xs apex type_soa → length (soas xs) ≤ 1 → true ≡ owns_type xs apex type_ns → true ≡ list_all (λ r. under r.owner apex) xs → has_twice xs ≡ true → zone_fault apex xs ≡ Some Duplicate
 doubled apex xs soa one ns inside twice =
     let many : nat_lt 1 (length (soas xs)) ≡ false = grind (arith, nat_tests) in

@@ -59,7 +59,7 @@ put_ordered r xs h = ordered_from (put r xs) (sorted_put r xs (sorted_from xs h)
 pub without_ordered : (r : Record) (xs : List Record) → is_ordered xs ≡ true → is_ordered (without r xs) ≡ true
 without_ordered r xs h = ordered_from (without r xs) (sorted_filter (λ s. not (is_eq (record_cmp r s))) xs (sorted_from xs h))
 
--- records in order in two parts, one behind the other
+-- records in order in two parts, one after the other
 pub below_parts : (r : Record) (xs ys : List Record) → Below r (xs ++ ys) → Below r xs × Below r ys
 below_parts r [] ys h = (tt, h)
 below_parts r (x ∷ xs) ys h = (let rest = below_parts r xs ys h.1 in ((h.0, rest.0), rest.1))
@@ -83,7 +83,7 @@ without_valid r [] h = tt
 without_valid r (x ∷ xs) h =
     elim (not (is_eq (record_cmp r x))) as (λ b. AllByRecursion IsRecord (cond b (x ∷ without r xs) (without r xs))) [ true ↦ (h.0, without_valid r xs h.1) | false ↦ without_valid r xs h.1 ]
 
--- the first record behind another
+-- the first record after another
 greater_is : (a b : Ordering) → b ≡ ordering_reverse a → is_lt b ≡ is_gt a
 greater_is Less b e = ap is_lt e
 greater_is Equal b e = ap is_lt e

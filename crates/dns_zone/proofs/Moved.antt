@@ -1,9 +1,9 @@
--- Parts of a list that change places.
+-- Parts of a list that are swapped.
 use Rattle.std.proofs.Common.{◌≡◌, ℕ, ◌+◌, ◌-◌, ◌≤◌, List, ◌++◌, length, take, drop, slice_range, sym, ap, ◌∙◌, arith, append_assoc, length-append, length-drop, le_trans, take-append-drop}
 use Rattle.std.specs.List.{splice}
 use Rattle.std.proofs.lemmas.List.{take_at, drop_at, drop-drop, length-take-le}
 
--- so many behind a place go to the end
+-- so many after a position go to the end
 abbrev pub moved : {X : Type 0} → List X → ℕ → ℕ → List X
 moved xs from count = (take from xs ++ drop (from + count) xs) ++ slice_range xs from (from + count)
 
@@ -16,7 +16,7 @@ moved_is a m r xs from count e p q =
     let mid : slice_range xs from (from + count) ≡ m = ap (λ n. take n (drop from xs)) size ∙ ap (take count) rest ∙ take_at m r count q in
     (λ i. (first i ++ last i) ++ mid i) ∙ append_assoc a r m
 
--- what was moved to the end is cut off, and what is behind it moved to the end in its place
+-- what was moved to the end is cut off, and what is after it moved to the end in its place
 pub spliced : {X : Type 0} (xs ys one short two : List X) (b e : ℕ) → b ≤ e → e ≤ length xs
     → one ≡ moved (xs ++ ys) b (e - b) → short ≡ take (length one - (e - b)) one → two ≡ moved short b (length xs - e)
     → two ≡ splice xs b e ys

@@ -39,7 +39,7 @@ none_eq name owner o e never = elim (true_or_false (names_eq owner name)) [
 pub tied_eq : (name owner : Labels) → name_cmp name owner ≡ Equal → names_eq owner name ≡ true
 tied_eq name owner e = subst (λ n. names_eq n name ≡ true) (name_cmp-same name owner e) (names_itself name)
 
--- behind a record whose owner is no lower
+-- after a record whose owner is no lower
 at_least : (name a b : Labels) (o p : Ordering) → name_cmp name a ≡ o → name_cmp a b ≡ p → is_gt o ≡ false → is_gt p ≡ false → is_gt (name_cmp name b) ≡ false
 at_least name a b Less Less e f g h = ap is_gt (name_total.trans name a b e f)
 at_least name a b Less Equal e f g h = ap is_gt (subst (λ n. name_cmp name n ≡ Less) (name_cmp-same a b f) e)
@@ -64,7 +64,7 @@ none_at name x (y ∷ ys) e h =
     let less = more_than name x.owner y.owner (name_cmp x.owner y.owner) e refl (not_more (name_cmp x.owner y.owner) _ h.0) in
     ap (λ b. cond b (y ∷ records_at ys name) (records_at ys name)) (none_eq name y.owner Less less (λ f. absurd cc)) ∙ none_at name x ys e h.1
 
--- records in order: those before the name, its own, and those behind it
+-- records in order: those before the name, its own, and those after it
 pub parted : (name : Labels) (xs : List Record) → Sorted xs → xs ≡ filter (fore name) xs ++ (records_at xs name ++ filter (past name) xs)
 parted name [] h = refl
 parted name (x ∷ xs) h = step (name_cmp name x.owner) refl (parted name xs h.1)

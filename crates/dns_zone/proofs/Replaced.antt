@@ -58,7 +58,7 @@ at_ordered xs name h = ordered_from (records_at xs name) (sorted_filter (λ r. n
 pub rrset_ordered : (xs : List Record) (name : Labels) (t : ℕ) → is_ordered xs ≡ true → is_ordered (rrset xs name t) ≡ true
 rrset_ordered xs name t h = ordered_from (rrset xs name t) (sorted_filter (λ r. names_eq r.owner name && r.rtype == t) xs (sorted_from xs h))
 
--- those of other names are those before the name and those behind it
+-- those of other names are those before the name and those after it
 others_parted : (name : Labels) (xs : List Record) → Sorted xs → others xs name ≡ filter (fore name) xs ++ filter (past name) xs
 others_parted name [] h = refl
 others_parted name (x ∷ xs) h = step (name_cmp name x.owner) refl (others_parted name xs h.1)
@@ -88,7 +88,7 @@ less_all : (r : Record) (xs : List Record) → Below r xs → AllOf (λ x. recor
 less_all r [] h = tt
 less_all r (x ∷ xs) h = (h.0, less_all r xs h.1)
 
--- records of the name stand between the two
+-- records of the name are between the two
 pub united_parted : (name : Labels) (xs come : List Record) → Sorted xs → Sorted come → AllAt name come → united (others xs name) come ≡ filter (fore name) xs ++ (come ++ filter (past name) xs)
 united_parted name xs [] h k all = others_parted name xs h
 united_parted name xs (r ∷ rest) h k all =
@@ -143,7 +143,7 @@ united_valid xs (r ∷ rest) h k = put_valid r (united xs rest) k.0 (united_vali
 pub replaced_valid : (name : Labels) (xs come : List Record) → AllByRecursion IsRecord xs → AllByRecursion IsRecord come → AllByRecursion IsRecord (united (others xs name) come)
 replaced_valid name xs come h k = united_valid (others xs name) come (kept_valid (λ r. not (names_eq r.owner name)) xs h) k
 
--- ---- by places
+-- ---- by positions
 turned_gt : (o p : Ordering) → p ≡ ordering_reverse o → is_gt p ≡ is_lt o
 turned_gt Less p e = ap is_gt e
 turned_gt Equal p e = ap is_gt e
@@ -164,7 +164,7 @@ is_past Less p e f g = absurd cc
 is_past Equal p e f g = absurd cc
 is_past Greater p e f g = ap is_lt e
 
--- where the records of the name stand
+-- where the records of the name are
 pub record StandBetween (name : Labels) (xs ys : List Record) (low high : ℕ) : Type 0 where
   pub met : low ≤ high
   pub inside : high ≤ length ys

@@ -17,7 +17,7 @@ use Rattle.dns_zone.specs.Side.{side_of}
 use Rattle.dns_zone.specs.declared.search.Key.{Key}
 use Rattle.dns_zone.specs.declared.search.Key.TheVariants as key
 
--- a record before another stands no later than it
+-- a record before another is no later than it
 pub record IsCut (side : Record → Ordering) : Type 0 where
   pub less : (r s : Record) → record_cmp r s ≡ Less → is_lt (side s) ≡ true → is_lt (side r) ≡ true
   pub most : (r s : Record) → record_cmp r s ≡ Less → is_gt (side s) ≡ false → is_gt (side r) ≡ false
@@ -27,7 +27,7 @@ below_at r d [] j h lt = absurd (omega arith)
 below_at r d (x ∷ xs) zero h lt = h.0
 below_at r d (x ∷ xs) (suc j) h lt = below_at r d xs j h.1 (omega arith)
 
--- of two places the record at the first is the lesser
+-- of two positions the record at the first is the lesser
 pub in_order : (xs : List Record) (i j : ℕ) (d : Record) → Sorted xs → i < j → j < length xs → record_cmp (get_or xs i d) (get_or xs j d) ≡ Less
 in_order [] i j d h lt inside = absurd (omega arith)
 in_order (x ∷ xs) i zero d h lt inside = absurd (omega arith)
@@ -91,7 +91,7 @@ low_half P xs middle cut ordered inside r is h = λ k d from to.
     at_middle : (d : Record) → P (get_or xs middle d)
     at_middle d = subst P (is ∙ get_or_default xs middle r d inside) h
 
--- what holds of a record and of each behind it, holds from the middle on
+-- what holds of a record and of each after it, holds from the middle on
 pub high_half : (P : Record → Type 0) (xs : List Record) (middle : ℕ) → ((r s : Record) → record_cmp r s ≡ Less → P r → P s) → is_ordered xs ≡ true → middle < length xs
     → (r : Record) → r ≡ get_or xs middle r → P r → AllWithin P xs middle (length xs)
 high_half P xs middle cut ordered inside r is h = λ k d from to.
@@ -110,7 +110,7 @@ not_less side cut r s h e = elim (true_or_false (is_lt (side s))) [ inl up ↦ (
 pub past : (side : Record → Ordering) → IsCut side → (r s : Record) → record_cmp r s ≡ Less → is_gt (side r) ≡ true → is_gt (side s) ≡ true
 past side cut r s h e = elim (true_or_false (is_gt (side s))) [ inl up ↦ up | inr other ↦ (let back = cut.most r s h other in absurd cc) ]
 
--- what passes a test from one place up to another and nowhere else
+-- what passes a test from one position up to another and nowhere else
 pub filter_range : (p : Record → Bool) (xs : List Record) (low high : ℕ) → low ≤ high → high ≤ length xs
     → AllWithin (λ r. p r ≡ false) xs 0 low → AllWithin (λ r. p r ≡ true) xs low high → AllWithin (λ r. p r ≡ false) xs high (length xs)
     → take (high - low) (drop low xs) ≡ filter p xs
@@ -147,7 +147,7 @@ above Less e f = absurd cc
 above Equal e f = absurd cc
 above Greater e f = refl
 
--- behind those that are what is looked for, none is
+-- after those that are what is looked for, none is
 pub past_match : (side : Record → Ordering) → IsCut side → (xs : List Record) (at : ℕ) → is_ordered xs ≡ true → at < length xs → (r : Record) → r ≡ get_or xs at r → is_lt (side (get_or xs at r)) ≡ false → is_eq (side r) ≡ false → AllWithin (λ s. is_eq (side s) ≡ false) xs at (length xs)
 past_match side cut xs at ordered inside r is low other =
     let here : is_gt (side r) ≡ true = above (side r) (ap (λ s. is_lt (side s)) is ∙ low) other in
@@ -164,7 +164,7 @@ not_past_equal Less e = absurd cc
 not_past_equal Equal e = refl
 not_past_equal Greater e = absurd cc
 
--- up to one that is what is looked for, all are that do not stand before it
+-- up to one that is what is looked for, all are that are not before it
 pub match_so_far : (side : Record → Ordering) → IsCut side → (xs : List Record) (begin at : ℕ) → is_ordered xs ≡ true → at < length xs → (r : Record) → r ≡ get_or xs at r → AllWithin (λ s. is_lt (side s) ≡ false) xs begin (length xs) → is_eq (side r) ≡ true → AllWithin (λ s. is_eq (side s) ≡ true) xs begin (at + 1)
 match_so_far side cut xs begin at ordered inside r is behind here =
     let up = low_half (λ s. is_gt (side s) ≡ false) xs at cut.most ordered inside r is (not_past_equal (side r) here) in

@@ -12,7 +12,7 @@ use Rattle.dns_zone.specs.Order.{record_total}
 use Rattle.dns_zone.specs.Sets.{Sorted, Below}
 use Rattle.dns_zone.specs.Survey.{records_after}
 
--- a count that stops one behind its limit
+-- a count that stops one above its limit
 pub capped : (limit c m : ℕ) → nat_lt limit (c + suc m) ≡ nat_lt limit (min c limit + 1 + m)
 capped limit c m = both_ways (nat_lt limit (c + suc m)) (nat_lt limit (min c limit + 1 + m))
     (λ e. (let h : limit < c + suc m = ltb-true limit (c + suc m) e in lt-ltb limit (min c limit + 1 + m) (omega arith)))
@@ -30,7 +30,7 @@ pub or_assoc : (a b c : Bool) → ((a || b) || c) ≡ (a || (b || c))
 or_assoc true b c = refl
 or_assoc false b c = refl
 
--- the records behind one, in order
+-- the records after one, in order
 found_head : (r x : Record) (xs : List Record) (b : Bool) (y : Record) → cond b (Some x) (find (λ s. is_lt (record_cmp r s)) xs) ≡ Some y → (find (λ s. is_lt (record_cmp r s)) xs ≡ Some y → (tail : List Record) × (records_after (Some r) xs ≡ y ∷ tail)) → (tail : List Record) × (cond b (x ∷ xs) (records_after (Some r) xs) ≡ y ∷ tail)
 found_head r x xs true y e inner = let same : x ≡ y = cc in (xs, ap (λ (s : Record). s ∷ xs) same)
 found_head r x xs false y e inner = inner e

@@ -29,7 +29,7 @@ kept p (x ∷ xs) k d lt = step (p x) refl k lt (λ j h. kept p xs j d h)
     step true e (suc k) lt inner = inner k (omega arith)
     step false e k lt inner = inner k lt
 
--- what two tests keep, one behind the other
+-- what two tests keep, one after the other
 pub kept_twice : (p q : Record → Bool) (xs : List Record) → filter q (filter p xs) ≡ filter (λ r. p r && q r) xs
 kept_twice p q [] = refl
 kept_twice p q (x ∷ xs) = step (p x) (kept_twice p q xs)
@@ -97,7 +97,7 @@ here_first t xs at rises past = λ i j d met inside h.
     let low : t ≤ (get_or xs (at + i) d).rtype = ltb-false _ t (past (at + i) d (omega arith) (omega arith)) in
     rw get_or-drop (is_number _ t (omega (arith, there, met_types, low)))
 
--- what stands from the one place up to the other has the type
+-- what is from the one position up to the other has the type
 pub typed : (set : List Record) (name : Labels) (t : ℕ) (xs : List Record) → xs ≡ records_at set name → (at : ℕ) → at ≤ length xs → AllWithin (λ r. nat_lt r.rtype t ≡ true) xs 0 at → (n : ℕ) → n ≤ length (drop at xs)
     → AllWithin (λ r. (r.rtype == t) ≡ true) (drop at xs) 0 n → AllWithin (λ r. (r.rtype == t) ≡ false) (drop at xs) n (length (drop at xs)) → take n (drop at xs) ≡ rrset set name t
 typed set name t xs held at inside before n fits here past =

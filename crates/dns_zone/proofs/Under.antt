@@ -1,4 +1,4 @@
--- Where the names under a name stand in the order of names.
+-- Where the names under a name are in the order of names.
 use Rattle.std.proofs.Common.{◌≡◌, ◌⊎◌, inl, inr, ℕ, zero, suc, ◌<◌, ◌≤◌, Bool, true, false, List, [], ◌∷◌, ◌++◌, length, get_or, refl, sym, ap, ◌∙◌, arith, reverse}
 use Rattle.std.specs.Prelude.{◌||◌}
 use Rattle.std.specs.List.{AllWithin}
@@ -40,7 +40,7 @@ between (l ∷ p) (b ∷ x) q o r e f g h = step (slice_cmp nat_cmp b l) refl (�
 turned : (a n : Labels) → (h : IsUnder a n) → reverse a ≡ reverse n ++ reverse h.0
 turned a n h = ap reverse h.1 ∙ reverse-append h.0 n
 
--- a name that stands before another isn't under it
+-- a name that is before another isn't under it
 pub before_apart : (a n : Labels) → is_lt (name_cmp a n) ≡ true → under a n ≡ false
 before_apart a n e = elim (true_or_false (under a n)) [
   | inl yes' ↦ (let h = under_from a n yes' in
@@ -52,7 +52,7 @@ not_more : (o : Ordering) → (o ≡ Less) ⊎ (o ≡ Equal) → is_gt o ≡ fal
 not_more o (inl e) = ap is_gt e
 not_more o (inr e) = ap is_gt e
 
--- what stands between a name and one under it is under it
+-- what is between a name and one under it is under it
 pub convex : (a b n : Labels) → is_lt (name_cmp a n) ≡ false → (name_cmp a b ≡ Less) ⊎ (name_cmp a b ≡ Equal) → under b n ≡ true → under a n ≡ true
 convex a b n low order e =
     let h = under_from b n e in

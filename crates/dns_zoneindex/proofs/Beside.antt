@@ -29,7 +29,7 @@ keys_more (x ∷ keys) zero k (t ∷ slots) s h l e f = (subst (IsFirstKey k) (s
 keys_more (x ∷ keys) (suc n) k [] s h l e f = tt
 keys_more (x ∷ keys) (suc n) k (t ∷ slots) s h l e f = (h.0, keys_more keys n k slots s h.1 (omega (arith, l)) e f)
 
--- a label whose key is less than a slot's stands before all from there on
+-- a label whose key is less than a slot's is before all from there on
 pub before_next : (q : List ℕ) (key k : ℕ) (keys : List ℕ) (slots : List (List Child)) (p : ℕ) → IsKey key q → AreKeys keys slots
     → AreChildren (joined slots)
     → slice_get keys p ≡ Some k
@@ -44,7 +44,7 @@ before_next q key k (x ∷ keys) (s ∷ slots) zero kq h kept e l =
     behind_from q (s ∷ slots) 0 s refl kept (sym (key_decides key x q s kq h.0 (λ same. absurd (omega (arith, less, same)))) ∙ lt-ltb key x less)
 before_next q key k (x ∷ keys) (s ∷ slots) (suc p) kq h kept e l = before_next q key k keys slots p kq h.1 (children_back s (joined slots) kept) e l
 
--- none stands behind the last slot
+-- none is after the last slot
 pub none_behind : (q : List ℕ) (slots : List (List Child)) (n : ℕ) → length slots ≤ n → AllChildren (λ c. label_cmp q c.label ≡ Less) (joined (drop n slots))
 none_behind q [] zero short = tt
 none_behind q [] (suc n) short = tt

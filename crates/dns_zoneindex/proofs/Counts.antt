@@ -1,4 +1,4 @@
--- How many records stand at and under names.
+-- How many records are at and under names.
 use Rattle.std.proofs.Common.{◌≡◌, ◌+◌, List, [], ◌∷◌, ◌++◌, length, map, arith, length-append}
 use Rattle.std.proofs.lemmas.List.{length-map}
 use Rattle.dns_zoneindex.specs.Entries.{Entry, Child, pushed, flat}

@@ -128,7 +128,7 @@ ends_here n l [] r never = never
 ends_here n l (s ∷ []) r never = never
 ends_here n l (s ∷ t ∷ front) r never = ends_here n l (t ∷ front) r never
 
--- a child more, before those that stand behind all that is left
+-- a child more, before those that are after all that is left
 abbrev pub AheadOf : List Child → List Entry → Type 0
 AheadOf [] es = Unit {0}
 AheadOf (c ∷ cs) es = list_all (before c.label) es ≡ true

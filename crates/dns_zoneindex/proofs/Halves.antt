@@ -17,6 +17,6 @@ by_side a r s Greater e less h = absurd cc
 pub not_greater : (a r s : Record) → record_cmp r s ≡ Less → is_gt (record_cmp s a) ≡ false → is_gt (record_cmp r a) ≡ false
 not_greater a r s less h = by_side a r s (record_cmp s a) refl less h
 
--- a record behind a greater one is greater
+-- a record after a greater one is greater
 pub greater : (a r s : Record) → record_cmp r s ≡ Less → is_gt (record_cmp r a) ≡ true → is_gt (record_cmp s a) ≡ true
 greater a r s less h = elim (true_or_false (is_gt (record_cmp s a))) [ inl e ↦ e | inr e ↦ (let low = not_greater a r s less e in absurd cc) ]

@@ -79,7 +79,7 @@ replaced name rs es at_owner order valid o a each =
       is = is;
     }
 
--- what holds of the new tree and of the old one holds behind the call
+-- what holds of the new tree and of the old one holds after the call
 pub either : {T E : Type 0} (P : List Entry → Type 0) (r : Result T E) (new there es : List Entry) → OnOk r (new ≡ there) → OnErr r (new ≡ es) → P there → P es → P new
 either P (Ok t) new there es a b f g = subst P (sym a) f
 either P (Err e) new there es a b f g = subst P (sym b) g

@@ -46,7 +46,7 @@ leading_order (suc n) (x ∷ xs) (y ∷ ys) oa ob h =
           absurd (omega (arith, h, mul-add-lt y (256 ^ n) (leading n ys) x g (leading_below n ys (behind y ys ob)), mul_comm x (256 ^ n)))
     ]
 
--- one octet and what stands behind it: neither is more than the other's
+-- one octet and what is after it: neither is more than the other's
 no_more : (n x y : ℕ) (xs ys : List ℕ) → AreOctets xs → x < y → leading n xs + x * 256 ^ n < leading n ys + y * 256 ^ n
 no_more n x y xs ys ox l = omega (arith, mul-add-lt x (256 ^ n) (leading n xs) y l (leading_below n xs ox), mul_comm y (256 ^ n))
 

@@ -1,4 +1,4 @@
--- Runs of the records that stand one behind another.
+-- Runs of the records that are one after another.
 use Rattle.std.proofs.Common.{◌≡◌, ℕ, zero, suc, ◌+◌, ◌-◌, ◌<◌, ◌≤◌, List, [], ◌∷◌, ◌++◌, length, map, take, drop, inl, inr, refl, sym, ap, subst, ◌∙◌, arith, append_assoc, length-append, length-drop}
 use Rattle.std.proofs.lemmas.List.{drop-append-le, map-append, length-map}
 use Rattle.std.proofs.Math.Seq.{drop-append-add}
@@ -33,7 +33,7 @@ lent_right a b place run past h =
       some = λ k. h.some (omega (arith, k, length-append a b));
     }
 
--- behind so many
+-- after so many
 pub lent_past : (a b : List Record) (place k : ℕ) (run : List Record) → length a ≡ k → k ≤ place → IsLent b (place - k) run → IsLent (a ++ b) place run
 lent_past a b place k run e past h = lent_right a b place run (omega arith) (subst (λ n. IsLent b (place - n) run) (sym e) h)
 
@@ -71,7 +71,7 @@ records_own (r ∷ rs) es = ap (λ z. r ∷ z) (records_own rs es)
 pub records_count : (es : List Entry) → length (records_of es) ≡ length es
 records_count es = length-map es (λ e. e.record_there)
 
--- the record of a place
+-- the record of a position
 front_of : (xs : List Record) (n : ℕ) → slice_get xs n ≡ slice_get (drop n xs) 0
 front_of [] zero = refl
 front_of [] (suc n) = refl

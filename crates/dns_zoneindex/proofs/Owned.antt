@@ -1,4 +1,4 @@
--- Entries that stand at the labels of their owners, and the set that they are.
+-- Entries that are at the labels of their owners, and the set that they are.
 use Rattle.std.proofs.Common.{◌≡◌, Bool, true, false, cond, List, [], ◌∷◌, ◌++◌, map, refl, sym, ap, ◌∙◌, subst, reverse}
 use Rattle.std.specs.Prelude.{◌&&◌, filter, not}
 use Rattle.std.specs.FinMap.Entries.{by_order}
@@ -60,7 +60,7 @@ pub rising : (es : List Entry) → AreOwned es → Sorted (records_of es) → Ri
 rising [] h s = tt
 rising (e ∷ es) h s = (not_before e.record_there e.path es h.0 h.1 s.0, rising es h.1 s.1)
 
--- records that are kept by the place of their owner
+-- records that are kept by the position of their owner
 kept_records : (p : Entry → Bool) (q : Record → Bool) (es : List Entry) → ((e : Entry) → e.path ≡ reverse e.record_there.owner → p e ≡ q e.record_there) → AreOwned es → records_of (keep p es) ≡ filter q (records_of es)
 kept_records p q [] f h = refl
 kept_records p q (e ∷ es) f h = ap (λ b. records_of (cond b (e ∷ keep p es) (keep p es))) (f e h.0) ∙ one (q e.record_there) (kept_records p q es f h.1)

@@ -1,4 +1,4 @@
--- Entries in order of their paths: what stands before a path, at it, and behind it.
+-- Entries in order of their paths: what is before a path, at it, and after it.
 use Rattle.std.proofs.Common.{◌≡◌, ℕ, Bool, true, false, cond, List, [], ◌∷◌, ◌++◌, map, refl, sym, ap, ◌∙◌, subst, append_assoc}
 use Rattle.std.specs.Str.{bytes_eq}
 use Rattle.std.specs.Ordering.{is_lt, is_gt, ordering_then}
@@ -36,7 +36,7 @@ head_not Greater b h = h
 itself_same : (l m : List ℕ) → l ≡ m → bytes_eq l m ≡ true
 itself_same l m e = subst (λ x. bytes_eq l x ≡ true) e (bytes_itself l)
 
--- what stands behind an entry whose first label is the one, or a later one
+-- what is after an entry whose first label is the one, or a later one
 not_ahead : (l m : List ℕ) (rest q : Labels) → label_cmp l m ≡ Equal → is_gt (path_cmp (m ∷ rest) q) ≡ false → (elim q [ [] ↦ true | k ∷ r ↦ is_gt (label_cmp l k) ]) ≡ false
 not_ahead l m rest [] e h = h
 not_ahead l m rest (k ∷ r) e h = ap is_gt (label_total.congr l m k e) ∙ head_not (label_cmp m k) (path_cmp rest r) h
@@ -92,7 +92,7 @@ keep_ahead l p (e ∷ es) h = elim (e.path) as (λ q. e.path ≡ q → NotBefore
       | m ∷ rest ↦ λ is g. one_ahead l p e m rest es is g (label_cmp l m) refl (keep_ahead l p es h.1)
     ] refl h.0
 
--- behind a path: under its first label behind the rest of the path, and behind that label
+-- after a path: under its first label after the rest of the path, and after that label
 one_beyond : (l : List ℕ) (p : Labels) (e : Entry) (m : List ℕ) (rest : Labels) (es : List Entry) → e.path ≡ m ∷ rest → NotBefore (m ∷ rest) es → (o : Ordering) → label_cmp l m ≡ o
     → keep (beyond (l ∷ p)) es ≡ map (pushed l) (keep (beyond p) (step l es)) ++ keep (behind l) es
     → cond (is_lt (ordering_then o (path_cmp p rest))) (e ∷ keep (beyond (l ∷ p)) es) (keep (beyond (l ∷ p)) es)
@@ -120,7 +120,7 @@ keep_beyond l p (e ∷ es) h = elim (e.path) as (λ q. e.path ≡ q → NotBefor
       | m ∷ rest ↦ λ is g. one_beyond l p e m rest es is g (label_cmp l m) refl (keep_beyond l p es h.1)
     ] refl h.0
 
--- what stands under a label is in order too
+-- what is under a label is in order too
 rest_not : (l m k : List ℕ) (rest r : Labels) → l ≡ m → l ≡ k → is_gt (path_cmp (m ∷ rest) (k ∷ r)) ≡ false → is_gt (path_cmp rest r) ≡ false
 rest_not l m k rest r e f h = ap (λ o. is_gt (ordering_then o (path_cmp rest r))) (sym (subst (λ x. label_cmp m x ≡ Equal) (sym e ∙ f) (itself m))) ∙ h
   where
@@ -171,7 +171,7 @@ pushed_at l p (r ∷ rs) = ap (λ z. at (l ∷ p) r ∷ z) (pushed_at l p rs)
 regrouped : (a x r y b : List Entry) → a ++ ((x ++ (r ++ y)) ++ b) ≡ (a ++ x) ++ (r ++ (y ++ b))
 regrouped a x r y b = simp append_assoc
 
--- other records at a path: those before it, the new ones, those behind it
+-- other records at a path: those before it, the new ones, those after it
 pub set_split : (path : Labels) (rs : List Record) (es : List Entry) → Rising es → set_at path rs es ≡ keep (ahead path) es ++ (map (at path) rs ++ keep (beyond path) es)
 set_split [] rs es h = λ i. sym (none_above es) i ++ (map here rs ++ all_below es i)
 set_split (l ∷ p) rs es h =

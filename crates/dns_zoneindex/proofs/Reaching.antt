@@ -18,7 +18,7 @@ use Rattle.dns_zoneindex.proofs.Exists.{exists_at, some_of}
 use Rattle.dns_zoneindex.proofs.Led.{owned_at}
 use Rattle.dns_zoneindex.proofs.Owned.{AreOwned}
 
--- what stands at and under a name tells whether it exists
+-- what is at and under a name tells whether it exists
 pub there : (name : Labels) (es own : List Entry) → AreOwned es → own ≡ below (reverse name) es → 0 < length own → exists (records_of es) name ≡ true
 there name es own h is pos = sym (exists_at name es h) ∙ ap some (sym is) ∙ sym (some_of own pos)
 

@@ -35,7 +35,7 @@ one-all p c cs h k = keep-append p (map (pushed c.label) c.own) (flat cs) ∙ (�
 pub one-none : (p : Entry → Bool) (c : Child) (cs : List Child) {out : List Entry} → ((e : Entry) → p (pushed c.label e) ≡ false) → keep p (flat cs) ≡ out → keep p (flat (c ∷ cs)) ≡ out
 one-none p c cs h k = keep-append p (map (pushed c.label) c.own) (flat cs) ∙ (λ i. keep-none p c.label c.own h i ++ k i)
 
--- those behind the label
+-- those after the label
 none-before : (l : List ℕ) (cs : List Child) → AllChildren (λ y. label_cmp l y.label ≡ Less) cs → keep (before l) (flat cs) ≡ []
 none-before l [] h = refl
 none-before l (c ∷ cs) h = one-none (before l) c cs (λ e. ap is_gt h.0) (none-before l cs h.1)
@@ -102,7 +102,7 @@ flat-deeper (c ∷ cs) = one-all deeper c cs (λ e. refl) (flat-deeper cs)
 pub own-deeper : (rs : List Record) (cs : List Child) → keep deeper (map here rs ++ flat cs) ≡ flat cs
 own-deeper rs cs = here-deeper rs (flat cs) ∙ flat-deeper cs
 
--- where something stands, something stands above it
+-- where something is, something is above it
 pub replaced-some : (n d : Child) (l : List ℕ) (o : Option Child) (cs t : List Child) → AreChildren cs → n ≡ d → o ≡ Some d → IfSome o (λ c. c.label ≡ l) → t ≡ put_child n cs → flat t ≡ keep (before l) (flat cs) ++ (map (pushed l) (own_at o) ++ keep (behind l) (flat cs))
 replaced-some n d l o cs t h same is label e =
     let there : d.label ≡ l = subst (λ x. IfSome x (λ c. c.label ≡ l)) is label in

@@ -58,7 +58,7 @@ pub without_past : (q : List ℕ) (l m : List Child) → AllChildren (λ y. labe
 without_past q [] m a = refl
 without_past q (y ∷ t) m a = rw a.0 (ap (λ z. y ∷ z) (without_past q t m a.1))
 
--- what stands behind children that are greater is not touched
+-- what is after children that are greater is not touched
 pub child_before : (q : List ℕ) (l m : List Child) → AllChildren (λ y. label_cmp q y.label ≡ Less) m → child_of q (l ++ m) ≡ child_of q l
 child_before q [] [] a = refl
 child_before q [] (y ∷ m) a = rw a.0 refl

@@ -126,7 +126,7 @@ joined_more made new a slots front back all e f is before =
     ∙ ap (λ z. z ++ joined (reverse made)) (sym (ap joined is ∙ joined-append front back))
     ∙ before
 
--- a slot, those before it and those behind it
+-- a slot, those before it and those after it
 pub from : (slots : List (List Child)) (p : ℕ) (s : List Child) → slice_get slots p ≡ Some s → drop p slots ≡ s ∷ drop (suc p) slots
 from [] p s e = absurd (omega (arith, slice_get_within [] p s e))
 from (x ∷ slots) zero s e = ap (λ o. unwrap_or o x ∷ slots) e
@@ -158,7 +158,7 @@ key_decides key own q (c ∷ s) k f n =
       | inr (inr g) ↦ le-ltb key own (omega (arith, g)) ∙ ap is_lt (key_above key own q c.label k f g)
     ]
 
--- the first of a slot decides for all behind it, or for all before it
+-- the first of a slot decides for all after it, or for all before it
 pub behind_from : (q : List ℕ) (slots : List (List Child)) (p : ℕ) (s : List Child) → slice_get slots p ≡ Some s → AreChildren (joined slots)
     → is_before q s ≡ true
     → AllChildren (λ c. label_cmp q c.label ≡ Less) (joined (drop p slots))
@@ -191,7 +191,7 @@ ahead_to q slots p s e a f b = up_to s (full_around slots p s e f).1 b (subst Ar
     up_to [] n h k = absurd (omega (arith, n))
     up_to (c ∷ s) n h k = past q (joined (take p slots)) c (s ++ joined (drop (suc p) slots)) k (λ l. false_true (sym h ∙ ap is_lt l))
 
--- what stands in one slot is found, put in and taken out there
+-- what is in one slot is found, put in and taken out there
 pub child_at : (q : List ℕ) (slots : List (List Child)) (p : ℕ) (s : List Child) → slice_get slots p ≡ Some s → IsPlace q slots p
     → child_of q (joined slots) ≡ child_of q s
 child_at q slots p s e h =
@@ -213,7 +213,7 @@ without_at q slots p s e h =
     ∙ without_past q (joined (take p slots)) _ h.ahead
     ∙ ap (λ z. joined (take p slots) ++ z) (without_before q s (joined (drop (suc p) slots)) h.behind)
 
--- the slot of a place, as the code holds it
+-- the slot of a position, as the code holds it
 pub at_place : (q l : List ℕ) (slots lent : List (List Child)) (p : ℕ) (s : List Child) → l ≡ q → lent ≡ slots → IsPlace l lent p
     → s ≡ get_or slots p s
     → IsPlace q slots p × (slice_get slots p ≡ Some s)

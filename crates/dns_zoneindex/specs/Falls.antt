@@ -24,7 +24,13 @@ weight-pushed l (e ∷ a) = omega (arith, weight-pushed l a)
 pub sizes_flat : (cs : List Child) → AreChildren cs → sizes_of cs ≤ weight (flat cs)
 sizes_flat [] h = omega arith
 sizes_flat (c ∷ cs) h =
-    omega (arith, h.0, sizes_flat cs h.2, weight-append (map (pushed c.label) c.own) (flat cs), weight-pushed c.label c.own)
+    omega (
+      arith,
+      h.0,
+      sizes_flat cs h.2,
+      weight-append (map (pushed c.label) c.own) (flat cs),
+      weight-pushed c.label c.own,
+    )
 
 sizes-append : (a b : List Child) → sizes_of (a ++ b) ≡ sizes_of a + sizes_of b
 sizes-append [] b = omega arith

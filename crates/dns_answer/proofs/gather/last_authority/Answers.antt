@@ -21,4 +21,4 @@ returns-in-Some g c = IfOk-weaker c.authority_section.result _ _ (λ shown e t f
 pub returns-in-None : goal.returns-in-None
 returns-in-None g c t fs are holds =
     let none = none_represented c.args.zones.now fs c.args.found.now are c.in-None.ensures.value in
-    c.new.ensures.items ∙ ap (λ (xs : List Stated). records_of (authority_of xs)) (sym none)
+    c.new.ensures ∙ ap (λ (xs : List Stated). records_of (authority_of xs)) (sym none)

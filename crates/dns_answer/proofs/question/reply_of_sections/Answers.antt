@@ -27,6 +27,6 @@ returns-then-is_over g c = IfOk-weaker c.fit_first_sections.result _ _ (λ out e
     let sections = c.in_ok-sections.ensures t fs are holds in
     let most = c.most_records-most.ensures in
     let over = sections.more (c.has_more-is_over.ensures.0 c.if-is_over.true) in
-    let less : IsWithoutAdditional (record r { answer = c.deref.result.now; authority = c.deref-2.result.now; additional = [] }) (with_sections r t fs) =
-    λ i. record r { answer = (c.deref.ensures.value ∙ sections.answer) i; authority = (c.deref-2.ensures.value ∙ sections.authority) i; additional = [] } in
+    let less : IsWithoutAdditional (record r { answer = c.as_slice.result.now; authority = c.as_slice-2.result.now; additional = [] }) (with_sections r t fs) =
+    λ i. record r { answer = (c.as_slice.ensures ∙ sections.answer) i; authority = (c.as_slice-2.ensures ∙ sections.authority) i; additional = [] } in
     e (with_sections r t fs) less (omega (arith, over, most))) c.fit_first_sections.ensures

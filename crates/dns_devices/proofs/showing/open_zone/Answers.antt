@@ -22,4 +22,5 @@ returns-in-Err g c = inr (record {
   stopped = c.in-Err.ensures.opened;
   refused = c.in-Err.ensures.refused;
   damaged = c.in-Err.ensures.damaged;
+  any_moment = c.in-Err.ensures.any_moment;
 })

@@ -9,7 +9,7 @@ use Rattle.dns_journal.specs.declared.journal.StageError.TheVariants as lower
 use Rattle.dns_store.specs.Plain.{octets_of}
 use Rattle.dns_held.specs.Held.{newer, newest_zone}
 use Rattle.dns_held.specs.Staging.{has_room}
-use Rattle.dns_held.proofs.Room.{newer_is, counted, next_valid, room_number, refused_by, staged_newest}
+use Rattle.dns_held.proofs.Room.{newer_is, counted, next_valid, room_fits, room_number, refused_by, staged_newest}
 use Rattle.dns_held.proofs.staging.stage.Goals as goal
 
 pub returns-then-not-has_room-clause-room : goal.returns-then-not-has_room-clause-room
@@ -60,7 +60,7 @@ returns-clause-staged g c k held =
       octets_are = octets few ∙ ap octets_of (sym (staged_newest k after));
       snapshot_is = held.snapshot_is;
       journal_is = held.journal_is;
-      kept = c.in_ok-stage.ensures.staged k after held.kept (record { change = change; valid = subst (λ (z : Zone). IsZone z) named (next_valid before after c.args.change c.requires.next few) });
+      kept = c.in_ok-stage.ensures.staged k after held.kept (record { change = change; valid = subst (λ (z : Zone). IsZone z) named (next_valid before after c.args.change c.requires.next few); fits = room_fits k after (sym room ∙ c.if-not-has_room.false) });
     }
 
 pub returns-clause-room : goal.returns-clause-room

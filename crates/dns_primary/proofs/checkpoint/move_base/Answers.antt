@@ -13,8 +13,7 @@ returns-in-Err-clause-moved g c zone z h keep settled =
     moved_refused g.S.ZoneStore.keeps zone c.args.behind.now c.checkpoint.new.self z c.args.keep c.args.room keep settled h c.in-Err.error
     (c.in-Err.ensures.closed (kept_of z) h.kept).1 (c.in-Err.ensures.closed (kept_of z) h.kept).0
     (λ n none is device. (c.in-Err.ensures.device (kept_of z) n h.kept none is device).1)
-    (λ n none is large. c.in-Err.ensures.too_large (kept_of z) n h.kept none is large)
-    (λ none wrong. c.in-Err.ensures.right (kept_of z) h.kept none wrong) (c.in-Err.ensures.stays (kept_of z) h.kept)
+    (c.in-Err.ensures.stays (kept_of z) h.kept)
 
 pub returns-in-Ok-clause-still : goal.returns-in-Ok-clause-still
 returns-in-Ok-clause-still g c k kept shut = (let refused = (c.in-Ok.ensures.closed k kept).1 shut in absurd cc)

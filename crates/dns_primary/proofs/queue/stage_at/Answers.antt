@@ -48,7 +48,7 @@ returns-in-Waits-clause-done g c settings m held holds =
     (λ shut.
     (let clash = (c.in-Waits.ensures.closed (kept_of z) here shut).0 in absurd (cc clash)))
     (λ opened.
-    (let done = c.in-Waits.ensures.done (kept_of z) v here opened holds.is in
+    (let done = c.in-Waits.ensures.done (kept_of z) v here opened (holds.left opened) holds.is in
     let is = subst (λ y. HasVersions keeps y new (end_of (kept_of z) v).versions) c.index-zones-place.is done.1 in
     let one : Waiting = record { to = c.args.update.now.to; request = c.args.update.now.header.now; rcode = c.in-Waits.rcode; zone = place } in
     let all = holds_more keeps zones behind settings waiting m place z zone new a c.in-Waits.rcode (end_of (kept_of z) v).versions (judged_in m a place z v) one held there (ends_waiting m a place z there v c.in-Waits.rcode done.0) is refl c.requires.header refl refl in
@@ -86,7 +86,7 @@ returns-in-AtOnce-clause-done g c settings m held holds =
     subst (λ (d : Admission). ((admitted m a d).1 ≡ replies a (number_of_rcode c.in-AtOnce.rcode) ∷ []) × HoldsZones keeps zones (slice_set behind place new) settings waiting m.connections (admitted m a d).0) (sym (holds.shut shut))
     (ap (λ (r : Rcode). replies a (number_of_rcode r) ∷ []) (sym code), after)))
     (λ opened.
-    (let done = c.in-AtOnce.ensures.done (kept_of z) v here opened holds.is in
+    (let done = c.in-AtOnce.ensures.done (kept_of z) v here opened (holds.left opened) holds.is in
     let ends = ends_at_once m a place z there v c.in-AtOnce.rcode done.0 in
     let is = subst (λ y. HasVersions keeps y new (kept_of z)) c.index-zones-place.is (subst (λ k. HasVersions keeps zone new k) ends.1 done.1) in
     let after = still_holds keeps zones behind settings waiting m place z zone new held there is in
@@ -118,7 +118,7 @@ returns-in-OutOfMemory-clause-done g c settings m held holds =
     (λ shut.
     (let clash = (c.in-OutOfMemory.ensures.closed (kept_of z) here shut).0 in absurd (cc clash)))
     (λ opened.
-    (let done = c.in-OutOfMemory.ensures.done (kept_of z) v here opened holds.is in
+    (let done = c.in-OutOfMemory.ensures.done (kept_of z) v here opened (holds.left opened) holds.is in
     still_holds keeps zones behind settings waiting m place z zone new held there (subst (λ y. HasVersions keeps y new (kept_of z)) c.index-zones-place.is done)))
 
 pub returns-in-OutOfMemory-clause-still : goal.returns-in-OutOfMemory-clause-still

@@ -1,6 +1,6 @@
 use Rattle.std.proofs.Common.{length, ap, ◌∙◌}
 use Rattle.dns_zone.specs.Zone.{Zone}
-use Rattle.dns_script.specs.Lines.{lines}
+use Rattle.dns_replay.specs.Lines.{lines}
 use Rattle.dns_replay.specs.Made.{IsMadeOf}
 use Rattle.dns_replay.specs.Runs.{AreSame}
 use Rattle.dns_replay.proofs.Crashed.{each_long}

@@ -1,7 +1,7 @@
 use Rattle.std.proofs.Common.{◌≡◌, sym}
 use Rattle.dns_primary.specs.Step.{Event}
 use Rattle.dns_primary.specs.Step as machine
-use Rattle.dns_script.specs.Commands.{said}
+use Rattle.dns_replay.specs.Commands.{said}
 use Rattle.dns_replay.specs.Scripts.{Happens, said_by}
 use Rattle.dns_replay.proofs.Led.{does_nothing, does_plan, does_said}
 use Rattle.dns_replay.proofs.run.run_command.Goals as goal

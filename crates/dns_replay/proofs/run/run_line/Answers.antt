@@ -1,4 +1,4 @@
-use Rattle.dns_script.specs.Commands.{said}
+use Rattle.dns_replay.specs.Commands.{said}
 use Rattle.dns_replay.proofs.Led.{line_does}
 use Rattle.dns_replay.proofs.run.run_line.Goals as goal
 

@@ -1,6 +1,6 @@
 use Rattle.std.proofs.Common.{◌≡◌, List, ℕ, Option, Some, None, ap, subst, ◌∙◌, arith, rules}
 use Rattle.std.specs.Option.{option_copied}
-use Rattle.dns_script.specs.Lines.{lines, lines_left, room}
+use Rattle.dns_replay.specs.Lines.{lines, lines_left, room}
 use Rattle.dns_replay.proofs.Running.{AreRunUpTo, begin_all, ends_all, more_all, refused_all, stops_all}
 use Rattle.dns_replay.proofs.run.run_script.Goals as goal
 

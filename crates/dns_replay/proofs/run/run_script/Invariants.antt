@@ -1,6 +1,6 @@
 use Rattle.std.proofs.Common.{◌+◌, ◌≤◌, length}
 use Rattle.std.specs.Option.{option_copied}
-use Rattle.dns_script.specs.Lines.{lines, lines_left, room}
+use Rattle.dns_replay.specs.Lines.{lines, lines_left, room}
 use Rattle.dns_replay.proofs.Running.{AreRunUpTo}
 use Rattle.dns_replay.proofs.run.run_script.Given as goal
 

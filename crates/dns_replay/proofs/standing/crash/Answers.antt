@@ -1,5 +1,5 @@
 use Rattle.std.proofs.Common.{map}
-use Rattle.dns_script.specs.Commands.{said_zone_keep}
+use Rattle.dns_replay.specs.Commands.{said_zone_keep}
 use Rattle.dns_replay.proofs.Led.{opened_err, opened_ok, recovers, refused_in}
 use Rattle.dns_replay.proofs.standing.crash.Goals as goal
 

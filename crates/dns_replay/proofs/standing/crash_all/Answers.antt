@@ -1,6 +1,6 @@
 use Rattle.std.proofs.Common.{◌≡◌, ◌<◌, ◌∷◌, [], length, map, drop, zero-add, sym, ap, subst, ◌∙◌, arith, add-one, length-append}
 use Rattle.std.specs.Prelude.{slice_index_or}
-use Rattle.dns_script.specs.Commands.{said_zone_keep}
+use Rattle.dns_replay.specs.Commands.{said_zone_keep}
 use Rattle.dns_replay.specs.Crashes.{IsLeftBy, keep_at}
 use Rattle.dns_replay.proofs.Crashed.{drop_more, first_dropped, left_more}
 use Rattle.dns_replay.proofs.standing.crash_all.Goals as goal

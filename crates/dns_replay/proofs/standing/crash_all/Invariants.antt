@@ -1,6 +1,6 @@
 use Rattle.std.proofs.Common.{◌≡◌, ◌≤◌, length, map, take, drop}
 use Rattle.std.specs.Prelude.{vec_capacity}
-use Rattle.dns_script.specs.Commands.{said_zone_keep}
+use Rattle.dns_replay.specs.Commands.{said_zone_keep}
 use Rattle.dns_replay.specs.Crashes.{AreLeftBy}
 use Rattle.dns_replay.proofs.standing.crash_all.Given as goal
 

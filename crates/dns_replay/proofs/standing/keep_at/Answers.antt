@@ -1,5 +1,5 @@
 use Rattle.std.proofs.Common.{refl, sym, subst}
-use Rattle.dns_script.specs.Keeps.{Keep}
+use Rattle.dns_replay.specs.Keeps.{Keep}
 use Rattle.dns_replay.specs.Crashes.{IsToldAs}
 use Rattle.dns_replay.proofs.Kept.{keep_found, keep_none}
 use Rattle.dns_replay.proofs.standing.keep_at.Goals as goal

@@ -7,8 +7,12 @@ pub loop-turn-preserved : goal.loop-turn-preserved
 loop-turn-preserved g c =
     let s = g.S.Stream in
     let n = g.N.Network in
-    let from = begun c.args.primary.now c.args.network.now in
-    let glanced = paused s n from c.loop-turn.primary (connections_of c.loop-turn.edge) c.loop-turn.network c.glance-now.new.network c.loop-turn.invariant c.glance-now.ensures in
-    let made = turned s n from (served c.loop-turn.primary c.loop-turn.edge c.glance-now.new.network)
-    (served c.turn-is_done.new.primary c.turn-is_done.new.self c.turn-is_done.new.network) glanced c.turn-is_done.ensures.turn in
-    paused s n from c.turn-is_done.new.primary (connections_of c.turn-is_done.new.self) c.turn-is_done.new.network c.rest-now.new.network made c.rest-now.ensures
+    turned s n c.loop-turn.turn (begun c.args.primary.now c.args.network.now)
+    (served c.loop-turn.primary c.loop-turn.edge c.loop-turn.network)
+    (served c.loop-turn.primary c.loop-turn.edge c.glance-now.new.network)
+    (served c.turn-is_done.new.primary c.turn-is_done.new.self c.turn-is_done.new.network)
+    (served c.turn-is_done.new.primary c.turn-is_done.new.self c.rest-now.new.network)
+    c.loop-turn.invariant
+    (paused s n c.loop-turn.primary (connections_of c.loop-turn.edge) c.loop-turn.network c.glance-now.new.network c.glance-now.ensures)
+    c.turn-is_done.ensures.turn
+    (paused s n c.turn-is_done.new.primary (connections_of c.turn-is_done.new.self) c.turn-is_done.new.network c.rest-now.new.network c.rest-now.ensures)

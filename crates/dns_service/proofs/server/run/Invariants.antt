@@ -4,4 +4,4 @@ use Rattle.dns_service.proofs.Turned.{Made}
 use Rattle.dns_service.proofs.server.run.Given as goal
 
 abbrev pub invariant-loop-turn : goal.invariant-loop-turn
-invariant-loop-turn g l = Made g.S.Stream g.N.Network (begun l.fn.primary l.fn.network) (served l.primary l.edge l.network)
+invariant-loop-turn g l = Made g.S.Stream g.N.Network l.turn (begun l.fn.primary l.fn.network) (served l.primary l.edge l.network)

@@ -157,7 +157,7 @@ returns-in_err-write_anew-clause-migrated g c honest range may =
     let near = one.honest.1 honest in
     let here = first.honest.1 honest in
     let not_new = λ (is : tag (sector_at (g.D.Sectors.seen c.args.device.now) 0) ≡ root_tag). not_true _ (c.in_ok-is_new.ensures.new near) c.if-branch.false (subst (λ (x : Content). tag (sector_at x 0) ≡ root_tag) (sym (one.seen honest)) is) in
-    let reader : (o : Opened) (s : Stored) → OpensAsIn One (sizes_of shape) d s → IsPartOfIn One c.args.apex.now o s → IsOpenedTimes o.openings d → IsReadOld shape o s (g.D.Sectors.seen c.read_store.new.device) c.in_ok-found.found.root c.in_ok-found.found.end.version c.in_ok-found.found.base c.deref.result.now =
+    let reader : (o : Opened) (s : Stored) → OpensAsIn One (sizes_of shape) d s → IsPartOfIn One shape o s → IsOpenedTimes o.openings d → IsReadOld shape o s (g.D.Sectors.seen c.read_store.new.device) c.in_ok-found.found.root c.in_ok-found.found.end.version c.in_ok-found.found.base c.deref.result.now =
     λ o s is part opened. subst (λ (cs : List Change). IsReadOld shape o s (g.D.Sectors.seen c.read_store.new.device) c.in_ok-found.found.root c.in_ok-found.found.end.version c.in_ok-found.found.base cs) (sym c.deref.ensures.value)
     (subst (λ (x : Content). IsReadOld shape o s x c.in_ok-found.found.root c.in_ok-found.found.end.version c.in_ok-found.found.base c.in_ok-found.found.changes.items) (sym same)
     (read_old shape o s (g.D.Sectors.seen c.is_new.new.device) d c.in_ok-found.found.root c.in_ok-found.found.end c.in_ok-found.found.base c.in_ok-found.found.changes.items c.in_ok-found.found.newest.records (first.seen honest)
@@ -192,7 +192,7 @@ returns-in_err-write_anew-clause-too_large g c = λ honest o is range large.
     let near = one.honest.1 honest in
     let here = first.honest.1 honest in
     let not_new = λ (is : tag (sector_at (g.D.Sectors.seen c.args.device.now) 0) ≡ root_tag). not_true _ (c.in_ok-is_new.ensures.new near) c.if-branch.false (subst (λ (x : Content). tag (sector_at x 0) ≡ root_tag) (sym (one.seen honest)) is) in
-    let reader : (o : Opened) (s : Stored) → OpensAsIn One (sizes_of shape) d s → IsPartOfIn One c.args.apex.now o s → IsOpenedTimes o.openings d → IsReadOld shape o s (g.D.Sectors.seen c.read_store.new.device) c.in_ok-found.found.root c.in_ok-found.found.end.version c.in_ok-found.found.base c.deref.result.now =
+    let reader : (o : Opened) (s : Stored) → OpensAsIn One (sizes_of shape) d s → IsPartOfIn One shape o s → IsOpenedTimes o.openings d → IsReadOld shape o s (g.D.Sectors.seen c.read_store.new.device) c.in_ok-found.found.root c.in_ok-found.found.end.version c.in_ok-found.found.base c.deref.result.now =
     λ o s is part opened. subst (λ (cs : List Change). IsReadOld shape o s (g.D.Sectors.seen c.read_store.new.device) c.in_ok-found.found.root c.in_ok-found.found.end.version c.in_ok-found.found.base cs) (sym c.deref.ensures.value)
     (subst (λ (x : Content). IsReadOld shape o s x c.in_ok-found.found.root c.in_ok-found.found.end.version c.in_ok-found.found.base c.in_ok-found.found.changes.items) (sym same)
     (read_old shape o s (g.D.Sectors.seen c.is_new.new.device) d c.in_ok-found.found.root c.in_ok-found.found.end c.in_ok-found.found.base c.in_ok-found.found.changes.items c.in_ok-found.found.newest.records (first.seen honest)
@@ -243,7 +243,7 @@ returns-clause-migrated g c honest range may =
     let not_new = λ (is : tag (sector_at (g.D.Sectors.seen c.args.device.now) 0) ≡ root_tag). not_true _ (c.in_ok-is_new.ensures.new near) c.if-branch.false (subst (λ (x : Content). tag (sector_at x 0) ≡ root_tag) (sym (one.seen honest)) is) in
     let only : Only (g.D.Sectors.seen c.read_store.new.device) (g.D.Sectors.may_leave c.read_store.new.device) =
     λ x l. c.in_ok-settle.ensures.durable honest x (two.crash near x (three.crash here x l)) ∙ sym same in
-    let reader : (o : Opened) (s : Stored) → OpensAsIn One (sizes_of shape) d s → IsPartOfIn One c.args.apex.now o s → IsOpenedTimes o.openings d → IsReadOld shape o s (g.D.Sectors.seen c.read_store.new.device) c.in_ok-found.found.root c.in_ok-found.found.end.version c.in_ok-found.found.base c.deref.result.now =
+    let reader : (o : Opened) (s : Stored) → OpensAsIn One (sizes_of shape) d s → IsPartOfIn One shape o s → IsOpenedTimes o.openings d → IsReadOld shape o s (g.D.Sectors.seen c.read_store.new.device) c.in_ok-found.found.root c.in_ok-found.found.end.version c.in_ok-found.found.base c.deref.result.now =
     λ o s is part opened. subst (λ (cs : List Change). IsReadOld shape o s (g.D.Sectors.seen c.read_store.new.device) c.in_ok-found.found.root c.in_ok-found.found.end.version c.in_ok-found.found.base cs) (sym c.deref.ensures.value)
     (subst (λ (x : Content). IsReadOld shape o s x c.in_ok-found.found.root c.in_ok-found.found.end.version c.in_ok-found.found.base c.in_ok-found.found.changes.items) (sym same)
     (read_old shape o s (g.D.Sectors.seen c.is_new.new.device) d c.in_ok-found.found.root c.in_ok-found.found.end c.in_ok-found.found.base c.in_ok-found.found.changes.items c.in_ok-found.found.newest.records (first.seen honest)

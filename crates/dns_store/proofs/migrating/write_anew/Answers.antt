@@ -10,7 +10,7 @@ use Rattle.dns_layout.specs.Store.{version_of}
 use Rattle.dns_store.specs.Opens.{sizes_of, fresh}
 use Rattle.dns_store.specs.Checkpoint.{IsBaseOf}
 use Rattle.dns_store.specs.Migrating.{StaysOrMigrates, base_error}
-use Rattle.dns_store.specs.declared.checkpoint.CheckpointError.{CheckpointError}
+use Rattle.dns_changes.specs.declared.ChangeError.{ChangeError}
 use Rattle.dns_store.specs.declared.migrating.MigrateError.{MigrateError}
 use Rattle.dns_store.proofs.Anew.{led, zones, too_wide, gone_led, gone_zones, base_fits, is_base, count_is, migrated, converted, told, stays_old, openings}
 use Rattle.dns_store.proofs.migrating.write_anew.Goals as goal
@@ -31,7 +31,7 @@ returns-in_err-_base-clause-any_moment g c honest only =
     started g.D.Sectors.moment g.D.Sectors.left_since c.args.device.now (StaysOrMigrates c.args.root c.args.version c.args.base.now c.args.changes.now (g.D.Sectors.seen c.args.device.now))
     (λ x since. stays_old c.args.root c.args.version c.args.base.now c.args.changes.now (g.D.Sectors.seen c.args.device.now) x (only x (g.met.D.Sectors.only_now c.args.device.now x honest since)))
 
-not_memory : {T : Type 0} (r : Result T MigrateError) (e : CheckpointError) (m : MigrateError) → e ≡ CheckpointError.OutOfMemory → m ≡ base_error e → r ≡ Err m → r ≡ Err MigrateError.ZoneTooLarge → ⊥
+not_memory : {T : Type 0} (r : Result T MigrateError) (e : ChangeError) (m : MigrateError) → e ≡ ChangeError.OutOfMemory → m ≡ base_error e → r ≡ Err m → r ≡ Err MigrateError.ZoneTooLarge → ⊥
 not_memory r e m is from told large =
     let one : m ≡ MigrateError.OutOfMemory = from ∙ ap base_error is in
     let two : m ≡ MigrateError.ZoneTooLarge = cc (sym told ∙ large) in
@@ -46,9 +46,7 @@ returns-in_err-_base-clause-too_large g c = λ shape o s read large.
     let vs = take (length c.args.changes.now - n) (drop o.base o.versions) in
     let fits = base_fits shape o s d c.args.root c.args.version c.args.base.now c.args.changes.now read n chosen in
     let p = err_from_is_err_and c.from_residual.result c.from_residual.ensures.1 in
-    ⊎_elim (λ memory. absurd (not_memory c.from_residual.result _ p.0 memory p.2 p.1 large))
-    (λ fault. absurd (omega (arith, fits, fault.1)))
-    (c.in_err-_base.ensures.found vs (gone_led shape o s d c.args.root c.args.version c.args.base.now c.args.changes.now read n chosen) (gone_zones shape o s d c.args.root c.args.version c.args.base.now c.args.changes.now read n chosen))
+    absurd (not_memory c.from_residual.result _ p.0 (c.in_err-_base.ensures.found vs (gone_led shape o s d c.args.root c.args.version c.args.base.now c.args.changes.now read n chosen) (gone_zones shape o s d c.args.root c.args.version c.args.base.now c.args.changes.now read n chosen) fits) p.2 p.1 large)
 
 pub returns-in_err-convert-clause-any_moment : goal.returns-in_err-convert-clause-any_moment
 returns-in_err-convert-clause-any_moment g c honest only =
@@ -58,7 +56,7 @@ returns-in_err-convert-clause-any_moment g c honest only =
     (λ x stays shape o s read.
     let vs = take (length c.args.changes.now - n) (drop o.base o.versions) in
     let chosen = c.in-Some.ensures.chosen (drop o.base o.versions) (led shape o s d c.args.root c.args.version c.args.base.now c.args.changes.now read) (zones shape o s d c.args.root c.args.version c.args.base.now c.args.changes.now read) in
-    let next = c.in_ok-_base.ensures.found vs (gone_led shape o s d c.args.root c.args.version c.args.base.now c.args.changes.now read n chosen) (gone_zones shape o s d c.args.root c.args.version c.args.base.now c.args.changes.now read n chosen) in
+    let next = c.in_ok-_base.ensures.found vs (gone_led shape o s d c.args.root c.args.version c.args.base.now c.args.changes.now read n chosen) (gone_zones shape o s d c.args.root c.args.version c.args.base.now c.args.changes.now read n chosen) (base_fits shape o s d c.args.root c.args.version c.args.base.now c.args.changes.now read n chosen) in
     converted shape o s d c.args.root c.args.version c.args.base.now c.args.changes.now read n chosen c.in_ok-_base._base c.in_ok-_base.octets.items c.deref.result.now c.saturating_sub-number.result c.saturating_sub-number.ensures c.deref.ensures.value next x
     (subst (λ (cs : List Change). StaysOrConverts c.args.root c.saturating_sub-number.result c.deref.result.now cs d x) (take_rest c.args.changes.now (length c.args.changes.now - n)) stays))
 
@@ -70,7 +68,7 @@ returns-clause-any_moment g c honest only =
     (λ x stays shape o s read.
     let vs = take (length c.args.changes.now - n) (drop o.base o.versions) in
     let chosen = c.in-Some.ensures.chosen (drop o.base o.versions) (led shape o s d c.args.root c.args.version c.args.base.now c.args.changes.now read) (zones shape o s d c.args.root c.args.version c.args.base.now c.args.changes.now read) in
-    let next = c.in_ok-_base.ensures.found vs (gone_led shape o s d c.args.root c.args.version c.args.base.now c.args.changes.now read n chosen) (gone_zones shape o s d c.args.root c.args.version c.args.base.now c.args.changes.now read n chosen) in
+    let next = c.in_ok-_base.ensures.found vs (gone_led shape o s d c.args.root c.args.version c.args.base.now c.args.changes.now read n chosen) (gone_zones shape o s d c.args.root c.args.version c.args.base.now c.args.changes.now read n chosen) (base_fits shape o s d c.args.root c.args.version c.args.base.now c.args.changes.now read n chosen) in
     converted shape o s d c.args.root c.args.version c.args.base.now c.args.changes.now read n chosen c.in_ok-_base._base c.in_ok-_base.octets.items c.deref.result.now c.saturating_sub-number.result c.saturating_sub-number.ensures c.deref.ensures.value next x
     (subst (λ (cs : List Change). StaysOrConverts c.args.root c.saturating_sub-number.result c.deref.result.now cs d x) (take_rest c.args.changes.now (length c.args.changes.now - n)) stays))
 
@@ -80,7 +78,7 @@ returns-clause-migrated g c honest only shape o s read after to x left =
     let n = c.in-Some.kept in
     let vs = take (length c.args.changes.now - n) (drop o.base o.versions) in
     let chosen = c.in-Some.ensures.chosen (drop o.base o.versions) (led shape o s d c.args.root c.args.version c.args.base.now c.args.changes.now read) (zones shape o s d c.args.root c.args.version c.args.base.now c.args.changes.now read) in
-    let next = c.in_ok-_base.ensures.found vs (gone_led shape o s d c.args.root c.args.version c.args.base.now c.args.changes.now read n chosen) (gone_zones shape o s d c.args.root c.args.version c.args.base.now c.args.changes.now read n chosen) in
+    let next = c.in_ok-_base.ensures.found vs (gone_led shape o s d c.args.root c.args.version c.args.base.now c.args.changes.now read n chosen) (gone_zones shape o s d c.args.root c.args.version c.args.base.now c.args.changes.now read n chosen) (base_fits shape o s d c.args.root c.args.version c.args.base.now c.args.changes.now read n chosen) in
     let first = told shape o s d c.args.root c.args.version c.args.base.now c.args.changes.now read n chosen in
     let made = c.in_ok-convert.ensures.converted (sizes_of shape) s (sector_at d 0) first.0 honest only first.1 read.says
     (subst (λ (cs : List Change). c.saturating_sub-number.result + length cs ≡ version_of s) (sym (take_rest c.args.changes.now (length c.args.changes.now - n)))

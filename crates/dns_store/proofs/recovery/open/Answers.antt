@@ -59,7 +59,7 @@ returns-clause-opened g c honest range may =
           let raised = c.in-Ok-raise_root.ensures.raised sz s (sector_at d 0) there.parts mid only there.by there.tidy read.says in
           let bank = raised.2.names.bank in
           let again = raised.2.count ∙ ap (λ n. n + 1) is.4 in
-          let keeps = c.over-store.ensures.keeps shape (opened_again o) s raised.0 there.parts (c.raise_root.ensures.honest.1 mid) (c.in-Ok-raise_root.ensures.durable mid) raised.3 raised.1 raised.4 (raised.5 (version_of s)) (part_opened shape.apex o (o.openings + 1) s is.3)
+          let keeps = c.over-store.ensures.keeps shape (opened_again o) s raised.0 there.parts (c.raise_root.ensures.honest.1 mid) (c.in-Ok-raise_root.ensures.durable mid) raised.3 raised.1 raised.4 (raised.5 (version_of s)) (part_opened shape o (o.openings + 1) s is.3)
           (read.until_is ∙ ap (λ n. bank_end sz n) (sym bank)) (read.at_is ∙ ap (λ n. place_behind (journal_place sz n) s.entries) (sym bank)) read.version_is (sym raised.1.opened_is) again
           (λ i. record { apex = c.in-Ok.ensures.apex.0 i; records = read.base_is i }) read.led in
           record { keeps_them = keeps; newest_is = λ i. record { apex = c.in-Ok.ensures.apex.1 i; records = read.newest_is i } }),
@@ -71,7 +71,7 @@ returns-clause-altered g c honest range before o is altered =
     let read = c.in-Ok.ensures.found honest range before altered o is.0 is.1 is.3 in
     record {
       newest_is = λ i. record { apex = c.in-Ok.ensures.apex.1 i; records = read.newest_is i };
-      number_is = c.over-store.ensures.newest ∙ read.version_is ∙ newest_number c.args.apex.now o is.0 is.3;
+      number_is = c.over-store.ensures.newest ∙ read.version_is ∙ newest_number shape o is.0 is.3;
       base_is = c.over-store.ensures.base ∙ λ i. record { apex = c.in-Ok.ensures.apex.0 i; records = read.base_is i };
       led = subst (λ cs. AreLed (base_of o) (drop o.base o.versions) cs) (sym (ap (λ v. v.items) c.over-store.ensures.changes)) read.led;
     }

@@ -100,8 +100,8 @@ returns-in_err-newest-clause-found g c honest range k altered o s opens part =
     zones_same c.args.apex.now c.in-Ok.base.records (base_of o) (subst (λ a. IsZone (record { apex = a; records = c.in-Ok.base.records })) mine.1 mine.0) part.valid (sym mine.2 ∙ c.deref.ensures.value ∙ octets ∙ part.snapshot) in
     let copied = c.in_ok-copy.ensures in
     let are =
-    subst (λ rs. AreChangesIn f c.in_ok-copy.copy.apex rs (drop o.base o.versions) s.entries) (sym (copied.1 ∙ base))
-    (subst (λ a. AreChangesIn f a (base_of o) (drop o.base o.versions) s.entries) (sym (copied.0 ∙ mine.1)) part.changes) in
+    subst (λ rs. AreChangesIn f c.in_ok-copy.copy.apex c.args.snapshot rs (drop o.base o.versions) s.entries) (sym (copied.1 ∙ base))
+    (subst (λ a. AreChangesIn f a c.args.snapshot (base_of o) (drop o.base o.versions) s.entries) (sym (copied.0 ∙ mine.1)) part.changes) in
     let cursor : Cursor = record { at = at + c.args.snapshot; until = at + c.args.snapshot + c.args.journal; version = c.in_ok-root.root.base; opened = c.in_ok-root.root.bank_open } in
     let reads = journal_there f sz k s there.0 there.1 d c.in_ok-root.root says cursor (ap (λ n. n + c.args.snapshot) place) (ap (λ n. n + c.args.snapshot + c.args.journal) place) refl refl in
     let still' = subst (λ e. IsAltered f k e) (sym (two.seen honest)) altered in
@@ -133,8 +133,8 @@ returns-clause-found g c honest range k altered o s opens part =
     zones_same c.args.apex.now c.in-Ok.base.records (base_of o) (subst (λ a. IsZone (record { apex = a; records = c.in-Ok.base.records })) mine.1 mine.0) part.valid (sym mine.2 ∙ c.deref.ensures.value ∙ octets ∙ part.snapshot) in
     let copied = c.in_ok-copy.ensures in
     let are =
-    subst (λ rs. AreChangesIn f c.in_ok-copy.copy.apex rs (drop o.base o.versions) s.entries) (sym (copied.1 ∙ base))
-    (subst (λ a. AreChangesIn f a (base_of o) (drop o.base o.versions) s.entries) (sym (copied.0 ∙ mine.1)) part.changes) in
+    subst (λ rs. AreChangesIn f c.in_ok-copy.copy.apex c.args.snapshot rs (drop o.base o.versions) s.entries) (sym (copied.1 ∙ base))
+    (subst (λ a. AreChangesIn f a c.args.snapshot (base_of o) (drop o.base o.versions) s.entries) (sym (copied.0 ∙ mine.1)) part.changes) in
     let cursor : Cursor = record { at = at + c.args.snapshot; until = at + c.args.snapshot + c.args.journal; version = c.in_ok-root.root.base; opened = c.in_ok-root.root.bank_open } in
     let reads = journal_there f sz k s there.0 there.1 d c.in_ok-root.root says cursor (ap (λ n. n + c.args.snapshot) place) (ap (λ n. n + c.args.snapshot + c.args.journal) place) refl refl in
     let still' = subst (λ e. IsAltered f k e) (sym (two.seen honest)) altered in
@@ -275,8 +275,8 @@ returns-in_err-newest-clause-damaged g c honest =
     let p = err_from_is_err_and c.from_residual-in_err-newest.result c.from_residual-in_err-newest.ensures.1 in
     let e = c.in_err-newest.field-0.0 in
     let wrong = c.in_err-newest.ensures.damaged (two.honest.1 honest) in
-    let here = subst (λ b. NamesSpoiltIn f b cursor.at cursor.until e ⊎ NamesWrongEntryIn f c.in_ok-copy.copy.apex c.in_ok-copy.copy.records cursor b e) (two.seen honest) wrong in
-    let mine' = subst (λ a. NamesSpoiltIn f d cursor.at cursor.until e ⊎ NamesWrongEntryIn f a base cursor d e) (copied.0 ∙ mine.1) (subst (λ (rs : List Record). NamesSpoiltIn f d cursor.at cursor.until e ⊎ NamesWrongEntryIn f c.in_ok-copy.copy.apex rs cursor d e) copied.1 here) in
+    let here = subst (λ b. NamesSpoiltIn f b cursor.at cursor.until e ⊎ NamesWrongEntryIn f c.in_ok-copy.copy.apex c.args.snapshot c.in_ok-copy.copy.records cursor b e) (two.seen honest) wrong in
+    let mine' = subst (λ a. NamesSpoiltIn f d cursor.at cursor.until e ⊎ NamesWrongEntryIn f a c.args.snapshot base cursor d e) (copied.0 ∙ mine.1) (subst (λ (rs : List Record). NamesSpoiltIn f d cursor.at cursor.until e ⊎ NamesWrongEntryIn f c.in_ok-copy.copy.apex c.args.snapshot rs cursor d e) copied.1 here) in
     rw (p.1, p.2) (journal_named f shape d c.in_ok-root.root says at at_is base plains valid e mine')
 
 pub returns-in_err-root-clause-not_own : goal.returns-in_err-root-clause-not_own
@@ -367,9 +367,9 @@ returns-in_err-newest-clause-not_own g c honest range place reached not =
     (λ behind. (let same = holds.octets_are ∙ sym behind.holds.octets_are in
     let base : c.in-Ok.base.records ≡ behind.base =
     zones_same c.args.apex.now c.in-Ok.base.records behind.base (subst (λ a. IsZone (record { apex = a; records = c.in-Ok.base.records })) mine.1 mine.0) behind.valid (sym mine.2 ∙ c.deref.ensures.value ∙ same) in
-    let reach = subst (λ b. IsReachedEntryIn f c.in_ok-copy.copy.apex c.in_ok-copy.copy.records cursor b place) (sym (two.seen honest))
-    (subst (λ (rs : List Record). IsReachedEntryIn f c.in_ok-copy.copy.apex rs cursor d place) (sym (copied.1 ∙ base))
-    (subst (λ a. IsReachedEntryIn f a behind.base cursor d place) (sym (copied.0 ∙ mine.1)) behind.reached)) in
+    let reach = subst (λ b. IsReachedEntryIn f c.in_ok-copy.copy.apex c.args.snapshot c.in_ok-copy.copy.records cursor b place) (sym (two.seen honest))
+    (subst (λ (rs : List Record). IsReachedEntryIn f c.in_ok-copy.copy.apex c.args.snapshot rs cursor d place) (sym (copied.1 ∙ base))
+    (subst (λ a. IsReachedEntryIn f a c.args.snapshot behind.base cursor d place) (sym (copied.0 ∙ mine.1)) behind.reached)) in
     c.in_err-newest.ensures.not_own (two.honest.1 honest) place reach (subst (λ b. IsIntactIn f place (sector_at b place) → ⊥) (sym (two.seen honest)) not)))
     (reaches f shape d bank.0 bank.1 c.in_ok-root.root says c.number.result c.number.ensures place bank.2))
     reached)
@@ -397,9 +397,9 @@ returns-clause-not_own g c honest range place reached not =
     (λ behind. (let same = holds.octets_are ∙ sym behind.holds.octets_are in
     let base : c.in-Ok.base.records ≡ behind.base =
     zones_same c.args.apex.now c.in-Ok.base.records behind.base (subst (λ a. IsZone (record { apex = a; records = c.in-Ok.base.records })) mine.1 mine.0) behind.valid (sym mine.2 ∙ c.deref.ensures.value ∙ same) in
-    let reach = subst (λ b. IsReachedEntryIn f c.in_ok-copy.copy.apex c.in_ok-copy.copy.records cursor b place) (sym (two.seen honest))
-    (subst (λ (rs : List Record). IsReachedEntryIn f c.in_ok-copy.copy.apex rs cursor d place) (sym (copied.1 ∙ base))
-    (subst (λ a. IsReachedEntryIn f a behind.base cursor d place) (sym (copied.0 ∙ mine.1)) behind.reached)) in
+    let reach = subst (λ b. IsReachedEntryIn f c.in_ok-copy.copy.apex c.args.snapshot c.in_ok-copy.copy.records cursor b place) (sym (two.seen honest))
+    (subst (λ (rs : List Record). IsReachedEntryIn f c.in_ok-copy.copy.apex c.args.snapshot rs cursor d place) (sym (copied.1 ∙ base))
+    (subst (λ a. IsReachedEntryIn f a c.args.snapshot behind.base cursor d place) (sym (copied.0 ∙ mine.1)) behind.reached)) in
     c.in_ok-newest.ensures.not_own (two.honest.1 honest) place reach (subst (λ b. IsIntactIn f place (sector_at b place) → ⊥) (sym (two.seen honest)) not)))
     (reaches f shape d bank.0 bank.1 c.in_ok-root.root says c.number.result c.number.ensures place bank.2))
     reached

@@ -25,10 +25,11 @@ entries-init g c = record {
   within = c.requires.at;
   rises = omega arith;
   apex = refl;
+  len = c.snapshot_len-len.ensures;
   steps = λ honest. ([], (refl, refl));
   goes = λ honest k altered vs es reads are.
-      subst (λ (l : List Change). Goes c.args.format c.args.cursor.now c.args.cursor.now k c.args.base.apex c.args.base.records vs es c.args.base.records l) (sym c.new-changes.ensures.items)
-      (begins c.args.format c.args.cursor.now k c.args.base.apex c.args.base.records vs es reads are);
+      subst (λ (l : List Change). Goes c.args.format c.args.cursor.now c.args.cursor.now k c.args.base.apex c.args.room c.args.base.records vs es c.args.base.records l) (sym c.new-changes.ensures.items)
+      (begins c.args.format c.args.cursor.now k c.args.base.apex c.args.room c.args.base.records vs es reads are);
   reached = λ honest place reached not. reached;
 }
 
@@ -52,9 +53,9 @@ returns-in-Err-clause-reads_all g c honest k altered vs es reads are =
     let still = subst (λ e. IsAltered f k e) (sym (c.entries.invariant.reads.seen honest)) altered in
     let finds = subst (λ (r : Option Found). MatchOption r (IsJournalEnd f c.entries.cursor k) (λ e. FindsEntry f c.entries.cursor c.next_entry.new.cursor k e.octets.items × (e.head ≡ c.entries.cursor.at))) c.in-Some.is
     (c.in_ok-found.ensures.found (c.entries.invariant.reads.honest.1 honest) k still) in
-    let next = next_is f c.args.cursor.now c.entries.cursor c.next_entry.new.cursor k c.args.base.apex c.args.base.records vs es c.entries.zone.records c.entries.changes.items c.in-Some.found.octets.items finds.0 so in
+    let next = next_is f c.args.cursor.now c.entries.cursor c.next_entry.new.cursor k c.args.base.apex c.args.room c.args.base.records vs es c.entries.zone.records c.entries.changes.items c.in-Some.found.octets.items finds.0 so in
     let valid = subst (λ a. IsZone (record { apex = a; records = next.after })) (sym c.entries.invariant.apex) next.valid in
-    inr (inl (c.fault_at.ensures.memory (c.in-Err.ensures.only next.after next.change next.leads next.written (next.octets_are ∙ sym c.deref.ensures.value) valid)))
+    inr (inl (c.fault_at.ensures.memory (c.in-Err.ensures.only next.after next.change next.leads next.written (next.octets_are ∙ sym c.deref.ensures.value) valid next.fits)))
 
 pub entries-preserved : goal.entries-preserved
 entries-preserved g c = record {
@@ -64,6 +65,7 @@ entries-preserved g c = record {
   within = search (rules, arith);
   rises = search (rules, arith);
   apex = c.in-Ok.ensures.found.4 ∙ c.entries.invariant.apex;
+  len = c.in-Ok.ensures.fits.0;
   steps = λ honest.
       let f = c.args.format in
       let so = c.entries.invariant.steps honest in
@@ -73,26 +75,27 @@ entries-preserved g c = record {
       (c.in_ok-found.ensures.found (c.entries.invariant.reads.honest.1 honest) d still) in
       let mine = c.in-Ok.ensures.found in
       let step : ReadChange = record { change = c.in-Ok.step.0; after = c.in-Ok.step.1.records; behind = c.next_entry.new.cursor } in
-      let is : IsStepAtIn f c.args.base.apex d c.entries.cursor c.entries.zone.records step = record {
+      let is : IsStepAtIn f c.args.base.apex c.args.room d c.entries.cursor c.entries.zone.records step = record {
         found = subst (λ (xs : List ℕ). FindsEntry f c.entries.cursor c.next_entry.new.cursor d xs) (sym (mine.1 ∙ c.deref.ensures.value)) finds.0;
         written = mine.0;
-        fits = mine.2;
+        applies = mine.2;
         makes = mine.3;
+        fits = c.in-Ok.ensures.fits.1;
         valid = subst (λ a. IsZone (record { apex = a; records = c.in-Ok.step.1.records })) (mine.4 ∙ c.entries.invariant.apex) mine.5;
       } in
-      (so.0 ++ step ∷ [], one_more f c.args.base.apex d c.args.cursor.now c.args.base.records so.0 c.entries.cursor c.entries.zone.records step so.1 is);
+      (so.0 ++ step ∷ [], one_more f c.args.base.apex c.args.room d c.args.cursor.now c.args.base.records so.0 c.entries.cursor c.entries.zone.records step so.1 is);
   goes = λ honest k altered vs es reads are.
       let f = c.args.format in
       let so = c.entries.invariant.goes honest k altered vs es reads are in
       let still = subst (λ e. IsAltered f k e) (sym (c.entries.invariant.reads.seen honest)) altered in
       let finds = subst (λ (r : Option Found). MatchOption r (IsJournalEnd f c.entries.cursor k) (λ e. FindsEntry f c.entries.cursor c.next_entry.new.cursor k e.octets.items × (e.head ≡ c.entries.cursor.at))) c.in-Some.is
       (c.in_ok-found.ensures.found (c.entries.invariant.reads.honest.1 honest) k still) in
-      let next = next_is f c.args.cursor.now c.entries.cursor c.next_entry.new.cursor k c.args.base.apex c.args.base.records vs es c.entries.zone.records c.entries.changes.items c.in-Some.found.octets.items finds.0 so in
+      let next = next_is f c.args.cursor.now c.entries.cursor c.next_entry.new.cursor k c.args.base.apex c.args.room c.args.base.records vs es c.entries.zone.records c.entries.changes.items c.in-Some.found.octets.items finds.0 so in
       let valid = subst (λ a. IsZone (record { apex = a; records = next.after })) (sym c.entries.invariant.apex) next.valid in
-      let is = c.in-Ok.ensures.only next.after next.change next.leads next.written (next.octets_are ∙ sym c.deref.ensures.value) valid in
+      let is = c.in-Ok.ensures.only next.after next.change next.leads next.written (next.octets_are ∙ sym c.deref.ensures.value) valid next.fits in
       let pushed : c.push.new.self.items ≡ c.entries.changes.items ++ c.in-Ok.step.0 ∷ [] = search rules in
-      subst (λ (l : List Change). Goes f c.args.cursor.now c.next_entry.new.cursor k c.args.base.apex c.args.base.records vs es c.in-Ok.step.1.records l) (sym (pushed ∙ ap (λ (e : Change). c.entries.changes.items ++ e ∷ []) is.0))
-      (subst (λ rs. Goes f c.args.cursor.now c.next_entry.new.cursor k c.args.base.apex c.args.base.records vs es rs (c.entries.changes.items ++ next.change ∷ [])) (sym is.1) next.goes);
+      subst (λ (l : List Change). Goes f c.args.cursor.now c.next_entry.new.cursor k c.args.base.apex c.args.room c.args.base.records vs es c.in-Ok.step.1.records l) (sym (pushed ∙ ap (λ (e : Change). c.entries.changes.items ++ e ∷ []) is.0))
+      (subst (λ rs. Goes f c.args.cursor.now c.next_entry.new.cursor k c.args.base.apex c.args.room c.args.base.records vs es rs (c.entries.changes.items ++ next.change ∷ [])) (sym is.1) next.goes);
   reached = λ honest place reached not.
       let f = c.args.format in
       let d = g.D.Sectors.seen c.args.device.now in
@@ -103,8 +106,8 @@ entries-preserved g c = record {
       (c.in_ok-found.ensures.found honest' d still) in
       let direct : c.entries.cursor.at < c.entries.cursor.until → IsReachedAt f c.entries.cursor d place → ⊥ = λ lt there.
       c.in_ok-found.ensures.not_own honest' lt place (subst (λ e. IsReachedAt f c.entries.cursor e place) (sym same) there) (subst (λ e. IsIntactIn f place (sector_at e place) → ⊥) (sym same) not) in
-      reach_on f c.args.base.apex d c.entries.zone.records c.entries.cursor place direct (c.entries.invariant.reached honest place reached not) c.next_entry.new.cursor c.in-Some.found.octets.items finds.0 c.in-Ok.step.0 c.in-Ok.step.1.records
-      (λ e taken. c.in-Ok.ensures.taken e taken.written (taken.octets_are ∙ sym c.deref.ensures.value) taken.fits (subst (λ a. IsZone (record { apex = a; records = applied e c.entries.zone.records })) (sym c.entries.invariant.apex) taken.valid))
+      reach_on f c.args.base.apex c.args.room d c.entries.zone.records c.entries.cursor place direct (c.entries.invariant.reached honest place reached not) c.next_entry.new.cursor c.in-Some.found.octets.items finds.0 c.in-Ok.step.0 c.in-Ok.step.1.records
+      (λ e taken. c.in-Ok.ensures.taken e taken.written (taken.octets_are ∙ sym c.deref.ensures.value) taken.applies (subst (λ a. IsZone (record { apex = a; records = applied e c.entries.zone.records })) (sym c.entries.invariant.apex) taken.valid) taken.fits)
       c.in-Ok.ensures.found.3;
 }
 
@@ -117,7 +120,7 @@ returns-clause-reads_all g c honest k altered vs es reads are =
     (c.in_ok-found.ensures.found (c.entries.invariant.reads.honest.1 honest) k still) in
     let same : c.next_entry.new.cursor ≡ c.entries.cursor = search rules in
     subst (λ (n : Cursor). IsNewestRecovered c.args.cursor.now n c.args.base.records vs es c.entries.zone.records c.entries.changes.items) (sym same)
-    (all_recovered f c.args.cursor.now c.entries.cursor k c.args.base.apex c.args.base.records vs es c.entries.zone.records c.entries.changes.items ends so)
+    (all_recovered f c.args.cursor.now c.entries.cursor k c.args.base.apex c.args.room c.args.base.records vs es c.entries.zone.records c.entries.changes.items ends so)
 
 pub returns-in_err-found-clause-damaged : goal.returns-in_err-found-clause-damaged
 returns-in_err-found-clause-damaged g c honest =
@@ -129,7 +132,7 @@ returns-in_err-found-clause-damaged g c honest =
     let still = subst (λ e. IsAltered f d e) (sym same) (altered_itself f d) in
     let refusal = subst (λ e. NamesSpoilt f e c.entries.cursor.at c.entries.cursor.until c.in_err-found.field-0.0 ⊎ IsRefusal f c.entries.cursor d c.in_err-found.field-0.0) same (c.in_err-found.ensures.damaged (c.entries.invariant.reads.honest.1 honest) d still) in
     rw p.1
-    (refusal_named f c.args.base.apex c.args.base.records c.args.cursor.now d so.0 c.entries.cursor c.entries.zone.records so.1 c.args.cursor.now.at c.args.cursor.now.until c.entries.invariant.rises (omega (arith, c.entries.invariant.until))
+    (refusal_named f c.args.base.apex c.args.room c.args.base.records c.args.cursor.now d so.0 c.entries.cursor c.entries.zone.records so.1 c.args.cursor.now.at c.args.cursor.now.until c.entries.invariant.rises (omega (arith, c.entries.invariant.until))
     c.in_err-found.field-0.0 p.0 p.2 refusal)
 
 pub returns-in-Err-clause-damaged : goal.returns-in-Err-clause-damaged
@@ -141,10 +144,10 @@ returns-in-Err-clause-damaged g c honest =
     let finds = subst (λ (r : Option Found). MatchOption r (IsJournalEnd f c.entries.cursor d) (λ e. FindsEntry f c.entries.cursor c.next_entry.new.cursor d e.octets.items × (e.head ≡ c.entries.cursor.at))) c.in-Some.is
     (c.in_ok-found.ensures.found (c.entries.invariant.reads.honest.1 honest) d still) in
     inr
-    (fault_named f c.args.base.apex c.args.base.records c.args.cursor.now d so.0 c.entries.cursor c.next_entry.new.cursor c.entries.zone.records c.in-Some.found.octets.items c.in-Some.found.head so.1 finds.0 finds.1 c.fault_at.result
-    (λ after change leads written is zone.
+    (fault_named f c.args.base.apex c.args.room c.args.base.records c.args.cursor.now d so.0 c.entries.cursor c.next_entry.new.cursor c.entries.zone.records c.in-Some.found.octets.items c.in-Some.found.head so.1 finds.0 finds.1 c.fault_at.result
+    (λ after change leads written is zone fits.
     let valid = subst (λ a. IsZone (record { apex = a; records = after })) (sym c.entries.invariant.apex) zone in
-    c.fault_at.ensures.memory (c.in-Err.ensures.only after change leads written (is ∙ sym c.deref.ensures.value) valid))
+    c.fault_at.ensures.memory (c.in-Err.ensures.only after change leads written (is ∙ sym c.deref.ensures.value) valid fits))
     c.fault_at.ensures.other)
 
 pub returns-in_err-found-clause-not_own : goal.returns-in_err-found-clause-not_own
@@ -158,7 +161,7 @@ returns-in_err-found-clause-not_own g c honest place reached not =
     let direct : c.entries.cursor.at < c.entries.cursor.until → IsReachedAt f c.entries.cursor d place → IsThat place e = λ lt there.
     c.in_err-found.ensures.not_own honest' lt place (subst (λ e. IsReachedAt f c.entries.cursor e place) (sym same) there) (subst (λ e. IsIntactIn f place (sector_at e place) → ⊥) (sym same) not) in
     rw p.1
-    (reach_refused f c.args.base.apex d c.entries.zone.records c.entries.cursor place (c.entries.invariant.reached honest place reached not) e p.0 p.2 direct
+    (reach_refused f c.args.base.apex c.args.room d c.entries.zone.records c.entries.cursor place (c.entries.invariant.reached honest place reached not) e p.0 p.2 direct
     (λ new octets finds. subst (λ k. NamesSpoilt f k c.entries.cursor.at new.at e) same (c.in_err-found.ensures.near honest' new octets (subst (λ k. FindsEntry f c.entries.cursor new k octets) (sym same) finds))))
 
 pub returns-in-Err-clause-not_own : goal.returns-in-Err-clause-not_own
@@ -172,9 +175,9 @@ returns-in-Err-clause-not_own g c honest place reached not =
     (c.in_ok-found.ensures.found honest' d still) in
     let direct : c.entries.cursor.at < c.entries.cursor.until → IsReachedAt f c.entries.cursor d place → ⊥ = λ lt there.
     c.in_ok-found.ensures.not_own honest' lt place (subst (λ e. IsReachedAt f c.entries.cursor e place) (sym same) there) (subst (λ e. IsIntactIn f place (sector_at e place) → ⊥) (sym same) not) in
-    let taken = reach_taken f c.args.base.apex d c.entries.zone.records c.entries.cursor place direct (c.entries.invariant.reached honest place reached not) c.next_entry.new.cursor c.in-Some.found.octets.items finds.0 in
+    let taken = reach_taken f c.args.base.apex c.args.room d c.entries.zone.records c.entries.cursor place direct (c.entries.invariant.reached honest place reached not) c.next_entry.new.cursor c.in-Some.found.octets.items finds.0 in
     let is = taken.1 in
-    inr (inl (c.fault_at.ensures.memory (c.in-Err.ensures.taken taken.0 is.written (is.octets_are ∙ sym c.deref.ensures.value) is.fits (subst (λ a. IsZone (record { apex = a; records = applied taken.0 c.entries.zone.records })) (sym c.entries.invariant.apex) is.valid))))
+    inr (inl (c.fault_at.ensures.memory (c.in-Err.ensures.taken taken.0 is.written (is.octets_are ∙ sym c.deref.ensures.value) is.applies (subst (λ a. IsZone (record { apex = a; records = applied taken.0 c.entries.zone.records })) (sym c.entries.invariant.apex) is.valid) is.fits)))
 
 pub returns-clause-not_own : goal.returns-clause-not_own
 returns-clause-not_own g c honest place reached not =
@@ -187,4 +190,4 @@ returns-clause-not_own g c honest place reached not =
     (c.in_ok-found.ensures.found honest' d still) in
     let direct : c.entries.cursor.at < c.entries.cursor.until → IsReachedAt f c.entries.cursor d place → ⊥ = λ lt there.
     c.in_ok-found.ensures.not_own honest' lt place (subst (λ e. IsReachedAt f c.entries.cursor e place) (sym same) there) (subst (λ e. IsIntactIn f place (sector_at e place) → ⊥) (sym same) not) in
-    reach_ended f c.args.base.apex d c.entries.zone.records c.entries.cursor place direct (c.entries.invariant.reached honest place reached not) ends
+    reach_ended f c.args.base.apex c.args.room d c.entries.zone.records c.entries.cursor place direct (c.entries.invariant.reached honest place reached not) ends

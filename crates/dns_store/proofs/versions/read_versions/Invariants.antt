@@ -4,6 +4,7 @@ use Rattle.dns_layout.specs.Own.{IsIntactIn, IsAltered}
 use Rattle.dns_layout.specs.Journal.{Entry}
 use Rattle.dns_journal.specs.Reads.{OnlyReads, ReadsFrom}
 use Rattle.dns_store.specs.Versions.{Versions}
+use Rattle.dns_store.specs.Plain.{octets_of}
 use Rattle.dns_store.specs.Opens.{AreChangesIn}
 use Rattle.dns_store.specs.Damage.{ReadChange, AreStepsIn, IsReachedEntryIn}
 use Rattle.dns_store.proofs.Recovering.{Goes}
@@ -17,11 +18,12 @@ invariant-entries g l = record {
   within : l.cursor.at ≤ l.cursor.until;
   rises : l.fn.cursor.at ≤ l.cursor.at;
   apex : l.zone.apex ≡ l.fn.base.apex;
-  steps : g.D.Sectors.is_honest l.fn.device → (ss : List ReadChange) × AreStepsIn l.format l.fn.base.apex (g.D.Sectors.seen l.fn.device) l.fn.cursor l.fn.base.records ss l.cursor l.zone.records;
-  goes : g.D.Sectors.is_honest l.fn.device → (k : List (List ℕ)) → IsAltered l.format k (g.D.Sectors.seen l.fn.device) → (vs : Versions) (es : List Entry) → ReadsFrom l.format l.fn.cursor k es → AreChangesIn l.format l.fn.base.apex l.fn.base.records vs es
-      → Goes l.format l.fn.cursor l.cursor k l.fn.base.apex l.fn.base.records vs es l.zone.records l.changes.items;
-  reached : g.D.Sectors.is_honest l.fn.device → (place : ℕ) → IsReachedEntryIn l.format l.fn.base.apex l.fn.base.records l.fn.cursor (g.D.Sectors.seen l.fn.device) place → (IsIntactIn l.format place (sector_at (g.D.Sectors.seen l.fn.device) place) → ⊥)
-      → IsReachedEntryIn l.format l.fn.base.apex l.zone.records l.cursor (g.D.Sectors.seen l.fn.device) place;
+  len : l.len ≡ octets_of l.zone.records;
+  steps : g.D.Sectors.is_honest l.fn.device → (ss : List ReadChange) × AreStepsIn l.format l.fn.base.apex l.room (g.D.Sectors.seen l.fn.device) l.fn.cursor l.fn.base.records ss l.cursor l.zone.records;
+  goes : g.D.Sectors.is_honest l.fn.device → (k : List (List ℕ)) → IsAltered l.format k (g.D.Sectors.seen l.fn.device) → (vs : Versions) (es : List Entry) → ReadsFrom l.format l.fn.cursor k es → AreChangesIn l.format l.fn.base.apex l.room l.fn.base.records vs es
+      → Goes l.format l.fn.cursor l.cursor k l.fn.base.apex l.room l.fn.base.records vs es l.zone.records l.changes.items;
+  reached : g.D.Sectors.is_honest l.fn.device → (place : ℕ) → IsReachedEntryIn l.format l.fn.base.apex l.room l.fn.base.records l.fn.cursor (g.D.Sectors.seen l.fn.device) place → (IsIntactIn l.format place (sector_at (g.D.Sectors.seen l.fn.device) place) → ⊥)
+      → IsReachedEntryIn l.format l.fn.base.apex l.room l.zone.records l.cursor (g.D.Sectors.seen l.fn.device) place;
 }
 
 abbrev pub decreases-entries : goal.decreases-entries

@@ -1,5 +1,6 @@
-use Rattle.dns_wire.proofs.ResourceRecordsShown.{long_number_is}
+use Rattle.std.proofs.Common.{◌∙◌}
+use Rattle.dns_wire.proofs.Numbers.{four_read}
 use Rattle.dns_wire.proofs.fields.long_number.Goals as goal
 
 pub returns : goal.returns
-returns c = record { inside = c.requires; read = long_number_is c.args.message.now c.args.at c.requires }
+returns c = record { inside = c.requires; read = c.read_u32.ensures ∙ four_read c.args.message.now c.args.at c.requires }

@@ -7,7 +7,8 @@ use Rattle.dns_primary.specs.Queue.{IsStageableAt, asked_of}
 use Rattle.dns_primary.specs.Steps.{IsBegunOrLacks, SteppedOn, answered_with}
 use Rattle.dns_primary.specs.declared.update.Outcome.TheVariants as outcome
 use Rattle.dns_primary.proofs.Served.{answered, lacks_begun}
-use Rattle.dns_primary.proofs.Follows.{begun_follows, still_judged, judged_lacks}
+use Rattle.dns_primary.proofs.Follows.{judged_lacks}
+use Rattle.dns_primary.proofs.Roomy.{still_judged}
 use Rattle.dns_primary.proofs.Answered.{failed_then, moments_then, begun_with_memory}
 use Rattle.dns_primary.proofs.primary.Primary.answer.Goals as goal
 
@@ -42,7 +43,7 @@ returns g c = record {
       ap (λ (o : Option ℕ). option_map (λ (sectors : ℕ). (c.args.place, sectors)) o) c.lacked.ensures ∙ judged_lacks g.I.ZoneIndex.records old a c.args.place c.args.judged judged in
       let b = subst (λ (o : Option (ℕ × ℕ)). SteppedOn old o c.args.self.now c.begin-effects.new.self c.begin-effects.result (IsBegunOrLacks old o)) moved (c.begin-effects.ensures.step old kept) in
       let begun = begun_with_memory old b.next (room_lacked old a) b.fails b.stated (λ e. c.lacks_memory.ensures.none c.if-lacks_memory.false (sym (b.effects_are).noted ∙ e)) b.is in
-      let holds = still_judged old b.next a (begun_follows b.fails old (room_lacked old a) b.stated b.next begun) g.I.ZoneIndex.records c.args.place c.args.judged judged in
+      let holds = still_judged b.fails old a b.stated b.next begun g.I.ZoneIndex.records c.args.place c.args.judged judged in
       let done = c.stage-outcome.ensures.done b.next b.kept holds in
       let ends = answered (λ m. IsKept c.stage-outcome.new.self m) old b.next a b.fails b.stated c.stage-outcome.result begun done in
       record {

@@ -1,6 +1,5 @@
 use Rattle.std.proofs.Common.{◌≡◌, inl, inr, ⊎_elim, ap, sym, ◌∙◌, subst}
 use Rattle.dns_journal.specs.State.{device_of}
-use Rattle.dns_store.proofs.Kept.{closed_is}
 use Rattle.dns_store.proofs.Holding.{lent_of, held_between, held_again, holds_of}
 use Rattle.dns_store.proofs.kept_store.KeptStoreZoneStore.checkpoint.Goals as goal
 
@@ -27,23 +26,11 @@ returns-in-Err-clause-device g c k n kept none is failed =
     let same = c.in-Err.ensures.lent in
     (closes.0, held_between c.args.self.now.journal c.move_base.new.self.journal c.args.self.now.base c.args.self.now.changes.items k kept _ c.move_base.new.self.base c.move_base.new.self.changes.items same.0 (λ i. (same.1 i).items) closes.1)
 
-pub returns-in-Err-clause-too_large : goal.returns-in-Err-clause-too_large
-returns-in-Err-clause-too_large g c k n kept none is large =
-    c.in-Err.ensures.too_large k n (lent_of c.args.self.now.journal c.args.self.now.journal c.args.self.now.base c.args.self.now.changes.items k kept none) is large
-
-pub returns-in-Err-clause-right : goal.returns-in-Err-clause-right
-returns-in-Err-clause-right g c k kept none wrong =
-    c.in-Err.ensures.right k (lent_of c.args.self.now.journal c.args.self.now.journal c.args.self.now.base c.args.self.now.changes.items k kept none) wrong
-
 pub returns-in-Ok-clause-closed : goal.returns-in-Ok-clause-closed
-returns-in-Ok-clause-closed g c k kept =
-    let shut = closed_is c.args.self.now.journal k k.closed kept.keeps in
-    (λ is. absurd cc, λ is. c.in-Ok.ensures.closed.0 (shut ∙ is))
+returns-in-Ok-clause-closed g c k kept = let both = c.in-Ok.ensures.closed k kept in (λ is. absurd cc, λ shut. absurd (let is = both.1 shut in cc))
 
 pub returns-in-Err-clause-closed : goal.returns-in-Err-clause-closed
-returns-in-Err-clause-closed g c k kept =
-    let shut = closed_is c.args.self.now.journal k k.closed kept.keeps in
-    (λ is. sym shut ∙ c.in-Err.ensures.closed.1 is, λ is. c.in-Err.ensures.closed.0 (shut ∙ is))
+returns-in-Err-clause-closed g c k kept = c.in-Err.ensures.closed k kept
 
 pub returns-in-Err-clause-stays : goal.returns-in-Err-clause-stays
 returns-in-Err-clause-stays g c k kept =

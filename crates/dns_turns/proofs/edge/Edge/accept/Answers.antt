@@ -15,13 +15,13 @@ returns g c =
     let old = served c.args.primary.now c.args.self.now c.args.network.now in
     let new = served c.welcome.new.primary c.welcome.new.self c.accept.new.self in
     elim c.welcome.ensures [
-      | inl taken ↦ by_one g.S.Stream g.N.Network (Connects c.in-Some.peer) old new
+      | inl (effects, taken) ↦ by_one g.S.Stream g.N.Network (Connects c.in-Some.peer effects) old new
           (record { stream = c.in-Some.stream; came = c.in-Some.ensures; taken = taken })
-      | inr (between, place, number, effects, taken, told, gone) ↦
+      | inr (between, place, number, effects, none, taken, told, gone) ↦
           (let mid = standing between c.accept.new.self place in
           and_on g.S.Stream g.N.Network old mid new
-          (by_one g.S.Stream g.N.Network (Connects c.in-Some.peer) old mid
+          (by_one g.S.Stream g.N.Network (Connects c.in-Some.peer effects) old mid
           (record { stream = c.in-Some.stream; came = c.in-Some.ensures; taken = taken }))
           (by_one g.S.Stream g.N.Network (Closes number) mid new
-          (record { effects = effects; told = told; gone = gone; network = refl })))
+          (record { effects = none; told = told; gone = gone; network = refl })))
     ]

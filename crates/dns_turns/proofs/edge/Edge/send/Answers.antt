@@ -1,4 +1,4 @@
-use Rattle.std.proofs.Common.{refl, sym, subst, inr}
+use Rattle.std.proofs.Common.{Bool, true, refl, sym, subst}
 use Rattle.dns_edge.specs.Connections.{places_of}
 use Rattle.dns_primary.specs.declared.event.To.{To}
 use Rattle.dns_turns.specs.Delivery.{IsSent, connections_of, served}
@@ -10,8 +10,8 @@ returns-then-reply-gt-LONGEST g c =
     let old = served c.args.primary.now c.args.self.now c.args.network.now in
     let new = served c.close.new.primary c.close.new.self c.args.network.now in
     let told = c.close.ensures.told in
-    subst (λ (t : To). IsSent g.N.Network t c.args.reply.now old new) (sym c.in-Connection.is)
-    (inr (record { effects = told.0; told = told.1; gone = c.close.ensures.gone; network = refl }))
+    subst (λ (t : To). (cut : Bool) × IsSent g.N.Network t c.args.reply.now cut old new) (sym c.in-Connection.is)
+    (true, record { effects = told.0; told = told.1; gone = c.close.ensures.gone; network = refl })
 
 pub returns-in-Err : goal.returns-in-Err
 returns-in-Err g c =
@@ -20,5 +20,5 @@ returns-in-Err g c =
     let told = c.close-in-Err.ensures.told in
     let number = c.in-Connection.number in
     let gone = closed_still number (connections_of c.args.self.now) (places_of c.push.new.self) (connections_of c.close-in-Err.new.self) c.in-Err.ensures.refused c.close-in-Err.ensures.gone in
-    subst (λ (t : To). IsSent g.N.Network t c.args.reply.now old new) (sym c.in-Connection.is)
-    (inr (record { effects = told.0; told = told.1; gone = gone; network = refl }))
+    subst (λ (t : To). (cut : Bool) × IsSent g.N.Network t c.args.reply.now cut old new) (sym c.in-Connection.is)
+    (true, record { effects = told.0; told = told.1; gone = gone; network = refl })

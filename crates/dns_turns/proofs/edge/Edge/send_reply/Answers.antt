@@ -1,7 +1,9 @@
-use Rattle.std.proofs.Common.{ℕ, List, Option, refl, sym, subst}
+use Rattle.std.proofs.Common.{ℕ, Bool, List, Option, sym, subst}
 use Rattle.dns_primary.specs.declared.event.Reply.{Reply}
 use Rattle.dns_primary.specs.Keeps.{reply_out}
 use Rattle.dns_turns.specs.Delivery.{AreSent, IsSent, served}
+use Rattle.dns_primary.specs.To.{octets_in}
+use Rattle.dns_turns.proofs.Leads.{one_sent}
 use Rattle.dns_turns.proofs.edge.Edge.send_reply.Goals as goal
 
 pub returns-in-Some : goal.returns-in-Some
@@ -9,4 +11,5 @@ returns-in-Some g c =
     let old = served c.args.primary.now c.args.self.now c.args.network.now in
     let new = served c.send.new.primary c.send.new.self c.send.new.network in
     subst (λ (reply : Option Reply). AreSent g.N.Network (reply_out reply) old new) (sym c.in-Some.is)
-    (new, subst (λ (octets : List ℕ). IsSent g.N.Network c.in-Some.reply.to octets old new) c.as_slice-octets.ensures c.send.ensures, refl)
+    (one_sent g.N.Network c.in-Some.reply.to (octets_in c.in-Some.reply.octets) old new
+    (subst (λ (octets : List ℕ). (cut : Bool) × IsSent g.N.Network c.in-Some.reply.to octets cut old new) c.as_slice-octets.ensures c.send.ensures))

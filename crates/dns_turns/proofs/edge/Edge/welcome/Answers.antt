@@ -8,11 +8,13 @@ use Rattle.dns_turns.proofs.edge.Edge.welcome.Goals as goal
 pub returns-in_default : goal.returns-in_default
 returns-in_default g c =
     let here = connections_of c.args.self.now in
-    inl (record {
-      effects = c.step-effects.result;
-      told = λ m kept. c.step-effects.ensures.step m kept;
-      placed = subst (λ (accepted : Option ℕ). IsPlaced c.args.stream accepted here here) (sym c.in_default.is) refl;
-    })
+    inl (
+      c.step-effects.result,
+      record {
+        told = λ m kept. c.step-effects.ensures.step m kept;
+        placed = subst (λ (accepted : Option ℕ). IsPlaced c.args.stream accepted here here) (sym c.in_default.is) refl;
+      },
+    )
 
 pub returns-in-Err : goal.returns-in-Err
 returns-in-Err g c =
@@ -22,9 +24,9 @@ returns-in-Err g c =
       c.step-effects.new.self,
       places_of c.insert.new.self,
       c.in-Some.number,
+      c.step-effects.result,
       told.0,
       record {
-        effects = c.step-effects.result;
         told = λ m kept. c.step-effects.ensures.step m kept;
         placed = subst (λ (accepted : Option ℕ). IsPlaced c.args.stream accepted here (places_of c.insert.new.self)) (sym c.in-Some.is)
             (inl (c.in-Err.ensures.back.1, c.in-Err.ensures.still));
@@ -37,18 +39,20 @@ pub returns : goal.returns
 returns g c =
     let here = connections_of c.args.self.now in
     let made = c.new-connection.result in
-    inl (record {
-      effects = c.step-effects.result;
-      told = λ m kept. c.step-effects.ensures.step m kept;
-      placed = subst (λ (accepted : Option ℕ). IsPlaced c.args.stream accepted here (places_of c.insert.new.self)) (sym c.in-Some.is)
-          (inr (
-            c.in_default-insert.ensures.place,
-            (
-              made,
-              c.new-connection.ensures.stream,
-              c.new-connection.ensures.left,
-              nothing_came made c.new-connection.ensures.held c.new-connection.ensures.rest,
-              c.in_default-insert.ensures.put,
-            ),
-          ));
-    })
+    inl (
+      c.step-effects.result,
+      record {
+        told = λ m kept. c.step-effects.ensures.step m kept;
+        placed = subst (λ (accepted : Option ℕ). IsPlaced c.args.stream accepted here (places_of c.insert.new.self)) (sym c.in-Some.is)
+            (inr (
+              c.in_default-insert.ensures.place,
+              (
+                made,
+                c.new-connection.ensures.stream,
+                c.new-connection.ensures.left,
+                nothing_came made c.new-connection.ensures.held c.new-connection.ensures.rest,
+                c.in_default-insert.ensures.put,
+              ),
+            ));
+      },
+    )

@@ -9,7 +9,7 @@ use Rattle.dns_wire.specs.Text.{text}
 use Rattle.dns_wire.proofs.Built.{built_next, built_size, longer_text}
 use Rattle.dns_wire.proofs.builder.MessageBuilder.push.Goals as goal
 
--- what is lent of the box is what stands in it
+-- what is lent of the box is what is in it
 abbrev Stands : Contents → Type 0
 Stands v = StandsBuilt (record { reply = said v; limit = v.limit }) v.compressor.octets.items v.compressor.places
 

@@ -6,7 +6,7 @@ use Rattle.dns_wire.proofs.Indexed.{found_first, found_later}
 use Rattle.dns_wire.proofs.known.Listed.find_or_keep.Goals as goal
 use Rattle.dns_wire.proofs.known.Listed.find_or_keep.Goals.{After-place_of, After-place_of-2}
 
--- the places that were looked through
+-- the positions that were looked through
 looked : (k count : ℕ) (all seen : List Place) (name : Labels) (found : Option ℕ) → found ≡ offset_at (take count seen) name → count ≡ min k (length seen) → seen ≡ all
     → found ≡ offset_at (take (min k (length all)) all) name
 looked k count all seen name found e f g =
@@ -18,7 +18,7 @@ looked_through c =
     looked k c.min-first.result c.self.inside.all.items c.as_slice.result.now (labels_of c.args.suffix.now) c.place_of.result c.place_of.ensures.place
     (c.min-first.ensures ∙ ap (min k) (c.len.ensures ∙ sym c.as_slice.ensures.len)) c.as_slice.ensures.value
 
--- what is found in the bucket is found behind the places that were looked through
+-- what is found in the bucket is found after the positions that were looked through
 in_bucket : (c : After-place_of-2) → c.place_of-2.result ≡ offset_at c.args.self.now (labels_of c.args.suffix.now)
 in_bucket c =
     let n = labels_of c.args.suffix.now in

@@ -1,7 +1,0 @@
-use Rattle.std.proofs.Common.{◌≡◌, drop, map}
-use Rattle.dns_script.specs.Commands.{said_zone_keep}
-use Rattle.dns_script.specs.Keeps.{is_among}
-use Rattle.dns_script.proofs.keeps.is_among.Given as goal
-
-abbrev pub invariant-loop-one : goal.invariant-loop-one
-invariant-loop-one l = is_among l.zone (map said_zone_keep (drop l.one-index l.keeps)) ≡ is_among l.zone (map said_zone_keep l.keeps)
