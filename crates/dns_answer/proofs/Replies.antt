@@ -6,10 +6,10 @@ use Rattle.dns_zone.specs.Zone.{Zone}
 use Rattle.dns_lookup.specs.Lookup.{Found, chain, next_name, outcome, resolve, zone_of}
 use Rattle.dns_wire.specs.Message.{Message, Question}
 use Rattle.dns_wire.specs.Text.{Reply}
-use Rattle.dns_request.specs.Request.{rcode_refused}
 use Rattle.dns_records.specs.Record.{Record}
+use Rattle.dns_request.specs.Codes.{rcode_nxdomain, rcode_refused}
 use Rattle.dns_answer.specs.Sections.{additional_of, answer_of, authority_of, is_authoritative, is_name_error, records_of}
-use Rattle.dns_answer.specs.Answer.{with_question, reply_for, answered, rcode_nxdomain}
+use Rattle.dns_answer.specs.Answer.{with_question, reply_for, answered}
 
 -- something is found exactly where the name is under a held apex
 abbrev found_from : Option Zone → (Zone → Found) → (Zone → List Found) → List Found

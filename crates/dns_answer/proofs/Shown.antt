@@ -1,17 +1,15 @@
 -- What each name puts into the sections.
-use Rattle.std.proofs.Common.{◌≡◌, ℕ, zero, suc, ◌+◌, ◌-◌, ◌<◌, ◌≤◌, Bool, true, false, ◌||◌, List, [], ◌∷◌, ◌++◌, length, get_or, take, map, refl, sym, ap, subst, ◌∙◌, arith, cond}
-use Rattle.std.specs.Prelude.{Option, Some, None, not, ◌&&◌, ◌==◌, nat_lt, filter, min, slice_get}
+use Rattle.std.proofs.Common.{◌≡◌, ℕ, zero, suc, ◌+◌, ◌-◌, ◌<◌, ◌≤◌, Bool, true, false, List, [], ◌∷◌, ◌++◌, length, get_or, take, map, refl, sym, ap, subst, ◌∙◌, arith, cond}
+use Rattle.std.specs.Prelude.{Some, None, ◌==◌, min, slice_get}
 use Rattle.std.proofs.lemmas.Option.{get_or_from_slice_get, slice_get_within, slice_get-get_or}
-use Rattle.std.specs.List.{list_any, flat_map}
+use Rattle.std.specs.List.{flat_map}
 use Rattle.std.proofs.lemmas.List.{append-nil, map-append, take_all}
 use Rattle.std.proofs.lemmas.Grind.{flat_map-append}
 use Rattle.std.proofs.lemmas.Bool.Decides.{nat_tests}
-use Rattle.dns_names.specs.Name.{Labels, names_eq}
+use Rattle.dns_names.specs.Name.{Labels}
 use Rattle.dns_records.specs.Types.{type_soa}
 use Rattle.dns_records.specs.Record.{Record, host_of, minimum_of}
-use Rattle.dns_zone.specs.Records.{rrset, owns_type}
-use Rattle.dns_zone.specs.Zone.{Zone, IsZone, soas}
-use Rattle.dns_zone.specs.declared.ZoneError.{ZoneError}
+use Rattle.dns_zone.specs.Zone.{Zone, soas}
 use Rattle.dns_lookup.specs.Represented.{Represents, RepresentAll}
 use Rattle.dns_lookup.specs.Lent.{records_found, Lends, AllLend}
 use Rattle.dns_lookup.specs.RepresentedLaws.{outcome_of, represented_is, represented_at, represented_length}
@@ -65,71 +63,6 @@ next_answers t fs i f rs more is =
     ∙ ap records_of (flat_map-append (answers_of t) (take i fs) (f ∷ []) ∙ ap (λ (xs : List Shown). answer_of t (take i fs) ++ xs) (append-nil (answers_of t f) ∙ is))
     ∙ map-append (λ (s : Shown). s.shown) (answer_of t (take i fs)) (from_zone f.zone (as_owner f.name rs))
     ∙ ap (λ (xs : List Record). records_of (answer_of t (take i fs)) ++ xs) (records_back f.zone (as_owner f.name rs))
-
--- a record by its number has the type that was asked
-typed_step : (t : ℕ) (r x : Record) (xs : List Record) (a b : Bool) → (x.rtype == t) ≡ b → ((i : ℕ) → i < length xs → (get_or xs i r).rtype ≡ t) → (i : ℕ) → i < length (cond (a && b) (x ∷ xs) xs) → (get_or (cond (a && b) (x ∷ xs) xs) i r).rtype ≡ t
-typed_step t r x xs true true e rest zero lt = grind (arith, nat_tests)
-typed_step t r x xs true true e rest (suc i) lt = rest i (omega (arith, lt))
-typed_step t r x xs true false e rest i lt = rest i lt
-typed_step t r x xs false b e rest i lt = rest i lt
-
-all_typed : (records : List Record) (name : Labels) (t : ℕ) (r : Record) (i : ℕ) → i < length (rrset records name t) → (get_or (rrset records name t) i r).rtype ≡ t
-all_typed [] name t r i lt = absurd (omega (arith, lt))
-all_typed (x ∷ xs) name t r i lt = typed_step t r x (rrset xs name t) (names_eq x.owner name) (x.rtype == t) refl (all_typed xs name t r) i lt
-
-pub typed_at : (records : List Record) (name : Labels) (t i : ℕ) (r : Record) → i < length (rrset records name t) → r ≡ get_or (rrset records name t) i r → r.rtype ≡ t
-typed_at records name t i r inside is = ap (λ (x : Record). x.rtype) is ∙ all_typed records name t r i inside
-
--- of a list without more than one that passes a test, those that pass another too are all, if there is one
-fewer_step : (x : Record) (ys zs : List Record) (a b : Bool) → length ys ≤ length zs → length (cond (a && b) (x ∷ ys) ys) ≤ length (cond b (x ∷ zs) zs)
-fewer_step x ys zs true true h = omega (arith, h)
-fewer_step x ys zs true false h = h
-fewer_step x ys zs false true h = omega (arith, h)
-fewer_step x ys zs false false h = h
-
-fewer : (p q : Record → Bool) (xs : List Record) → length (filter (λ r. p r && q r) xs) ≤ length (filter q xs)
-fewer p q [] = omega arith
-fewer p q (x ∷ xs) = fewer_step x (filter (λ r. p r && q r) xs) (filter q xs) (p x) (q x) (fewer p q xs)
-
-none_left : (xs : List Record) → length xs ≤ 0 → xs ≡ []
-none_left [] h = refl
-none_left (x ∷ xs) h = absurd (omega (arith, h))
-
-some_step : (x : Record) (p q : Record → Bool) (xs : List Record) (a b : Bool) → ((a && b) || list_any (λ r. p r && q r) xs) ≡ true → (list_any (λ r. p r && q r) xs ≡ true → 0 < length (filter q xs)) → 0 < length (cond b (x ∷ filter q xs) (filter q xs))
-some_step x p q xs true true h rest = omega arith
-some_step x p q xs true false h rest = rest h
-some_step x p q xs false true h rest = omega arith
-some_step x p q xs false false h rest = rest h
-
-some_passes : (p q : Record → Bool) (xs : List Record) → list_any (λ r. p r && q r) xs ≡ true → 0 < length (filter q xs)
-some_passes p q [] e = absurd cc
-some_passes p q (x ∷ xs) e = some_step x p q xs (p x) (q x) e (some_passes p q xs)
-
-one_step : (x : Record) (p q : Record → Bool) (xs : List Record) (a b : Bool) → ((a && b) || list_any (λ r. p r && q r) xs) ≡ true → length (cond b (x ∷ filter q xs) (filter q xs)) ≤ 1
-    → (list_any (λ r. p r && q r) xs ≡ true → length (filter q xs) ≤ 1 → filter (λ r. p r && q r) xs ≡ filter q xs) → cond (a && b) (x ∷ filter (λ r. p r && q r) xs) (filter (λ r. p r && q r) xs) ≡ cond b (x ∷ filter q xs) (filter q xs)
-one_step x p q xs true true e h rest =
-    let low : length (filter q xs) ≤ 0 = omega (arith, h) in
-    let lower : length (filter (λ r. p r && q r) xs) ≤ 0 = omega (arith, low, fewer p q xs) in
-    ap (λ (ys : List Record). x ∷ ys) (none_left (filter (λ r. p r && q r) xs) lower ∙ sym (none_left (filter q xs) low))
-one_step x p q xs true false e h rest = rest e h
-one_step x p q xs false true e h rest = absurd (let some = some_passes p q xs e in omega (arith, some, h))
-one_step x p q xs false false e h rest = rest e h
-
-only_one : (p q : Record → Bool) (xs : List Record) → list_any (λ r. p r && q r) xs ≡ true → length (filter q xs) ≤ 1 → filter (λ r. p r && q r) xs ≡ filter q xs
-only_one p q [] e h = refl
-only_one p q (x ∷ xs) e h = one_step x p q xs (p x) (q x) e h (only_one p q xs)
-
-two_tests : (a b : Bool) (x y : ZoneError) (rest : Option ZoneError) → cond (not a) (Some x) (cond b (Some y) rest) ≡ None → (a ≡ true) × (b ≡ false)
-two_tests true true x y rest e = absurd cc
-two_tests true false x y rest e = (refl, refl)
-two_tests false b x y rest e = absurd cc
-
--- a zone has one SOA, and it is at the apex
-pub lent_soa : (z : Zone) → IsZone z → rrset z.records z.apex type_soa ≡ soas z.records
-lent_soa z valid =
-    let returned = two_tests (owns_type z.records z.apex type_soa) (nat_lt 1 (length (soas z.records))) _ _ _ valid.valid in
-    let one : length (soas z.records) ≤ 1 = grind (arith, nat_tests, returned.1) in
-    only_one (λ r. names_eq r.owner z.apex) (λ r. r.rtype == type_soa) z.records returned.0 one
 
 -- a SOA has no host, and so no addresses with it
 no_host_of_soa : (r : Record) → r.rtype ≡ type_soa → host_of r ≡ None

@@ -10,7 +10,7 @@ use Rattle.dns_records.specs.Typed.{is_name_type}
 use Rattle.dns_records.specs.Laws.{name_data-plain}
 use Rattle.dns_zone.specs.Records.{rrset, same}
 use Rattle.dns_zone.specs.Zone.{Zone, soas}
-use Rattle.dns_lookup.specs.Lookup.{Outcome, Referral, Alias, Answers, NoData, NameError, Found, alias_at, asked, chain, next_name, outcome, resolve, zone_of}
+use Rattle.dns_lookup.specs.Lookup.{Outcome, Referral, Alias, Answers, NoData, NameError, Found, alias_at, asked_records, chain, next_name, outcome, resolve, zone_of}
 use Rattle.dns_answer.specs.Sections.{Shown, from_zone, records_of, as_owner, answers_of, answer_of, negative_soa, authority_at, authority_of, addresses_for, unseen, additional_of}
 use Rattle.dns_answer.proofs.Each.{each_append, each_filter, each_mapped, each_flat, each_find}
 
@@ -96,7 +96,7 @@ owned_by name records valid k = each_mapped IsRecord IsRecord (λ (r : Record). 
 of_rrset : (z : Zone) (node : Labels) (t : ℕ) → HasRecords z → AllByRecursion IsRecord (rrset z.records node t)
 of_rrset z node t h = each_filter IsRecord (λ r. names_eq r.owner node && r.rtype == t) z.records h
 
-of_asked : (z : Zone) (node : Labels) (t : ℕ) → HasRecords z → AllByRecursion IsRecord (asked z.records node t)
+of_asked : (z : Zone) (node : Labels) (t : ℕ) → HasRecords z → AllByRecursion IsRecord (asked_records z.records node t)
 of_asked z node t h = go (t == type_any)
   where
     go : (b : Bool) → AllByRecursion IsRecord (if b then filter (λ r. names_eq r.owner node) z.records else rrset z.records node t)

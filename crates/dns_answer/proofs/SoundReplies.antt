@@ -10,13 +10,14 @@ use Rattle.dns_lookup.specs.Lookup.{Found, resolve, zone_of}
 use Rattle.dns_wire.specs.Message.{Question, Message, Header, header_of}
 use Rattle.dns_wire.specs.Text.{Reply, text}
 use Rattle.dns_wire.specs.Valid.{IsReply, IsEchoed}
+use Rattle.dns_request.specs.Codes.{rcode_formerr, rcode_notimp, rcode_nxdomain, rcode_refused}
 use Rattle.dns_request.specs.declared.request.Transport.{Transport}
 use Rattle.dns_request.specs.declared.request.Transport.TheVariants.{Udp, Tcp}
 use Rattle.dns_request.specs.Request as request
-use Rattle.dns_request.specs.Request.{Request, opcode_query, opcode_update, rcode_formerr, rcode_notimp, rcode_refused, has_counts, question_as, message_as, read_as, request_as, too_long}
+use Rattle.dns_request.specs.Request.{Request, opcode_query, opcode_update, has_counts, question_as, message_as, read_as, request_as, too_long}
 use Rattle.dns_answer.specs.Sections.{is_name_error}
 use Rattle.dns_answer.specs.Fit.{is_referral, by_udp, by_udp_without_additional, by_tcp, truncated, failed}
-use Rattle.dns_answer.specs.Answer.{Handled, NoReply, Replies, Update, Transfer, bare_reply, with_question, reply_for, answered, fitted, handled_as, rcode_nxdomain}
+use Rattle.dns_answer.specs.Answer.{Handled, NoReply, Replies, Update, Transfer, bare_reply, with_question, reply_for, answered, fitted, handled_as}
 use Rattle.dns_answer.proofs.SoundRecords.{HasRecords, found_is, sections_are}
 use Rattle.dns_wire.specs.Echo.{echo_of}
 

@@ -15,13 +15,13 @@ use Rattle.dns_zone.specs.Records.{is_ordered, same, rrset}
 use Rattle.dns_zone.specs.Zone.{Zone}
 use Rattle.dns_lookup.specs.Lookup.{Found}
 use Rattle.dns_answer.specs.Sections.{Shown, additional_of, addresses_for, answer_of, authority_of, from_zone, records_of, unseen}
-use Rattle.dns_answer.specs.Added.{AddsUnseen, AddsUpTo, AreSectionsUpTo, count_of}
+use Rattle.dns_answer.specs.Added.{AddsUnseen, AddsUpTo, AreSectionsUpTo, record_count}
 use Rattle.dns_answer.specs.Known.{all_stand, none_stands, stood, AreHosts, AreKnown, AreOwners, HasNoAddressOf}
 use Rattle.dns_answer.specs.declared.additional.Sections.{Sections}
 use Rattle.dns_answer.proofs.Adding.{adds_none, adds_then, chosen, gathered, moved, no_host, opened, unseen_append}
 
 -- no record goes
-pub count_rises : (a b : Sections) (xs : List Record) → AddsUnseen a b xs → count_of a ≤ count_of b
+pub count_rises : (a b : Sections) (xs : List Record) → AddsUnseen a b xs → record_count a ≤ record_count b
 count_rises a b xs h =
     let u = unseen (stood a) xs in
     omega (arith, ap length h.answer, ap length h.authority, ap length h.additional, length-append a.additional.items u)
@@ -30,11 +30,11 @@ pub up_to_none : (most : ℕ) (s : Sections) → AddsUpTo most s s []
 up_to_none most s = record { first = []; rest = []; split = refl; added = adds_none s; stopped = inl refl; idle = λ h. refl }
 
 -- all, where there were not more
-pub up_to_all : (most : ℕ) (a b : Sections) (xs : List Record) → (most < count_of a → ⊥) → AddsUnseen a b xs → AddsUpTo most a b xs
+pub up_to_all : (most : ℕ) (a b : Sections) (xs : List Record) → (most < record_count a → ⊥) → AddsUnseen a b xs → AddsUpTo most a b xs
 up_to_all most a b xs room h = record { first = xs; rest = []; split = sym (append-nil xs); added = h; stopped = inl refl; idle = λ over. absurd (room over) }
 
 -- what is left out after too many
-pub up_to_more : (most : ℕ) (a b : Sections) (xs ys : List Record) → most < count_of b → AddsUpTo most a b xs → AddsUpTo most a b (xs ++ ys)
+pub up_to_more : (most : ℕ) (a b : Sections) (xs ys : List Record) → most < record_count b → AddsUpTo most a b xs → AddsUpTo most a b (xs ++ ys)
 up_to_more most a b xs ys over h = record {
   first = h.first;
   rest = h.rest ++ ys;
@@ -57,10 +57,10 @@ up_to_then most a b c xs ys one two = elim one.stopped [ inl none ↦ goes_on no
           split = (λ i. whole i ++ two.split i) ∙ sym (append_assoc one.first two.first two.rest);
           added = adds_then a b c one.first two.first one.added two.added;
           stopped = two.stopped;
-          idle = λ over. (let later : most < count_of b = omega (arith, count_rises a b one.first one.added, over) in λ i. one.idle over i ++ two.idle later i);
+          idle = λ over. (let later : most < record_count b = omega (arith, count_rises a b one.first one.added, over) in λ i. one.idle over i ++ two.idle later i);
         }
 
-    stops : most < count_of b → AddsUpTo most a c (xs ++ ys)
+    stops : most < record_count b → AddsUpTo most a c (xs ++ ys)
     stops over =
         let nothing : AddsUnseen b c [] = subst (λ (zs : List Record). AddsUnseen b c zs) (two.idle over) two.added in
         record {
@@ -122,7 +122,7 @@ abbrev pub IsPutIn : List Labels → Labels → List Labels → Type 0
 IsPutIn old host new = (other : Labels) → list_any (names_eq other) new ≡ (names_eq other host || list_any (names_eq other) old)
 
 -- one host more
-known_more : (most : ℕ) (z : Zone) (known more : List Labels) (host : Labels) (a b : Sections) → IsPutIn known host more → (most < count_of b → ⊥) → AddsUpTo most a b (rrset z.records host type_a ++ rrset z.records host type_aaaa) → AreKnown z known a → AreKnown z more b
+known_more : (most : ℕ) (z : Zone) (known more : List Labels) (host : Labels) (a b : Sections) → IsPutIn known host more → (most < record_count b → ⊥) → AddsUpTo most a b (rrset z.records host type_a ++ rrset z.records host type_aaaa) → AreKnown z known a → AreKnown z more b
 known_more most z known more host a b put room h are other e =
     let addresses = rrset z.records host type_a ++ rrset z.records host type_aaaa in
     elim (either_true (names_eq other host) (list_any (names_eq other) known) (sym (put other) ∙ e)) [
@@ -176,7 +176,7 @@ new_owner true k n e = refl
 new_owner false k n e = or_left n k e
 
 -- the hosts with one more, whose addresses were put in
-pub hosts_more : (most : ℕ) (z : Zone) (owners known more : List Labels) (host : Labels) (a b : Sections) → (most < count_of a → ⊥) → IsPutIn known host more → AddsUpTo most a b (rrset z.records host type_a ++ rrset z.records host type_aaaa) → AreHosts most z owners known a → AreHosts most z owners more b
+pub hosts_more : (most : ℕ) (z : Zone) (owners known more : List Labels) (host : Labels) (a b : Sections) → (most < record_count a → ⊥) → IsPutIn known host more → AddsUpTo most a b (rrset z.records host type_a ++ rrset z.records host type_aaaa) → AreHosts most z owners known a → AreHosts most z owners more b
 hosts_more most z owners known more host a b room put h are = record {
   all = λ room-b. known_more most z known more host a b put room-b h (are.all room);
   alone = λ r address e. (
@@ -244,7 +244,7 @@ added_new a b xs i none answer authority additional = record {
   additional = additional ∙ ap (λ (ys : List Record). a.additional.items ++ ys) (sym (all_unseen (stood a) (take i xs) (none_of_first (stood a) xs i none)));
 }
 
-pub up_to_new : (most : ℕ) (a b : Sections) (xs : List Record) (i : ℕ) → none_stands (stood a) xs ≡ true → b.answer.items ≡ a.answer.items → b.authority.items ≡ a.authority.items → b.additional.items ≡ a.additional.items ++ take i xs → (most < count_of a → i ≡ 0) → (length xs ≤ i) ⊎ (most < count_of b) → AddsUpTo most a b xs
+pub up_to_new : (most : ℕ) (a b : Sections) (xs : List Record) (i : ℕ) → none_stands (stood a) xs ≡ true → b.answer.items ≡ a.answer.items → b.authority.items ≡ a.authority.items → b.additional.items ≡ a.additional.items ++ take i xs → (most < record_count a → i ≡ 0) → (length xs ≤ i) ⊎ (most < record_count b) → AddsUpTo most a b xs
 up_to_new most a b xs i none answer authority additional idle stop = record {
   first = take i xs;
   rest = drop i xs;

@@ -15,8 +15,8 @@ pub record AddsUnseen (before after : Sections) (records : List Record) : Type 0
       ++ unseen ((before.answer.items ++ before.authority.items) ++ before.additional.items) records
 
 -- How many records the sections have.
-abbrev pub count_of : Sections → ℕ
-count_of s = length s.answer.items + length s.authority.items + length s.additional.items
+abbrev pub record_count : Sections → ℕ
+record_count s = length s.answer.items + length s.authority.items + length s.additional.items
 
 -- The same of the first of some records: of all of them, unless the sections have more records than so many.
 -- Sections that have more stay.
@@ -25,8 +25,8 @@ pub record AddsUpTo (most : ℕ) (before after : Sections) (records : List Recor
   pub rest : List Record
   pub split : records ≡ first ++ rest
   pub added : AddsUnseen before after first
-  pub stopped : (rest ≡ []) ⊎ (most < count_of after)
-  pub idle : most < count_of before → first ≡ []
+  pub stopped : (rest ≡ []) ⊎ (most < record_count after)
+  pub idle : most < record_count before → first ≡ []
 
 -- The sections are those of the reply to what a question found.
 pub record AreReplySections (t : ℕ) (found : List Found) (s : Sections) : Type 0 where
@@ -44,13 +44,19 @@ reply_count t found =
 pub record AreSectionsUpTo (most t : ℕ) (found : List Found) (s : Sections) : Type 0 where
   pub answer : s.answer.items ≡ records_of (answer_of t found)
   pub authority : s.authority.items ≡ records_of (authority_of found)
-  pub whole : count_of s ≤ most → AreReplySections t found s
-  pub more : most < count_of s → most < reply_count t found
+  pub whole : record_count s ≤ most → AreReplySections t found s
+  pub more : most < record_count s → most < reply_count t found
 
 -- One record is all that the sections of that reply have.
 pub record IsAll (t : ℕ) (found : List Found) (r : Record) : Type 0 where
   pub answer : records_of (answer_of t found) ≡ r ∷ []
   pub authority : records_of (authority_of found) ≡ []
+  pub additional : additional_of (answer_of t found ++ authority_of found) ≡ []
+
+-- One record of the authority section is all that they have.
+pub record IsAllAuthority (t : ℕ) (found : List Found) (r : Record) : Type 0 where
+  pub answer : records_of (answer_of t found) ≡ []
+  pub authority : records_of (authority_of found) ≡ r ∷ []
   pub additional : additional_of (answer_of t found ++ authority_of found) ≡ []
 
 -- The reply is another without its additional section, or without any record.

@@ -6,7 +6,7 @@ use Rattle.dns_records.specs.Types.{type_a, type_aaaa}
 use Rattle.dns_records.specs.Record.{Record}
 use Rattle.dns_zone.specs.Records.{rrset, same}
 use Rattle.dns_zone.specs.Zone.{Zone}
-use Rattle.dns_answer.specs.Added.{count_of}
+use Rattle.dns_answer.specs.Added.{record_count}
 use Rattle.dns_answer.specs.declared.additional.Sections.{Sections}
 
 -- Each of the records is among those.
@@ -53,7 +53,7 @@ AreKnown z known s =
 -- They are, unless the sections have more records than so many, and no address is there but those of the
 -- hosts and of the owners.
 pub record AreHosts (most : ℕ) (z : Zone) (owners known : List Labels) (s : Sections) : Type 0 where
-  pub all : (most < count_of s → ⊥) → AreKnown z known s
+  pub all : (most < record_count s → ⊥) → AreKnown z known s
   pub alone : (r : Record)
       → is_address r ≡ true
       → list_any (same r) (stood s) ≡ true

@@ -7,7 +7,7 @@ ghost use Rattle.dns_zone.specs.Records.{rrset, same};
 ghost use Rattle.dns_answer.specs.Sections.{from_zone, addresses_for};
 ghost use Rattle.dns_answer.specs.Known.{is_address, none_stands, stood, AreAmong, AreHosts, AreOwners};
 ghost use Rattle.dns_answer.specs.Known.{HasNoAddressOf};
-ghost use Rattle.dns_answer.specs.Added.{AddsUnseen, AddsUpTo, count_of};
+ghost use Rattle.dns_answer.specs.Added.{AddsUnseen, AddsUpTo, record_count};
 
 use crate::names::Names;
 use crate::section::Section;
@@ -84,7 +84,7 @@ fn have_host(records: &[Record]) -> bool
 impl<'a> Sections<'a> {
     /// Whether there are more records than so many.
     pub(crate) fn has_more(&self, most: u16) -> bool
-        ensures { IsTrue result ↔ (most < count_of self.now) }
+        ensures { IsTrue result ↔ (most < record_count self.now) }
     {
         let count = self.answer.len().saturating_add(self.authority.len());
         count.saturating_add(self.additional.len()) > most as usize
@@ -230,6 +230,9 @@ impl<'a> Sections<'a> {
     {
         let mut known = Names::new(alloc);
         for stored in records {
+            if self.has_more(most) {
+                return Ok(());
+            }
             self.push_for(zone, stored, owners, &mut known, most)?;
         }
         Ok(())

@@ -4,8 +4,8 @@ ghost use Rattle.dns_zone.specs.Zone.{Zone as Lent};
 ghost use Rattle.dns_lookup.specs.Lookup.{Found as Stated};
 ghost use Rattle.dns_lookup.specs.Represented.{RepresentAll};
 ghost use Rattle.dns_wire.specs.Codes.{number_of_rcode};
+ghost use Rattle.dns_request.specs.Codes.{rcode_nxdomain};
 ghost use Rattle.dns_answer.specs.Sections.{is_name_error, is_authoritative};
-ghost use Rattle.dns_answer.specs.Answer.{rcode_nxdomain};
 
 use dns_lookup::{Found, Kind};
 use dns_wire::Rcode;

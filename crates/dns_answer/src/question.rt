@@ -14,7 +14,7 @@ ghost use Rattle.dns_answer.specs.Echoes.{Echoes};
 use crate::additional::Sections;
 use crate::codes::{is_authoritative, rcode_of};
 use crate::fit::{fit, fit_first_sections, fit_question, most_records};
-use crate::sections::{answer_count, only_record, server_count};
+use crate::sections::{answer_count, only_record, only_soa, server_count};
 use dns_lookup::{Found, resolve};
 use dns_memory::Heap;
 use dns_names::NameRef;
@@ -66,8 +66,7 @@ fn reply_with_question<'s, 'a>(
 
 /// The reply to what a question finds, which has its question already. A section that can't go out is not
 /// built.
-#[inline(never)]
-fn reply_of_sections<'a, I: ZoneIndex>(
+fn reply_of_all_sections<'a, I: ZoneIndex>(
     alloc: Heap,
     zones: &'a [Zone<I>],
     reply: Reply<'_, 'a>,
@@ -109,6 +108,37 @@ fn reply_of_sections<'a, I: ZoneIndex>(
         ..first
     };
     fit(alloc, &mut whole, transport)
+}
+
+/// The reply to what a question finds, which has its question already: one SOA alone, which takes no memory
+/// but for its octets, or all sections.
+#[inline(never)]
+fn reply_of_sections<'a, I: ZoneIndex>(
+    alloc: Heap,
+    zones: &'a [Zone<I>],
+    reply: Reply<'_, 'a>,
+    transport: Transport,
+    found: &[Found<'a>],
+) -> Result<Vec<u8, Heap>, AllocError>
+    requires question { length (question_octets (stated reply)) < 65524 }
+    requires found { (fs : List Stated) × RepresentAll zones.now fs found.now }
+    requires bare { HasNoRecord (stated reply) }
+    ensures { IfOk result
+        (λ octets. (t : ℕ) (fs : List Stated)
+        → RepresentAll zones.now fs found.now
+        → AllLend zones.now t found.now
+        → octets.items ≡ fitted transport (with_sections (stated reply.entry) t fs)) }
+{
+    match &only_soa(zones, found) {
+        Some(one) => {
+            let mut negative = Reply {
+                authority: slice::from_ref(one),
+                ..reply
+            };
+            fit(alloc, &mut negative, transport)
+        }
+        None => reply_of_all_sections(alloc, zones, reply, transport, found),
+    }
 }
 
 /// The reply to what a question finds (RFC 1034 section 4.3.2). Most are one record, and take no memory but

@@ -70,6 +70,16 @@ impl<'a> Section<'a> {
         }
     }
 
+    /// One record.
+    pub(crate) fn of_one(alloc: Heap, one: ReplyRecord<'a>) -> Section<'a>
+        ensures { result.items ≡ one.entry ∷ [] }
+    {
+        Section {
+            alloc,
+            kept: Kept::One(one),
+        }
+    }
+
     /// No record, with room for so many.
     pub(crate) fn with_capacity(alloc: Heap, count: usize) -> Result<Section<'a>, AllocError>
         ensures { IfOk result (λ section. section.items ≡ []) }
@@ -99,8 +109,8 @@ impl<'a> Section<'a> {
         self.as_slice().len()
     }
 
-    /// Appends a record.
-    pub(crate) fn push(&mut self, one: ReplyRecord<'a>) -> Result<(), AllocError>
+    /// Appends a record to none or to one. A list on the heap would be moved.
+    fn push_to_few(&mut self, one: ReplyRecord<'a>) -> Result<(), AllocError>
         ensures { OnOk result (self.new.items ≡ self.old.items ++ one.entry ∷ []) }
     {
         let kept = match mem::replace(&mut self.kept, Kept::Nothing) {
@@ -110,5 +120,16 @@ impl<'a> Section<'a> {
         };
         self.kept = kept;
         Ok(())
+    }
+
+    /// Appends a record. A list on the heap grows where it is.
+    pub(crate) fn push(&mut self, one: ReplyRecord<'a>) -> Result<(), AllocError>
+        ensures { OnOk result (self.new.items ≡ self.old.items ++ one.entry ∷ []) }
+    {
+        if let Kept::Many(many) = &mut self.kept {
+            many.push(one)?;
+            return Ok(());
+        }
+        self.push_to_few(one)
     }
 }

@@ -1,11 +1,12 @@
 //! The answer section and the authority section of a reply.
-ghost use Rattle.std.specs.Prelude.{◌≡◌, ℕ, ◌<◌, ◌≤◌, ◌++◌, List, length, IfOk, IfSome, OnOk};
+ghost use Rattle.std.specs.Prelude.{◌≡◌, ℕ, ◌<◌, ◌≤◌, [], ◌∷◌, ◌++◌, List, length, IfOk, IfSome, OnOk};
 ghost use Rattle.std.specs.List.{flat_map};
-ghost use Rattle.dns_zone.specs.Zone.{Zone as Lent};
+ghost use Rattle.dns_records.specs.Types.{type_soa};
+ghost use Rattle.dns_zone.specs.Zone.{Zone as Lent, soas};
 ghost use Rattle.dns_lookup.specs.Lookup.{Found as Stated};
 ghost use Rattle.dns_lookup.specs.Represented.{Represents, RepresentAll};
 ghost use Rattle.dns_lookup.specs.Lent.{Lends, AllLend};
-ghost use Rattle.dns_answer.specs.Added.{IsAll};
+ghost use Rattle.dns_answer.specs.Added.{IsAll, IsAllAuthority};
 ghost use Rattle.dns_answer.specs.Sections.{from_zone, as_owner, records_of, answers_of, answer_of};
 ghost use Rattle.dns_answer.specs.Sections.{negative_soa, authority_at, authority_of, addresses_for};
 
@@ -150,20 +151,49 @@ fn as_they_are<'a>(alloc: Heap, records: &'a [Record]) -> Result<Section<'a>, Al
     Ok(shown)
 }
 
-/// The SOA of a negative reply, whose TTL is the lesser of its own and MINIMUM (RFC 2308 section 3).
-fn start_of_authority<'a, I: ZoneIndex>(
-    alloc: Heap,
-    zone: &'a Zone<I>,
-) -> Result<Section<'a>, AllocError>
-    ensures { IfOk result (λ shown. shown.items ≡ negative_soa zone.now) }
+/// The SOA of a zone. In the order of records the apex comes first, so that no name is searched where the set
+/// lends the records of the apex in one piece.
+fn soa<'a, I: ZoneIndex>(zone: &'a Zone<I>) -> &'a Record
+    ensures one { soas zone.now.records ≡ result.now ∷ [] }
+    ensures soa { result.now.rtype ≡ type_soa }
 {
-    let mut shown = Section::new(alloc);
-    let owned = zone.index().records_at(&zone.apex().lend());
-    for record in of_type(owned, types::SOA) {
-        let ttl = record.ttl().min(record.minimum());
-        shown.push(ReplyRecord::new(record.owner().lend(), ttl, record))?;
+    let _valid = zone.apex();
+    let first = zone.index().run_from(0);
+    let place = first.partition_point(|r| r.rtype() < types::SOA);
+    match first.get(place) {
+        Some(record) if record.rtype() == types::SOA => record,
+        _ => zone.soa(),
     }
-    Ok(shown)
+}
+
+/// The SOA of a negative reply, whose TTL is the lesser of its own and MINIMUM (RFC 2308 section 3).
+fn start_of_authority<'a, I: ZoneIndex>(zone: &'a Zone<I>) -> ReplyRecord<'a>
+    ensures { negative_soa zone.now ≡ result ∷ [] }
+{
+    let record = soa(zone);
+    let ttl = record.ttl().min(record.minimum());
+    ReplyRecord::new(record.owner().lend(), ttl, record)
+}
+
+/// The SOA that is all that goes out for what was found: one name, which has no data or does not exist (RFC
+/// 2308 section 2).
+pub(crate) fn only_soa<'a, I: ZoneIndex>(
+    zones: &'a [Zone<I>],
+    found: &[Found<'a>],
+) -> Option<ReplyRecord<'a>>
+    requires { (fs : List Stated) × RepresentAll zones.now fs found.now }
+    ensures { IfSome result
+        (λ r. (t : ℕ) (fs : List Stated)
+        → RepresentAll zones.now fs found.now
+        → IsAllAuthority t fs r) }
+{
+    let [one] = found else {
+        return None;
+    };
+    match one.kind {
+        Kind::Referral | Kind::Alias | Kind::Answers => None,
+        _ => Some(start_of_authority(searched(zones, one))),
+    }
 }
 
 /// The authority section, which goes by the last name: the NS of a cut, or the SOA of a negative reply
@@ -184,6 +214,6 @@ pub(crate) fn authority_section<'a, I: ZoneIndex>(
     match last.kind {
         Kind::Referral => as_they_are(alloc, last.records),
         Kind::Alias | Kind::Answers => Ok(Section::new(alloc)),
-        _ => start_of_authority(alloc, zone),
+        _ => Ok(Section::of_one(alloc, start_of_authority(zone))),
     }
 }

@@ -15,6 +15,8 @@ pub enum Task<'a> {
     Init(&'a str),
     /// `dump CONFIG ORIGIN`
     Dump(&'a str, &'a str),
+    /// `load CONFIG ORIGIN`
+    Load(&'a str, &'a str),
     /// `migrate CONFIG`
     Migrate(&'a str),
     /// `serve CONFIG --turns N`
@@ -32,6 +34,10 @@ pub struct Asked<'a> {
 const ABOUT: &str =
     "An authoritative DNS primary. A first zone: write zone.db and dnsprim.toml, then `dnsprim check zone.db \
 ORIGIN`, `dnsprim init dnsprim.toml`, and `dnsprim serve dnsprim.toml --turns 4294967295`";
+
+/// What `--version` prints after the program's name: the version of CHANGELOG.md, and the sector formats of
+/// docs/FORMAT.md. One of format 1 is read by `migrate` alone.
+const VERSION: &str = "1.0.0, sector formats: reads 1 and 2, writes 2";
 
 /// A word that a subcommand needs.
 fn word<'a>(alloc: Global, name: &'static str, help: &'static str) -> Arg<'a> {
@@ -100,6 +106,13 @@ fn dump_command<'a>(alloc: Global) -> Result<Command<'a>, Error> {
     Ok(command.arg(origin(alloc))?)
 }
 
+fn load_command<'a>(alloc: Global) -> Result<Command<'a>, Error> {
+    let about =
+        "Makes a zone's master file the next version of what its device keeps; not while it is served";
+    let command = of_one_word(alloc, "load", about, config(alloc))?;
+    Ok(command.arg(origin(alloc))?)
+}
+
 fn migrate_command<'a>(alloc: Global) -> Result<Command<'a>, Error> {
     let about = "Makes each device of sector format 1 new, in format 2; not while it is served";
     of_one_word(alloc, "migrate", about, config(alloc))
@@ -135,11 +148,12 @@ fn with<'a>(
 
 /// The command with all its subcommands.
 fn whole_command<'a>(alloc: Global) -> Result<Command<'a>, Error> {
-    let command = Command::new(alloc, "dnsprim").about(ABOUT);
+    let command = Command::new(alloc, "dnsprim").about(ABOUT).version(VERSION);
     let command = with(command, check_command(alloc))?;
     let command = with(command, replay_command(alloc))?;
     let command = with(command, init_command(alloc))?;
     let command = with(command, dump_command(alloc))?;
+    let command = with(command, load_command(alloc))?;
     let command = with(command, migrate_command(alloc))?;
     with(command, serve_command(alloc))
 }
@@ -151,6 +165,7 @@ fn task_of<'a>(name: &str, inner: &ArgMatches<'a>) -> Option<Task<'a>> {
         "replay" => Some(Task::Replay(inner.get_str("CONFIG")?, inner.get_str("SCRIPT")?)),
         "init" => Some(Task::Init(inner.get_str("CONFIG")?)),
         "dump" => Some(Task::Dump(inner.get_str("CONFIG")?, inner.get_str("ORIGIN")?)),
+        "load" => Some(Task::Load(inner.get_str("CONFIG")?, inner.get_str("ORIGIN")?)),
         "migrate" => Some(Task::Migrate(inner.get_str("CONFIG")?)),
         "serve" => {
             let turns = inner.get_str("turns")?.parse().ok()?;

@@ -1,7 +1,7 @@
 -- What a primary is to know of the zones of a configuration.
 use Rattle.std.specs.Prelude.{◌≡◌, List, map}
 use Rattle.dns_names.specs.Name.{Labels}
-use Rattle.dns_primary.specs.declared.primary.ZoneSettings as primary
+use Rattle.dns_primary.specs.declared.primary.ZoneSpec as primary
 use Rattle.dns_configuration.specs.declared.configuration.ZoneSettings.{ZoneSettings}
 
 -- The names of the zones, in their order.
@@ -9,7 +9,7 @@ abbrev pub origins_of : List ZoneSettings → List Labels
 origins_of zones = map (λ (z : ZoneSettings). z.origin) zones
 
 -- What a primary is to know of a zone.
-pub record IsSettingOf (settings : ZoneSettings) (known : primary.ZoneSettings) : Type 0 where
+pub record IsSettingOf (settings : ZoneSettings) (known : primary.ZoneSpec) : Type 0 where
   pub snapshot : known.snapshot ≡ settings.snapshot_sectors
   pub journal : known.journal ≡ settings.journal_sectors
   pub keep : known.keep ≡ settings.keep

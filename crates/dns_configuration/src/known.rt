@@ -20,10 +20,10 @@ pub fn origins_of(heap: Heap, zones: &[ZoneSettings]) -> Result<Vec<Name, Heap>,
 }
 
 /// What a primary is to know of a zone.
-fn setting_of(heap: Heap, own: &ZoneSettings) -> Result<dns_primary::ZoneSettings, AllocError>
+fn setting_of(heap: Heap, own: &ZoneSettings) -> Result<dns_primary::ZoneSpec, AllocError>
     ensures { IfOk result (IsSettingOf own.now) }
 {
-    Ok(dns_primary::ZoneSettings {
+    Ok(dns_primary::ZoneSpec {
         snapshot: own.snapshot_sectors,
         journal: own.journal_sectors,
         keep: own.keep,
@@ -36,7 +36,7 @@ fn setting_of(heap: Heap, own: &ZoneSettings) -> Result<dns_primary::ZoneSetting
 pub fn settings_of(
     heap: Heap,
     zones: &[ZoneSettings],
-) -> Result<Vec<dns_primary::ZoneSettings, Heap>, AllocError>
+) -> Result<Vec<dns_primary::ZoneSpec, Heap>, AllocError>
     ensures { IfOk result (λ known. AllZip IsSettingOf zones.now known.items) }
 {
     let mut known = Vec::new(heap);

@@ -14,4 +14,4 @@ pub use files::{
     DONE, FAILED, Fault, File, PrintedWord, REFUSED, USAGE, apex, read_configuration, tell,
 };
 pub use known::{origins_of, settings_of};
-pub use loading::{load, load_all};
+pub use loading::{load, load_all, load_one};

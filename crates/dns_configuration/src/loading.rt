@@ -56,7 +56,7 @@ fn octets_at<'a>(files: &[File<'a>], path: &str) -> Option<&'a [u8]>
 }
 
 /// The zone that the master file of a configured one holds.
-fn load_one<I: ZoneIndex>(
+pub fn load_one<I: ZoneIndex>(
     heap: Heap,
     files: &[File<'_>],
     own: &ZoneSettings,

@@ -5,7 +5,7 @@ use dns_masterfile::read_zone;
 use dns_memory::Heap;
 use dns_names::Name;
 use dns_policy::Prefix;
-use dns_primary::{Primary, ZoneSettings};
+use dns_primary::{Primary, ZoneSpec};
 use dns_sectors::{MemorySectors, Plan};
 use dns_server::Index;
 use dns_store::{KeptStore, format};
@@ -63,11 +63,11 @@ fn list_of<T: Drop>(heap: Heap, one: T) -> Option<Vec<T, Heap>>
 }
 
 /// The settings of one zone that may be updated and transferred from each IPv4 address.
-fn settings(heap: Heap, snapshot: u32) -> Option<Vec<ZoneSettings, Heap>>
+fn settings(heap: Heap, snapshot: u32) -> Option<Vec<ZoneSpec, Heap>>
     ensures { IfSome result (λ list. length list.items ≡ 1) }
 {
     let anywhere = Prefix::parse(b"0.0.0.0/0").ok()?;
-    let settings = ZoneSettings {
+    let settings = ZoneSpec {
         snapshot,
         journal: JOURNAL,
         keep: 4,
@@ -84,7 +84,7 @@ pub(crate) type Served = Primary<Index, KeptStore<MemorySectors, Index>>;
 fn open(
     heap: Heap,
     devices: Vec<MemorySectors, Heap>,
-    settings: Vec<ZoneSettings, Heap>,
+    settings: Vec<ZoneSpec, Heap>,
 ) -> Option<Served>
     requires device { length devices.items ≡ 1 }
     requires zone { length settings.items ≡ 1 }

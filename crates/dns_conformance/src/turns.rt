@@ -33,12 +33,11 @@
 use crate::served::{Served, served};
 use crate::{Ended, started};
 use dns_configuration::{DONE, Fault, REFUSED, tell};
-use dns_edge::MemoryStream;
 use dns_memory::{Heap, heap};
+use dns_network::{Edge, MemoryNetwork, MemoryNotes, MemoryStream, Note};
 use dns_primary::{Peer, Primary};
 use dns_server::octets;
 use dns_store::ZoneStore;
-use dns_turns::{Edge, MemoryNetwork, MemoryNotes, Note};
 use dns_zone::ZoneIndex;
 use std::io::{self, Write};
 use std::net::{IpAddr, Ipv4Addr};

@@ -1,8 +1,7 @@
 //! Devices in memory, in files in memory, and in files of the system. That a call succeeds no contract says,
 //! and neither which one fails.
-use dns_files::{FileSectors, MemoryFile, OpenDeviceError};
 use dns_memory::{Heap, heap};
-use dns_sectors::{MemorySectors, Plan, Sectors};
+use dns_sectors::{FileSectors, MemoryFile, MemorySectors, OpenDeviceError, Plan, Sectors};
 use std::alloc::AllocError;
 use std::fs::{self, Files};
 use std::rc::Rc;

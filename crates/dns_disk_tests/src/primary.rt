@@ -1,11 +1,10 @@
 //! A primary of one zone over a device in a file in memory.
 use crate::stores::{Shape, read};
-use dns_files::{FileSectors, MemoryFile};
 use dns_givens::{name, octets};
 use dns_memory::Heap;
 use dns_policy::Prefix;
-use dns_primary::{Effects, Event, NotOpened, Peer, Primary, ZoneSettings};
-use dns_sectors::{MemorySectors, Sectors};
+use dns_primary::{Effects, Event, NotOpened, Peer, Primary, ZoneSpec};
+use dns_sectors::{FileSectors, MemoryFile, MemorySectors, Sectors};
 use dns_store::{KeptStore, ZoneStore};
 use dns_zone::{RecordList, ZoneIndex};
 use std::net::{IpAddr, Ipv4Addr};
@@ -32,9 +31,9 @@ fn listed<T: Drop>(heap: Heap, one: Option<T>) -> Option<Vec<T, Heap>> {
 
 /// The settings of a zone of this shape, which may be updated and transferred from anywhere. A checkpoint
 /// keeps one change.
-fn settings(heap: Heap, shape: &Shape) -> Option<ZoneSettings> {
+fn settings(heap: Heap, shape: &Shape) -> Option<ZoneSpec> {
     let anywhere = Prefix::parse(b"0.0.0.0/0").ok()?;
-    Some(ZoneSettings {
+    Some(ZoneSpec {
         snapshot: shape.snapshot,
         journal: shape.journal,
         keep: 1,
@@ -110,7 +109,7 @@ pub(crate) fn replies(
         return false;
     };
     let effects = happen(server, heap, Event::Datagram(peer(), request));
-    match &effects.reply {
+    match &effects.message {
         Some(reply) => reply.octets.as_slice() == octets.as_slice(),
         None => false,
     }

@@ -14,11 +14,11 @@ use Rattle.dns_changes.specs.Version.{serial_in}
 use Rattle.dns_serial.specs.Serial.{greater}
 use Rattle.dns_wire.specs.Message.{ResourceRecord}
 use Rattle.dns_transfer.specs.Form.{Form, Current, Incremental, Full, advances, is_journalled, since, form_since, form_of}
-use Rattle.dns_transfer.specs.Records.{sequence, sequences, others, transfer_answer, transfer_from, transfer_of}
+use Rattle.dns_transfer.specs.Records.{sequence, sequences, all_but_soa, transfer_answer, transfer_from, transfer_of}
 use Rattle.dns_update.proofs.Accepted.{IsSent, IsLeft, accepted}
 use Rattle.dns_headline.specs.Versions.{IsStep, LeadTo, EndAlike}
-use Rattle.dns_store.specs.Versions.{Versions, newest_after}
-use Rattle.dns_primary.specs.Machine.{Setting, Made, versions_of}
+use Rattle.dns_store.specs.Versions.{Shape, Versions, newest_after}
+use Rattle.dns_primary.specs.Machine.{Made, versions_of}
 use Rattle.dns_primary.specs.Transfer.{change_by, changes_along}
 use Rattle.dns_primary.specs.Runs.{IsAccepted, IsHistory}
 
@@ -76,7 +76,7 @@ form_valid current cs (Some serial) h =
 answer_valid : (soa : Record) (records : List Record) (form : Form) → IsRecord soa → AllByRecursion IsRecord records → HasValid form → AllByRecursion IsRecord (transfer_answer soa records form)
 answer_valid soa records Current s h f = (s, tt)
 answer_valid soa records (Incremental cs) s h f = (s, valid_joined (sequences cs) (soa ∷ []) (sequences_valid cs f) (s, tt))
-answer_valid soa records Full s h f = (s, valid_joined (others records) (soa ∷ []) (valid_filter (λ r. not (is_soa r)) records h) (s, tt))
+answer_valid soa records Full s h f = (s, valid_joined (all_but_soa records) (soa ∷ []) (valid_filter (λ r. not (is_soa r)) records h) (s, tt))
 
 from_valid : (soas : List Record) (records : List Record) (cs : List Change) (client : Option ℕ) → AllByRecursion IsRecord soas → AllByRecursion IsRecord records → AllByRecursion IsValidChange cs
     → AllByRecursion IsRecord (transfer_from soas records cs client)
@@ -143,11 +143,11 @@ module _ (apex : Labels) (before after : List Record) (valid : IsZone (record { 
     added = valid_filter (is_lone before) after left.each;
   }
 
-pub leads_on : (s : Setting) (n : ℕ) (before : List Record) (made : List Made) → IsZone (record { apex = s.shape.apex; records = before }) → AllByRecursion IsRecord before
-    → IsHistory s n before made → AreSent made → Leads s.shape.apex before (versions_of made)
+pub leads_on : (s : Shape) (n : ℕ) (before : List Record) (made : List Made) → IsZone (record { apex = s.apex; records = before }) → AllByRecursion IsRecord before
+    → IsHistory s n before made → AreSent made → Leads s.apex before (versions_of made)
 leads_on s n before [] valid each h sent = record { leads = (valid, refl); changes = tt; each = each }
 leads_on s n before (m ∷ later) valid each h sent =
-    let apex = s.shape.apex in
+    let apex = s.apex in
     let left = accepted (record { apex = apex; records = before }) valid each (m.update).answers (m.update).authorities sent.0 m.records (h.0).judged in
     let few = (h.0).few in
     let rest = leads_on s (suc n) m.records later (zone_after apex before m.records valid each left few) left.each h.1 sent.1 in
@@ -165,9 +165,9 @@ pub newest_joined : (from : List Record) (xs ys : Versions) → newest_after fro
 newest_joined from [] ys = refl
 newest_joined from (x ∷ xs) ys = newest_joined x xs ys
 
-pub history_behind : (s : Setting) (n : ℕ) (before : List Record) (xs ys : List Made) → IsHistory s n before (xs ++ ys) → IsHistory s (n + length xs) (newest_after before (versions_of xs)) ys
-history_behind s n before [] ys h = subst (λ (k : ℕ). IsHistory s k before ys) (omega arith) h
-history_behind s n before (x ∷ xs) ys h = subst (λ (k : ℕ). IsHistory s k (newest_after x.records (versions_of xs)) ys) (omega arith) (history_behind s (suc n) x.records xs ys h.1)
+pub history_pending : (s : Shape) (n : ℕ) (before : List Record) (xs ys : List Made) → IsHistory s n before (xs ++ ys) → IsHistory s (n + length xs) (newest_after before (versions_of xs)) ys
+history_pending s n before [] ys h = subst (λ (k : ℕ). IsHistory s k before ys) (omega arith) h
+history_pending s n before (x ∷ xs) ys h = subst (λ (k : ℕ). IsHistory s k (newest_after x.records (versions_of xs)) ys) (omega arith) (history_pending s (suc n) x.records xs ys h.1)
 
 -- the changes from a number on are the last of all
 pub record Front (from : List Record) (vs : Versions) (k : ℕ) : Type 0 where
@@ -191,6 +191,6 @@ ends_alike (x ∷ xs) (y ∷ ys) us vs e = ends_alike xs ys us vs (tails x y (xs
     tails : (x y : Change) (as' bs : List Change) → x ∷ as' ≡ y ∷ bs → as' ≡ bs
     tails x y as' bs e = cc
 
-pub valid_behind : (front cs : List Change) → AllByRecursion IsValidChange (front ++ cs) → AllByRecursion IsValidChange cs
-valid_behind [] cs h = h
-valid_behind (f ∷ front) cs h = valid_behind front cs h.1
+pub valid_pending : (front cs : List Change) → AllByRecursion IsValidChange (front ++ cs) → AllByRecursion IsValidChange cs
+valid_pending [] cs h = h
+valid_pending (f ∷ front) cs h = valid_pending front cs h.1

@@ -62,9 +62,9 @@ pub record Part (apex : Labels) (cs : List Change) (to : List Record) : Type 0 w
   pub from : List Record
   pub leads : LeadTo apex from cs to
 
-pub behind : (apex : Labels) (from : List Record) (front cs : List Change) (to : List Record) → LeadTo apex from (front ++ cs) to → Part apex cs to
-behind apex from [] cs to h = record { from = from; leads = h }
-behind apex from (f ∷ front) cs to h = behind apex h.1 front cs to h.3
+pub pending : (apex : Labels) (from : List Record) (front cs : List Change) (to : List Record) → LeadTo apex from (front ++ cs) to → Part apex cs to
+pending apex from [] cs to h = record { from = from; leads = h }
+pending apex from (f ∷ front) cs to h = pending apex h.1 front cs to h.3
 
 pub fewer : (apex : Labels) (from : List Record) (f : Change) (front cs : List Change) (to : List Record) → LeadTo apex from (f ∷ (front ++ cs)) to
     → advances cs < advances (f ∷ (front ++ cs))
@@ -79,7 +79,7 @@ pub never_twice : (apex : Labels) (from : List Record) (f : Change) (front : Lis
     → LeadTo apex from (f ∷ (front ++ c ∷ rest)) to → advances (f ∷ (front ++ c ∷ rest)) < 2 ^ 31 → soas to ≡ b ∷ []
     → serial_of f.old_soa ≡ serial_of c.old_soa → ⊥
 never_twice apex from f front c rest to b h less last e =
-    let part = behind apex from (f ∷ front) (c ∷ rest) to h in
+    let part = pending apex from (f ∷ front) (c ∷ rest) to h in
     let up = fewer apex from f front (c ∷ rest) to h in
     let shorter : advances (c ∷ rest) < 2 ^ 31 = omega (arith, up, less) in
     let one = went apex from (f ∷ (front ++ c ∷ rest)) to f.old_soa b h less (first_soa apex from f (front ++ c ∷ rest) to h) last in
@@ -91,14 +91,14 @@ number_is : (a b : ℕ) → (a == b) ≡ true → a ≡ b
 number_is a b e = grind (arith, nat_tests)
 
 -- kept from before, the changes of a serial are found
-pub found_behind : (apex : Labels) (base : List Record) (front : List Change) (c : Change) (rest : List Change) (to : List Record) (b : Record)
+pub found_pending : (apex : Labels) (base : List Record) (front : List Change) (c : Change) (rest : List Change) (to : List Record) (b : Record)
     → LeadTo apex base (front ++ c ∷ rest) to → advances (c ∷ rest) < 2 ^ 31 → soas to ≡ b ∷ []
     → since (serial_of c.old_soa) (front ++ c ∷ rest) ≡ Some (c ∷ rest)
-found_behind apex base [] c rest to b h less last =
+found_pending apex base [] c rest to b h less last =
     found_here (serial_of c.old_soa) c rest (journalled (c ∷ rest) less) (same_number (serial_of c.old_soa) (serial_of c.old_soa) refl)
-found_behind apex base (f ∷ front) c rest to b h less last =
+found_pending apex base (f ∷ front) c rest to b h less last =
     let serial = serial_of c.old_soa in
-    let on = found_behind apex h.1 front c rest to b h.3 less last in
+    let on = found_pending apex h.1 front c rest to b h.3 less last in
     elim (true_or_false (is_journalled (f ∷ (front ++ c ∷ rest)) && (serial_of f.old_soa == serial))) [
       | inl t ↦
           (let both = both_true (is_journalled (f ∷ (front ++ c ∷ rest))) (serial_of f.old_soa == serial) t in
@@ -129,11 +129,11 @@ pub since_is : (apex : Labels) (base from : List Record) (kept : List Change) (c
     → (since (serial_of c.old_soa) kept ≡ Some (c ∷ rest)) ⊎ (since (serial_of c.old_soa) kept ≡ None)
 since_is apex base from kept c rest to b hk hc less last (inr ends) =
     inl (subst (λ (xs : List Change). since (serial_of c.old_soa) xs ≡ Some (c ∷ rest)) (sym ends.1)
-    (found_behind apex base ends.0 c rest to b (subst (λ (xs : List Change). LeadTo apex base xs to) ends.1 hk) less last))
+    (found_pending apex base ends.0 c rest to b (subst (λ (xs : List Change). LeadTo apex base xs to) ends.1 hk) less last))
 since_is apex base from kept c rest to b hk hc less last (inl ends) = at ends.0 ends.1
   where
     at : (front : List Change) → c ∷ rest ≡ front ++ kept → (since (serial_of c.old_soa) kept ≡ Some (c ∷ rest)) ⊎ (since (serial_of c.old_soa) kept ≡ None)
-    at [] e = inl (subst (λ (xs : List Change). since (serial_of c.old_soa) xs ≡ Some (c ∷ rest)) e (found_behind apex from [] c rest to b hc less last))
+    at [] e = inl (subst (λ (xs : List Change). since (serial_of c.old_soa) xs ≡ Some (c ∷ rest)) e (found_pending apex from [] c rest to b hc less last))
     at (f ∷ front) e =
         let first : c ≡ f = cc in
         inr (subst (λ (d : Change). since (serial_of d.old_soa) kept ≡ None) (sym first)

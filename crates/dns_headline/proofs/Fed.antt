@@ -18,7 +18,7 @@ use Rattle.dns_request.specs.declared.request.Transport.{Transport}
 use Rattle.dns_request.specs.declared.request.Transport.TheVariants.{Udp, Tcp}
 use Rattle.dns_transfer.specs.Form.{Form, Current, Incremental, Full, form_of}
 use Rattle.dns_transfer.specs.Messages.{Heading, IsNextMessage, AreMessages, message_with, octets_with, datagram_of}
-use Rattle.dns_transfer.specs.Records.{transfer_answer, transfer_from, transfer_of, others, sequences}
+use Rattle.dns_transfer.specs.Records.{transfer_answer, transfer_from, transfer_of, all_but_soa, sequences}
 use Rattle.dns_transfer.specs.Session.{Sending}
 use Rattle.dns_secondary.specs.Receiving.{Receiving, header_fault, is_answer, repeats_question, type_asked}
 use Rattle.dns_secondary.specs.Request.{question_asked}
@@ -167,7 +167,7 @@ module _ (s : Receiving) (transport : Transport) (h : Heading) (question : Optio
   rest_here = (f.reads (map item_of left) shown).0
       (subst (λ (xs : List ResourceRecord). Rest s.apex s.held Begun xs shown) (ap (map item_of) f.parts ∙ items_joined f.done left) meaning)
 
-  module _ (message : List ℕ) (behind : List (List ℕ)) (sent rest : List Record) (in_order : left ≡ sent ++ rest) (n : IsSent h question message sent) where
+  module _ (message : List ℕ) (pending : List (List ℕ)) (sent rest : List Record) (in_order : left ≡ sent ++ rest) (n : IsSent h question message sent) where
     fed : Fed s message f.at sent
     fed = message_fed s h question message f.at sent f.is f.number f.small f.echoed f.asks
         (all_front sent rest (subst (AllByRecursion IsRecord) in_order (all_front f.done left (subst (AllByRecursion IsRecord) f.parts f.each)).1)).0 n
@@ -210,8 +210,8 @@ module _ (s : Receiving) (transport : Transport) (h : Heading) (question : Optio
     pub never_more : rest ≡ [] → (next : Receiving) → Feeds s message More next → ⊥
     never_more ends next feeds = (let told = fed.tells More next feeds in told.5 shown (all_sent ends))
 
-    pub follows : (rest ≡ [] → behind ≡ []) → ((next : Receiving) → Feeds s message More next → behind ≡ [] → ⊥) → (s.transport ≡ Udp → behind ≡ [])
-        → FollowsInOrder s message behind shown
+    pub follows : (rest ≡ [] → pending ≡ []) → ((next : Receiving) → Feeds s message More next → pending ≡ [] → ⊥) → (s.transport ≡ Udp → pending ≡ [])
+        → FollowsInOrder s message pending shown
     follows last more alone = record {
       refused = λ fault refused. (fed.refuses fault refused).lost (map item_of rest) shown rest_split;
       more = more;
@@ -261,14 +261,14 @@ sent_of : (h : Heading) (question : Option EchoedQuestion) (left : List Record) 
     → (n : IsNextMessage h question left message rest) → IsSent h question message n.sent
 sent_of h question left message rest n = record { packed = n.packed; fits = n.fits }
 
-not_udp : (s : Receiving) (behind : List (List ℕ)) → s.transport ≡ Tcp → s.transport ≡ Udp → behind ≡ []
-not_udp s behind tcp udp = absurd cc
+not_udp : (s : Receiving) (pending : List (List ℕ)) → s.transport ≡ Tcp → s.transport ≡ Udp → pending ≡ []
+not_udp s pending tcp udp = absurd cc
 
 -- by UDP: the whole answer, or its SOA alone
 leads_with : (soa : Record) (records : List Record) (form : Form) → (more : List Record) × (transfer_answer soa records form ≡ soa ∷ more)
 leads_with soa records Current = ([], refl)
 leads_with soa records (Incremental changes) = (sequences changes ++ soa ∷ [], refl)
-leads_with soa records Full = (others records ++ soa ∷ [], refl)
+leads_with soa records Full = (all_but_soa records ++ soa ∷ [], refl)
 
 led_by : (shown : List Record) (kept : List Change) (client : Option ℕ) (soa : Record) → soas shown ≡ soa ∷ []
     → (more : List Record) × (transfer_of shown kept client ≡ soa ∷ more)
@@ -323,18 +323,18 @@ which h question whole soa message small echoed is tc =
         absurd cc
 
 module _ (s : Receiving) (h : Heading) (question : Option EchoedQuestion) (whole shown : List Record) (soa : Record) (message : List ℕ)
-    (behind : List (List ℕ)) (f : Feeding s Udp h question whole whole shown) (last : behind ≡ []) where
-  whole_followed : IsSent h question message whole → FollowsInOrder s message behind shown
+    (pending : List (List ℕ)) (f : Feeding s Udp h question whole whole shown) (last : pending ≡ []) where
+  whole_followed : IsSent h question message whole → FollowsInOrder s message pending shown
   whole_followed n =
-      follows s Udp h question whole whole shown f message behind whole [] (sym (append-nil whole)) n (λ e. last)
-      (λ next feeds ends. never_more s Udp h question whole whole shown f message behind whole [] (sym (append-nil whole)) n refl next feeds) (λ udp. last)
+      follows s Udp h question whole whole shown f message pending whole [] (sym (append-nil whole)) n (λ e. last)
+      (λ next feeds ends. never_more s Udp h question whole whole shown f message pending whole [] (sym (append-nil whole)) n refl next feeds) (λ udp. last)
 
   -- by UDP a SOA alone is not the beginning of more
-  lone_followed : (more : List Record) → f.at ≡ Begun → whole ≡ soa ∷ more → IsSent h question message (soa ∷ []) → FollowsInOrder s message behind shown
+  lone_followed : (more : List Record) → f.at ≡ Begun → whole ≡ soa ∷ more → IsSent h question message (soa ∷ []) → FollowsInOrder s message pending shown
   lone_followed more begun starts n =
-      follows s Udp h question whole whole shown f message behind (soa ∷ []) more starts n (λ e. last)
+      follows s Udp h question whole whole shown f message pending (soa ∷ []) more starts n (λ e. last)
       (λ next feeds ends.
-      (let told = (fed s Udp h question whole whole shown f message behind (soa ∷ []) more starts n).tells More next feeds in
+      (let told = (fed s Udp h question whole whole shown f message pending (soa ∷ []) more starts n).tells More next feeds in
       let reaches : Reaches s.apex s.held Begun (item_of soa ∷ []) told.0 = subst (λ a. Reaches s.apex s.held a (item_of soa ∷ []) told.0) begun told.1 in
       let led : told.0 ≡ Led soa = led_at s.apex s.held soa told.0 (goes_of s.apex s.held Begun (item_of soa ∷ []) told.0 reaches).1 in
       let tcp = told.6 soa (subst (λ a. Reaches s.apex s.held f.at (item_of soa ∷ []) a) led told.1) in
@@ -342,32 +342,32 @@ module _ (s : Receiving) (h : Heading) (question : Option EchoedQuestion) (whole
       absurd cc))
       (λ udp. last)
 
-datagram_followed : (s : Receiving) (h : Heading) (question : Option EchoedQuestion) (whole shown : List Record) (soa : Record) (message : List ℕ) (behind : List (List ℕ))
-    → (f : Feeding s Udp h question whole whole shown) → f.at ≡ Begun → behind ≡ [] → (more : List Record) × (whole ≡ soa ∷ more)
-    → message ≡ datagram_of h question whole soa → (header_of message).tc ≡ false → FollowsInOrder s message behind shown
-datagram_followed s h question whole shown soa message behind f begun last starts is tc = elim (which h question whole soa message f.small f.echoed is tc) [
-  | inl n ↦ whole_followed s h question whole shown soa message behind f last n
-  | inr n ↦ lone_followed s h question whole shown soa message behind f last starts.0 begun starts.1 n
+datagram_followed : (s : Receiving) (h : Heading) (question : Option EchoedQuestion) (whole shown : List Record) (soa : Record) (message : List ℕ) (pending : List (List ℕ))
+    → (f : Feeding s Udp h question whole whole shown) → f.at ≡ Begun → pending ≡ [] → (more : List Record) × (whole ≡ soa ∷ more)
+    → message ≡ datagram_of h question whole soa → (header_of message).tc ≡ false → FollowsInOrder s message pending shown
+datagram_followed s h question whole shown soa message pending f begun last starts is tc = elim (which h question whole soa message f.small f.echoed is tc) [
+  | inl n ↦ whole_followed s h question whole shown soa message pending f last n
+  | inr n ↦ lone_followed s h question whole shown soa message pending f last starts.0 begun starts.1 n
 ]
 
 -- by TCP
-go_on : (h : Heading) (whole shown : List Record) (before : List (List ℕ)) (message : List ℕ) (behind : List (List ℕ)) (s now : Receiving) (question : Option EchoedQuestion) (left : List Record)
-    → Feeding s Tcp h question whole left shown → AreMessages h question left (before ++ message ∷ behind) → AllTellMore s before now → FollowsInOrder now message behind shown
-go_on h whole shown [] message behind s now question left f m on =
+go_on : (h : Heading) (whole shown : List Record) (before : List (List ℕ)) (message : List ℕ) (pending : List (List ℕ)) (s now : Receiving) (question : Option EchoedQuestion) (left : List Record)
+    → Feeding s Tcp h question whole left shown → AreMessages h question left (before ++ message ∷ pending) → AllTellMore s before now → FollowsInOrder now message pending shown
+go_on h whole shown [] message pending s now question left f m on =
     let n = m.2 in
     let sent = sent_of h question left message m.1 n in
-    subst (λ (r : Receiving). FollowsInOrder r message behind shown) (sym on)
-    (follows s Tcp h question whole left shown f message behind n.sent m.1 n.in_order sent
-    (λ e. no_message h behind (subst (λ (xs : List Record). AreMessages h None xs behind) e m.3))
-    (λ next feeds ends. never_more s Tcp h question whole left shown f message behind n.sent m.1 n.in_order sent (some_left h m.1 behind ends m.3) next feeds)
-    (not_udp s behind f.by))
-go_on h whole shown (first ∷ before) message behind s now question left f m on =
+    subst (λ (r : Receiving). FollowsInOrder r message pending shown) (sym on)
+    (follows s Tcp h question whole left shown f message pending n.sent m.1 n.in_order sent
+    (λ e. no_message h pending (subst (λ (xs : List Record). AreMessages h None xs pending) e m.3))
+    (λ next feeds ends. never_more s Tcp h question whole left shown f message pending n.sent m.1 n.in_order sent (some_left h m.1 pending ends m.3) next feeds)
+    (not_udp s pending f.by))
+go_on h whole shown (first ∷ before) message pending s now question left f m on =
     let n = m.2 in
-    go_on h whole shown before message behind on.0 now None m.1
-    (next_feeding s Tcp h question whole left shown f first (before ++ message ∷ behind) n.sent m.1 n.in_order (sent_of h question left first m.1 n) on.0 on.1) m.3 on.2
+    go_on h whole shown before message pending on.0 now None m.1
+    (next_feeding s Tcp h question whole left shown f first (before ++ message ∷ pending) n.sent m.1 n.in_order (sent_of h question left first m.1 n) on.0 on.1) m.3 on.2
 
 pub transfer_is_followed : TransferIsFollowed
-transfer_is_followed s base kept shown before message behind now begun leads followed answers on = by s.transport refl
+transfer_is_followed s base kept shown before message pending now begun leads followed answers on = by s.transport refl
   where
     sending : Sending
     sending = answers.sending
@@ -403,25 +403,25 @@ transfer_is_followed s base kept shown before message behind now begun leads fol
           reads = λ more set. (λ r. r, λ r. r);
         }
 
-    by_tcp : s.transport ≡ Tcp → FollowsInOrder now message behind shown
+    by_tcp : s.transport ≡ Tcp → FollowsInOrder now message pending shown
     by_tcp tcp =
-        go_on h whole shown before message behind s now question whole (feeding Tcp tcp)
+        go_on h whole shown before message pending s now question whole (feeding Tcp tcp)
         (as_messages s.apex s.held s.id kept shown sending (subst (λ t. IsOpenedFor t s.apex s.held s.id kept shown sending) tcp opened)
-        (before ++ message ∷ behind) answers.all) on
+        (before ++ message ∷ pending) answers.all) on
 
-    by_udp : s.transport ≡ Udp → FollowsInOrder now message behind shown
+    by_udp : s.transport ≡ Udp → FollowsInOrder now message pending shown
     by_udp udp =
-        let one = only_sent sending before message behind (opened.by ∙ udp) answers.all in
+        let one = only_sent sending before message pending (opened.by ∙ udp) answers.all in
         let is : now ≡ s = subst (λ (ms : List (List ℕ)). AllTellMore s ms now) one.first on in
         let uncut = answers.not_cut udp in
         let tc : (header_of message).tc ≡ false =
-        (subst (λ (ms : List (List ℕ)). AllByRecursion (λ m. (header_of m).tc ≡ false) (ms ++ message ∷ behind)) one.first uncut).0 in
+        (subst (λ (ms : List (List ℕ)). AllByRecursion (λ m. (header_of m).tc ≡ false) (ms ++ message ∷ pending)) one.first uncut).0 in
         let datagram : message ≡ datagram_of h question whole sending.soa =
         one.is ∙ (λ i. datagram_of (opened.heading i) (opened.question i) (opened.left i) sending.soa) in
-        subst (λ (r : Receiving). FollowsInOrder r message behind shown) (sym is)
-        (datagram_followed s h question whole shown sending.soa message behind (feeding Udp udp) refl one.last
+        subst (λ (r : Receiving). FollowsInOrder r message pending shown) (sym is)
+        (datagram_followed s h question whole shown sending.soa message pending (feeding Udp udp) refl one.last
         (led_by shown kept (serial_held s.held) sending.soa opened.soa) datagram tc)
 
-    by : (transport : Transport) → s.transport ≡ transport → FollowsInOrder now message behind shown
+    by : (transport : Transport) → s.transport ≡ transport → FollowsInOrder now message pending shown
     by Tcp e = by_tcp e
     by Udp e = by_udp e

@@ -28,27 +28,27 @@ use Rattle.dns_secondary.proofs.Asked.{asked_reads, type_small}
 use Rattle.dns_headline.specs.Versions.{LeadTo, EndAlike}
 use Rattle.dns_headline.specs.Copies.{IsFollowed, AreAnswers, SendsAll, FollowsInOrder, answer_for, serial_held}
 use Rattle.dns_headline.specs.Copies as copies
-use Rattle.dns_headline.proofs.Chains.{behind, last_zone}
+use Rattle.dns_headline.proofs.Chains.{pending, last_zone}
 use Rattle.dns_headline.proofs.Fed.{transfer_is_followed}
 use Rattle.dns_headline.proofs.Sessions.{opened_for}
 use Rattle.dns_store.specs.Versions.{Versions, newest_after, shown_of, version_at}
-use Rattle.dns_held.specs.Each.{Each2, Each3}
-use Rattle.dns_held.specs.Held.{shown_zone}
-use Rattle.dns_primary.specs.declared.primary.ZoneSettings.{ZoneSettings}
-use Rattle.dns_primary.specs.Machine.{Setting, Made, ZoneState, Machine, kept_of, updates_of, versions_of, shown_zones, sending_at}
-use Rattle.dns_primary.specs.Update.{place_of}
-use Rattle.dns_primary.specs.Transfer.{changes_along, version_of, zone_at, zone_named}
+use Rattle.dns_versions.specs.Each.{Each2, Each3}
+use Rattle.dns_versions.specs.Held.{shown_zone}
+use Rattle.dns_primary.specs.declared.primary.ZoneSpec.{ZoneSpec}
+use Rattle.dns_primary.specs.Machine.{Made, ZoneState, Machine, kept_of, updates_of, versions_of, shown_zones, sending_at}
+use Rattle.dns_primary.specs.Update.{zone_position}
+use Rattle.dns_primary.specs.Transfer.{changes_along, transfer_version, zone_at, zone_named}
 use Rattle.dns_primary.specs.Step.{Event, Datagram, Arrives, Connect, Flush, Checkpoint, Pump, Closed, Effects, Step}
 use Rattle.dns_primary.specs.Continues.{OpensOn, Continues}
 use Rattle.dns_primary.specs.Fresh.{IsLoaded, IsFresh}
-use Rattle.dns_primary.specs.Runs.{Moment, Took, Stopped, machine_after, Happens, Run, last_of, IsHistory, HasHistory, Lasts, AllLast, Brings, BringsIn, CameIn, AllCameIn, Promise}
+use Rattle.dns_primary.specs.Runs.{Moment, Took, Stopped, Configured, machine_after, Happens, Run, last_of, IsHistory, HasHistory, Lasts, AllLast, Brings, BringsIn, CameIn, AllCameIn, Promise}
 use Rattle.dns_primary.proofs.Zonewise.{pair_found, all_found}
 use Rattle.dns_primary.proofs.Brought.{IsNamed, NamedAt, place_named}
 use Rattle.dns_primary.proofs.Stopping.{fresh_keeps, history_front, later_lasts}
 use Rattle.dns_primary.proofs.Continued.{run_goes, step_opened}
 use Rattle.dns_headline.specs.Headline.{CarriesOctets, AreOctetsIn, IsSoundZone, changes_to, IsHeldOf, Asks, OpensFor, IsGivenOut, pumped_in, TransfersAreFollowed}
 use Rattle.dns_headline.proofs.Given.{given_all}
-use Rattle.dns_headline.proofs.Chained.{IsValidChange, AreSent, Leads, leads_on, newest_joined, history_behind, from_number, ends_alike, valid_behind, soas_valid, transfer_valid}
+use Rattle.dns_headline.proofs.Chained.{IsValidChange, AreSent, Leads, leads_on, newest_joined, history_pending, from_number, ends_alike, valid_pending, soas_valid, transfer_valid}
 use Rattle.dns_headline.proofs.Read.{update_reads, transfer_read}
 
 -- ---- runs
@@ -77,6 +77,7 @@ carried m (Closed number) z u o b = absurd b.came
 brought : (m : Machine) (t : Moment) (z : ZoneState) (u : Message) → AreOctetsIn t → BringsIn m t z u → AllByRecursion IsSent u.authorities
 brought m (Took event fails effects new) z u o b = carried m event z u o b
 brought m (Stopped event tries new) z u o b = absurd b
+brought m (Configured new) z u o b = absurd b
 
 came_sent : (m : Machine) (run : List Moment) (z : ZoneState) (u : Message) → AllByRecursion AreOctetsIn run → CameIn m run z u → AllByRecursion IsSent u.authorities
 came_sent m [] z u o c = absurd c
@@ -101,14 +102,14 @@ record IsLater (apex : Labels) (z : ZoneState) (news : List ZoneState) : Type 0 
   named : zone_named apex news ≡ Some zone
   lasts : Lasts z zone
 
-place_same : (apex : Labels) (olds news : List ZoneState) → AllLast olds news → place_of apex olds ≡ place_of apex news
+place_same : (apex : Labels) (olds news : List ZoneState) → AllLast olds news → zone_position apex olds ≡ zone_position apex news
 place_same apex [] [] h = refl
 place_same apex [] (w ∷ news) h = absurd h
 place_same apex (z ∷ olds) [] h = absurd h
 place_same apex (z ∷ olds) (w ∷ news) h =
-    let same : z.setting ≡ w.setting = sym (h.0).setting in
+    let same : z.setting.shape ≡ w.setting.shape = sym (h.0).shape in
     let rest = place_same apex olds news h.1 in
-    λ i. if names_eq (same i).shape.apex apex then Some 0 else option_map suc (rest i)
+    λ i. if names_eq (same i).apex apex then Some 0 else option_map suc (rest i)
 
 later_at : (apex : Labels) (z : ZoneState) (olds news : List ZoneState) (o : Option ℕ) → AllLast olds news → zone_at olds o ≡ Some z → (w : ZoneState) × (zone_at news o ≡ Some w) × Lasts z w
 later_at apex z olds news None h e = absurd cc
@@ -116,7 +117,7 @@ later_at apex z olds news (Some place) h e = (let f = pair_found Lasts olds news
 
 later : (apex : Labels) (z : ZoneState) (olds news : List ZoneState) → AllLast olds news → zone_named apex olds ≡ Some z → IsLater apex z news
 later apex z olds news h e =
-    let at = later_at apex z olds news (place_of apex olds) h e in
+    let at = later_at apex z olds news (zone_position apex olds) h e in
     record { zone = at.0; named = ap (zone_at news) (sym (place_same apex olds news h)) ∙ at.1; lasts = at.2 }
 
 apex_at : (apex : Labels) (zones : List ZoneState) (z : ZoneState) (o : Option ℕ) → NamedAt apex zones o → zone_at zones o ≡ Some z → names_eq z.setting.shape.apex apex ≡ true
@@ -124,20 +125,20 @@ apex_at apex zones z None n e = absurd cc
 apex_at apex zones z (Some place) n e = subst (IsNamed apex) e n
 
 apex_is : (apex : Labels) (zones : List ZoneState) (z : ZoneState) → zone_named apex zones ≡ Some z → z.setting.shape.apex ≡ apex
-apex_is apex zones z e = names_same z.setting.shape.apex apex (apex_at apex zones z (place_of apex zones) (place_named apex zones) e)
+apex_is apex zones z e = names_same z.setting.shape.apex apex (apex_at apex zones z (zone_position apex zones) (place_named apex zones) e)
 
 at_found : (P : ZoneState → Type 0) (zones : List ZoneState) (z : ZoneState) (o : Option ℕ) → AllByRecursion P zones → zone_at zones o ≡ Some z → P z
 at_found P zones z None h e = absurd cc
 at_found P zones z (Some place) h e = all_found P zones place z h e
 
 named_found : (P : ZoneState → Type 0) (apex : Labels) (zones : List ZoneState) (z : ZoneState) → AllByRecursion P zones → zone_named apex zones ≡ Some z → P z
-named_found P apex zones z h e = at_found P zones z (place_of apex zones) h e
+named_found P apex zones z h e = at_found P zones z (zone_position apex zones) h e
 
 -- loaded as a sound zone
 abbrev IsSoundlyLoaded : ZoneState → Type 0
 IsSoundlyLoaded z = IsSoundZone (record { apex = z.setting.shape.apex; records = z.loaded })
 
-loaded_soundly : (zones : List Zone) (settings : List ZoneSettings) (states : List ZoneState) → AllByRecursion IsSoundZone zones → Each3 IsLoaded zones settings states → AllByRecursion IsSoundlyLoaded states
+loaded_soundly : (zones : List Zone) (settings : List ZoneSpec) (states : List ZoneState) → AllByRecursion IsSoundZone zones → Each3 IsLoaded zones settings states → AllByRecursion IsSoundlyLoaded states
 loaded_soundly [] [] [] s h = tt
 loaded_soundly (a ∷ zones) (t ∷ settings) (z ∷ states) s h =
     let apex : a.apex ≡ z.setting.shape.apex = sym (ap (λ x. x.apex) (h.0).shape) in
@@ -150,9 +151,9 @@ sound_later [] [] h s = tt
 sound_later [] (w ∷ news) h s = absurd h
 sound_later (z ∷ olds) [] h s = absurd h
 sound_later (z ∷ olds) (w ∷ news) h s =
-    let setting = sym (h.0).setting in
+    let shape = sym (h.0).shape in
     let loaded = sym (h.0).loaded in
-    (subst IsSoundZone (λ i. record { apex = (setting i).shape.apex; records = loaded i }) s.0, sound_later olds news h.1 s.1)
+    (subst IsSoundZone (λ i. record { apex = (shape i).apex; records = loaded i }) s.0, sound_later olds news h.1 s.1)
 
 -- ---- a zone and its versions
 versions_joined : (xs ys : List Made) → versions_of (xs ++ ys) ≡ versions_of xs ++ versions_of ys
@@ -177,14 +178,14 @@ module _ (w : ZoneState) (k : IsKnown w) where
   abbrev apex : Labels
   apex = w.setting.shape.apex
 
-  shown_history : IsHistory w.setting 0 w.loaded w.shown
-  shown_history = history_front w.setting 0 w.loaded w.shown w.staged k.history
+  shown_history : IsHistory w.setting.shape 0 w.loaded w.shown
+  shown_history = history_front w.setting.shape 0 w.loaded w.shown w.staged k.history
 
   shown_sent : AreSent w.shown
   shown_sent = front_sent w.shown w.staged k.sent
 
   whole : Leads apex w.loaded (versions_of w.shown)
-  whole = leads_on w.setting 0 w.loaded w.shown (k.loaded).valid (k.loaded).each shown_history shown_sent
+  whole = leads_on w.setting.shape 0 w.loaded w.shown (k.loaded).valid (k.loaded).each shown_history shown_sent
 
   abbrev base : List Record
   base = version_at (kept_of w) w.base
@@ -196,12 +197,12 @@ module _ (w : ZoneState) (k : IsKnown w) where
   front_is = (from_number w.loaded (versions_of w.shown) w.base).is
 
   kept_valid : AllByRecursion IsValidChange kept
-  kept_valid = valid_behind _ kept (subst (AllByRecursion IsValidChange) front_is whole.changes)
+  kept_valid = valid_pending _ kept (subst (AllByRecursion IsValidChange) front_is whole.changes)
 
   -- the changes that are kept lead to what is shown
   kept_leads : (from : List Record) × LeadTo apex from kept (shown_of (kept_of w))
   kept_leads =
-      let part = behind apex w.loaded _ kept (shown_of (kept_of w)) (subst (λ (cs : List Change). LeadTo apex w.loaded cs (shown_of (kept_of w))) front_is whole.leads) in
+      let part = pending apex w.loaded _ kept (shown_of (kept_of w)) (subst (λ (cs : List Change). LeadTo apex w.loaded cs (shown_of (kept_of w))) front_is whole.leads) in
       (part.from, part.leads)
 
   -- those from a version that was shown earlier lead there too, and end as they do
@@ -218,15 +219,15 @@ module _ (w : ZoneState) (k : IsKnown w) where
     more_sent : AreSent l.more
     more_sent = back_sent z.shown l.more (subst AreSent shown_is shown_sent)
 
-    joined_history : IsHistory w.setting 0 w.loaded (z.shown ++ l.more)
-    joined_history = subst (λ (us : List Made). IsHistory w.setting 0 w.loaded us) shown_is shown_history
+    joined_history : IsHistory w.setting.shape 0 w.loaded (z.shown ++ l.more)
+    joined_history = subst (λ (us : List Made). IsHistory w.setting.shape 0 w.loaded us) shown_is shown_history
 
     first : Leads apex w.loaded (versions_of z.shown)
-    first = leads_on w.setting 0 w.loaded z.shown (k.loaded).valid (k.loaded).each (history_front w.setting 0 w.loaded z.shown l.more joined_history) first_sent
+    first = leads_on w.setting.shape 0 w.loaded z.shown (k.loaded).valid (k.loaded).each (history_front w.setting.shape 0 w.loaded z.shown l.more joined_history) first_sent
 
     more_leads : Leads apex (newest_after w.loaded (versions_of z.shown)) (versions_of l.more)
-    more_leads = leads_on w.setting (0 + length z.shown) (newest_after w.loaded (versions_of z.shown)) l.more (last_zone apex w.loaded _ _ first.leads) first.each
-        (history_behind w.setting 0 w.loaded z.shown l.more joined_history) more_sent
+    more_leads = leads_on w.setting.shape (0 + length z.shown) (newest_after w.loaded (versions_of z.shown)) l.more (last_zone apex w.loaded _ _ first.leads) first.each
+        (history_pending w.setting.shape 0 w.loaded z.shown l.more joined_history) more_sent
 
     to_is : newest_after (newest_after w.loaded (versions_of z.shown)) (versions_of l.more) ≡ shown_of (kept_of w)
     to_is = sym (newest_joined w.loaded (versions_of z.shown) (versions_of l.more))
@@ -330,7 +331,7 @@ one_question a b e = cc
 some_octets : (number : ℕ) (a b : List ℕ) → Arrives number a ≡ Arrives number b → a ≡ b
 some_octets number a b e = cc
 
-module _ (zones : List Zone) (settings : List ZoneSettings) (start : Machine) (earlier between later' : List Moment) (event : Event)
+module _ (zones : List Zone) (settings : List ZoneSpec) (start : Machine) (earlier between later' : List Moment) (event : Event)
     (fails : List Bool) (effects : Effects) (opened : Machine) (s : Receiving) (number : ℕ) (sending : Sending)
     (sound : AllByRecursion IsSoundZone zones)
     (fresh : IsFresh zones settings start)
@@ -424,9 +425,9 @@ module _ (zones : List Zone) (settings : List ZoneSettings) (start : Machine) (e
   opened_here : IsTransferOpened Tcp (request_octets s.apex s.held s.id) (request_message s.apex s.held s.id) (question_asked s.apex s.held)
       (record { zone = record { apex = s.apex; records = shown }; changes = kept w k }) sending
   opened_here =
-      let o = subst (λ (q : Question). IsTransferOpened Tcp (request_octets s.apex s.held s.id) (request_message s.apex s.held s.id) q (version_of w) sending) question_same
-      (subst (λ (m : Message). IsTransferOpened Tcp (request_octets s.apex s.held s.id) m on.question (version_of w) sending) message_same
-      (subst (λ (xs : List ℕ). IsTransferOpened Tcp xs on.message on.question (version_of w) sending) comes on.opened)) in
+      let o = subst (λ (q : Question). IsTransferOpened Tcp (request_octets s.apex s.held s.id) (request_message s.apex s.held s.id) q (transfer_version w) sending) question_same
+      (subst (λ (m : Message). IsTransferOpened Tcp (request_octets s.apex s.held s.id) m on.question (transfer_version w) sending) message_same
+      (subst (λ (xs : List ℕ). IsTransferOpened Tcp xs on.message on.question (transfer_version w) sending) comes on.opened)) in
       record { by = o.by; heading = o.heading; question = o.question; soa = o.soa; left = o.left }
 
   left_is : sending.left ≡ answer_for s.held (kept w k) shown

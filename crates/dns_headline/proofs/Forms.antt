@@ -13,7 +13,7 @@ use Rattle.dns_changes.specs.Version.{serial_in}
 use Rattle.dns_wire.specs.Message.{record_of_item}
 use Rattle.dns_wire.specs.Valid.{item_of}
 use Rattle.dns_transfer.specs.Form.{Current, Incremental, Full, advances, since, form_since, form_of}
-use Rattle.dns_transfer.specs.Records.{transfer_answer, transfer_from, transfer_of, others, sequences}
+use Rattle.dns_transfer.specs.Records.{transfer_answer, transfer_from, transfer_of, all_but_soa, sequences}
 use Rattle.dns_transfer.proofs.Since.{same_number, other_number}
 use Rattle.dns_secondary.specs.Step.{IsFit}
 use Rattle.dns_secondary.specs.Rest.{is_current}
@@ -37,7 +37,7 @@ all_fit (r ∷ rs) h =
 abbrev pub Means : Labels → Option Zone → List Record → List Record → Type 0
 Means apex held answer set = IsCurrent apex held answer set ⊎ IsWholeZone apex answer set ⊎ IsChanged apex held answer set
 
--- an answer longer than its SOA is of one who is behind
+-- an answer longer than its SOA is of one who is pending
 abbrev pub IsNewer : Option Zone → List Record → Type 0
 IsNewer held [] = Unit {0}
 IsNewer held (soa ∷ []) = Unit {0}
@@ -47,7 +47,7 @@ longer : (held : Option Zone) (soa : Record) (rest : List Record) → is_current
 longer held soa [] e = tt
 longer held soa (r ∷ rest) e = e
 
--- the answer of a form has that meaning, and is longer than its SOA only for one who is behind
+-- the answer of a form has that meaning, and is longer than its SOA only for one who is pending
 pub record IsGood (apex : Labels) (held : Option Zone) (answer set : List Record) : Type 0 where
   pub means : Means apex held answer set
   pub newer : IsNewer held answer
@@ -57,7 +57,7 @@ good_at apex held a b set e h = subst (λ (xs : List Record). IsGood apex held x
 
 full_good : (apex : Labels) (held : Option Zone) (v : List Record) (h : HasSoa apex v) → IsZone (record { apex = apex; records = v })
     → is_current held h.soa ≡ false → IsGood apex held (transfer_answer h.soa v Full) v
-full_good apex held v h z behind = record { means = inr (inl (is_whole apex v h z)); newer = longer held h.soa (others v ++ h.soa ∷ []) behind }
+full_good apex held v h z pending = record { means = inr (inl (is_whole apex v h z)); newer = longer held h.soa (all_but_soa v ++ h.soa ∷ []) pending }
 
 with_soa : (v : List Record) (kept : List Change) (client : Option ℕ) (soa : Record) → soas v ≡ soa ∷ [] → transfer_answer soa v (form_of (serial_of soa) kept client) ≡ transfer_of v kept client
 with_soa v kept client soa one = sym (ap (λ (xs : List Record). transfer_from xs v kept client) one)

@@ -11,7 +11,7 @@ use Rattle.dns_primary.specs.Machine.{sending_at}
 use Rattle.dns_primary.specs.Flush.{Sent}
 use Rattle.dns_primary.specs.Transfer.{open_still}
 use Rattle.dns_primary.specs.Step.{Event, Datagram, Arrives, Connect, Flush, Checkpoint, Pump, Closed, Effects}
-use Rattle.dns_primary.specs.Runs.{Moment, Took, Stopped}
+use Rattle.dns_primary.specs.Runs.{Moment, Took, Stopped, Configured}
 use Rattle.dns_primary.specs.Continues.{GivesNext, GoesOn, Continues}
 use Rattle.dns_headline.specs.Headline.{IsGivenOut, octets_sent, pumped, pumped_in}
 
@@ -63,6 +63,7 @@ after_one number rest again next o (r ∷ left) e is c g =
 pub given_all : (number : ℕ) (later : List Moment) (s : Sending) → (s.left ≡ [] → ⊥) → Continues number later (Some s) → IsGivenOut number (Some s) later → SendsAll s (pumped_in number later)
 given_all number [] s some c g = absurd g
 given_all number (Stopped event tries new ∷ rest) s some c g = absurd g
+given_all number (Configured new ∷ rest) s some c g = absurd g
 given_all number (Took event fails effects new ∷ rest) s some c g =
     let again : Rest number rest = λ t some_more d h. given_all number rest t some_more d h in
     let o = sending_at number new.connections in

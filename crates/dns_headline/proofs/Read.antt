@@ -8,8 +8,9 @@ use Rattle.dns_wire.specs.Message.{Question, Message, header_of}
 use Rattle.dns_wire.specs.Reads.{Reads}
 use Rattle.dns_wire.specs.Reading.{message_of}
 use Rattle.dns_wire.proofs.Whole.{message_stands}
+use Rattle.dns_request.specs.Codes.{rcode_formerr}
 use Rattle.dns_request.specs.Request as request
-use Rattle.dns_request.specs.Request.{Request, question_as, has_counts, message_as, read_as, too_long, request_as, request_of, opcode_query, opcode_update, rcode_formerr, rcode_notimp, rcode_refused}
+use Rattle.dns_request.specs.Request.{Request, question_as, has_counts, message_as, read_as, too_long, request_as, request_of, opcode_query, opcode_update}
 use Rattle.dns_request.specs.declared.request.Transport.{Transport}
 use Rattle.dns_answer.specs.Answer.{Handled, NoReply, Replies, Update, Transfer, handled_as, handled}
 use Rattle.dns_update.proofs.Accepted.{Octal, as_octets}

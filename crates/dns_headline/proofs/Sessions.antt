@@ -73,9 +73,9 @@ echo_is apex held id =
     let n = length (wire q.name) in
     let size : n + 4 ≡ length (asked_octets q) = sym (ap length (octets_are q) ∙ length-append (wire q.name) (four q)) in
     let span : 12 + n + 4 - 12 ≡ n + 4 = omega arith in
-    let behind : drop 12 (request_octets apex held id) ≡ asked_octets q ++ rest = drop_at head (asked_octets q ++ rest) 12 refl in
+    let pending : drop 12 (request_octets apex held id) ≡ asked_octets q ++ rest = drop_at head (asked_octets q ++ rest) 12 refl in
     let octets : slice_range (request_octets apex held id) 12 (12 + n + 4) ≡ asked_octets q =
-    ap (λ k. take k (drop 12 (request_octets apex held id))) span ∙ ap (take (n + 4)) behind ∙ take_at (asked_octets q) rest (n + 4) (sym size) in
+    ap (λ k. take k (drop 12 (request_octets apex held id))) span ∙ ap (take (n + 4)) pending ∙ take_at (asked_octets q) rest (n + 4) (sym size) in
     λ i. record { octets = octets i; name = q.name }
 
 pub record IsOpenedFor (transport : Transport) (apex : Labels) (held : Option Zone) (id : ℕ) (kept : List Change) (shown : List Record) (s : Sending) : Type 0 where
@@ -127,9 +127,9 @@ nothing_sent : (s : Sending) (messages : List (List ℕ)) → s.left ≡ [] → 
 nothing_sent s [] none all = refl
 nothing_sent s (message ∷ messages) none all = absurd (all.0 none)
 
-pub record IsOneSent (s : Sending) (before : List (List ℕ)) (message : List ℕ) (behind : List (List ℕ)) : Type 0 where
+pub record IsOneSent (s : Sending) (before : List (List ℕ)) (message : List ℕ) (pending : List (List ℕ)) : Type 0 where
   pub first : before ≡ []
-  pub last : behind ≡ []
+  pub last : pending ≡ []
   pub is : message ≡ datagram_of s.heading s.question s.left s.soa
 
 one_sent : (s : Sending) (message : List ℕ) (rest : List (List ℕ)) → s.transport ≡ Udp → SendsAll s (message ∷ rest)
@@ -138,9 +138,9 @@ one_sent s message rest by all =
     let sends : SendsBy Udp s message (all.1).left = subst (λ t. SendsBy t s message (all.1).left) by (all.2).1 in
     (nothing_sent all.1 rest sends.1 all.3, sends.0)
 
-pub only_sent : (s : Sending) (before : List (List ℕ)) (message : List ℕ) (behind : List (List ℕ)) → s.transport ≡ Udp
-    → SendsAll s (before ++ message ∷ behind) → IsOneSent s before message behind
-only_sent s [] message behind by all = (let one = one_sent s message behind by all in record { first = refl; last = one.0; is = one.1 })
-only_sent s (first ∷ []) message behind by all = (let one = one_sent s first (message ∷ behind) by all in let none = one.0 in absurd cc)
-only_sent s (first ∷ second ∷ before) message behind by all =
-    let one = one_sent s first (second ∷ (before ++ message ∷ behind)) by all in let none = one.0 in absurd cc
+pub only_sent : (s : Sending) (before : List (List ℕ)) (message : List ℕ) (pending : List (List ℕ)) → s.transport ≡ Udp
+    → SendsAll s (before ++ message ∷ pending) → IsOneSent s before message pending
+only_sent s [] message pending by all = (let one = one_sent s message pending by all in record { first = refl; last = one.0; is = one.1 })
+only_sent s (first ∷ []) message pending by all = (let one = one_sent s first (message ∷ pending) by all in let none = one.0 in absurd cc)
+only_sent s (first ∷ second ∷ before) message pending by all =
+    let one = one_sent s first (second ∷ (before ++ message ∷ pending)) by all in let none = one.0 in absurd cc

@@ -12,7 +12,7 @@ use Rattle.dns_zone.proofs.OneSoa.{is_one}
 use Rattle.dns_changes.specs.Applied.{one_is, one_in, soa_tied, not_true}
 use Rattle.dns_changes.specs.Change.{is_soa}
 use Rattle.dns_changes.proofs.Steps.{has_is}
-use Rattle.dns_transfer.specs.Records.{others}
+use Rattle.dns_transfer.specs.Records.{all_but_soa}
 use Rattle.dns_secondary.specs.Taken.{AreOthers, Collects, IsSoaAt, IsWholeZone}
 
 pub record IsJoined (set rs : List Record) : Type 0 where
@@ -63,7 +63,7 @@ module _ (v : List Record) (soa : Record) (one : soas v ≡ soa ∷ []) (leading
     | inl t ↦ (let is = soa_tied q soa b t (found_contains q b v e).0 leading in absurd (some (ap (λ d. cond (not d) (Some b) None) is)))
   ]
 
-  free : (q : Record) → found q (others v) ≢ None → found q (soa ∷ []) ≡ None
+  free : (q : Record) → found q (all_but_soa v) ≢ None → found q (soa ∷ []) ≡ None
   free q some = ap (λ b. cond b (Some soa) None) (only_other q (found q v) refl (λ e. some (found_filter q is_other v sorted ∙ e)))
 
   joined_at : (q : Record) (x : Option Record) → found q v ≡ x → or_else (found q (soa ∷ [])) (only is_other x) ≡ x
@@ -83,17 +83,17 @@ module _ (v : List Record) (soa : Record) (one : soas v ≡ soa ∷ []) (leading
         ap (λ d. or_else (cond d (Some soa) None) (only is_other (Some b))) t ∙ keeps)
   ]
 
-  pub whole : Collects (soa ∷ []) (others v) v
+  pub whole : Collects (soa ∷ []) (all_but_soa v) v
   whole =
-      let all = collected_all (soa ∷ []) (others v) (tt, tt) (sorted_filter is_other v sorted) free in
+      let all = collected_all (soa ∷ []) (all_but_soa v) (tt, tt) (sorted_filter is_other v sorted) free in
       let is : all.result ≡ v = same_sets all.result v all.sorted sorted
       (λ q. all.each q ∙ ap (or_else (found q (soa ∷ []))) (found_filter q is_other v sorted) ∙ joined_at q (found q v) refl) in
-      subst (λ (xs : List Record). Collects (soa ∷ []) (others v) xs) is all.read
+      subst (λ (xs : List Record). Collects (soa ∷ []) (all_but_soa v) xs) is all.read
 
-others_only : (xs : List Record) → AreOthers (others xs)
+others_only : (xs : List Record) → AreOthers (all_but_soa xs)
 others_only [] = tt
 others_only (x ∷ xs) =
-    elim (not (is_soa x)) as (λ b. not (is_soa x) ≡ b → AreOthers (cond b (x ∷ others xs) (others xs))) [
+    elim (not (is_soa x)) as (λ b. not (is_soa x) ≡ b → AreOthers (cond b (x ∷ all_but_soa xs) (all_but_soa xs))) [
       | true ↦ λ e. (not_true (is_soa x) e, others_only xs)
       | false ↦ λ e. others_only xs
     ] refl
@@ -104,11 +104,11 @@ soa_at apex xs h = λ i. is_one apex xs h i && owned i
     owned : names_eq (h.soa).owner apex ≡ true
     owned = ap (λ n. names_eq n apex) h.owner ∙ names_itself apex
 
-pub is_whole : (apex : Labels) (v : List Record) (h : HasSoa apex v) → IsZone (record { apex = apex; records = v }) → IsWholeZone apex (h.soa ∷ others v ++ h.soa ∷ []) v
+pub is_whole : (apex : Labels) (v : List Record) (h : HasSoa apex v) → IsZone (record { apex = apex; records = v }) → IsWholeZone apex (h.soa ∷ all_but_soa v ++ h.soa ∷ []) v
 is_whole apex v h z = record {
   form = record {
     soa = h.soa;
-    others = others v;
+    others = all_but_soa v;
     framed = refl;
     at_apex = soa_at apex v h;
     no_soas = others_only v;

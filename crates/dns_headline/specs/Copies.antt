@@ -78,24 +78,24 @@ AllTellMore s (message ∷ rest) now = (next : Receiving) × Feeds s message Mor
 -- The next message of a transfer of the version that is shown is not refused. More is to come only where a
 -- message is left; after the last the version that is shown is held, anew or as before, and that is reported
 -- after no other. By UDP there is one message, and what is reported of it may be to ask again by TCP.
-pub record FollowsInOrder (s : Receiving) (message : List ℕ) (behind : List (List ℕ))
+pub record FollowsInOrder (s : Receiving) (message : List ℕ) (pending : List (List ℕ))
     (shown : List Record) : Type 0 where
   pub refused : (fault : Fault) → RefusesFeed s message fault → ⊥
-  pub more : (next : Receiving) → Feeds s message More next → behind ≡ [] → ⊥
-  pub done : (next : Receiving) → Feeds s message Done next → (behind ≡ []) × (next ≡ holding s shown)
-  pub current : (next : Receiving) → Feeds s message UpToDate next → (behind ≡ []) × AreHeld s.held shown
+  pub more : (next : Receiving) → Feeds s message More next → pending ≡ [] → ⊥
+  pub done : (next : Receiving) → Feeds s message Done next → (pending ≡ []) × (next ≡ holding s shown)
+  pub current : (next : Receiving) → Feeds s message UpToDate next → (pending ≡ []) × AreHeld s.held shown
   pub again : (next : Receiving) → Feeds s message RetryTcp next → s.transport ≡ Udp
-  pub alone : s.transport ≡ Udp → behind ≡ []
+  pub alone : s.transport ≡ Udp → pending ≡ []
 
 -- Who asks for a transfer of a version, and is fed its messages in order, holds that version after the last,
 -- or by UDP is told to ask again.
 abbrev pub TransferIsFollowed : Type 0
 TransferIsFollowed =
     (s : Receiving) (base : List Record) (kept : List Change) (shown : List Record) (before : List (List ℕ))
-    (message : List ℕ) (behind : List (List ℕ)) (now : Receiving)
+    (message : List ℕ) (pending : List (List ℕ)) (now : Receiving)
     → s.state ≡ Some Begun
     → LeadTo s.apex base kept shown
     → IsFollowed s.apex s.held kept shown
-    → AreAnswers s kept shown (before ++ message ∷ behind)
+    → AreAnswers s kept shown (before ++ message ∷ pending)
     → AllTellMore s before now
-    → FollowsInOrder now message behind shown
+    → FollowsInOrder now message pending shown

@@ -15,15 +15,15 @@ use Rattle.dns_secondary.specs.State.{Begun}
 use Rattle.dns_headline.specs.Copies as copies
 use Rattle.dns_headline.specs.Copies.{FollowsInOrder}
 use Rattle.dns_store.specs.Versions.{shown_of}
-use Rattle.dns_held.specs.Held.{shown_zone}
-use Rattle.dns_primary.specs.declared.primary.ZoneSettings.{ZoneSettings}
+use Rattle.dns_versions.specs.Held.{shown_zone}
+use Rattle.dns_primary.specs.declared.primary.ZoneSpec.{ZoneSpec}
 use Rattle.dns_primary.specs.Machine.{ZoneState, Machine, kept_of, versions_of, sending_at}
 use Rattle.dns_primary.specs.Flush.{Sent, Answered, Replied}
 use Rattle.dns_primary.specs.Transfer.{changes_along, zone_named}
 use Rattle.dns_primary.specs.Step.{Event, Datagram, Arrives, Connect, Flush, Checkpoint, Pump, Closed}
 use Rattle.dns_primary.specs.Step.{Effects}
 use Rattle.dns_primary.specs.Fresh.{IsFresh}
-use Rattle.dns_primary.specs.Runs.{Moment, Took, Stopped, Run, last_of}
+use Rattle.dns_primary.specs.Runs.{Moment, Took, Stopped, Configured, Run, last_of}
 
 -- What comes in an event are octets.
 abbrev pub CarriesOctets : Event → Type 0
@@ -38,6 +38,7 @@ CarriesOctets (Closed number) = Unit {0}
 abbrev pub AreOctetsIn : Moment → Type 0
 AreOctetsIn (Took event fails effects new) = CarriesOctets event
 AreOctetsIn (Stopped event tries new) = CarriesOctets event
+AreOctetsIn (Configured new) = Unit {0}
 
 -- A valid zone, of records that a zone can have.
 pub record IsSoundZone (z : Zone) : Type 0 where
@@ -92,6 +93,7 @@ abbrev pub pumped_in : ℕ → List Moment → List (List ℕ)
 pumped_in number [] = []
 pumped_in number (Took event fails effects new ∷ rest) = pumped number event effects ++ pumped_in number rest
 pumped_in number (Stopped event tries new ∷ rest) = pumped_in number rest
+pumped_in number (Configured new ∷ rest) = pumped_in number rest
 
 -- The transfer is open up to the last of these moments, and neither a stop nor the end of its connection
 -- ends it.
@@ -101,13 +103,14 @@ IsGivenOut number (Some s) [] = ⊥
 IsGivenOut number (Some s) (Took event fails effects new ∷ rest) =
     (event ≡ Closed number → ⊥) × IsGivenOut number (sending_at number new.connections) rest
 IsGivenOut number (Some s) (Stopped event tries new ∷ rest) = ⊥
+IsGivenOut number (Some s) (Configured new ∷ rest) = ⊥
 
 -- Whoever asks for a transfer in a run is fed what it gives out, in order: the next message is not refused
 -- but for memory, and after the last, and after no other, the version is held that was shown when the
 -- transfer was opened.
 abbrev pub TransfersAreFollowed : Type 0
 TransfersAreFollowed =
-    (zones : List Zone) (settings : List ZoneSettings) (start : Machine)
+    (zones : List Zone) (settings : List ZoneSpec) (start : Machine)
     (earlier between later : List Moment) (event : Event) (fails : List Bool) (effects : Effects)
     (opened : Machine) (s : Receiving) (number : ℕ) (sending : Sending)
     (before : List (List ℕ)) (message : List ℕ) (rest : List (List ℕ)) (now : Receiving)

@@ -7,7 +7,7 @@ use Rattle.dns_sectors.specs.Device.{Content}
 use Rattle.dns_sectors.specs.Crash.{Write, SomeApplied}
 use Rattle.dns_layout.specs.Sector.{sector_at, number}
 use Rattle.dns_layout.specs.Own.{IsIntactIn, IsAltered, AreOwn}
-use Rattle.dns_layout.specs.Store.{Shape, Stored, OpensByIn, all_sectors, snapshot_place, bank_end, other_of}
+use Rattle.dns_layout.specs.Store.{Sizes, Stored, OpensByIn, all_sectors, snapshot_place, bank_end, other_of}
 use Rattle.dns_layout.specs.declared.format.Format.{Format}
 use Rattle.dns_layout.specs.declared.format.Format.TheVariants.{Two}
 use Rattle.dns_journal.specs.declared.read.ReadError.{ReadError}
@@ -75,7 +75,7 @@ pub spoilt_same : (f : Format) (d e : Content) (from until : ℕ) (r : ReadError
 spoilt_same f d e from until r same = subst (λ (x : Content). NamesSpoilt f x from until r) same
 
 -- In the bank in use nothing is left over: what the content before opened by is intact there.
-pub bank_intact : (f : Format) (s : Shape) (k : Stored) (c : Content) (root : List ℕ) (parts : List (List ℕ)) → OpensByIn f s c root parts k
+pub bank_intact : (f : Format) (s : Sizes) (k : Stored) (c : Content) (root : List ℕ) (parts : List (List ℕ)) → OpensByIn f s c root parts k
     → (at : ℕ) → snapshot_place s (number root) ≤ at → at < bank_end s (number root) → IsIntactIn f at (sector_at c at)
 bank_intact f s k c root parts opens at from to =
     opens.own at (inside (number root) opens.valid.bank from to) (λ left. apart (number root) opens.valid.bank from to left.from left.to)
@@ -109,12 +109,12 @@ one_more_intact f d at i passed own j lt =
     ⊎_elim (λ (less : j < i). passed j less) (λ more. (let same : j ≡ i = omega (arith, lt, more) in subst (λ n. IsIntactIn f (at + n) (sector_at d (at + n))) (sym same) own)) (cases_lt j i)
 
 -- Where the content before opens, no sector of its bank that is named was there so: what is named was altered.
-pub names_altered : (f : Format) (s : Shape) (k : Stored) (c d : Content) (root : List ℕ) (parts : List (List ℕ)) (from until place : ℕ) → OpensByIn f s c root parts k
+pub names_altered : (f : Format) (s : Sizes) (k : Stored) (c d : Content) (root : List ℕ) (parts : List (List ℕ)) (from until place : ℕ) → OpensByIn f s c root parts k
     → snapshot_place s (number root) ≤ from → until ≤ bank_end s (number root) → IsSpoilt f d from until place → sector_at d place ≢ sector_at c place
 names_altered f s k c d root parts from until place opens low high named =
     spoilt_altered f c d place (bank_intact f s k c root parts opens place (omega (arith, low, named.first)) (omega (arith, high, named.last))) named.spoilt
 
 -- On the content itself none is named.
-pub none_spoilt : (f : Format) (s : Shape) (k : Stored) (c : Content) (root : List ℕ) (parts : List (List ℕ)) (from until place : ℕ) → OpensByIn f s c root parts k
+pub none_spoilt : (f : Format) (s : Sizes) (k : Stored) (c : Content) (root : List ℕ) (parts : List (List ℕ)) (from until place : ℕ) → OpensByIn f s c root parts k
     → snapshot_place s (number root) ≤ from → until ≤ bank_end s (number root) → IsSpoilt f c from until place → ⊥
 none_spoilt f s k c root parts from until place opens low high named = names_altered f s k c c root parts from until place opens low high named refl

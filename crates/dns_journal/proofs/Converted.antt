@@ -4,14 +4,14 @@ use Rattle.std.proofs.Math.Seq.{take-append_seam, drop-append_seam}
 use Rattle.std.proofs.lemmas.Bool.{cases_lt}
 use Rattle.std.specs.Prelude.{slice_set}
 use Rattle.dns_sectors.specs.Device.{Content, Only}
-use Rattle.dns_sectors.specs.Crash.{Write, applied, SomeApplied, CrashOf}
+use Rattle.dns_sectors.specs.Crash.{Write, after_writes, SomeApplied, CrashOf}
 use Rattle.dns_sectors.specs.Phase.{pairs, zeros_from}
 use Rattle.dns_sectors.specs.declared.phase.SectorWrite.{SectorWrite}
 use Rattle.dns_layout.specs.Sector.{sector_at, blank, tag, head_tag, head_tag_in, open_count, number, snapshot_length, snapshot_sectors, clear}
 use Rattle.dns_layout.specs.Forms.{SaysRoot, SaysRootIn, bank_number, clear_number}
 use Rattle.dns_layout.specs.Own.{Own, IsIntactIn, AreOwn}
 use Rattle.dns_layout.specs.Journal.{IsBatch, IsNextHead, Stand, place_behind, writes_from}
-use Rattle.dns_layout.specs.Store.{Shape, Stored, IsRoot, AreParts, OpensBy, OpensByIn, OpensAs, IsTidy, IsLeftOver, all_sectors, snapshot_place, journal_place, bank_end, other_of, version_of}
+use Rattle.dns_layout.specs.Store.{Sizes, Stored, IsRoot, AreParts, OpensBy, OpensByIn, OpensAs, IsTidy, IsLeftOver, all_sectors, snapshot_place, journal_place, bank_end, other_of, version_of}
 use Rattle.dns_layout.specs.declared.format.Format.TheVariants.{One, Two}
 use Rattle.dns_layout.specs.declared.root.Root.{Root}
 use Rattle.dns_layout.specs.declared.root.Bank.{Bank}
@@ -151,17 +151,17 @@ module _ (r : Root) (bank opened base : ℕ) (octets : List ℕ) (changes : List
         ++ (back_is i ++ zeros_from (places.journal i + entries_len i) (places.until i - (places.journal i + entries_len i)))
 
 -- What the steps of a conversion leave of the content d: all of the writes, the root y, and the root z after the old bank is cleared.
-pub record Steps (s : Shape) (k : Stored) (octets : List ℕ) (changes : List Change) (opened : ℕ) (d : Content) (all : List Write) (y z : List ℕ) (from until : ℕ) : Type 1 where
+pub record Steps (s : Sizes) (k : Stored) (octets : List ℕ) (changes : List Change) (opened : ℕ) (d : Content) (all : List Write) (y z : List ℕ) (from until : ℕ) : Type 1 where
   pub new : Stored
   pub parts : List (List ℕ)
   pub turned : IsTurned k octets changes new
   pub first : (may_leave : Content → Type 0) → Only d may_leave → (c : Content) → CrashOf may_leave all c → LeavesConverted s k octets changes opened c
-  pub second : (mid : Content) (may_leave : Content → Type 0) → mid ≡ applied all d → Only mid may_leave → (c : Content) → CrashOf may_leave ((0, y) ∷ []) c → LeavesConverted s k octets changes opened c
-  pub to_clear : (mid after : Content) → mid ≡ applied all d → after ≡ slice_set mid 0 y → IsToClear s new y parts from until z after
+  pub second : (mid : Content) (may_leave : Content → Type 0) → mid ≡ after_writes all d → Only mid may_leave → (c : Content) → CrashOf may_leave ((0, y) ∷ []) c → LeavesConverted s k octets changes opened c
+  pub to_clear : (mid after : Content) → mid ≡ after_writes all d → after ≡ slice_set mid 0 y → IsToClear s new y parts from until z after
   pub cleared : clear z ≡ 1
   pub counted : open_count z ≡ opened + 1
 
-module _ (s : Shape) (k : Stored) (d : Content) (x : List ℕ) (parts : List (List ℕ)) (opens : OpensByIn One s d x parts k) (r : Root) (says : SaysRootIn One x r)
+module _ (s : Sizes) (k : Stored) (d : Content) (x : List ℕ) (parts : List (List ℕ)) (opens : OpensByIn One s d x parts k) (r : Root) (says : SaysRootIn One x r)
     (base : ℕ) (octets : List ℕ) (changes : List Change) (base_is : base + length changes ≡ version_of k) (fits : snapshot_sectors (length octets) ≤ r.snapshot_room)
     (ws : List SectorWrite) (next : Cursor) (lays : LaysBank (rooms_of r) (other_of (bank_number r.bank)) (r.open_count + 1) base octets changes (pairs ws) next) where
   abbrev opened : ℕ
@@ -254,12 +254,12 @@ module _ (s : Shape) (k : Stored) (d : Content) (x : List ℕ) (parts : List (Li
   still c there = inl ((x, parts, there), ap open_count there.stands ∙ says.opened_is)
 
   abbrev after : Content
-  after = applied whole d
+  after = after_writes whole d
 
-  after_is : applied whole d ≡ applied rest (applied entries_writes (applied gap (applied part_writes d)))
+  after_is : after_writes whole d ≡ after_writes rest (after_writes entries_writes (after_writes gap (after_writes part_writes d)))
   after_is =
-      applied-append (part_writes ++ gap) (entries_writes ++ rest) d ∙ applied-append entries_writes rest (applied (part_writes ++ gap) d)
-      ∙ ap (λ (c : Content). applied rest (applied entries_writes c)) (applied-append part_writes gap d)
+      applied-append (part_writes ++ gap) (entries_writes ++ rest) d ∙ applied-append entries_writes rest (after_writes (part_writes ++ gap) d)
+      ∙ ap (λ (c : Content). after_writes rest (after_writes entries_writes c)) (applied-append part_writes gap d)
 
   size : length after ≡ all_sectors s
   size = some-length whole d after (all_are_some whole d) ∙ opens.size
@@ -385,14 +385,14 @@ module _ (s : Shape) (k : Stored) (d : Content) (x : List ℕ) (parts : List (Li
               turned = is_turned;
               first = λ may_leave only c left. still c (before c (subst (λ (l : List Write). SomeApplied l d c) all_is (subst (λ (e : Content). SomeApplied (bank_writes new front back) e c) (only left.0 left.1) left.2)));
               second = λ mid may_leave written only c left.
-                  let is : mid ≡ after = written ∙ ap (λ (l : List Write). applied l d) all_is in
+                  let is : mid ≡ after = written ∙ ap (λ (l : List Write). after_writes l d) all_is in
                   ⊎_elim
                   (λ not. still c (subst (λ (b : Content). OpensByIn One s b x parts k) (sym (not ∙ only left.0 left.1 ∙ is)) (before after (all_are_some whole d))))
                   (λ now.
                   let there = sym (now ∙ ap (λ (b : Content). slice_set b 0 y) (only left.0 left.1 ∙ is)) in
                   inr (stored, is_turned, subst (λ (b : Content). OpensAs s b stored) there (y, xs, opens_now), subst (λ (b : Content). IsTidy s b) there tidy_now, ap (λ (b : Content). open_count (sector_at b 0)) (sym there) ∙ (ap open_count opens_now.stands ∙ y_says.opened_is)))
                   left.2;
-              to_clear = λ mid now written is. subst (λ (b : Content). IsToClear s stored y xs old.first old.until z b) (sym (is ∙ ap (λ (b : Content). slice_set b 0 y) (written ∙ ap (λ (l : List Write). applied l d) all_is))) to_clear;
+              to_clear = λ mid now written is. subst (λ (b : Content). IsToClear s stored y xs old.first old.until z b) (sym (is ∙ ap (λ (b : Content). slice_set b 0 y) (written ∙ ap (λ (l : List Write). after_writes l d) all_is))) to_clear;
               cleared = z_says.clear_is;
               counted = z_says.opened_is;
             }
@@ -403,7 +403,7 @@ are_places r p bank m bank_is first journal until =
     let start : p.journal ≡ journal_place (rooms_of r) m = journal ∙ ap (λ n. n + r.snapshot_room) at in
     record { first = at; journal = start; until = until ∙ ap (λ n. n + r.journal_room) start }
 
-pub opens_cleared : (s : Shape) (new : Stored) (z : List ℕ) (parts : List (List ℕ)) (opened : ℕ) (after c : Content) → OpensBy s after z parts new × IsTidy s after → clear z ≡ 1 → open_count z ≡ opened → c ≡ after → OpensCleared s new opened c
+pub opens_cleared : (s : Sizes) (new : Stored) (z : List ℕ) (parts : List (List ℕ)) (opened : ℕ) (after c : Content) → OpensBy s after z parts new × IsTidy s after → clear z ≡ 1 → open_count z ≡ opened → c ≡ after → OpensCleared s new opened c
 opens_cleared s new z parts opened after c left cleared counted is =
     subst (λ (b : Content). OpensCleared s new opened b) (sym is)
     (record {

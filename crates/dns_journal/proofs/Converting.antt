@@ -5,12 +5,12 @@ use Rattle.std.proofs.lemmas.List.{length-set}
 use Rattle.std.specs.Prelude.{slice_set}
 use Rattle.std.specs.List.{flat_map}
 use Rattle.dns_sectors.specs.Device.{Content}
-use Rattle.dns_sectors.specs.Crash.{Write, applied, SomeApplied}
+use Rattle.dns_sectors.specs.Crash.{Write, after_writes, SomeApplied}
 use Rattle.dns_sectors.specs.Phase.{zeros_from}
 use Rattle.dns_layout.specs.Sector.{sector_at, blank, AreZeros, sequence_number, number, payload, bank_open, snapshot_length, snapshot_sectors, clear}
 use Rattle.dns_layout.specs.Own.{IsIntactIn}
 use Rattle.dns_layout.specs.Journal.{IsNextHead, IsBatch, Stand, place_behind, writes_from}
-use Rattle.dns_layout.specs.Store.{Shape, Stored, IsRoot, AreParts, OpensBy, OpensByIn, all_sectors, snapshot_place, journal_place, bank_end, other_of, version_of}
+use Rattle.dns_layout.specs.Store.{Sizes, Stored, IsRoot, AreParts, OpensBy, OpensByIn, all_sectors, snapshot_place, journal_place, bank_end, other_of, version_of}
 use Rattle.dns_layout.specs.declared.format.Format.TheVariants.{One, Two}
 use Rattle.dns_journal.specs.Bank.{sectors_of_entries}
 use Rattle.dns_journal.proofs.Places.{at_set-same, at_set-other, some-length, all_are_some}
@@ -22,12 +22,12 @@ use Rattle.dns_journal.proofs.Standing.{turned_opens}
 use Rattle.dns_journal.proofs.Zeroed.{other_bank}
 
 -- ---- the new bank is written: what format 1 holds stays
-pub old_stays : (s : Shape) (k : Stored) (d : Content) (x : List ℕ) (parts : List (List ℕ)) → OpensByIn One s d x parts k
+pub old_stays : (s : Sizes) (k : Stored) (d : Content) (x : List ℕ) (parts : List (List ℕ)) → OpensByIn One s d x parts k
     → (ws : List Write) → AllBetween (snapshot_place s (other_of (number x))) (bank_end s (other_of (number x))) ws → (c : Content) → SomeApplied ws d c → OpensByIn One s c x parts k
 old_stays s k d x parts opens ws between c some = other_bank One s k d x parts opens ws between c some (λ at lt not. tt)
 
 -- ---- the root is turned, and says that the old bank isn't cleared
-pub converted_opens : (s : Shape) (d : Content) (y : List ℕ) (parts : List (List ℕ)) (new : Stored) (opened : ℕ)
+pub converted_opens : (s : Sizes) (d : Content) (y : List ℕ) (parts : List (List ℕ)) (new : Stored) (opened : ℕ)
     → length d ≡ all_sectors s → IsRoot s y → sequence_number y ≡ new.base → bank_open y ≡ opened → length parts ≡ snapshot_sectors (snapshot_length y) → AreParts y 0 parts
     → take (snapshot_length y) (flat_map payload parts) ≡ new.snapshot → AreZeros (drop (snapshot_length y) (flat_map payload parts))
     → Stand d (snapshot_place s (number y)) parts → Stand d (journal_place s (number y)) (sectors_of_entries new.entries)
@@ -63,7 +63,7 @@ zeros_each Q zero_has from (suc n) = append (zeros_from from n) (zeros_each Q ze
     append (w ∷ ws) each = (each.0, append ws each.1)
 
 -- what has Q keeps it where such sectors are written
-all_each : (Q : ℕ → List ℕ → Type 0) (ws : List Write) (d : Content) (q : ℕ) → q < length d → Each Q ws → Q q (sector_at d q) → Q q (sector_at (applied ws d) q)
+all_each : (Q : ℕ → List ℕ → Type 0) (ws : List Write) (d : Content) (q : ℕ) → q < length d → Each Q ws → Q q (sector_at d q) → Q q (sector_at (after_writes ws d) q)
 all_each Q [] d q lt each has = has
 all_each Q (w ∷ ws) d q lt each has =
     all_each Q ws (slice_set d w.0 w.1) q (omega (arith, lt, length-set d w.0 w.1)) each.1
@@ -72,12 +72,12 @@ all_each Q (w ∷ ws) d q lt each has =
     (λ (other : q ≢ w.0). subst (λ (y : List ℕ). Q q y) (sym (at_set-other d w.0 q w.1 other)) has)
     (same_or_not q w.0))
 
-size_after : (ws : List Write) (d : Content) → length (applied ws d) ≡ length d
-size_after ws d = some-length ws d (applied ws d) (all_are_some ws d)
+size_after : (ws : List Write) (d : Content) → length (after_writes ws d) ≡ length d
+size_after ws d = some-length ws d (after_writes ws d) (all_are_some ws d)
 
 -- where they are written, each sector has it
 written_each : (Q : ℕ → List ℕ → Type 0) (xs : List (List ℕ)) (at : ℕ) (d : Content) (q : ℕ) → Each Q (writes_from at xs) → at ≤ q → q < at + length xs → at + length xs ≤ length d
-    → Q q (sector_at (applied (writes_from at xs) d) q)
+    → Q q (sector_at (after_writes (writes_from at xs) d) q)
 written_each Q [] at d q each le lt size = absurd (omega (arith, le, lt))
 written_each Q (x ∷ xs) at d q each le lt size =
     ⊎_elim
@@ -87,21 +87,21 @@ written_each Q (x ∷ xs) at d q each le lt size =
     (λ (other : q ≢ at). written_each Q xs (at + 1) (slice_set d at x) q each.1 (omega (arith, le, other)) (omega (arith, lt)) (omega (arith, size, length-set d at x)))
     (same_or_not q at)
 
-zeros_have : (Q : ℕ → List ℕ → Type 0) → ((at : ℕ) → Q at blank) → (from n q : ℕ) (d : Content) → from ≤ q → q < from + n → from + n ≤ length d → Q q (sector_at (applied (zeros_from from n) d) q)
+zeros_have : (Q : ℕ → List ℕ → Type 0) → ((at : ℕ) → Q at blank) → (from n q : ℕ) (d : Content) → from ≤ q → q < from + n → from + n ≤ length d → Q q (sector_at (after_writes (zeros_from from n) d) q)
 zeros_have Q zero_has from n q d le lt size = subst (λ (y : List ℕ). Q q y) (sym (zeros_stand from n q d le lt size)) (zero_has q)
 
 module _ (d : Content) (first journal until : ℕ) (parts entries : List (List ℕ)) (parts_in : first + length parts ≤ journal) (entries_in : journal + length entries ≤ until) (inside : until ≤ length d) where
   abbrev after_parts : Content
-  after_parts = applied (writes_from first parts) d
+  after_parts = after_writes (writes_from first parts) d
 
   abbrev after_gap : Content
-  after_gap = applied (zeros_from (first + length parts) (journal - (first + length parts))) after_parts
+  after_gap = after_writes (zeros_from (first + length parts) (journal - (first + length parts))) after_parts
 
   abbrev after_entries : Content
-  after_entries = applied (writes_from journal entries) after_gap
+  after_entries = after_writes (writes_from journal entries) after_gap
 
   abbrev after_all : Content
-  after_all = applied (zeros_from (journal + length entries) (until - (journal + length entries))) after_entries
+  after_all = after_writes (zeros_from (journal + length entries) (until - (journal + length entries))) after_entries
 
   size_one : length after_parts ≡ length d
   size_one = size_after (writes_from first parts) d

@@ -8,7 +8,7 @@ use Rattle.std.specs.List.{flat_map}
 use Rattle.dns_sectors.specs.Device.{Content}
 use Rattle.dns_layout.specs.Sector.{AreZeros, sector_at, open_count, payload_in, first_octets_in, number, entry_length, entry_sectors, old_entry_sectors, entry_sectors_in, head_room_in, payload_room_in}
 use Rattle.dns_layout.specs.Forms.{SaysHeadIn}
-use Rattle.dns_layout.specs.Journal.{Entry, size_of, octets_of_in, IsNextHeadIn, IsBodyIn, AreBodiesIn, ReadsIn}
+use Rattle.dns_layout.specs.Journal.{Entry, entry_size, octets_of_in, IsNextHeadIn, IsBodyIn, AreBodiesIn, ReadsIn}
 use Rattle.dns_layout.specs.declared.head.Head.{Head}
 use Rattle.dns_journal.specs.Reads.{sectors_from, HoldsEntry, ReadsFrom, FindsEntry, IsWrongBody, IsWrongEnd, IsBadEntry, IsRefusal, NamesSpoilt}
 use Rattle.dns_journal.specs.declared.read.ReadError.{ReadError}
@@ -146,9 +146,9 @@ module _ (f : Format) where
       ∙ sym (stand_is e.bodies c (old.at + 1) there.2) in
       let same : finds.entry ≡ e = λ i. record { head = head i; bodies = bodies i } in
       let behind : ReadsIn f old.until c new.at new.version new.opened es =
-      subst (λ p. ReadsIn f old.until c p new.version new.opened es) (sym (finds.place ∙ ap (λ (y : Entry). old.at + size_of y) same))
-      (subst (λ v. ReadsIn f old.until c (old.at + size_of e) v new.opened es) (sym finds.version_is)
-      (subst (λ o. ReadsIn f old.until c (old.at + size_of e) (old.version + 1) o es) (sym (finds.opened_is ∙ ap (λ (y : List ℕ). open_count y) head)) there.3)) in
+      subst (λ p. ReadsIn f old.until c p new.version new.opened es) (sym (finds.place ∙ ap (λ (y : Entry). old.at + entry_size y) same))
+      (subst (λ v. ReadsIn f old.until c (old.at + entry_size e) v new.opened es) (sym finds.version_is)
+      (subst (λ o. ReadsIn f old.until c (old.at + entry_size e) (old.version + 1) o es) (sym (finds.opened_is ∙ ap (λ (y : List ℕ). open_count y) head)) there.3)) in
       (e, es, refl, finds.octets_are ∙ ap (octets_of_in f) same, subst (λ u. ReadsIn f u c new.at new.version new.opened es) (sym finds.until_stays) behind)
 
   -- nothing is there, so nothing is read
@@ -166,7 +166,7 @@ module _ (f : Format) where
       ∙ sym (stand_is b.entry.bodies c (old.at + 1) b.bodies) in
       let same : a.entry ≡ b.entry = λ i. record { head = head i; bodies = bodies i } in (
         λ i. record {
-          at = (a.place ∙ ap (λ (y : Entry). old.at + size_of y) same ∙ sym b.place) i;
+          at = (a.place ∙ ap (λ (y : Entry). old.at + entry_size y) same ∙ sym b.place) i;
           until = (a.until_stays ∙ sym b.until_stays) i;
           version = (a.version_is ∙ sym b.version_is) i;
           opened = (a.opened_is ∙ ap (λ (y : List ℕ). open_count y) head ∙ sym b.opened_is) i;

@@ -9,9 +9,9 @@ use Rattle.dns_sectors.specs.Phase.{pairs}
 use Rattle.dns_sectors.specs.declared.phase.SectorWrite.{SectorWrite}
 use Rattle.dns_layout.specs.Sector.{payload, payload_room, snapshot_sectors}
 use Rattle.dns_layout.specs.Forms.{SaysPart}
-use Rattle.dns_layout.specs.Journal.{Entry, size_of, IsNextEntry, IsBatch, writes_from, place_behind, version_behind}
+use Rattle.dns_layout.specs.Journal.{Entry, entry_size, IsNextEntry, IsBatch, writes_from, place_behind, version_behind}
 use Rattle.dns_layout.specs.Own.{Own, AreOwn}
-use Rattle.dns_layout.specs.Store.{Shape, IsPart, AreParts, snapshot_place, journal_place, bank_end, other_of}
+use Rattle.dns_layout.specs.Store.{Sizes, IsPart, AreParts, snapshot_place, journal_place, bank_end, other_of}
 use Rattle.dns_layout.specs.declared.format.Format.TheVariants.{Two}
 use Rattle.dns_changes.specs.Change.{Change}
 use Rattle.dns_changes.specs.Entry.{entry}
@@ -98,7 +98,7 @@ sectors_push (f ∷ es) e =
 
 pub sectors_place : (es : List Entry) (at : ℕ) → at + length (sectors_of_entries es) ≡ place_behind at es
 sectors_place [] at = omega arith
-sectors_place (e ∷ es) at = omega (arith, length-append e.bodies (sectors_of_entries es)) ∙ sectors_place es (at + size_of e)
+sectors_place (e ∷ es) at = omega (arith, length-append e.bodies (sectors_of_entries es)) ∙ sectors_place es (at + entry_size e)
 
 -- one entry more
 pub entries_more : (old mid new : Cursor) (changes : List Change) (c : Change) (before middle after : List Write) → PushesEntries old mid changes before middle → PushesEntry mid new (entry c) middle after → PushesEntries old new (changes ++ c ∷ []) before after
@@ -121,7 +121,7 @@ entries_more old mid new changes c before middle after all one =
           one.written ∙ ap (λ (l : List Write). l ++ writes_from mid.at (e.head ∷ e.bodies)) all.written ∙ append_assoc before (writes_from old.at (sectors_of_entries all.entries)) (writes_from mid.at (e.head ∷ e.bodies))
           ∙ ap (λ n. before ++ (writes_from old.at (sectors_of_entries all.entries) ++ writes_from n (e.head ∷ e.bodies))) (all.place ∙ sym (sectors_place all.entries old.at))
           ∙ ap (λ (l : List Write). before ++ l) (sym (sectors_append (sectors_of_entries all.entries) (e.head ∷ e.bodies) old.at)) ∙ ap (λ (l : List (List ℕ)). before ++ writes_from old.at l) (sym (sectors_push all.entries e));
-      place = one.place ∙ ap (λ n. n + size_of e) all.place ∙ sym (place-more all.entries (e ∷ []) old.at);
+      place = one.place ∙ ap (λ n. n + entry_size e) all.place ∙ sym (place-more all.entries (e ∷ []) old.at);
       until_stays = one.until_stays ∙ all.until_stays;
       version_is = one.version_is ∙ ap (λ n. n + 1) all.version_is ∙ sym (version-more all.entries (e ∷ []) old.version);
       opened_stays = one.opened_stays ∙ all.opened_stays;
@@ -138,7 +138,7 @@ versions_count [] version = omega arith
 versions_count (e ∷ es) version = versions_count es (version + 1) ∙ omega arith
 
 -- A bank's parts, and the entries after its snapshot's room.
-pub lays : (s : Shape) (bank opened base first : ℕ) (octets : List ℕ) (changes : List Change) (next new : Cursor) (middle ws : List Write)
+pub lays : (s : Sizes) (bank opened base first : ℕ) (octets : List ℕ) (changes : List Change) (next new : Cursor) (middle ws : List Write)
     → first ≡ snapshot_place s bank → next.at ≡ journal_place s bank → next.until ≡ bank_end s bank → next.version ≡ base → next.opened ≡ opened
     → PushesParts first opened base octets (snapshot_sectors (length octets)) [] middle → PushesEntries next new changes middle ws → LaysBank s bank opened base octets changes ws new
 lays s bank opened base first octets changes next new middle ws first_is at_is until_is version_is opened_is parts entries = record {

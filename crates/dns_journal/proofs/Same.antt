@@ -4,8 +4,8 @@ use Rattle.std.specs.List.{flat_map}
 use Rattle.dns_sectors.specs.Device.{Content}
 use Rattle.dns_layout.specs.Sector.{sector_at, open_count, sequence_number, number, payload_in, bank_open, AreZeros, snapshot_sectors_in}
 use Rattle.dns_layout.specs.Own.{IsIntactIn}
-use Rattle.dns_layout.specs.Journal.{Entry, size_of, IsNextHeadIn, ReadsIn, Stand}
-use Rattle.dns_layout.specs.Store.{Shape, Stored, IsRootIn, ArePartsIn, OpensByIn, IsLeftOver, all_sectors, snapshot_place, journal_place, bank_end}
+use Rattle.dns_layout.specs.Journal.{Entry, entry_size, IsNextHeadIn, ReadsIn, Stand}
+use Rattle.dns_layout.specs.Store.{Sizes, Stored, IsRootIn, ArePartsIn, OpensByIn, IsLeftOver, all_sectors, snapshot_place, journal_place, bank_end}
 use Rattle.dns_layout.specs.declared.format.Format.{Format}
 use Rattle.dns_journal.specs.Clearing.{NamesSameBank}
 use Rattle.dns_journal.proofs.Reading.{stand_same}
@@ -15,11 +15,11 @@ module _ (f : Format) where
   pub reads_same : (es : List Entry) (until at version opened : ℕ) (c d : Content) → ((q : ℕ) → at ≤ q → q < until → sector_at c q ≡ sector_at d q) → ReadsIn f until d at version opened es → ReadsIn f until c at version opened es
   reads_same [] until at version opened c d same there = λ next. there (subst (λ (x : List ℕ). IsNextHeadIn f until at version opened x) (same at (omega arith) (omega (arith, next.within))) next)
   reads_same (e ∷ es) until at version opened c d same there =
-      let inside : at + size_of e ≤ until = omega (arith, there.0.head.within, there.0.count) in (
+      let inside : at + entry_size e ≤ until = omega (arith, there.0.head.within, there.0.count) in (
         there.0,
         same at (omega arith) (omega (arith, inside)) ∙ there.1,
         stand_same e.bodies (at + 1) until c d (omega (arith, inside)) (λ q from lt. same q (omega (arith, from)) lt) there.2,
-        reads_same es until (at + size_of e) (version + 1) (open_count e.head) c d (λ q from lt. same q (omega (arith, from)) lt) there.3,
+        reads_same es until (at + entry_size e) (version + 1) (open_count e.head) c d (λ q from lt. same q (omega (arith, from)) lt) there.3,
       )
 
   parts_same : (root root' : List ℕ) (index : ℕ) (parts : List (List ℕ)) → bank_open root' ≡ bank_open root → sequence_number root' ≡ sequence_number root → ArePartsIn f root index parts → ArePartsIn f root' index parts
@@ -29,7 +29,7 @@ module _ (f : Format) where
     parts_same root root' (index + 1) xs same_open same_base are.1,
   )
 
-  module _ (s : Shape) (k : Stored) (d : Content) (root : List ℕ) (parts : List (List ℕ)) (opens : OpensByIn f s d root parts k) where
+  module _ (s : Sizes) (k : Stored) (d : Content) (root : List ℕ) (parts : List (List ℕ)) (opens : OpensByIn f s d root parts k) where
     -- The bank in use is as it was, and a root names it: the same is stored, where each sector that isn't left over is intact.
     pub opens_same : (c : Content) (root' : List ℕ) → length c ≡ length d → sector_at c 0 ≡ root' → IsRootIn f s root' → NamesSameBank root root'
         → ((q : ℕ) → snapshot_place s (number root) ≤ q → q < bank_end s (number root) → sector_at c q ≡ sector_at d q)

@@ -10,30 +10,30 @@ use Rattle.dns_layout.specs.Forms.{SaysRoot}
 use Rattle.dns_layout.specs.Own.{AreOwn}
 use Rattle.dns_layout.specs.declared.root.Root.{Root}
 use Rattle.dns_journal.proofs.Altered.{own_append}
-use Rattle.dns_layout.specs.Journal.{Entry, size_of, IsNextEntry, IsBatch, writes_from, body_writes, head_writes, place_behind, version_behind, AllBehind}
+use Rattle.dns_layout.specs.Journal.{Entry, entry_size, IsNextEntry, IsBatch, writes_from, body_writes, head_writes, place_behind, version_behind, AllBehind}
 use Rattle.dns_journal.specs.declared.read.Cursor.{Cursor}
-use Rattle.dns_layout.specs.Store.{Shape, Stored, OpensBy, journal_place, bank_end, version_of}
+use Rattle.dns_layout.specs.Store.{Sizes, Stored, OpensBy, journal_place, bank_end, version_of}
 use Rattle.dns_journal.specs.State.{Keeps}
 use Rattle.dns_journal.specs.Staging.{Stages}
 use Rattle.dns_journal.specs.declared.journal.Journal.{Journal}
 
 pub batch_more : (es : List Entry) (e : Entry) (until at version opened : ℕ) → IsBatch until at version opened es → IsNextEntry until (place_behind at es) (version_behind version es) opened e → open_count e.head ≡ opened → IsBatch until at version opened (es ++ e ∷ [])
 batch_more [] e until at version opened batch next same = (next, same, tt)
-batch_more (f ∷ es) e until at version opened batch next same = (batch.0, batch.1, batch_more es e until (at + size_of f) (version + 1) opened batch.2 next same)
+batch_more (f ∷ es) e until at version opened batch next same = (batch.0, batch.1, batch_more es e until (at + entry_size f) (version + 1) opened batch.2 next same)
 
 bodies_more : (es : List Entry) (e : Entry) (at : ℕ) → body_writes at (es ++ e ∷ []) ≡ body_writes at es ++ writes_from (place_behind at es + 1) e.bodies
 bodies_more [] e at = append-nil (writes_from (at + 1) e.bodies)
 bodies_more (f ∷ es) e at =
-    ap (λ (ws : List Write). writes_from (at + 1) f.bodies ++ ws) (bodies_more es e (at + size_of f))
-    ∙ sym (append_assoc (writes_from (at + 1) f.bodies) (body_writes (at + size_of f) es) (writes_from (place_behind (at + size_of f) es + 1) e.bodies))
+    ap (λ (ws : List Write). writes_from (at + 1) f.bodies ++ ws) (bodies_more es e (at + entry_size f))
+    ∙ sym (append_assoc (writes_from (at + 1) f.bodies) (body_writes (at + entry_size f) es) (writes_from (place_behind (at + entry_size f) es + 1) e.bodies))
 
 heads_more : (es : List Entry) (e : Entry) (at : ℕ) → head_writes at (es ++ e ∷ []) ≡ head_writes at es ++ (place_behind at es, e.head) ∷ []
 heads_more [] e at = refl
-heads_more (f ∷ es) e at = ap (λ (ws : List Write). (at, f.head) ∷ ws) (heads_more es e (at + size_of f))
+heads_more (f ∷ es) e at = ap (λ (ws : List Write). (at, f.head) ∷ ws) (heads_more es e (at + entry_size f))
 
-place_more : (es : List Entry) (e : Entry) (at : ℕ) → place_behind at (es ++ e ∷ []) ≡ place_behind at es + size_of e
+place_more : (es : List Entry) (e : Entry) (at : ℕ) → place_behind at (es ++ e ∷ []) ≡ place_behind at es + entry_size e
 place_more [] e at = refl
-place_more (f ∷ es) e at = place_more es e (at + size_of f)
+place_more (f ∷ es) e at = place_more es e (at + entry_size f)
 
 version_more : (es : List Entry) (e : Entry) (version : ℕ) → version_behind version (es ++ e ∷ []) ≡ version_behind version es + 1
 version_more [] e version = refl
@@ -43,7 +43,7 @@ pub on_err : {T E P : Type 0} (r : Result T E) → P → OnErr r P
 on_err (Ok x) p = tt
 on_err (Err e) p = p
 
-module _ {D : Type 0} {g : Ghosts D} (shape : Shape) (old new : Journal D g) (k : Stored) (staged : List Entry) (keeps : Keeps shape old k staged) (device : new.device ≡ old.device) (closed : new.is_closed ≡ old.is_closed) (same_root : new.root ≡ old.root) where
+module _ {D : Type 0} {g : Ghosts D} (shape : Sizes) (old new : Journal D g) (k : Stored) (staged : List Entry) (keeps : Keeps shape old k staged) (device : new.device ≡ old.device) (closed : new.is_closed ≡ old.is_closed) (same_root : new.root ≡ old.root) where
   abbrev root : List ℕ
   root = keeps.0
 
@@ -74,7 +74,7 @@ module _ {D : Type 0} {g : Ghosts D} (shape : Shape) (old new : Journal D g) (k 
           batch = batch_more staged e (bank_end shape (number root)) first (version_of k) (open_count root) keeps.2.batch next (stages.opened ∙ keeps.2.opened_is);
           bodies = stages.bodies_are ∙ ap (λ (ws : List Write). ws ++ writes_from (old.next.at + 1) e.bodies) keeps.2.bodies ∙ ap (λ n. body_writes first staged ++ writes_from (n + 1) e.bodies) keeps.2.at_is ∙ sym (bodies_more staged e first);
           until_is = stages.until_stays ∙ keeps.2.until_is;
-          at_is = stages.place ∙ ap (λ n. n + size_of e) keeps.2.at_is ∙ sym (place_more staged e first);
+          at_is = stages.place ∙ ap (λ n. n + entry_size e) keeps.2.at_is ∙ sym (place_more staged e first);
           version_is = stages.version_is ∙ ap (λ n. n + 1) keeps.2.version_is ∙ sym (version_more staged e (version_of k));
           opened_is = stages.opened_stays ∙ keeps.2.opened_is;
           heads = stages.heads_are ∙ ap (λ (ws : List Write). ws ++ (old.next.at, e.head) ∷ []) keeps.2.heads ∙ ap (λ n. head_writes first staged ++ (n, e.head) ∷ []) keeps.2.at_is ∙ sym (heads_more staged e first);

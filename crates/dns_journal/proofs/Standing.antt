@@ -6,8 +6,8 @@ use Rattle.std.specs.List.{flat_map}
 use Rattle.dns_sectors.specs.Device.{Content}
 use Rattle.dns_layout.specs.Sector.{sector_at, AreZeros, sequence_number, number, payload, bank_open, snapshot_length, snapshot_sectors}
 use Rattle.dns_layout.specs.Own.{IsIntactIn}
-use Rattle.dns_layout.specs.Journal.{Entry, size_of, IsNextHead, IsBatch, ReadsEntries, Stand, place_behind, version_behind}
-use Rattle.dns_layout.specs.Store.{Shape, Stored, IsRoot, AreParts, OpensBy, IsLeftOver, all_sectors, snapshot_place, journal_place, bank_end, version_of}
+use Rattle.dns_layout.specs.Journal.{Entry, entry_size, IsNextHead, IsBatch, ReadsEntries, Stand, place_behind, version_behind}
+use Rattle.dns_layout.specs.Store.{Sizes, Stored, IsRoot, AreParts, OpensBy, IsLeftOver, all_sectors, snapshot_place, journal_place, bank_end, version_of}
 use Rattle.dns_layout.specs.declared.format.Format.TheVariants.{Two}
 use Rattle.dns_journal.specs.Bank.{sectors_of_entries}
 use Rattle.dns_journal.proofs.Places.{at_set-same, at_set-other}
@@ -28,23 +28,23 @@ pub stand_reads : (es : List Entry) (until at version opened : ℕ) (c : Content
     → (IsNextHead until (place_behind at es) (version_behind version es) opened (sector_at c (place_behind at es)) → ⊥) → ReadsEntries until c at version opened es
 stand_reads [] until at version opened c batch there ends = ends
 stand_reads (e ∷ es) until at version opened c batch there ends =
-    let same : at + 1 + length e.bodies ≡ at + size_of e = omega arith in
-    let rest : Stand c (at + size_of e) (sectors_of_entries es) = subst (λ n. Stand c n (sectors_of_entries es)) same (stand_rest e.bodies (sectors_of_entries es) (at + 1) c there.1) in (
+    let same : at + 1 + length e.bodies ≡ at + entry_size e = omega arith in
+    let rest : Stand c (at + entry_size e) (sectors_of_entries es) = subst (λ n. Stand c n (sectors_of_entries es)) same (stand_rest e.bodies (sectors_of_entries es) (at + 1) c there.1) in (
       batch.0,
       there.0,
       stand_first e.bodies (sectors_of_entries es) (at + 1) c there.1,
-      subst (λ o. ReadsEntries until c (at + size_of e) (version + 1) o es) (sym batch.1) (stand_reads es until (at + size_of e) (version + 1) opened c batch.2 rest ends),
+      subst (λ o. ReadsEntries until c (at + entry_size e) (version + 1) o es) (sym batch.1) (stand_reads es until (at + entry_size e) (version + 1) opened c batch.2 rest ends),
     )
 
 -- how far the entries go, and that their sectors are as many
 pub sectors_within : (es : List Entry) (until at version opened : ℕ) → at ≤ until → IsBatch until at version opened es → at + length (sectors_of_entries es) ≤ until
 sectors_within [] until at version opened le batch = omega (arith, le)
 sectors_within (e ∷ es) until at version opened le batch =
-    let rest = sectors_within es until (at + size_of e) (version + 1) opened (omega (arith, batch.0.head.within, batch.0.count)) batch.2 in
+    let rest = sectors_within es until (at + entry_size e) (version + 1) opened (omega (arith, batch.0.head.within, batch.0.count)) batch.2 in
     omega (arith, rest, length-append e.bodies (sectors_of_entries es))
 
 -- The bank that was written, and a root that names it.
-pub turned_opens : (s : Shape) (d : Content) (y : List ℕ) (parts : List (List ℕ)) (new : Stored) (opened : ℕ)
+pub turned_opens : (s : Sizes) (d : Content) (y : List ℕ) (parts : List (List ℕ)) (new : Stored) (opened : ℕ)
     → length d ≡ all_sectors s → IsRoot s y → sequence_number y ≡ new.base → bank_open y ≡ opened → length parts ≡ snapshot_sectors (snapshot_length y) → AreParts y 0 parts
     → take (snapshot_length y) (flat_map payload parts) ≡ new.snapshot → AreZeros (drop (snapshot_length y) (flat_map payload parts))
     → Stand d (snapshot_place s (number y)) parts → Stand d (journal_place s (number y)) (sectors_of_entries new.entries)

@@ -7,7 +7,7 @@ use Rattle.dns_sectors.specs.declared.device.Sectors.{Ghosts}
 use Rattle.dns_layout.specs.Sector.{open_count, number, snapshot_sectors}
 use Rattle.dns_layout.specs.Forms.{SaysRoot, bank_number, clear_number}
 use Rattle.dns_layout.specs.Journal.{IsBatch, writes_from, place_behind}
-use Rattle.dns_layout.specs.Store.{Shape, Stored, OpensAs, IsTidy, snapshot_place, journal_place, bank_end, version_of, other_of}
+use Rattle.dns_layout.specs.Store.{Sizes, Stored, OpensAs, IsTidy, snapshot_place, journal_place, bank_end, version_of, other_of}
 use Rattle.dns_layout.specs.Own.{AreOwn}
 use Rattle.dns_layout.specs.declared.root.Root.{Root}
 use Rattle.dns_layout.specs.declared.root.Bank.{Bank}
@@ -19,21 +19,21 @@ use Rattle.dns_journal.specs.Bank.{sectors_of_entries, LaysBank, Turns, IsTurned
 use Rattle.dns_journal.proofs.Bank.{tidy_from}
 use Rattle.dns_journal.proofs.Laying.{entries_count, versions_count}
 
-abbrev pub rooms_of : Root → Shape
+abbrev pub rooms_of : Root → Sizes
 rooms_of r = record { snapshot = r.snapshot_room; journal = r.journal_room; apex = r.apex }
 
 abbrev pub root_turned : Root → Bank → ℕ → ℕ → Root
 root_turned r bank base len = record r { bank = bank; bank_open = r.open_count; base = base; snapshot_length = len }
 
 -- nothing was done
-pub still_stored : {D : Type 0} {g : Ghosts D} (shape : Shape) (old : Journal D g) (k : Stored) (keeps : Keeps shape old k []) (octets : List ℕ) (changes : List Change) (c : Content)
+pub still_stored : {D : Type 0} {g : Ghosts D} (shape : Sizes) (old : Journal D g) (k : Stored) (keeps : Keeps shape old k []) (octets : List ℕ) (changes : List Change) (c : Content)
     → c ≡ g.seen old.device → LeavesEither shape k octets changes (opened_of old) c
 still_stored {D} {g} shape old k keeps octets changes c is =
     subst (λ (d : Content). LeavesEither shape k octets changes (opened_of old) d) (sym is)
     (inl (keeps.0, keeps.1, keeps.2.opens), tidy_from shape (g.seen old.device) keeps.0 (version_of k) keeps.2.opens.stands keeps.2.bank keeps.2.behind, ap open_count keeps.2.opens.stands ∙ keeps.2.says.opened_is)
 
 -- the positions of a bank depend on the two rooms alone
-module _ {D : Type 0} {g : Ghosts D} (shape : Shape) (old : Journal D g) (k : Stored) (keeps : Keeps shape old k []) (octets : List ℕ) (changes : List Change) (bank : Bank) (base : ℕ) (ws : List Write) (next : Cursor)
+module _ {D : Type 0} {g : Ghosts D} (shape : Sizes) (old : Journal D g) (k : Stored) (keeps : Keeps shape old k []) (octets : List ℕ) (changes : List Change) (bank : Bank) (base : ℕ) (ws : List Write) (next : Cursor)
     (bank_is : bank_number bank ≡ other_of (bank_number old.root.bank)) (base_is : base + length changes ≡ old.next.version) (fits : snapshot_sectors (length octets) ≤ old.root.snapshot_room)
     (lays : LaysBank (rooms_of old.root) (other_of (bank_number old.root.bank)) old.root.open_count base octets changes ws next) where
   abbrev x : List ℕ

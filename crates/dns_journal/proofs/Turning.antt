@@ -2,12 +2,12 @@
 use Rattle.std.proofs.Common.{◌≡◌, ◌⊎◌, inl, inr, ⊎_elim, ℕ, zero, suc, ◌+◌, ◌≤◌, ◌<◌, List, [], ◌∷◌, ◌++◌, length, get_or, refl, sym, ◌∙◌, ap, subst, arith}
 use Rattle.std.specs.Prelude.{slice_set}
 use Rattle.dns_sectors.specs.Device.{Content, MayWrite, Only}
-use Rattle.dns_sectors.specs.Crash.{Write, applied, SomeApplied, CrashOf}
+use Rattle.dns_sectors.specs.Crash.{Write, after_writes, SomeApplied, CrashOf}
 use Rattle.dns_layout.specs.Sector.{sector_at, tag, open_count, sequence_number, number, bank_open, snapshot_length, snapshot_sectors, head_tag, head_tag_in, snapshot_tag, snapshot_tag_in, clear}
 use Rattle.dns_layout.specs.Own.{Own, IsIntactIn, AreOwn}
 use Rattle.dns_layout.specs.Forms.{SaysRoot, clear_number}
-use Rattle.dns_layout.specs.Journal.{Entry, size_of, AreBodies, Stand, IsBatch, IsNextHead, IsBehind, AllBehind, place_behind, version_behind, writes_from}
-use Rattle.dns_layout.specs.Store.{Shape, Stored, IsRoot, AreParts, OpensBy, OpensAs, IsTidy, IsLeftOver, all_sectors, snapshot_place, journal_place, bank_end, version_of, other_of}
+use Rattle.dns_layout.specs.Journal.{Entry, entry_size, AreBodies, Stand, IsBatch, IsNextHead, IsBehind, AllBehind, place_behind, version_behind, writes_from}
+use Rattle.dns_layout.specs.Store.{Sizes, Stored, IsRoot, AreParts, OpensBy, OpensAs, IsTidy, IsLeftOver, all_sectors, snapshot_place, journal_place, bank_end, version_of, other_of}
 use Rattle.dns_layout.specs.declared.format.Format.TheVariants.{Two}
 use Rattle.dns_layout.specs.declared.root.Root.{Root}
 use Rattle.dns_journal.specs.State.{IsOpenedTimes}
@@ -24,7 +24,7 @@ use Rattle.dns_journal.proofs.Encoded.{held, zeros_held}
 use Rattle.dns_journal.proofs.Same.{opens_same}
 
 -- Any of the writes to the bank not in use: what is stored stays.
-pub other_bank_crash : (s : Shape) (k : Stored) (d : Content) (root : List ℕ) (parts : List (List ℕ)) → OpensBy s d root parts k → bank_open root ≤ open_count root → AllBehind (open_count root) (version_of k) d
+pub other_bank_crash : (s : Sizes) (k : Stored) (d : Content) (root : List ℕ) (parts : List (List ℕ)) → OpensBy s d root parts k → bank_open root ≤ open_count root → AllBehind (open_count root) (version_of k) d
     → (ws : List Write) → AllBetween (snapshot_place s (other_of (number root))) (bank_end s (other_of (number root))) ws → WritesBehind (open_count root) (version_of k) ws → AreOwn ws
     → (c : Content) → SomeApplied ws d c → OpensBy s c root parts k × AllBehind (open_count root) (version_of k) c × IsTidy s c
 other_bank_crash s k d root parts opens bank behind ws between written own c some =
@@ -61,8 +61,8 @@ pub sectors_behind : (es : List Entry) (until at version opened newest : ℕ) �
 sectors_behind [] until at version opened newest le batch = tt
 sectors_behind (e ∷ es) until at version opened newest le batch =
     let far = version_grows (version + 1) es in
-    let same : at + 1 + length e.bodies ≡ at + size_of e = omega arith in
-    let rest : WritesBehind opened newest (writes_from (at + 1 + length e.bodies) (sectors_of_entries es)) = subst (λ n. WritesBehind opened newest (writes_from n (sectors_of_entries es))) (sym same) (sectors_behind es until (at + size_of e) (version + 1) opened newest le batch.2) in (
+    let same : at + 1 + length e.bodies ≡ at + entry_size e = omega arith in
+    let rest : WritesBehind opened newest (writes_from (at + 1 + length e.bodies) (sectors_of_entries es)) = subst (λ n. WritesBehind opened newest (writes_from n (sectors_of_entries es))) (sym same) (sectors_behind es until (at + entry_size e) (version + 1) opened newest le batch.2) in (
       λ _. inr (batch.1, omega (arith, batch.0.head.next, far, le)),
       subst (λ (ws : List Write). WritesBehind opened newest ws) (sym (sectors_append e.bodies (sectors_of_entries es) (at + 1)))
           (written_append opened newest (writes_from (at + 1) e.bodies) (writes_from (at + 1 + length e.bodies) (sectors_of_entries es)) (each e.bodies 0 (at + 1) batch.0.bodies) rest),
@@ -73,7 +73,7 @@ sectors_behind (e ∷ es) until at version opened newest le batch =
     each (x ∷ xs) index at are = (λ tagged. absurd (body_no_head x are.0.tagged tagged), each xs (index + 1) (at + 1) are.1)
 
 -- The writes of a checkpoint, over a store on a device.
-module _ (s : Shape) (k new : Stored) (d : Content) (x : List ℕ) (parts : List (List ℕ)) (opens : OpensBy s d x parts k) (bank : bank_open x ≤ open_count x) (behind : AllBehind (open_count x) (version_of k) d)
+module _ (s : Sizes) (k new : Stored) (d : Content) (x : List ℕ) (parts : List (List ℕ)) (opens : OpensBy s d x parts k) (bank : bank_open x ≤ open_count x) (behind : AllBehind (open_count x) (version_of k) d)
     (r : Root) (y : List ℕ) (says : SaysRoot y r) (y_own : Own 0 y) (ws : List Write) (turns : Turns s k new x r ws) where
   abbrev other : ℕ
   other = other_of (number x)
@@ -112,11 +112,11 @@ module _ (s : Shape) (k new : Stored) (d : Content) (x : List ℕ) (parts : List
   pub bank_crash : (c : Content) → SomeApplied ws d c → OpensBy s c x parts k × AllBehind (open_count x) (version_of k) c × IsTidy s c
   bank_crash c some = laid_crash c (subst (λ (l : List Write). SomeApplied l d c) turns.written some)
 
-  pub bank_written : OpensBy s (applied ws d) x parts k × AllBehind (open_count x) (version_of k) (applied ws d) × IsTidy s (applied ws d)
-  bank_written = bank_crash (applied ws d) (all_are_some ws d)
+  pub bank_written : OpensBy s (after_writes ws d) x parts k × AllBehind (open_count x) (version_of k) (after_writes ws d) × IsTidy s (after_writes ws d)
+  bank_written = bank_crash (after_writes ws d) (all_are_some ws d)
 
   abbrev full : Content
-  full = applied laid d
+  full = after_writes laid d
 
   inside : bank_end s (other_of (number x)) ≤ length d
   inside = omega (arith, opens.size, ends (number x))
@@ -126,23 +126,23 @@ module _ (s : Shape) (k new : Stored) (d : Content) (x : List ℕ) (parts : List
       ends (suc n) = omega arith
 
   abbrev middle : Content
-  middle = applied (writes_from (snapshot_place s (other_of (number x))) turns.parts) d
+  middle = after_writes (writes_from (snapshot_place s (other_of (number x))) turns.parts) d
 
-  full_is : applied laid d ≡ applied (writes_from (journal_place s (other_of (number x))) (sectors_of_entries new.entries)) middle
+  full_is : after_writes laid d ≡ after_writes (writes_from (journal_place s (other_of (number x))) (sectors_of_entries new.entries)) middle
   full_is = applied-append (writes_from (snapshot_place s (other_of (number x))) turns.parts) (writes_from (journal_place s (other_of (number x))) (sectors_of_entries new.entries)) d
 
   middle_length : length middle ≡ length d
   middle_length = some-length (writes_from (snapshot_place s (other_of (number x))) turns.parts) d middle (all_are_some (writes_from (snapshot_place s (other_of (number x))) turns.parts) d)
 
-  parts_there : Stand (applied laid d) (snapshot_place s (other_of (number x))) turns.parts
+  parts_there : Stand (after_writes laid d) (snapshot_place s (other_of (number x))) turns.parts
   parts_there =
       subst (λ (c : Content). Stand c (snapshot_place s (other_of (number x))) turns.parts) (sym full_is)
-      (stand_same turns.parts (snapshot_place s (other_of (number x))) (journal_place s (other_of (number x))) (applied (writes_from (journal_place s (other_of (number x))) (sectors_of_entries new.entries)) middle) middle parts_within
-      (λ q from lt. some_below (writes_from (journal_place s (other_of (number x))) (sectors_of_entries new.entries)) (journal_place s (other_of (number x))) q middle (applied (writes_from (journal_place s (other_of (number x))) (sectors_of_entries new.entries)) middle)
+      (stand_same turns.parts (snapshot_place s (other_of (number x))) (journal_place s (other_of (number x))) (after_writes (writes_from (journal_place s (other_of (number x))) (sectors_of_entries new.entries)) middle) middle parts_within
+      (λ q from lt. some_below (writes_from (journal_place s (other_of (number x))) (sectors_of_entries new.entries)) (journal_place s (other_of (number x))) q middle (after_writes (writes_from (journal_place s (other_of (number x))) (sectors_of_entries new.entries)) middle)
       (from_writes (journal_place s (other_of (number x))) (sectors_of_entries new.entries)) lt (all_are_some (writes_from (journal_place s (other_of (number x))) (sectors_of_entries new.entries)) middle))
       (writes_stand turns.parts (snapshot_place s (other_of (number x))) d (omega (arith, parts_within, inside))))
 
-  entries_there : Stand (applied laid d) (journal_place s (other_of (number x))) (sectors_of_entries new.entries)
+  entries_there : Stand (after_writes laid d) (journal_place s (other_of (number x))) (sectors_of_entries new.entries)
   entries_there =
       subst (λ (c : Content). Stand c (journal_place s (other_of (number x))) (sectors_of_entries new.entries)) (sym full_is)
       (writes_stand (sectors_of_entries new.entries) (journal_place s (other_of (number x))) middle (omega (arith, ends_within, inside, middle_length)))
@@ -168,52 +168,52 @@ module _ (s : Shape) (k new : Stored) (d : Content) (x : List ℕ) (parts : List
   len_is : snapshot_length y ≡ length new.snapshot
   len_is = says.snapshot_length_is ∙ turns.length_is
 
-  full_behind : AllBehind (open_count x) (version_of k) (applied laid d)
-  full_behind = (laid_crash (applied laid d) (all_are_some laid d)).1
+  full_behind : AllBehind (open_count x) (version_of k) (after_writes laid d)
+  full_behind = (laid_crash (after_writes laid d) (all_are_some laid d)).1
 
-  full_own : (at : ℕ) → at < all_sectors s → (IsLeftOver Two s y at → ⊥) → IsIntactIn Two at (sector_at (slice_set (applied laid d) 0 y) at)
+  full_own : (at : ℕ) → at < all_sectors s → (IsLeftOver Two s y at → ⊥) → IsIntactIn Two at (sector_at (slice_set (after_writes laid d) 0 y) at)
   full_own at lt kept =
-      some_intact ((0, y) ∷ []) (applied laid d) (slice_set (applied laid d) 0 y) at (omega (arith, lt, opens.size, some-length laid d (applied laid d) (all_are_some laid d))) ((λ _. y_own), tt)
-      (some_intact laid d (applied laid d) at (omega (arith, lt, opens.size)) laid_own (opens.own at lt (λ left. absurd (omega (arith, left.not_clear, turns.was_clear)))) (all_are_some laid d))
+      some_intact ((0, y) ∷ []) (after_writes laid d) (slice_set (after_writes laid d) 0 y) at (omega (arith, lt, opens.size, some-length laid d (after_writes laid d) (all_are_some laid d))) ((λ _. y_own), tt)
+      (some_intact laid d (after_writes laid d) at (omega (arith, lt, opens.size)) laid_own (opens.own at lt (λ left. absurd (omega (arith, left.not_clear, turns.was_clear)))) (all_are_some laid d))
       (inr refl)
 
   abbrev behind_entries : ℕ
   behind_entries = place_behind (journal_place s (other_of (number x))) new.entries
 
-  ends : IsNextHead (bank_end s (other_of (number x))) behind_entries (version_of new) (open_count x) (sector_at (applied laid d) behind_entries) → ⊥
-  ends = behind_ends (bank_end s (other_of (number x))) behind_entries (version_of new) (version_of k) (open_count x) (sector_at (applied laid d) behind_entries) (omega (arith, turns.newest)) (full_behind behind_entries)
+  ends : IsNextHead (bank_end s (other_of (number x))) behind_entries (version_of new) (open_count x) (sector_at (after_writes laid d) behind_entries) → ⊥
+  ends = behind_ends (bank_end s (other_of (number x))) behind_entries (version_of new) (version_of k) (open_count x) (sector_at (after_writes laid d) behind_entries) (omega (arith, turns.newest)) (full_behind behind_entries)
 
-  full_opens : OpensBy s (slice_set (applied laid d) 0 y) y turns.parts new
+  full_opens : OpensBy s (slice_set (after_writes laid d) 0 y) y turns.parts new
   full_opens =
-      turned_opens s (applied laid d) y turns.parts new (open_count x) (some-length laid d (applied laid d) (all_are_some laid d) ∙ opens.size) valid (says.base_is ∙ turns.base)
-      (says.bank_open_is ∙ turns.bank_open_is) (turns.count ∙ ap snapshot_sectors (sym len_is)) are (held turns.parts new.snapshot (snapshot_length y) len_is turns.holds) (zeros_held turns.parts new.snapshot (snapshot_length y) len_is turns.holds) (subst (λ n. Stand (applied laid d) (snapshot_place s n) turns.parts) (sym number_is) parts_there)
-      (subst (λ n. Stand (applied laid d) (journal_place s n) (sectors_of_entries new.entries)) (sym number_is) entries_there)
+      turned_opens s (after_writes laid d) y turns.parts new (open_count x) (some-length laid d (after_writes laid d) (all_are_some laid d) ∙ opens.size) valid (says.base_is ∙ turns.base)
+      (says.bank_open_is ∙ turns.bank_open_is) (turns.count ∙ ap snapshot_sectors (sym len_is)) are (held turns.parts new.snapshot (snapshot_length y) len_is turns.holds) (zeros_held turns.parts new.snapshot (snapshot_length y) len_is turns.holds) (subst (λ n. Stand (after_writes laid d) (snapshot_place s n) turns.parts) (sym number_is) parts_there)
+      (subst (λ n. Stand (after_writes laid d) (journal_place s n) (sectors_of_entries new.entries)) (sym number_is) entries_there)
       (subst (λ n. IsBatch (bank_end s n) (journal_place s n) new.base (open_count x) new.entries) (sym number_is) turns.batch)
-      (subst (λ n. IsNextHead (bank_end s n) (place_behind (journal_place s n) new.entries) (version_of new) (open_count x) (sector_at (applied laid d) (place_behind (journal_place s n) new.entries)) → ⊥) (sym number_is) ends)
+      (subst (λ n. IsNextHead (bank_end s n) (place_behind (journal_place s n) new.entries) (version_of new) (open_count x) (sector_at (after_writes laid d) (place_behind (journal_place s n) new.entries)) → ⊥) (sym number_is) ends)
       full_own
 
   -- The root that names the bank that was written: what was to be stored is stored.
-  pub turn_opens : OpensBy s (slice_set (applied ws d) 0 y) y turns.parts new
-  turn_opens = subst (λ (l : List Write). OpensBy s (slice_set (applied l d) 0 y) y turns.parts new) (sym turns.written) full_opens
+  pub turn_opens : OpensBy s (slice_set (after_writes ws d) 0 y) y turns.parts new
+  turn_opens = subst (λ (l : List Write). OpensBy s (slice_set (after_writes l d) 0 y) y turns.parts new) (sym turns.written) full_opens
 
   open_is : open_count y ≡ open_count x
   open_is = says.opened_is ∙ turns.opened
 
-  pub turn_behind : AllBehind (open_count y) (version_of new) (slice_set (applied ws d) 0 y)
+  pub turn_behind : AllBehind (open_count y) (version_of new) (slice_set (after_writes ws d) 0 y)
   turn_behind q tagged =
-      subst (λ o. (open_count (sector_at (slice_set (applied ws d) 0 y) q) < o) ⊎ ((open_count (sector_at (slice_set (applied ws d) 0 y) q) ≡ o) × (sequence_number (sector_at (slice_set (applied ws d) 0 y) q) ≤ version_of new))) (sym open_is)
-      (⊎_elim (λ same. subst (λ n. (open_count (sector_at (slice_set (applied ws d) 0 y) q) < open_count x) ⊎ ((open_count (sector_at (slice_set (applied ws d) 0 y) q) ≡ open_count x) × (sequence_number (sector_at (slice_set (applied ws d) 0 y) q) ≤ n))) (sym turns.newest)
+      subst (λ o. (open_count (sector_at (slice_set (after_writes ws d) 0 y) q) < o) ⊎ ((open_count (sector_at (slice_set (after_writes ws d) 0 y) q) ≡ o) × (sequence_number (sector_at (slice_set (after_writes ws d) 0 y) q) ≤ version_of new))) (sym open_is)
+      (⊎_elim (λ same. subst (λ n. (open_count (sector_at (slice_set (after_writes ws d) 0 y) q) < open_count x) ⊎ ((open_count (sector_at (slice_set (after_writes ws d) 0 y) q) ≡ open_count x) × (sequence_number (sector_at (slice_set (after_writes ws d) 0 y) q) ≤ n))) (sym turns.newest)
       (subst (λ (z : List ℕ). IsBehind (open_count x) (version_of k) z) (sym same) (bank_written.1 q) tagged))
-      (λ here. absurd (root_no_head y says.tagged (ap tag (sym here) ∙ tagged))) (at_set-either (applied ws d) 0 q y))
+      (λ here. absurd (root_no_head y says.tagged (ap tag (sym here) ∙ tagged))) (at_set-either (after_writes ws d) 0 q y))
 
   pub turn_bank : bank_open y ≤ open_count y
   turn_bank = omega (arith, says.bank_open_is, turns.bank_open_is, open_is)
 
-  pub turn_tidy : IsTidy s (slice_set (applied ws d) 0 y)
-  turn_tidy = tidy_from s (slice_set (applied ws d) 0 y) y (version_of new) turn_opens.stands turn_bank turn_behind
+  pub turn_tidy : IsTidy s (slice_set (after_writes ws d) 0 y)
+  turn_tidy = tidy_from s (slice_set (after_writes ws d) 0 y) y (version_of new) turn_opens.stands turn_bank turn_behind
 
   -- A crash while the root is turned leaves what was stored, or what was to be.
-  pub turn_crash : (c : Content) → MayWrite 0 y (applied ws d) c → (OpensAs s c k ⊎ OpensAs s c new) × IsTidy s c × IsOpenedTimes (open_count x) c
+  pub turn_crash : (c : Content) → MayWrite 0 y (after_writes ws d) c → (OpensAs s c k ⊎ OpensAs s c new) × IsTidy s c × IsOpenedTimes (open_count x) c
   turn_crash c (inl not) = subst (λ (z : Content). (OpensAs s z k ⊎ OpensAs s z new) × IsTidy s z × IsOpenedTimes (open_count x) z) (sym not) (inl (x, parts, bank_written.0), bank_written.2, ap open_count bank_written.0.stands)
   turn_crash c (inr is) = subst (λ (z : Content). (OpensAs s z k ⊎ OpensAs s z new) × IsTidy s z × IsOpenedTimes (open_count x) z) (sym is) (inr (y, turns.parts, turn_opens), turn_tidy, ap open_count turn_opens.stands ∙ open_is)
 
@@ -223,12 +223,12 @@ module _ (s : Shape) (k new : Stored) (d : Content) (x : List ℕ) (parts : List
       let same = bank_crash c (subst (λ (z : Content). SomeApplied ws z c) (only e left) some) in
       (inl (x, parts, same.0), same.2, ap open_count same.0.stands)
 
-  pub second_left : (mid : Content) (may_leave : Content → Type 0) → mid ≡ applied ws d → Only mid may_leave → (c : Content) → CrashOf may_leave ((0, y) ∷ []) c → (OpensAs s c k ⊎ OpensAs s c new) × IsTidy s c × IsOpenedTimes (open_count x) c
+  pub second_left : (mid : Content) (may_leave : Content → Type 0) → mid ≡ after_writes ws d → Only mid may_leave → (c : Content) → CrashOf may_leave ((0, y) ∷ []) c → (OpensAs s c k ⊎ OpensAs s c new) × IsTidy s c × IsOpenedTimes (open_count x) c
   second_left mid may_leave written only c (e, left, some) = turn_crash c (subst (λ (z : Content). MayWrite 0 y z c) (only e left ∙ written) some)
 
-  pub turned_to : (mid after : Content) → mid ≡ applied ws d → after ≡ slice_set mid 0 y → IsTurnedTo s new r (open_count x) after
+  pub turned_to : (mid after : Content) → mid ≡ after_writes ws d → after ≡ slice_set mid 0 y → IsTurnedTo s new r (open_count x) after
   turned_to mid after written is =
-      let same : slice_set (applied ws d) 0 y ≡ after = ap (λ (z : Content). slice_set z 0 y) (sym written) ∙ sym is in
+      let same : slice_set (after_writes ws d) 0 y ≡ after = ap (λ (z : Content). slice_set z 0 y) (sym written) ∙ sym is in
       record {
         root = y;
         parts = turns.parts;

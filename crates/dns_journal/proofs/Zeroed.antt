@@ -4,12 +4,12 @@ use Rattle.std.proofs.lemmas.Bool.{cases_lt}
 use Rattle.std.proofs.lemmas.List.{length-set}
 use Rattle.std.specs.Prelude.{slice_set}
 use Rattle.dns_sectors.specs.Device.{Content, Only}
-use Rattle.dns_sectors.specs.Crash.{Write, applied, SomeApplied, CrashOf}
+use Rattle.dns_sectors.specs.Crash.{Write, after_writes, SomeApplied, CrashOf}
 use Rattle.dns_sectors.specs.Phase.{zeros_from}
 use Rattle.dns_layout.specs.Sector.{sector_at, blank, tag, head_tag, head_tag_in, root_tag, root_tag_in, open_count, number, bank_open, clear}
 use Rattle.dns_layout.specs.Own.{IsIntactIn}
 use Rattle.dns_layout.specs.Journal.{AllBehind}
-use Rattle.dns_layout.specs.Store.{Shape, Stored, IsRoot, OpensBy, OpensByIn, IsTidy, IsLeftOver, all_sectors, snapshot_place, bank_end, other_of}
+use Rattle.dns_layout.specs.Store.{Sizes, Stored, IsRoot, OpensBy, OpensByIn, IsTidy, IsLeftOver, all_sectors, snapshot_place, bank_end, other_of}
 use Rattle.dns_layout.specs.declared.format.Format.{Format}
 use Rattle.dns_layout.specs.declared.format.Format.TheVariants.{Two}
 use Rattle.dns_journal.specs.Clearing.{NamesSameBank, IsToClear, OpensStill}
@@ -19,17 +19,17 @@ use Rattle.dns_journal.proofs.Between.{AllBetween, some_outside, banks_apart, ro
 use Rattle.dns_journal.proofs.Same.{opens_same}
 
 -- what a root that is there says of the heads
-pub tidy_of : (s : Shape) (c : Content) (x : List ℕ) → sector_at c 0 ≡ x
+pub tidy_of : (s : Sizes) (c : Content) (x : List ℕ) → sector_at c 0 ≡ x
     → ((at : ℕ) → (IsLeftOver Two s x at → ⊥) → tag (sector_at c at) ≡ head_tag → open_count (sector_at c at) ≤ open_count x) → bank_open x ≤ open_count x → IsTidy s c
 tidy_of s c x is heads bank = record {
   heads = subst (λ (r : List ℕ). (at : ℕ) → (IsLeftOver Two s r at → ⊥) → tag (sector_at c at) ≡ head_tag → open_count (sector_at c at) ≤ open_count r) (sym is) heads;
   bank = subst (λ (r : List ℕ). bank_open r ≤ open_count r) (sym is) bank;
 }
 
-pub tidy_heads : (s : Shape) (c : Content) (x : List ℕ) → sector_at c 0 ≡ x → IsTidy s c → (at : ℕ) → (IsLeftOver Two s x at → ⊥) → tag (sector_at c at) ≡ head_tag → open_count (sector_at c at) ≤ open_count x
+pub tidy_heads : (s : Sizes) (c : Content) (x : List ℕ) → sector_at c 0 ≡ x → IsTidy s c → (at : ℕ) → (IsLeftOver Two s x at → ⊥) → tag (sector_at c at) ≡ head_tag → open_count (sector_at c at) ≤ open_count x
 tidy_heads s c x is tidy = subst (λ (r : List ℕ). (at : ℕ) → (IsLeftOver Two s r at → ⊥) → tag (sector_at c at) ≡ head_tag → open_count (sector_at c at) ≤ open_count r) is tidy.heads
 
-pub tidy_bank : (s : Shape) (c : Content) (x : List ℕ) → sector_at c 0 ≡ x → IsTidy s c → bank_open x ≤ open_count x
+pub tidy_bank : (s : Sizes) (c : Content) (x : List ℕ) → sector_at c 0 ≡ x → IsTidy s c → bank_open x ≤ open_count x
 tidy_bank s c x is tidy = subst (λ (r : List ℕ). bank_open r ≤ open_count r) is tidy.bank
 
 pub root_no_head : (x : List ℕ) → tag x ≡ root_tag → tag x ≡ head_tag → ⊥
@@ -44,7 +44,7 @@ blank_no_head x is is_head =
     let letters : 0 ≡ get_or {A = ℕ} (68 ∷ 80 ∷ 72 ∷ 50 ∷ []) 2 0 = ap (λ (l : List ℕ). get_or l 2 0) (sym (ap (λ (y : List ℕ). take 4 y) is) ∙ is_head) in
     absurd (omega (arith, letters))
 
-module _ (f : Format) (s : Shape) (k : Stored) (d : Content) (x : List ℕ) (parts : List (List ℕ)) (opens : OpensByIn f s d x parts k) where
+module _ (f : Format) (s : Sizes) (k : Stored) (d : Content) (x : List ℕ) (parts : List (List ℕ)) (opens : OpensByIn f s d x parts k) where
   pub other_bank : (ws : List Write) → AllBetween (snapshot_place s (other_of (number x))) (bank_end s (other_of (number x))) ws → (c : Content) → SomeApplied ws d c
       → ((at : ℕ) → at < all_sectors s → (IsLeftOver f s x at → ⊥) → IsIntactIn f at (sector_at c at)) → OpensByIn f s c x parts k
   other_bank ws between c some own =
@@ -54,7 +54,7 @@ module _ (f : Format) (s : Shape) (k : Stored) (d : Content) (x : List ℕ) (par
       (record { bank = refl; bank_open = refl; base = refl; length = refl })
       (λ q from to. some_outside ws low high q d c between (banks_apart s (number x) q opens.valid.bank from to) some) own
 
-pub new_stays : (s : Shape) (k : Stored) (d : Content) (y : List ℕ) (parts : List (List ℕ)) → OpensBy s d y parts k → clear y ≡ 0
+pub new_stays : (s : Sizes) (k : Stored) (d : Content) (y : List ℕ) (parts : List (List ℕ)) → OpensBy s d y parts k → clear y ≡ 0
     → (ws : List Write) → AllBetween (snapshot_place s (other_of (number y))) (bank_end s (other_of (number y))) ws → (c : Content) → SomeApplied ws d c → OpensBy s c y parts k
 new_stays s k d y parts opens not_clear ws between c some =
     let low = snapshot_place s (other_of (number y)) in
@@ -64,7 +64,7 @@ new_stays s k d y parts opens not_clear ws between c some =
     let out : (at < low) ⊎ (high ≤ at) = ⊎_elim (λ below. inl below) (λ above. ⊎_elim (λ inside. absurd (kept (record { not_clear = not_clear; from = above; to = inside }))) (λ behind. inr behind) (cases_lt at high)) (cases_lt at low) in
     subst (λ (z : List ℕ). IsIntactIn Two at z) (sym (some_outside ws low high at d c between out some)) (opens.own at lt kept))
 
-pub cleared_opens : (s : Shape) (k : Stored) (d : Content) (y z : List ℕ) (parts : List (List ℕ)) → OpensBy s d y parts k → IsRoot s z → NamesSameBank y z → IsIntactIn Two 0 z
+pub cleared_opens : (s : Sizes) (k : Stored) (d : Content) (y z : List ℕ) (parts : List (List ℕ)) → OpensBy s d y parts k → IsRoot s z → NamesSameBank y z → IsIntactIn Two 0 z
     → ((at : ℕ) → snapshot_place s (other_of (number y)) ≤ at → at < bank_end s (other_of (number y)) → sector_at d at ≡ blank)
     → OpensBy s (slice_set d 0 z) z parts k
 cleared_opens s k d y z parts opens valid names root_own blanks =
@@ -82,7 +82,7 @@ cleared_opens s k d y z parts opens valid names root_own blanks =
     (which_bank s (number y) at opens.valid.bank some lt)))
     (same_or_not at 0))
 
-module _ (s : Shape) (k : Stored) (d : Content) (x : List ℕ) (parts : List (List ℕ)) (from until : ℕ) (z : List ℕ) (begun : IsToClear s k x parts from until z d) where
+module _ (s : Sizes) (k : Stored) (d : Content) (x : List ℕ) (parts : List (List ℕ)) (from until : ℕ) (z : List ℕ) (begun : IsToClear s k x parts from until z d) where
   abbrev low : ℕ
   low = snapshot_place s (other_of (number x))
 
@@ -126,7 +126,7 @@ module _ (s : Shape) (k : Stored) (d : Content) (x : List ℕ) (parts : List (Li
   zeros_left may_leave only c left = zeros_leave c (subst (λ (e : Content). SomeApplied (zeros_from from (until - from)) e c) (only left.0 left.1) left.2)
 
   abbrev blanked : Content
-  blanked = applied (zeros_from from (until - from)) d
+  blanked = after_writes (zeros_from from (until - from)) d
 
   all_zeros : SomeApplied (zeros_from from (until - from)) d blanked
   all_zeros = all_are_some (zeros_from from (until - from)) d
@@ -136,7 +136,7 @@ module _ (s : Shape) (k : Stored) (d : Content) (x : List ℕ) (parts : List (Li
       zeros_stand from (until - from) at d (omega (arith, above, begun.from_is)) (omega (arith, below, begun.from_is, begun.until_is))
       (omega (arith, begun.from_is, begun.until_is, begun.opens.size, bank_inside s (number x)))
 
-  cleared_now : OpensBy s (slice_set (applied (zeros_from from (until - from)) d) 0 z) z parts k
+  cleared_now : OpensBy s (slice_set (after_writes (zeros_from from (until - from)) d) 0 z) z parts k
   cleared_now = cleared_opens s k blanked x z parts (stays blanked all_zeros) begun.valid begun.names (λ _. begun.own) blanks
 
   -- each head that is left was there before
@@ -155,12 +155,12 @@ module _ (s : Shape) (k : Stored) (d : Content) (x : List ℕ) (parts : List (Li
       tidy_of s (slice_set blanked 0 z) z cleared_now.stands (λ at kept tagged. (let le = heads_left at tagged in omega (arith, le, begun.no_lower)))
       (omega (arith, begun.names.bank_open, bank, begun.no_lower))
 
-  pub cleared_left : (mid : Content) (may_leave : Content → Type 0) → mid ≡ applied (zeros_from from (until - from)) d → Only mid may_leave → (c : Content) → CrashOf may_leave ((0, z) ∷ []) c → OpensStill s k x z c
+  pub cleared_left : (mid : Content) (may_leave : Content → Type 0) → mid ≡ after_writes (zeros_from from (until - from)) d → Only mid may_leave → (c : Content) → CrashOf may_leave ((0, z) ∷ []) c → OpensStill s k x z c
   cleared_left mid may_leave is only c (e, left, inl not) = subst (λ (b : Content). OpensStill s k x z b) (sym (not ∙ only e left ∙ is)) (zeros_leave blanked all_zeros)
   cleared_left mid may_leave is only c (e, left, inr new) =
       subst (λ (b : Content). OpensStill s k x z b) (sym (new ∙ ap (λ (b : Content). slice_set b 0 z) (only e left ∙ is))) ((z, parts, cleared_now), tidy_now, inr (ap open_count cleared_now.stands))
 
-  module _ (after : Content) (is : after ≡ slice_set (applied (zeros_from from (until - from)) d) 0 z) where
+  module _ (after : Content) (is : after ≡ slice_set (after_writes (zeros_from from (until - from)) d) 0 z) where
     pub cleared : OpensBy s after z parts k × IsTidy s after
     cleared = subst (λ (b : Content). OpensBy s b z parts k × IsTidy s b) (sym is) (cleared_now, tidy_now)
 

@@ -10,9 +10,9 @@ use Rattle.dns_layout.specs.Sector.{clear}
 use Rattle.dns_layout.specs.Sector.{entry_sectors, snapshot_sectors}
 use Rattle.dns_layout.specs.Own.{AreOwn}
 use Rattle.dns_layout.specs.Forms.{SaysRoot, bank_number}
-use Rattle.dns_layout.specs.Journal.{Entry, size_of, octets_of, IsNextEntry, IsBatch, AllBehind, writes_from}
+use Rattle.dns_layout.specs.Journal.{Entry, entry_size, entry_octets, IsNextEntry, IsBatch, AllBehind, writes_from}
 use Rattle.dns_layout.specs.Journal.{place_behind, version_behind}
-use Rattle.dns_layout.specs.Store.{Shape, Stored, OpensBy, OpensAs, IsTidy, AreParts, version_of}
+use Rattle.dns_layout.specs.Store.{Sizes, Stored, OpensBy, OpensAs, IsTidy, AreParts, version_of}
 use Rattle.dns_layout.specs.Store.{snapshot_place, journal_place, bank_end, other_of}
 use Rattle.dns_layout.specs.declared.root.Root.{Root}
 use Rattle.dns_layout.specs.declared.part.SnapshotPart.{SnapshotPart}
@@ -59,21 +59,21 @@ sectors_for c = entry_sectors (length (entry c))
 -- An entry with these octets is put at the cursor, whose open count it has.
 pub record PushesEntry (old new : Cursor) (octets : List ℕ) (before after : List Write) : Type 0 where
   pub entry : Entry
-  pub holds : octets_of entry ≡ octets
+  pub holds : entry_octets entry ≡ octets
   pub next : IsNextEntry old.until old.at old.version old.opened entry
   pub opened : open_count entry.head ≡ old.opened
-  pub size : size_of entry ≡ entry_sectors (length octets)
+  pub size : entry_size entry ≡ entry_sectors (length octets)
   pub own : AreOwn (writes_from old.at (entry.head ∷ entry.bodies))
   pub written : after ≡ before ++ writes_from old.at (entry.head ∷ entry.bodies)
-  pub place : new.at ≡ old.at + size_of entry
+  pub place : new.at ≡ old.at + entry_size entry
   pub until_stays : new.until ≡ old.until
   pub version_is : new.version ≡ old.version + 1
   pub opened_stays : new.opened ≡ old.opened
 
 -- The entry holds the change.
 pub record IsEntryOf (c : Change) (e : Entry) : Type 0 where
-  pub octets_are : octets_of e ≡ entry c
-  pub size_is : size_of e ≡ entry_sectors (length (entry c))
+  pub octets_are : entry_octets e ≡ entry c
+  pub size_is : entry_size e ≡ entry_sectors (length (entry c))
 
 -- The entries hold the changes.
 abbrev pub AreEntries : List Change → List Entry → Type 0
@@ -102,7 +102,7 @@ pub record IsTurned (k : Stored) (octets : List ℕ) (changes : List Change) (ne
   pub entries : AreEntries changes new.entries
 
 -- A crash left what was stored, or what is stored after the turn, of a store that was opened so often.
-abbrev pub LeavesEither : Shape → Stored → List ℕ → List Change → ℕ → Content → Type 0
+abbrev pub LeavesEither : Sizes → Stored → List ℕ → List Change → ℕ → Content → Type 0
 LeavesEither shape k octets changes opened c =
     (OpensAs shape c k ⊎ ((new : Stored) × IsTurned k octets changes new × OpensAs shape c new))
     × IsTidy shape c × IsOpenedTimes opened c
@@ -116,7 +116,7 @@ journal_room_of journal = journal.root.journal_room
 
 -- These writes put a snapshot and the entries of changes into a bank, all with this open count, and the
 -- cursor is past them.
-pub record LaysBank (s : Shape) (bank opened base : ℕ) (octets : List ℕ) (changes : List Change)
+pub record LaysBank (s : Sizes) (bank opened base : ℕ) (octets : List ℕ) (changes : List Change)
     (ws : List Write) (next : Cursor) : Type 0 where
   pub parts : List (List ℕ)
   pub count : length parts ≡ snapshot_sectors (length octets)
@@ -138,7 +138,7 @@ pub record LaysBank (s : Shape) (bank opened base : ℕ) (octets : List ℕ) (ch
 
 -- The writes put what is to be stored into the bank that the root x doesn't name, and r is the root that
 -- names it. Both say that the bank that isn't in use is cleared.
-pub record Turns (s : Shape) (k new : Stored) (x : List ℕ) (r : Root) (ws : List Write) : Type 0 where
+pub record Turns (s : Sizes) (k new : Stored) (x : List ℕ) (r : Root) (ws : List Write) : Type 0 where
   pub opened : r.open_count ≡ open_count x
   pub was_clear : clear x ≡ 1
   pub is_clear : r.is_clear ≡ true
@@ -164,7 +164,7 @@ pub record Turns (s : Shape) (k new : Stored) (x : List ℕ) (r : Root) (ws : Li
       (journal_place s (other_of (number x))) (sectors_of_entries new.entries)
 
 -- It opens as what was to be stored, by this root, and no head anywhere is ahead.
-pub record IsTurnedTo (s : Shape) (new : Stored) (r : Root) (opened : ℕ) (c : Content) : Type 0 where
+pub record IsTurnedTo (s : Sizes) (new : Stored) (r : Root) (opened : ℕ) (c : Content) : Type 0 where
   pub root : List ℕ
   pub parts : List (List ℕ)
   pub says : SaysRoot root r

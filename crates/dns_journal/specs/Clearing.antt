@@ -4,7 +4,7 @@ use Rattle.dns_sectors.specs.Device.{Content}
 use Rattle.dns_layout.specs.Sector.{open_count, number, bank_open, sequence_number, snapshot_length, clear}
 use Rattle.dns_layout.specs.Own.{Own}
 use Rattle.dns_journal.specs.State.{IsOpenedTimes}
-use Rattle.dns_layout.specs.Store.{Shape, Stored, IsRoot, OpensBy, OpensAs, IsTidy, snapshot_place, bank_end}
+use Rattle.dns_layout.specs.Store.{Sizes, Stored, IsRoot, OpensBy, OpensAs, IsTidy, snapshot_place, bank_end}
 use Rattle.dns_layout.specs.Store.{other_of}
 
 -- the two roots name the same bank, with the same snapshot
@@ -16,7 +16,7 @@ pub record NamesSameBank (old new : List ℕ) : Type 0 where
 
 -- The sectors open by the root x, which says that the other bank isn't cleared. That bank goes from the one
 -- position to the other, and z is a root of the same bank with no lower open count.
-pub record IsToClear (s : Shape) (k : Stored) (x : List ℕ) (parts : List (List ℕ))
+pub record IsToClear (s : Sizes) (k : Stored) (x : List ℕ) (parts : List (List ℕ))
     (from until : ℕ) (z : List ℕ) (d : Content) : Type 0 where
   pub opens : OpensBy s d x parts k
   pub tidy : IsTidy s d
@@ -29,13 +29,13 @@ pub record IsToClear (s : Shape) (k : Stored) (x : List ℕ) (parts : List (List
   pub own : Own 0 z
 
 -- It opens as what is stored, of a store that was opened as often as one of the two roots says.
-abbrev pub OpensStill : Shape → Stored → List ℕ → List ℕ → Content → Type 0
+abbrev pub OpensStill : Sizes → Stored → List ℕ → List ℕ → Content → Type 0
 OpensStill s k x z c = OpensAs s c k × IsTidy s c × (IsOpenedTimes (open_count x) c
     ⊎ IsOpenedTimes (open_count z) c)
 
 -- All that was stored before that bank is cleared is stored still.
 abbrev pub StaysUncleared : ℕ → ℕ → List ℕ → Content → Content → Type 0
 StaysUncleared from until z old new =
-    (s : Shape) (k : Stored) (x : List ℕ) (parts : List (List ℕ))
+    (s : Sizes) (k : Stored) (x : List ℕ) (parts : List (List ℕ))
     → IsToClear s k x parts from until z old
     → OpensStill s k x z new

@@ -6,7 +6,7 @@ use Rattle.dns_sectors.specs.Phase.{pairs, zeros_from}
 use Rattle.dns_sectors.specs.declared.phase.SectorWrite.{SectorWrite}
 use Rattle.dns_layout.specs.Sector.{sector_at, clear}
 use Rattle.dns_layout.specs.Forms.{SaysRootIn}
-use Rattle.dns_layout.specs.Store.{Shape, Stored, OpensAs, OpensAsIn, OpensByIn, IsTidy, version_of}
+use Rattle.dns_layout.specs.Store.{Sizes, Stored, OpensAs, OpensAsIn, OpensByIn, IsTidy, version_of}
 use Rattle.dns_layout.specs.declared.root.Root.{Root}
 use Rattle.dns_layout.specs.declared.format.Format.TheVariants.{One}
 use Rattle.dns_changes.specs.Change.{Change}
@@ -27,7 +27,7 @@ bank_writes p parts entries =
 
 -- A crash left what format 1 held, of a store that was opened so often; or in format 2 what is stored after
 -- the turn, opened once more.
-abbrev pub LeavesConverted : Shape → Stored → List ℕ → List Change → ℕ → Content → Type 0
+abbrev pub LeavesConverted : Sizes → Stored → List ℕ → List Change → ℕ → Content → Type 0
 LeavesConverted s k octets changes opened c =
     (OpensAsIn One s c k × IsOpenedTimes opened c)
     ⊎ ((new : Stored) × IsTurned k octets changes new × OpensAs s c new × IsTidy s c
@@ -36,7 +36,7 @@ LeavesConverted s k octets changes opened c =
 -- So it is of all that format 1 held there by this root, up to that version.
 abbrev pub StaysOrConverts : Root → ℕ → List ℕ → List Change → Content → Content → Type 0
 StaysOrConverts root base octets changes old new =
-    (s : Shape) (k : Stored) (x : List ℕ) (parts : List (List ℕ))
+    (s : Sizes) (k : Stored) (x : List ℕ) (parts : List (List ℕ))
     → OpensByIn One s old x parts k
     → SaysRootIn One x root
     → base + length changes ≡ version_of k
@@ -44,7 +44,7 @@ StaysOrConverts root base octets changes old new =
 
 -- It opens in format 2 as what is stored, its root has this open count, and says that the other bank is
 -- cleared.
-pub record OpensCleared (s : Shape) (k : Stored) (opened : ℕ) (c : Content) : Type 0 where
+pub record OpensCleared (s : Sizes) (k : Stored) (opened : ℕ) (c : Content) : Type 0 where
   pub opens : OpensAs s c k
   pub tidy : IsTidy s c
   pub cleared : clear (sector_at c 0) ≡ 1

@@ -3,7 +3,7 @@ ghost use Rattle.std.specs.Prelude.{◌≡◌, ◌≤◌, ◌<◌, ◌↔◌, �
 ghost use Rattle.dns_sectors.specs.Device.{Only, LeavesOnly, CountsFailure};
 ghost use Rattle.dns_layout.specs.Sector.{open_count};
 ghost use Rattle.dns_layout.specs.Journal.{AllBehind};
-ghost use Rattle.dns_layout.specs.Store.{Shape, Stored, OpensBy, IsTidy};
+ghost use Rattle.dns_layout.specs.Store.{Sizes, Stored, OpensBy, IsTidy};
 ghost use Rattle.dns_journal.specs.Clearing.{IsToClear, StaysUncleared};
 
 use dns_sectors::{DeviceError, Sector, SectorWrite, Sectors, write_phase, write_zeros};
@@ -22,11 +22,11 @@ pub fn clear_bank<D: Sectors>(
     ensures any_moment { D.is_honest device.old → Only (D.seen device.old) (D.may_leave device.old)
         → LeavesOnly D.moment D.left_since device.old device.new
         (StaysUncleared from until root.now (D.seen device.old)) }
-    ensures cleared { (s : Shape) (k : Stored) (x : List ℕ) (parts : List (List ℕ)) → D.is_honest device.old
+    ensures cleared { (s : Sizes) (k : Stored) (x : List ℕ) (parts : List (List ℕ)) → D.is_honest device.old
         → IsToClear s k x parts from until root.now (D.seen device.old)
         → OnOk result (OpensBy s (D.seen device.new) root.now parts k × IsTidy s (D.seen device.new)) }
     // Each head that is left has a lower open count than a root whose count was raised.
-    ensures behind { (s : Shape) (k : Stored) (x : List ℕ) (parts : List (List ℕ)) → D.is_honest device.old
+    ensures behind { (s : Sizes) (k : Stored) (x : List ℕ) (parts : List (List ℕ)) → D.is_honest device.old
         → IsToClear s k x parts from until root.now (D.seen device.old) → open_count x < open_count root.now
         → OnOk result ((version : ℕ) → AllBehind (open_count root.now) version (D.seen device.new)) }
     ensures durable { D.is_honest device.old

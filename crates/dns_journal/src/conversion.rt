@@ -3,11 +3,11 @@
 ghost use Rattle.std.specs.Prelude.{◌≡◌, ◌≢◌, ◌≤◌, ◌<◌, ◌↔◌, ◌+◌, ◌-◌, ◌*◌, ◌^◌, ℕ, List, length, sum_by};
 ghost use Rattle.std.specs.Prelude.{IfErr, OnOk};
 ghost use Rattle.dns_sectors.specs.Device.{Only, LeavesOnly, CountsFailure};
-ghost use Rattle.dns_sectors.specs.Crash.{applied, CrashOf};
+ghost use Rattle.dns_sectors.specs.Crash.{after_writes, CrashOf};
 ghost use Rattle.dns_sectors.specs.Phase.{pairs, AllWithin};
 ghost use Rattle.dns_layout.specs.Sector.{snapshot_sectors as sectors_of_snapshot};
 ghost use Rattle.dns_layout.specs.Forms.{SaysRootIn, bank_number};
-ghost use Rattle.dns_layout.specs.Store.{Shape, Stored, OpensByIn, version_of};
+ghost use Rattle.dns_layout.specs.Store.{Sizes, Stored, OpensByIn, version_of};
 ghost use Rattle.dns_layout.specs.declared.format.Format.TheVariants.{One};
 ghost use Rattle.dns_journal.specs.Reads.{HasRisen};
 ghost use Rattle.dns_journal.specs.Bank.{sectors_for, IsTurned};
@@ -50,7 +50,7 @@ pub fn convert<D: Sectors>(
     ensures any_moment { D.is_honest device.old → Only (D.seen device.old) (D.may_leave device.old)
         → LeavesOnly D.moment D.left_since device.old device.new
         (StaysOrConverts root base octets.now changes.now (D.seen device.old)) }
-    ensures converted { (s : Shape) (k : Stored) (x : List ℕ) (parts : List (List ℕ)) → D.is_honest device.old
+    ensures converted { (s : Sizes) (k : Stored) (x : List ℕ) (parts : List (List ℕ)) → D.is_honest device.old
         → Only (D.seen device.old) (D.may_leave device.old) → OpensByIn One s (D.seen device.old) x parts k
         → SaysRootIn One x root → base + length changes.now ≡ version_of k
         → OnOk result ((new : Stored) × IsTurned k octets.now changes.now new
@@ -122,7 +122,7 @@ fn write_whole<D: Sectors>(
     requires small { places.until ≤ 2 ^ 20 }
     ensures written { D.is_honest device.old
         → OnOk result
-        (D.seen device.new ≡ applied (bank_writes places parts.now entries.now) (D.seen device.old)) }
+        (D.seen device.new ≡ after_writes (bank_writes places parts.now entries.now) (D.seen device.old)) }
     ensures durable { D.is_honest device.old
         → OnOk result (Only (D.seen device.new) (D.may_leave device.new)) }
     ensures any_moment { D.is_honest device.old → LeavesOnly D.moment D.left_since device.old device.new
@@ -148,7 +148,8 @@ fn write_padded<D: Sectors>(
     requires range { from ≤ until }
     requires end { until ≤ D.count device.old }
     ensures written { D.is_honest device.old
-        → OnOk result (D.seen device.new ≡ applied (with_zeros writes.now from until) (D.seen device.old)) }
+        → OnOk result
+        (D.seen device.new ≡ after_writes (with_zeros writes.now from until) (D.seen device.old)) }
     ensures crash { D.is_honest device.old → (c : List (List ℕ)) → D.may_leave device.new c
         → CrashOf (D.may_leave device.old) (with_zeros writes.now from until) c }
     ensures any_moment { D.is_honest device.old → LeavesOnly D.moment D.left_since device.old device.new

@@ -4,7 +4,7 @@ ghost use Rattle.std.specs.Prelude.{length, take, drop, replicate, ◌≤◌, �
 ghost use Rattle.std.specs.Prelude.{◌<◌, ◌↔◌, [], ℕ, List};
 ghost use Rattle.std.specs.Prelude.{true, false, ◌*◌, IsOk, OnOk, OnErr};
 ghost use Rattle.dns_sectors.specs.Device.{Only, LeavesOnly, CountsFailure};
-ghost use Rattle.dns_sectors.specs.Crash.{applied, CrashOf};
+ghost use Rattle.dns_sectors.specs.Crash.{after_writes, CrashOf};
 ghost use Rattle.dns_sectors.specs.Phase.{pairs, AllWithin};
 ghost use Rattle.dns_layout.specs.Sector.{sector_at, head_room, entry_sectors as sectors_of_entry};
 ghost use Rattle.dns_changes.specs.Entry.{HasEntry, entry};
@@ -78,13 +78,13 @@ pub struct Journal<D: Sectors> {
 impl<D: Sectors> Journal<D> {
     ghost use Rattle.dns_layout.specs.Sector.{open_count, bank_open, number};
     ghost use Rattle.dns_layout.specs.Forms.{SaysRoot};
-    ghost use Rattle.dns_layout.specs.Journal.{Entry, size_of, octets_of, AllBehind, place_behind};
-    ghost use Rattle.dns_layout.specs.Store.{Shape, Stored, OpensBy, with_more, bank_end, journal_place};
+    ghost use Rattle.dns_layout.specs.Journal.{Entry, entry_size, entry_octets, AllBehind, place_behind};
+    ghost use Rattle.dns_layout.specs.Store.{Sizes, Stored, OpensBy, with_more, bank_end, journal_place};
     ghost use Rattle.dns_layout.specs.Store.{version_of};
     ghost use Rattle.dns_journal.specs.State.{Keeps, LeavesPart, JournalLeavesOnly, HasJournalFailed};
     ghost use Rattle.dns_journal.specs.State.{is_closed};
-    ghost use Rattle.dns_journal.specs.State.{device_of, left_of};
-    ghost use Rattle.dns_journal.specs.State.{newest_of, opened_of};
+    ghost use Rattle.dns_journal.specs.State.{device_of, free_sectors};
+    ghost use Rattle.dns_journal.specs.State.{newest_number_of, opened_of};
     ghost use Rattle.dns_journal.specs.Bank.{snapshot_room_of, journal_room_of};
 
     /// A journal on a device that was opened by this root, with nothing staged. It makes no device operation.
@@ -95,7 +95,7 @@ impl<D: Sectors> Journal<D> {
         requires banks_within { 1 + 2 * (root.snapshot_room + root.journal_room) ≤ D.count device }
         requires banks_small { 1 + 2 * (root.snapshot_room + root.journal_room) ≤ 2 ^ 20 }
         requires clear { root.is_clear ≡ true }
-        ensures keeps { (shape : Shape) (k : Stored) (x : List ℕ) (parts : List (List ℕ)) → D.is_honest device
+        ensures keeps { (shape : Sizes) (k : Stored) (x : List ℕ) (parts : List (List ℕ)) → D.is_honest device
             → Only (D.seen device) (D.may_leave device)
             → OpensBy shape (D.seen device) x parts k → SaysRoot x root → bank_open x ≤ open_count x
             → AllBehind (open_count x) (version_of k) (D.seen device)
@@ -103,7 +103,7 @@ impl<D: Sectors> Journal<D> {
             → next.at ≡ place_behind (journal_place shape (number x)) k.entries
             → next.version ≡ version_of k → next.opened ≡ open_count x
             → Keeps shape result k [] }
-        ensures newest { newest_of result ≡ next.version }
+        ensures newest { newest_number_of result ≡ next.version }
         ensures opened { opened_of result ≡ root.open_count }
         ensures device { device_of result ≡ device }
     {
@@ -126,15 +126,15 @@ impl<D: Sectors> Journal<D> {
 
     /// The number of the newest version, staged ones among them.
     pub fn newest(&self) -> u64
-        ensures { result ≡ newest_of self.now }
+        ensures { result ≡ newest_number_of self.now }
     {
         self.next.version
     }
 
     /// How many sectors are left for entries.
     pub fn left(&self) -> usize
-        ensures left { result ≡ left_of self.now }
-        ensures kept { (shape : Shape) (k : Stored) (staged : List Entry) → Keeps shape self.now k staged
+        ensures left { result ≡ free_sectors self.now }
+        ensures kept { (shape : Sizes) (k : Stored) (staged : List Entry) → Keeps shape self.now k staged
             → (root : List ℕ) × (sector_at (D.seen (device_of self.now)) 0 ≡ root)
             × (result ≡ bank_end shape (number root) - place_behind
             (place_behind (journal_place shape (number root)) k.entries) staged) }
@@ -146,20 +146,20 @@ impl<D: Sectors> Journal<D> {
     /// sectors than are left, `Closed` where the device has failed; neither changes anything, nor does memory
     /// that is refused.
     pub fn stage(&mut self, alloc: Heap, change: &Change) -> Result<(), StageError>
-        requires { newest_of self.old < 2 ^ 64 - 1 }
-        ensures staged { (shape : Shape) (k : Stored) (staged : List Entry) → Keeps shape self.old k staged
-            → OnOk result ((e : Entry) × (octets_of e ≡ entry change.now)
-            × (size_of e ≡ sectors_of_entry (length (entry change.now)))
+        requires { newest_number_of self.old < 2 ^ 64 - 1 }
+        ensures staged { (shape : Sizes) (k : Stored) (staged : List Entry) → Keeps shape self.old k staged
+            → OnOk result ((e : Entry) × (entry_octets e ≡ entry change.now)
+            × (entry_size e ≡ sectors_of_entry (length (entry change.now)))
             × Keeps shape self.new k (staged ++ e ∷ [])) }
         ensures written { OnOk result (HasEntry change.now) }
-        ensures stays { (shape : Shape) (k : Stored) (staged : List Entry) → Keeps shape self.old k staged
+        ensures stays { (shape : Sizes) (k : Stored) (staged : List Entry) → Keeps shape self.old k staged
             → OnErr result (Keeps shape self.new k staged) }
-        ensures left { OnErr result (left_of self.new ≡ left_of self.old) }
-        ensures newest { OnErr result (newest_of self.new ≡ newest_of self.old) }
+        ensures left { OnErr result (free_sectors self.new ≡ free_sectors self.old) }
+        ensures newest { OnErr result (newest_number_of self.new ≡ newest_number_of self.old) }
         ensures full { result ≡ Err StageError.Full ↔ ((is_closed self.old ≡ false)
-            × (left_of self.old < sectors_of_entry (length (entry change.now)))) }
+            × (free_sectors self.old < sectors_of_entry (length (entry change.now)))) }
         ensures fits { OnOk result
-            (left_of self.new + sectors_of_entry (length (entry change.now)) ≡ left_of self.old) }
+            (free_sectors self.new + sectors_of_entry (length (entry change.now)) ≡ free_sectors self.old) }
         ensures closed { result ≡ Err StageError.Closed ↔ is_closed self.old ≡ true }
         ensures stays_open { is_closed self.new ≡ is_closed self.old }
         ensures opened { opened_of self.new ≡ opened_of self.old }
@@ -181,20 +181,20 @@ impl<D: Sectors> Journal<D> {
     /// `Closed`, until the store is opened again.
     pub fn flush(&mut self) -> Result<(), FlushError>
         // A crash at any moment of it leaves a first part of the staged entries after what was stored.
-        ensures any_moment { (shape : Shape) (k : Stored) (staged : List Entry)
+        ensures any_moment { (shape : Sizes) (k : Stored) (staged : List Entry)
             → Keeps shape self.old k staged
             → JournalLeavesOnly self.old self.new (LeavesPart shape k staged (opened_of self.old)) }
-        ensures flushed { (shape : Shape) (k : Stored) (staged : List Entry) → Keeps shape self.old k staged
+        ensures flushed { (shape : Sizes) (k : Stored) (staged : List Entry) → Keeps shape self.old k staged
             → OnOk result (Keeps shape self.new (with_more k staged) []) }
         ensures closes { OnErr result (is_closed self.new ≡ true) }
         ensures closed { is_closed self.old ≡ true
             → (result ≡ Err FlushError.Closed) × (device_of self.new ≡ device_of self.old) }
 
         // Nothing staged is no device operation.
-        ensures idle { (shape : Shape) (k : Stored) → Keeps shape self.old k []
+        ensures idle { (shape : Sizes) (k : Stored) → Keeps shape self.old k []
             → (device_of self.new ≡ device_of self.old) × IsOk result }
-        ensures left { left_of self.new ≡ left_of self.old }
-        ensures newest { newest_of self.new ≡ newest_of self.old }
+        ensures left { free_sectors self.new ≡ free_sectors self.old }
+        ensures newest { newest_number_of self.new ≡ newest_number_of self.old }
         ensures opened { opened_of self.new ≡ opened_of self.old }
         ensures honest { D.is_honest (device_of self.new) ↔ D.is_honest (device_of self.old) }
 
@@ -334,7 +334,7 @@ fn write_some<D: Sectors>(device: &mut D, writes: &[SectorWrite]) -> Result<(), 
     requires { AllWithin (D.count device.old) writes.now }
     ensures idle { writes.now ≡ [] → (device.new ≡ device.old) × IsOk result }
     ensures written { D.is_honest device.old
-        → OnOk result (D.seen device.new ≡ applied (pairs writes.now) (D.seen device.old)) }
+        → OnOk result (D.seen device.new ≡ after_writes (pairs writes.now) (D.seen device.old)) }
     ensures durable { D.is_honest device.old → Only (D.seen device.old) (D.may_leave device.old)
         → OnOk result (Only (D.seen device.new) (D.may_leave device.new)) }
     ensures any_moment { D.is_honest device.old → LeavesOnly D.moment D.left_since device.old device.new
@@ -359,7 +359,7 @@ fn write_batch<D: Sectors>(
     requires heads { AllWithin (D.count device.old) heads.now }
     ensures idle { bodies.now ≡ [] → heads.now ≡ [] → (device.new ≡ device.old) × IsOk result }
     ensures written { D.is_honest device.old → OnOk result (D.seen device.new
-        ≡ applied (pairs heads.now) (applied (pairs bodies.now) (D.seen device.old))) }
+        ≡ after_writes (pairs heads.now) (after_writes (pairs bodies.now) (D.seen device.old))) }
     ensures durable { D.is_honest device.old → Only (D.seen device.old) (D.may_leave device.old)
         → OnOk result (Only (D.seen device.new) (D.may_leave device.new)) }
     ensures any_moment { D.is_honest device.old → Only (D.seen device.old) (D.may_leave device.old)

@@ -11,7 +11,7 @@ ghost use Rattle.dns_layout.specs.Sector.{blank, payload_room, open_count, bank_
 ghost use Rattle.dns_layout.specs.Forms.{SaysPart, bank_number};
 ghost use Rattle.dns_layout.specs.Own.{Own};
 ghost use Rattle.dns_layout.specs.Journal.{AllBehind};
-ghost use Rattle.dns_layout.specs.Store.{Shape, Stored, OpensBy, OpensAs, IsTidy, version_of, other_of};
+ghost use Rattle.dns_layout.specs.Store.{Sizes, Stored, OpensBy, OpensAs, IsTidy, version_of, other_of};
 ghost use Rattle.dns_journal.specs.Bank.{part_of, piece, HoldsOctets, sectors_for, PushesParts, PushesEntry};
 ghost use Rattle.dns_journal.specs.Bank.{PushesEntries};
 ghost use Rattle.dns_journal.specs.Bank.{LaysBank, Turns, IsTurnedTo};
@@ -65,7 +65,7 @@ impl From<DeviceError> for TurnError {
 impl<D: Sectors> Journal<D> {
     ghost use Rattle.dns_journal.specs.State.{Keeps, JournalLeavesOnly, HasJournalFailed, is_closed};
     ghost use Rattle.dns_journal.specs.State.{device_of};
-    ghost use Rattle.dns_journal.specs.State.{left_of, newest_of};
+    ghost use Rattle.dns_journal.specs.State.{free_sectors, newest_number_of};
     ghost use Rattle.dns_journal.specs.State.{opened_of};
     ghost use Rattle.dns_journal.specs.Bank.{IsTurned, LeavesEither, snapshot_room_of, journal_room_of};
 
@@ -76,12 +76,12 @@ impl<D: Sectors> Journal<D> {
     pub fn turn(&mut self, alloc: Heap, octets: &[u8], changes: &[Change]) -> Result<(), TurnError>
         requires fits { sectors_of_snapshot (length octets.now) ≤ snapshot_room_of self.old }
         requires room { sum_by sectors_for changes.now ≤ journal_room_of self.old }
-        requires few { length changes.now ≤ newest_of self.old }
+        requires few { length changes.now ≤ newest_number_of self.old }
         // A crash at any moment of it leaves what was stored, or what is stored after the turn.
-        ensures any_moment { (shape : Shape) (k : Stored) → Keeps shape self.old k []
+        ensures any_moment { (shape : Sizes) (k : Stored) → Keeps shape self.old k []
             → JournalLeavesOnly self.old self.new (LeavesEither shape k octets.now changes.now
             (opened_of self.old)) }
-        ensures turned { (shape : Shape) (k : Stored) → Keeps shape self.old k []
+        ensures turned { (shape : Sizes) (k : Stored) → Keeps shape self.old k []
             → OnOk result ((turned : Stored) × IsTurned k octets.now changes.now turned
             × Keeps shape self.new turned []) }
         ensures closed { is_closed self.old ≡ true ↔ result ≡ Err TurnError.Closed }
@@ -90,8 +90,8 @@ impl<D: Sectors> Journal<D> {
         ensures grows { D.failed (device_of self.old) ≤ D.failed (device_of self.new) }
         ensures quiet { OnOk result (D.failed (device_of self.new) ≡ D.failed (device_of self.old)) }
         ensures stays { OnErr result ((result ≡ Err TurnError.Device) ⊎ (self.new ≡ self.old)) }
-        ensures left { OnErr result (left_of self.new ≡ left_of self.old) }
-        ensures newest { newest_of self.new ≡ newest_of self.old }
+        ensures left { OnErr result (free_sectors self.new ≡ free_sectors self.old) }
+        ensures newest { newest_number_of self.new ≡ newest_number_of self.old }
         ensures opened { opened_of self.new ≡ opened_of self.old }
         ensures honest { D.is_honest (device_of self.new) ↔ D.is_honest (device_of self.old) }
     {
@@ -276,14 +276,14 @@ pub(crate) fn turn_to<D: Sectors>(
 ) -> Result<(), DeviceError>
     requires within { AllWithin (D.count device.old) writes.now }
     requires some { 0 < D.count device.old }
-    ensures any_moment { (s : Shape) (k new : Stored) (x : List ℕ) (parts : List (List ℕ))
+    ensures any_moment { (s : Sizes) (k new : Stored) (x : List ℕ) (parts : List (List ℕ))
         → D.is_honest device.old
         → Only (D.seen device.old) (D.may_leave device.old) → OpensBy s (D.seen device.old) x parts k
         → bank_open x ≤ open_count x → AllBehind (open_count x) (version_of k) (D.seen device.old)
         → Turns s k new x root.now (pairs writes.now)
         → LeavesOnly D.moment D.left_since device.old device.new
         (λ c. (OpensAs s c k ⊎ OpensAs s c new) × IsTidy s c × IsOpenedTimes (open_count x) c) }
-    ensures turned { (s : Shape) (k new : Stored) (x : List ℕ) (parts : List (List ℕ))
+    ensures turned { (s : Sizes) (k new : Stored) (x : List ℕ) (parts : List (List ℕ))
         → D.is_honest device.old
         → Only (D.seen device.old) (D.may_leave device.old) → OpensBy s (D.seen device.old) x parts k
         → bank_open x ≤ open_count x → AllBehind (open_count x) (version_of k) (D.seen device.old)

@@ -8,7 +8,7 @@ use Rattle.dns_zone.specs.Order.{both_true}
 use Rattle.dns_zone.specs.Owned.{owns_no_type}
 use Rattle.dns_zone.specs.Records.{rrset, owns_type, is_none_of}
 use Rattle.dns_zone.specs.Zone.{Zone}
-use Rattle.dns_lookup.specs.Lookup.{Outcome, Referral, Alias, Answers, NoData, NameError, cut, node, at_node, asked, outcome}
+use Rattle.dns_lookup.specs.Lookup.{Outcome, Referral, Alias, Answers, NoData, NameError, cut, node, at_node, asked_records, outcome}
 use Rattle.dns_lookup.specs.Represented.{IsKind}
 use Rattle.dns_lookup.specs.declared.outcome.Kind.TheVariants as kinds
 
@@ -28,15 +28,15 @@ pub followed : (set : List Record) (node : Labels) (t : ℕ) (aliases : List Rec
 followed set node t aliases is = ap (λ (b : Bool). b && not (t == type_cname) && not (t == type_any)) (owned_by set node type_cname aliases is)
 
 pub is_alias : (set : List Record) (node name : Labels) (t : ℕ) → is_followed set node t ≡ true → IsKind (at_node set node t) name kinds.Alias node
-is_alias set node name t e = subst (λ (b : Bool). IsKind (cond b (Alias node) (cond (is_none_of (asked set node t)) (NoData node) (Answers node))) name kinds.Alias node) (sym e) (refl, refl)
+is_alias set node name t e = subst (λ (b : Bool). IsKind (cond b (Alias node) (cond (is_none_of (asked_records set node t)) (NoData node) (Answers node))) name kinds.Alias node) (sym e) (refl, refl)
 
-pub is_no_data : (set : List Record) (node name : Labels) (t : ℕ) → is_followed set node t ≡ false → is_none_of (asked set node t) ≡ true → IsKind (at_node set node t) name kinds.NoData node
+pub is_no_data : (set : List Record) (node name : Labels) (t : ℕ) → is_followed set node t ≡ false → is_none_of (asked_records set node t) ≡ true → IsKind (at_node set node t) name kinds.NoData node
 is_no_data set node name t e f =
-    subst (λ (b : Bool). IsKind (cond b (Alias node) (cond (is_none_of (asked set node t)) (NoData node) (Answers node))) name kinds.NoData node) (sym e) (subst (λ (b : Bool). IsKind (cond b (NoData node) (Answers node)) name kinds.NoData node) (sym f) (refl, refl))
+    subst (λ (b : Bool). IsKind (cond b (Alias node) (cond (is_none_of (asked_records set node t)) (NoData node) (Answers node))) name kinds.NoData node) (sym e) (subst (λ (b : Bool). IsKind (cond b (NoData node) (Answers node)) name kinds.NoData node) (sym f) (refl, refl))
 
-pub is_answers : (set : List Record) (node name : Labels) (t : ℕ) → is_followed set node t ≡ false → is_none_of (asked set node t) ≡ false → IsKind (at_node set node t) name kinds.Answers node
+pub is_answers : (set : List Record) (node name : Labels) (t : ℕ) → is_followed set node t ≡ false → is_none_of (asked_records set node t) ≡ false → IsKind (at_node set node t) name kinds.Answers node
 is_answers set node name t e f =
-    subst (λ (b : Bool). IsKind (cond b (Alias node) (cond (is_none_of (asked set node t)) (NoData node) (Answers node))) name kinds.Answers node) (sym e) (subst (λ (b : Bool). IsKind (cond b (NoData node) (Answers node)) name kinds.Answers node) (sym f) (refl, refl))
+    subst (λ (b : Bool). IsKind (cond b (Alias node) (cond (is_none_of (asked_records set node t)) (NoData node) (Answers node))) name kinds.Answers node) (sym e) (subst (λ (b : Bool). IsKind (cond b (NoData node) (Answers node)) name kinds.Answers node) (sym f) (refl, refl))
 
 abbrev by_parts : Zone → ℕ → Option Labels → Option Labels → Outcome
 by_parts z t c n = elim c [ Some a ↦ Referral a | None ↦ elim n [ Some m ↦ at_node z.records m t | None ↦ NameError ] ]
@@ -45,13 +45,13 @@ no_alias : (n at : Labels) (b : Bool) → cond b (NoData n) (Answers n) ≡ Alia
 no_alias n at true e = cc
 no_alias n at false e = cc
 
-owns_followed : (set : List Record) (n at : Labels) (t : ℕ) (b : Bool) → is_followed set n t ≡ b → cond b (Alias n) (cond (is_none_of (asked set n t)) (NoData n) (Answers n)) ≡ Alias at → owns_type set at type_cname ≡ true
+owns_followed : (set : List Record) (n at : Labels) (t : ℕ) (b : Bool) → is_followed set n t ≡ b → cond b (Alias n) (cond (is_none_of (asked_records set n t)) (NoData n) (Answers n)) ≡ Alias at → owns_type set at type_cname ≡ true
 owns_followed set n at t true is e =
     let same : n ≡ at = cc in
     let two = both_true (owns_type set n type_cname && not (t == type_cname)) (not (t == type_any)) is in
     let one = both_true (owns_type set n type_cname) (not (t == type_cname)) two.0 in
     subst (λ (m : Labels). owns_type set m type_cname ≡ true) same one.0
-owns_followed set n at t false is e = absurd (no_alias n at (is_none_of (asked set n t)) e)
+owns_followed set n at t false is e = absurd (no_alias n at (is_none_of (asked_records set n t)) e)
 
 owned_from : (z : Zone) (t : ℕ) (at : Labels) (c n : Option Labels) → by_parts z t c n ≡ Alias at → owns_type z.records at type_cname ≡ true
 owned_from z t at (Some c) n e = absurd cc

@@ -5,7 +5,7 @@ use Rattle.dns_records.specs.Types.{type_ns, type_cname}
 use Rattle.dns_records.specs.Record.{Record}
 use Rattle.dns_zone.specs.Records.{rrset}
 use Rattle.dns_zone.specs.Zone.{Zone}
-use Rattle.dns_lookup.specs.Lookup.{asked}
+use Rattle.dns_lookup.specs.Lookup.{asked_records}
 use Rattle.dns_lookup.specs.declared.chain.Found.{Found}
 use Rattle.dns_lookup.specs.declared.outcome.Kind.{Kind}
 use Rattle.dns_lookup.specs.declared.outcome.Kind.TheVariants as kinds
@@ -15,7 +15,7 @@ use Rattle.dns_lookup.specs.declared.outcome.Kind.TheVariants as kinds
 abbrev pub records_found : List Record → Kind → Labels → ℕ → List Record
 records_found records kinds.Referral node t = rrset records node type_ns
 records_found records kinds.Alias node t = rrset records node type_cname
-records_found records kinds.Answers node t = asked records node t
+records_found records kinds.Answers node t = asked_records records node t
 records_found records kinds.NoData node t = []
 records_found records kinds.NameError node t = []
 

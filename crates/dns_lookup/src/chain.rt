@@ -151,7 +151,7 @@ fn follow<'a, I: ZoneIndex>(
         (λ found. Lends zones.now qtype first.entry → AllLend zones.now qtype found.items) }
     ensures most { IfOk result (λ found. vec_len found ≤ 8) }
 {
-    let mut found: Vec<Found<'a>, Heap> = Vec::new(alloc);
+    let mut found: Vec<Found<'a>, Heap> = Vec::with_capacity(alloc, MOST)?;
     found.push(first)?;
     let mut here = target;
     'names: while found.len() < MOST {

@@ -3,7 +3,7 @@ ghost use Rattle.std.specs.Prelude.{◌≡◌, true, List};
 ghost use Rattle.dns_names.specs.Name.{Labels};
 ghost use Rattle.dns_records.specs.Record.{Record as Stated};
 ghost use Rattle.dns_zone.specs.Records.{is_ordered, records_at};
-ghost use Rattle.dns_lookup.specs.Lookup.{asked, at_node, outcome};
+ghost use Rattle.dns_lookup.specs.Lookup.{asked_records, at_node, outcome};
 ghost use Rattle.dns_lookup.specs.Represented.{IsKind};
 ghost use Rattle.dns_lookup.specs.Lent.{records_found};
 
@@ -33,7 +33,7 @@ fn asked(owned: &[Record], qtype: u16) -> &[Record]
     ensures { (set : List Stated) (node : Labels)
         → is_ordered set ≡ true
         → owned.now ≡ records_at set node
-        → result.now ≡ asked set node qtype }
+        → result.now ≡ asked_records set node qtype }
 {
     if qtype == types::ANY {
         return owned;

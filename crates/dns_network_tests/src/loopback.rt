@@ -3,11 +3,9 @@
 use crate::clients::{Act, Clients};
 use crate::given::device;
 use dns_configuration::{DONE, File, REFUSED};
-use dns_devices::Devices;
-use dns_files::OpenDeviceError;
 use dns_memory::{Heap, heap};
-use dns_sectors::{DeviceError, MemorySectors, Sector, Sectors};
-use dns_service::serve;
+use dns_sectors::{DeviceError, MemorySectors, OpenDeviceError, Sector, Sectors};
+use dns_server::{Devices, serve};
 use dns_zone::RecordList;
 use std::io;
 use std::test::Fail;

@@ -6,16 +6,16 @@ use Rattle.std.proofs.lemmas.Iterator.Adapters.{position_from-zero}
 use Rattle.dns_names.specs.Name.{Labels, names_eq}
 use Rattle.dns_zone.specs.Zone.{Zone}
 use Rattle.dns_store.specs.Versions.{Kept}
-use Rattle.dns_held.specs.declared.behind.Behind.{Behind}
+use Rattle.dns_versions.specs.declared.pending.PendingZone.{PendingZone}
 use Rattle.dns_primary.specs.Machine.{ZoneState, kept_of}
-use Rattle.dns_held.specs.Each.{Each2}
-use Rattle.dns_held.specs.Held.{HasVersions}
-use Rattle.dns_held.proofs.Lists.{get3}
+use Rattle.dns_versions.specs.Each.{Each2}
+use Rattle.dns_versions.specs.Held.{HasVersions}
+use Rattle.dns_versions.proofs.Lists.{get3}
 use Rattle.dns_records.specs.Types.{type_soa, class_in}
-use Rattle.dns_request.specs.Request.{rcode_formerr}
-use Rattle.dns_primary.specs.Update.{Asked, Rejects, admission, admission_at, place_of, rcode_notauth}
+use Rattle.dns_request.specs.Codes.{rcode_formerr, rcode_notauth}
+use Rattle.dns_primary.specs.Update.{Asked, Rejects, admission, admission_at, zone_position}
 use Rattle.dns_primary.specs.Keeps.{HaveVersions, IsSet}
-use Rattle.dns_primary.specs.declared.primary.ZoneSettings.{ZoneSettings}
+use Rattle.dns_primary.specs.declared.primary.ZoneSpec.{ZoneSpec}
 use Rattle.dns_primary.proofs.Flushed.{mapped}
 
 pub same_test : (a b : Bool) (P : Type 0) → IsTrue a ↔ P → IsTrue b ↔ P → a ≡ b
@@ -38,20 +38,20 @@ chosen true false i x y e f = absurd (cc e)
 chosen false true i x y e f = absurd (cc e)
 chosen false false i x y e f = f
 
-from_place : {I S : Type 0} (keeps : S → Kept → Type 0) (apex : Labels) (i : ℕ) (zones : List Zone) (behind : List (Behind I S)) (states : List ZoneState) → HaveVersions keeps zones behind states
-    → position_from (λ z. names_eq z.apex apex) i zones ≡ option_map (λ n. i + n) (place_of apex states)
+from_place : {I S : Type 0} (keeps : S → Kept → Type 0) (apex : Labels) (i : ℕ) (zones : List Zone) (pending : List (PendingZone I S)) (states : List ZoneState) → HaveVersions keeps zones pending states
+    → position_from (λ z. names_eq z.apex apex) i zones ≡ option_map (λ n. i + n) (zone_position apex states)
 from_place keeps apex i [] [] [] each = refl
-from_place keeps apex i (z ∷ zones) (b ∷ behind) (s ∷ states) each =
-    chosen (names_eq z.apex apex) (names_eq s.setting.shape.apex apex) i (position_from (λ z. names_eq z.apex apex) (i + 1) zones) (place_of apex states)
-    (ap (λ (x : Zone). names_eq x.apex apex) each.0.zone_is) (from_place keeps apex (i + 1) zones behind states each.1 ∙ moved i (place_of apex states))
+from_place keeps apex i (z ∷ zones) (b ∷ pending) (s ∷ states) each =
+    chosen (names_eq z.apex apex) (names_eq s.setting.shape.apex apex) i (position_from (λ z. names_eq z.apex apex) (i + 1) zones) (zone_position apex states)
+    (ap (λ (x : Zone). names_eq x.apex apex) each.0.zone_is) (from_place keeps apex (i + 1) zones pending states each.1 ∙ moved i (zone_position apex states))
 from_place keeps apex i _ _ _ each = absurd each
 
-pub same_place : {I S : Type 0} (keeps : S → Kept → Type 0) (apex : Labels) (zones : List Zone) (behind : List (Behind I S)) (states : List ZoneState) → HaveVersions keeps zones behind states
-    → position (λ z. names_eq z.apex apex) zones ≡ place_of apex states
-same_place keeps apex zones behind states each = position_from-zero (λ (z : Zone). names_eq z.apex apex) zones ∙ from_place keeps apex 0 zones behind states each ∙ from_zero (place_of apex states)
+pub same_place : {I S : Type 0} (keeps : S → Kept → Type 0) (apex : Labels) (zones : List Zone) (pending : List (PendingZone I S)) (states : List ZoneState) → HaveVersions keeps zones pending states
+    → position (λ z. names_eq z.apex apex) zones ≡ zone_position apex states
+same_place keeps apex zones pending states each = position_from-zero (λ (z : Zone). names_eq z.apex apex) zones ∙ from_place keeps apex 0 zones pending states each ∙ from_zero (zone_position apex states)
 
 -- past the tests of type and class
-pub asked_at : (states : List ZoneState) (a : Asked) (o : Option ℕ) → a.zone.qtype ≡ type_soa → a.zone.qclass ≡ class_in → place_of a.zone.name states ≡ o → admission states a ≡ admission_at states a.address o
+pub asked_at : (states : List ZoneState) (a : Asked) (o : Option ℕ) → a.zone.qtype ≡ type_soa → a.zone.qclass ≡ class_in → zone_position a.zone.name states ≡ o → admission states a ≡ admission_at states a.address o
 asked_at states a o t c p = λ i. if not (t i == type_soa) then Rejects rcode_formerr else if not (c i == class_in) then Rejects rcode_notauth else admission_at states a.address (p i)
 
 pub get2 : {A B : Type 0} (R : A → B → Type 0) (xs : List A) (ys : List B) (i : ℕ) (d : A) (y : B) → Each2 R xs ys → slice_get ys i ≡ Some y → R (slice_index_or xs i d) y
@@ -61,22 +61,22 @@ get2 R (x ∷ xs) (z ∷ ys) (suc i) d y each e = get2 R xs ys i d y each.1 e
 get2 R _ _ i d y each e = absurd each
 
 -- the zone at a position that was found
-pub record At {I S : Type 0} (keeps : S → Kept → Type 0) (zones : List Zone) (behind : List (Behind I S)) (settings : List ZoneSettings) (states : List ZoneState) (place : ℕ) (b : Behind I S) (s : ZoneSettings) : Type 0 where
+pub record At {I S : Type 0} (keeps : S → Kept → Type 0) (zones : List Zone) (pending : List (PendingZone I S)) (settings : List ZoneSpec) (states : List ZoneState) (place : ℕ) (b : PendingZone I S) (s : ZoneSpec) : Type 0 where
   pub zone : Zone
   pub state : ZoneState
   pub there : slice_get states place ≡ Some state
-  pub held : HasVersions keeps zone (slice_index_or behind place b) (kept_of state)
+  pub held : HasVersions keeps zone (slice_index_or pending place b) (kept_of state)
   pub set : IsSet (slice_index_or settings place s) state
 
-pub at_place : {I S : Type 0} (keeps : S → Kept → Type 0) (zones : List Zone) (behind : List (Behind I S)) (settings : List ZoneSettings) (states : List ZoneState) (place : ℕ) (b : Behind I S) (s : ZoneSettings)
-    → HaveVersions keeps zones behind states → Each2 IsSet settings states → place < length behind → At keeps zones behind settings states place b s
-at_place {I} {S} keeps zones behind settings states place b s held set lt =
-    let k = get3 (λ (z : Zone) (b : Behind I S) (k : Kept). HasVersions keeps z b k) zones behind (map kept_of states) place (record { apex = []; records = [] }) b held lt in
+pub at_place : {I S : Type 0} (keeps : S → Kept → Type 0) (zones : List Zone) (pending : List (PendingZone I S)) (settings : List ZoneSpec) (states : List ZoneState) (place : ℕ) (b : PendingZone I S) (s : ZoneSpec)
+    → HaveVersions keeps zones pending states → Each2 IsSet settings states → place < length pending → At keeps zones pending settings states place b s
+at_place {I} {S} keeps zones pending settings states place b s held set lt =
+    let k = get3 (λ (z : Zone) (b : PendingZone I S) (k : Kept). HasVersions keeps z b k) zones pending (map kept_of states) place (record { apex = []; records = [] }) b held lt in
     let z = mapped states place k.0 k.1 in
     record {
       zone = slice_index_or zones place (record { apex = []; records = [] });
       state = z.0;
       there = z.1;
-      held = subst (λ (k : Kept). HasVersions keeps (slice_index_or zones place (record { apex = []; records = [] })) (slice_index_or behind place b) k) (sym z.2) k.2;
+      held = subst (λ (k : Kept). HasVersions keeps (slice_index_or zones place (record { apex = []; records = [] })) (slice_index_or pending place b) k) (sym z.2) k.2;
       set = get2 IsSet settings states place s z.0 set z.1;
     }

@@ -11,17 +11,17 @@ use Rattle.std.specs.declared.net.ip_addr.IpAddr.{IpAddr}
 use Rattle.std.specs.declared.net.ip_addr.IpAddr.TheVariants.{V4, V6}
 use Rattle.dns_zone.specs.Zone.{Zone}
 use Rattle.dns_policy.specs.Prefix.{bits_of, Covers, IsAllowed}
-use Rattle.dns_store.specs.Versions.{opened_again}
+use Rattle.dns_store.specs.Versions.{Shape, opened_again}
 use Rattle.dns_store.specs.Opens.{fresh}
 use Rattle.dns_store.specs.Formatting.{first_of}
-use Rattle.dns_held.specs.Each.{Each3}
-use Rattle.dns_primary.specs.declared.primary.ZoneSettings.{ZoneSettings}
-use Rattle.dns_primary.specs.Machine.{ZoneState, Machine, kept_of, versions_of}
+use Rattle.dns_versions.specs.Each.{Each3}
+use Rattle.dns_primary.specs.declared.primary.ZoneSpec.{ZoneSpec}
+use Rattle.dns_primary.specs.Machine.{Setting, ZoneState, Machine, kept_of, versions_of}
 use Rattle.dns_primary.specs.Open.{shape_of}
 use Rattle.dns_primary.specs.Fresh.{IsLoaded, IsFresh}
 
 -- whether a prefix covers an address
-abbrev covers : IpAddr × ℕ → IpAddr → Bool
+abbrev pub covers : IpAddr × ℕ → IpAddr → Bool
 covers (V4 p, n) (V4 a) = bytes_eq (take n (bits_of (ipv4_octets p))) (take n (bits_of (ipv4_octets a)))
 covers (V6 p, n) (V6 a) = bytes_eq (take n (bits_of (ipv6_octets p))) (take n (bits_of (ipv6_octets a)))
 covers (V4 p, n) (V6 a) = false
@@ -33,24 +33,28 @@ covers_is (V6 p, n) (V6 a) = bytes_eq-Decides _ _
 covers_is (V4 p, n) (V6 a) = (λ e. absurd (cc e), λ h. absurd h)
 covers_is (V6 p, n) (V4 a) = (λ e. absurd (cc e), λ h. absurd h)
 
-abbrev allows : List (IpAddr × ℕ) → IpAddr → Bool
+abbrev pub allows : List (IpAddr × ℕ) → IpAddr → Bool
 allows prefixes a = list_any (λ p. covers p a) prefixes
 
-allows_is : (prefixes : List (IpAddr × ℕ)) (a : IpAddr) → IsTrue (allows prefixes a) ↔ IsAllowed prefixes a
+pub allows_is : (prefixes : List (IpAddr × ℕ)) (a : IpAddr) → IsTrue (allows prefixes a) ↔ IsAllowed prefixes a
 allows_is prefixes a = (
   λ e. (let some = Any-from_list_any (λ p. covers p a) prefixes e in
       (some.0, some.1, some.2, some.3, (covers_is some.1 a).0 some.4)),
   λ h. list_any-from_Any (λ p. covers p a) prefixes (h.0, h.1, h.2, h.3, (covers_is h.1 a).1 h.4),
 )
 
-abbrev begun : Zone → ZoneSettings → ZoneState
+-- the settings that are configured so
+abbrev pub setting_of : Shape → ZoneSpec → Setting
+setting_of shape settings = record {
+  shape = shape;
+  keep = settings.keep;
+  may_update = allows settings.update.items;
+  may_transfer = allows settings.transfer.items;
+}
+
+abbrev begun : Zone → ZoneSpec → ZoneState
 begun zone settings = record {
-  setting = record {
-    shape = record { apex = zone.apex; snapshot = settings.snapshot; journal = settings.journal };
-    keep = settings.keep;
-    may_update = allows settings.update.items;
-    may_transfer = allows settings.transfer.items;
-  };
+  setting = setting_of (record { apex = zone.apex; snapshot = settings.snapshot; journal = settings.journal }) settings;
   loaded = zone.records;
   shown = [];
   staged = [];
@@ -60,7 +64,7 @@ begun zone settings = record {
   closed = false;
 }
 
-all_begun : (zones : List Zone) (settings : List ZoneSettings) → length zones ≡ length settings → (states : List ZoneState) × Each3 IsLoaded zones settings states
+all_begun : (zones : List Zone) (settings : List ZoneSpec) → length zones ≡ length settings → (states : List ZoneState) × Each3 IsLoaded zones settings states
 all_begun [] [] e = ([], tt)
 all_begun [] (s ∷ settings) e = absurd (omega (arith, e))
 all_begun (z ∷ zones) [] e = absurd (omega (arith, e))
@@ -83,13 +87,13 @@ all_begun (z ∷ zones) (s ∷ settings) e =
       ),
     )
 
-pub fresh_machine : (zones : List Zone) (settings : List ZoneSettings) → length zones ≡ length settings → (m : Machine) × IsFresh zones settings m
+pub fresh_machine : (zones : List Zone) (settings : List ZoneSpec) → length zones ≡ length settings → (m : Machine) × IsFresh zones settings m
 fresh_machine zones settings e =
     let all = all_begun zones settings e in
     (record { zones = all.0; waiting = []; connections = [] }, record { zones_are = all.1; waiting = refl; connections = refl })
 
 -- a zone that was just loaded is what its store is opened as
-pub loaded_opened : (zone : Zone) (settings : ZoneSettings) (z : ZoneState) → IsLoaded zone settings z → kept_of z ≡ fresh (shape_of zone.apex settings) (opened_again (first_of zone.records))
+pub loaded_opened : (zone : Zone) (settings : ZoneSpec) (z : ZoneState) → IsLoaded zone settings z → kept_of z ≡ fresh (shape_of zone.apex settings) (opened_again (first_of zone.records))
 loaded_opened zone settings z h =
     let shape = h.shape in
     let loaded = h.loaded in

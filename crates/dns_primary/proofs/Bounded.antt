@@ -6,32 +6,32 @@ use Rattle.std.proofs.lemmas.List.{length-append, length-map}
 use Rattle.dns_records.specs.Record.{Record}
 use Rattle.dns_wire.specs.Codes.{number_of_rcode}
 use Rattle.dns_wire.proofs.Binds.{true_lt}
-use Rattle.dns_request.specs.Request.{rcode_formerr, rcode_refused}
 use Rattle.dns_records.specs.Types.{type_soa, class_in}
+use Rattle.dns_request.specs.Codes.{rcode_formerr, rcode_notauth, rcode_refused, rcode_servfail}
 use Rattle.dns_zone.specs.Zone.{Zone}
 use Rattle.dns_answer.specs.Answer.{Handled, NoReply, Replies, Update, Transfer}
 use Rattle.dns_update.specs.Verdict.{Verdict, Refuses, Keeps, Leaves, verdict}
 use Rattle.dns_store.specs.Versions.{Opened, newest_of}
 use Rattle.dns_store.specs.Room.{entry_between, sectors_left}
-use Rattle.dns_held.specs.Each.{Each2, Each3}
-use Rattle.dns_held.specs.Held.{newest_zone}
-use Rattle.dns_held.specs.Staging.{has_room}
-use Rattle.dns_primary.specs.declared.primary.ZoneSettings.{ZoneSettings}
+use Rattle.dns_versions.specs.Each.{Each2, Each3}
+use Rattle.dns_versions.specs.Held.{newest_zone}
+use Rattle.dns_versions.specs.Staging.{has_room}
+use Rattle.dns_primary.specs.declared.primary.ZoneSpec.{ZoneSpec}
 use Rattle.dns_primary.specs.declared.event.Peer.{Peer}
 use Rattle.dns_primary.specs.declared.event.To.{To}
 use Rattle.dns_primary.specs.declared.event.To.TheVariants as to
 use Rattle.dns_primary.specs.Machine.{Made, ZoneState, Waits, Machine, kept_of, updates_of, peer_at, sending_at}
-use Rattle.dns_primary.specs.Flush.{Sent, rcode_servfail, is_none_made, flushed, flushed_zone, flushed_zones, flush_sends}
+use Rattle.dns_primary.specs.Flush.{Sent, is_none_made, flushed, flushed_zone, flushed_zones, flush_sends}
 use Rattle.dns_primary.specs.Connections.{closed, connected, without_connection}
-use Rattle.dns_primary.specs.Update.{Asked, Admission, Rejects, Admits, rcode_notauth, place_of, admission_in, admission_at, admission, waits, stages, with_staged, replies, accepted_in, judged_in, admitted, is_full, made_place, answer, room_lacked}
+use Rattle.dns_primary.specs.Update.{Asked, Admission, Rejects, Admits, zone_position, admission_in, admission_at, admission, waits, stages, with_staged, replies, accepted_in, judged_in, admitted, is_full, made_place, answer, room_lacked}
 use Rattle.dns_primary.specs.Checkpoint.{rebased, IsMovedUnlessClosed, IsCheckpoint}
 use Rattle.dns_primary.specs.Step.{Event, Datagram, Connect, Arrives, Flush, Checkpoint, Pump, Closed, IsCheckpointed, IsUpdateBegun, IsUpdated, Effects, AreFailures, IsRequestHandled, IsArrived, Goes, Lacks, Step}
-use Rattle.dns_primary.specs.Stop.{IsMaking, IsRecovered, AreRecovered, IsStopped}
+use Rattle.dns_primary.specs.Stop.{IsMaking, IsRecovered, AreRecovered, IsStopped, IsSetAnew, IsConfigured}
 use Rattle.dns_primary.specs.Fresh.{IsLoaded, IsFresh, IsReopened, IsResumed, IsStart}
-use Rattle.dns_primary.specs.Runs.{Moment, Took, Stopped, machine_after, Happens, Run, last_of}
+use Rattle.dns_primary.specs.Runs.{Moment, Took, Stopped, Configured, machine_after, Happens, Run, last_of}
 use Rattle.dns_primary.specs.Bounds.{HasFewStaged, IsBounded}
 use Rattle.dns_primary.proofs.Quiet.{IsQuiet, transferred_quiet, pumped_quiet}
-use Rattle.dns_primary.proofs.Zonewise.{tested, all_found, all_set}
+use Rattle.dns_primary.proofs.Zonewise.{tested, all_found, all_set, pair_over}
 use Rattle.dns_primary.proofs.Preserved.{StandsIn, admission_stands}
 
 -- few updates are staged of a zone, and where it isn't closed no more than so many replies wait
@@ -174,11 +174,11 @@ at_open zones a (Some place) = in_open a place (slice_get zones place)
 admission_open : (zones : List ZoneState) (a : Asked) → IsOpenIn (admission zones a)
 admission_open zones a =
     tested IsOpenIn (not (a.zone.qtype == type_soa)) (Rejects rcode_formerr)
-    (if not (a.zone.qclass == class_in) then Rejects rcode_notauth else admission_at zones a.address (place_of a.zone.name zones))
+    (if not (a.zone.qclass == class_in) then Rejects rcode_notauth else admission_at zones a.address (zone_position a.zone.name zones))
     (λ _. tt)
-    (λ _. tested IsOpenIn (not (a.zone.qclass == class_in)) (Rejects rcode_notauth) (admission_at zones a.address (place_of a.zone.name zones))
+    (λ _. tested IsOpenIn (not (a.zone.qclass == class_in)) (Rejects rcode_notauth) (admission_at zones a.address (zone_position a.zone.name zones))
     (λ _. tt)
-    (λ _. at_open zones a (place_of a.zone.name zones)))
+    (λ _. at_open zones a (zone_position a.zone.name zones)))
 
 admitted_fits : (m : Machine) (a : Asked) (d : Admission) → StandsIn m.zones d → IsOpenIn d → HasRoom m → AnswerFits (admitted m a d)
 admitted_fits m a (Rejects rcode) stands opened h = h.fit
@@ -260,8 +260,22 @@ nothing_fits m none each = record {
   each = subst (λ (ws : List Waits). AllByRecursion (Fits (length ws)) m.zones) (sym none) each;
 }
 
+anew_fits : (n : ℕ) (z w : ZoneState) → IsSetAnew z w → Fits n z → Fits n w
+anew_fits n z w s h =
+    subst (Fits n) (sym s.rest) (record { few = h.few; wait = h.wait })
+
+configured_fits : (old new : Machine) → IsConfigured old new → AllFit old → AllFit new
+configured_fits old new c h =
+    let same : new.waiting ≡ old.waiting = ap (λ (m : Machine). m.waiting) c.rest in
+    record {
+      few = subst (λ (ws : List Waits). length ws ≤ 32) (sym same) h.few;
+      each = subst (λ (ws : List Waits). AllByRecursion (Fits (length ws)) new.zones) (sym same)
+          (pair_over IsSetAnew (Fits (length old.waiting)) (anew_fits (length old.waiting)) old.zones new.zones c.zones h.each);
+    }
+
 moment_fits : (old : Machine) (t : Moment) → Happens old t → AllFit old → AllFit (machine_after t)
 moment_fits old (Took event fails effects new) g h = step_fits fails old event effects new g h
+moment_fits old (Configured new) g h = configured_fits old new g h
 moment_fits old (Stopped event tries new) g h = nothing_fits new g.waiting (all_recovered 1 (suc tries) old event 0 old.zones new.zones g.zones)
 
 run_fits : (start : Machine) (run : List Moment) → Run start run → AllFit start → AllFit (last_of start run)
@@ -276,7 +290,7 @@ bounded : (m : Machine) → AllFit m → IsBounded m
 bounded m h = record { waiting = h.few; staged = few_of (length m.waiting) m.zones h.each }
 
 -- where a run begins
-loaded_fit : (zones : List Zone) (settings : List ZoneSettings) (states : List ZoneState) → Each3 IsLoaded zones settings states → AllByRecursion (Fits 0) states
+loaded_fit : (zones : List Zone) (settings : List ZoneSpec) (states : List ZoneState) → Each3 IsLoaded zones settings states → AllByRecursion (Fits 0) states
 loaded_fit [] [] [] h = tt
 loaded_fit (z ∷ zones) (s ∷ settings) (m ∷ states) h = (none_fit 0 m (h.0).staged, loaded_fit zones settings states h.1)
 loaded_fit _ _ _ h = absurd h
@@ -291,7 +305,7 @@ reopened_fit [] (z ∷ states) h = absurd h
 reopened_fit (o ∷ held) [] h = absurd h
 reopened_fit (o ∷ held) (z ∷ states) h = (none_fit 0 z (no_versions z.staged (ap (λ k. k.staged) (h.0).versions)), reopened_fit held states h.1)
 
-fresh_fit : (zones : List Zone) (settings : List ZoneSettings) (m : Machine) → IsFresh zones settings m → AllFit m
+fresh_fit : (zones : List Zone) (settings : List ZoneSpec) (m : Machine) → IsFresh zones settings m → AllFit m
 fresh_fit zones settings m f = nothing_fits m f.waiting (loaded_fit zones settings m.zones f.zones_are)
 
 resumed_fit : (held : List Opened) (m : Machine) → IsResumed held m → AllFit m

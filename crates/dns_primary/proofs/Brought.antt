@@ -7,31 +7,31 @@ use Rattle.dns_names.specs.Name.{Labels, names_eq}
 use Rattle.dns_records.specs.Record.{Record}
 use Rattle.dns_records.specs.Types.{type_soa, class_in}
 use Rattle.dns_wire.specs.Message.{Message}
-use Rattle.dns_request.specs.Request.{rcode_formerr, rcode_refused}
+use Rattle.dns_request.specs.Codes.{rcode_formerr, rcode_notauth, rcode_refused, rcode_servfail}
 use Rattle.dns_request.specs.declared.request.Transport.{Transport}
 use Rattle.dns_request.specs.declared.request.Transport.TheVariants.{Udp, Tcp}
 use Rattle.dns_answer.specs.Answer.{Handled, NoReply, Replies, Update, Transfer, handled}
 use Rattle.dns_update.specs.Verdict.{Verdict, Refuses, Keeps, Leaves, verdict}
 use Rattle.dns_store.specs.Versions.{newest_of}
 use Rattle.dns_store.specs.Room.{entry_between, sectors_left}
-use Rattle.dns_held.specs.Each.{Each2, Each3}
-use Rattle.dns_held.specs.Held.{newest_zone}
-use Rattle.dns_held.specs.Staging.{has_room}
+use Rattle.dns_versions.specs.Each.{Each2, Each3}
+use Rattle.dns_versions.specs.Held.{newest_zone}
+use Rattle.dns_versions.specs.Staging.{has_room}
 use Rattle.dns_zone.specs.Zone.{Zone}
-use Rattle.dns_primary.specs.declared.primary.ZoneSettings.{ZoneSettings}
+use Rattle.dns_primary.specs.declared.primary.ZoneSpec.{ZoneSpec}
 use Rattle.dns_primary.specs.declared.event.Peer.{Peer}
 use Rattle.dns_primary.specs.declared.event.To.{To}
 use Rattle.dns_primary.specs.declared.event.To.TheVariants as to
 use Rattle.dns_primary.specs.Machine.{Setting, Made, ZoneState, Machine, kept_of, updates_of, shown_zones, peer_at, sending_at}
-use Rattle.dns_primary.specs.Flush.{Sent, rcode_servfail, flushed, flush_sends, flushed_zones}
-use Rattle.dns_primary.specs.Update.{Asked, Admission, Rejects, Admits, rcode_notauth, place_of, admission_in, admission_at, admission, waits, stages, with_staged, replies, accepted_in, judged_in, admitted, is_full, answer}
+use Rattle.dns_primary.specs.Flush.{Sent, flushed, flush_sends, flushed_zones}
+use Rattle.dns_primary.specs.Update.{Asked, Admission, Rejects, Admits, zone_position, admission_in, admission_at, admission, waits, stages, with_staged, replies, accepted_in, judged_in, admitted, is_full, answer}
 use Rattle.dns_primary.specs.Checkpoint.{IsCheckpoint}
 use Rattle.dns_primary.specs.Step.{Event, Datagram, Connect, Arrives, Flush, Checkpoint, Pump, Closed, IsCheckpointed, IsUpdateBegun, IsUpdated, Effects, IsRequestHandled, IsArrived, IsConnected, Goes, Lacks, Step}
-use Rattle.dns_primary.specs.Stop.{IsMaking, IsRecovered, AreRecovered}
+use Rattle.dns_primary.specs.Stop.{IsMaking, IsRecovered, AreRecovered, IsStopped, IsSetAnew}
 use Rattle.dns_primary.specs.Fresh.{IsLoaded, IsFresh}
-use Rattle.dns_primary.specs.Runs.{Moment, Took, Stopped, machine_after, Happens, Run, last_of, Carries, Brings, BringsIn, CameIn, AllCameIn, AllCameSince, openings_in, IsOpenedAtMost}
+use Rattle.dns_primary.specs.Runs.{Moment, Took, Stopped, Configured, machine_after, Happens, Run, last_of, Carries, Brings, BringsIn, CameIn, AllCameIn, AllCameSince, openings_in, IsOpenedAtMost}
 use Rattle.dns_primary.proofs.Quiet.{transferred_quiet, pumped_quiet}
-use Rattle.dns_primary.proofs.Zonewise.{tested, pair_same, pair_on, pair_set, Same, same_itself, zone_flushed}
+use Rattle.dns_primary.proofs.Zonewise.{tested, pair_same, pair_on, pair_set, pair_map, pair_found_before, Same, same_itself, zone_flushed}
 use Rattle.dns_primary.proofs.Preserved.{has, same_moved, same_updates}
 
 same_on : (a b c : ZoneState) → Same a b → Same b c → Same a c
@@ -118,12 +118,12 @@ named_later : (apex : Labels) (z : ZoneState) (zones : List ZoneState) (o : Opti
 named_later apex z zones None h = tt
 named_later apex z zones (Some place) h = h
 
-pub place_named : (apex : Labels) (zones : List ZoneState) → NamedAt apex zones (place_of apex zones)
+pub place_named : (apex : Labels) (zones : List ZoneState) → NamedAt apex zones (zone_position apex zones)
 place_named apex [] = tt
 place_named apex (z ∷ rest) =
-    tested (NamedAt apex (z ∷ rest)) (names_eq z.setting.shape.apex apex) (Some 0) (option_map suc (place_of apex rest))
+    tested (NamedAt apex (z ∷ rest)) (names_eq z.setting.shape.apex apex) (Some 0) (option_map suc (zone_position apex rest))
     (λ e. e)
-    (λ _. named_later apex z rest (place_of apex rest) (place_named apex rest))
+    (λ _. named_later apex z rest (zone_position apex rest) (place_named apex rest))
 
 in_allowed : (zones : List ZoneState) (a : Asked) (place : ℕ) (found : Option ZoneState) → slice_get zones place ≡ found → IsNamed a.zone.name found → AllowedIn zones a (admission_in a.address place found)
 in_allowed zones a place None e n = tt
@@ -139,11 +139,11 @@ at_allowed zones a (Some place) n = in_allowed zones a place (slice_get zones pl
 admission_allowed : (zones : List ZoneState) (a : Asked) → AllowedIn zones a (admission zones a)
 admission_allowed zones a =
     tested (AllowedIn zones a) (not (a.zone.qtype == type_soa)) (Rejects rcode_formerr)
-    (if not (a.zone.qclass == class_in) then Rejects rcode_notauth else admission_at zones a.address (place_of a.zone.name zones))
+    (if not (a.zone.qclass == class_in) then Rejects rcode_notauth else admission_at zones a.address (zone_position a.zone.name zones))
     (λ _. tt)
-    (λ _. tested (AllowedIn zones a) (not (a.zone.qclass == class_in)) (Rejects rcode_notauth) (admission_at zones a.address (place_of a.zone.name zones))
+    (λ _. tested (AllowedIn zones a) (not (a.zone.qclass == class_in)) (Rejects rcode_notauth) (admission_at zones a.address (zone_position a.zone.name zones))
     (λ _. tt)
-    (λ _. at_allowed zones a (place_of a.zone.name zones) (place_named a.zone.name zones)))
+    (λ _. at_allowed zones a (zone_position a.zone.name zones) (place_named a.zone.name zones)))
 
 -- the update of an event
 record IsBrought (old : Machine) (event : Event) (a : Asked) : Type 0 where
@@ -155,16 +155,20 @@ record IsBrought (old : Machine) (event : Event) (a : Asked) : Type 0 where
   from : a.address ≡ peer.address
 
 module _ (old : Machine) (event : Event) (a : Asked) (b : IsBrought old event a) where
-  brings : (z : ZoneState) → names_eq z.setting.shape.apex a.zone.name ≡ true → z.setting.may_update a.address ≡ true → Brings old event z a.message
-  brings z named allowed = record {
+  brings : (place : ℕ) (y z : ZoneState) → slice_get old.zones place ≡ Some y → z.setting ≡ y.setting → names_eq z.setting.shape.apex a.zone.name ≡ true → z.setting.may_update a.address ≡ true → Brings old event z a.message
+  brings place y z there same named allowed = record {
     peer = b.peer;
     transport = b.transport;
     octets = b.octets;
     came = b.came;
     question = a.zone;
     asks = b.asks;
-    named = named;
-    allowed = subst (λ (x : IpAddr). z.setting.may_update x ≡ true) b.from allowed;
+    place = place;
+    zone = y;
+    there = there;
+    shape = ap (λ (s : Setting). s.shape) (sym same);
+    named = subst (λ (s : Setting). names_eq s.shape.apex a.zone.name ≡ true) same named;
+    allowed = subst (λ (s : Setting). s.may_update (b.peer).address ≡ true) same (subst (λ (x : IpAddr). z.setting.may_update x ≡ true) b.from allowed);
   }
 
   abbrev Goes_to : Machine → Machine × List Sent → Type 0
@@ -173,29 +177,30 @@ module _ (old : Machine) (event : Event) (a : Asked) (b : IsBrought old event a)
   still : (m : Machine) → AreWith (Brings old event) m.zones m.zones
   still m = all_still (Brings old event) m.zones
 
-  accepted_brings : (m : Machine) (place : ℕ) (z : ZoneState) (records : List Record) → IsAllowed m.zones a place z → Goes_to m (accepted_in m a place z records)
-  accepted_brings m place z records h =
+  accepted_brings : (m : Machine) → Each2 Same old.zones m.zones → (place : ℕ) (z : ZoneState) (records : List Record) → IsAllowed m.zones a place z → Goes_to m (accepted_in m a place z records)
+  accepted_brings m same place z records h =
       tested (Goes_to m) (has_room (kept_of z) records) (stages m a place z records, []) (waits m a place rcode_servfail (updates_of z), [])
       (λ _.
       (let made : Made = record { update = a.message; records = records } in
+      let before = pair_found_before Same old.zones m.zones place z same h.stands in
       pair_set (IsWith (Brings old event)) (with_itself (Brings old event)) m.zones place z (with_staged made z) h.stands
-      (record { setting = refl; updates = inr (made, sym (append_assoc z.shown z.staged (made ∷ [])), brings (with_staged made z) h.named h.allowed); openings = refl })))
+      (record { setting = refl; updates = inr (made, sym (append_assoc z.shown z.staged (made ∷ [])), brings place before.zone (with_staged made z) before.there before.holds.setting h.named h.allowed); openings = refl })))
       (λ _. still m)
 
-  judged_brings : (m : Machine) (place : ℕ) (z : ZoneState) (v : Verdict) → IsAllowed m.zones a place z → Goes_to m (judged_in m a place z v)
-  judged_brings m place z (Refuses rcode) h = still m
-  judged_brings m place z Keeps h = still m
-  judged_brings m place z (Leaves records) h = accepted_brings m place z records h
+  judged_brings : (m : Machine) → Each2 Same old.zones m.zones → (place : ℕ) (z : ZoneState) (v : Verdict) → IsAllowed m.zones a place z → Goes_to m (judged_in m a place z v)
+  judged_brings m same place z (Refuses rcode) h = still m
+  judged_brings m same place z Keeps h = still m
+  judged_brings m same place z (Leaves records) h = accepted_brings m same place z records h
 
-  admitted_brings : (m : Machine) (d : Admission) → AllowedIn m.zones a d → Goes_to m (admitted m a d)
-  admitted_brings m (Rejects rcode) h = still m
-  admitted_brings m (Admits place z) h = judged_brings m place z (verdict (newest_zone (kept_of z)) a.message.answers a.message.authorities) h
+  admitted_brings : (m : Machine) → Each2 Same old.zones m.zones → (d : Admission) → AllowedIn m.zones a d → Goes_to m (admitted m a d)
+  admitted_brings m same (Rejects rcode) h = still m
+  admitted_brings m same (Admits place z) h = judged_brings m same place z (verdict (newest_zone (kept_of z)) a.message.answers a.message.authorities) h
 
   updated_brings : (fails : List Bool) (effects : Effects) (new : Machine) → IsUpdated fails old a effects new → AreWith (Brings old event) old.zones new.zones
   updated_brings fails effects new u =
       subst (λ (m : Machine). AreWith (Brings old event) old.zones m.zones) (sym u.state)
       (all_with (Brings old event) old.zones (u.mid).zones ((answer u.mid a).0).zones (begun_same fails old _ u.first u.mid u.begun)
-      (admitted_brings u.mid (admission (u.mid).zones a) (admission_allowed (u.mid).zones a)))
+      (admitted_brings u.mid (begun_same fails old _ u.first u.mid u.begun) (admission (u.mid).zones a) (admission_allowed (u.mid).zones a)))
 
 module _ (old : Machine) (event : Event) where
   nothing_new : (new next : Machine) → new ≡ next → Each2 Same old.zones next.zones → AreWith (Brings old event) old.zones new.zones
@@ -267,7 +272,7 @@ has_either (x ∷ xs) ys u (inr h) = ⊎_elim (λ a. inl (inr a)) (λ b. inr b) 
 
 -- Each update that the zone has afterwards it had before, or the moment brought it; and its store was opened as often more.
 record IsOf (m : Machine) (t : Moment) (z y : ZoneState) : Type 0 where
-  setting : y.setting ≡ z.setting
+  shape : y.setting.shape ≡ z.setting.shape
   updates : (u : Made) → Has (updates_of y) u → Has (updates_of z) u ⊎ BringsIn m t y u.update
   openings : y.openings ≤ z.openings + openings_in (t ∷ [])
 
@@ -276,7 +281,7 @@ same_has xs ys u e h = subst (λ (us : List Made). Has us u) e h
 
 with_is : (fails : List Bool) (m : Machine) (event : Event) (effects : Effects) (new : Machine) (z y : ZoneState) → IsWith (Brings m event) z y → IsOf m (Took event fails effects new) z y
 with_is fails m event effects new z y w = record {
-  setting = w.setting;
+  shape = ap (λ (s : Setting). s.shape) w.setting;
   updates = λ u h. ⊎_elim
       (λ e. inl (same_has (updates_of y) (updates_of z) u e h))
       (λ e. ⊎_elim (λ a. inl a) (λ b. ⊎_elim (λ is. inr (subst (λ (x : Made). Brings m event y x.update) (sym is) e.2)) (λ none. absurd none) b)
@@ -295,7 +300,7 @@ all_with_are fails m event effects new (z ∷ old) (y ∷ now) h = (with_is fail
 recovered_is : (least most : ℕ) (making : ℕ → Type 0) (m : Machine) (event : Event) (tries : ℕ) (new : Machine) (z y : ZoneState) → most ≤ suc tries → IsRecovered least most making z y → IsOf m (Stopped event tries new) z y
 recovered_is least most making m event tries new z y few r = record {
   openings = (let at = r.at_most in omega (arith, at, few));
-  setting = r.setting;
+  shape = ap (λ (s : Setting). s.shape) r.setting;
   updates = λ u h.
       (let now : updates_of y ≡ z.shown ++ r.kept = ap (λ (us : List Made). y.shown ++ us) r.staged ∙ append-nil y.shown ∙ r.shown in
       let whole : (z.shown ++ r.kept) ++ r.lost ≡ updates_of z = append_assoc z.shown r.kept r.lost ∙ sym (ap (λ (us : List Made). z.shown ++ us) r.front) in
@@ -310,17 +315,25 @@ all_recovered_are least most m event tries stopped place (z ∷ old) [] few h = 
 all_recovered_are least most m event tries stopped place (z ∷ old) (y ∷ new) few h =
     (recovered_is least most (IsMaking m event place z) m event tries stopped z y few h.0, all_recovered_are least most m event tries stopped (suc place) old new few h.1)
 
+anew_is : (m new : Machine) (z y : ZoneState) → IsSetAnew z y → IsOf m (Configured new) z y
+anew_is m new z y s = record {
+  shape = s.shape;
+  updates = λ u h. inl (same_has (updates_of y) (updates_of z) u (ap updates_of s.rest) h);
+  openings = (let same : y.openings ≡ z.openings = ap (λ (x : ZoneState). x.openings) s.rest in omega (arith, same));
+}
+
 moment_is : (m : Machine) (t : Moment) → Happens m t → Each2 (IsOf m t) m.zones (machine_after t).zones
 moment_is m (Took event fails effects new) h = all_with_are fails m event effects new m.zones new.zones (step_brings fails m event effects new h)
+moment_is m (Configured new) h = pair_map IsSetAnew (IsOf m (Configured new)) (anew_is m new) m.zones new.zones h.zones
 moment_is m (Stopped event tries new) h = all_recovered_are 1 (suc tries) m event tries new 0 m.zones new.zones (omega arith) h.zones
 
 -- ... and so of a run.
 record CameFrom (m : Machine) (run : List Moment) (z w : ZoneState) : Type 0 where
-  setting : w.setting ≡ z.setting
+  shape : w.setting.shape ≡ z.setting.shape
   updates : (u : Made) → Has (updates_of w) u → Has (updates_of z) u ⊎ CameIn m run w u.update
   openings : w.openings ≤ z.openings + openings_in run
 
-brings_as : (m : Machine) (t : Moment) (y w : ZoneState) (x : Message) → w.setting ≡ y.setting → BringsIn m t y x → BringsIn m t w x
+brings_as : (m : Machine) (t : Moment) (y w : ZoneState) (x : Message) → w.setting.shape ≡ y.setting.shape → BringsIn m t y x → BringsIn m t w x
 brings_as m (Took event fails effects new) y w x e b = record {
   peer = b.peer;
   transport = b.transport;
@@ -328,19 +341,25 @@ brings_as m (Took event fails effects new) y w x e b = record {
   came = b.came;
   question = b.question;
   asks = b.asks;
-  named = subst (λ (s : Setting). names_eq s.shape.apex (b.question).name ≡ true) (sym e) b.named;
-  allowed = subst (λ (s : Setting). s.may_update (b.peer).address ≡ true) (sym e) b.allowed;
+  place = b.place;
+  zone = b.zone;
+  there = b.there;
+  shape = b.shape ∙ sym e;
+  named = b.named;
+  allowed = b.allowed;
 }
 brings_as m (Stopped event tries new) y w x e b = absurd b
+brings_as m (Configured new) y w x e b = absurd b
 
 both_times : (t : Moment) (rest : List Moment) → openings_in (t ∷ rest) ≡ openings_in (t ∷ []) + openings_in rest
 both_times (Took event fails effects new) rest = omega arith
 both_times (Stopped event tries new) rest = omega arith
+both_times (Configured new) rest = omega arith
 
 came_on : (m : Machine) (t : Moment) (rest : List Moment) (z y w : ZoneState) → IsOf m t z y → CameFrom (machine_after t) rest y w → CameFrom m (t ∷ rest) z w
 came_on m t rest z y w p q = record {
-  setting = q.setting ∙ p.setting;
-  updates = λ u h. ⊎_elim (λ a. ⊎_elim (λ b. inl b) (λ b. inr (inl (brings_as m t y w u.update q.setting b))) (p.updates u a)) (λ c. inr (inr c)) (q.updates u h);
+  shape = q.shape ∙ p.shape;
+  updates = λ u h. ⊎_elim (λ a. ⊎_elim (λ b. inl b) (λ b. inr (inl (brings_as m t y w u.update q.shape b))) (p.updates u a)) (λ c. inr (inr c)) (q.updates u h);
   openings = (let one = p.openings in let two = q.openings in let both = both_times t rest in omega (arith, one, two, both));
 }
 
@@ -354,7 +373,7 @@ all_came_on m t rest (z ∷ olds) (y ∷ mids) [] p q = absurd q
 all_came_on m t rest (z ∷ olds) (y ∷ mids) (w ∷ news) p q = (came_on m t rest z y w p.0 q.0, all_came_on m t rest olds mids news p.1 q.1)
 
 run_came : (m : Machine) (run : List Moment) → Run m run → Each2 (CameFrom m run) m.zones (last_of m run).zones
-run_came m [] r = pair_same (CameFrom m []) (λ z. record { setting = refl; updates = λ u h. inl h; openings = omega arith }) m.zones
+run_came m [] r = pair_same (CameFrom m []) (λ z. record { shape = refl; updates = λ u h. inl h; openings = omega arith }) m.zones
 run_came m (t ∷ rest) r = all_came_on m t rest m.zones (machine_after t).zones (last_of (machine_after t) rest).zones (moment_is m t r.0) (run_came (machine_after t) rest r.1)
 
 each_has : (P : Made → Type 0) (xs : List Made) → ((u : Made) → Has xs u → P u) → AllByRecursion P xs
@@ -365,7 +384,7 @@ from_none : (m : Machine) (run : List Moment) (z w : ZoneState) → updates_of z
 from_none m run z w none c =
     each_has (λ u. CameIn m run w u.update) (updates_of w) (λ u h. ⊎_elim (λ a. absurd (same_has (updates_of z) [] u none a)) (λ b. b) (c.updates u h))
 
-all_from_none : (m : Machine) (run : List Moment) (zones : List Zone) (settings : List ZoneSettings) (olds news : List ZoneState) → Each3 IsLoaded zones settings olds
+all_from_none : (m : Machine) (run : List Moment) (zones : List Zone) (settings : List ZoneSpec) (olds news : List ZoneState) → Each3 IsLoaded zones settings olds
     → Each2 (CameFrom m run) olds news → AllByRecursion (AllCameIn m run) news
 all_from_none m run zones settings [] [] f c = tt
 all_from_none m run zones settings [] (w ∷ news) f c = absurd c
@@ -376,7 +395,7 @@ all_from_none m run [] [] (z ∷ olds) (w ∷ news) f c = absurd f
 all_from_none m run [] (s ∷ settings) (z ∷ olds) (w ∷ news) f c = absurd f
 all_from_none m run (a ∷ zones) [] (z ∷ olds) (w ∷ news) f c = absurd f
 
-pub all_came : (zones : List Zone) (settings : List ZoneSettings) (start : Machine) (run : List Moment) → IsFresh zones settings start → Run start run → AllByRecursion (AllCameIn start run) (last_of start run).zones
+pub all_came : (zones : List Zone) (settings : List ZoneSpec) (start : Machine) (run : List Moment) → IsFresh zones settings start → Run start run → AllByRecursion (AllCameIn start run) (last_of start run).zones
 all_came zones settings start run f r = all_from_none start run zones settings start.zones (last_of start run).zones f.zones_are (run_came start run r)
 
 contained : (xs : List Made) (u : Made) → Has xs u → Contains xs u
@@ -405,3 +424,25 @@ all_counted m run (z ∷ olds) (w ∷ news) c = ((c.0).openings, all_counted m r
 
 pub run_counts : (m : Machine) (run : List Moment) → Run m run → Each2 (IsOpenedAtMost (openings_in run)) m.zones (last_of m run).zones
 run_counts m run r = all_counted m run m.zones (last_of m run).zones (run_came m run r)
+
+-- the settings stay in a step, and where the machine is opened again with the same ones
+abbrev pub StaysSet : ZoneState → ZoneState → Type 0
+StaysSet z w = w.setting ≡ z.setting
+
+pub step_set : (fails : List Bool) (old : Machine) (event : Event) (effects : Effects) (new : Machine) → Step fails old event effects new → Each2 StaysSet old.zones new.zones
+step_set fails old event effects new h = pair_map (IsWith (Brings old event)) StaysSet (λ z w x. x.setting) old.zones new.zones (step_brings fails old event effects new h)
+
+all_recovered_set : (least most : ℕ) (m : Machine) (event : Event) (place : ℕ) (old new : List ZoneState) → AreRecovered least most m event place old new → Each2 StaysSet old new
+all_recovered_set least most m event place [] [] h = tt
+all_recovered_set least most m event place [] (y ∷ new) h = absurd h
+all_recovered_set least most m event place (z ∷ old) [] h = absurd h
+all_recovered_set least most m event place (z ∷ old) (y ∷ new) h = (h.0.setting, all_recovered_set least most m event (suc place) old new h.1)
+
+pub stopped_set : (tries : ℕ) (old : Machine) (event : Event) (new : Machine) → IsStopped tries old event new → Each2 StaysSet old.zones new.zones
+stopped_set tries old event new h = all_recovered_set 1 (suc tries) old event 0 old.zones new.zones h.zones
+
+pub all_stay_set : (zones : List ZoneState) → Each2 StaysSet zones zones
+all_stay_set zones = pair_same StaysSet (λ z. refl) zones
+
+pub stay_set_on : (olds mids news : List ZoneState) → Each2 StaysSet olds mids → Each2 StaysSet mids news → Each2 StaysSet olds news
+stay_set_on olds mids news p q = pair_on StaysSet (λ a b c x y. y ∙ x) olds mids news p q

@@ -13,29 +13,30 @@ use Rattle.dns_wire.specs.declared.codes.Rcode.TheVariants as rcode
 use Rattle.dns_wire.specs.Text.{Reply, text}
 use Rattle.dns_zone.specs.Zone.{Zone}
 use Rattle.dns_lookup.specs.Lookup.{resolve, zone_of}
+use Rattle.dns_request.specs.Codes.{rcode_formerr, rcode_notauth, rcode_notimp, rcode_nxdomain, rcode_refused, rcode_servfail}
 use Rattle.dns_request.specs.Request as request
-use Rattle.dns_request.specs.Request.{request_of, read_as, message_as, question_as, has_counts, too_long, opcode_query, opcode_update, rcode_formerr, rcode_notimp, rcode_refused}
+use Rattle.dns_request.specs.Request.{request_of, read_as, message_as, question_as, has_counts, too_long, opcode_query, opcode_update}
 use Rattle.dns_request.specs.declared.request.Transport.{Transport}
 use Rattle.dns_request.specs.declared.request.Transport.TheVariants.{Udp, Tcp}
 use Rattle.dns_answer.specs.Fit.{by_udp_without_additional, failed, truncated, is_referral}
 use Rattle.dns_answer.specs.Sections.{is_name_error}
-use Rattle.dns_answer.specs.Answer.{answered, fitted, handled_as, reply_for, rcode_nxdomain, with_question}
+use Rattle.dns_answer.specs.Answer.{answered, fitted, handled_as, reply_for, with_question}
 use Rattle.dns_transfer.specs.Messages.{octets_with, message_with}
 use Rattle.dns_transfer.specs.Refusal.{client_serial, is_malformed, refusal as refusal_by}
 use Rattle.dns_transfer.specs.Session.{Sending, SendsBy}
 use Rattle.dns_update.specs.Verdict.{Verdict, Refuses, Keeps, Leaves, verdict}
 use Rattle.dns_store.specs.Versions.{newest_of}
-use Rattle.dns_held.specs.Held.{newest_zone}
-use Rattle.dns_held.specs.Staging.{has_room}
+use Rattle.dns_versions.specs.Held.{newest_zone}
+use Rattle.dns_versions.specs.Staging.{has_room}
 use Rattle.dns_primary.specs.declared.event.Peer.{Peer}
 use Rattle.dns_primary.specs.declared.event.To.{To}
 use Rattle.dns_primary.specs.declared.event.To.TheVariants as to
 use Rattle.dns_primary.specs.declared.event.Noted.TheVariants.{OutOfMemory}
 use Rattle.dns_primary.specs.Machine.{Made, ZoneState, Waits, Machine, kept_of, updates_of, shown_zones, peer_at, sending_at}
-use Rattle.dns_primary.specs.Flush.{Sent, Answered, Replied, rcode_servfail, flushed, flush_sends, released, is_closed_in}
+use Rattle.dns_primary.specs.Flush.{Sent, Answered, Replied, flushed, flush_sends, released, is_closed_in}
 use Rattle.dns_primary.specs.Connections.{without_connection}
-use Rattle.dns_primary.specs.Update.{Asked, Admission, Rejects, Admits, admission, admission_at, admission_in, place_of, rcode_notauth, waits, stages, replies, accepted_in, judged_in, admitted, is_full, made_place, answer, room_lacked}
-use Rattle.dns_primary.specs.Transfer.{version_of, zone_named, transport_of, is_free, may_have, OpensFrom, refusal_of, TransferBegins, IsStarted, IsTransferred, IsSentOn, IsPumped}
+use Rattle.dns_primary.specs.Update.{Asked, Admission, Rejects, Admits, admission, admission_at, admission_in, zone_position, waits, stages, replies, accepted_in, judged_in, admitted, is_full, made_place, answer, room_lacked}
+use Rattle.dns_primary.specs.Transfer.{transfer_version, zone_named, transport_of, is_free, may_have, OpensFrom, refusal_of, TransferBegins, IsStarted, IsTransferred, IsSentOn, IsPumped}
 use Rattle.dns_primary.specs.Step.{Event, Datagram, Connect, Arrives, Flush, Checkpoint, Pump, Closed, IsCheckpointed, IsUpdateBegun, IsUpdated, Effects, IsRequestHandled, IsArrived, Goes, Step}
 use Rattle.dns_primary.specs.Runs.{IsReleasedFrom}
 use Rattle.dns_primary.specs.Causes.{code_of, IsForClosed, LacksRoom, UpdateCause, IsTooLong, RequestCause, ArrivedCause, EventCause, HasCause, Waited, HaveCauses}
@@ -66,13 +67,13 @@ IsRefusal m a (Admits place z) = Unit {0}
 none_there : (m : Machine) (a : Asked) (rcode : ℕ) → (rcode % 16 ≡ 2 → ⊥) → IsRefusal m a (Rejects rcode)
 none_there m a rcode other e = absurd (other e)
 
-refused_in : (m : Machine) (a : Asked) (place : ℕ) (o : Option ZoneState) → place_of a.zone.name m.zones ≡ Some place → slice_get m.zones place ≡ o → IsRefusal m a (admission_in a.address place o)
+refused_in : (m : Machine) (a : Asked) (place : ℕ) (o : Option ZoneState) → zone_position a.zone.name m.zones ≡ Some place → slice_get m.zones place ≡ o → IsRefusal m a (admission_in a.address place o)
 refused_in m a place None named e = none_there m a rcode_notauth (λ f. omega (arith, f))
 refused_in m a place (Some z) named e =
     either (IsRefusal m a) (not (z.setting.may_update a.address)) _ _ (none_there m a rcode_refused (λ f. omega (arith, f)))
     (tested (IsRefusal m a) z.closed (Rejects rcode_servfail) (Admits place z) (λ c f. record { place = place; zone = z; named = named; stands = e; closed = c }) (λ c. tt))
 
-refused_at : (m : Machine) (a : Asked) (o : Option ℕ) → place_of a.zone.name m.zones ≡ o → IsRefusal m a (admission_at m.zones a.address o)
+refused_at : (m : Machine) (a : Asked) (o : Option ℕ) → zone_position a.zone.name m.zones ≡ o → IsRefusal m a (admission_at m.zones a.address o)
 refused_at m a None named = none_there m a rcode_notauth (λ f. omega (arith, f))
 refused_at m a (Some place) named = refused_in m a place (slice_get m.zones place) named refl
 
@@ -80,7 +81,7 @@ refusal : (m : Machine) (a : Asked) → IsRefusal m a (admission m.zones a)
 refusal m a =
     either (IsRefusal m a) (not (a.zone.qtype == type_soa)) _ _ (none_there m a rcode_formerr (λ f. omega (arith, f)))
     (either (IsRefusal m a) (not (a.zone.qclass == class_in)) _ _ (none_there m a rcode_notauth (λ f. omega (arith, f)))
-    (refused_at m a (place_of a.zone.name m.zones) refl))
+    (refused_at m a (zone_position a.zone.name m.zones) refl))
 
 abbrev AnswerCause : Machine → Asked → Type 0
 AnswerCause m a = IsForClosed m a ⊎ LacksRoom m a
@@ -285,7 +286,7 @@ started_codes old to peer octets m q (Ok s) out next o h = begun_codes _ old to 
 started_codes old to peer octets m q (Err rcode) out next o h =
     one_sent _ to (refusal_of (transport_of to) octets m q rcode) out h.0
     (refusal_code to octets m q rcode
-    (subst IsOtherCode o (other_refusal (transport_of to) q (client_serial q m.authorities) (is_some (option_map version_of (zone_named q.name old.zones))) (may_have peer.address (zone_named q.name old.zones) && is_free to old.connections))))
+    (subst IsOtherCode o (other_refusal (transport_of to) q (client_serial q m.authorities) (is_some (option_map transfer_version (zone_named q.name old.zones))) (may_have peer.address (zone_named q.name old.zones) && is_free to old.connections))))
 
 transferred : (old : Machine) (to : To) (peer : Peer) (octets : List ℕ) (m : Message) (q : Question) (out : List Sent) (next : Machine) → IsTransferred old to peer octets m q out next
     → Ended ((n : ℕ) × IsTooLong (transport_of to) (with_question octets m q n)) old (next, out)

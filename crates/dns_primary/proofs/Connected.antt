@@ -4,7 +4,7 @@ use Rattle.std.specs.Prelude.{Option, Some, None, OnSome, IfNone, is_some, count
 use Rattle.std.proofs.lemmas.Bool.Decides.{nat_tests}
 use Rattle.std.proofs.lemmas.List.Sums.{sum_by-cons}
 use Rattle.slab.specs.Slab.{Slab, get, slab_len, Updates}
-use Rattle.dns_held.specs.Each.{Each2}
+use Rattle.dns_versions.specs.Each.{Each2}
 use Rattle.dns_primary.specs.declared.event.Peer.{Peer}
 use Rattle.dns_primary.specs.Machine.{Connection, peer_at}
 use Rattle.dns_primary.proofs.Judged.{tested, untested}

@@ -12,8 +12,8 @@ use Rattle.dns_answer.specs.Answer.{Handled, NoReply, Replies, Update, Transfer,
 use Rattle.dns_update.specs.Verdict.{Verdict, Refuses, Keeps, Leaves, verdict}
 use Rattle.dns_store.specs.Versions.{newest_of}
 use Rattle.dns_store.specs.Room.{entry_between, sectors_left}
-use Rattle.dns_held.specs.Held.{newest_zone}
-use Rattle.dns_held.specs.Staging.{has_room}
+use Rattle.dns_versions.specs.Held.{newest_zone}
+use Rattle.dns_versions.specs.Staging.{has_room}
 use Rattle.dns_transfer.specs.Refusal.{client_serial}
 use Rattle.dns_transfer.specs.Session.{Sending, Version, Opens, IsTransferOpened}
 use Rattle.dns_primary.specs.declared.event.Peer.{Peer}
@@ -22,11 +22,11 @@ use Rattle.dns_primary.specs.declared.event.To.TheVariants as to
 use Rattle.dns_primary.specs.Machine.{ZoneState, Machine, kept_of, shown_zones, peer_at, sending_at}
 use Rattle.dns_primary.specs.Flush.{Sent, flushed, flush_sends}
 use Rattle.dns_primary.specs.Update.{Asked, Admission, Rejects, Admits, admission, accepted_in, judged_in, admitted, is_full, room_lacked}
-use Rattle.dns_primary.specs.Transfer.{OpensFrom, TransferBegins, IsStarted, IsSentOn, IsPumped, is_free, may_have, open_still, set_transfer, version_of, zone_named}
+use Rattle.dns_primary.specs.Transfer.{OpensFrom, TransferBegins, IsStarted, IsSentOn, IsPumped, is_free, may_have, open_still, set_transfer, transfer_version, zone_named}
 use Rattle.dns_primary.specs.Step.{Event, Datagram, Connect, Arrives, Flush, Checkpoint, Pump, Closed, IsCheckpointed, IsUpdateBegun, IsUpdated, Effects, IsRequestHandled, IsArrived, IsConnected, Goes, Lacks, Step, takes_memory}
 use Rattle.dns_primary.specs.Connections.{closed}
-use Rattle.dns_primary.specs.Stop.{IsStopped}
-use Rattle.dns_primary.specs.Runs.{Moment, Took, Stopped, Run}
+use Rattle.dns_primary.specs.Stop.{IsStopped, IsConfigured}
+use Rattle.dns_primary.specs.Runs.{Moment, Took, Stopped, Configured, Run}
 use Rattle.dns_primary.specs.Continues.{OpensOn, GivesNext, GoesOn, Continues}
 use Rattle.dns_primary.proofs.Zonewise.{tested}
 use Rattle.dns_primary.proofs.Connected.{is_one, test_same, by_test}
@@ -130,7 +130,7 @@ module _ (number : ℕ) where
   is_taken : (old : Machine) (s t : Sending) (peer : Peer) (octets : List ℕ) (message : Message) (question : Question) → sending_at number old.connections ≡ Some s
       → OpensFrom old (to.Connection number) peer octets message question (Ok t) → ⊥
   is_taken old s t peer octets message question at o =
-      let free = allowed_when Tcp question (client_serial question message.authorities) (is_some (option_map version_of (zone_named question.name old.zones))) (may_have peer.address (zone_named question.name old.zones))
+      let free = allowed_when Tcp question (client_serial question message.authorities) (is_some (option_map transfer_version (zone_named question.name old.zones))) (may_have peer.address (zone_named question.name old.zones))
       (is_free (to.Connection number) old.connections) o.0 in
       let clash : false ≡ true = ap is_none (sym at) ∙ free in
       cc
@@ -149,14 +149,14 @@ module _ (number : ℕ) where
     zone : ZoneState
     named : o ≡ Some zone
     allowed : zone.setting.may_transfer peer.address ≡ true
-    opened : IsTransferOpened Tcp octets message question (version_of zone) t
+    opened : IsTransferOpened Tcp octets message question (transfer_version zone) t
 
   opened_zone : (old : Machine) (peer : Peer) (octets : List ℕ) (message : Message) (question : Question) (t : Sending) (o : Option ZoneState)
-      → Opens Tcp octets message question (option_map version_of o) (may_have peer.address o && is_free (to.Connection number) old.connections) (Ok t)
+      → Opens Tcp octets message question (option_map transfer_version o) (may_have peer.address o && is_free (to.Connection number) old.connections) (Ok t)
       → IsOfShown old peer octets message question t o
   opened_zone old peer octets message question t None opens = absurd (let clash : ◌≡◌ {A = Option Version} None (Some opens.1) = opens.2 in cc)
   opened_zone old peer octets message question t (Some z) opens =
-      let same : version_of z ≡ opens.1 = (let e : Some (version_of z) ≡ Some opens.1 = opens.2 in cc) in
+      let same : transfer_version z ≡ opens.1 = (let e : Some (transfer_version z) ≡ Some opens.1 = opens.2 in cc) in
       record {
         zone = z;
         named = refl;
@@ -190,7 +190,7 @@ module _ (number : ℕ) where
         asks = o.asks ∙ ap (λ (x : List ℕ). Transfer x o.message o.question) same;
         named = z.named;
         allowed = z.allowed;
-        opened = subst (λ (x : Sending). IsTransferOpened Tcp octets o.message o.question (version_of z.zone) x) is (subst (λ (x : List ℕ). IsTransferOpened Tcp x o.message o.question (version_of z.zone) o.sending) same z.opened);
+        opened = subst (λ (x : Sending). IsTransferOpened Tcp octets o.message o.question (transfer_version z.zone) x) is (subst (λ (x : List ℕ). IsTransferOpened Tcp x o.message o.question (transfer_version z.zone) o.sending) same z.opened);
       }
 
   -- each event
@@ -307,12 +307,16 @@ module _ (number : ℕ) where
   stopped_none : (tries : ℕ) (old : Machine) (event : Event) (new : Machine) → IsStopped tries old event new → sending_at number new.connections ≡ None
   stopped_none tries old event new r = ap (sending_at number) r.connections
 
+  configured_none : (old new : Machine) → IsConfigured old new → sending_at number new.connections ≡ None
+  configured_none old new c = ap (λ (m : Machine). sending_at number m.connections) c.rest ∙ ap (sending_at number) c.connections
+
   pub run_goes : (run : List Moment) (start : Machine) (o : Option Sending) → sending_at number start.connections ≡ o → Run start run → Continues number run o
   run_goes [] start o at h = tt
   run_goes (t ∷ rest) start None at h = tt
   run_goes (Took event fails effects new ∷ rest) start (Some s) at h =
       (step_goes fails start event effects new s at h.0, run_goes rest new (sending_at number new.connections) refl h.1)
   run_goes (Stopped event tries new ∷ rest) start (Some s) at h = stopped_none tries start event new h.0
+  run_goes (Configured new ∷ rest) start (Some s) at h = configured_none start new h.0
 
   -- none that is open comes of nothing
   is_new : {P : Type 0} (old new : Machine) (s : Sending) → sending_at number old.connections ≡ None → sending_at number new.connections ≡ Some s → Same old new → P

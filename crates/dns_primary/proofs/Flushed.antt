@@ -4,24 +4,24 @@ use Rattle.std.specs.Prelude.{Some, None, Option, slice_get, IsTrue, ◌↔◌, 
 use Rattle.std.proofs.lemmas.List.{map-append}
 use Rattle.dns_records.specs.Record.{Record}
 use Rattle.dns_store.specs.Versions.{Kept}
-use Rattle.dns_held.specs.Each.{Each3}
-use Rattle.dns_held.specs.Flush as held
-use Rattle.dns_held.specs.Flush.{FailedWhere}
+use Rattle.dns_versions.specs.Each.{Each3}
+use Rattle.dns_versions.specs.Flush as held
+use Rattle.dns_versions.specs.Flush.{FailedWhere}
 use Rattle.dns_primary.specs.Machine.{Setting, Made, ZoneState, kept_of}
 use Rattle.dns_primary.specs.Flush.{flushed_zone, flushed_zones, is_none_made}
 use Rattle.dns_primary.specs.Keeps.{IsSet}
-use Rattle.dns_primary.specs.declared.primary.ZoneSettings.{ZoneSettings}
+use Rattle.dns_primary.specs.declared.primary.ZoneSpec.{ZoneSpec}
 use Rattle.dns_policy.specs.Prefix.{IsAllowed}
-use Rattle.dns_held.specs.Each.{Each2}
+use Rattle.dns_versions.specs.Each.{Each2}
 
 case : (f : Bool) (s : Setting) (l : List Record) (shown staged : List Made) (base : ℕ) (second : Option ℕ) (openings : ℕ) (closed : Bool)
-    → kept_of (flushed_zone f (record { setting = s; loaded = l; shown = shown; staged = staged; base = base; second = second; openings = openings; closed = closed })) ≡ held.flushed f (kept_of (record { setting = s; loaded = l; shown = shown; staged = staged; base = base; second = second; openings = openings; closed = closed }))
+    → kept_of (flushed_zone f (record { setting = s; loaded = l; shown = shown; staged = staged; base = base; second = second; openings = openings; closed = closed })) ≡ held.kept_after_flush f (kept_of (record { setting = s; loaded = l; shown = shown; staged = staged; base = base; second = second; openings = openings; closed = closed }))
 case f s l shown staged base second openings true = refl
 case f s l shown [] base second openings false = refl
 case true s l shown (m ∷ staged) base second openings false = refl
 case false s l shown (m ∷ staged) base second openings false = λ i. record { shape = s.shape; loaded = l; shown = map-append (λ (x : Made). x.records) shown (m ∷ staged) i; staged = []; base = base; second = second; openings = openings; closed = false }
 
-pub kept_flushed : (f : Bool) (z : ZoneState) → kept_of (flushed_zone f z) ≡ held.flushed f (kept_of z)
+pub kept_flushed : (f : Bool) (z : ZoneState) → kept_of (flushed_zone f z) ≡ held.kept_after_flush f (kept_of z)
 kept_flushed f z = case f z.setting z.loaded z.shown z.staged z.base z.second z.openings z.closed
 
 pub kept_flushed_all : (fails : List Bool) (zs : List ZoneState) → map kept_of (flushed_zones fails zs) ≡ held.flushed_to fails (map kept_of zs)
@@ -60,7 +60,7 @@ setting_stays f z = elim (z.closed || is_none_made z.staged) as (λ b. (if b the
   | false ↦ elim f as (λ b. (if b then record z { closed = true } else record z { shown = z.shown ++ z.staged; staged = [] }).setting ≡ z.setting) [ true ↦ refl | false ↦ refl ]
 ]
 
-pub flushed_settings : (ss : List ZoneSettings) (fails : List Bool) (zs : List ZoneState) → Each2 IsSet ss zs → Each2 IsSet ss (flushed_zones fails zs)
+pub flushed_settings : (ss : List ZoneSpec) (fails : List Bool) (zs : List ZoneState) → Each2 IsSet ss zs → Each2 IsSet ss (flushed_zones fails zs)
 flushed_settings ss [] zs each = each
 flushed_settings [] (f ∷ fails) [] each = each
 flushed_settings (s ∷ ss) (f ∷ fails) [] each = absurd each

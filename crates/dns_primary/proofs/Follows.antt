@@ -5,16 +5,16 @@ use Rattle.std.specs.declared.net.ip_addr.IpAddr.{IpAddr}
 use Rattle.dns_names.specs.Name.{Labels, names_eq}
 use Rattle.dns_records.specs.Record.{Record}
 use Rattle.dns_records.specs.Types.{type_soa, class_in}
-use Rattle.dns_request.specs.Request.{rcode_formerr, rcode_refused}
+use Rattle.dns_request.specs.Codes.{rcode_formerr, rcode_notauth, rcode_refused, rcode_servfail}
 use Rattle.dns_zone.specs.Zone.{Zone}
 use Rattle.dns_update.specs.Verdict.{verdict}
 use Rattle.dns_store.specs.Versions.{newest_after}
-use Rattle.dns_held.specs.Each.{Each2}
-use Rattle.dns_held.specs.Held.{newest_zone}
+use Rattle.dns_versions.specs.Each.{Each2}
+use Rattle.dns_versions.specs.Held.{newest_zone}
 use Rattle.dns_primary.specs.declared.update.Judgement.{Judgement}
 use Rattle.dns_primary.specs.Machine.{Setting, Made, ZoneState, Machine, kept_of, versions_of}
-use Rattle.dns_primary.specs.Flush.{Sent, rcode_servfail, flushed, flush_sends, flushed_zone, flushed_zones}
-use Rattle.dns_primary.specs.Update.{Asked, Admission, Rejects, Admits, admission, admission_at, admission_in, place_of, rcode_notauth, is_full, lacked_at, room_lacked}
+use Rattle.dns_primary.specs.Flush.{Sent, flushed, flush_sends, flushed_zone, flushed_zones}
+use Rattle.dns_primary.specs.Update.{Asked, Admission, Rejects, Admits, admission, admission_at, admission_in, zone_position, is_full, lacked_at, room_lacked}
 use Rattle.dns_primary.specs.Checkpoint.{rebased, IsMovedUnlessClosed, IsCheckpoint}
 use Rattle.dns_primary.specs.Step.{Effects, IsUpdateBegun}
 use Rattle.dns_primary.specs.Outcome.{IsVerdictOf, lacked_of}
@@ -93,7 +93,7 @@ at_follows (z ∷ zones) [] h place = absurd h
 at_follows (z ∷ zones) (w ∷ news) h zero = h.0
 at_follows (z ∷ zones) (w ∷ news) h (suc place) = at_follows zones news h.1 place
 
-place_follows : (apex : Labels) (zones news : List ZoneState) → Each2 Follows zones news → place_of apex zones ≡ place_of apex news
+place_follows : (apex : Labels) (zones news : List ZoneState) → Each2 Follows zones news → zone_position apex zones ≡ zone_position apex news
 place_follows apex [] [] h = refl
 place_follows apex [] (w ∷ news) h = absurd h
 place_follows apex (z ∷ zones) [] h = absurd h
@@ -142,8 +142,8 @@ pub admission_goes : (zones news : List ZoneState) (a : Asked) → Each2 Follows
 admission_goes zones news a h =
     both_if (Goes news) (not (a.zone.qtype == type_soa)) (Rejects rcode_formerr) _ (Rejects rcode_formerr) _ refl
     (both_if (Goes news) (not (a.zone.qclass == class_in)) (Rejects rcode_notauth) _ (Rejects rcode_notauth) _ refl
-    (subst (λ (o : Option ℕ). Goes news (admission_at zones a.address (place_of a.zone.name zones)) (admission_at news a.address o)) (place_follows a.zone.name zones news h)
-    (at_goes zones news h a.address (place_of a.zone.name zones))))
+    (subst (λ (o : Option ℕ). Goes news (admission_at zones a.address (zone_position a.zone.name zones)) (admission_at news a.address o)) (place_follows a.zone.name zones news h)
+    (at_goes zones news h a.address (zone_position a.zone.name zones))))
 
 module _ (old mid : Machine) (a : Asked) (h : Each2 Follows old.zones mid.zones) where
   pub still_rejected : (code : ℕ) → admission old.zones a ≡ Rejects code → admission mid.zones a ≡ Rejects code

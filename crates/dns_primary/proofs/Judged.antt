@@ -10,9 +10,9 @@ use Rattle.dns_update.specs.Verdict.{Verdict, Refuses, Keeps, Leaves, IsVerdict}
 use Rattle.dns_update.specs.declared.Judged.TheVariants as judged
 use Rattle.dns_store.specs.Versions.{Kept, newest_of, staged_with}
 use Rattle.dns_store.specs.Room.{entry_between, sectors_left}
-use Rattle.dns_held.specs.declared.staging.StagingError.{StagingError}
-use Rattle.dns_held.specs.declared.staging.StagingError.TheVariants as staging
-use Rattle.dns_held.specs.Staging.{HasRoomBy, has_room}
+use Rattle.dns_versions.specs.declared.staging.StagingError.{StagingError}
+use Rattle.dns_versions.specs.declared.staging.StagingError.TheVariants as staging
+use Rattle.dns_versions.specs.Staging.{HasRoomBy, has_room}
 use Rattle.dns_primary.specs.declared.update.Outcome.{Outcome}
 use Rattle.dns_primary.specs.declared.update.Outcome.TheVariants.{Waits, AtOnce}
 use Rattle.dns_primary.specs.Outcome.{Ends, HasLeft, end_of, IsDone, refused_as}

@@ -13,12 +13,12 @@ use Rattle.dns_store.specs.declared.zone_store.ZoneStore as store
 use Rattle.dns_store.specs.declared.checkpoint.CheckpointError.{CheckpointError}
 use Rattle.dns_store.specs.declared.checkpoint.CheckpointError.TheVariants as refused
 use Rattle.dns_store.specs.Versions.{Shape, Opened, Kept, OpensAsLeft, moved_to}
-use Rattle.dns_held.specs.declared.behind.Behind.{Behind}
-use Rattle.dns_held.specs.Each.{Each3}
-use Rattle.dns_held.specs.Held.{HasVersions}
-use Rattle.dns_held.specs.Flush as held
-use Rattle.dns_held.specs.Flush.{first_true, HasFailed, IsCounted, FailedWhere}
-use Rattle.dns_held.specs.Checkpoint.{IsNextBaseNumber}
+use Rattle.dns_versions.specs.declared.pending.PendingZone.{PendingZone}
+use Rattle.dns_versions.specs.Each.{Each3}
+use Rattle.dns_versions.specs.Held.{HasVersions}
+use Rattle.dns_versions.specs.Flush as held
+use Rattle.dns_versions.specs.Flush.{first_true, HasFailed, IsCounted, FailedWhere}
+use Rattle.dns_versions.specs.Checkpoint.{IsNextBaseNumber}
 use Rattle.dns_primary.specs.declared.event.Noted.{Noted}
 use Rattle.dns_primary.specs.declared.event.Noted.TheVariants.{OutOfMemory}
 use Rattle.dns_primary.specs.declared.event.Effects.{Effects}
@@ -34,8 +34,8 @@ use Rattle.dns_primary.proofs.Flushed.{kept_flushed}
 use Rattle.dns_primary.proofs.Served.{gives_none}
 use Rattle.dns_store.specs.Versions.{closed_between, version_at, OpensAsEither, StandsStill}
 use Rattle.dns_store.specs.Checkpoint.{IsKeptNumber}
-use Rattle.dns_held.proofs.Moved.{number_there, move_leaves}
-use Rattle.dns_held.specs.Held.{IsTip}
+use Rattle.dns_versions.proofs.Moved.{number_there, move_leaves}
+use Rattle.dns_versions.specs.Held.{IsTip}
 use Rattle.dns_primary.specs.Machine.{Setting, versions_of}
 use Rattle.dns_primary.proofs.Places.{set_same}
 
@@ -49,12 +49,12 @@ without store moment left_since opens _ _ _ each = absurd each
 
 -- a zone of which nothing is staged, or that is closed, is as it would be after a flush
 settled_by : (s : Setting) (l : List Record) (shown staged : List Made) (base : ℕ) (second : Option ℕ) (openings : ℕ) (closed : Bool) → (closed ≡ true) ⊎ (staged ≡ [])
-    → held.flushed false (kept_of (record { setting = s; loaded = l; shown = shown; staged = staged; base = base; second = second; openings = openings; closed = closed })) ≡ kept_of (record { setting = s; loaded = l; shown = shown; staged = staged; base = base; second = second; openings = openings; closed = closed })
+    → held.kept_after_flush false (kept_of (record { setting = s; loaded = l; shown = shown; staged = staged; base = base; second = second; openings = openings; closed = closed })) ≡ kept_of (record { setting = s; loaded = l; shown = shown; staged = staged; base = base; second = second; openings = openings; closed = closed })
 settled_by s l shown staged base second openings true settled = refl
 settled_by s l shown [] base second openings false settled = refl
 settled_by s l shown (m ∷ staged) base second openings false settled = ⊎_elim (λ e. absurd cc) (λ e. absurd cc) settled
 
-pub settled_flushed : (z : ZoneState) → IsSettled z → held.flushed false (kept_of z) ≡ kept_of z
+pub settled_flushed : (z : ZoneState) → IsSettled z → held.kept_after_flush false (kept_of z) ≡ kept_of z
 settled_flushed z settled = settled_by z.setting z.loaded z.shown z.staged z.base z.second z.openings z.closed settled
 
 open_of : (b : Bool) → (b ≡ true → ⊥) → b ≡ false
@@ -70,7 +70,7 @@ tip_moved None false base z is = is
 tip_moved (Some t) true base z is = is
 tip_moved (Some t) false base z is = is
 
-module _ {I S : Type 0} (keeps : S → Kept → Type 0) (zone : Zone) (b : Behind I S) (store : S) (z : ZoneState) (keep room : ℕ) (keep_is : keep ≡ z.setting.keep) (settled : IsSettled z) (h : HasVersions keeps zone b (kept_of z)) where
+module _ {I S : Type 0} (keeps : S → Kept → Type 0) (zone : Zone) (b : PendingZone I S) (store : S) (z : ZoneState) (keep room : ℕ) (keep_is : keep ≡ z.setting.keep) (settled : IsSettled z) (h : HasVersions keeps zone b (kept_of z)) where
   next_base : (d : ℕ) → IsKeptNumber (kept_of z) keep room d → IsNextBaseNumber z.setting.keep room (kept_of z) (length (kept_of z).shown - d)
   next_base d number =
       subst (λ (j : Kept). (n : ℕ) × IsKeptNumber j z.setting.keep room n × (length (kept_of z).shown - d ≡ length j.shown - n)) (sym (settled_flushed z settled))
@@ -136,7 +136,7 @@ open_by true s l shown (m ∷ staged) base second openings false is = absurd (cc
 open_by false s l shown (m ∷ staged) base second openings false is = refl
 
 -- where it isn't closed then, it did not fail
-zone_open : (f : Bool) (z : ZoneState) → (flushed_zone f z).closed ≡ false → kept_of (flushed_zone f z) ≡ held.flushed false (kept_of z)
+zone_open : (f : Bool) (z : ZoneState) → (flushed_zone f z).closed ≡ false → kept_of (flushed_zone f z) ≡ held.kept_after_flush false (kept_of z)
 zone_open f z is = ap kept_of (open_by f z.setting z.loaded z.shown z.staged z.base z.second z.openings z.closed is) ∙ kept_flushed false z
 
 pub zone_at : (fails : List Bool) (zones : List ZoneState) (place : ℕ) (z : ZoneState) → length fails ≡ length zones → slice_get zones place ≡ Some z → (f : Bool) × (slice_get (flushed_zones fails zones) place ≡ Some (flushed_zone f z))
@@ -157,16 +157,16 @@ with_more store moment left_since opens (a ∷ olds) (b ∷ news) (z ∷ zones) 
 with_more store moment left_since opens _ _ _ place room each = absurd each
 
 -- a step that moves no base
-moments_of : {I S : Type 0} (s : store.Ghosts S) (moved : Option (ℕ × ℕ)) (m : Machine) (olds news : List (Behind I S)) → AtAnyMoment s m olds news → AtAnyMomentOf s moved m olds news
-moments_of {I} {S} s None m olds news each = without (λ (b : Behind I S). b.store) s.moment s.left_since s.opens olds news m.zones each
-moments_of {I} {S} s (Some moved) m olds news each = with_more (λ (b : Behind I S). b.store) s.moment s.left_since s.opens olds news m.zones moved.0 moved.1 each
+moments_of : {I S : Type 0} (s : store.Ghosts S) (moved : Option (ℕ × ℕ)) (m : Machine) (olds news : List (PendingZone I S)) → AtAnyMoment s m olds news → AtAnyMomentOf s moved m olds news
+moments_of {I} {S} s None m olds news each = without (λ (b : PendingZone I S). b.store) s.moment s.left_since s.opens olds news m.zones each
+moments_of {I} {S} s (Some moved) m olds news each = with_more (λ (b : PendingZone I S). b.store) s.moment s.left_since s.opens olds news m.zones moved.0 moved.1 each
 
 pub on_any : {I S : Type 0} {i : index.Ghosts I} {s : store.Ghosts S} (m : Machine) (old new : Primary I S i s) (effects : Effects) (moved : Option (ℕ × ℕ)) (step : List Bool → machine.Effects → Machine → Type 0)
     → Stepped m old new effects step → SteppedOn m moved old new effects step
 on_any {s = s} m old new effects moved step stepped = record {
   fails = stepped.fails;
   failed = stepped.failed;
-  any_moment = moments_of s moved m old.behind.items new.behind.items stepped.any_moment;
+  any_moment = moments_of s moved m old.pending.items new.pending.items stepped.any_moment;
   next = stepped.next;
   stated = stepped.stated;
   is = stepped.is;
@@ -205,12 +205,12 @@ put (x ∷ xs) zero a b lt e = cc e
 put (x ∷ xs) (suc n) a b lt e = put xs n a b (omega arith) e
 
 -- there is no such zone
-pub not_there : {I S : Type 0} {i : index.Ghosts I} {s : store.Ghosts S} (m : Machine) (place : ℕ) (p : Primary I S i s) (effects : Effects) → slice_get m.zones place ≡ None → AtAnyMoment s m p.behind.items p.behind.items → IsKept p m → AreEffects nothing effects
+pub not_there : {I S : Type 0} {i : index.Ghosts I} {s : store.Ghosts S} (m : Machine) (place : ℕ) (p : Primary I S i s) (effects : Effects) → slice_get m.zones place ≡ None → AtAnyMoment s m p.pending.items p.pending.items → IsKept p m → AreEffects nothing effects
     → SteppedBy m (Checkpoint place) p p effects
 not_there {s = s} m place p effects none rest kept effects_are = record {
   fails = [];
   failed = tt;
-  any_moment = with_more (λ (b : Behind _ _). b.store) s.moment s.left_since s.opens p.behind.items p.behind.items m.zones place 0 rest;
+  any_moment = with_more (λ (b : PendingZone _ _). b.store) s.moment s.left_since s.opens p.pending.items p.pending.items m.zones place 0 rest;
   next = m;
   stated = nothing;
   is = inl (subst (λ (o : Option ZoneState). IsCheckpointed [] m place o nothing m) (sym none) (refl, gives_none m));
@@ -238,9 +238,9 @@ module _ {S : Type 0} (moment : S → ℕ) (left_since : S → ℕ → Content �
       by false is =
           let open_is = zone_open f z is in
           move_leaves moment left_since opens z.setting.keep room (kept_of z) old mid new first
-          (λ n none number. moves (held.flushed false (kept_of z)) n (sym open_is) none number)
+          (λ n none number. moves (held.kept_after_flush false (kept_of z)) n (sym open_is) none number)
           (λ shut. still (ap (λ (k : Kept). k.closed) open_is ∙ shut))
-          (rest (held.flushed false (kept_of z)) (sym open_is))
+          (rest (held.kept_after_flush false (kept_of z)) (sym open_is))
 
 -- what is told of the move
 abbrev pub moved_by : {T : Type 0} → Result T CheckpointError → Bool

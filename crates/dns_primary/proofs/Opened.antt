@@ -12,15 +12,16 @@ use Rattle.dns_store.specs.Opening.{IsNotReopened, MayOpen, OpensAsPossible, Sto
 use Rattle.dns_store.specs.declared.kept_store.KeptStore.{KeptStore}
 use Rattle.dns_store.specs.declared.root.OpenError.{OpenError}
 use Rattle.dns_store.specs.declared.root.OpenError.TheVariants.{OutOfMemory}
-use Rattle.dns_held.specs.declared.behind.Behind.{Behind}
-use Rattle.dns_held.specs.Each.{Each2}
-use Rattle.dns_held.specs.Held.{HasVersions}
-use Rattle.dns_primary.specs.declared.primary.ZoneSettings.{ZoneSettings}
+use Rattle.dns_versions.specs.declared.pending.PendingZone.{PendingZone}
+use Rattle.dns_versions.specs.Each.{Each2}
+use Rattle.dns_versions.specs.Held.{HasVersions}
+use Rattle.dns_primary.specs.declared.primary.ZoneSpec.{ZoneSpec}
 use Rattle.dns_primary.specs.Machine.{Setting, ZoneState, Machine, kept_of, versions_of}
 use Rattle.dns_primary.specs.Step.{Event}
-use Rattle.dns_primary.specs.Stop.{IsMaking, IsRecovered, AreRecovered, OpensAsRecovered, reopened_as}
+use Rattle.dns_primary.specs.Stop.{IsSetAnew, IsMaking, IsRecovered, AreRecovered, OpensAsRecovered, reopened_as}
 use Rattle.dns_primary.specs.Keeps.{HaveVersions, IsSet}
-use Rattle.dns_primary.specs.Open.{shape_of, device_behind, StaysPossible, IsOpened, IsNotOpened, AreOpened, AreHandedBack, AreRefused, IsRecoverable, AreRecoverable, LeaveRecovered, IsRecoveryStopped}
+use Rattle.dns_primary.proofs.Begun.{setting_of, allows_is}
+use Rattle.dns_primary.specs.Open.{shape_of, device_of_pending, StaysPossible, IsOpened, IsNotOpened, AreOpened, AreHandedBack, AreRefused, IsRecoverableAs, AreRecoverable, AreRecoverableAs, LeaveRecovered, IsRecoveryStopped}
 
 pub first_dropped : {A : Type 0} (xs : List A) (i : ℕ) (d : A) → slice_index_or (drop i xs) 0 d ≡ slice_index_or xs i d
 first_dropped xs zero d = refl
@@ -34,57 +35,57 @@ drop_more [] (suc i) = refl
 drop_more (x ∷ xs) (suc i) = drop_more xs i
 
 module _ {D I : Type 0} {g : Ghosts D} where
-  pub opened_none : (apexes : List Labels) (settings : List ZoneSettings) (devices : List D) (zones : List Zone) (behind : List (Behind I (KeptStore D I g))) → zones ≡ [] → behind ≡ [] → AreOpened zero apexes settings devices zones behind
-  opened_none apexes settings devices zones behind e f =
-      subst (λ (l : List Zone). AreOpened {D = D} {I = I} {g = g} zero apexes settings devices l behind) (sym e) (subst (λ (l : List (Behind I (KeptStore D I g))). AreOpened {D = D} {I = I} {g = g} zero apexes settings devices [] l) (sym f) tt)
+  pub opened_none : (apexes : List Labels) (settings : List ZoneSpec) (devices : List D) (zones : List Zone) (pending : List (PendingZone I (KeptStore D I g))) → zones ≡ [] → pending ≡ [] → AreOpened zero apexes settings devices zones pending
+  opened_none apexes settings devices zones pending e f =
+      subst (λ (l : List Zone). AreOpened {D = D} {I = I} {g = g} zero apexes settings devices l pending) (sym e) (subst (λ (l : List (PendingZone I (KeptStore D I g))). AreOpened {D = D} {I = I} {g = g} zero apexes settings devices [] l) (sym f) tt)
 
-  pub opened_within : (i : ℕ) (apexes : List Labels) (settings : List ZoneSettings) (devices : List D) (zones : List Zone) (behind : List (Behind I (KeptStore D I g))) → AreOpened i apexes settings devices zones behind → i ≤ length settings
-  opened_within zero apexes settings devices zones behind each = omega arith
-  opened_within (suc i) (x ∷ apexes) (y ∷ settings) (v ∷ devices) (w ∷ zones) (c ∷ behind) each = (let rest = opened_within i apexes settings devices zones behind each.1 in omega (arith, rest))
+  pub opened_within : (i : ℕ) (apexes : List Labels) (settings : List ZoneSpec) (devices : List D) (zones : List Zone) (pending : List (PendingZone I (KeptStore D I g))) → AreOpened i apexes settings devices zones pending → i ≤ length settings
+  opened_within zero apexes settings devices zones pending each = omega arith
+  opened_within (suc i) (x ∷ apexes) (y ∷ settings) (v ∷ devices) (w ∷ zones) (c ∷ pending) each = (let rest = opened_within i apexes settings devices zones pending each.1 in omega (arith, rest))
   opened_within _ _ _ _ _ _ each = absurd each
 
-  pub opened_many : (i : ℕ) (apexes : List Labels) (settings : List ZoneSettings) (devices : List D) (zones : List Zone) (behind : List (Behind I (KeptStore D I g))) → AreOpened i apexes settings devices zones behind → (length zones ≡ i) × (length behind ≡ i)
+  pub opened_many : (i : ℕ) (apexes : List Labels) (settings : List ZoneSpec) (devices : List D) (zones : List Zone) (pending : List (PendingZone I (KeptStore D I g))) → AreOpened i apexes settings devices zones pending → (length zones ≡ i) × (length pending ≡ i)
   opened_many zero apexes settings devices [] [] each = (refl, refl)
-  opened_many zero apexes settings devices [] (c ∷ behind) each = absurd each
-  opened_many zero apexes settings devices (w ∷ zones) behind each = absurd each
-  opened_many (suc i) (x ∷ apexes) (y ∷ settings) (v ∷ devices) (w ∷ zones) (c ∷ behind) each =
-      (let rest = opened_many i apexes settings devices zones behind each.1 in (ap suc rest.0, ap suc rest.1))
+  opened_many zero apexes settings devices [] (c ∷ pending) each = absurd each
+  opened_many zero apexes settings devices (w ∷ zones) pending each = absurd each
+  opened_many (suc i) (x ∷ apexes) (y ∷ settings) (v ∷ devices) (w ∷ zones) (c ∷ pending) each =
+      (let rest = opened_many i apexes settings devices zones pending each.1 in (ap suc rest.0, ap suc rest.1))
   opened_many _ _ _ _ _ _ each = absurd each
 
   -- one more was opened
-  pub opened_more : (i : ℕ) (apexes : List Labels) (settings : List ZoneSettings) (devices : List D) (zones : List Zone) (behind : List (Behind I (KeptStore D I g))) (a : Labels) (s : ZoneSettings) (d : D) (z : Zone) (b : Behind I (KeptStore D I g))
-      → AreOpened i apexes settings devices zones behind
+  pub opened_more : (i : ℕ) (apexes : List Labels) (settings : List ZoneSpec) (devices : List D) (zones : List Zone) (pending : List (PendingZone I (KeptStore D I g))) (a : Labels) (s : ZoneSpec) (d : D) (z : Zone) (b : PendingZone I (KeptStore D I g))
+      → AreOpened i apexes settings devices zones pending
       → i < length apexes → i < length settings → i < length devices
       → IsOpened (slice_index_or apexes i a) (slice_index_or settings i s) (slice_index_or devices i d) z b
-      → AreOpened (suc i) apexes settings devices (zones ++ z ∷ []) (behind ++ b ∷ [])
-  opened_more zero [] settings devices zones behind a s d z b each l m n is = absurd (omega (arith, l))
-  opened_more zero (x ∷ apexes) [] devices zones behind a s d z b each l m n is = absurd (omega (arith, m))
-  opened_more zero (x ∷ apexes) (y ∷ settings) [] zones behind a s d z b each l m n is = absurd (omega (arith, n))
+      → AreOpened (suc i) apexes settings devices (zones ++ z ∷ []) (pending ++ b ∷ [])
+  opened_more zero [] settings devices zones pending a s d z b each l m n is = absurd (omega (arith, l))
+  opened_more zero (x ∷ apexes) [] devices zones pending a s d z b each l m n is = absurd (omega (arith, m))
+  opened_more zero (x ∷ apexes) (y ∷ settings) [] zones pending a s d z b each l m n is = absurd (omega (arith, n))
   opened_more zero (x ∷ apexes) (y ∷ settings) (v ∷ devices) [] [] a s d z b each l m n is = (is, tt)
-  opened_more zero (x ∷ apexes) (y ∷ settings) (v ∷ devices) [] (c ∷ behind) a s d z b each l m n is = absurd each
-  opened_more zero (x ∷ apexes) (y ∷ settings) (v ∷ devices) (w ∷ zones) behind a s d z b each l m n is = absurd each
-  opened_more (suc i) (x ∷ apexes) (y ∷ settings) (v ∷ devices) (w ∷ zones) (c ∷ behind) a s d z b each l m n is =
-      (each.0, opened_more i apexes settings devices zones behind a s d z b each.1 (omega (arith, l)) (omega (arith, m)) (omega (arith, n)) is)
+  opened_more zero (x ∷ apexes) (y ∷ settings) (v ∷ devices) [] (c ∷ pending) a s d z b each l m n is = absurd each
+  opened_more zero (x ∷ apexes) (y ∷ settings) (v ∷ devices) (w ∷ zones) pending a s d z b each l m n is = absurd each
+  opened_more (suc i) (x ∷ apexes) (y ∷ settings) (v ∷ devices) (w ∷ zones) (c ∷ pending) a s d z b each l m n is =
+      (each.0, opened_more i apexes settings devices zones pending a s d z b each.1 (omega (arith, l)) (omega (arith, m)) (omega (arith, n)) is)
   opened_more _ _ _ _ _ _ a s d z b each l m n is = absurd each
 
   -- one was not
-  pub handed_back : (error : OpenError) (i : ℕ) (apexes : List Labels) (settings : List ZoneSettings) (devices : List D) (zones : List Zone) (behind : List (Behind I (KeptStore D I g))) (a : Labels) (s : ZoneSettings) (d e : D)
-      → AreOpened i apexes settings devices zones behind
+  pub handed_back : (error : OpenError) (i : ℕ) (apexes : List Labels) (settings : List ZoneSpec) (devices : List D) (zones : List Zone) (pending : List (PendingZone I (KeptStore D I g))) (a : Labels) (s : ZoneSpec) (d e : D)
+      → AreOpened i apexes settings devices zones pending
       → i < length apexes → i < length settings → i < length devices
       → IsNotOpened g (slice_index_or apexes i a) (slice_index_or settings i s) error (slice_index_or devices i d) e
-      → AreHandedBack g error i apexes settings devices (map (λ b. device_behind b) behind ++ e ∷ drop (suc i) devices)
-  handed_back error zero [] settings devices zones behind a s d e each l m n is = absurd (omega (arith, l))
-  handed_back error zero (x ∷ apexes) [] devices zones behind a s d e each l m n is = absurd (omega (arith, m))
-  handed_back error zero (x ∷ apexes) (y ∷ settings) [] zones behind a s d e each l m n is = absurd (omega (arith, n))
+      → AreHandedBack g error i apexes settings devices (map (λ b. device_of_pending b) pending ++ e ∷ drop (suc i) devices)
+  handed_back error zero [] settings devices zones pending a s d e each l m n is = absurd (omega (arith, l))
+  handed_back error zero (x ∷ apexes) [] devices zones pending a s d e each l m n is = absurd (omega (arith, m))
+  handed_back error zero (x ∷ apexes) (y ∷ settings) [] zones pending a s d e each l m n is = absurd (omega (arith, n))
   handed_back error zero (x ∷ apexes) (y ∷ settings) (v ∷ devices) [] [] a s d e each l m n is = (is, refl)
-  handed_back error zero (x ∷ apexes) (y ∷ settings) (v ∷ devices) [] (c ∷ behind) a s d e each l m n is = absurd each
-  handed_back error zero (x ∷ apexes) (y ∷ settings) (v ∷ devices) (w ∷ zones) behind a s d e each l m n is = absurd each
-  handed_back error (suc i) (x ∷ apexes) (y ∷ settings) (v ∷ devices) (w ∷ zones) (c ∷ behind) a s d e each l m n is =
-      (each.0.leaves, handed_back error i apexes settings devices zones behind a s d e each.1 (omega (arith, l)) (omega (arith, m)) (omega (arith, n)) is)
+  handed_back error zero (x ∷ apexes) (y ∷ settings) (v ∷ devices) [] (c ∷ pending) a s d e each l m n is = absurd each
+  handed_back error zero (x ∷ apexes) (y ∷ settings) (v ∷ devices) (w ∷ zones) pending a s d e each l m n is = absurd each
+  handed_back error (suc i) (x ∷ apexes) (y ∷ settings) (v ∷ devices) (w ∷ zones) (c ∷ pending) a s d e each l m n is =
+      (each.0.leaves, handed_back error i apexes settings devices zones pending a s d e each.1 (omega (arith, l)) (omega (arith, m)) (omega (arith, n)) is)
   handed_back error _ _ _ _ _ _ a s d e each l m n is = absurd each
 
 -- what a zone is that may be recovered, and its device
-module _ {D : Type 0} {g : Ghosts D} (tries : ℕ) (making : ℕ → Type 0) (z : ZoneState) (a : Labels) (s : ZoneSettings) (d : D) (is : IsRecoverable g tries making z a s d) where
+module _ {D : Type 0} {g : Ghosts D} (tries : ℕ) (making : ℕ → Type 0) (z : ZoneState) (a : Labels) (s : ZoneSpec) (d : D) {set_as : ZoneSpec → ZoneState → Type 0} (is : IsRecoverableAs set_as g tries making z a s d) where
   shape_is : (least most : ℕ) (w : ZoneState) → IsRecovered least most making z w → w.setting.shape ≡ shape_of a s
   shape_is least most w r = ap (λ (x : Setting). x.shape) r.setting ∙ is.shape
 
@@ -145,7 +146,7 @@ module _ {D : Type 0} {g : Ghosts D} (tries : ℕ) (making : ℕ → Type 0) (z 
   leaves_recovered e stays = weaker g.moment g.left_since d e (OpensAsPossible g (shape_of a s) d) (OpensAsRecovered opens (suc tries) making z) (stays.any_moment is.honest is.range) possible_recovered
 
   -- one try more
-  pub tried : IsRecoverable g (suc tries) making z a s d
+  pub tried : IsRecoverableAs set_as g (suc tries) making z a s d
   tried = record {
     shape = is.shape;
     set = is.set;
@@ -155,7 +156,7 @@ module _ {D : Type 0} {g : Ghosts D} (tries : ℕ) (making : ℕ → Type 0) (z 
   }
 
   module _ (counts_now : (device : D) (t : ℕ) (c : Content) → g.is_honest device → t ≤ g.moment device → g.may_leave device c → g.left_since device t c) where
-    pub stays_recoverable : (e : D) → StaysPossible g a s d e → IsRecoverable g (suc tries) making z a s e
+    pub stays_recoverable : (e : D) → StaysPossible g a s d e → IsRecoverableAs set_as g (suc tries) making z a s e
     stays_recoverable e stays =
         let run = leaves_recovered e stays in
         record {
@@ -191,19 +192,12 @@ module _ {D : Type 0} {g : Ghosts D} (tries : ℕ) (making : ℕ → Type 0) (z 
     closed = r.opened i;
   }
 
-  pub set_recovered : (least most : ℕ) (w : ZoneState) → IsRecovered least most making z w → IsSet s w
-  set_recovered least most w r = record {
-    keep = is.set.keep ∙ sym (ap (λ (x : Setting). x.keep) r.setting);
-    update = (subst (λ (x : Setting). IsSet s (record z { setting = x })) (sym r.setting) is.set).update;
-    transfer = (subst (λ (x : Setting). IsSet s (record z { setting = x })) (sym r.setting) is.set).transfer;
-  }
-
-  pub record IsReopened {I : Type 0} (zone : Zone) (b : Behind I (KeptStore D I g)) : Type 0 where
+  pub record IsReopened {I : Type 0} (zone : Zone) (b : PendingZone I (KeptStore D I g)) : Type 0 where
     pub state : ZoneState
     pub recovered : IsRecovered 1 (suc tries) making z state
     pub held : HasVersions (λ x k. keeps x k) zone b (kept_of state)
 
-  pub reopened : {I : Type 0} (zone : Zone) (b : Behind I (KeptStore D I g)) → IsOpened a s d zone b → IsReopened zone b
+  pub reopened : {I : Type 0} (zone : Zone) (b : PendingZone I (KeptStore D I g)) → IsOpened a s d zone b → IsReopened zone b
   reopened {I} zone b opened =
       let takes = opened.takes is.honest is.range may_open in
       let there = is.leaves takes.0 takes.1 in
@@ -214,71 +208,136 @@ module _ {D : Type 0} {g : Ghosts D} (tries : ℕ) (making : ℕ → Type 0) (z 
         held = subst (λ (k : Kept). HasVersions (λ (x : KeptStore D I g) (k : Kept). keeps x k) zone b k) (sym (kept_fresh there.0 there.1)) held;
       }
 
+-- a zone with other settings
+abbrev set_up : ZoneSpec → ZoneState → ZoneState
+set_up s w = record w { setting = setting_of w.setting.shape s }
+
+set_up_so : (s : ZoneSpec) (w : ZoneState) → IsSet s (set_up s w)
+set_up_so s w = record { keep = refl; update = allows_is s.update.items; transfer = allows_is s.transfer.items }
+
+-- what is opened again with the settings that it had
+set_recovered : (least most : ℕ) (making : ℕ → Type 0) (s : ZoneSpec) (z w : ZoneState) → IsSet s z → IsRecovered least most making z w → IsSet s w
+set_recovered least most making s z w set r = record {
+  keep = set.keep ∙ sym (ap (λ (x : Setting). x.keep) r.setting);
+  update = (subst (λ (x : Setting). IsSet s (record z { setting = x })) (sym r.setting) set).update;
+  transfer = (subst (λ (x : Setting). IsSet s (record z { setting = x })) (sym r.setting) set).transfer;
+}
+
+-- the settings of zones that are opened again
+module _ {D : Type 0} (g : Ghosts D) (m : Machine) (event : Event) (tries : ℕ) where
+  -- with the settings that the zones had
+  pub all_set_again : (place : ℕ) (olds : List ZoneState) (apexes : List Labels) (settings : List ZoneSpec) (devices : List D) (news : List ZoneState)
+      → AreRecoverable g tries m event place olds apexes settings devices → AreRecovered 1 (suc tries) m event place olds news → Each2 IsSet settings news
+  all_set_again place [] [] [] [] [] is r = tt
+  all_set_again place [] [] [] [] (w ∷ news) is r = absurd r
+  all_set_again place (z ∷ olds) (a ∷ apexes) (s ∷ settings) (d ∷ devices) [] is r = absurd r
+  all_set_again place (z ∷ olds) (a ∷ apexes) (s ∷ settings) (d ∷ devices) (w ∷ news) is r =
+      (set_recovered 1 (suc tries) (IsMaking m event place z) s z w (is.0).set r.0, all_set_again (suc place) olds apexes settings devices news is.1 r.1)
+  all_set_again place _ _ _ _ news is r = absurd is
+
+  many_recovered : (place : ℕ) (olds : List ZoneState) (apexes : List Labels) (settings : List ZoneSpec) (devices : List D) (news : List ZoneState)
+      → (set_as : ZoneSpec → ZoneState → Type 0) → AreRecoverableAs set_as g tries m event place olds apexes settings devices → AreRecovered 1 (suc tries) m event place olds news → length settings ≡ length news
+  many_recovered place [] [] [] [] [] set_as is r = refl
+  many_recovered place [] [] [] [] (w ∷ news) set_as is r = absurd r
+  many_recovered place (z ∷ olds) (a ∷ apexes) (s ∷ settings) (d ∷ devices) [] set_as is r = absurd r
+  many_recovered place (z ∷ olds) (a ∷ apexes) (s ∷ settings) (d ∷ devices) (w ∷ news) set_as is r = ap suc (many_recovered (suc place) olds apexes settings devices news set_as is.1 r.1)
+  many_recovered place _ _ _ _ news set_as is r = absurd is
+
 -- all zones of a machine that stopped within an event
 module _ {D I : Type 0} {g : Ghosts D} (m : Machine) (event : Event) (tries : ℕ) where
-  pub record AreReopened (place : ℕ) (olds : List ZoneState) (settings : List ZoneSettings) (devices : List D) (zones : List Zone) (behind : List (Behind I (KeptStore D I g))) : Type 0 where
+  pub record AreReopened (place : ℕ) (olds : List ZoneState) (settings : List ZoneSpec) (devices : List D) (zones : List Zone) (pending : List (PendingZone I (KeptStore D I g))) : Type 0 where
     pub states : List ZoneState
     pub recovered : AreRecovered 1 (suc tries) m event place olds states
-    pub held : HaveVersions (λ (x : KeptStore D I g) k. keeps x k) zones behind states
-    pub set : Each2 IsSet settings states
-    pub left : LeaveRecovered g (suc tries) m event place olds devices (map (λ (b : Behind I (KeptStore D I g)). device_behind b) behind)
+    pub held : HaveVersions (λ (x : KeptStore D I g) k. keeps x k) zones pending states
+    pub left : LeaveRecovered g (suc tries) m event place olds devices (map (λ (b : PendingZone I (KeptStore D I g)). device_of_pending b) pending)
 
-  pub all_reopened : (place : ℕ) (olds : List ZoneState) (apexes : List Labels) (settings : List ZoneSettings) (devices : List D) (zones : List Zone) (behind : List (Behind I (KeptStore D I g)))
-      → AreRecoverable g tries m event place olds apexes settings devices → AreOpened (length settings) apexes settings devices zones behind → AreReopened place olds settings devices zones behind
-  all_reopened place [] [] [] [] [] [] is each = record { states = []; recovered = tt; held = tt; set = tt; left = tt }
-  all_reopened place [] [] [] [] [] (b ∷ behind) is each = absurd each
-  all_reopened place [] [] [] [] (y ∷ zones) behind is each = absurd each
-  all_reopened place (z ∷ olds) (a ∷ apexes) (s ∷ settings) (d ∷ devices) [] behind is each = absurd each
-  all_reopened place (z ∷ olds) (a ∷ apexes) (s ∷ settings) (d ∷ devices) (y ∷ zones) [] is each = absurd each
-  all_reopened place (z ∷ olds) (a ∷ apexes) (s ∷ settings) (d ∷ devices) (y ∷ zones) (b ∷ behind) is each =
+  pub all_reopened : (place : ℕ) (olds : List ZoneState) (apexes : List Labels) (settings : List ZoneSpec) (devices : List D) (zones : List Zone) (pending : List (PendingZone I (KeptStore D I g)))
+      → (set_as : ZoneSpec → ZoneState → Type 0) → AreRecoverableAs set_as g tries m event place olds apexes settings devices → AreOpened (length settings) apexes settings devices zones pending → AreReopened place olds settings devices zones pending
+  all_reopened place [] [] [] [] [] [] set_as is each = record { states = []; recovered = tt; held = tt; left = tt }
+  all_reopened place [] [] [] [] [] (b ∷ pending) set_as is each = absurd each
+  all_reopened place [] [] [] [] (y ∷ zones) pending set_as is each = absurd each
+  all_reopened place (z ∷ olds) (a ∷ apexes) (s ∷ settings) (d ∷ devices) [] pending set_as is each = absurd each
+  all_reopened place (z ∷ olds) (a ∷ apexes) (s ∷ settings) (d ∷ devices) (y ∷ zones) [] set_as is each = absurd each
+  all_reopened place (z ∷ olds) (a ∷ apexes) (s ∷ settings) (d ∷ devices) (y ∷ zones) (b ∷ pending) set_as is each =
       let making = IsMaking m event place z in
       let one = reopened tries making z a s d is.0 y b each.0 in
-      let rest = all_reopened (suc place) olds apexes settings devices zones behind is.1 each.1 in
+      let rest = all_reopened (suc place) olds apexes settings devices zones pending set_as is.1 each.1 in
       record {
         states = one.state ∷ rest.states;
         recovered = (one.recovered, rest.recovered);
         held = (one.held, rest.held);
-        set = (set_recovered tries making z a s d is.0 1 (suc tries) one.state one.recovered, rest.set);
-        left = (leaves_recovered tries making z a s d is.0 (device_behind b) each.0.leaves, rest.left);
+        left = (leaves_recovered tries making z a s d is.0 (device_of_pending b) each.0.leaves, rest.left);
       }
-  all_reopened place _ _ _ _ zones behind is each = absurd is
+  all_reopened place _ _ _ _ zones pending set_as is each = absurd is
+
+  -- ... or with others
+  pub record AreSetUp (settings : List ZoneSpec) (states : List ZoneState) (zones : List Zone) (pending : List (PendingZone I (KeptStore D I g))) : Type 0 where
+    pub news : List ZoneState
+    pub anew : Each2 IsSetAnew states news
+    pub held : HaveVersions (λ (x : KeptStore D I g) k. keeps x k) zones pending news
+    pub set : Each2 IsSet settings news
+
+  all_set_up : (settings : List ZoneSpec) (states : List ZoneState) (zones : List Zone) (pending : List (PendingZone I (KeptStore D I g))) → length settings ≡ length states
+      → HaveVersions (λ (x : KeptStore D I g) k. keeps x k) zones pending states → AreSetUp settings states zones pending
+  all_set_up [] [] [] [] many h = record { news = []; anew = tt; held = tt; set = tt }
+  all_set_up (s ∷ settings) (w ∷ states) (y ∷ zones) (b ∷ pending) many h =
+      let rest = all_set_up settings states zones pending (omega (arith, many)) h.1 in
+      record {
+        news = set_up s w ∷ rest.news;
+        anew = (record { shape = refl; rest = refl }, rest.anew);
+        held = (h.0, rest.held);
+        set = (set_up_so s w, rest.set);
+      }
+  all_set_up [] (w ∷ states) zones pending many h = absurd (omega (arith, many))
+  all_set_up (s ∷ settings) [] zones pending many h = absurd (omega (arith, many))
+  all_set_up [] [] [] (b ∷ pending) many h = absurd h
+  all_set_up [] [] (y ∷ zones) [] many h = absurd h
+  all_set_up [] [] (y ∷ zones) (b ∷ pending) many h = absurd h
+  all_set_up (s ∷ settings) (w ∷ states) [] [] many h = absurd h
+  all_set_up (s ∷ settings) (w ∷ states) [] (b ∷ pending) many h = absurd h
+  all_set_up (s ∷ settings) (w ∷ states) (y ∷ zones) [] many h = absurd h
+
+  pub set_up_anew : (place : ℕ) (olds : List ZoneState) (apexes : List Labels) (settings : List ZoneSpec) (devices : List D) (zones : List Zone) (pending : List (PendingZone I (KeptStore D I g)))
+      → (set_as : ZoneSpec → ZoneState → Type 0) → AreRecoverableAs set_as g tries m event place olds apexes settings devices → (all : AreReopened place olds settings devices zones pending) → AreSetUp settings all.states zones pending
+  set_up_anew place olds apexes settings devices zones pending set_as is all =
+      all_set_up settings all.states zones pending (many_recovered g m event tries place olds apexes settings devices all.states set_as is all.recovered) all.held
 
 -- the devices that are handed back
-module _ {D : Type 0} (g : Ghosts D) (m : Machine) (event : Event) (tries : ℕ)
+module _ {D : Type 0} (set_as : ZoneSpec → ZoneState → Type 0) (g : Ghosts D) (m : Machine) (event : Event) (tries : ℕ)
     (counts_now : (device : D) (t : ℕ) (c : Content) → g.is_honest device → t ≤ g.moment device → g.may_leave device c → g.left_since device t c)
     (only_now : (device : D) (c : Content) → g.is_honest device → g.left_since device (g.moment device) c → g.may_leave device c)
   where
-    stays_itself : (a : Labels) (s : ZoneSettings) (d : D) → StaysPossible g a s d d
+    stays_itself : (a : Labels) (s : ZoneSpec) (d : D) → StaysPossible g a s d d
     stays_itself a s d = record {
       honest = λ h. h;
       any_moment = λ honest range. started g.moment g.left_since d (OpensAsPossible g (shape_of a s) d) (λ c left. (c, only_now d c honest left, λ o is. inl is));
     }
 
-    same_left : (place : ℕ) (olds : List ZoneState) (apexes : List Labels) (settings : List ZoneSettings) (devices : List D) → AreRecoverable g tries m event place olds apexes settings devices → LeaveRecovered g (suc tries) m event place olds devices devices
+    same_left : (place : ℕ) (olds : List ZoneState) (apexes : List Labels) (settings : List ZoneSpec) (devices : List D) → AreRecoverableAs set_as g tries m event place olds apexes settings devices → LeaveRecovered g (suc tries) m event place olds devices devices
     same_left place [] [] [] [] is = tt
     same_left place (z ∷ olds) (a ∷ apexes) (s ∷ settings) (d ∷ devices) is =
         (leaves_recovered tries (IsMaking m event place z) z a s d is.0 d (stays_itself a s d), same_left (suc place) olds apexes settings devices is.1)
     same_left place _ _ _ _ is = absurd is
 
-    all_tried : (place : ℕ) (olds : List ZoneState) (apexes : List Labels) (settings : List ZoneSettings) (devices : List D) → AreRecoverable g tries m event place olds apexes settings devices → AreRecoverable g (suc tries) m event place olds apexes settings devices
+    all_tried : (place : ℕ) (olds : List ZoneState) (apexes : List Labels) (settings : List ZoneSpec) (devices : List D) → AreRecoverableAs set_as g tries m event place olds apexes settings devices → AreRecoverableAs set_as g (suc tries) m event place olds apexes settings devices
     all_tried place [] [] [] [] is = tt
     all_tried place (z ∷ olds) (a ∷ apexes) (s ∷ settings) (d ∷ devices) is =
         (tried tries (IsMaking m event place z) z a s d is.0, all_tried (suc place) olds apexes settings devices is.1)
     all_tried place _ _ _ _ is = absurd is
 
-    pub record AreHeld (error : OpenError) (n place : ℕ) (olds : List ZoneState) (apexes : List Labels) (settings : List ZoneSettings) (devices back : List D) : Type 0 where
-      pub recoverable : AreRecoverable g (suc tries) m event place olds apexes settings back
+    pub record AreHeld (error : OpenError) (n place : ℕ) (olds : List ZoneState) (apexes : List Labels) (settings : List ZoneSpec) (devices back : List D) : Type 0 where
+      pub recoverable : AreRecoverableAs set_as g (suc tries) m event place olds apexes settings back
       pub stopped : IsRecoveryStopped tries error n olds
       pub left : LeaveRecovered g (suc tries) m event place olds devices back
 
-    all_back : (error : OpenError) (n place : ℕ) (olds : List ZoneState) (apexes : List Labels) (settings : List ZoneSettings) (devices back : List D)
-        → AreRecoverable g tries m event place olds apexes settings devices → AreHandedBack g error n apexes settings devices back → AreHeld error n place olds apexes settings devices back
+    all_back : (error : OpenError) (n place : ℕ) (olds : List ZoneState) (apexes : List Labels) (settings : List ZoneSpec) (devices back : List D)
+        → AreRecoverableAs set_as g tries m event place olds apexes settings devices → AreHandedBack g error n apexes settings devices back → AreHeld error n place olds apexes settings devices back
     all_back error zero place (z ∷ olds) (a ∷ apexes) (s ∷ settings) (d ∷ devices) (e ∷ back) is h =
         let making = IsMaking m event place z in
         record {
           recoverable = (
             stays_recoverable tries making z a s d is.0 counts_now e h.0.leaves,
-            subst (λ (l : List D). AreRecoverable g (suc tries) m event (suc place) olds apexes settings l) (sym h.1) (all_tried (suc place) olds apexes settings devices is.1),
+            subst (λ (l : List D). AreRecoverableAs set_as g (suc tries) m event (suc place) olds apexes settings l) (sym h.1) (all_tried (suc place) olds apexes settings devices is.1),
           );
           stopped = stopped_by tries making z a s d is.0 error (h.0.stopped is.0.honest is.0.range (may_open tries making z a s d is.0));
           left = (leaves_recovered tries making z a s d is.0 e h.0.leaves, subst (λ (l : List D). LeaveRecovered g (suc tries) m event (suc place) olds devices l) (sym h.1) (same_left (suc place) olds apexes settings devices is.1));
@@ -300,11 +359,11 @@ module _ {D : Type 0} (g : Ghosts D) (m : Machine) (event : Event) (tries : ℕ)
     for_memory error zero (z ∷ olds) e = inr (inl e)
     for_memory error (suc n) (z ∷ olds) e = for_memory error n olds e
 
-    pub refused_held : (error : OpenError) (n : ℕ) (olds : List ZoneState) (apexes : List Labels) (settings : List ZoneSettings) (devices back : List D)
-        → AreRecoverable g tries m event 0 olds apexes settings devices → AreRefused g error n apexes settings devices back → AreHeld error n 0 olds apexes settings devices back
+    pub refused_held : (error : OpenError) (n : ℕ) (olds : List ZoneState) (apexes : List Labels) (settings : List ZoneSpec) (devices back : List D)
+        → AreRecoverableAs set_as g tries m event 0 olds apexes settings devices → AreRefused g error n apexes settings devices back → AreHeld error n 0 olds apexes settings devices back
     refused_held error n olds apexes settings devices back is (inl h) = all_back error n 0 olds apexes settings devices back is h
     refused_held error n olds apexes settings devices back is (inr (memory, same)) = record {
-      recoverable = subst (λ (l : List D). AreRecoverable g (suc tries) m event 0 olds apexes settings l) (sym same) (all_tried 0 olds apexes settings devices is);
+      recoverable = subst (λ (l : List D). AreRecoverableAs set_as g (suc tries) m event 0 olds apexes settings l) (sym same) (all_tried 0 olds apexes settings devices is);
       stopped = for_memory error n olds memory;
       left = subst (λ (l : List D). LeaveRecovered g (suc tries) m event 0 olds devices l) (sym same) (same_left 0 olds apexes settings devices is);
     }

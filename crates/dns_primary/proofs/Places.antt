@@ -1,7 +1,7 @@
 -- One position of lists that go together is changed, or one element more is at their ends.
 use Rattle.std.proofs.Common.{◌≡◌, ◌<◌, ℕ, zero, suc, List, [], ◌∷◌, ◌++◌, length, arith, map, refl, ap, subst}
 use Rattle.std.specs.Prelude.{Some, slice_get, slice_set, slice_index_or}
-use Rattle.dns_held.specs.Each.{Each2, Each3}
+use Rattle.dns_versions.specs.Each.{Each2, Each3}
 
 pub set_same : {A : Type 0} (xs : List A) (i : ℕ) (x : A) → slice_get xs i ≡ Some x → slice_set xs i x ≡ xs
 set_same [] i x e = refl

@@ -6,21 +6,21 @@ use Rattle.dns_records.specs.Record.{Record}
 use Rattle.dns_wire.specs.Message.{header_of}
 use Rattle.dns_wire.specs.Text.{text}
 use Rattle.dns_wire.specs.Codes.{number_of_rcode}
-use Rattle.dns_request.specs.Request.{rcode_formerr, rcode_refused}
 use Rattle.dns_records.specs.Types.{type_soa, class_in}
+use Rattle.dns_request.specs.Codes.{rcode_formerr, rcode_notauth, rcode_refused, rcode_servfail}
 use Rattle.dns_answer.specs.Answer.{Handled, NoReply, Replies, Update, Transfer, bare_reply}
 use Rattle.dns_update.specs.Verdict.{Verdict, Refuses, Keeps, Leaves, verdict}
 use Rattle.dns_store.specs.Versions.{newest_of}
 use Rattle.dns_store.specs.Room.{entry_between, sectors_left}
-use Rattle.dns_held.specs.Held.{newest_zone}
-use Rattle.dns_held.specs.Staging.{has_room}
+use Rattle.dns_versions.specs.Held.{newest_zone}
+use Rattle.dns_versions.specs.Staging.{has_room}
 use Rattle.dns_primary.specs.declared.event.Peer.{Peer}
 use Rattle.dns_primary.specs.declared.event.To.{To}
 use Rattle.dns_primary.specs.declared.event.To.TheVariants as to
-use Rattle.dns_primary.specs.Machine.{ZoneState, Waits, Machine, kept_of, updates_of, peer_at, sending_at}
-use Rattle.dns_primary.specs.Flush.{Sent, Replied, rcode_servfail, flushed, flush_sends}
+use Rattle.dns_primary.specs.Machine.{Setting, ZoneState, Waits, Machine, kept_of, updates_of, peer_at, sending_at}
+use Rattle.dns_primary.specs.Flush.{Sent, Replied, flushed, flush_sends}
 use Rattle.dns_primary.specs.Connections.{connected, closed, without_connection}
-use Rattle.dns_primary.specs.Update.{Asked, Admission, Rejects, Admits, rcode_notauth, place_of, admission_in, admission_at, admission, waits, stages, replies, accepted_in, judged_in, admitted, is_full, made_place, answer, room_lacked}
+use Rattle.dns_primary.specs.Update.{Asked, Admission, Rejects, Admits, zone_position, admission_in, admission_at, admission, waits, stages, replies, accepted_in, judged_in, admitted, is_full, made_place, answer, room_lacked}
 use Rattle.dns_primary.specs.Step.{Event, Datagram, Connect, Arrives, Flush, Checkpoint, Pump, Closed, IsCheckpointed, IsUpdateBegun, IsUpdated, Effects, AreFailures, GivesEffects, IsRequestHandled, IsArrived, Goes, Lacks, Step, is_asking, failure, failure_on, failures}
 use Rattle.dns_primary.specs.Checkpoint.{rebased, IsMovedUnlessClosed}
 use Rattle.dns_primary.specs.Runs.{Lasts, AllLast, IsTrueIn, HasHistory}
@@ -69,11 +69,11 @@ at_stands zones a (Some place) = in_stands zones a place (slice_get zones place)
 pub admission_stands : (zones : List ZoneState) (a : Asked) → StandsIn zones (admission zones a)
 admission_stands zones a =
     tested (StandsIn zones) (not (a.zone.qtype == type_soa)) (Rejects rcode_formerr)
-    (if not (a.zone.qclass == class_in) then Rejects rcode_notauth else admission_at zones a.address (place_of a.zone.name zones))
+    (if not (a.zone.qclass == class_in) then Rejects rcode_notauth else admission_at zones a.address (zone_position a.zone.name zones))
     (λ _. tt)
-    (λ _. tested (StandsIn zones) (not (a.zone.qclass == class_in)) (Rejects rcode_notauth) (admission_at zones a.address (place_of a.zone.name zones))
+    (λ _. tested (StandsIn zones) (not (a.zone.qclass == class_in)) (Rejects rcode_notauth) (admission_at zones a.address (zone_position a.zone.name zones))
     (λ _. tt)
-    (λ _. at_stands zones a (place_of a.zone.name zones)))
+    (λ _. at_stands zones a (zone_position a.zone.name zones)))
 
 admitted_preserves : (m : Machine) (a : Asked) (d : Admission) → IsSound m → StandsIn m.zones d → Carries m (admitted m a d)
 admitted_preserves m a (Rejects rcode) s e = with_reply m m [] a.to (text (bare_reply a.message.header rcode)) (stays m s)
@@ -113,7 +113,7 @@ same_moved fails room z w (inl h) = same_zone z w h.2
 same_moved fails room z w (inr h) = subst (λ (x : ZoneState). IsSameBut z x) (sym (h.1).2) (same_rebased fails (h.1).0 z)
 
 same_lasts : (z w : ZoneState) → IsSameBut z w → Lasts z w
-same_lasts z w s = record { setting = s.setting; loaded = s.loaded; more = []; shown = s.shown ∙ sym (append-nil z.shown) }
+same_lasts z w s = record { shape = ap (λ (x : Setting). x.shape) s.setting; loaded = s.loaded; more = []; shown = s.shown ∙ sym (append-nil z.shown) }
 
 pub same_updates : (z w : ZoneState) → IsSameBut z w → Same z w
 same_updates z w s = record { setting = s.setting; loaded = s.loaded; updates = λ i. s.shown i ++ s.staged i; openings = s.openings }

@@ -7,20 +7,21 @@ use Rattle.dns_wire.specs.Message.{header_of}
 use Rattle.dns_wire.specs.Codes.{number_of_rcode}
 use Rattle.dns_wire.specs.declared.codes.Rcode.{Rcode}
 use Rattle.dns_wire.specs.declared.codes.Rcode.TheVariants.{NoError, ServFail}
+use Rattle.dns_request.specs.Codes.{rcode_servfail}
 use Rattle.dns_zone.specs.Zone.{Zone}
 use Rattle.dns_update.specs.Verdict.{Verdict, Refuses, Keeps, Leaves}
 use Rattle.dns_policy.specs.Prefix.{IsAllowed}
 use Rattle.dns_store.specs.Versions.{Kept, newest_of, staged_with}
-use Rattle.dns_held.specs.declared.behind.Behind.{Behind}
-use Rattle.dns_held.specs.Each.{Each3}
-use Rattle.dns_held.specs.Held.{HasVersions}
-use Rattle.dns_held.specs.Staging.{has_room}
+use Rattle.dns_versions.specs.declared.pending.PendingZone.{PendingZone}
+use Rattle.dns_versions.specs.Each.{Each3}
+use Rattle.dns_versions.specs.Held.{HasVersions}
+use Rattle.dns_versions.specs.Staging.{has_room}
 use Rattle.dns_primary.specs.declared.event.Waiting.{Waiting}
-use Rattle.dns_primary.specs.declared.primary.ZoneSettings.{ZoneSettings}
+use Rattle.dns_primary.specs.declared.primary.ZoneSpec.{ZoneSpec}
 use Rattle.dns_primary.specs.declared.update.Outcome.{Outcome}
 use Rattle.dns_primary.specs.declared.update.Outcome.TheVariants as outcome
 use Rattle.dns_primary.specs.Machine.{Setting, Made, ZoneState, Machine, kept_of, updates_of, versions_of}
-use Rattle.dns_primary.specs.Flush.{Sent, rcode_servfail}
+use Rattle.dns_primary.specs.Flush.{Sent}
 use Rattle.dns_primary.specs.Update.{Asked, waits, stages, replies, with_staged, judged_in}
 use Rattle.dns_primary.specs.Outcome.{Ends, end_of}
 use Rattle.dns_primary.specs.Keeps.{IsSet, IsWaiting}
@@ -88,42 +89,42 @@ module _ (m : Machine) (a : Asked) (place : ℕ) (z : ZoneState) (there : slice_
       → (judged_in m a place z v ≡ (m, replies a (number_of_rcode rcode) ∷ [])) × ((end_of (kept_of z) v).versions ≡ kept_of z)
   ends_at_once v rcode e = subst (λ (o : Outcome). EndsAs m a place z o (end_of (kept_of z) v).versions (judged_in m a place z v)) (sym e) (ends_as v)
 
-module _ {I S : Type 0} (keeps : S → Kept → Type 0) (zones : List Zone) (behind : List (Behind I S)) (settings : List ZoneSettings) (waiting : List Waiting) (m : Machine) (place : ℕ) (z : ZoneState) where
-  pub was_held : (d : Zone) (e : Behind I S) → HoldsZones keeps zones behind settings waiting m.connections m → slice_get m.zones place ≡ Some z
-      → HasVersions keeps (slice_index_or zones place d) (slice_index_or behind place e) (kept_of z)
-  was_held d e held there = at3 (λ (z : Zone) (b : Behind I S) (k : Kept). HasVersions keeps z b k) zones behind (map kept_of m.zones) place d e (kept_of z) held.zones_are (map_get kept_of m.zones place z there)
+module _ {I S : Type 0} (keeps : S → Kept → Type 0) (zones : List Zone) (pending : List (PendingZone I S)) (settings : List ZoneSpec) (waiting : List Waiting) (m : Machine) (place : ℕ) (z : ZoneState) where
+  pub was_held : (d : Zone) (e : PendingZone I S) → HoldsZones keeps zones pending settings waiting m.connections m → slice_get m.zones place ≡ Some z
+      → HasVersions keeps (slice_index_or zones place d) (slice_index_or pending place e) (kept_of z)
+  was_held d e held there = at3 (λ (z : Zone) (b : PendingZone I S) (k : Kept). HasVersions keeps z b k) zones pending (map kept_of m.zones) place d e (kept_of z) held.zones_are (map_get kept_of m.zones place z there)
 
   -- the machine stays, and what is after the zone keeps the same versions
-  pub still_holds : (d : Zone) (new : Behind I S) → HoldsZones keeps zones behind settings waiting m.connections m → slice_get m.zones place ≡ Some z
-      → HasVersions keeps (slice_index_or zones place d) new (kept_of z) → HoldsZones keeps zones (slice_set behind place new) settings waiting m.connections m
+  pub still_holds : (d : Zone) (new : PendingZone I S) → HoldsZones keeps zones pending settings waiting m.connections m → slice_get m.zones place ≡ Some z
+      → HasVersions keeps (slice_index_or zones place d) new (kept_of z) → HoldsZones keeps zones (slice_set pending place new) settings waiting m.connections m
   still_holds d new held there one = record {
     zones_are =
-        subst (λ (ks : List Kept). Each3 (λ (z : Zone) (b : Behind I S) (k : Kept). HasVersions keeps z b k) zones (slice_set behind place new) ks) (set_same (map kept_of m.zones) place (kept_of z) (map_get kept_of m.zones place z there))
-        (mid_set (λ (z : Zone) (b : Behind I S) (k : Kept). HasVersions keeps z b k) zones behind (map kept_of m.zones) place d new (kept_of z) held.zones_are one);
+        subst (λ (ks : List Kept). Each3 (λ (z : Zone) (b : PendingZone I S) (k : Kept). HasVersions keeps z b k) zones (slice_set pending place new) ks) (set_same (map kept_of m.zones) place (kept_of z) (map_get kept_of m.zones place z there))
+        (mid_set (λ (z : Zone) (b : PendingZone I S) (k : Kept). HasVersions keeps z b k) zones pending (map kept_of m.zones) place d new (kept_of z) held.zones_are one);
     settings_are = held.settings_are;
     waiting_are = held.waiting_are;
     connections_are = held.connections_are;
   }
 
   -- one reply more waits, and the zone has other versions
-  pub holds_more : (d : Zone) (new : Behind I S) (a : Asked) (rcode : Rcode) (versions : Kept) (ended : Machine × List Sent) (one : Waiting) → HoldsZones keeps zones behind settings waiting m.connections m → slice_get m.zones place ≡ Some z
+  pub holds_more : (d : Zone) (new : PendingZone I S) (a : Asked) (rcode : Rcode) (versions : Kept) (ended : Machine × List Sent) (one : Waiting) → HoldsZones keeps zones pending settings waiting m.connections m → slice_get m.zones place ≡ Some z
       → Waited m a place z rcode versions ended → HasVersions keeps (slice_index_or zones place d) new versions
       → one.to ≡ a.to → header_of one.request ≡ a.message.header → one.rcode ≡ rcode → one.zone ≡ place
-      → (ended.1 ≡ []) × HoldsZones keeps zones (slice_set behind place new) settings (waiting ++ one ∷ []) m.connections ended.0
+      → (ended.1 ≡ []) × HoldsZones keeps zones (slice_set pending place new) settings (waiting ++ one ∷ []) m.connections ended.0
   holds_more d new a rcode versions ended one held there w is to_is header_is rcode_is zone_is =
       let after : Machine = waits (record m { zones = slice_set m.zones place w.zone }) a place (number_of_rcode rcode) w.updates in
       let behind_is : HasVersions keeps (slice_index_or zones place d) new (kept_of w.zone) = subst (λ (k : Kept). HasVersions keeps (slice_index_or zones place d) new k) (sym w.versions_are) is in
-      let holds : HoldsZones keeps zones (slice_set behind place new) settings (waiting ++ one ∷ []) m.connections after = record {
+      let holds : HoldsZones keeps zones (slice_set pending place new) settings (waiting ++ one ∷ []) m.connections after = record {
         zones_are =
-            subst (λ (ks : List Kept). Each3 (λ (z : Zone) (b : Behind I S) (k : Kept). HasVersions keeps z b k) zones (slice_set behind place new) ks) (sym (map_set kept_of m.zones place w.zone))
-            (mid_set (λ (z : Zone) (b : Behind I S) (k : Kept). HasVersions keeps z b k) zones behind (map kept_of m.zones) place d new (kept_of w.zone) held.zones_are behind_is);
+            subst (λ (ks : List Kept). Each3 (λ (z : Zone) (b : PendingZone I S) (k : Kept). HasVersions keeps z b k) zones (slice_set pending place new) ks) (sym (map_set kept_of m.zones place w.zone))
+            (mid_set (λ (z : Zone) (b : PendingZone I S) (k : Kept). HasVersions keeps z b k) zones pending (map kept_of m.zones) place d new (kept_of w.zone) held.zones_are behind_is);
         settings_are = right_set IsSet settings m.zones place z w.zone held.settings_are there
             (λ s set. record { keep = set.keep ∙ ap (λ (t : Setting). t.keep) (sym w.setting_is); update = λ x. subst (λ (t : Setting). IsTrue (t.may_update x) ↔ IsAllowed s.update.items x) (sym w.setting_is) (set.update x); transfer = λ x. subst (λ (t : Setting). IsTrue (t.may_transfer x) ↔ IsAllowed s.transfer.items x) (sym w.setting_is) (set.transfer x) });
         waiting_are = push2 IsWaiting waiting m.waiting one (record { to = a.to; header = a.message.header; rcode = number_of_rcode rcode; zone = place; updates = w.updates }) held.waiting_are
             (record { to = to_is; header = header_is; rcode = ap number_of_rcode rcode_is; zone = zone_is });
         connections_are = held.connections_are;
       } in
-      (ap (λ (p : Machine × List Sent). p.1) w.ended_is, subst (λ (p : Machine × List Sent). HoldsZones keeps zones (slice_set behind place new) settings (waiting ++ one ∷ []) m.connections p.0) (sym w.ended_is) holds)
+      (ap (λ (p : Machine × List Sent). p.1) w.ended_is, subst (λ (p : Machine × List Sent). HoldsZones keeps zones (slice_set pending place new) settings (waiting ++ one ∷ []) m.connections p.0) (sym w.ended_is) holds)
 
 -- a zone is closed or not
 pub by_state : {R : Type 0} (z : ZoneState) → (z.closed ≡ true → R) → (z.closed ≡ false → R) → R

@@ -4,8 +4,8 @@ use Rattle.std.proofs.lemmas.List.{length-map}
 use Rattle.dns_sectors.specs.Device.{Content}
 use Rattle.dns_store.specs.Versions.{Versions, Kept, Opened, OpensAsLeft, made_durable, moved_to}
 use Rattle.dns_store.specs.Opens.{opens}
-use Rattle.dns_held.specs.Flush.{flushed, is_none_staged}
-use Rattle.dns_held.specs.Checkpoint.{OpensAsCheckpointed}
+use Rattle.dns_versions.specs.Flush.{kept_after_flush, is_none_staged}
+use Rattle.dns_versions.specs.Checkpoint.{OpensAsCheckpointed}
 use Rattle.dns_primary.specs.Machine.{Made, ZoneState, Machine, kept_of, versions_of}
 use Rattle.dns_primary.specs.Step.{Event}
 use Rattle.dns_primary.specs.Stop.{Checkpoints, IsMaking, OpensAsRecovered, reopened_as}
@@ -63,7 +63,7 @@ none_first : (kept lost : Versions) → [] ≡ kept ++ lost → kept ≡ []
 none_first [] lost e = refl
 none_first (v ∷ kept) lost e = absurd cc
 
-moved_recovered : (z : ZoneState) (making : ℕ → Type 0) (base : ℕ) (c : Content) → making base → OpensAsLeft opens (moved_to base (flushed false (kept_of z))) c → OpensAsRecovered opens 0 making z c
+moved_recovered : (z : ZoneState) (making : ℕ → Type 0) (base : ℕ) (c : Content) → making base → OpensAsLeft opens (moved_to base (kept_after_flush false (kept_of z))) c → OpensAsRecovered opens 0 making z c
 moved_recovered z making base c made =
     let k = kept_of z in
     let choice : (b : ℕ) → (b ≡ base) ⊎ (z.second ≡ Some b) → (b ≡ z.base) ⊎ ((z.second ≡ Some b) ⊎ making b) =

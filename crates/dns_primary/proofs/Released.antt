@@ -6,17 +6,18 @@ use Rattle.dns_records.specs.Record.{Record}
 use Rattle.dns_wire.specs.Message.{header_of}
 use Rattle.dns_wire.specs.Text.{text}
 use Rattle.dns_wire.specs.Codes.{number_of_rcode}
+use Rattle.dns_request.specs.Codes.{rcode_servfail}
 use Rattle.dns_answer.specs.Answer.{bare_reply, Handled, NoReply, Replies, Update, Transfer}
 use Rattle.dns_update.specs.Verdict.{Verdict, Refuses, Keeps, Leaves, verdict}
 use Rattle.dns_store.specs.Versions.{newest_of}
 use Rattle.dns_store.specs.Room.{entry_between, sectors_left}
-use Rattle.dns_held.specs.Held.{newest_zone}
-use Rattle.dns_held.specs.Staging.{has_room}
+use Rattle.dns_versions.specs.Held.{newest_zone}
+use Rattle.dns_versions.specs.Staging.{has_room}
 use Rattle.dns_primary.specs.declared.event.Peer.{Peer}
 use Rattle.dns_primary.specs.declared.event.To.{To}
 use Rattle.dns_primary.specs.declared.event.To.TheVariants as to
 use Rattle.dns_primary.specs.Machine.{Made, ZoneState, Waits, Machine, kept_of, updates_of, peer_at, sending_at}
-use Rattle.dns_primary.specs.Flush.{Sent, Replied, rcode_servfail, flushed, flush_sends, flushed_zones, released, is_closed_in, is_none_made}
+use Rattle.dns_primary.specs.Flush.{Sent, Replied, flushed, flush_sends, flushed_zones, released, is_closed_in, is_none_made}
 use Rattle.dns_primary.specs.Checkpoint.{IsMovedUnlessClosed}
 use Rattle.dns_primary.specs.Update.{Asked, Admission, Rejects, Admits, admission, waits, stages, with_staged, replies, accepted_in, judged_in, admitted, is_full, made_place, answer, room_lacked}
 use Rattle.dns_primary.specs.Step.{Event, Datagram, Connect, Arrives, Flush, Checkpoint, Pump, Closed, IsCheckpointed, IsUpdateBegun, IsUpdated, Effects, IsRequestHandled, IsArrived, Goes, Lacks, Step, is_asking, failure, failure_on, failures}

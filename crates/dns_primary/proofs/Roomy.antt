@@ -16,13 +16,13 @@ use Rattle.dns_store.specs.Plain.{octets_of}
 use Rattle.dns_store.specs.Room.{entry_between, entries_along, sectors_left}
 use Rattle.dns_store.specs.Checkpoint.{IsKeptNumber}
 use Rattle.dns_store.proofs.Sizes.{room_left}
-use Rattle.dns_held.specs.Each.{Each2, Each3}
-use Rattle.dns_held.specs.Checkpoint.{IsNextBaseNumber}
-use Rattle.dns_held.specs.Held.{newest_zone}
-use Rattle.dns_held.specs.Staging.{has_room, lacks_room, sectors_lacked}
-use Rattle.dns_primary.specs.declared.primary.ZoneSettings.{ZoneSettings}
+use Rattle.dns_versions.specs.Each.{Each2, Each3}
+use Rattle.dns_versions.specs.Checkpoint.{IsNextBaseNumber}
+use Rattle.dns_versions.specs.Held.{newest_zone}
+use Rattle.dns_versions.specs.Staging.{has_room, lacks_room, sectors_lacked}
+use Rattle.dns_primary.specs.declared.primary.ZoneSpec.{ZoneSpec}
 use Rattle.dns_primary.specs.Machine.{Setting, Made, ZoneState, Machine, kept_of, updates_of, versions_of}
-use Rattle.dns_primary.specs.Flush.{Sent, is_none_made, flushed, flushed_zone, flushed_zones, flush_sends, rcode_servfail}
+use Rattle.dns_primary.specs.Flush.{Sent, is_none_made, flushed, flushed_zone, flushed_zones, flush_sends}
 use Rattle.dns_primary.specs.Update.{Asked, Admission, Rejects, Admits, admission, is_full, made_place, lacked_at, lacked_by, room_lacked}
 use Rattle.dns_primary.specs.declared.update.Judgement.{Judgement}
 use Rattle.dns_primary.specs.Outcome.{HasLeft, IsVerdictOf}
@@ -221,11 +221,11 @@ not_within a b e = grind (arith, nat_tests, e)
 abbrev lacking : ℕ → Option ℕ → Option (ℕ × ℕ)
 lacking place lacked = option_map (λ (sectors : ℕ). (place, sectors)) lacked
 
-left_behind : (fails : List Bool) (old : Machine) (first : Effects) (mid : Machine) (place : ℕ) (z w : ZoneState) (records : List Record)
+left_pending : (fails : List Bool) (old : Machine) (first : Effects) (mid : Machine) (place : ℕ) (z w : ZoneState) (records : List Record)
     → IsUpdateBegun fails old (lacking place (sectors_lacked (kept_of z) records)) first mid
     → slice_get old.zones place ≡ Some z → slice_get mid.zones place ≡ Some w → w.closed ≡ false → has_room (kept_of z) records ≡ true
     → entry_between (newest_of (kept_of z)) records ≤ sectors_left (kept_of w)
-left_behind fails old first mid place z w records begun there here opened room =
+left_pending fails old first mid place z w records begun there here opened room =
     let k = kept_of z in
     let entry = entry_between (newest_of k) records in
     let less = nat_lt (sectors_left k) entry in
@@ -252,7 +252,7 @@ module _ (fails : List Bool) (old : Machine) (a : Asked) (first : Effects) (mid 
       let verdict_before : judged z ≡ Leaves records = ap (λ (x : Zone). verdict x a.message.answers a.message.authorities) (sym s.follows.newest) ∙ leaves in
       let lacked : room_lacked old a ≡ lacking place (sectors_lacked (kept_of z) records) =
       ap (lacked_at a) admits ∙ ap (λ (v : Verdict). lacking place (lacked_by (kept_of z) v)) verdict_before in
-      let left = left_behind fails old first mid place z s.zone records (subst (λ (o : Option (ℕ × ℕ)). IsUpdateBegun fails old o first mid) lacked begun) there s.stands is_open room_before in
+      let left = left_pending fails old first mid place z s.zone records (subst (λ (o : Option (ℕ × ℕ)). IsUpdateBegun fails old o first mid) lacked begun) there s.stands is_open room_before in
       let entry = entry_same z s.zone records s.follows in
       omega (arith, left, entry)
 

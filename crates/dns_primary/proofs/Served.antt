@@ -6,19 +6,20 @@ use Rattle.dns_wire.specs.Reading.{message_of}
 use Rattle.dns_wire.specs.Text.{text}
 use Rattle.dns_zone.specs.Zone.{Zone}
 use Rattle.dns_zone.specs.declared.index.ZoneIndex as index
+use Rattle.dns_request.specs.Codes.{rcode_formerr, rcode_notimp, rcode_servfail}
 use Rattle.dns_request.specs.Request as request
-use Rattle.dns_request.specs.Request.{opcode_query, opcode_update, rcode_notimp, rcode_formerr, rcode_refused, request_of, read_as, message_as, question_as, has_counts, too_long}
+use Rattle.dns_request.specs.Request.{opcode_query, opcode_update, request_of, read_as, message_as, question_as, has_counts, too_long}
 use Rattle.dns_request.specs.declared.request.Transport.{Transport}
 use Rattle.dns_answer.specs.Answer.{Handled, Replies, bare_reply, handled, handled_as}
 use Rattle.dns_store.specs.declared.zone_store.ZoneStore as store
 use Rattle.dns_store.specs.Versions.{Kept, OpensAsLeft}
-use Rattle.dns_held.specs.declared.behind.Behind.{Behind}
+use Rattle.dns_versions.specs.declared.pending.PendingZone.{PendingZone}
 use Rattle.dns_sectors.specs.Device.{Content, LeavesOnly}
 use Rattle.dns_sectors.proofs.Moments.{started}
-use Rattle.dns_held.proofs.Lists.{diag}
-use Rattle.dns_held.specs.Each.{Each2, Each3}
-use Rattle.dns_held.specs.Flush.{FailedWhere, IsCounted}
-use Rattle.dns_held.specs.Held.{HasVersions, shown_zone}
+use Rattle.dns_versions.proofs.Lists.{diag}
+use Rattle.dns_versions.specs.Each.{Each2, Each3}
+use Rattle.dns_versions.specs.Flush.{FailedWhere, IsCounted}
+use Rattle.dns_versions.specs.Held.{HasVersions, shown_zone}
 use Rattle.dns_primary.specs.declared.event.Peer.{Peer}
 use Rattle.dns_primary.specs.declared.event.To.{To}
 use Rattle.dns_primary.specs.declared.event.Effects.{Effects}
@@ -27,7 +28,7 @@ use Rattle.dns_primary.specs.declared.primary.Primary.{Primary}
 use Rattle.dns_primary.specs.declared.update.Outcome.{Outcome}
 use Rattle.dns_primary.specs.declared.update.Outcome.TheVariants as outcome
 use Rattle.dns_primary.specs.Machine.{ZoneState, Machine, kept_of, shown_zones}
-use Rattle.dns_primary.specs.Flush.{Sent, Replied, flushed, flush_sends, rcode_servfail}
+use Rattle.dns_primary.specs.Flush.{Sent, Replied, flushed, flush_sends}
 use Rattle.dns_primary.specs.Update.{Asked, answer, is_full, made_place, replies, room_lacked}
 use Rattle.dns_primary.specs.Step as machine
 use Rattle.dns_primary.specs.Step.{AreFailures, GivesEffects, IsUpdateBegun, IsRequestHandled, failure, is_asking, is_update, request_lacks}
@@ -37,9 +38,9 @@ use Rattle.dns_primary.specs.Steps.{AtAnyMoment, Stepped, nothing, one_reply, an
 use Rattle.dns_primary.proofs.Judged.{tested, untested}
 
 -- the zones are those that the machine shows
-pub are_shown : {I S : Type 0} (keeps : S → Kept → Type 0) (zones : List Zone) (behind : List (Behind I S)) (states : List ZoneState) → HaveVersions keeps zones behind states → zones ≡ map (λ z. shown_zone (kept_of z)) states
+pub are_shown : {I S : Type 0} (keeps : S → Kept → Type 0) (zones : List Zone) (pending : List (PendingZone I S)) (states : List ZoneState) → HaveVersions keeps zones pending states → zones ≡ map (λ z. shown_zone (kept_of z)) states
 are_shown keeps [] [] [] each = refl
-are_shown keeps (z ∷ zones) (b ∷ behind) (s ∷ states) each = λ i. each.0.zone_is i ∷ are_shown keeps zones behind states each.1 i
+are_shown keeps (z ∷ zones) (b ∷ pending) (s ∷ states) each = λ i. each.0.zone_is i ∷ are_shown keeps zones pending states each.1 i
 are_shown keeps _ _ _ each = absurd each
 
 -- where no device is touched the failures stay
@@ -53,11 +54,11 @@ failed_still store failed moment left_since (f ∷ fails) (a ∷ olds) [] news h
 failed_still store failed moment left_since (f ∷ fails) (a ∷ olds) (b ∷ mids) [] h same = absurd same
 
 -- no call was made, or none more
-pub rests : {I S : Type 0} (s : store.Ghosts S) (zones : List Zone) (behind : List (Behind I S)) (ks : List Kept)
-    → ((x : S) (k : Kept) → s.keeps x k → (c : Content) → s.left_since x (s.moment x) c → OpensAsLeft s.opens k c) → Each3 (λ z b k. HasVersions s.keeps z b k) zones behind ks
-    → Each3 (λ a b k. LeavesOnly s.moment s.left_since a.store b.store (OpensAsLeft s.opens k)) behind behind ks
-rests {I} {S} s zones behind ks at_rest held =
-    diag (λ (z : Zone) (b : Behind I S) (k : Kept). HasVersions s.keeps z b k) (λ (a b : Behind I S) (k : Kept). LeavesOnly s.moment s.left_since a.store b.store (OpensAsLeft s.opens k)) zones behind ks held
+pub rests : {I S : Type 0} (s : store.Ghosts S) (zones : List Zone) (pending : List (PendingZone I S)) (ks : List Kept)
+    → ((x : S) (k : Kept) → s.keeps x k → (c : Content) → s.left_since x (s.moment x) c → OpensAsLeft s.opens k c) → Each3 (λ z b k. HasVersions s.keeps z b k) zones pending ks
+    → Each3 (λ a b k. LeavesOnly s.moment s.left_since a.store b.store (OpensAsLeft s.opens k)) pending pending ks
+rests {I} {S} s zones pending ks at_rest held =
+    diag (λ (z : Zone) (b : PendingZone I S) (k : Kept). HasVersions s.keeps z b k) (λ (a b : PendingZone I S) (k : Kept). LeavesOnly s.moment s.left_since a.store b.store (OpensAsLeft s.opens k)) zones pending ks held
     (λ z b k h. started s.moment s.left_since b.store (OpensAsLeft s.opens k) (λ c left. at_rest b.store k h.kept c left))
 
 pub still_leaves : {S B K : Type 0} (store : B → S) (failed : S → ℕ) (moment : S → ℕ) (left_since : S → ℕ → Content → Type 0) (P : K → Content → Type 0) (olds mids news : List B) (ks : List K)
@@ -140,10 +141,10 @@ lacks_by false old mid a fails stated is h = record {
 }
 
 -- memory was refused after what came first
-pub lacks_behind : (o : Option (ℕ × ℕ)) (old mid : Machine) (a : Asked) (fails : List Bool) (stated : machine.Effects) → room_lacked old a ≡ o → IsUpdateBegun fails old o stated mid
+pub lacks_pending : (o : Option (ℕ × ℕ)) (old mid : Machine) (a : Asked) (fails : List Bool) (stated : machine.Effects) → room_lacked old a ≡ o → IsUpdateBegun fails old o stated mid
     → LacksUpdate fails old a (record stated { sent = stated.sent ++ replies a rcode_servfail ∷ []; noted = OutOfMemory }) mid
-lacks_behind None old mid a fails stated is h = lacks_by (is_full old) old mid a fails stated refl h
-lacks_behind (Some lacked) old mid a fails stated is h = record {
+lacks_pending None old mid a fails stated is h = lacks_by (is_full old) old mid a fails stated refl h
+lacks_pending (Some lacked) old mid a fails stated is h = record {
   noted = refl;
   accepted = (h.4).accepted;
   stays = inr (inr (lacked, stated, is, h, refl));
@@ -155,7 +156,7 @@ or_second false c e = e
 
 pub lacks_begun : (old mid : Machine) (a : Asked) (fails : List Bool) (stated : machine.Effects) → IsBegunOrLacks old (room_lacked old a) fails stated mid
     → LacksUpdate fails old a (record stated { sent = stated.sent ++ replies a rcode_servfail ∷ []; noted = OutOfMemory }) mid
-lacks_begun old mid a fails stated (inl h) = lacks_behind (room_lacked old a) old mid a fails stated refl h
+lacks_begun old mid a fails stated (inl h) = lacks_pending (room_lacked old a) old mid a fails stated refl h
 lacks_begun old mid a fails stated (inr (some, l)) = record {
   noted = refl;
   accepted = l.accepted;
@@ -198,7 +199,7 @@ answered held old mid a fails stated (outcome.AtOnce rcode) h is = record {
 }
 answered held old mid a fails stated outcome.OutOfMemory h is = record {
   next = mid;
-  is = inr (lacks_behind (room_lacked old a) old mid a fails stated refl h);
+  is = inr (lacks_pending (room_lacked old a) old mid a fails stated refl h);
   kept = is;
 }
 
@@ -210,7 +211,7 @@ held_as f g go old a ended outcome.OutOfMemory h = go old h
 
 module _ {I S : Type 0} {i : index.Ghosts I} {s : store.Ghosts S} where
   -- nothing changes, and this is what goes out
-  pub stays : (p : Primary I S i s) (m : Machine) (effects : Effects) (stated : machine.Effects) (step : List Bool → machine.Effects → Machine → Type 0) → AtAnyMoment s m p.behind.items p.behind.items → IsKept p m → AreEffects stated effects → step [] stated m
+  pub stays : (p : Primary I S i s) (m : Machine) (effects : Effects) (stated : machine.Effects) (step : List Bool → machine.Effects → Machine → Type 0) → AtAnyMoment s m p.pending.items p.pending.items → IsKept p m → AreEffects stated effects → step [] stated m
       → Stepped m p p effects step
   stays p m effects stated step rest kept effects_are is = record { fails = []; failed = tt; any_moment = rest; next = m; stated = stated; is = is; effects_are = effects_are; kept = kept }
 
@@ -269,7 +270,7 @@ transferred_as old new peer to octets transport m q fails stated e header h =
 module _ {I S : Type 0} {i : index.Ghosts I} {s : store.Ghosts S} where
   -- a request that changes nothing is replied to, or lacks memory
   pub replies_or_lacks : (p : Primary I S i s) (m : Machine) (effects : Effects) (peer : Peer) (to : To) (octets : List ℕ) (transport : Transport) (r : request.Request) (reply : List ℕ)
-      → r ≡ request_of octets transport → (r ≡ request.Ignored → ⊥) → handled_as (shown_zones m) octets transport r ≡ Replies reply → AtAnyMoment s m p.behind.items p.behind.items → IsKept p m
+      → r ≡ request_of octets transport → (r ≡ request.Ignored → ⊥) → handled_as (shown_zones m) octets transport r ≡ Replies reply → AtAnyMoment s m p.pending.items p.pending.items → IsKept p m
       → AreEffects (one_reply (Replied to reply)) effects ⊎ AreEffects (lack (Replied to (text (bare_reply (header_of octets) rcode_servfail)))) effects
       → Stepped m p p effects (IsServedOrLacks m peer to octets transport)
   replies_or_lacks p m effects peer to octets transport r reply e some is rest kept effects_are =

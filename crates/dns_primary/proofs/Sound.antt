@@ -6,20 +6,21 @@ use Rattle.std.proofs.lemmas.List.{length-append, length-map}
 use Rattle.dns_records.specs.Record.{Record}
 use Rattle.dns_layout.specs.Sector.{snapshot_sectors}
 use Rattle.dns_wire.proofs.Binds.{true_le, true_lt}
+use Rattle.dns_request.specs.Codes.{rcode_servfail}
 use Rattle.dns_zone.specs.Order.{both_true}
 use Rattle.dns_update.specs.Verdict.{Leaves, verdict}
 use Rattle.dns_store.specs.Versions.{newest_after, newest_of}
 use Rattle.dns_store.specs.Plain.{octets_of}
 use Rattle.dns_store.specs.Room.{entry_between}
-use Rattle.dns_held.specs.Each.{Each2}
-use Rattle.dns_held.specs.Held.{newest_zone}
-use Rattle.dns_held.specs.Staging.{has_room}
+use Rattle.dns_versions.specs.Each.{Each2}
+use Rattle.dns_versions.specs.Held.{newest_zone}
+use Rattle.dns_versions.specs.Staging.{has_room}
 use Rattle.dns_primary.specs.declared.event.To.{To}
 use Rattle.dns_primary.specs.Machine.{ZoneState, Made, Waits, Machine, kept_of, updates_of, versions_of}
-use Rattle.dns_primary.specs.Flush.{Sent, Answered, Replied, rcode_servfail, flushed_zones, flushed, flush_sends, released, is_closed_in}
+use Rattle.dns_primary.specs.Flush.{Sent, Answered, Replied, flushed_zones, flushed, flush_sends, released, is_closed_in}
 use Rattle.dns_primary.specs.Update.{Asked, waits, stages, with_staged}
 use Rattle.dns_primary.specs.Runs.{Lasts, AllLast, IsDurable, IsTrueIn, IsAccepted, HasHistory, IsHistory}
-use Rattle.dns_primary.proofs.Zonewise.{pair_found, pair_set, pair_over, all_found, all_set, lasts_same, all_last_same, all_last_on, same_history, IsFlushed, zone_flushed, history_more, newest_is}
+use Rattle.dns_primary.proofs.Zonewise.{pair_found, pair_set, pair_over, all_found, all_set, lasts_same, all_last_same, all_last_on, same_history, IsFlushed, zone_flushed, history_more, newest_is, pair_map}
 
 -- the updates of a waiting reply are the first of its zone's
 pub record IsPlaced (zones : List ZoneState) (w : Waits) : Type 0 where
@@ -116,12 +117,6 @@ all_flushed [] (z ∷ zones) e = absurd (omega (arith, e))
 all_flushed (f ∷ fails) [] e = absurd (omega (arith, e))
 all_flushed (f ∷ fails) (z ∷ zones) e = (zone_flushed f z, all_flushed fails zones (omega (arith, e)))
 
-pair_map : (R Q : ZoneState → ZoneState → Type 0) → ((a b : ZoneState) → R a b → Q a b) → (old new : List ZoneState) → Each2 R old new → Each2 Q old new
-pair_map R Q f [] [] h = tt
-pair_map R Q f [] (w ∷ new) h = absurd h
-pair_map R Q f (a ∷ old) [] h = absurd h
-pair_map R Q f (a ∷ old) (w ∷ new) h = (f a w h.0, pair_map R Q f old new h.1)
-
 all_released : (zones after : List ZoneState) (ws : List Waits) → Each2 IsFlushed zones after → AllByRecursion (IsPlaced zones) ws → AllByRecursion (IsTrueIn after) (map (released after) ws)
 all_released zones after [] each p = tt
 all_released zones after (w ∷ ws) each p =
@@ -165,7 +160,7 @@ as_many z =
 
 -- an update with room is accepted on the newest version
 accepted_on : (z : ZoneState) (made : Made) → verdict (newest_zone (kept_of z)) made.update.answers made.update.authorities ≡ Leaves made.records → has_room (kept_of z) made.records ≡ true
-    → IsAccepted z.setting (0 + length (updates_of z)) (newest_after z.loaded (versions_of (updates_of z))) made
+    → IsAccepted z.setting.shape (0 + length (updates_of z)) (newest_after z.loaded (versions_of (updates_of z))) made
 accepted_on z made j room =
     let k = kept_of z in
     let few = nat_le (length made.records) 65536 in
@@ -191,11 +186,11 @@ stage_preserves m a place z records s e j room =
     let after : ZoneState = with_staged made z in
     let longer : updates_of after ≡ updates_of z ++ made ∷ [] = sym (append_assoc z.shown z.staged (made ∷ [])) in
     let grown : Each2 Grows m.zones (slice_set m.zones place after) = pair_set Grows grows_itself m.zones place z after e (record { more = made ∷ []; updates = longer }) in
-    let history = history_more z.setting 0 z.loaded (updates_of z) made (all_found HasHistory m.zones place z s.zones e) (accepted_on z made j room) in
+    let history = history_more z.setting.shape 0 z.loaded (updates_of z) made (all_found HasHistory m.zones place z s.zones e) (accepted_on z made j room) in
     record {
-      lasts = pair_set Lasts lasts_same m.zones place z after e (record { setting = refl; loaded = refl; more = []; shown = sym (append-nil z.shown) });
+      lasts = pair_set Lasts lasts_same m.zones place z after e (record { shape = refl; loaded = refl; more = []; shown = sym (append-nil z.shown) });
       sound = record {
-        zones = all_set HasHistory m.zones place after s.zones (subst (λ (us : List Made). IsHistory z.setting 0 z.loaded us) (sym longer) history);
+        zones = all_set HasHistory m.zones place after s.zones (subst (λ (us : List Made). IsHistory z.setting.shape 0 z.loaded us) (sym longer) history);
         waiting = all_more (IsPlaced (slice_set m.zones place after)) m.waiting _ (waiting_over m.zones (slice_set m.zones place after) grown m.waiting s.waiting)
             (record { zone = after; stands = set_stands m.zones place z after e; more = []; updates = sym (append-nil (updates_of after)) });
       };

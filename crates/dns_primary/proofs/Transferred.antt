@@ -12,11 +12,11 @@ use Rattle.dns_records.specs.Types.{class_in}
 use Rattle.dns_records.specs.Record.{serial_of}
 use Rattle.dns_wire.specs.Message.{Question, Message}
 use Rattle.dns_wire.specs.declared.codes.Rcode.{Rcode}
+use Rattle.dns_request.specs.Codes.{rcode_formerr, rcode_notauth, rcode_refused}
 use Rattle.dns_request.specs.declared.request.Transport.{Transport}
-use Rattle.dns_request.specs.Request.{rcode_formerr, rcode_refused}
 use Rattle.dns_transfer.specs.Form.{Form, Current, Incremental, Full, form_of}
 use Rattle.dns_transfer.specs.Records.{transfer_answer, transfer_from, transfer_of}
-use Rattle.dns_transfer.specs.Refusal.{client_serial, is_malformed, refusal, rcode_notauth, serial_asked}
+use Rattle.dns_transfer.specs.Refusal.{client_serial, is_malformed, refusal, serial_asked}
 use Rattle.dns_transfer.specs.Session.{Sending, SendsMessage, Version, Opens}
 use Rattle.dns_primary.specs.declared.event.Peer.{Peer}
 use Rattle.dns_primary.specs.declared.transfers.OpenTransfer.{OpenTransfer}

@@ -2,7 +2,7 @@
 use Rattle.std.proofs.Common.{◌≡◌, ◌<◌, ◌+◌, ℕ, zero, suc, false, List, [], ◌∷◌, ◌++◌, length, map, take, refl, sym, ◌∙◌, ap, arith, add-one, append-nil, append_assoc}
 use Rattle.std.specs.Prelude.{slice_index_or}
 use Rattle.std.specs.Prelude.{flat_map}
-use Rattle.dns_held.specs.Each.{Each2}
+use Rattle.dns_versions.specs.Each.{Each2}
 use Rattle.dns_primary.specs.declared.event.Waiting.{Waiting}
 use Rattle.dns_primary.specs.declared.event.To.{To}
 use Rattle.dns_primary.specs.declared.event.To.TheVariants.{Address, Connection, Nowhere}

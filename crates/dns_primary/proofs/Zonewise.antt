@@ -3,8 +3,8 @@ use Rattle.std.proofs.Common.{◌≡◌, ◌+◌, ℕ, zero, suc, Bool, true, fa
 use Rattle.std.specs.Prelude.{slice_get, slice_set, if◌then◌else◌}
 use Rattle.std.specs.List.{AllByRecursion}
 use Rattle.dns_records.specs.Record.{Record}
-use Rattle.dns_store.specs.Versions.{newest_after, newest_of}
-use Rattle.dns_held.specs.Each.{Each2}
+use Rattle.dns_store.specs.Versions.{Shape, newest_after, newest_of}
+use Rattle.dns_versions.specs.Each.{Each2}
 use Rattle.dns_primary.specs.Machine.{Setting, ZoneState, Made, kept_of, updates_of, versions_of}
 use Rattle.dns_primary.specs.Flush.{is_none_made, flushed_zone}
 use Rattle.dns_primary.specs.Runs.{IsAccepted, IsHistory, HasHistory, Lasts, AllLast}
@@ -25,6 +25,25 @@ pair_found R [] (w ∷ new) place z h e = absurd h
 pair_found R (a ∷ old) [] place z h e = absurd h
 pair_found R (a ∷ old) (w ∷ new) zero z h e = (let same : a ≡ z = cc in record { zone = w; stands = refl; holds = subst (λ x. R x w) same h.0 })
 pair_found R (a ∷ old) (w ∷ new) (suc place) z h e = (let rest = pair_found R old new place z h.1 e in record { zone = rest.zone; stands = rest.stands; holds = rest.holds })
+
+pub record FoundBefore (R : ZoneState → ZoneState → Type 0) (w : ZoneState) (place : ℕ) (zones : List ZoneState) : Type 0 where
+  pub zone : ZoneState
+  pub there : slice_get zones place ≡ Some zone
+  pub holds : R zone w
+
+pub pair_found_before : (R : ZoneState → ZoneState → Type 0) (old new : List ZoneState) (place : ℕ) (w : ZoneState) → Each2 R old new → slice_get new place ≡ Some w → FoundBefore R w place old
+pair_found_before R [] [] place w h e = absurd cc
+pair_found_before R [] (b ∷ new) place w h e = absurd h
+pair_found_before R (a ∷ old) [] place w h e = absurd h
+pair_found_before R (a ∷ old) (b ∷ new) zero w h e = (let same : b ≡ w = cc in record { zone = a; there = refl; holds = subst (λ x. R a x) same h.0 })
+pair_found_before R (a ∷ old) (b ∷ new) (suc place) w h e = (let rest = pair_found_before R old new place w h.1 e in record { zone = rest.zone; there = rest.there; holds = rest.holds })
+
+-- what each pair has another relation from
+pub pair_map : (R Q : ZoneState → ZoneState → Type 0) → ((a b : ZoneState) → R a b → Q a b) → (old new : List ZoneState) → Each2 R old new → Each2 Q old new
+pair_map R Q f [] [] h = tt
+pair_map R Q f [] (w ∷ new) h = absurd h
+pair_map R Q f (a ∷ old) [] h = absurd h
+pair_map R Q f (a ∷ old) (w ∷ new) h = (f a w h.0, pair_map R Q f old new h.1)
 
 pub pair_same : (R : ZoneState → ZoneState → Type 0) → ((z : ZoneState) → R z z) → (zones : List ZoneState) → Each2 R zones zones
 pair_same R same [] = tt
@@ -61,11 +80,11 @@ all_set P (a ∷ zones) zero w h p = (p, h.1)
 all_set P (a ∷ zones) (suc place) w h p = (h.0, all_set P zones place w h.1 p)
 
 pub lasts_same : (z : ZoneState) → Lasts z z
-lasts_same z = record { setting = refl; loaded = refl; more = []; shown = sym (append-nil z.shown) }
+lasts_same z = record { shape = refl; loaded = refl; more = []; shown = sym (append-nil z.shown) }
 
 pub lasts_on : (a b c : ZoneState) → Lasts a b → Lasts b c → Lasts a c
 lasts_on a b c p q = record {
-  setting = q.setting ∙ p.setting;
+  shape = q.shape ∙ p.shape;
   loaded = q.loaded ∙ p.loaded;
   more = p.more ++ q.more;
   shown = q.shown ∙ ap (λ (xs : List Made). xs ++ q.more) p.shown ∙ append_assoc a.shown p.more q.more;
@@ -89,9 +108,9 @@ same_itself z = record { setting = refl; loaded = refl; updates = refl; openings
 
 pub same_history : (z w : ZoneState) → Same z w → HasHistory z → HasHistory w
 same_history z w s h =
-    subst (λ u. IsHistory w.setting 0 w.loaded u) (sym s.updates) (
-    subst (λ r. IsHistory w.setting 0 r (updates_of z)) (sym s.loaded) (
-    subst (λ (t : Setting). IsHistory t 0 z.loaded (updates_of z)) (sym s.setting) h))
+    subst (λ u. IsHistory w.setting.shape 0 w.loaded u) (sym s.updates) (
+    subst (λ r. IsHistory w.setting.shape 0 r (updates_of z)) (sym s.loaded) (
+    subst (λ (t : Setting). IsHistory t.shape 0 z.loaded (updates_of z)) (sym s.setting) h))
 
 -- a zone that is flushed, or closes
 pub record IsFlushed (z w : ZoneState) : Type 0 where
@@ -119,11 +138,11 @@ zone_flushed fails z =
       ];
     })
     (λ e. tested (IsFlushed z) fails (record z { closed = true }) (record z { shown = z.shown ++ z.staged; staged = [] })
-    (λ f. record { lasts = record { setting = refl; loaded = refl; more = []; shown = sym (append-nil z.shown) }; same = record { setting = refl; loaded = refl; updates = refl; openings = refl }; whole = inl refl })
-    (λ f. record { lasts = record { setting = refl; loaded = refl; more = z.staged; shown = refl }; same = record { setting = refl; loaded = refl; updates = append-nil (z.shown ++ z.staged); openings = refl }; whole = inr refl }))
+    (λ f. record { lasts = record { shape = refl; loaded = refl; more = []; shown = sym (append-nil z.shown) }; same = record { setting = refl; loaded = refl; updates = refl; openings = refl }; whole = inl refl })
+    (λ f. record { lasts = record { shape = refl; loaded = refl; more = z.staged; shown = refl }; same = record { setting = refl; loaded = refl; updates = append-nil (z.shown ++ z.staged); openings = refl }; whole = inr refl }))
 
 -- one update more, judged on the newest version
-pub history_more : (s : Setting) (number : ℕ) (records : List Record) (updates : List Made) (made : Made) → IsHistory s number records updates
+pub history_more : (s : Shape) (number : ℕ) (records : List Record) (updates : List Made) (made : Made) → IsHistory s number records updates
     → IsAccepted s (number + length updates) (newest_after records (versions_of updates)) made
     → IsHistory s number records (updates ++ made ∷ [])
 history_more s number records [] made h e = (subst (λ (n : ℕ). IsAccepted s n records made) (omega arith) e, tt)

@@ -5,20 +5,21 @@ use Rattle.std.specs.List.{AllByRecursion, Contains}
 use Rattle.dns_records.specs.Record.{Record}
 use Rattle.dns_wire.specs.Message.{header_of}
 use Rattle.dns_wire.specs.Text.{Reply, text}
+use Rattle.dns_request.specs.Codes.{rcode_servfail}
 use Rattle.dns_request.specs.Request as request
 use Rattle.dns_request.specs.Request.{request_of}
 use Rattle.dns_request.specs.declared.request.Transport.{Transport}
 use Rattle.dns_request.specs.declared.request.Transport.TheVariants.{Udp, Tcp}
 use Rattle.dns_answer.specs.Answer.{answered, with_question}
 use Rattle.dns_update.specs.Verdict.{Leaves, verdict}
-use Rattle.dns_held.specs.Held.{newest_zone}
-use Rattle.dns_held.specs.Staging.{has_room}
+use Rattle.dns_versions.specs.Held.{newest_zone}
+use Rattle.dns_versions.specs.Staging.{has_room}
 use Rattle.dns_primary.specs.declared.event.Peer.{Peer}
 use Rattle.dns_primary.specs.declared.event.To.{To}
 use Rattle.dns_primary.specs.declared.event.To.TheVariants as to
 use Rattle.dns_primary.specs.Machine.{ZoneState, Waits, Machine, kept_of, shown_zones, peer_at}
-use Rattle.dns_primary.specs.Flush.{Sent, Answered, Replied, is_closed_in, rcode_servfail}
-use Rattle.dns_primary.specs.Update.{Asked, Admits, admission, room_lacked, place_of}
+use Rattle.dns_primary.specs.Flush.{Sent, Answered, Replied, is_closed_in}
+use Rattle.dns_primary.specs.Update.{Asked, Admits, admission, room_lacked, zone_position}
 use Rattle.dns_primary.specs.Transfer.{transport_of}
 use Rattle.dns_primary.specs.Step.{Effects, IsUpdateBegun, Event, Datagram, Connect, Arrives, Flush}
 use Rattle.dns_primary.specs.Step.{Checkpoint}
@@ -32,7 +33,7 @@ code_of octets = (header_of octets).rcode
 pub record IsForClosed (m : Machine) (a : Asked) : Type 0 where
   pub place : ℕ
   pub zone : ZoneState
-  pub named : place_of a.zone.name m.zones ≡ Some place
+  pub named : zone_position a.zone.name m.zones ≡ Some place
   pub stands : slice_get m.zones place ≡ Some zone
   pub closed : zone.closed ≡ true
 

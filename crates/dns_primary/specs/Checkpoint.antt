@@ -3,7 +3,7 @@ use Rattle.std.specs.Prelude.{◌≡◌, ◌⊎◌, ℕ, Bool, true, false, List
 use Rattle.std.specs.Prelude.{Option, Some, None, Result, Ok, Err}
 use Rattle.dns_store.specs.declared.checkpoint.CheckpointError.{CheckpointError}
 use Rattle.dns_store.specs.declared.checkpoint.CheckpointError.TheVariants as refused
-use Rattle.dns_held.specs.Checkpoint.{IsNextBaseNumber}
+use Rattle.dns_versions.specs.Checkpoint.{IsNextBaseNumber}
 use Rattle.dns_primary.specs.Machine.{ZoneState, Machine, kept_of}
 use Rattle.dns_primary.specs.Flush.{flushed}
 

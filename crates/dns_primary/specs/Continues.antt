@@ -10,9 +10,9 @@ use Rattle.dns_primary.specs.declared.event.To.TheVariants.{Connection}
 use Rattle.dns_primary.specs.declared.event.Noted.TheVariants.{OutOfMemory}
 use Rattle.dns_primary.specs.Machine.{ZoneState, Machine, shown_zones, peer_at, sending_at}
 use Rattle.dns_primary.specs.Flush.{Replied}
-use Rattle.dns_primary.specs.Transfer.{open_still, version_of, zone_named}
+use Rattle.dns_primary.specs.Transfer.{open_still, transfer_version, zone_named}
 use Rattle.dns_primary.specs.Step.{Event, Effects, Arrives, Pump, Closed}
-use Rattle.dns_primary.specs.Runs.{Moment, Took, Stopped}
+use Rattle.dns_primary.specs.Runs.{Moment, Took, Stopped, Configured}
 
 -- A request that came on the connection opens a transfer of the version that is shown then, for a peer that
 -- may have it.
@@ -27,7 +27,7 @@ pub record OpensOn (old : Machine) (number : ℕ) (event : Event) (s : Sending) 
   pub asks : handled (shown_zones old) octets Tcp ≡ Transfer octets message question
   pub named : zone_named question.name old.zones ≡ Some zone
   pub allowed : zone.setting.may_transfer peer.address ≡ true
-  pub opened : IsTransferOpened Tcp octets message question (version_of zone) s
+  pub opened : IsTransferOpened Tcp octets message question (transfer_version zone) s
 
 -- What a pump of a transfer gives: the next message, of which the one that leaves no record ends it; or
 -- nothing where memory is refused, and the transfer stays as it is.
@@ -55,3 +55,4 @@ Continues number (Took event fails effects new ∷ rest) (Some s) =
     GoesOn number s event effects (sending_at number new.connections)
     × Continues number rest (sending_at number new.connections)
 Continues number (Stopped event tries new ∷ rest) (Some s) = sending_at number new.connections ≡ None
+Continues number (Configured new ∷ rest) (Some s) = sending_at number new.connections ≡ None

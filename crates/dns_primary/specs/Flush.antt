@@ -2,14 +2,11 @@
 use Rattle.std.specs.Prelude.{ℕ, Bool, true, false, ◌||◌, List, [], ◌∷◌, ◌++◌, map, flat_map, slice_get}
 use Rattle.std.specs.Prelude.{Option, Some, None, if◌then◌else◌}
 use Rattle.dns_wire.specs.Text.{text}
+use Rattle.dns_request.specs.Codes.{rcode_servfail}
 use Rattle.dns_answer.specs.Answer.{bare_reply}
 use Rattle.dns_primary.specs.declared.event.To.{To}
 use Rattle.dns_primary.specs.declared.event.To.TheVariants.{Address, Connection, Nowhere}
 use Rattle.dns_primary.specs.Machine.{Made, ZoneState, Waits, Machine}
-
--- The response code of a server's own failure (RFC 1035 4.1.1).
-abbrev pub rcode_servfail : ℕ
-rcode_servfail = 2
 
 -- What goes out: the reply to an update that waited, with this response code, or another reply.
 pub data Sent : Type 0 where

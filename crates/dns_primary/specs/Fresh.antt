@@ -6,15 +6,15 @@ use Rattle.dns_layout.specs.Sector.{snapshot_sectors}
 use Rattle.dns_store.specs.Versions.{Opened, opened_again}
 use Rattle.dns_store.specs.Opens.{fresh}
 use Rattle.dns_store.specs.Plain.{octets_of}
-use Rattle.dns_held.specs.Each.{Each2, Each3}
-use Rattle.dns_held.specs.Held.{shown_zone}
-use Rattle.dns_primary.specs.declared.primary.ZoneSettings.{ZoneSettings}
+use Rattle.dns_versions.specs.Each.{Each2, Each3}
+use Rattle.dns_versions.specs.Held.{shown_zone}
+use Rattle.dns_primary.specs.declared.primary.ZoneSpec.{ZoneSpec}
 use Rattle.dns_primary.specs.Machine.{ZoneState, Machine, kept_of}
 use Rattle.dns_primary.specs.Keeps.{IsSet}
 use Rattle.dns_primary.specs.Runs.{HasHistory}
 
 -- The zone is as it was loaded: no update was accepted. Its store was opened once.
-pub record IsLoaded (zone : Zone) (settings : ZoneSettings) (z : ZoneState) : Type 0 where
+pub record IsLoaded (zone : Zone) (settings : ZoneSpec) (z : ZoneState) : Type 0 where
   pub shape : z.setting.shape
       ≡ record { apex = zone.apex; snapshot = settings.snapshot; journal = settings.journal }
   pub set : IsSet settings z
@@ -27,7 +27,7 @@ pub record IsLoaded (zone : Zone) (settings : ZoneSettings) (z : ZoneState) : Ty
   pub opened : z.closed ≡ false
 
 -- A machine of these zones to which nothing has happened.
-pub record IsFresh (zones : List Zone) (settings : List ZoneSettings) (m : Machine) : Type 0 where
+pub record IsFresh (zones : List Zone) (settings : List ZoneSpec) (m : Machine) : Type 0 where
   pub zones_are : Each3 IsLoaded zones settings m.zones
   pub waiting : m.waiting ≡ []
   pub connections : m.connections ≡ []
@@ -48,7 +48,7 @@ pub record IsResumed (held : List Opened) (m : Machine) : Type 0 where
 -- A machine of stores that were just formatted, or that were there.
 abbrev pub IsStart : Machine → Type 0
 IsStart m =
-    ((zones : List Zone) × (settings : List ZoneSettings) × IsFresh zones settings m)
+    ((zones : List Zone) × (settings : List ZoneSpec) × IsFresh zones settings m)
     ⊎ ((held : List Opened) × IsResumed held m)
 
 -- The number of the version that is shown, and the zone.

@@ -11,9 +11,9 @@ use Rattle.dns_store.specs.declared.zone_store.ZoneStore as store
 use Rattle.dns_policy.specs.Prefix.{IsAllowed}
 use Rattle.dns_store.specs.Versions.{Kept}
 use Rattle.dns_transfer.specs.Session.{Sending}
-use Rattle.dns_held.specs.declared.behind.Behind.{Behind}
-use Rattle.dns_held.specs.Each.{Each2, Each3}
-use Rattle.dns_held.specs.Held.{HasVersions}
+use Rattle.dns_versions.specs.declared.pending.PendingZone.{PendingZone}
+use Rattle.dns_versions.specs.Each.{Each2, Each3}
+use Rattle.dns_versions.specs.Held.{HasVersions}
 use Rattle.dns_primary.specs.declared.event.Waiting.{Waiting}
 use Rattle.dns_primary.specs.declared.event.HeaderTo.{HeaderTo}
 use Rattle.dns_primary.specs.declared.event.Reply.{Reply}
@@ -22,20 +22,21 @@ use Rattle.dns_primary.specs.declared.event.Peer.{Peer}
 use Rattle.dns_primary.specs.declared.event.To.{To}
 use Rattle.dns_primary.specs.declared.event.To.TheVariants as to
 use Rattle.dns_primary.specs.declared.primary.Primary.{Primary}
-use Rattle.dns_primary.specs.declared.primary.ZoneSettings.{ZoneSettings}
+use Rattle.dns_primary.specs.declared.primary.ZoneSpec.{ZoneSpec}
 use Rattle.dns_primary.specs.To.{octets_in}
 use Rattle.dns_primary.specs.declared.transfers.OpenTransfer.{OpenTransfer}
 use Rattle.dns_primary.specs.Machine.{Waits, Machine, ZoneState, kept_of, peer_at, sending_at}
 use Rattle.dns_primary.specs.Flush.{all_out}
 use Rattle.dns_wire.specs.declared.codes.Rcode.{Rcode}
-use Rattle.dns_primary.specs.Update.{Admission, Rejects, Admits, rcode_notauth}
+use Rattle.dns_request.specs.Codes.{rcode_notauth}
+use Rattle.dns_primary.specs.Update.{Admission, Rejects, Admits}
 use Rattle.dns_primary.specs.Step as machine
 
 -- These are the versions of the zones, in order.
-abbrev pub HaveVersions : {I S : Type 0} → (S → Kept → Type 0) → List Zone → List (Behind I S)
+abbrev pub HaveVersions : {I S : Type 0} → (S → Kept → Type 0) → List Zone → List (PendingZone I S)
     → List ZoneState → Type 0
-HaveVersions keeps zones behind states =
-    Each3 (λ z b k. HasVersions keeps z b k) zones behind (map kept_of states)
+HaveVersions keeps zones pending states =
+    Each3 (λ z b k. HasVersions keeps z b k) zones pending (map kept_of states)
 
 -- A reply that waits, as it is stored: the updates before it are in no field.
 pub record IsWaiting (w : Waiting) (stated : Waits) : Type 0 where
@@ -46,7 +47,7 @@ pub record IsWaiting (w : Waiting) (stated : Waits) : Type 0 where
 
 -- A checkpoint keeps so many changes, and the addresses from which a zone may be updated are those that its
 -- list allows, and so are those from which it may be transferred.
-pub record IsSet (s : ZoneSettings) (z : ZoneState) : Type 0 where
+pub record IsSet (s : ZoneSpec) (z : ZoneState) : Type 0 where
   pub keep : s.keep ≡ z.setting.keep
   pub update : (a : IpAddr) → IsTrue (z.setting.may_update a) ↔ IsAllowed s.update.items a
   pub transfer : (a : IpAddr) → IsTrue (z.setting.may_transfer a) ↔ IsAllowed s.transfer.items a
@@ -60,7 +61,7 @@ sending_on number (t ∷ rest) = if t.number == number then Some t.session else 
 -- are those of the machine, whatever older versions there were.
 pub record IsKept {I S : Type 0} {i : index.Ghosts I} {s : store.Ghosts S} (p : Primary I S i s)
     (m : Machine) : Type 0 where
-  pub zones_are : HaveVersions s.keeps p.zones.items p.behind.items m.zones
+  pub zones_are : HaveVersions s.keeps p.zones.items p.pending.items m.zones
   pub settings_are : Each2 IsSet p.settings.items m.zones
   pub waiting_are : Each2 IsWaiting p.waiting.items m.waiting
   pub connections_are : (number : ℕ) → get p.connections number ≡ peer_at number m.connections
@@ -76,7 +77,7 @@ reply_out (Some r) = (r.to, octets_in r.octets) ∷ []
 
 -- These are the effects: the replies that waited, in order, then the one to what came, if there is one.
 pub record AreEffects (stated : machine.Effects) (effects : Effects) : Type 0 where
-  pub sent : all_out stated.sent ≡ map header_out effects.headers.items ++ reply_out effects.reply
+  pub sent : all_out stated.sent ≡ map header_out effects.headers.items ++ reply_out effects.message
   pub accepted : stated.accepted ≡ effects.accepted
   pub noted : stated.noted ≡ effects.noted
 

@@ -7,7 +7,7 @@ use Rattle.dns_zone.specs.Zone.{Zone}
 use Rattle.dns_wire.specs.Message.{Header, Message}
 use Rattle.dns_store.specs.Versions.{Shape, Kept, Versions}
 use Rattle.dns_transfer.specs.Session.{Sending}
-use Rattle.dns_held.specs.Held.{shown_zone}
+use Rattle.dns_versions.specs.Held.{shown_zone}
 use Rattle.dns_primary.specs.declared.event.Peer.{Peer}
 use Rattle.dns_primary.specs.declared.event.To.{To}
 

@@ -18,32 +18,32 @@ use Rattle.dns_zone.specs.declared.index.ZoneIndex as index
 use Rattle.dns_primary.specs.declared.primary.Primary.{Primary}
 use Rattle.dns_store.specs.declared.root.OpenError.{OpenError}
 use Rattle.dns_store.specs.declared.root.OpenError.TheVariants.{Device, OutOfMemory}
-use Rattle.dns_held.specs.declared.behind.Behind.{Behind}
-use Rattle.dns_held.specs.Held.{HasVersions}
-use Rattle.dns_primary.specs.declared.primary.ZoneSettings.{ZoneSettings}
+use Rattle.dns_versions.specs.declared.pending.PendingZone.{PendingZone}
+use Rattle.dns_versions.specs.Held.{HasVersions}
+use Rattle.dns_primary.specs.declared.primary.ZoneSpec.{ZoneSpec}
 use Rattle.dns_primary.specs.Machine.{ZoneState, Machine}
 use Rattle.dns_primary.specs.Keeps.{IsSet}
 use Rattle.dns_primary.specs.Step.{Event}
 use Rattle.dns_primary.specs.Stop.{IsMaking, OpensAsRecovered}
 
 -- A zone's name, and the sizes of its store.
-abbrev pub shape_of : Labels → ZoneSettings → Shape
+abbrev pub shape_of : Labels → ZoneSpec → Shape
 shape_of apex s = record { apex = apex; snapshot = s.snapshot; journal = s.journal }
 
-abbrev pub device_behind : {D I : Type 0} {g : Ghosts D} → Behind I (KeptStore D I g) → D
-device_behind b = store_device b.store
+abbrev pub device_of_pending : {D I : Type 0} {g : Ghosts D} → PendingZone I (KeptStore D I g) → D
+device_of_pending b = store_device b.store
 
 -- How many zones there are, and the devices of all, in order.
 abbrev pub count_of : {I S : Type 0} {i : index.Ghosts I} {s : kept.Ghosts S} → Primary I S i s → ℕ
-count_of primary = length primary.behind.items
+count_of primary = length primary.pending.items
 
 abbrev pub devices_of : {D I : Type 0} {g : Ghosts D} {i : index.Ghosts I} {s : kept.Ghosts (KeptStore D I g)}
     → Primary I (KeptStore D I g) i s → List D
-devices_of primary = map (λ b. device_behind b) primary.behind.items
+devices_of primary = map (λ b. device_of_pending b) primary.pending.items
 
 -- A crash at any moment since then leaves what opens as a crash might have left it then, opened as often or
 -- once more: a version and a base that were possible together. The device is as honest as it was.
-pub record StaysPossible {D : Type 0} (g : Ghosts D) (apex : Labels) (s : ZoneSettings)
+pub record StaysPossible {D : Type 0} (g : Ghosts D) (apex : Labels) (s : ZoneSpec)
     (old new : D) : Type 0 where
   pub honest : g.is_honest old → g.is_honest new
   pub any_moment : g.is_honest old → IsInRange s.snapshot s.journal
@@ -52,22 +52,22 @@ pub record StaysPossible {D : Type 0} (g : Ghosts D) (apex : Labels) (s : ZoneSe
 -- What backs the zone keeps what a crash might have left of its device before, opened once more, whichever
 -- versions there were before the base.
 abbrev pub TakesDevice : {D I : Type 0} {g : Ghosts D} → Shape → D → Zone
-    → Behind I (KeptStore D I g) → Type 0
+    → PendingZone I (KeptStore D I g) → Type 0
 TakesDevice {g} shape device zone b =
     (d : Content) × g.may_leave device d
     × ((o : Opened) → opens shape o d → HasVersions (λ s k. keeps s k) zone b (fresh shape (opened_again o)))
 
 -- The device was opened as this zone.
-pub record IsOpened {D I : Type 0} {g : Ghosts D} (apex : Labels) (s : ZoneSettings)
-    (device : D) (zone : Zone) (b : Behind I (KeptStore D I g))
+pub record IsOpened {D I : Type 0} {g : Ghosts D} (apex : Labels) (s : ZoneSpec)
+    (device : D) (zone : Zone) (b : PendingZone I (KeptStore D I g))
     : Type 0 where
-  pub leaves : StaysPossible g apex s device (device_behind b)
+  pub leaves : StaysPossible g apex s device (device_of_pending b)
   pub takes : g.is_honest device → IsInRange s.snapshot s.journal → MayOpen g (shape_of apex s) device
       → TakesDevice (shape_of apex s) device zone b
 
 -- The device was not opened, for this reason: where each crash leaves a store that opens, the device failed,
 -- memory was refused or the store was opened too often; else the reason is in what is stored on the device.
-pub record IsNotOpened {D : Type 0} (g : Ghosts D) (apex : Labels) (s : ZoneSettings)
+pub record IsNotOpened {D : Type 0} (g : Ghosts D) (apex : Labels) (s : ZoneSpec)
     (error : OpenError) (old new : D) : Type 0 where
   pub leaves : StaysPossible g apex s old new
   pub stopped : g.is_honest old → IsInRange s.snapshot s.journal → MayOpen g (shape_of apex s) old
@@ -78,16 +78,16 @@ pub record IsNotOpened {D : Type 0} (g : Ghosts D) (apex : Labels) (s : ZoneSett
   pub failed : error ≡ Device → HasRisen (g.failed old) (g.failed new)
 
 -- The devices of so many first zones were opened as these.
-abbrev pub AreOpened : {D I : Type 0} {g : Ghosts D} → ℕ → List Labels → List ZoneSettings
-    → List D → List Zone → List (Behind I (KeptStore D I g)) → Type 0
+abbrev pub AreOpened : {D I : Type 0} {g : Ghosts D} → ℕ → List Labels → List ZoneSpec
+    → List D → List Zone → List (PendingZone I (KeptStore D I g)) → Type 0
 AreOpened zero apexes settings devices [] [] = Unit {0}
-AreOpened (suc n) (a ∷ apexes) (s ∷ settings) (d ∷ devices) (z ∷ zones) (b ∷ behind) =
-    IsOpened a s d z b × AreOpened n apexes settings devices zones behind
+AreOpened (suc n) (a ∷ apexes) (s ∷ settings) (d ∷ devices) (z ∷ zones) (b ∷ pending) =
+    IsOpened a s d z b × AreOpened n apexes settings devices zones pending
 AreOpened _ _ _ _ _ _ = ⊥
 
 -- The devices that came are these now: those of the zones before this position were opened and taken back,
 -- the one of the zone at it was not opened, for this reason, and the others are as they came.
-abbrev pub AreHandedBack : {D : Type 0} → Ghosts D → OpenError → ℕ → List Labels → List ZoneSettings → List D
+abbrev pub AreHandedBack : {D : Type 0} → Ghosts D → OpenError → ℕ → List Labels → List ZoneSpec → List D
     → List D → Type 0
 AreHandedBack g error zero (a ∷ apexes) (s ∷ settings) (d ∷ devices) (e ∷ back) =
     IsNotOpened g a s error d e × (back ≡ devices)
@@ -96,30 +96,47 @@ AreHandedBack g error (suc n) (a ∷ apexes) (s ∷ settings) (d ∷ devices) (e
 AreHandedBack g error _ _ _ _ _ = ⊥
 
 -- ... or memory was refused before any was opened, and all are as they came.
-abbrev pub AreRefused : {D : Type 0} → Ghosts D → OpenError → ℕ → List Labels → List ZoneSettings → List D
+abbrev pub AreRefused : {D : Type 0} → Ghosts D → OpenError → ℕ → List Labels → List ZoneSpec → List D
     → List D → Type 0
 AreRefused g error place apexes settings devices back =
     AreHandedBack g error place apexes settings devices back ⊎ ((error ≡ OutOfMemory) × (back ≡ devices))
 
 -- Every crash leaves the zone's device so that it opens as one that this zone may be recovered as, opened at
--- most so often since, and these are its name and its settings.
-pub record IsRecoverable {D : Type 0} (g : Ghosts D) (tries : ℕ) (making : ℕ → Type 0)
-    (z : ZoneState) (apex : Labels) (s : ZoneSettings) (device : D)
+-- most so often since. These are its name and the sizes of its store, and its other settings are so.
+pub record IsRecoverableAs {D : Type 0} (set_as : ZoneSpec → ZoneState → Type 0) (g : Ghosts D) (tries : ℕ)
+    (making : ℕ → Type 0) (z : ZoneState) (apex : Labels) (s : ZoneSpec) (device : D)
     : Type 0 where
   pub shape : z.setting.shape ≡ shape_of apex s
-  pub set : IsSet s z
+  pub set : set_as s z
   pub range : IsInRange s.snapshot s.journal
   pub honest : g.is_honest device
   pub leaves : (c : Content) → g.may_leave device c → OpensAsRecovered opens tries making z c
 
+-- So it is with these settings, or whichever it had.
+abbrev pub IsRecoverable : {D : Type 0} → Ghosts D → ℕ → (ℕ → Type 0) → ZoneState → Labels → ZoneSpec → D
+    → Type 0
+IsRecoverable = IsRecoverableAs IsSet
+
+abbrev pub AnySettings : ZoneSpec → ZoneState → Type 0
+AnySettings s z = Unit {0}
+
 -- Each zone's device, those from this position on, where the machine stopped within the event.
+abbrev pub AreRecoverableAs : {D : Type 0} → (ZoneSpec → ZoneState → Type 0) → Ghosts D → ℕ → Machine → Event
+    → ℕ → List ZoneState → List Labels → List ZoneSpec → List D → Type 0
+AreRecoverableAs set_as g tries m event place [] [] [] [] = Unit {0}
+AreRecoverableAs set_as g tries m event place (z ∷ zones) (a ∷ apexes) (s ∷ settings) (d ∷ devices) =
+    IsRecoverableAs set_as g tries (IsMaking m event place z) z a s d
+    × AreRecoverableAs set_as g tries m event (suc place) zones apexes settings devices
+AreRecoverableAs set_as g tries m event place _ _ _ _ = ⊥
+
+-- So they are with these settings, or whichever they had.
 abbrev pub AreRecoverable : {D : Type 0} → Ghosts D → ℕ → Machine → Event → ℕ → List ZoneState → List Labels
-    → List ZoneSettings → List D → Type 0
-AreRecoverable g tries m event place [] [] [] [] = Unit {0}
-AreRecoverable g tries m event place (z ∷ zones) (a ∷ apexes) (s ∷ settings) (d ∷ devices) =
-    IsRecoverable g tries (IsMaking m event place z) z a s d
-    × AreRecoverable g tries m event (suc place) zones apexes settings devices
-AreRecoverable g tries m event place _ _ _ _ = ⊥
+    → List ZoneSpec → List D → Type 0
+AreRecoverable = AreRecoverableAs IsSet
+
+abbrev pub AreRecoverableAnew : {D : Type 0} → Ghosts D → ℕ → Machine → Event → ℕ → List ZoneState
+    → List Labels → List ZoneSpec → List D → Type 0
+AreRecoverableAnew = AreRecoverableAs AnySettings
 
 -- A crash at any moment between the two leaves each device so that it opens as a zone that this one may be
 -- recovered as.

@@ -8,9 +8,9 @@ use Rattle.dns_wire.specs.declared.codes.Rcode.TheVariants.{NoError, ServFail}
 use Rattle.dns_update.specs.Verdict.{Verdict, Refuses, Keeps, Leaves}
 use Rattle.dns_store.specs.Versions.{Kept, newest_of, staged_with}
 use Rattle.dns_store.specs.Room.{entry_between, sectors_left}
-use Rattle.dns_held.specs.Staging.{has_room}
-use Rattle.dns_held.specs.declared.staging.StagingError.{StagingError}
-use Rattle.dns_held.specs.declared.staging.StagingError.TheVariants as staging
+use Rattle.dns_versions.specs.Staging.{has_room}
+use Rattle.dns_versions.specs.declared.staging.StagingError.{StagingError}
+use Rattle.dns_versions.specs.declared.staging.StagingError.TheVariants as staging
 use Rattle.dns_primary.specs.declared.update.Judgement.{Judgement}
 use Rattle.dns_primary.specs.declared.update.Judgement.TheVariants.{Unchanged, Accepted}
 use Rattle.dns_primary.specs.declared.update.Outcome.{Outcome}

@@ -2,15 +2,16 @@
 use Rattle.std.specs.Prelude.{◌≡◌, ◌<◌, ℕ, true, false, List, [], ◌∷◌, length, slice_get, Some}
 use Rattle.dns_records.specs.Record.{Record}
 use Rattle.dns_wire.specs.Codes.{number_of_rcode}
+use Rattle.dns_request.specs.Codes.{rcode_servfail}
 use Rattle.dns_zone.specs.Zone.{Zone}
 use Rattle.dns_sectors.specs.Device.{Content}
 use Rattle.dns_store.specs.Versions.{Kept, StandsStill}
-use Rattle.dns_held.specs.declared.behind.Behind.{Behind}
-use Rattle.dns_held.specs.Each.{Each2}
-use Rattle.dns_held.specs.Held.{newest_each, newest_zone}
+use Rattle.dns_versions.specs.declared.pending.PendingZone.{PendingZone}
+use Rattle.dns_versions.specs.Each.{Each2}
+use Rattle.dns_versions.specs.Held.{newest_each, newest_zone}
 use Rattle.dns_update.specs.Verdict.{verdict}
 use Rattle.dns_primary.specs.declared.event.Waiting.{Waiting}
-use Rattle.dns_primary.specs.declared.primary.ZoneSettings.{ZoneSettings}
+use Rattle.dns_primary.specs.declared.primary.ZoneSpec.{ZoneSpec}
 use Rattle.dns_primary.specs.declared.queue.UpdateRequest.{UpdateRequest}
 use Rattle.dns_primary.specs.declared.queue.Tested.{Tested}
 use Rattle.dns_primary.specs.declared.queue.Tested.TheVariants.{AtOnce, Judged}
@@ -18,7 +19,7 @@ use Rattle.dns_primary.specs.declared.update.Judgement.{Judgement}
 use Rattle.dns_primary.specs.declared.update.Outcome.{Outcome}
 use Rattle.dns_primary.specs.declared.update.Outcome.TheVariants as outcome
 use Rattle.dns_primary.specs.Machine.{ZoneState, Machine, Connection, kept_of}
-use Rattle.dns_primary.specs.Flush.{Sent, rcode_servfail}
+use Rattle.dns_primary.specs.Flush.{Sent}
 use Rattle.dns_primary.specs.Update.{Asked, Rejects, Admits, admission, replies, lacked_by}
 use Rattle.dns_primary.specs.Outcome.{HasLeft, IsVerdictOf, IsStageable, lacked_of}
 use Rattle.dns_primary.specs.Keeps.{HaveVersions, IsSet, IsWaiting}
@@ -36,10 +37,10 @@ pub record IsUntouched {S : Type 0} (moment : S → ℕ) (left_since : S → ℕ
 
 -- The machine has these zones, with what backs them, these pending replies, and those connections.
 pub record HoldsZones {I S : Type 0} (keeps : S → Kept → Type 0) (zones : List Zone)
-    (behind : List (Behind I S))
-    (settings : List ZoneSettings)
+    (pending : List (PendingZone I S))
+    (settings : List ZoneSpec)
     (waiting : List Waiting) (connections : List Connection) (m : Machine) : Type 0 where
-  pub zones_are : HaveVersions keeps zones behind m.zones
+  pub zones_are : HaveVersions keeps zones pending m.zones
   pub settings_are : Each2 IsSet settings m.zones
   pub waiting_are : Each2 IsWaiting waiting m.waiting
   pub connections_are : m.connections ≡ connections
@@ -86,7 +87,8 @@ IsTested records m a (Judged place j) = IsUpdateJudged records m a place j
 abbrev pub IsStageableAt : {X : Type 0} → (X → List Record) → List Zone → ℕ → Judgement X → Type 0
 IsStageableAt records newest place j = (v : Zone) → slice_get newest place ≡ Some v → IsStageable records v j
 
-abbrev pub IsReady : {X I S : Type 0} → (X → List Record) → List Zone → List (Behind I S) → Tested X → Type 0
-IsReady records zones behind (AtOnce rcode) = Unit {0}
-IsReady records zones behind (Judged place j) =
-    (place < length zones) × IsStageableAt records (newest_each zones behind) place j
+abbrev pub IsReady : {X I S : Type 0} → (X → List Record) → List Zone → List (PendingZone I S) → Tested X
+    → Type 0
+IsReady records zones pending (AtOnce rcode) = Unit {0}
+IsReady records zones pending (Judged place j) =
+    (place < length zones) × IsStageableAt records (newest_each zones pending) place j

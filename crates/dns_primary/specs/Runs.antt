@@ -6,42 +6,48 @@ use Rattle.dns_records.specs.Record.{Record}
 use Rattle.dns_names.specs.Name.{names_eq}
 use Rattle.dns_layout.specs.Sector.{snapshot_sectors}
 use Rattle.dns_wire.specs.Message.{Question, Message}
+use Rattle.dns_request.specs.Codes.{rcode_servfail}
 use Rattle.dns_request.specs.declared.request.Transport.{Transport}
 use Rattle.dns_request.specs.declared.request.Transport.TheVariants.{Udp, Tcp}
 use Rattle.dns_answer.specs.Answer.{Update, handled}
 use Rattle.dns_update.specs.Verdict.{Leaves, verdict}
 use Rattle.dns_store.specs.Plain.{octets_of}
+use Rattle.dns_store.specs.Versions.{Shape}
 use Rattle.dns_store.specs.Room.{entry_between}
-use Rattle.dns_held.specs.Each.{Each2}
+use Rattle.dns_versions.specs.Each.{Each2}
 use Rattle.dns_primary.specs.declared.event.Peer.{Peer}
-use Rattle.dns_primary.specs.Machine.{Setting, Made, ZoneState, Waits, Machine, updates_of, shown_zones}
+use Rattle.dns_primary.specs.Machine.{Made, ZoneState, Waits, Machine, updates_of, shown_zones}
 use Rattle.dns_primary.specs.Machine.{peer_at}
-use Rattle.dns_primary.specs.Flush.{Sent, Answered, Replied, is_closed_in, rcode_servfail}
+use Rattle.dns_primary.specs.Flush.{Sent, Answered, Replied, is_closed_in}
 use Rattle.dns_primary.specs.Step.{Event, Datagram, Arrives, Connect, Flush, Checkpoint, Pump, Closed}
 use Rattle.dns_primary.specs.Step.{Effects, Step}
-use Rattle.dns_primary.specs.Stop.{IsStopped}
+use Rattle.dns_primary.specs.Stop.{IsStopped, IsConfigured}
 
 -- What happens in a run: a step, with the event, the devices that failed, what went out, and the machine
 -- after it. Or a stop within an event, with how many recoveries were themselves stopped or refused, and the
--- machine that the one that succeeded led to.
+-- machine that the one that succeeded led to. Or, after a stop, other settings, and the machine with these.
 pub data Moment : Type 0 where
   Took : Event → List Bool → Effects → Machine → Moment
   Stopped : Event → ℕ → Machine → Moment
+  Configured : Machine → Moment
 
 abbrev pub machine_after : Moment → Machine
 machine_after (Took event fails effects new) = new
 machine_after (Stopped event tries new) = new
+machine_after (Configured new) = new
 
--- What went out. A stop reports nothing.
+-- What went out: nothing but in a step.
 abbrev pub sent_in : Moment → List Sent
 sent_in (Took event fails effects new) = effects.sent
 sent_in (Stopped event tries new) = []
+sent_in (Configured new) = []
 
 -- An event is a step of the machine. A recovery that is stopped or refused leaves the choices that the stop
 -- left, and counts as an opening.
 abbrev pub Happens : Machine → Moment → Type 0
 Happens m (Took event fails effects new) = Step fails m event effects new
 Happens m (Stopped event tries new) = IsStopped tries m event new
+Happens m (Configured new) = IsConfigured m new
 
 -- Each of these happens to the machine that those before it left.
 abbrev pub Run : Machine → List Moment → Type 0
@@ -55,22 +61,22 @@ last_of m (t ∷ rest) = last_of (machine_after t) rest
 -- An update is accepted on the version with this number: judged on the records of that version it leaves its
 -- own (RFC 2136 3), and there is room for those: they are at most 65,536, their snapshot and their entry fit
 -- in the sectors that there are for them, and the number that they get has 64 bits.
-pub record IsAccepted (s : Setting) (number : ℕ) (before : List Record) (m : Made) : Type 0 where
-  pub judged : verdict (record { apex = s.shape.apex; records = before }) m.update.answers
+pub record IsAccepted (s : Shape) (number : ℕ) (before : List Record) (m : Made) : Type 0 where
+  pub judged : verdict (record { apex = s.apex; records = before }) m.update.answers
       m.update.authorities ≡ Leaves m.records
   pub few : length m.records ≤ 65536
-  pub snapshot : snapshot_sectors (octets_of m.records) ≤ s.shape.snapshot
-  pub entry : entry_between before m.records ≤ s.shape.journal
+  pub snapshot : snapshot_sectors (octets_of m.records) ≤ s.snapshot
+  pub entry : entry_between before m.records ≤ s.journal
   pub numbered : number < 2 ^ 64 - 1
 
 -- Each update was accepted on the version that the one before it left.
-abbrev pub IsHistory : Setting → ℕ → List Record → List Made → Type 0
+abbrev pub IsHistory : Shape → ℕ → List Record → List Made → Type 0
 IsHistory s number before [] = Unit {0}
 IsHistory s number before (m ∷ later) =
     IsAccepted s number before m × IsHistory s (suc number) m.records later
 
 abbrev pub HasHistory : ZoneState → Type 0
-HasHistory z = IsHistory z.setting 0 z.loaded (updates_of z)
+HasHistory z = IsHistory z.setting.shape 0 z.loaded (updates_of z)
 
 -- The event brings octets from a peer by a transport.
 abbrev pub Carries : Machine → Event → Peer → Transport → List ℕ → Type 0
@@ -83,8 +89,8 @@ Carries m (Checkpoint place) peer transport came = ⊥
 Carries m (Pump number) peer transport came = ⊥
 Carries m (Closed number) peer transport came = ⊥
 
--- The event brings this update of the zone: its message came from an address from which the zone may be
--- updated, and names it.
+-- The event brings this update of the zone: its message names it, and came from an address from which it
+-- might be updated by the settings that it had then.
 pub record Brings (m : Machine) (event : Event) (z : ZoneState) (update : Message) : Type 0 where
   pub peer : Peer
   pub transport : Transport
@@ -92,12 +98,17 @@ pub record Brings (m : Machine) (event : Event) (z : ZoneState) (update : Messag
   pub came : Carries m event peer transport octets
   pub question : Question
   pub asks : handled (shown_zones m) octets transport ≡ Update update question
-  pub named : names_eq z.setting.shape.apex question.name ≡ true
-  pub allowed : z.setting.may_update peer.address ≡ true
+  pub place : ℕ
+  pub zone : ZoneState
+  pub there : slice_get m.zones place ≡ Some zone
+  pub shape : zone.setting.shape ≡ z.setting.shape
+  pub named : names_eq zone.setting.shape.apex question.name ≡ true
+  pub allowed : zone.setting.may_update peer.address ≡ true
 
 abbrev pub BringsIn : Machine → Moment → ZoneState → Message → Type 0
 BringsIn m (Took event fails effects new) z update = Brings m event z update
 BringsIn m (Stopped event tries new) z update = ⊥
+BringsIn m (Configured new) z update = ⊥
 
 -- The update came in one of these moments.
 abbrev pub CameIn : Machine → List Moment → ZoneState → Message → Type 0
@@ -114,9 +125,9 @@ AllCameSince m run old new =
     AllByRecursion (λ u. Contains (updates_of old) u ⊎ CameIn m run new u.update) (updates_of new)
 
 -- What was shown stays shown: the updates of the version shown before are the first of those of the version
--- shown after.
+-- shown after. The zone's name and the sizes of its store stay, and its other settings may change.
 pub record Lasts (old new : ZoneState) : Type 0 where
-  pub setting : new.setting ≡ old.setting
+  pub shape : new.setting.shape ≡ old.setting.shape
   pub loaded : new.loaded ≡ old.loaded
   pub more : List Made
   pub shown : new.shown ≡ old.shown ++ more
@@ -156,6 +167,7 @@ abbrev pub openings_in : List Moment → ℕ
 openings_in [] = 0
 openings_in (Took event fails effects new ∷ rest) = openings_in rest
 openings_in (Stopped event tries new ∷ rest) = suc tries + openings_in rest
+openings_in (Configured new ∷ rest) = openings_in rest
 
 -- The store was opened at most so often more.
 abbrev pub IsOpenedAtMost : ℕ → ZoneState → ZoneState → Type 0
@@ -163,9 +175,9 @@ IsOpenedAtMost times old new = new.openings ≤ old.openings + times
 
 -- At the end of a run, however often the machine stopped in it, each zone is its loaded records after
 -- accepted updates, each judged on what the ones before it left, for which there was room, and which came in
--- the run from an address that may update the zone; the version that is shown is after the first of them;
--- among these are all that was shown and all that was answered NOERROR at any moment of the run. No store
--- says that it was opened more often than it was.
+-- the run from an address that might update the zone then; the version that is shown is after the first of
+-- them; among these are all that was shown and all that was answered NOERROR at any moment of the run. No
+-- store says that it was opened more often than it was.
 pub record Promise (start : Machine) (run : List Moment) : Type 0 where
   pub loaded : AllLast start.zones (last_of start run).zones
   pub history : AllByRecursion HasHistory (last_of start run).zones

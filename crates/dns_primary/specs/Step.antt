@@ -3,16 +3,17 @@ use Rattle.std.specs.Prelude.{◌≡◌, ◌⊎◌, ◌<◌, ◌≤◌, ℕ, Boo
 use Rattle.std.specs.Prelude.{◌∷◌, ◌++◌, length, slice_get, is_some, Option, Some, None, if◌then◌else◌}
 use Rattle.dns_wire.specs.Message.{header_of}
 use Rattle.dns_wire.specs.Text.{text}
+use Rattle.dns_request.specs.Codes.{rcode_servfail}
 use Rattle.dns_request.specs.declared.request.Transport.TheVariants.{Udp, Tcp}
 use Rattle.dns_answer.specs.Answer.{Handled, NoReply, Replies, Update, Transfer, handled, bare_reply}
-use Rattle.dns_held.specs.Flush.{first_true}
+use Rattle.dns_versions.specs.Flush.{first_true}
 use Rattle.dns_primary.specs.declared.event.Peer.{Peer}
 use Rattle.dns_primary.specs.declared.event.To.{To}
 use Rattle.dns_primary.specs.declared.event.To.TheVariants as to
 use Rattle.dns_primary.specs.declared.event.Noted.{Noted}
 use Rattle.dns_primary.specs.declared.event.Noted.TheVariants.{Nothing, OutOfMemory, Device}
 use Rattle.dns_primary.specs.Machine.{ZoneState, Machine, shown_zones, peer_at, sending_at}
-use Rattle.dns_primary.specs.Flush.{Sent, Replied, rcode_servfail, flushed, flush_sends}
+use Rattle.dns_primary.specs.Flush.{Sent, Replied, flushed, flush_sends}
 use Rattle.dns_primary.specs.Update.{Asked, is_full, made_place, room_lacked, answer}
 use Rattle.dns_primary.specs.Checkpoint.{IsCheckpoint, either_fails, first_to_fail}
 use Rattle.dns_primary.specs.Transfer.{IsTransferred, IsPumped}

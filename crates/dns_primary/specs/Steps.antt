@@ -3,6 +3,7 @@ use Rattle.std.specs.Prelude.{◌≡◌, ◌⊎◌, ℕ, zero, suc, Bool, true, 
 use Rattle.std.specs.Prelude.{Option, Some, None, Result, Ok, Err, map}
 use Rattle.dns_wire.specs.Message.{Header, Question, Message}
 use Rattle.dns_wire.specs.Codes.{number_of_rcode}
+use Rattle.dns_request.specs.Codes.{rcode_servfail}
 use Rattle.dns_request.specs.declared.request.Transport.{Transport}
 use Rattle.dns_wire.specs.Text.{text}
 use Rattle.dns_answer.specs.Answer.{Transfer, bare_reply, handled}
@@ -12,10 +13,10 @@ use Rattle.dns_sectors.specs.Device.{Content, LeavesOnly}
 use Rattle.dns_store.specs.Versions.{Shape, Opened, OpensAsLeft}
 use Rattle.dns_store.specs.declared.checkpoint.CheckpointError.{CheckpointError}
 use Rattle.dns_store.specs.declared.checkpoint.CheckpointError.TheVariants as refused
-use Rattle.dns_held.specs.declared.behind.Behind.{Behind}
-use Rattle.dns_held.specs.Each.{Each3}
-use Rattle.dns_held.specs.Flush.{FailedWhere}
-use Rattle.dns_held.specs.Checkpoint.{OpensAsCheckpointed}
+use Rattle.dns_versions.specs.declared.pending.PendingZone.{PendingZone}
+use Rattle.dns_versions.specs.Each.{Each3}
+use Rattle.dns_versions.specs.Flush.{FailedWhere}
+use Rattle.dns_versions.specs.Checkpoint.{OpensAsCheckpointed}
 use Rattle.dns_primary.specs.declared.event.Peer.{Peer}
 use Rattle.dns_primary.specs.declared.event.To.{To}
 use Rattle.dns_primary.specs.declared.event.Event as code
@@ -27,7 +28,7 @@ use Rattle.dns_primary.specs.declared.primary.Primary.{Primary}
 use Rattle.dns_primary.specs.declared.update.Outcome.{Outcome}
 use Rattle.dns_primary.specs.declared.update.Outcome.TheVariants as outcome
 use Rattle.dns_primary.specs.Machine.{ZoneState, Machine, kept_of, shown_zones}
-use Rattle.dns_primary.specs.Flush.{Sent, Replied, flushed, flush_sends, rcode_servfail}
+use Rattle.dns_primary.specs.Flush.{Sent, Replied, flushed, flush_sends}
 use Rattle.dns_primary.specs.Update.{Asked, replies, is_full, room_lacked}
 use Rattle.dns_primary.specs.Step as machine
 use Rattle.dns_primary.specs.Step.{AreFailures, IsUpdateBegun, IsRequestHandled, IsUpdated, failure}
@@ -47,8 +48,8 @@ event_shown (event.Closed number) = machine.Closed number
 
 -- A crash at any moment between the two leaves each device so that it opens as the versions shown and the
 -- first of those staged.
-abbrev pub AtAnyMoment : {I S : Type 0} → store.Ghosts S → Machine → List (Behind I S)
-    → List (Behind I S) → Type 0
+abbrev pub AtAnyMoment : {I S : Type 0} → store.Ghosts S → Machine → List (PendingZone I S)
+    → List (PendingZone I S) → Type 0
 AtAnyMoment s m olds news =
     Each3 (λ a b k. LeavesOnly s.moment s.left_since a.store b.store (OpensAsLeft s.opens k)) olds news
     (map kept_of m.zones)
@@ -60,8 +61,8 @@ pub record Stepped {I S : Type 0} {i : index.Ghosts I} {s : store.Ghosts S} (m :
     (old new : Primary I S i s) (effects : Effects)
     (step : List Bool → machine.Effects → Machine → Type 0) : Type 0 where
   pub fails : List Bool
-  pub failed : FailedWhere (λ b. s.failed b.store) fails old.behind.items new.behind.items
-  pub any_moment : AtAnyMoment s m old.behind.items new.behind.items
+  pub failed : FailedWhere (λ b. s.failed b.store) fails old.pending.items new.pending.items
+  pub any_moment : AtAnyMoment s m old.pending.items new.pending.items
   pub next : Machine
   pub stated : machine.Effects
   pub is : step fails stated next
@@ -89,7 +90,7 @@ OpensAsEvent opens (Some room) z c = OpensAsCheckpointed opens z.setting.keep ro
 
 -- A crash at any moment between the two leaves each device so that it opens as that.
 abbrev pub AtAnyMomentOf : {I S : Type 0}
-    → store.Ghosts S → Option (ℕ × ℕ) → Machine → List (Behind I S) → List (Behind I S) → Type 0
+    → store.Ghosts S → Option (ℕ × ℕ) → Machine → List (PendingZone I S) → List (PendingZone I S) → Type 0
 AtAnyMomentOf s moved m olds news =
     Each3 (λ a b k. LeavesOnly s.moment s.left_since a.store b.store (OpensAsEvent s.opens k.0 k.1)) olds news
     (with_rooms moved m.zones)
@@ -101,8 +102,8 @@ pub record SteppedOn {I S : Type 0} {i : index.Ghosts I} {s : store.Ghosts S} (m
     (moved : Option (ℕ × ℕ)) (old new : Primary I S i s) (effects : Effects)
     (step : List Bool → machine.Effects → Machine → Type 0) : Type 0 where
   pub fails : List Bool
-  pub failed : FailedWhere (λ b. s.failed b.store) fails old.behind.items new.behind.items
-  pub any_moment : AtAnyMomentOf s moved m old.behind.items new.behind.items
+  pub failed : FailedWhere (λ b. s.failed b.store) fails old.pending.items new.pending.items
+  pub any_moment : AtAnyMomentOf s moved m old.pending.items new.pending.items
   pub next : Machine
   pub stated : machine.Effects
   pub is : step fails stated next

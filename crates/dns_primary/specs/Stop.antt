@@ -2,7 +2,8 @@
 use Rattle.std.specs.Prelude.{◌≡◌, ◌⊎◌, ◌≤◌, ◌+◌, ℕ, suc, false, List, [], ◌∷◌, ◌++◌, length, Some, None}
 use Rattle.dns_sectors.specs.Device.{Content}
 use Rattle.dns_store.specs.Versions.{Shape, Opened}
-use Rattle.dns_held.specs.Checkpoint.{IsNextBaseNumber}
+use Rattle.dns_versions.specs.Checkpoint.{IsNextBaseNumber}
+use Rattle.dns_versions.specs.Each.{Each2}
 use Rattle.dns_primary.specs.Machine.{Made, ZoneState, Machine, kept_of, versions_of}
 use Rattle.dns_primary.specs.Step.{Event, base_moved}
 
@@ -49,6 +50,18 @@ pub record IsStopped (tries : ℕ) (old : Machine) (event : Event) (new : Machin
   pub zones : AreRecovered 1 (suc tries) old event 0 old.zones new.zones
   pub waiting : new.waiting ≡ []
   pub connections : new.connections ≡ []
+
+-- The same zone with other settings, but for its name and the sizes of its store.
+pub record IsSetAnew (old new : ZoneState) : Type 0 where
+  pub shape : new.setting.shape ≡ old.setting.shape
+  pub rest : new ≡ record old { setting = new.setting }
+
+-- After a stop the zones were given other settings: nothing waits, and nobody is connected.
+pub record IsConfigured (old new : Machine) : Type 0 where
+  pub zones : Each2 IsSetAnew old.zones new.zones
+  pub waiting : old.waiting ≡ []
+  pub connections : old.connections ≡ []
+  pub rest : new ≡ record old { zones = new.zones }
 
 -- What a zone's device opens as where nothing of the zone is staged.
 abbrev pub reopened_as : ZoneState → Opened

@@ -17,14 +17,14 @@ use Rattle.dns_request.specs.declared.request.Transport.TheVariants.{Udp, Tcp}
 use Rattle.dns_answer.specs.Answer.{bare_reply, fitted, with_question}
 use Rattle.dns_store.specs.Versions.{Versions, version_at}
 use Rattle.dns_transfer.specs.Session.{Sending, SendsMessage, Version, Opens}
-use Rattle.dns_held.specs.Held.{shown_zone}
+use Rattle.dns_versions.specs.Held.{shown_zone}
 use Rattle.dns_primary.specs.declared.event.Peer.{Peer}
 use Rattle.dns_primary.specs.declared.event.To.{To}
 use Rattle.dns_primary.specs.declared.event.To.TheVariants.{Address, Connection, Nowhere}
 use Rattle.dns_primary.specs.Machine as machine
 use Rattle.dns_primary.specs.Machine.{ZoneState, Machine, kept_of, versions_of, sending_at}
 use Rattle.dns_primary.specs.Flush.{Sent, Replied}
-use Rattle.dns_primary.specs.Update.{place_of}
+use Rattle.dns_primary.specs.Update.{zone_position}
 
 -- The change between two versions with one SOA each.
 abbrev pub change_by : List Record → List Record → List Record → List Record → List Change
@@ -38,8 +38,8 @@ changes_along before [] = []
 changes_along before (v ∷ rest) = change_by before v (soas before) (soas v) ++ changes_along v rest
 
 -- The version that is shown, and the journalled changes that lead to it (RFC 1995 4): those from the base on.
-abbrev pub version_of : ZoneState → Version
-version_of z = record {
+abbrev pub transfer_version : ZoneState → Version
+transfer_version z = record {
   zone = shown_zone (kept_of z);
   changes = changes_along (version_at (kept_of z) z.base) (drop z.base (versions_of z.shown));
 }
@@ -50,7 +50,7 @@ zone_at zones None = None
 zone_at zones (Some place) = slice_get zones place
 
 abbrev pub zone_named : Labels → List ZoneState → Option ZoneState
-zone_named apex zones = zone_at zones (place_of apex zones)
+zone_named apex zones = zone_at zones (zone_position apex zones)
 
 -- The transport by which a reply goes.
 abbrev pub transport_of : To → Transport
@@ -72,7 +72,8 @@ may_have address (Some z) = z.setting.may_transfer address
 -- What a request opens, from the version that is shown, or why it is refused.
 abbrev pub OpensFrom : Machine → To → Peer → List ℕ → Message → Question → Result Sending Rcode → Type 0
 OpensFrom m to peer octets message question opened =
-    Opens (transport_of to) octets message question (option_map version_of (zone_named question.name m.zones))
+    Opens (transport_of to) octets message question
+    (option_map transfer_version (zone_named question.name m.zones))
     (may_have peer.address (zone_named question.name m.zones) && is_free to m.connections) opened
 
 -- The reply where it is refused: FORMERR as a header alone, else with the question.

@@ -8,20 +8,16 @@ use Rattle.dns_records.specs.Record.{Record}
 use Rattle.dns_wire.specs.Codes.{number_of_rcode}
 use Rattle.dns_wire.specs.Message.{Question, Message}
 use Rattle.dns_wire.specs.Text.{text}
-use Rattle.dns_request.specs.Request.{rcode_formerr, rcode_refused}
+use Rattle.dns_request.specs.Codes.{rcode_formerr, rcode_notauth, rcode_refused, rcode_servfail}
 use Rattle.dns_answer.specs.Answer.{bare_reply}
 use Rattle.dns_update.specs.Verdict.{Verdict, Refuses, Keeps, Leaves, verdict}
 use Rattle.dns_store.specs.Versions.{Kept, newest_of}
 use Rattle.dns_store.specs.Room.{entry_between, sectors_left}
-use Rattle.dns_held.specs.Held.{newest_zone}
-use Rattle.dns_held.specs.Staging.{has_room, sectors_lacked}
+use Rattle.dns_versions.specs.Held.{newest_zone}
+use Rattle.dns_versions.specs.Staging.{has_room, sectors_lacked}
 use Rattle.dns_primary.specs.declared.event.To.{To}
 use Rattle.dns_primary.specs.Machine.{Made, ZoneState, Machine, kept_of, updates_of}
-use Rattle.dns_primary.specs.Flush.{Sent, Replied, rcode_servfail, flushed, flush_sends}
-
--- The response code of a zone that isn't held here (RFC 2136 2.2).
-abbrev pub rcode_notauth : ℕ
-rcode_notauth = 9
+use Rattle.dns_primary.specs.Flush.{Sent, Replied, flushed, flush_sends}
 
 -- How many replies may wait.
 abbrev pub most_waiting : ℕ
@@ -36,10 +32,10 @@ pub record Asked : Type 0 where
   pub zone : Question
 
 -- The position of the first zone with this apex.
-abbrev pub place_of : Labels → List ZoneState → Option ℕ
-place_of apex [] = None
-place_of apex (z ∷ rest) =
-    if names_eq z.setting.shape.apex apex then Some 0 else option_map suc (place_of apex rest)
+abbrev pub zone_position : Labels → List ZoneState → Option ℕ
+zone_position apex [] = None
+zone_position apex (z ∷ rest) =
+    if names_eq z.setting.shape.apex apex then Some 0 else option_map suc (zone_position apex rest)
 
 -- What is tested before the update is judged (RFC 2136 3.1, 3.3): it is refused at once, or it is for the
 -- zone at a position.
@@ -64,7 +60,7 @@ abbrev pub admission : List ZoneState → Asked → Admission
 admission zones a =
     if not (a.zone.qtype == type_soa) then Rejects rcode_formerr
     else if not (a.zone.qclass == class_in) then Rejects rcode_notauth
-    else admission_at zones a.address (place_of a.zone.name zones)
+    else admission_at zones a.address (zone_position a.zone.name zones)
 
 -- The reply waits.
 abbrev pub waits : Machine → Asked → ℕ → ℕ → List Made → Machine

@@ -3,18 +3,18 @@ ghost use Rattle.std.specs.Prelude.{◌≡◌, ◌<◌, ℕ, List, length, Some,
 ghost use Rattle.std.specs.List.{position};
 ghost use Rattle.dns_names.specs.Name.{names_eq};
 ghost use Rattle.dns_zone.specs.Zone.{Zone as Stated};
-ghost use Rattle.dns_held.specs.Each.{Each2};
-ghost use Rattle.dns_held.specs.Held.{HasVersions};
+ghost use Rattle.dns_versions.specs.Each.{Each2};
+ghost use Rattle.dns_versions.specs.Held.{HasVersions};
 ghost use Rattle.dns_primary.specs.Machine.{ZoneState, kept_of};
 ghost use Rattle.dns_primary.specs.Update.{Asked, admission, admission_in};
 ghost use Rattle.dns_primary.specs.Keeps.{HaveVersions, IsSet, admission_shown, admission_of_test};
 
-use crate::ZoneSettings;
-use dns_held::Behind;
+use crate::ZoneSpec;
 use dns_names::{Name, NameRef};
 use dns_policy::allows;
 use dns_records::types::{CLASS_IN, SOA};
 use dns_store::ZoneStore;
+use dns_versions::PendingZone;
 use dns_wire::{QuestionView, Rcode};
 use dns_zone::{Zone, ZoneIndex};
 use std::net::IpAddr;
@@ -37,19 +37,19 @@ pub(crate) fn place_of<I: ZoneIndex>(zones: &[Zone<I>], apex: &NameRef<'_>) -> O
 /// Whether a zone may be updated from that address now: REFUSED for an address that its list doesn't allow,
 /// then SERVFAIL where it is closed.
 fn admit_in<I: ZoneIndex, S: ZoneStore>(
-    behind: &Behind<I, S>,
-    settings: &ZoneSettings,
+    pending: &PendingZone<I, S>,
+    settings: &ZoneSpec,
     address: IpAddr,
 ) -> Result<(), Rcode>
     ensures { (place : ℕ) (zone : Stated) (z : ZoneState)
-        → HasVersions S.keeps zone behind.now (kept_of z)
+        → HasVersions S.keeps zone pending.now (kept_of z)
         → IsSet settings.now z
         → admission_of_test place z result ≡ admission_in address place (Some z) }
 {
     if !allows(&settings.update, address) {
         return Err(Rcode::Refused);
     }
-    if behind.store.is_closed() {
+    if pending.store.is_closed() {
         return Err(Rcode::ServFail);
     }
     Ok(())
@@ -64,17 +64,17 @@ fn admit_in<I: ZoneIndex, S: ZoneStore>(
 /// - It is closed: SERVFAIL.
 pub(crate) fn admit<I: ZoneIndex, S: ZoneStore>(
     zones: &[Zone<I>],
-    behind: &[Behind<I, S>],
-    settings: &[ZoneSettings],
+    pending: &[PendingZone<I, S>],
+    settings: &[ZoneSpec],
     question: &QuestionView<'_>,
     name: &Name,
     address: IpAddr,
 ) -> Result<usize, Rcode>
-    requires as_many { length zones.now ≡ length behind.now }
+    requires as_many { length zones.now ≡ length pending.now }
     requires settled { length zones.now ≡ length settings.now }
     requires name { name.now ≡ question.now.name }
     ensures admission { (states : List ZoneState) (a : Asked)
-        → HaveVersions S.keeps zones.now behind.now states
+        → HaveVersions S.keeps zones.now pending.now states
         → Each2 IsSet settings.now states
         → a.zone ≡ question.now
         → a.address ≡ address
@@ -89,7 +89,7 @@ pub(crate) fn admit<I: ZoneIndex, S: ZoneStore>(
     }
     match place_of(zones, &name.lend()) {
         None => Err(Rcode::NotAuth),
-        Some(place) => match admit_in(&behind[place], &settings[place], address) {
+        Some(place) => match admit_in(&pending[place], &settings[place], address) {
             Ok(()) => Ok(place),
             Err(rcode) => Err(rcode),
         },

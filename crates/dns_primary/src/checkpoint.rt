@@ -4,8 +4,8 @@ ghost use Rattle.dns_zone.specs.Zone.{Zone as Stated};
 ghost use Rattle.dns_sectors.specs.Device.{LeavesOnly};
 ghost use Rattle.dns_store.specs.Versions.{Kept, OpensAsEither, StandsStill};
 ghost use Rattle.dns_store.specs.Checkpoint.{IsKeptNumber};
-ghost use Rattle.dns_held.specs.Held.{HasVersions, newest_each};
-ghost use Rattle.dns_held.specs.Flush.{HasFailed};
+ghost use Rattle.dns_versions.specs.Held.{HasVersions, newest_each};
+ghost use Rattle.dns_versions.specs.Flush.{HasFailed};
 ghost use Rattle.dns_primary.specs.Machine.{Machine, ZoneState, kept_of};
 ghost use Rattle.dns_primary.specs.Checkpoint.{IsMovedBy, IsSettled};
 ghost use Rattle.dns_primary.specs.Step.{Checkpoint};
@@ -13,41 +13,41 @@ ghost use Rattle.dns_primary.specs.Keeps.{IsKept};
 ghost use Rattle.dns_primary.specs.Steps.{IsBegunOrLacks, SteppedBy, SteppedOn, noted_moved};
 
 use crate::{Effects, Noted, Primary};
-use dns_held::Behind;
 use dns_store::{CheckpointError, ZoneStore};
+use dns_versions::PendingZone;
 use dns_zone::ZoneIndex;
 
 /// Moves the base of a zone of which nothing is staged, or that is closed.
 fn move_base<I: ZoneIndex, S: ZoneStore>(
-    behind: &mut Behind<I, S>,
+    pending: &mut PendingZone<I, S>,
     keep: usize,
     room: usize,
 ) -> Result<(), CheckpointError>
     ensures moved { (zone : Stated) (z : ZoneState)
-        → HasVersions S.keeps zone behind.old (kept_of z)
+        → HasVersions S.keeps zone pending.old (kept_of z)
         → keep ≡ z.setting.keep
         → IsSettled z
         → (new : ZoneState) × IsMovedBy room z result new
-        × HasVersions S.keeps zone behind.new (kept_of new) }
-    ensures any_moment { (k : Kept) (n : ℕ) → S.keeps behind.old.store k → k.staged ≡ []
+        × HasVersions S.keeps zone pending.new (kept_of new) }
+    ensures any_moment { (k : Kept) (n : ℕ) → S.keeps pending.old.store k → k.staged ≡ []
         → IsKeptNumber k keep room n
-        → LeavesOnly S.moment S.left_since behind.old.store behind.new.store
+        → LeavesOnly S.moment S.left_since pending.old.store pending.new.store
         (OpensAsEither S.opens k (length k.shown - n)) }
-    ensures still { (k : Kept) → S.keeps behind.old.store k → k.closed ≡ true
-        → StandsStill S.moment S.left_since behind.old.store behind.new.store }
-    ensures grows { S.failed behind.old.store ≤ S.failed behind.new.store }
+    ensures still { (k : Kept) → S.keeps pending.old.store k → k.closed ≡ true
+        → StandsStill S.moment S.left_since pending.old.store pending.new.store }
+    ensures grows { S.failed pending.old.store ≤ S.failed pending.new.store }
     ensures failed { result ≡ Err CheckpointError.Device
-        → HasFailed (S.failed behind.old.store) (S.failed behind.new.store) }
-    ensures tip { behind.new.tip ≡ behind.old.tip }
+        → HasFailed (S.failed pending.old.store) (S.failed pending.new.store) }
+    ensures tip { pending.new.tip ≡ pending.old.tip }
 {
-    match behind.store.checkpoint(keep, room) {
+    match pending.store.checkpoint(keep, room) {
         Ok(()) => Ok(()),
         Err(error) => Err(error),
     }
 }
 
 /// What is noted after the move of the base of the zone at a position.
-fn noted_behind(noted: Noted, place: usize, moved: Result<(), CheckpointError>) -> Noted
+fn noted_pending(noted: Noted, place: usize, moved: Result<(), CheckpointError>) -> Noted
     ensures { result ≡ noted_moved noted place moved }
 {
     match moved {
@@ -66,20 +66,20 @@ impl<I: ZoneIndex, S: ZoneStore> Primary<I, S> {
     /// Flushes all zones, and then moves the base of the one at a position to the version shown less as many
     /// changes as it is to keep, where their entries leave so many sectors of its journal.
     pub(crate) fn make_room(&mut self, place: usize, room: usize) -> Effects
-        requires inside { place < length self.old.behind.items }
+        requires inside { place < length self.old.pending.items }
         ensures step { (old : Machine) → IsKept self.old old
             → SteppedOn old (Some (place, room)) self.old self.new result
             (IsBegunOrLacks old (Some (place, room))) }
         ensures room { length self.new.waiting.items < 32 }
-        ensures bare { result.reply ≡ None }
-        ensures as_many { length self.new.behind.items ≡ length self.old.behind.items }
-        ensures newest { newest_each self.new.zones.items self.new.behind.items
-            ≡ newest_each self.old.zones.items self.old.behind.items }
+        ensures bare { result.message ≡ None }
+        ensures as_many { length self.new.pending.items ≡ length self.old.pending.items }
+        ensures newest { newest_each self.new.zones.items self.new.pending.items
+            ≡ newest_each self.old.zones.items self.old.pending.items }
     {
         let mut effects = self.flush();
         let keep = self.settings[place].keep as usize;
-        let moved = move_base(&mut self.behind[place], keep, room);
-        effects.noted = noted_behind(effects.noted, place, moved);
+        let moved = move_base(&mut self.pending[place], keep, room);
+        effects.noted = noted_pending(effects.noted, place, moved);
         effects
     }
 
@@ -89,9 +89,9 @@ impl<I: ZoneIndex, S: ZoneStore> Primary<I, S> {
     pub(crate) fn checkpoint(&mut self, place: usize) -> Effects
         ensures step { (old : Machine) → IsKept self.old old
             → SteppedBy old (Checkpoint place) self.old self.new result }
-        ensures bare { result.reply ≡ None }
+        ensures bare { result.message ≡ None }
     {
-        if place >= self.behind.len() {
+        if place >= self.pending.len() {
             return Effects::nothing(*self.places.allocator());
         }
         self.make_room(place, 0)

@@ -3,9 +3,10 @@ ghost use Rattle.std.specs.Prelude.{◌≡◌, ◌∷◌, ◌++◌, [], None, fa
 ghost use Rattle.dns_wire.specs.Message.{header_of};
 ghost use Rattle.dns_wire.specs.Codes.{number_of_rcode};
 ghost use Rattle.dns_wire.specs.Text.{text};
+ghost use Rattle.dns_request.specs.Codes.{rcode_servfail};
 ghost use Rattle.dns_answer.specs.Answer.{bare_reply};
 ghost use Rattle.dns_primary.specs.To.{is_nowhere};
-ghost use Rattle.dns_primary.specs.Flush.{Replied, rcode_servfail};
+ghost use Rattle.dns_primary.specs.Flush.{Replied};
 ghost use Rattle.dns_primary.specs.Step.{Effects as Stated};
 ghost use Rattle.dns_primary.specs.Keeps.{AreEffects};
 ghost use Rattle.dns_primary.specs.Queue.{asked_of};
@@ -24,11 +25,11 @@ impl Effects {
     /// Nothing goes out, and nothing is to be known.
     pub(crate) fn nothing(alloc: Heap) -> Effects
         ensures effects_are { AreEffects nothing result }
-        ensures bare { result.reply ≡ None }
+        ensures bare { result.message ≡ None }
     {
         Effects {
             headers: Vec::new(alloc),
-            reply: None,
+            message: None,
             accepted: None,
             noted: Noted::Nothing,
         }
@@ -36,13 +37,13 @@ impl Effects {
 
     /// One reply more, a header alone.
     pub(crate) fn with_header(mut self, to: To, octets: [u8; 12]) -> Effects
-        requires bare { self.reply ≡ None }
+        requires bare { self.message ≡ None }
         requires somewhere { is_nowhere to ≡ false }
         ensures effects_are { (stated : Stated)
             → AreEffects stated self
             → AreEffects (record stated { sent = stated.sent ++ Replied to octets ∷ [] }) result }
     {
-        self.reply = Some(Reply {
+        self.message = Some(Reply {
             to,
             octets: ReplyOctets::Header(octets),
         });
@@ -89,7 +90,7 @@ impl Effects {
         match reply {
             Ok(octets) => Effects {
                 headers: Vec::new(alloc),
-                reply: Some(Reply {
+                message: Some(Reply {
                     to,
                     octets: ReplyOctets::Longer(octets),
                 }),
@@ -102,7 +103,7 @@ impl Effects {
 
     /// What becomes of an update, after what goes out before.
     pub(crate) fn with_outcome(self, update: &UpdateRequest<'_>, outcome: Outcome) -> Effects
-        requires bare { self.reply ≡ None }
+        requires bare { self.message ≡ None }
         requires somewhere { is_nowhere update.now.to ≡ false }
         requires header { header_of update.now.header.now ≡ update.now.request.message.message.header }
         ensures { (stated : Stated)

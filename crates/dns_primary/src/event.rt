@@ -128,8 +128,8 @@ pub enum Noted {
 pub struct Effects {
     /// The replies that waited.
     pub headers: Vec<HeaderTo, Heap>,
-    /// The reply to the request that came.
-    pub reply: Option<Reply>,
+    /// The longer reply: to the request that came, or the next message of a transfer.
+    pub message: Option<Reply>,
     /// The number of a new connection.
     pub accepted: Option<usize>,
     /// What is to be known besides.
@@ -142,11 +142,11 @@ impl Drop for Effects {
     fn drop(self) {
         let Effects {
             headers,
-            reply,
+            message,
             accepted: _,
             noted,
         } = self;
-        drop((headers, reply, noted));
+        drop((headers, message, noted));
     }
 }
 

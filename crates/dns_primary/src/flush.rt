@@ -4,32 +4,33 @@ ghost use Rattle.std.specs.Prelude.{vec_capacity, if◌then◌else◌};
 ghost use Rattle.dns_zone.specs.Zone.{Zone as Stated};
 ghost use Rattle.dns_sectors.specs.Device.{LeavesOnly};
 ghost use Rattle.dns_store.specs.Versions.{Kept, OpensAsLeft};
-ghost use Rattle.dns_held.specs.Each.{Each2, Each3};
-ghost use Rattle.dns_held.specs.Held.{HasVersions, newest_each};
-ghost use Rattle.dns_held.specs.Flush.{FailedWhere, first_true};
+ghost use Rattle.dns_versions.specs.Each.{Each2, Each3};
+ghost use Rattle.dns_versions.specs.Held.{HasVersions, newest_each};
+ghost use Rattle.dns_versions.specs.Flush.{FailedWhere, first_true};
 ghost use Rattle.dns_primary.specs.Machine.{Machine, ZoneState, Waits};
 ghost use Rattle.dns_primary.specs.Flush.{all_out, flush_sends, flushed, goes_out, is_closed_in};
-ghost use Rattle.dns_primary.specs.Flush.{rcode_servfail, released};
+ghost use Rattle.dns_primary.specs.Flush.{released};
 ghost use Rattle.dns_wire.specs.Text.{text};
+ghost use Rattle.dns_request.specs.Codes.{rcode_servfail};
 ghost use Rattle.dns_answer.specs.Answer.{bare_reply};
 ghost use Rattle.dns_primary.specs.Keeps.{HaveVersions, IsWaiting, header_out};
 
 use crate::{HeaderTo, Waiting};
 use arrayvec::ArrayVec;
 use dns_answer::header_only;
-use dns_held::{Behind, flush_all};
 use dns_memory::Heap;
 use dns_store::ZoneStore;
+use dns_versions::{PendingZone, flush_all};
 use dns_wire::Rcode;
 use dns_zone::{Zone, ZoneIndex};
 
 /// Whether the zone at a position is closed, or there is none.
-fn is_closed_at<I: ZoneIndex, S: ZoneStore>(behind: &[Behind<I, S>], place: usize) -> bool
+fn is_closed_at<I: ZoneIndex, S: ZoneStore>(pending: &[PendingZone<I, S>], place: usize) -> bool
     ensures { (shown : List Stated) (zones : List ZoneState)
-        → HaveVersions S.keeps shown behind.now zones
+        → HaveVersions S.keeps shown pending.now zones
         → result ≡ is_closed_in (slice_get zones place) }
 {
-    match behind.get(place) {
+    match pending.get(place) {
         Some(zone) => zone.store.is_closed(),
         None => true,
     }
@@ -37,17 +38,17 @@ fn is_closed_at<I: ZoneIndex, S: ZoneStore>(behind: &[Behind<I, S>], place: usiz
 
 /// The octets of a reply that waited.
 fn released_octets<I: ZoneIndex, S: ZoneStore>(
-    behind: &[Behind<I, S>],
+    pending: &[PendingZone<I, S>],
     waiting: &Waiting,
 ) -> [u8; 12]
     ensures { (shown : List Stated) (zones : List ZoneState) (w : Waits)
-        → HaveVersions S.keeps shown behind.now zones
+        → HaveVersions S.keeps shown pending.now zones
         → IsWaiting waiting.now w
         → result
         ≡ text (bare_reply w.header
         (if is_closed_in (slice_get zones w.zone) then rcode_servfail else w.rcode)) }
 {
-    let rcode = if is_closed_at(behind, waiting.zone) {
+    let rcode = if is_closed_at(pending, waiting.zone) {
         Rcode::ServFail
     } else {
         waiting.rcode
@@ -57,13 +58,13 @@ fn released_octets<I: ZoneIndex, S: ZoneStore>(
 
 /// Lets a reply that waited go out, unless it goes nowhere.
 fn release<I: ZoneIndex, S: ZoneStore>(
-    behind: &[Behind<I, S>],
+    pending: &[PendingZone<I, S>],
     waiting: &Waiting,
     headers: &mut Vec<HeaderTo, Heap>,
 )
     requires { length headers.old.items < vec_capacity headers.old }
     ensures sent { (shown : List Stated) (zones : List ZoneState) (w : Waits)
-        → HaveVersions S.keeps shown behind.now zones
+        → HaveVersions S.keeps shown pending.now zones
         → IsWaiting waiting.now w
         → map header_out headers.new.items ≡ map header_out headers.old.items ++ goes_out (released zones w) }
     ensures few { length headers.new.items ≤ length headers.old.items + 1 }
@@ -74,27 +75,27 @@ fn release<I: ZoneIndex, S: ZoneStore>(
     }
     headers.push_reserved(HeaderTo {
         to: waiting.to,
-        octets: released_octets(behind, waiting),
+        octets: released_octets(pending, waiting),
     });
 }
 
 /// Releases the pending replies, for each of which there is a place.
 fn release_all<I: ZoneIndex, S: ZoneStore>(
-    behind: &[Behind<I, S>],
+    pending: &[PendingZone<I, S>],
     waiting: &ArrayVec<Waiting, 32>,
     headers: &mut Vec<HeaderTo, Heap>,
 )
     requires empty { headers.old.items ≡ [] }
     requires places { length waiting.now.items ≤ vec_capacity headers.old }
     ensures sent { (shown : List Stated) (zones : List ZoneState) (ws : List Waits)
-        → HaveVersions S.keeps shown behind.now zones
+        → HaveVersions S.keeps shown pending.now zones
         → Each2 IsWaiting waiting.now.items ws
         → map header_out headers.new.items ≡ all_out (map (released zones) ws) }
     ensures few { length headers.new.items ≤ 32 }
 {
     let waiting = waiting.as_slice();
     for one in waiting {
-        release(behind, one, headers);
+        release(pending, one, headers);
     }
 }
 
@@ -102,29 +103,30 @@ fn release_all<I: ZoneIndex, S: ZoneStore>(
 /// zone whose device failed.
 pub(crate) fn flush<I: ZoneIndex, S: ZoneStore>(
     zones: &mut [Zone<I>],
-    behind: &mut [Behind<I, S>],
+    pending: &mut [PendingZone<I, S>],
     waiting: &mut ArrayVec<Waiting, 32>,
     headers: &mut Vec<HeaderTo, Heap>,
 ) -> Option<usize>
-    requires as_many { length zones.old ≡ length behind.old }
+    requires as_many { length zones.old ≡ length pending.old }
     requires unused { headers.old.items ≡ [] }
     requires places { length waiting.old.items ≤ vec_capacity headers.old }
     ensures flushed { (m : Machine)
-        → HaveVersions S.keeps zones.old behind.old m.zones
+        → HaveVersions S.keeps zones.old pending.old m.zones
         → Each2 IsWaiting waiting.old.items m.waiting
         → (fails : List Bool) × (length fails ≡ length m.zones)
-        × FailedWhere (λ b. S.failed b.store) fails behind.old behind.new
-        × HaveVersions S.keeps zones.new behind.new (flushed fails m).zones
+        × FailedWhere (λ b. S.failed b.store) fails pending.old pending.new
+        × HaveVersions S.keeps zones.new pending.new (flushed fails m).zones
         × (map header_out headers.new.items ≡ all_out (flush_sends fails m)) × (result ≡ first_true fails) }
     ensures empty { waiting.new.items ≡ [] }
     ensures few { length headers.new.items ≤ 32 }
-    ensures any_moment { (ks : List Kept) → Each3 (λ z b k. HasVersions S.keeps z b k) zones.old behind.old ks
+    ensures any_moment { (ks : List Kept)
+        → Each3 (λ z b k. HasVersions S.keeps z b k) zones.old pending.old ks
         → Each3 (λ a b k. LeavesOnly S.moment S.left_since a.store b.store (OpensAsLeft S.opens k))
-        behind.old behind.new ks }
-    ensures newest { newest_each zones.new behind.new ≡ newest_each zones.old behind.old }
+        pending.old pending.new ks }
+    ensures newest { newest_each zones.new pending.new ≡ newest_each zones.old pending.old }
 {
-    let failed = flush_all(zones, behind);
-    release_all(behind, waiting, headers);
+    let failed = flush_all(zones, pending);
+    release_all(pending, waiting, headers);
     waiting.clear();
     failed
 }

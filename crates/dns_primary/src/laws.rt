@@ -5,7 +5,7 @@ ghost use Rattle.dns_zone.specs.Zone.{Zone as StatedZone};
 ghost use Rattle.dns_store.specs.Versions.{Opened, OpensAsLeft, opened_again};
 ghost use Rattle.dns_store.specs.Opens.{fresh, opens};
 ghost use Rattle.dns_store.specs.Formatting.{first_of};
-ghost use Rattle.dns_held.specs.Checkpoint.{OpensAsCheckpointed};
+ghost use Rattle.dns_versions.specs.Checkpoint.{OpensAsCheckpointed};
 ghost use Rattle.dns_transfer.specs.Session.{Sending};
 ghost use Rattle.dns_primary.specs.Machine.{Machine, ZoneState, kept_of, sending_at};
 ghost use Rattle.dns_primary.specs.Step.{Effects as StatedEffects, Event as StatedEvent, Step};
@@ -17,7 +17,7 @@ ghost use Rattle.dns_primary.specs.Causes.{HaveCauses};
 ghost use Rattle.dns_primary.specs.declared.event.Noted.TheVariants.{OutOfMemory};
 ghost use Rattle.dns_primary.specs.Runs.{IsReleasedFrom, Moment, Run, Promise, Continuation, last_of};
 ghost use Rattle.dns_primary.specs.Bounds.{IsBounded};
-ghost use Rattle.dns_primary.specs.declared.primary.ZoneSettings.{ZoneSettings as StatedSettings};
+ghost use Rattle.dns_primary.specs.declared.primary.ZoneSpec.{ZoneSpec as StatedSettings};
 
 /// Whatever events come, whatever devices fail, whenever memory is refused, and however often the machine
 /// stops, within an event and within the recovery after it: after recovery each zone is its loaded records

@@ -22,4 +22,4 @@ pub use laws::{
     fresh_law, replies_wait_law, resumed_law, servfail_law, stop_law, transfers_law, versions_law,
 };
 pub use open::NotOpened;
-pub use primary::{Primary, ZoneSettings};
+pub use primary::{Primary, ZoneSpec};

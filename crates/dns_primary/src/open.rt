@@ -4,23 +4,24 @@ ghost use Rattle.std.specs.Prelude.{IfOk, MatchResult};
 ghost use Rattle.dns_primary.specs.Machine.{Machine};
 ghost use Rattle.dns_names.specs.Name.{Labels};
 ghost use Rattle.dns_primary.specs.declared.event.Effects.{Effects as StatedEffects};
-ghost use Rattle.dns_primary.specs.declared.primary.ZoneSettings.{ZoneSettings as StatedSettings};
+ghost use Rattle.dns_primary.specs.declared.primary.ZoneSpec.{ZoneSpec as StatedSettings};
 ghost use Rattle.dns_primary.specs.Step.{Event as StatedEvent};
 ghost use Rattle.dns_primary.specs.Steps.{SteppedBy};
 ghost use Rattle.dns_primary.specs.HandOut.{AreSetAs};
-ghost use Rattle.dns_primary.specs.Stop.{IsStopped};
+ghost use Rattle.dns_primary.specs.Stop.{IsConfigured, IsStopped};
 ghost use Rattle.dns_primary.specs.Keeps.{IsKept};
-ghost use Rattle.dns_primary.specs.Open.{AreOpened, AreRecoverable, AreRefused, IsNotOpened, IsOpened};
+ghost use Rattle.dns_primary.specs.Open.{AreOpened, AreRecoverable, AreRecoverableAnew, AreRefused};
+ghost use Rattle.dns_primary.specs.Open.{IsNotOpened, IsOpened};
 ghost use Rattle.dns_primary.specs.Open.{IsRecoveryStopped, LeaveRecovered, count_of};
-ghost use Rattle.dns_primary.specs.Open.{device_behind, devices_of};
+ghost use Rattle.dns_primary.specs.Open.{device_of_pending, devices_of};
 
-use crate::{Primary, ZoneSettings};
+use crate::{Primary, ZoneSpec};
 use arrayvec::ArrayVec;
-use dns_held::Behind;
 use dns_memory::Heap;
 use dns_names::Name;
 use dns_sectors::Sectors;
 use dns_store::{KeptStore, OpenError, ZoneStore, open, snapshot_len};
+use dns_versions::PendingZone;
 use dns_zone::{Zone, ZoneIndex};
 use slab::Slab;
 
@@ -39,14 +40,14 @@ pub struct NotOpened<D> {
 #[derive(Drop)]
 struct OneOpened<D: Sectors + Drop, I: ZoneIndex> {
     zone: Zone<I>,
-    behind: Behind<I, KeptStore<D, I>>,
+    pending: PendingZone<I, KeptStore<D, I>>,
 }
 
 // All zones, with their devices.
 #[derive(Drop)]
 struct AllOpened<D: Sectors + Drop, I: ZoneIndex> {
     zones: Vec<Zone<I>, Heap>,
-    behind: Vec<Behind<I, KeptStore<D, I>>, Heap>,
+    pending: Vec<PendingZone<I, KeptStore<D, I>>, Heap>,
 }
 
 // The position of the zone that was refused, and why.
@@ -61,14 +62,14 @@ fn open_one<D: Sectors + Drop, I: ZoneIndex>(
     alloc: Heap,
     device: D,
     apex: &Name,
-    own: &ZoneSettings,
+    own: &ZoneSpec,
 ) -> Result<OneOpened<D, I>, (D, OpenError)>
-    ensures { MatchResult result (λ r. IsOpened apex.now own.now device r.zone r.behind)
+    ensures { MatchResult result (λ r. IsOpened apex.now own.now device r.zone r.pending)
         (λ e. IsNotOpened D.Sectors apex.now own.now e.1 device e.0) }
 {
     match open(alloc, device, apex, own.snapshot, own.journal) {
         Ok((store, zone)) => {
-            let behind = Behind {
+            let pending = PendingZone {
                 tip: None,
                 number: store.newest(),
                 store,
@@ -76,7 +77,7 @@ fn open_one<D: Sectors + Drop, I: ZoneIndex>(
                 snapshot: own.snapshot,
                 journal: own.journal,
             };
-            Ok(OneOpened { zone, behind })
+            Ok(OneOpened { zone, pending })
         }
         Err(refused) => Err(refused),
     }
@@ -85,14 +86,14 @@ fn open_one<D: Sectors + Drop, I: ZoneIndex>(
 // Puts the devices of opened zones before the others again.
 fn take_back<D: Sectors + Drop, I: ZoneIndex>(
     devices: &mut Vec<D, Heap>,
-    behind: Vec<Behind<I, KeptStore<D, I>>, Heap>,
+    pending: Vec<PendingZone<I, KeptStore<D, I>>, Heap>,
 )
-    requires { length behind.items + length devices.old.items ≤ vec_capacity devices.old }
-    ensures { devices.new.items ≡ map (λ b. device_behind b) behind.entry.items ++ devices.old.items }
+    requires { length pending.items + length devices.old.items ≤ vec_capacity devices.old }
+    ensures { devices.new.items ≡ map (λ b. device_of_pending b) pending.entry.items ++ devices.old.items }
 {
-    let mut behind = behind;
-    while let Some(last) = behind.pop() {
-        let Behind {
+    let mut pending = pending;
+    while let Some(last) = pending.pop() {
+        let PendingZone {
             tip: _,
             store,
             number: _,
@@ -112,13 +113,13 @@ fn open_all<D: Sectors + Drop, I: ZoneIndex>(
     alloc: Heap,
     devices: &mut Vec<D, Heap>,
     apexes: &[Name],
-    settings: &[ZoneSettings],
+    settings: &[ZoneSpec],
 ) -> Result<AllOpened<D, I>, Refusal>
     requires as_many { length devices.old.items ≡ length settings.now }
     requires named { length apexes.now ≡ length settings.now }
     ensures { MatchResult result
         (λ r. AreOpened (length settings.now) apexes.now settings.now devices.old.items
-        r.zones.items r.behind.items)
+        r.zones.items r.pending.items)
         (λ e. AreRefused D.Sectors e.error e.place apexes.now settings.now devices.old.items
         devices.new.items) }
 {
@@ -129,7 +130,7 @@ fn open_all<D: Sectors + Drop, I: ZoneIndex>(
     let Ok(mut zones) = Vec::with_capacity(alloc, settings.len()) else {
         return Err(refused);
     };
-    let Ok(mut behind) = Vec::with_capacity(alloc, settings.len()) else {
+    let Ok(mut pending) = Vec::with_capacity(alloc, settings.len()) else {
         return Err(refused);
     };
     for place in 0..settings.len() {
@@ -137,19 +138,19 @@ fn open_all<D: Sectors + Drop, I: ZoneIndex>(
         match open_one(alloc, device, &apexes[place], &settings[place]) {
             Ok(one) => {
                 zones.push_reserved(one.zone);
-                behind.push_reserved(one.behind);
+                pending.push_reserved(one.pending);
             }
             Err((device, error)) => {
                 match devices.insert(0, device) {
                     Ok(()) => (),
                     Err(_) => unreachable!(),
                 }
-                take_back(devices, behind);
+                take_back(devices, pending);
                 return Err(Refusal { place, error });
             }
         }
     }
-    Ok(AllOpened { zones, behind })
+    Ok(AllOpened { zones, pending })
 }
 
 impl<D: Sectors + Drop, I: ZoneIndex> Primary<I, KeptStore<D, I>> {
@@ -163,7 +164,7 @@ impl<D: Sectors + Drop, I: ZoneIndex> Primary<I, KeptStore<D, I>> {
         alloc: Heap,
         devices: Vec<D, Heap>,
         apexes: &[Name],
-        settings: Vec<ZoneSettings, Heap>,
+        settings: Vec<ZoneSpec, Heap>,
     ) -> Result<Primary<I, KeptStore<D, I>>, NotOpened<D>>
         requires as_many { length devices.items ≡ length settings.items }
         requires named { length apexes.now ≡ length settings.items }
@@ -176,13 +177,22 @@ impl<D: Sectors + Drop, I: ZoneIndex> Primary<I, KeptStore<D, I>> {
             (λ e. AreRecoverable D.Sectors (suc tries) m event 0 m.zones apexes.now
             settings.entry.items e.devices.items
             × IsRecoveryStopped tries e.error e.place m.zones) }
+        // Where it had other settings, it is that machine, which was then given these.
+        ensures configured { (m : Machine) (event : StatedEvent) (tries : ℕ)
+            → AreRecoverableAnew D.Sectors tries m event 0 m.zones apexes.now settings.entry.items
+            devices.entry.items
+            → MatchResult result
+            (λ p. (old new : Machine) × IsStopped tries m event old × IsConfigured old new × IsKept p new)
+            (λ e. AreRecoverableAnew D.Sectors (suc tries) m event 0 m.zones apexes.now
+            settings.entry.items e.devices.items
+            × IsRecoveryStopped tries e.error e.place m.zones) }
         // A crash at any moment of it leaves each device as one that a crash might have left before.
         ensures any_moment { (m : Machine) (event : StatedEvent) (tries : ℕ)
-            → AreRecoverable D.Sectors tries m event 0 m.zones apexes.now settings.entry.items
+            → AreRecoverableAnew D.Sectors tries m event 0 m.zones apexes.now settings.entry.items
             devices.entry.items
             → MatchResult result
             (λ p. LeaveRecovered D.Sectors (suc tries) m event 0 m.zones devices.entry.items
-            (map (λ b. device_behind b) p.behind.items))
+            (map (λ b. device_of_pending b) p.pending.items))
             (λ e. LeaveRecovered D.Sectors (suc tries) m event 0 m.zones devices.entry.items
             e.devices.items) }
         // Why it is refused, on any devices.
@@ -194,7 +204,7 @@ impl<D: Sectors + Drop, I: ZoneIndex> Primary<I, KeptStore<D, I>> {
         match open_all(alloc, &mut devices, apexes, &settings) {
             Ok(all) => Ok(Primary {
                 zones: all.zones,
-                behind: all.behind,
+                pending: all.pending,
                 settings,
                 waiting: ArrayVec::new(),
                 places: Vec::new(alloc),
@@ -213,7 +223,7 @@ impl<D: Sectors + Drop, I: ZoneIndex> Primary<I, KeptStore<D, I>> {
     pub fn zone_count(&self) -> usize
         ensures { result ≡ count_of self.now }
     {
-        self.behind.len()
+        self.pending.len()
     }
 
     /// Puts the devices of all zones, in the order in which they came, at the front of this list, which has
@@ -234,13 +244,13 @@ impl<D: Sectors + Drop, I: ZoneIndex> Primary<I, KeptStore<D, I>> {
     {
         let Primary {
             zones: _,
-            behind,
+            pending,
             settings: _,
             waiting: _,
             places: _,
             connections: _,
             transfers: _,
         } = self;
-        take_back(devices, behind);
+        take_back(devices, pending);
     }
 }

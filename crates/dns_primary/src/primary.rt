@@ -4,16 +4,16 @@ ghost use Rattle.std.specs.Prelude.{◌≡◌, ◌≤◌, [], length, vec_capaci
 use crate::transfers::OpenTransfer;
 use crate::{HeaderTo, Peer, Waiting};
 use arrayvec::ArrayVec;
-use dns_held::Behind;
 use dns_memory::Heap;
 use dns_policy::Prefix;
 use dns_store::ZoneStore;
+use dns_versions::PendingZone;
 use dns_zone::{Zone, ZoneIndex};
 use slab::Slab;
 
 /// What is configured of a zone.
 #[derive(Drop)]
-pub struct ZoneSettings {
+pub struct ZoneSpec {
     /// How many sectors there are for a snapshot.
     pub snapshot: u32,
     /// How many sectors there are for a journal.
@@ -31,14 +31,14 @@ pub struct ZoneSettings {
 #[derive(Drop)]
 pub struct Primary<I: ZoneIndex, S: ZoneStore> {
     pub(crate) zones: Vec<Zone<I>, Heap>,
-    pub(crate) behind: Vec<Behind<I, S>, Heap>,
-    pub(crate) settings: Vec<ZoneSettings, Heap>,
+    pub(crate) pending: Vec<PendingZone<I, S>, Heap>,
+    pub(crate) settings: Vec<ZoneSpec, Heap>,
     pub(crate) waiting: ArrayVec<Waiting, 32>,
     // Empty, with a place for each pending reply: a flush hands it out.
     pub(crate) places: Vec<HeaderTo, Heap>,
     pub(crate) connections: Slab<Peer, Heap>,
     pub(crate) transfers: Vec<OpenTransfer<I>, Heap>,
-    ghost as_many: { length zones.items ≡ length behind.items },
+    ghost as_many: { length zones.items ≡ length pending.items },
     ghost settled: { length zones.items ≡ length settings.items },
     ghost unused: { places.items ≡ [] },
     ghost reserved: { length waiting.items ≤ vec_capacity places },

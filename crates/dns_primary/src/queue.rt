@@ -1,9 +1,9 @@
 //! Updates that are tested, judged and staged, and their replies, which wait for the next flush.
 ghost use Rattle.std.specs.Prelude.{◌≡◌, ◌<◌, ◌≤◌, List, length, IfOk};
 ghost use Rattle.dns_wire.specs.Message.{header_of};
-ghost use Rattle.dns_held.specs.Each.{Each2};
-ghost use Rattle.dns_held.specs.Held.{newest_each};
-ghost use Rattle.dns_primary.specs.declared.primary.ZoneSettings.{ZoneSettings as Settings};
+ghost use Rattle.dns_versions.specs.Each.{Each2};
+ghost use Rattle.dns_versions.specs.Held.{newest_each};
+ghost use Rattle.dns_primary.specs.declared.primary.ZoneSpec.{ZoneSpec as Settings};
 ghost use Rattle.dns_primary.specs.Machine.{Machine};
 ghost use Rattle.dns_primary.specs.Update.{answer};
 ghost use Rattle.dns_primary.specs.Keeps.{HaveVersions, IsSet};
@@ -13,13 +13,13 @@ ghost use Rattle.dns_primary.specs.Queue.{IsUntouched, asked_of};
 
 use crate::admission::admit;
 use crate::update::{Judgement, Outcome, judge_newest, stage_judged};
-use crate::{To, Waiting, ZoneSettings};
+use crate::{To, Waiting, ZoneSpec};
 use arrayvec::ArrayVec;
-use dns_held::Behind;
 use dns_memory::Heap;
 use dns_names::Name;
 use dns_request::RequestMessage;
 use dns_store::ZoneStore;
+use dns_versions::PendingZone;
 use dns_wire::Rcode;
 use dns_zone::{Zone, ZoneIndex};
 use std::alloc::AllocError;
@@ -61,23 +61,23 @@ pub(crate) enum Tested<I: ZoneIndex> {
 pub(crate) fn admit_and_judge<I: ZoneIndex, S: ZoneStore>(
     alloc: Heap,
     zones: &[Zone<I>],
-    behind: &[Behind<I, S>],
-    settings: &[ZoneSettings],
+    pending: &[PendingZone<I, S>],
+    settings: &[ZoneSpec],
     update: &UpdateRequest<'_>,
     name: &Name,
 ) -> Result<Tested<I>, AllocError>
-    requires as_many { length zones.now ≡ length behind.now }
+    requires as_many { length zones.now ≡ length pending.now }
     requires settled { length zones.now ≡ length settings.now }
     requires name { name.now ≡ update.now.request.question.name }
-    ensures tested { (m : Machine) → HaveVersions S.keeps zones.now behind.now m.zones
+    ensures tested { (m : Machine) → HaveVersions S.keeps zones.now pending.now m.zones
         → Each2 IsSet settings.now m.zones → IfOk result (IsTested I.records m (asked_of update.now)) }
-    ensures ready { IfOk result (IsReady I.records zones.now behind.now) }
+    ensures ready { IfOk result (IsReady I.records zones.now pending.now) }
 {
     let question = &update.request.question;
-    match admit(zones, behind, settings, question, name, update.address) {
+    match admit(zones, pending, settings, question, name, update.address) {
         Ok(place) => {
             let message = &update.request.message;
-            let judged = judge_newest(alloc, &zones[place], &behind[place], message)?;
+            let judged = judge_newest(alloc, &zones[place], &pending[place], message)?;
             Ok(Tested::Judged(place, judged))
         }
         Err(rcode) => Ok(Tested::AtOnce(rcode)),
@@ -88,28 +88,28 @@ pub(crate) fn admit_and_judge<I: ZoneIndex, S: ZoneStore>(
 /// then it goes out at once.
 pub(crate) fn stage_at<I: ZoneIndex, S: ZoneStore>(
     zones: &[Zone<I>],
-    behind: &mut [Behind<I, S>],
+    pending: &mut [PendingZone<I, S>],
     waiting: &mut ArrayVec<Waiting, 32>,
     place: usize,
     update: &UpdateRequest<'_>,
     judged: Judgement<I>,
 ) -> Outcome
-    requires as_many { length zones.now ≡ length behind.old }
+    requires as_many { length zones.now ≡ length pending.old }
     requires inside { place < length zones.now }
-    requires behind { place < length behind.old }
+    requires pending { place < length pending.old }
     requires room { length waiting.old.items < 32 }
     requires header { header_of update.now.header.now ≡ update.now.request.message.message.header }
-    requires stageable { IsStageableAt I.records (newest_each zones.now behind.old) place judged }
+    requires stageable { IsStageableAt I.records (newest_each zones.now pending.old) place judged }
     ensures done { (settings : List Settings) (m : Machine)
-        → HoldsZones S.keeps zones.now behind.old settings waiting.old.items m.connections m
+        → HoldsZones S.keeps zones.now pending.old settings waiting.old.items m.connections m
         → HoldsStill I.records m (asked_of update.now) place judged
-        → IsAnswered (HoldsZones S.keeps zones.now behind.new settings waiting.new.items m.connections) m
+        → IsAnswered (HoldsZones S.keeps zones.now pending.new settings waiting.new.items m.connections) m
         (asked_of update.now) (answer m (asked_of update.now)) result }
     ensures still { Each2 (λ a b. IsUntouched S.moment S.left_since S.failed a.store b.store)
-        behind.old behind.new }
+        pending.old pending.new }
     ensures few { length waiting.new.items ≤ 32 }
 {
-    match stage_judged(&zones[place], &mut behind[place], judged) {
+    match stage_judged(&zones[place], &mut pending[place], judged) {
         Outcome::Waits(rcode) => {
             waiting.push(Waiting {
                 to: update.to,

@@ -2,8 +2,8 @@
 ghost use Rattle.std.specs.Prelude.{◌≡◌, ◌≢◌, ◌<◌, true, false, None, IfOk, length, option_map};
 ghost use Rattle.dns_wire.specs.Message.{header_of};
 ghost use Rattle.dns_answer.specs.Answer.{handled};
-ghost use Rattle.dns_held.specs.Each.{Each2};
-ghost use Rattle.dns_held.specs.Held.{newest_each};
+ghost use Rattle.dns_versions.specs.Each.{Each2};
+ghost use Rattle.dns_versions.specs.Held.{newest_each};
 ghost use Rattle.dns_primary.specs.declared.event.Noted.TheVariants.{OutOfMemory as StatedLack};
 ghost use Rattle.dns_primary.specs.To.{is_nowhere};
 ghost use Rattle.dns_primary.specs.Machine.{Machine, shown_zones};
@@ -46,10 +46,10 @@ impl<I: ZoneIndex, S: ZoneStore> Primary<I, S> {
             → Stepped old self.old self.new result
             (λ fails stated next. IsUpdateBegun fails old None stated next) }
         ensures room { length self.new.waiting.items < 32 }
-        ensures bare { result.reply ≡ None }
-        ensures as_many { length self.new.behind.items ≡ length self.old.behind.items }
-        ensures newest { newest_each self.new.zones.items self.new.behind.items
-            ≡ newest_each self.old.zones.items self.old.behind.items }
+        ensures bare { result.message ≡ None }
+        ensures as_many { length self.new.pending.items ≡ length self.old.pending.items }
+        ensures newest { newest_each self.new.zones.items self.new.pending.items
+            ≡ newest_each self.old.zones.items self.old.pending.items }
     {
         if self.waiting.is_full() {
             return self.flush();
@@ -60,15 +60,15 @@ impl<I: ZoneIndex, S: ZoneStore> Primary<I, S> {
     /// Does what comes before an update of the zone at a position is answered: where its journal lacks so
     /// many sectors for it, they are made free, and else a place for its reply.
     fn begin(&mut self, alloc: Heap, place: usize, lacked: Option<usize>) -> Effects
-        requires inside { place < length self.old.behind.items }
+        requires inside { place < length self.old.pending.items }
         ensures step { (old : Machine) → IsKept self.old old
             → SteppedOn old (option_map (λ sectors. (place, sectors)) lacked) self.old self.new result
             (IsBegunOrLacks old (option_map (λ sectors. (place, sectors)) lacked)) }
         ensures room { length self.new.waiting.items < 32 }
-        ensures bare { result.reply ≡ None }
-        ensures as_many { length self.new.behind.items ≡ length self.old.behind.items }
-        ensures newest { newest_each self.new.zones.items self.new.behind.items
-            ≡ newest_each self.old.zones.items self.old.behind.items }
+        ensures bare { result.message ≡ None }
+        ensures as_many { length self.new.pending.items ≡ length self.old.pending.items }
+        ensures newest { newest_each self.new.zones.items self.new.pending.items
+            ≡ newest_each self.old.zones.items self.old.pending.items }
     {
         match lacked {
             Some(sectors) => self.make_room(place, sectors),
@@ -86,12 +86,12 @@ impl<I: ZoneIndex, S: ZoneStore> Primary<I, S> {
         requires name { name.now ≡ update.now.request.question.name }
         ensures tested { (m : Machine) → IsKept self.now m
             → IfOk result (IsTested I.records m (asked_of update.now)) }
-        ensures ready { IfOk result (IsReady I.records self.now.zones.items self.now.behind.items) }
+        ensures ready { IfOk result (IsReady I.records self.now.zones.items self.now.pending.items) }
     {
         admit_and_judge(
             alloc,
             &self.zones,
-            &self.behind,
+            &self.pending,
             &self.settings,
             update,
             name,
@@ -101,23 +101,23 @@ impl<I: ZoneIndex, S: ZoneStore> Primary<I, S> {
     /// Stages what an update of the zone at a position makes, and lets its reply wait, unless it goes out at
     /// once.
     fn stage(&mut self, place: usize, update: &UpdateRequest<'_>, judged: Judgement<I>) -> Outcome
-        requires inside { place < length self.old.behind.items }
+        requires inside { place < length self.old.pending.items }
         requires room { length self.old.waiting.items < 32 }
         requires header { header_of update.now.header.now ≡ update.now.request.message.message.header }
         requires stageable { IsStageableAt I.records
-            (newest_each self.old.zones.items self.old.behind.items) place judged }
+            (newest_each self.old.zones.items self.old.pending.items) place judged }
         ensures done { (m : Machine) → IsKept self.old m
             → HoldsStill I.records m (asked_of update.now) place judged
             → IsAnswered (IsKept self.new) m (asked_of update.now) (answer m (asked_of update.now)) result }
         ensures still { Each2 (λ a b. IsUntouched S.moment S.left_since S.failed a.store b.store)
-            self.old.behind.items self.new.behind.items }
+            self.old.pending.items self.new.pending.items }
     {
         let Ok(()) = self.places.reserve_exact(self.waiting.capacity()) else {
             return Outcome::OutOfMemory;
         };
         let zones = self.zones.as_slice();
         let waiting = &mut self.waiting;
-        stage_at(zones, &mut self.behind, waiting, place, update, judged)
+        stage_at(zones, &mut self.pending, waiting, place, update, judged)
     }
 
     /// Answers an update that is judged: what lacks room gets it first, and then it is staged.
@@ -128,11 +128,11 @@ impl<I: ZoneIndex, S: ZoneStore> Primary<I, S> {
         update: &UpdateRequest<'_>,
         judged: Judgement<I>,
     ) -> Effects
-        requires inside { place < length self.old.behind.items }
+        requires inside { place < length self.old.pending.items }
         requires somewhere { is_nowhere update.now.to ≡ false }
         requires header { header_of update.now.header.now ≡ update.now.request.message.message.header }
         requires stageable { IsStageableAt I.records
-            (newest_each self.old.zones.items self.old.behind.items) place judged }
+            (newest_each self.old.zones.items self.old.pending.items) place judged }
         ensures step { (old : Machine) → IsKept self.old old
             → IsUpdateJudged I.records old (asked_of update.now) place judged
             → SteppedOn old (room_lacked old (asked_of update.now)) self.old self.new result

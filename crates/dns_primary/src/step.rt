@@ -1,6 +1,6 @@
 //! The events, one step each.
 ghost use Rattle.std.specs.Prelude.{◌≡◌, ◌≢◌, ◌≤◌, [], false, None, MatchOption, length, slice_get};
-ghost use Rattle.dns_held.specs.Held.{newest_each};
+ghost use Rattle.dns_versions.specs.Held.{newest_each};
 ghost use Rattle.dns_primary.specs.declared.event.Noted.TheVariants.{OutOfMemory as StatedLack};
 ghost use Rattle.dns_primary.specs.Machine.{Machine};
 ghost use Rattle.dns_primary.specs.Step.{Arrives, IsFlushed, noted_of, takes_memory};
@@ -35,10 +35,10 @@ impl<I: ZoneIndex, S: ZoneStore> Primary<I, S> {
         // leaves each device so that it opens as the versions shown and the first of those staged.
         ensures step { (old : Machine) → IsKept self.old old
             → Stepped old self.old self.new result (λ fails stated next. IsFlushed fails old stated next) }
-        ensures bare { result.reply ≡ None }
-        ensures as_many { length self.new.behind.items ≡ length self.old.behind.items }
-        ensures newest { newest_each self.new.zones.items self.new.behind.items
-            ≡ newest_each self.old.zones.items self.old.behind.items }
+        ensures bare { result.message ≡ None }
+        ensures as_many { length self.new.pending.items ≡ length self.old.pending.items }
+        ensures newest { newest_each self.new.zones.items self.new.pending.items
+            ≡ newest_each self.old.zones.items self.old.pending.items }
         ensures empty { self.new.waiting.items ≡ [] }
         ensures memory { result.noted ≢ StatedLack }
     {
@@ -46,13 +46,13 @@ impl<I: ZoneIndex, S: ZoneStore> Primary<I, S> {
         let mut headers = mem::replace(&mut self.places, none);
         let failed = flush(
             &mut self.zones,
-            &mut self.behind,
+            &mut self.pending,
             &mut self.waiting,
             &mut headers,
         );
         Effects {
             headers,
-            reply: None,
+            message: None,
             accepted: None,
             noted: noted(failed),
         }
@@ -121,7 +121,7 @@ impl<I: ZoneIndex, S: ZoneStore> Primary<I, S> {
             (λ shown. IsShown shown.0 shown.1.now (slice_get m.zones place)) }
     {
         match self.zones.get(place) {
-            Some(zone) => Some((self.behind[place].number, zone)),
+            Some(zone) => Some((self.pending[place].number, zone)),
             None => None,
         }
     }

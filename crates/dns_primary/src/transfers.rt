@@ -5,14 +5,15 @@ ghost use Rattle.std.specs.Prelude.{MatchOption};
 ghost use Rattle.std.specs.List.{position};
 ghost use Rattle.dns_wire.specs.Message.{header_of};
 ghost use Rattle.dns_wire.specs.Text.{text};
+ghost use Rattle.dns_request.specs.Codes.{rcode_servfail};
 ghost use Rattle.dns_answer.specs.Answer.{bare_reply};
 ghost use Rattle.dns_primary.specs.To.{is_nowhere};
 ghost use Rattle.dns_primary.specs.declared.event.Noted.TheVariants.{OutOfMemory as StatedLack};
 ghost use Rattle.dns_primary.specs.declared.event.To.TheVariants.{Connection as StatedConnection};
 ghost use Rattle.dns_transfer.specs.Session.{Opens, SendsMessage};
 ghost use Rattle.dns_primary.specs.Machine.{Machine, ZoneState};
-ghost use Rattle.dns_primary.specs.Flush.{Replied, rcode_servfail};
-ghost use Rattle.dns_primary.specs.Transfer.{OpensFrom, is_free, refusal_of, transport_of, version_of};
+ghost use Rattle.dns_primary.specs.Flush.{Replied};
+ghost use Rattle.dns_primary.specs.Transfer.{OpensFrom, is_free, refusal_of, transport_of, transfer_version};
 ghost use Rattle.dns_primary.specs.Step.{Step, Pump};
 ghost use Rattle.dns_primary.specs.Keeps.{AreEffects, IsKept, HasConnection, sending_on};
 ghost use Rattle.dns_primary.specs.Steps.{IsTransferredOrLacks, Stepped, nothing, one_reply};
@@ -22,12 +23,12 @@ use crate::admission::place_of;
 use crate::queue::header_octets;
 use crate::{Effects, Noted, Peer, Primary, Reply, ReplyOctets, To};
 use dns_answer::refuse;
-use dns_held::shown_changes;
 use dns_memory::Heap;
 use dns_policy::allows;
 use dns_request::{RequestMessage, Transport};
 use dns_store::ZoneStore;
 use dns_transfer::{Session, Version};
+use dns_versions::shown_changes;
 use dns_wire::Rcode;
 use dns_zone::{Zone, ZoneIndex};
 use std::alloc::AllocError;
@@ -148,7 +149,7 @@ fn message_to(alloc: Heap, to: To, octets: Vec<u8, Heap>) -> Effects
     ensures { AreEffects (one_reply (Replied to octets.entry.items)) result }
 {
     let mut effects = Effects::nothing(alloc);
-    effects.reply = Some(Reply {
+    effects.message = Some(Reply {
         to,
         octets: ReplyOctets::Longer(octets),
     });
@@ -264,13 +265,13 @@ impl<I: ZoneIndex, S: ZoneStore> Primary<I, S> {
         ensures opens { (m : Machine) (z : ZoneState) → IsKept self.now m
             → slice_get m.zones place ≡ Some z → IfOk result
             (λ opened. Opens (transport_of to) request.now.message.octets request.now.message.message
-            request.now.question (Some (version_of z))
+            request.now.question (Some (transfer_version z))
             (z.setting.may_transfer peer.address && is_free to m.connections) opened) }
         ensures some { IfOk result (λ opened. IfOk opened (λ s. s.left ≡ [] → ⊥)) }
     {
         let version = Version {
             zone: &self.zones[place],
-            changes: shown_changes(&self.behind[place]),
+            changes: shown_changes(&self.pending[place]),
         };
         let is_listed = allows(&self.settings[place].transfer, peer.address);
         let is_allowed = is_listed & self.is_free(to);

@@ -2,17 +2,17 @@
 ghost use Rattle.std.specs.Prelude.{◌≡◌, true, false, IfOk};
 ghost use Rattle.dns_store.specs.Versions.{Kept, StandsStill};
 ghost use Rattle.dns_update.specs.Verdict.{Verdict, verdict};
-ghost use Rattle.dns_held.specs.Held.{HasVersions, newer, newest_zone};
+ghost use Rattle.dns_versions.specs.Held.{HasVersions, newer, newest_zone};
 ghost use Rattle.dns_wire.specs.declared.codes.Rcode.TheVariants.{ServFail};
 ghost use Rattle.dns_primary.specs.declared.update.Outcome.TheVariants.{AtOnce};
 ghost use Rattle.dns_primary.specs.Update.{lacked_by};
 ghost use Rattle.dns_primary.specs.Outcome.{HasLeft, IsDone, IsStageable, IsVerdictOf, lacked_of, refused_as};
 
 use dns_changes::Change;
-use dns_held::{Behind, StagingError, newest, sectors_lacked, stage};
 use dns_memory::Heap;
 use dns_store::ZoneStore;
 use dns_update::{Judged, judge};
+use dns_versions::{PendingZone, StagingError, newest, sectors_lacked, stage};
 use dns_wire::{Message, Rcode};
 use dns_zone::{Zone, ZoneIndex};
 use std::alloc::AllocError;
@@ -66,23 +66,23 @@ fn refused(error: StagingError) -> Outcome
 pub(crate) fn judge_newest<I: ZoneIndex, S: ZoneStore>(
     alloc: Heap,
     zone: &Zone<I>,
-    behind: &Behind<I, S>,
+    pending: &PendingZone<I, S>,
     message: &Message<'_>,
 ) -> Result<Judgement<I>, AllocError>
-    ensures judged { (k : Kept) → HasVersions S.keeps zone.now behind.now k
+    ensures judged { (k : Kept) → HasVersions S.keeps zone.now pending.now k
         → IfOk result
         (IsVerdictOf I.records
         (verdict (newest_zone k) message.now.message.answers message.now.message.authorities)) }
-    ensures lacks { (k : Kept) → HasVersions S.keeps zone.now behind.now k
+    ensures lacks { (k : Kept) → HasVersions S.keeps zone.now pending.now k
         → IfOk result (λ j. lacked_of j
         ≡ lacked_by k (verdict (newest_zone k) message.now.message.answers message.now.message.authorities)) }
-    ensures stageable { IfOk result (IsStageable I.records (newer zone.now behind.now.tip)) }
+    ensures stageable { IfOk result (IsStageable I.records (newer zone.now pending.now.tip)) }
 {
-    match judge(alloc, newest(zone, behind), message) {
+    match judge(alloc, newest(zone, pending), message) {
         Ok(Judged::Refused(rcode)) => Ok(Judgement::Unchanged(rcode)),
         Ok(Judged::NoChange) => Ok(Judgement::Unchanged(Rcode::NoError)),
         Ok(Judged::Accepted(change, records)) => {
-            let lacked = sectors_lacked(zone, behind, &change, &records);
+            let lacked = sectors_lacked(zone, pending, &change, &records);
             Ok(Judgement::Accepted(change, records, lacked))
         }
         Err(error) => Err(error),
@@ -93,24 +93,24 @@ pub(crate) fn judge_newest<I: ZoneIndex, S: ZoneStore>(
 /// touched.
 pub(crate) fn stage_judged<I: ZoneIndex, S: ZoneStore>(
     zone: &Zone<I>,
-    behind: &mut Behind<I, S>,
+    pending: &mut PendingZone<I, S>,
     judged: Judgement<I>,
 ) -> Outcome
-    requires stageable { IsStageable I.records (newer zone.now behind.old.tip) judged }
-    ensures done { (k : Kept) (v : Verdict) → HasVersions S.keeps zone.now behind.old k → k.closed ≡ false
+    requires stageable { IsStageable I.records (newer zone.now pending.old.tip) judged }
+    ensures done { (k : Kept) (v : Verdict) → HasVersions S.keeps zone.now pending.old k → k.closed ≡ false
         → HasLeft k v → IsVerdictOf I.records v judged
-        → IsDone (λ k. HasVersions S.keeps zone.now behind.new k) k v result }
-    ensures closed { (k : Kept) → HasVersions S.keeps zone.now behind.old k → k.closed ≡ true
-        → (result ≡ AtOnce ServFail) × HasVersions S.keeps zone.now behind.new k }
-    ensures still { StandsStill S.moment S.left_since behind.old.store behind.new.store }
-    ensures quiet { S.failed behind.new.store ≡ S.failed behind.old.store }
+        → IsDone (λ k. HasVersions S.keeps zone.now pending.new k) k v result }
+    ensures closed { (k : Kept) → HasVersions S.keeps zone.now pending.old k → k.closed ≡ true
+        → (result ≡ AtOnce ServFail) × HasVersions S.keeps zone.now pending.new k }
+    ensures still { StandsStill S.moment S.left_since pending.old.store pending.new.store }
+    ensures quiet { S.failed pending.new.store ≡ S.failed pending.old.store }
 {
-    if behind.store.is_closed() {
+    if pending.store.is_closed() {
         return Outcome::AtOnce(Rcode::ServFail);
     }
     match judged {
         Judgement::Unchanged(rcode) => Outcome::Waits(rcode),
-        Judgement::Accepted(change, records, _) => match stage(zone, behind, change, records) {
+        Judgement::Accepted(change, records, _) => match stage(zone, pending, change, records) {
             Ok(()) => Outcome::Waits(Rcode::NoError),
             Err(error) => refused(error),
         },

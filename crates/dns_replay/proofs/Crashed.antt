@@ -8,8 +8,8 @@ use Rattle.dns_sectors.specs.Device.{Content}
 use Rattle.dns_sectors.specs.declared.device.Sectors.{Ghosts}
 use Rattle.dns_sectors.specs.declared.memory.Keep as told
 use Rattle.dns_store.specs.Opening.{IsInRange}
-use Rattle.dns_held.specs.Each.{Each2}
-use Rattle.dns_primary.specs.declared.primary.ZoneSettings.{ZoneSettings}
+use Rattle.dns_versions.specs.Each.{Each2}
+use Rattle.dns_primary.specs.declared.primary.ZoneSpec.{ZoneSpec}
 use Rattle.dns_primary.specs.Machine.{Machine, ZoneState}
 use Rattle.dns_primary.specs.Step.{Event}
 use Rattle.dns_primary.specs.Stop.{IsMaking}
@@ -19,7 +19,7 @@ use Rattle.dns_replay.specs.Crashes.{AreLeftBy, IsLeftBy, keep_at}
 use Rattle.dns_replay.specs.Runs.{AreSame}
 
 module _ {D : Type 0} (g : Ghosts D) (tries : ℕ) (m : Machine) (event : Event) where
-  pub crashed_recoverable : (kept : D → told.Keep → Content) (keeps : List ZoneKeep) (at place : ℕ) (zones : List ZoneState) (names : List Labels) (settings : List ZoneSettings) (olds news : List D) → AreRecoverable g tries m event place zones names settings olds → AreLeftBy g kept keeps at olds news → AreRecoverable g tries m event place zones names settings news
+  pub crashed_recoverable : (kept : D → told.Keep → Content) (keeps : List ZoneKeep) (at place : ℕ) (zones : List ZoneState) (names : List Labels) (settings : List ZoneSpec) (olds news : List D) → AreRecoverable g tries m event place zones names settings olds → AreLeftBy g kept keeps at olds news → AreRecoverable g tries m event place zones names settings news
   crashed_recoverable kept keeps at place [] [] [] [] [] is each = tt
   crashed_recoverable kept keeps at place (z ∷ zones) (a ∷ names) (s ∷ settings) (d ∷ olds) (e ∷ news) is each = (
     record {
@@ -35,7 +35,7 @@ module _ {D : Type 0} (g : Ghosts D) (tries : ℕ) (m : Machine) (event : Event)
   crashed_recoverable kept keeps at place zones names settings (d ∷ olds) [] is each = absurd each
   crashed_recoverable kept keeps at place _ _ _ olds news is each = absurd is
 
-  same_recoverable : (making : ℕ → Type 0) (z : ZoneState) (a : Labels) (s t : ZoneSettings) (d : D) → AreSame s t → IsRecoverable g tries making z a s d → IsRecoverable g tries making z a t d
+  same_recoverable : (making : ℕ → Type 0) (z : ZoneState) (a : Labels) (s t : ZoneSpec) (d : D) → AreSame s t → IsRecoverable g tries making z a s d → IsRecoverable g tries making z a t d
   same_recoverable making z a s t d same is = record {
     shape = is.shape ∙ (λ i. record { apex = a; snapshot = sym same.snapshot i; journal = sym same.journal i });
     set = record {
@@ -48,7 +48,7 @@ module _ {D : Type 0} (g : Ghosts D) (tries : ℕ) (m : Machine) (event : Event)
     leaves = is.leaves;
   }
 
-  pub reset_recoverable : (place : ℕ) (zones : List ZoneState) (names : List Labels) (settings again : List ZoneSettings) (devices : List D) → Each2 AreSame settings again → AreRecoverable g tries m event place zones names settings devices → AreRecoverable g tries m event place zones names again devices
+  pub reset_recoverable : (place : ℕ) (zones : List ZoneState) (names : List Labels) (settings again : List ZoneSpec) (devices : List D) → Each2 AreSame settings again → AreRecoverable g tries m event place zones names settings devices → AreRecoverable g tries m event place zones names again devices
   reset_recoverable place [] [] [] [] [] each is = tt
   reset_recoverable place (z ∷ zones) (a ∷ names) (s ∷ settings) (t ∷ again) (d ∷ devices) each is =
       (same_recoverable (IsMaking m event place z) z a s t d each.0 is.0, reset_recoverable (suc place) zones names settings again devices each.1 is.1)
@@ -56,7 +56,7 @@ module _ {D : Type 0} (g : Ghosts D) (tries : ℕ) (m : Machine) (event : Event)
   reset_recoverable place zones names (s ∷ settings) [] devices each is = absurd each
   reset_recoverable place _ _ settings again _ each is = absurd is
 
-pub same_back : (settings again : List ZoneSettings) → Each2 AreSame settings again → Each2 AreSame again settings
+pub same_back : (settings again : List ZoneSpec) → Each2 AreSame settings again → Each2 AreSame again settings
 same_back [] [] each = tt
 same_back (s ∷ settings) (t ∷ again) each =
     (record { snapshot = sym each.0.snapshot; journal = sym each.0.journal; keep = sym each.0.keep; update = sym each.0.update; transfer = sym each.0.transfer }, same_back settings again each.1)

@@ -9,11 +9,11 @@ use Rattle.dns_sectors.specs.declared.memory.Keep as told
 use Rattle.dns_zone.specs.declared.index.ZoneIndex as index
 use Rattle.dns_store.specs.declared.zone_store.ZoneStore as store
 use Rattle.dns_store.specs.declared.kept_store.KeptStore.{KeptStore}
-use Rattle.dns_held.specs.Each.{Each2}
+use Rattle.dns_versions.specs.Each.{Each2}
 use Rattle.dns_primary.specs.declared.event.Effects.{Effects as Code}
 use Rattle.dns_primary.specs.declared.open.NotOpened.{NotOpened}
 use Rattle.dns_primary.specs.declared.primary.Primary.{Primary}
-use Rattle.dns_primary.specs.declared.primary.ZoneSettings.{ZoneSettings}
+use Rattle.dns_primary.specs.declared.primary.ZoneSpec.{ZoneSpec}
 use Rattle.dns_primary.specs.Machine.{Machine}
 use Rattle.dns_primary.specs.Keeps.{IsKept, AreEffects}
 use Rattle.dns_primary.specs.Step.{Event, Effects, Flush}
@@ -25,7 +25,7 @@ use Rattle.dns_primary.specs.Runs.{Took, Stopped}
 use Rattle.dns_replay.specs.Commands.{Command, SaysCommand}
 use Rattle.dns_replay.specs.declared.run.After.{After}
 use Rattle.dns_replay.specs.declared.run.After.TheVariants.{GoesOn, NoCommand, Refused}
-use Rattle.dns_replay.specs.Scripts.{Standing, Takes, Stands, machine_of, event_in, tries_in, Commanded, Nothing, Happens, Plans, Led, EventLeads, LeadsByCommand, PlanLeads, Recovers, idle, halted, said_by, printed_effects, printed_refusal, printed_stop, recovered_zones}
+use Rattle.dns_replay.specs.Scripts.{Standing, Takes, Stands, machine_of, event_in, tries_in, Commanded, Nothing, Happens, Plans, Led, EventLeads, LeadsByCommand, PlanLeads, Recovers, idle, halted, commanded_by, printed_effects, printed_refusal, printed_stop, recovered_zones}
 use Rattle.dns_replay.specs.Keeps.{ZoneKeep}
 use Rattle.dns_replay.specs.Crashes.{AreLeftBy, IsCrash}
 use Rattle.dns_replay.specs.Runs.{AreSame, DoesBy, IsAt, IsOpeningRefused, LeadsOn, LineDoes, crash_by}
@@ -33,7 +33,7 @@ use Rattle.dns_replay.proofs.Crashed.{crashed_recoverable, reset_recoverable, sa
 use Rattle.dns_replay.proofs.Reopened.{opened_over}
 use Rattle.dns_replay.proofs.Printing.{nothing_more}
 
-module _ {D I : Type 0} {g : Ghosts D} {i : index.Ghosts I} {s : store.Ghosts (KeptStore D I g)} (names : List Labels) (settings : List ZoneSettings) where
+module _ {D I : Type 0} {g : Ghosts D} {i : index.Ghosts I} {s : store.Ghosts (KeptStore D I g)} (names : List Labels) (settings : List ZoneSpec) where
   -- after a stop an event is told as one
   pub still_halted : (event : Event) (p q : Option (Primary I (KeptStore D I g) i s)) (devices : List D) (out out_after : Option (List ℕ)) → p ≡ None → q ≡ None → Appends out out_after printed_stop
       → LeadsOn names settings (λ from led. EventLeads names from event led) p devices q devices out out_after
@@ -62,7 +62,7 @@ module _ {D I : Type 0} {g : Ghosts D} {i : index.Ghosts I} {s : store.Ghosts (K
   -- a stop fell in an event
   pub now_halted : (event : Event) (p q : Primary I (KeptStore D I g) i s) (effects : Code) (devices left : List D) (out out_after : Option (List ℕ))
       → ((m : Machine) → IsKept p m → SteppedBy m event p q effects)
-      → ((m : Machine) (event : Event) (before : Primary I (KeptStore D I g) i s) (effects : Code) (names : List Labels) (settings : List ZoneSettings) → SteppedBy m event before q effects → AreSetAs names settings m.zones → AreRecoverable g 0 m event 0 m.zones names settings left)
+      → ((m : Machine) (event : Event) (before : Primary I (KeptStore D I g) i s) (effects : Code) (names : List Labels) (settings : List ZoneSpec) → SteppedBy m event before q effects → AreSetAs names settings m.zones → AreRecoverable g 0 m event 0 m.zones names settings left)
       → Appends out out_after printed_stop
       → LeadsOn names settings (λ from led. EventLeads names from event led) (Some p) devices None left out out_after
   now_halted event p q effects devices left out out_after steps leaves a (Takes m) at set = (halted m event 0, inr refl, a, leaves m event p effects names settings (steps m at) set)
@@ -96,17 +96,17 @@ module _ {D I : Type 0} {g : Ghosts D} {i : index.Ghosts I} {s : store.Ghosts (K
   opened_err crashed (Err p) q e h m event tries r = (let is : p ≡ q = cc e in subst (λ (x : NotOpened D). AreRecoverable g (suc tries) m event 0 m.zones names settings x.devices.items) is (h m event tries r))
 
   -- ... with the same settings
-  pub opened_again : (m : Machine) (event : Event) (tries : ℕ) (again : List ZoneSettings) (devices : List D) (r : Result (Primary I (KeptStore D I g) i s) (NotOpened D)) → Each2 AreSame settings again
+  pub opened_again : (m : Machine) (event : Event) (tries : ℕ) (again : List ZoneSpec) (devices : List D) (r : Result (Primary I (KeptStore D I g) i s) (NotOpened D)) → Each2 AreSame settings again
       → MatchResult r (λ p. (new : Machine) × IsStopped tries m event new × IsKept p new) (λ e. AreRecoverable g (suc tries) m event 0 m.zones names again e.devices.items × IsRecoveryStopped tries e.error e.place m.zones)
       → MatchResult r (λ p. (new : Machine) × IsStopped tries m event new × IsKept p new) (λ e. AreRecoverable g (suc tries) m event 0 m.zones names settings e.devices.items)
   opened_again m event tries again devices (Ok p) same h = h
   opened_again m event tries again devices (Err e) same h = reset_recoverable g (suc tries) m event 0 m.zones names again settings e.devices.items (same_back settings again same) h.0
 
 -- what is said leads on
-module _ {D I : Type 0} {g : Ghosts D} {i : index.Ghosts I} {s : store.Ghosts (KeptStore D I g)} (kept : D → told.Keep → Content) (names : List Labels) (settings : List ZoneSettings) where
+module _ {D I : Type 0} {g : Ghosts D} {i : index.Ghosts I} {s : store.Ghosts (KeptStore D I g)} (kept : D → told.Keep → Content) (names : List Labels) (settings : List ZoneSpec) where
   -- a crash, and all stores were opened
   pub recovers : (stays : (device : D) → g.is_honest device → g.may_leave device (g.seen device)) (keeps : List ZoneKeep) (stop : Option ℕ) (o : Option (Primary I (KeptStore D I g) i s)) (q : Primary I (KeptStore D I g) i s) (devices left crashed rest : List D) (out out_after : Option (List ℕ))
-      → ((names : List Labels) (settings : List ZoneSettings) (from : Standing) → IsAt names settings o devices from → AreSetAs names settings (machine_of from).zones → AreRecoverable g (tries_in from) (machine_of from) (event_in from) 0 (machine_of from).zones names settings left)
+      → ((names : List Labels) (settings : List ZoneSpec) (from : Standing) → IsAt names settings o devices from → AreSetAs names settings (machine_of from).zones → AreRecoverable g (tries_in from) (machine_of from) (event_in from) 0 (machine_of from).zones names settings left)
       → AreLeftBy g kept keeps 0 left crashed
       → ((m : Machine) (event : Event) (tries : ℕ) → AreRecoverable g tries m event 0 m.zones names settings crashed → (new : Machine) × IsStopped tries m event new × IsKept q new)
       → ((m : Machine) → IsKept q m → Appends out out_after (recovered_zones names m.zones (length names)))
@@ -126,7 +126,7 @@ module _ {D I : Type 0} {g : Ghosts D} {i : index.Ghosts I} {s : store.Ghosts (K
 
   -- a store was refused after a crash
   pub refused : (keeps : List ZoneKeep) (stop : Option ℕ) (after : After) (o : Option (Primary I (KeptStore D I g) i s)) (devices left crashed back rest : List D) (out out_after : Option (List ℕ))
-      → ((names : List Labels) (settings : List ZoneSettings) (from : Standing) → IsAt names settings o devices from → AreSetAs names settings (machine_of from).zones → AreRecoverable g (tries_in from) (machine_of from) (event_in from) 0 (machine_of from).zones names settings left)
+      → ((names : List Labels) (settings : List ZoneSpec) (from : Standing) → IsAt names settings o devices from → AreSetAs names settings (machine_of from).zones → AreRecoverable g (tries_in from) (machine_of from) (event_in from) 0 (machine_of from).zones names settings left)
       → AreLeftBy g kept keeps 0 left crashed
       → ((m : Machine) (event : Event) (tries : ℕ) → AreRecoverable g tries m event 0 m.zones names settings crashed → AreRecoverable g (suc tries) m event 0 m.zones names settings back)
       → IsOpeningRefused names stop back rest out out_after after
@@ -144,7 +144,7 @@ module _ {D I : Type 0} {g : Ghosts D} {i : index.Ghosts I} {s : store.Ghosts (K
   refused keeps stop NoCommand o devices left crashed back rest out out_after takes each opens h = absurd h
 
   pub refused_in : {E : Type 0} (keeps : List ZoneKeep) (stop : Option ℕ) (r : Result After E) (o q : Option (Primary I (KeptStore D I g) i s)) (devices left crashed back rest : List D) (out out_after : Option (List ℕ)) → q ≡ None
-      → ((names : List Labels) (settings : List ZoneSettings) (from : Standing) → IsAt names settings o devices from → AreSetAs names settings (machine_of from).zones → AreRecoverable g (tries_in from) (machine_of from) (event_in from) 0 (machine_of from).zones names settings left)
+      → ((names : List Labels) (settings : List ZoneSpec) (from : Standing) → IsAt names settings o devices from → AreSetAs names settings (machine_of from).zones → AreRecoverable g (tries_in from) (machine_of from) (event_in from) 0 (machine_of from).zones names settings left)
       → AreLeftBy g kept keeps 0 left crashed
       → ((m : Machine) (event : Event) (tries : ℕ) → AreRecoverable g tries m event 0 m.zones names settings crashed → AreRecoverable g (suc tries) m event 0 m.zones names settings back)
       → IfOk r (IsOpeningRefused names stop back rest out out_after)
@@ -180,7 +180,7 @@ module _ {D I : Type 0} {g : Ghosts D} {i : index.Ghosts I} {s : store.Ghosts (K
 
   -- the line that says it
   pub line_does : {E : Type 0} (line : List ℕ) (command : Command) (r : Result After E) (p q : Option (Primary I (KeptStore D I g) i s)) (devices left : List D) (out out_after : Option (List ℕ)) → SaysCommand names line command
-      → IfOk r (DoesBy kept names settings (said_by command) p devices q left out out_after)
+      → IfOk r (DoesBy kept names settings (commanded_by command) p devices q left out out_after)
       → IfOk r (LineDoes kept names settings line p devices q left out out_after)
   line_does line command (Err e) p q devices left out out_after says h = tt
   line_does line command (Ok GoesOn) p q devices left out out_after says h = λ from at set.
@@ -193,14 +193,14 @@ module _ {D I : Type 0} {g : Ghosts D} {i : index.Ghosts I} {s : store.Ghosts (K
 -- the devices of a primary that was there, or those that were left
 module _ {D I : Type 0} {g : Ghosts D} {i : index.Ghosts I} {s : store.Ghosts (KeptStore D I g)} where
   pub taken_running : (o : Option (Primary I (KeptStore D I g) i s)) (p : Primary I (KeptStore D I g) i s) (devices left : List D) → o ≡ Some p
-      → ((m : Machine) (event : Event) (names : List Labels) (settings : List ZoneSettings) → IsKept p m → AreSetAs names settings m.zones → AreRecoverable g 0 m event 0 m.zones names settings left)
-      → (names : List Labels) (settings : List ZoneSettings) (from : Standing) → IsAt names settings o devices from → AreSetAs names settings (machine_of from).zones → AreRecoverable g (tries_in from) (machine_of from) (event_in from) 0 (machine_of from).zones names settings left
+      → ((m : Machine) (event : Event) (names : List Labels) (settings : List ZoneSpec) → IsKept p m → AreSetAs names settings m.zones → AreRecoverable g 0 m event 0 m.zones names settings left)
+      → (names : List Labels) (settings : List ZoneSpec) (from : Standing) → IsAt names settings o devices from → AreSetAs names settings (machine_of from).zones → AreRecoverable g (tries_in from) (machine_of from) (event_in from) 0 (machine_of from).zones names settings left
   taken_running None p devices left e h names settings from at set = absurd cc
   taken_running (Some r) p devices left e h names settings (Takes m) at set = (let is : r ≡ p = cc e in h m Flush names settings (subst (λ (x : Primary I (KeptStore D I g) i s). IsKept x m) is at) set)
   taken_running (Some r) p devices left e h names settings (Stands m event tries) at set = absurd at
 
   pub taken_left : (o : Option (Primary I (KeptStore D I g) i s)) (devices left : List D) → o ≡ None → left ≡ devices
-      → (names : List Labels) (settings : List ZoneSettings) (from : Standing) → IsAt names settings o devices from → AreSetAs names settings (machine_of from).zones → AreRecoverable g (tries_in from) (machine_of from) (event_in from) 0 (machine_of from).zones names settings left
+      → (names : List Labels) (settings : List ZoneSpec) (from : Standing) → IsAt names settings o devices from → AreSetAs names settings (machine_of from).zones → AreRecoverable g (tries_in from) (machine_of from) (event_in from) 0 (machine_of from).zones names settings left
   taken_left (Some r) devices left e same names settings from at set = absurd cc
   taken_left None devices left e same names settings (Takes m) at set = absurd at
   taken_left None devices left e same names settings (Stands m event tries) at set = subst (λ (l : List D). AreRecoverable g tries m event 0 m.zones names settings l) (sym same) at

@@ -6,7 +6,7 @@ use Rattle.dns_sectors.specs.Device.{Content}
 use Rattle.dns_sectors.specs.declared.device.Sectors.{Ghosts}
 use Rattle.dns_sectors.specs.declared.memory.Keep as told
 use Rattle.dns_store.specs.Opens.{opens}
-use Rattle.dns_primary.specs.declared.primary.ZoneSettings.{ZoneSettings}
+use Rattle.dns_primary.specs.declared.primary.ZoneSpec.{ZoneSpec}
 use Rattle.dns_primary.specs.Machine.{Made, Machine, Setting, ZoneState}
 use Rattle.dns_primary.specs.Keeps.{IsSet}
 use Rattle.dns_primary.specs.Step.{Event, Flush}
@@ -94,7 +94,7 @@ recovered_itself tries making later z w r = record {
   at_most = omega arith;
 }
 
-set_again : (s : ZoneSettings) (z w : ZoneState) → w.setting ≡ z.setting → IsSet s z → IsSet s w
+set_again : (s : ZoneSpec) (z w : ZoneState) → w.setting ≡ z.setting → IsSet s z → IsSet s w
 set_again s z w e set =
     let same = subst (λ (x : Setting). IsSet s (record z { setting = x })) (sym e) set in
     record { keep = same.keep; update = same.update; transfer = same.transfer }
@@ -110,7 +110,7 @@ module _ {D : Type 0} (g : Ghosts D) (stays : (device : D) → g.is_honest devic
   AreHeld place (z ∷ zones) (d ∷ devices) (w ∷ held) = IsHeld place z d w × AreHeld (suc place) zones devices held
   AreHeld place _ _ _ = ⊥
 
-  held_on : (place : ℕ) (zones : List ZoneState) (names : List Labels) (settings : List ZoneSettings) (devices : List D) → AreRecoverable g tries m event place zones names settings devices → (held : List ZoneState) × AreHeld place zones devices held
+  held_on : (place : ℕ) (zones : List ZoneState) (names : List Labels) (settings : List ZoneSpec) (devices : List D) → AreRecoverable g tries m event place zones names settings devices → (held : List ZoneState) × AreHeld place zones devices held
   held_on place [] [] [] [] is = ([], tt)
   held_on place (z ∷ zones) (a ∷ names) (s ∷ settings) (d ∷ devices) is =
       let one = is.0.leaves (g.seen d) (stays d is.0.honest) in
@@ -123,7 +123,7 @@ module _ {D : Type 0} (g : Ghosts D) (stays : (device : D) → g.is_honest devic
     only_seen : (keep : _) (d e : D) → g.is_honest d → IsLeftBy g kept keep d e → (c : Content) → g.may_leave e c → g.seen e ≡ c
     only_seen keep d e honest is c left = is.exact honest (g.seen e) (stays e (is.honest honest)) ∙ sym (is.exact honest c left)
 
-    held_recoverable : (other : Machine) (at place : ℕ) (zones : List ZoneState) (names : List Labels) (settings : List ZoneSettings) (olds news : List D) (held : List ZoneState) → AreRecoverable g tries m event place zones names settings olds → AreLeftBy g kept keeps at olds news → AreHeld place zones news held → AreRecoverable g 0 other Flush place held names settings news
+    held_recoverable : (other : Machine) (at place : ℕ) (zones : List ZoneState) (names : List Labels) (settings : List ZoneSpec) (olds news : List D) (held : List ZoneState) → AreRecoverable g tries m event place zones names settings olds → AreLeftBy g kept keeps at olds news → AreHeld place zones news held → AreRecoverable g 0 other Flush place held names settings news
     held_recoverable other at place [] [] [] [] [] [] is each h = tt
     held_recoverable other at place (z ∷ zones) (a ∷ names) (s ∷ settings) (d ∷ olds) (e ∷ news) (w ∷ held) is each h = (
       record {
@@ -160,7 +160,7 @@ module _ {D : Type 0} (g : Ghosts D) (stays : (device : D) → g.is_honest devic
   opened_over_all other place _ _ _ _ h r = absurd h
 
   -- The machine that is opened over devices that crashed is what is left on them.
-  pub opened_over : (P : Machine → Type 0) (kept : D → told.Keep → Content) (keeps : List ZoneKeep) (names : List Labels) (settings : List ZoneSettings) (olds news : List D) → AreRecoverable g tries m event 0 m.zones names settings olds → AreLeftBy g kept keeps 0 olds news
+  pub opened_over : (P : Machine → Type 0) (kept : D → told.Keep → Content) (keeps : List ZoneKeep) (names : List Labels) (settings : List ZoneSpec) (olds news : List D) → AreRecoverable g tries m event 0 m.zones names settings olds → AreLeftBy g kept keeps 0 olds news
       → ((m : Machine) (event : Event) (tries : ℕ) → AreRecoverable g tries m event 0 m.zones names settings news → (new : Machine) × IsStopped tries m event new × P new)
       → (new : Machine) × IsStopped tries m event new × P new × AreOpenedOver g news new.zones
   opened_over P kept keeps names settings olds news is each opens =

@@ -10,12 +10,14 @@ use Rattle.dns_zone.specs.declared.index.ZoneIndex as index
 use Rattle.dns_store.specs.declared.zone_store.ZoneStore as store
 use Rattle.dns_store.specs.declared.kept_store.KeptStore.{KeptStore}
 use Rattle.dns_primary.specs.declared.primary.Primary.{Primary}
-use Rattle.dns_primary.specs.declared.primary.ZoneSettings.{ZoneSettings}
+use Rattle.dns_primary.specs.declared.primary.ZoneSpec.{ZoneSpec}
 use Rattle.dns_primary.specs.Machine.{Machine, Setting, ZoneState}
 use Rattle.dns_primary.specs.Keeps.{IsKept, IsSet}
 use Rattle.dns_primary.specs.HandOut.{AreSetAs, IsSetAs}
-use Rattle.dns_primary.specs.Runs.{AllLast, Lasts, Moment, Run, last_of}
-use Rattle.dns_primary.proofs.Stopping.{fresh_keeps}
+use Rattle.dns_primary.specs.Runs.{Moment, Run, last_of}
+use Rattle.dns_primary.specs.Step.{Flush}
+use Rattle.dns_primary.proofs.Brought.{StaysSet, step_set, stopped_set, all_stay_set, stay_set_on}
+use Rattle.dns_versions.specs.Each.{Each2}
 use Rattle.dns_replay.specs.declared.run.Ending.{Ending}
 use Rattle.dns_replay.specs.declared.run.Ending.TheVariants.{Done, Syntax, Refused}
 use Rattle.dns_replay.proofs.Printing.{appends_more, nothing_more}
@@ -36,40 +38,41 @@ last_joined start (x ∷ xs) ys = last_joined _ xs ys
 -- what is said leads by a run of the machine
 pub record IsRunning (s : Standing) (led : Led) : Type 0 where
   pub run : Run (machine_of s) led.moments
+  pub set : Each2 StaysSet (machine_of s).zones (machine_of led.standing).zones
   pub last : last_of (machine_of s) led.moments ≡ machine_of led.standing
 
 run_of : (s : Standing) (led is : Led) → led ≡ is → IsRunning s is → IsRunning s led
 run_of s led is e r = subst (λ (l : Led). IsRunning s l) (sym e) r
 
 recovers_runs : (names : List Labels) (crash : Crash) (s : Standing) (keeps : List ZoneKeep) (led : Led) → Recovers names crash s keeps led → IsRunning s led
-recovers_runs names crash (Takes m) keeps led h = run_of (Takes m) led _ h.3 (record { run = (h.1, tt); last = refl })
-recovers_runs names crash (Stands m event tries) keeps led h = run_of (Stands m event tries) led _ h.3 (record { run = (h.1, tt); last = refl })
+recovers_runs names crash (Takes m) keeps led h = run_of (Takes m) led _ h.3 (record { run = (h.1, tt); set = stopped_set 0 m Flush h.0 h.1; last = refl })
+recovers_runs names crash (Stands m event tries) keeps led h = run_of (Stands m event tries) led _ h.3 (record { run = (h.1, tt); set = stopped_set tries m event h.0 h.1; last = refl })
 
 pub leads_runs : (names : List Labels) (crash : Crash) (s : Standing) (said : Commanded) (led : Led) → LeadsByCommand names crash s said led → IsRunning s led
-leads_runs names crash s Nothing led h = run_of s led (idle s) h (record { run = tt; last = refl })
-leads_runs names crash (Takes m) (Happens event) led (inl h) = run_of (Takes m) led _ h.4 (record { run = (h.3, tt); last = refl })
-leads_runs names crash (Takes m) (Happens event) led (inr h) = run_of (Takes m) led _ h (record { run = tt; last = refl })
-leads_runs names crash (Stands m stopped tries) (Happens event) led h = run_of (Stands m stopped tries) led _ h (record { run = tt; last = refl })
-leads_runs names crash (Takes m) Plans led h = run_of (Takes m) led _ h (record { run = tt; last = refl })
-leads_runs names crash (Stands m event tries) Plans led h = run_of (Stands m event tries) led _ h (record { run = tt; last = refl })
+leads_runs names crash s Nothing led h = run_of s led (idle s) h (record { run = tt; set = all_stay_set (machine_of s).zones; last = refl })
+leads_runs names crash (Takes m) (Happens event) led (inl h) = run_of (Takes m) led _ h.4 (record { run = (h.3, tt); set = step_set h.0 m event h.1 h.2 h.3; last = refl })
+leads_runs names crash (Takes m) (Happens event) led (inr h) = run_of (Takes m) led _ h (record { run = tt; set = all_stay_set m.zones; last = refl })
+leads_runs names crash (Stands m stopped tries) (Happens event) led h = run_of (Stands m stopped tries) led _ h (record { run = tt; set = all_stay_set m.zones; last = refl })
+leads_runs names crash (Takes m) Plans led h = run_of (Takes m) led _ h (record { run = tt; set = all_stay_set m.zones; last = refl })
+leads_runs names crash (Stands m event tries) Plans led h = run_of (Stands m event tries) led _ h (record { run = tt; set = all_stay_set m.zones; last = refl })
 leads_runs names crash s (Crashes keeps) led h = recovers_runs names crash s keeps led h
 leads_runs names crash s (Reopens keeps) led (inl h) = recovers_runs names crash s keeps led h
-leads_runs names crash (Takes m) (Reopens keeps) led (inr h) = run_of (Takes m) led _ h.1 (record { run = tt; last = refl })
-leads_runs names crash (Stands m event tries) (Reopens keeps) led (inr h) = run_of (Stands m event tries) led _ h.1 (record { run = tt; last = refl })
+leads_runs names crash (Takes m) (Reopens keeps) led (inr h) = run_of (Takes m) led _ h.1 (record { run = tt; set = all_stay_set m.zones; last = refl })
+leads_runs names crash (Stands m event tries) (Reopens keeps) led (inr h) = run_of (Stands m event tries) led _ h.1 (record { run = tt; set = all_stay_set m.zones; last = refl })
 
--- what zones were opened for lasts
-set_lasts_one : (a : Labels) (s : ZoneSettings) (z w : ZoneState) → IsSetAs a s z → Lasts z w → IsSetAs a s w
+-- what zones were opened for stays
+set_lasts_one : (a : Labels) (s : ZoneSpec) (z w : ZoneState) → IsSetAs a s z → StaysSet z w → IsSetAs a s w
 set_lasts_one a s z w so l = record {
-  shape = ap (λ (x : Setting). x.shape) l.setting ∙ so.shape;
+  shape = ap (λ (x : Setting). x.shape) l ∙ so.shape;
   set = record {
-    keep = so.set.keep ∙ sym (ap (λ (x : Setting). x.keep) l.setting);
-    update = (subst (λ (x : Setting). IsSet s (record z { setting = x })) (sym l.setting) so.set).update;
-    transfer = (subst (λ (x : Setting). IsSet s (record z { setting = x })) (sym l.setting) so.set).transfer;
+    keep = so.set.keep ∙ sym (ap (λ (x : Setting). x.keep) l);
+    update = (subst (λ (x : Setting). IsSet s (record z { setting = x })) (sym l) so.set).update;
+    transfer = (subst (λ (x : Setting). IsSet s (record z { setting = x })) (sym l) so.set).transfer;
   };
   range = so.range;
 }
 
-pub set_lasts : (names : List Labels) (settings : List ZoneSettings) (olds news : List ZoneState) → AreSetAs names settings olds → AllLast olds news → AreSetAs names settings news
+pub set_lasts : (names : List Labels) (settings : List ZoneSpec) (olds news : List ZoneState) → AreSetAs names settings olds → Each2 StaysSet olds news → AreSetAs names settings news
 set_lasts [] [] [] [] so l = tt
 set_lasts (a ∷ names) (s ∷ settings) (z ∷ olds) (w ∷ news) so l = (set_lasts_one a s z w so.0 l.0, set_lasts names settings olds news so.1 l.1)
 set_lasts names settings [] (w ∷ news) so l = absurd l
@@ -87,12 +90,13 @@ pub record IsRunUpTo (names : List Labels) (crash : Crash) (start : Machine) (al
   pub text : List ℕ
   pub written : Appends out out_now text
   pub run : Run start moments
+  pub set : Each2 StaysSet start.zones (machine_of now).zones
   pub last : last_of start moments ≡ machine_of now
   pub goes_on : (more : Led) (ending : Ending) → Runs names crash now number left more ending → Runs names crash (Takes start) 1 all (record { moments = moments ++ more.moments; text = text ++ more.text; standing = more.standing }) ending
 
 module _ (names : List Labels) (crash : Crash) (start : Machine) (all : List (List ℕ)) where
   pub run_begins : (out : Option (List ℕ)) → IsRunUpTo names crash start all 1 all out out (Takes start)
-  run_begins out = record { moments = []; text = []; written = nothing_more out; run = tt; last = refl; goes_on = λ more ending r. r }
+  run_begins out = record { moments = []; text = []; written = nothing_more out; run = tt; set = all_stay_set start.zones; last = refl; goes_on = λ more ending r. r }
 
   pub run_more : (number : ℕ) (line : List ℕ) (left whole : List (List ℕ)) (out out_now out_after : Option (List ℕ)) (now : Standing) (first : Led) → whole ≡ line ∷ left → IsRunUpTo names crash start all number whole out out_now now → LineLeads names crash now line first → Appends out_now out_after first.text → IsRunUpTo names crash start all (number + 1) left out out_after first.standing
   run_more number line left whole out out_now out_after now first e h p a =
@@ -102,6 +106,7 @@ module _ (names : List Labels) (crash : Crash) (start : Machine) (all : List (Li
         text = h.text ++ first.text;
         written = appends_more out out_now out_after h.text first.text h.written a;
         run = runs_joined start h.moments first.moments h.run (subst (λ (m : Machine). Run m first.moments) (sym h.last) more.run);
+        set = stay_set_on start.zones (machine_of now).zones (machine_of first.standing).zones h.set more.set;
         last = last_joined start h.moments first.moments ∙ ap (λ (m : Machine). last_of m first.moments) h.last ∙ more.last;
         goes_on = λ later ending r.
             let whole_led : Led = record { moments = first.moments ++ later.moments; text = first.text ++ later.text; standing = later.standing } in
@@ -135,7 +140,7 @@ module _ (names : List Labels) (crash : Crash) (start : Machine) (all : List (Li
       (subst (λ (ls : List (List ℕ)). Runs names crash now number ls (record (idle now) { text = text }) Refused) (sym e) (inr (inr (text, refuses, refl, refl))))
 
 -- The same over what a primary and its devices stand for, whatever machine the first one kept.
-module _ {D I : Type 0} {g : Ghosts D} {i : index.Ghosts I} {s : store.Ghosts (KeptStore D I g)} (left_by : D → told.Keep → Content) (names : List Labels) (settings : List ZoneSettings) (all : List (List ℕ)) (first : Primary I (KeptStore D I g) i s) where
+module _ {D I : Type 0} {g : Ghosts D} {i : index.Ghosts I} {s : store.Ghosts (KeptStore D I g)} (left_by : D → told.Keep → Content) (names : List Labels) (settings : List ZoneSpec) (all : List (List ℕ)) (first : Primary I (KeptStore D I g) i s) where
   abbrev pub AreRunUpTo : ℕ → List (List ℕ) → Option (List ℕ) → Option (List ℕ) → Option (Primary I (KeptStore D I g) i s) → List D → Type 0
   AreRunUpTo number left out out_now p devices =
       (start : Machine) → IsMachineReached names settings start → IsKept first start → (now : Standing) × IsRunUpTo names (IsCrash g left_by names settings) start all number left out out_now now × IsAt names settings p devices now
@@ -144,11 +149,7 @@ module _ {D I : Type 0} {g : Ghosts D} {i : index.Ghosts I} {s : store.Ghosts (K
   begin_all out devices start reached kept = (Takes start, run_begins names (IsCrash g left_by names settings) start all out, kept)
 
   set_now : (start : Machine) (number : ℕ) (left : List (List ℕ)) (out out_now : Option (List ℕ)) (now : Standing) → IsMachineReached names settings start → IsRunUpTo names (IsCrash g left_by names settings) start all number left out out_now now → AreSetAs names settings (machine_of now).zones
-  set_now start number left out out_now now reached h =
-      let joined = runs_joined reached.first reached.before h.moments reached.run (subst (λ (m : Machine). Run m h.moments) (sym reached.last) h.run) in
-      let promise = fresh_keeps reached.zones reached.loaded reached.first (reached.before ++ h.moments) reached.fresh joined in
-      let last = last_joined reached.first reached.before h.moments ∙ ap (λ (m : Machine). last_of m h.moments) reached.last ∙ h.last in
-      subst (λ (m : Machine). AreSetAs names settings m.zones) last (set_lasts names settings (reached.first).zones (last_of reached.first (reached.before ++ h.moments)).zones reached.set promise.loaded)
+  set_now start number left out out_now now reached h = set_lasts names settings start.zones (machine_of now).zones reached.set h.set
 
   pub more_all : (number : ℕ) (line : List ℕ) (left whole : List (List ℕ)) (out out_now out_after : Option (List ℕ)) (p q : Option (Primary I (KeptStore D I g) i s)) (devices rest : List D) → whole ≡ line ∷ left → AreRunUpTo number whole out out_now p devices
       → LeadsOn names settings (λ from led. LineLeads names (IsCrash g left_by names settings) from line led) p devices q rest out_now out_after → AreRunUpTo (number + 1) left out out_after q rest

@@ -19,31 +19,31 @@ split_none p (x ∷ xs) e = at (p x) e (λ h. split_none p xs h)
 abbrev pub kept : List ℕ → List (List ℕ) → List (List ℕ)
 kept word more = cond (nat_lt 0 (length word)) (word ∷ more) more
 
-pub cut_words : (text word behind : List ℕ) → MatchOption (position is_blank text) ((word ≡ text) × (behind ≡ [])) (λ _. (word ≡ before_first is_blank text) × (behind ≡ after_first is_blank text)) → words text ≡ kept word (words behind)
-cut_words text word behind h = go (nat_lt (position_or_len is_blank text) (length text)) refl h
+pub cut_words : (text word pending : List ℕ) → MatchOption (position is_blank text) ((word ≡ text) × (pending ≡ [])) (λ _. (word ≡ before_first is_blank text) × (pending ≡ after_first is_blank text)) → words text ≡ kept word (words pending)
+cut_words text word pending h = go (nat_lt (position_or_len is_blank text) (length text)) refl h
   where
-    go : (b : Bool) → nat_lt (position_or_len is_blank text) (length text) ≡ b → MatchOption (cond b (Some (position_or_len is_blank text)) None) ((word ≡ text) × (behind ≡ [])) (λ _. (word ≡ before_first is_blank text) × (behind ≡ after_first is_blank text)) → words text ≡ kept word (words behind)
+    go : (b : Bool) → nat_lt (position_or_len is_blank text) (length text) ≡ b → MatchOption (cond b (Some (position_or_len is_blank text)) None) ((word ≡ text) × (pending ≡ [])) (λ _. (word ≡ before_first is_blank text) × (pending ≡ after_first is_blank text)) → words text ≡ kept word (words pending)
     go true e is = (let inside : position_or_len is_blank text < length text = grind (arith, nat_tests, e) in rw (is.0, is.1) (ap (filter (λ w. nat_lt 0 (length w))) (slice_split_first is_blank text 0 inside)))
     go false e is = rw (is.0, is.1) (ap (filter (λ w. nat_lt 0 (length w))) (split_none is_blank text e))
 
-pub one_word : (text word behind : List ℕ) → words text ≡ kept word (words behind) → 0 < length word → words text ≡ word ∷ words behind
-one_word text word behind e some = (let yes : nat_lt 0 (length word) ≡ true = grind (arith, nat_tests, some) in e ∙ ap (λ b. cond b (word ∷ words behind) (words behind)) yes)
+pub one_word : (text word pending : List ℕ) → words text ≡ kept word (words pending) → 0 < length word → words text ≡ word ∷ words pending
+one_word text word pending e some = (let yes : nat_lt 0 (length word) ≡ true = grind (arith, nat_tests, some) in e ∙ ap (λ b. cond b (word ∷ words pending) (words pending)) yes)
 
-pub cut_pieces : (p : ℕ → Bool) (text front : List ℕ) (behind : Option (List ℕ)) → MatchOption (position p text) ((front ≡ text) × (behind ≡ None)) (λ _. (front ≡ before_first p text) × (behind ≡ Some (after_first p text))) → slice_split p text ≡ front ∷ pieces_left p behind
-cut_pieces p text front behind h = go (nat_lt (position_or_len p text) (length text)) refl h
+pub cut_pieces : (p : ℕ → Bool) (text front : List ℕ) (pending : Option (List ℕ)) → MatchOption (position p text) ((front ≡ text) × (pending ≡ None)) (λ _. (front ≡ before_first p text) × (pending ≡ Some (after_first p text))) → slice_split p text ≡ front ∷ pieces_left p pending
+cut_pieces p text front pending h = go (nat_lt (position_or_len p text) (length text)) refl h
   where
-    go : (b : Bool) → nat_lt (position_or_len p text) (length text) ≡ b → MatchOption (cond b (Some (position_or_len p text)) None) ((front ≡ text) × (behind ≡ None)) (λ _. (front ≡ before_first p text) × (behind ≡ Some (after_first p text))) → slice_split p text ≡ front ∷ pieces_left p behind
+    go : (b : Bool) → nat_lt (position_or_len p text) (length text) ≡ b → MatchOption (cond b (Some (position_or_len p text)) None) ((front ≡ text) × (pending ≡ None)) (λ _. (front ≡ before_first p text) × (pending ≡ Some (after_first p text))) → slice_split p text ≡ front ∷ pieces_left p pending
     go true e is = (let inside : position_or_len p text < length text = grind (arith, nat_tests, e) in rw (is.0, is.1) (slice_split_first p text 0 inside))
     go false e is = rw (is.0, is.1) (split_none p text e)
 
 -- the lines of a text are its pieces, each without the carriage return at its end
-pub lines_of_pieces : (text line : List ℕ) (behind : Option (List ℕ)) → slice_split is_feed text ≡ line ∷ pieces_left is_feed behind → lines text ≡ strip_carriage_return line ∷ lines_left behind
+pub lines_of_pieces : (text line : List ℕ) (pending : Option (List ℕ)) → slice_split is_feed text ≡ line ∷ pieces_left is_feed pending → lines text ≡ strip_carriage_return line ∷ lines_left pending
 lines_of_pieces text line None e = ap (map strip_carriage_return) e
 lines_of_pieces text line (Some rest) e = ap (map strip_carriage_return) e
 
-pub less_room : (p : ℕ → Bool) (text front : List ℕ) (behind : Option (List ℕ)) → MatchOption (position p text) ((front ≡ text) × (behind ≡ None)) (λ _. (front ≡ before_first p text) × (behind ≡ Some (after_first p text))) → room behind ≤ length text
-less_room p text front behind h = go (nat_lt (position_or_len p text) (length text)) refl h
+pub less_room : (p : ℕ → Bool) (text front : List ℕ) (pending : Option (List ℕ)) → MatchOption (position p text) ((front ≡ text) × (pending ≡ None)) (λ _. (front ≡ before_first p text) × (pending ≡ Some (after_first p text))) → room pending ≤ length text
+less_room p text front pending h = go (nat_lt (position_or_len p text) (length text)) refl h
   where
-    go : (b : Bool) → nat_lt (position_or_len p text) (length text) ≡ b → MatchOption (cond b (Some (position_or_len p text)) None) ((front ≡ text) × (behind ≡ None)) (λ _. (front ≡ before_first p text) × (behind ≡ Some (after_first p text))) → room behind ≤ length text
+    go : (b : Bool) → nat_lt (position_or_len p text) (length text) ≡ b → MatchOption (cond b (Some (position_or_len p text)) None) ((front ≡ text) × (pending ≡ None)) (λ _. (front ≡ before_first p text) × (pending ≡ Some (after_first p text))) → room pending ≤ length text
     go true e is = (let inside : position_or_len p text < length text = grind (arith, nat_tests, e) in rw (is.1) (omega (arith, length-drop (position_or_len p text + 1) text, inside)))
     go false e is = rw (is.1) (omega arith)

@@ -93,16 +93,16 @@ said_keep (code_keep.These numbers) = These numbers.items
 abbrev pub said_zone_keep : CodeZoneKeep → ZoneKeep
 said_zone_keep k = record { zone = k.zone; keep = said_keep k.keep }
 
-abbrev pub said : code.Command → Command
-said code_command.Nothing = Nothing
-said (code_command.Datagram peer octets) = Datagram peer octets.items
-said (code_command.Connect peer) = Connect peer
-said (code_command.Message number octets) = Message number octets.items
-said (code_command.Pump number) = Pump number
-said (code_command.Close number) = Close number
-said code_command.Flush = Flush
-said (code_command.Checkpoint zone) = Checkpoint zone
-said (code_command.Fail n) = Fail n
-said (code_command.Stop n) = Stop n
-said (code_command.Crash keeps) = Crash (map said_zone_keep keeps.items)
-said (code_command.Reopen n keeps) = Reopen n (map said_zone_keep keeps.items)
+abbrev pub said_command : code.Command → Command
+said_command code_command.Nothing = Nothing
+said_command (code_command.Datagram peer octets) = Datagram peer octets.items
+said_command (code_command.Connect peer) = Connect peer
+said_command (code_command.Message number octets) = Message number octets.items
+said_command (code_command.Pump number) = Pump number
+said_command (code_command.Close number) = Close number
+said_command code_command.Flush = Flush
+said_command (code_command.Checkpoint zone) = Checkpoint zone
+said_command (code_command.Fail n) = Fail n
+said_command (code_command.Stop n) = Stop n
+said_command (code_command.Crash keeps) = Crash (map said_zone_keep keeps.items)
+said_command (code_command.Reopen n keeps) = Reopen n (map said_zone_keep keeps.items)

@@ -6,7 +6,7 @@ use Rattle.dns_sectors.specs.declared.device.Sectors.{Ghosts}
 use Rattle.dns_sectors.specs.declared.memory.Keep as told
 use Rattle.dns_sectors.specs.declared.memory.Keep.TheVariants as told_keep
 use Rattle.dns_store.specs.Opens.{opens}
-use Rattle.dns_primary.specs.declared.primary.ZoneSettings.{ZoneSettings}
+use Rattle.dns_primary.specs.declared.primary.ZoneSpec.{ZoneSpec}
 use Rattle.dns_primary.specs.Machine.{Machine, ZoneState}
 use Rattle.dns_primary.specs.Open.{AreRecoverable}
 use Rattle.dns_primary.specs.Stop.{IsRecovered, reopened_as}
@@ -59,7 +59,7 @@ AreOpenedOver g (d ∷ devices) (z ∷ zones) = IsOpenedOver g d z × AreOpenedO
 AreOpenedOver g _ _ = ⊥
 
 module _ {D : Type 0} (g : Ghosts D) (kept : D → told.Keep → Content) (names : List Labels)
-    (settings : List ZoneSettings) where
+    (settings : List ZoneSpec) where
   -- The devices of a script in this state crash, keeping these of their pending writes, and are those now.
   pub record AreCrashed (s : Standing) (keeps : List ZoneKeep) (after : List D) : Type 0 where
     pub before : List D

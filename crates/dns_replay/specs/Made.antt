@@ -5,10 +5,10 @@ use Rattle.dns_sectors.specs.declared.device.Sectors.{Ghosts}
 use Rattle.dns_store.specs.Opens.{opens}
 use Rattle.dns_store.specs.Opening.{IsInRange}
 use Rattle.dns_store.specs.Formatting.{first_of}
-use Rattle.dns_primary.specs.declared.primary.ZoneSettings.{ZoneSettings}
+use Rattle.dns_primary.specs.declared.primary.ZoneSpec.{ZoneSpec}
 
 -- It opens as the zone that was loaded, whatever a crash leaves of it.
-pub record IsMadeOf {D : Type 0} (g : Ghosts D) (zone : Zone) (s : ZoneSettings) (device : D) : Type 0 where
+pub record IsMadeOf {D : Type 0} (g : Ghosts D) (zone : Zone) (s : ZoneSpec) (device : D) : Type 0 where
   pub range : IsInRange s.snapshot s.journal
   pub honest : g.is_honest device
   pub leaves : (c : Content)

@@ -12,7 +12,7 @@ use Rattle.dns_store.specs.declared.kept_store.KeptStore.{KeptStore}
 use Rattle.dns_primary.specs.declared.event.Effects.{Effects}
 use Rattle.dns_primary.specs.declared.event.To.{To}
 use Rattle.dns_primary.specs.declared.primary.Primary.{Primary}
-use Rattle.dns_primary.specs.declared.primary.ZoneSettings.{ZoneSettings}
+use Rattle.dns_primary.specs.declared.primary.ZoneSpec.{ZoneSpec}
 use Rattle.dns_primary.specs.Machine.{Machine}
 use Rattle.dns_primary.specs.Keeps.{IsKept, header_out, reply_out}
 use Rattle.dns_primary.specs.Open.{AreRecoverable}
@@ -32,10 +32,10 @@ use Rattle.dns_replay.specs.declared.run.Ending.{Ending}
 
 -- The replies of an event in order, as they go out.
 abbrev pub replies_out : Effects → List (To × List ℕ)
-replies_out effects = map header_out effects.headers.items ++ reply_out effects.reply
+replies_out effects = map header_out effects.headers.items ++ reply_out effects.message
 
 -- The same settings again.
-pub record AreSame (s t : ZoneSettings) : Type 0 where
+pub record AreSame (s t : ZoneSpec) : Type 0 where
   pub snapshot : t.snapshot ≡ s.snapshot
   pub journal : t.journal ≡ s.journal
   pub keep : t.keep ≡ s.keep
@@ -48,7 +48,7 @@ crash_by keeps None = Crashes keeps
 crash_by keeps (Some n) = Reopens keeps
 
 module _ {D I : Type 0} {g : Ghosts D} {i : index.Ghosts I} {s : store.Ghosts (KeptStore D I g)}
-    (names : List Labels) (settings : List ZoneSettings)
+    (names : List Labels) (settings : List ZoneSpec)
   where
     -- A primary keeps the machine; or of one that stopped within an event these devices are left.
     abbrev pub IsAt : Option (Primary I (KeptStore D I g) i s) → List D → Standing → Type 0
@@ -81,7 +81,7 @@ IsOpeningRefused names stop devices left out out_after NoCommand = ⊥
 module _ {D I : Type 0} {g : Ghosts D} {i : index.Ghosts I} {s : store.Ghosts (KeptStore D I g)}
     (kept : D → told.Keep → Content) where
   -- What is said leads on, or ends the run.
-  abbrev pub DoesBy : List Labels → List ZoneSettings → Commanded
+  abbrev pub DoesBy : List Labels → List ZoneSpec → Commanded
       → Option (Primary I (KeptStore D I g) i s) → List D
       → Option (Primary I (KeptStore D I g) i s) → List D → Option (List ℕ) → Option (List ℕ) → After → Type 0
   DoesBy names settings said p devices q left out out_after GoesOn =
@@ -91,7 +91,7 @@ module _ {D I : Type 0} {g : Ghosts D} {i : index.Ghosts I} {s : store.Ghosts (K
       MayRefuse said × RefusesStore names out out_after
   DoesBy names settings said p devices q left out out_after NoCommand = ⊥
 
-  abbrev pub LineDoes : List Labels → List ZoneSettings → List ℕ
+  abbrev pub LineDoes : List Labels → List ZoneSpec → List ℕ
       → Option (Primary I (KeptStore D I g) i s) → List D
       → Option (Primary I (KeptStore D I g) i s) → List D → Option (List ℕ) → Option (List ℕ) → After → Type 0
   LineDoes names settings line p devices q left out out_after GoesOn =
@@ -102,14 +102,14 @@ module _ {D I : Type 0} {g : Ghosts D} {i : index.Ghosts I} {s : store.Ghosts (K
   LineDoes names settings line p devices q left out out_after NoCommand =
       IsNoCommand names line × (q ≡ p) × (left ≡ devices) × Keeps out out_after
 
--- A run led to the machine from one to which nothing had happened, and whose zones were opened for these
--- names and settings.
-pub record IsMachineReached (names : List Labels) (settings : List ZoneSettings) (m : Machine) : Type 0 where
+-- A run led to the machine from one to which nothing had happened, and its zones have these names and
+-- settings.
+pub record IsMachineReached (names : List Labels) (settings : List ZoneSpec) (m : Machine) : Type 0 where
+  pub set : AreSetAs names settings m.zones
   pub zones : List Zone
-  pub loaded : List ZoneSettings
+  pub loaded : List ZoneSpec
   pub first : Machine
   pub fresh : IsFresh zones loaded first
-  pub set : AreSetAs names settings first.zones
   pub before : List Moment
   pub run : Run first before
   pub last : last_of first before ≡ m
@@ -117,7 +117,7 @@ pub record IsMachineReached (names : List Labels) (settings : List ZoneSettings)
 -- From each such machine that the primary kept, the lines lead there, by moments that are a run of the
 -- machine.
 abbrev pub RanScript : {D I : Type 0} {g : Ghosts D} {i : index.Ghosts I} {s : store.Ghosts (KeptStore D I g)}
-    → (D → told.Keep → Content) → List Labels → List ZoneSettings → List (List ℕ) → Ending
+    → (D → told.Keep → Content) → List Labels → List ZoneSpec → List (List ℕ) → Ending
     → Primary I (KeptStore D I g) i s → Option (List ℕ) → Option (List ℕ) → Type 0
 RanScript {g} kept names settings lines ending primary out out_after =
     (start : Machine) → IsMachineReached names settings start → IsKept primary start
@@ -127,7 +127,7 @@ RanScript {g} kept names settings lines ending primary out out_after =
 -- The same of zones that were loaded: they have a machine to which nothing has happened, and from each such
 -- machine the lines lead there.
 pub record RunsFrom {D : Type 0} (g : Ghosts D) (kept : D → told.Keep → Content) (zones : List Zone)
-    (settings : List ZoneSettings) (lines : List (List ℕ)) (ending : Ending) (out out_after : Option (List ℕ))
+    (settings : List ZoneSpec) (lines : List (List ℕ)) (ending : Ending) (out out_after : Option (List ℕ))
     : Type 0 where
   pub begins : (start : Machine) × IsFresh zones settings start
   pub leads : (start : Machine) → IsFresh zones settings start

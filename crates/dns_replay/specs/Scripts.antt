@@ -15,7 +15,7 @@ use Rattle.dns_records.specs.Record.{Record, serial_of}
 use Rattle.dns_zone.specs.Zone.{soas}
 use Rattle.dns_store.specs.declared.root.OpenError.{OpenError}
 use Rattle.dns_store.specs.declared.root.OpenError.TheVariants as refused
-use Rattle.dns_held.specs.Held.{shown_zone}
+use Rattle.dns_versions.specs.Held.{shown_zone}
 use Rattle.dns_primary.specs.Machine.{Machine, ZoneState, kept_of}
 use Rattle.dns_primary.specs.Flush.{all_out}
 use Rattle.dns_primary.specs.Step.{Effects, Event, Step, Arrives, Closed}
@@ -42,19 +42,19 @@ pub data Commanded : Type 0 where
   Crashes : List ZoneKeep → Commanded
   Reopens : List ZoneKeep → Commanded
 
-abbrev pub said_by : Command → Commanded
-said_by script.Nothing = Nothing
-said_by (script.Datagram address octets) = Happens (machine.Datagram (peer_of address) octets)
-said_by (script.Connect address) = Happens (machine.Connect (peer_of address))
-said_by (script.Message number octets) = Happens (Arrives number octets)
-said_by (script.Pump number) = Happens (machine.Pump number)
-said_by (script.Close number) = Happens (Closed number)
-said_by script.Flush = Happens machine.Flush
-said_by (script.Checkpoint place) = Happens (machine.Checkpoint place)
-said_by (script.Fail n) = Plans
-said_by (script.Stop n) = Plans
-said_by (script.Crash keeps) = Crashes keeps
-said_by (script.Reopen n keeps) = Reopens keeps
+abbrev pub commanded_by : Command → Commanded
+commanded_by script.Nothing = Nothing
+commanded_by (script.Datagram address octets) = Happens (machine.Datagram (peer_of address) octets)
+commanded_by (script.Connect address) = Happens (machine.Connect (peer_of address))
+commanded_by (script.Message number octets) = Happens (Arrives number octets)
+commanded_by (script.Pump number) = Happens (machine.Pump number)
+commanded_by (script.Close number) = Happens (Closed number)
+commanded_by script.Flush = Happens machine.Flush
+commanded_by (script.Checkpoint place) = Happens (machine.Checkpoint place)
+commanded_by (script.Fail n) = Plans
+commanded_by (script.Stop n) = Plans
+commanded_by (script.Crash keeps) = Crashes keeps
+commanded_by (script.Reopen n keeps) = Reopens keeps
 
 -- A reply: where it goes, and its octets.
 abbrev pub printed_to : To → List ℕ
@@ -230,13 +230,13 @@ pub record LineLeads (origins : List Labels) (crash : Crash) (s : Standing) (lin
     (led : Led) : Type 0 where
   pub command : Command
   pub says : SaysCommand origins line command
-  pub leads : LeadsByCommand origins crash s (said_by command) led
+  pub leads : LeadsByCommand origins crash s (commanded_by command) led
 
 -- ... or ends the run.
 pub record LineRefuses (origins : List Labels) (line text : List ℕ) : Type 0 where
   pub command : Command
   pub says : SaysCommand origins line command
-  pub crashes : MayRefuse (said_by command)
+  pub crashes : MayRefuse (commanded_by command)
   pub place : ℕ
   pub error : OpenError
   pub printed : text ≡ printed_refusal (slice_get origins place) error

@@ -2,7 +2,7 @@
 ghost use Rattle.std.specs.Prelude.{◌≡◌, ℕ, List, [], ◌∷◌, length, MatchOption, IfOk, Some, codes};
 ghost use Rattle.dns_names.specs.Name.{Labels};
 ghost use Rattle.dns_replay.specs.Commands.{AreWordsOf, Command as Stated, HasOctets, IsCount, IsNumber};
-ghost use Rattle.dns_replay.specs.Commands.{SaysCommand, is_comment, said};
+ghost use Rattle.dns_replay.specs.Commands.{SaysCommand, is_comment, said_command};
 ghost use Rattle.dns_replay.specs.Lines.{words};
 
 use crate::keeps::{ZoneKeep, keeps, place_named};
@@ -64,7 +64,7 @@ fn octets(alloc: Heap, text: &[u8]) -> Result<Option<Vec<u8, Heap>>, AllocError>
 fn datagram(alloc: Heap, rest: &[u8]) -> Result<Option<Command>, AllocError>
     ensures { (origins : List Labels) → IfOk result
         (λ read. MatchOption read ((c : Stated) → ¬ (AreWordsOf origins (codes "udp" ∷ words rest.now) c))
-        (λ c. AreWordsOf origins (codes "udp" ∷ words rest.now) (said c))) }
+        (λ c. AreWordsOf origins (codes "udp" ∷ words rest.now) (said_command c))) }
 {
     let Some((peer, text)) = two_words(rest) else {
         return Ok(None);
@@ -82,7 +82,7 @@ fn datagram(alloc: Heap, rest: &[u8]) -> Result<Option<Command>, AllocError>
 fn message(alloc: Heap, rest: &[u8]) -> Result<Option<Command>, AllocError>
     ensures { (origins : List Labels) → IfOk result
         (λ read. MatchOption read ((c : Stated) → ¬ (AreWordsOf origins (codes "tcp" ∷ words rest.now) c))
-        (λ c. AreWordsOf origins (codes "tcp" ∷ words rest.now) (said c))) }
+        (λ c. AreWordsOf origins (codes "tcp" ∷ words rest.now) (said_command c))) }
 {
     let Some((digits, text)) = two_words(rest) else {
         return Ok(None);
@@ -100,7 +100,7 @@ fn message(alloc: Heap, rest: &[u8]) -> Result<Option<Command>, AllocError>
 fn connect(rest: &[u8]) -> Option<Command>
     ensures { (origins : List Labels)
         → MatchOption result ((c : Stated) → ¬ (AreWordsOf origins (codes "connect" ∷ words rest.now) c))
-        (λ c. AreWordsOf origins (codes "connect" ∷ words rest.now) (said c)) }
+        (λ c. AreWordsOf origins (codes "connect" ∷ words rest.now) (said_command c)) }
 {
     let peer = address(only_word(rest)?)?;
     Some(Command::Connect(peer))
@@ -110,7 +110,7 @@ fn connect(rest: &[u8]) -> Option<Command>
 fn close(rest: &[u8]) -> Option<Command>
     ensures { (origins : List Labels)
         → MatchOption result ((c : Stated) → ¬ (AreWordsOf origins (codes "close" ∷ words rest.now) c))
-        (λ c. AreWordsOf origins (codes "close" ∷ words rest.now) (said c)) }
+        (λ c. AreWordsOf origins (codes "close" ∷ words rest.now) (said_command c)) }
 {
     let connection = number(only_word(rest)?)?;
     Some(Command::Close(connection))
@@ -120,7 +120,7 @@ fn close(rest: &[u8]) -> Option<Command>
 fn pump(rest: &[u8]) -> Option<Command>
     ensures { (origins : List Labels)
         → MatchOption result ((c : Stated) → ¬ (AreWordsOf origins (codes "pump" ∷ words rest.now) c))
-        (λ c. AreWordsOf origins (codes "pump" ∷ words rest.now) (said c)) }
+        (λ c. AreWordsOf origins (codes "pump" ∷ words rest.now) (said_command c)) }
 {
     let connection = number(only_word(rest)?)?;
     Some(Command::Pump(connection))
@@ -130,7 +130,7 @@ fn pump(rest: &[u8]) -> Option<Command>
 fn flush(rest: &[u8]) -> Option<Command>
     ensures { (origins : List Labels)
         → MatchOption result ((c : Stated) → ¬ (AreWordsOf origins (codes "flush" ∷ words rest.now) c))
-        (λ c. AreWordsOf origins (codes "flush" ∷ words rest.now) (said c)) }
+        (λ c. AreWordsOf origins (codes "flush" ∷ words rest.now) (said_command c)) }
 {
     match first_word(rest) {
         Some(_) => None,
@@ -153,7 +153,7 @@ fn count(text: &[u8]) -> Option<u32>
 fn fail(rest: &[u8]) -> Option<Command>
     ensures { (origins : List Labels)
         → MatchOption result ((c : Stated) → ¬ (AreWordsOf origins (codes "fail" ∷ words rest.now) c))
-        (λ c. AreWordsOf origins (codes "fail" ∷ words rest.now) (said c)) }
+        (λ c. AreWordsOf origins (codes "fail" ∷ words rest.now) (said_command c)) }
 {
     let n = count(only_word(rest)?)?;
     Some(Command::Fail(n))
@@ -163,7 +163,7 @@ fn fail(rest: &[u8]) -> Option<Command>
 fn stop(rest: &[u8]) -> Option<Command>
     ensures { (origins : List Labels)
         → MatchOption result ((c : Stated) → ¬ (AreWordsOf origins (codes "stop" ∷ words rest.now) c))
-        (λ c. AreWordsOf origins (codes "stop" ∷ words rest.now) (said c)) }
+        (λ c. AreWordsOf origins (codes "stop" ∷ words rest.now) (said_command c)) }
 {
     let n = count(only_word(rest)?)?;
     Some(Command::Stop(n))
@@ -174,7 +174,7 @@ fn checkpoint(alloc: Heap, origins: &[Name], rest: &[u8]) -> Result<Option<Comma
     ensures { IfOk result
         (λ read. MatchOption read
         ((c : Stated) → ¬ (AreWordsOf origins.now (codes "checkpoint" ∷ words rest.now) c))
-        (λ c. AreWordsOf origins.now (codes "checkpoint" ∷ words rest.now) (said c))) }
+        (λ c. AreWordsOf origins.now (codes "checkpoint" ∷ words rest.now) (said_command c))) }
 {
     let Some(origin) = only_word(rest) else {
         return Ok(None);
@@ -190,7 +190,7 @@ fn crash(alloc: Heap, origins: &[Name], rest: &[u8]) -> Result<Option<Command>, 
     ensures { IfOk result
         (λ read. MatchOption read
         ((c : Stated) → ¬ (AreWordsOf origins.now (codes "crash" ∷ words rest.now) c))
-        (λ c. AreWordsOf origins.now (codes "crash" ∷ words rest.now) (said c))) }
+        (λ c. AreWordsOf origins.now (codes "crash" ∷ words rest.now) (said_command c))) }
 {
     match keeps(alloc, origins, rest)? {
         Some(keeps) => Ok(Some(Command::Crash(keeps))),
@@ -203,15 +203,15 @@ fn reopen(alloc: Heap, origins: &[Name], rest: &[u8]) -> Result<Option<Command>,
     ensures { IfOk result
         (λ read. MatchOption read
         ((c : Stated) → ¬ (AreWordsOf origins.now (codes "reopen" ∷ words rest.now) c))
-        (λ c. AreWordsOf origins.now (codes "reopen" ∷ words rest.now) (said c))) }
+        (λ c. AreWordsOf origins.now (codes "reopen" ∷ words rest.now) (said_command c))) }
 {
-    let Some((digits, behind)) = first_word(rest) else {
+    let Some((digits, pending)) = first_word(rest) else {
         return Ok(None);
     };
     let Some(n) = count(digits) else {
         return Ok(None);
     };
-    match keeps(alloc, origins, behind)? {
+    match keeps(alloc, origins, pending)? {
         Some(keeps) => Ok(Some(Command::Reopen(n, keeps))),
         None => Ok(None),
     }
@@ -226,7 +226,7 @@ fn command_of(
 ) -> Result<Option<Command>, AllocError>
     ensures { IfOk result
         (λ read. MatchOption read ((c : Stated) → ¬ (AreWordsOf origins.now (verb.now ∷ words rest.now) c))
-        (λ c. AreWordsOf origins.now (verb.now ∷ words rest.now) (said c))) }
+        (λ c. AreWordsOf origins.now (verb.now ∷ words rest.now) (said_command c))) }
 {
     if verb == b"udp".as_slice() {
         return datagram(alloc, rest);
@@ -280,7 +280,7 @@ pub fn read_command(
 ) -> Result<Option<Command>, AllocError>
     ensures { IfOk result
         (λ read. MatchOption read ((c : Stated) → ¬ (SaysCommand origins.now line.now c))
-        (λ c. SaysCommand origins.now line.now (said c))) }
+        (λ c. SaysCommand origins.now line.now (said_command c))) }
 {
     if is_comment(line) {
         return Ok(Some(Command::Nothing));

@@ -1,6 +1,6 @@
 //! Devices that a script runs over.
 ghost use Rattle.std.specs.Prelude.{◌≡◌, List, ℕ, IfOk};
-ghost use Rattle.dns_sectors.specs.Crash.{applied};
+ghost use Rattle.dns_sectors.specs.Crash.{after_writes};
 ghost use Rattle.dns_sectors.specs.Device.{Only};
 ghost use Rattle.dns_sectors.specs.Kept.{kept};
 ghost use Rattle.dns_sectors.specs.Record.{disk_of};
@@ -34,7 +34,7 @@ const CALLS_A_SECTOR: usize = 2;
 const MORE_CALLS: usize = 4096;
 
 impl ScriptDevice for MemorySectors {
-    ghost left_by = { λ device keep. applied (kept keep 1 (disk_of device).pending)
+    ghost left_by = { λ device keep. after_writes (kept keep 1 (disk_of device).pending)
         (disk_of device).durable };
 
     fn make(alloc: Heap, len: usize, plan: Rc<Plan, Heap>) -> Result<MemorySectors, AllocError> {

@@ -1,7 +1,7 @@
 //! A script over zones that were loaded: a device is made for each, with its store, and the primary is opened
 //! over them.
 ghost use Rattle.std.specs.Prelude.{◌≡◌, ◌≢◌, ◌∷◌, ◌++◌, [], length, map, IfErr, IfOk, OnOk};
-ghost use Rattle.dns_held.specs.Each.{Each2, Each3};
+ghost use Rattle.dns_versions.specs.Each.{Each2, Each3};
 ghost use Rattle.dns_replay.specs.Lines.{lines};
 ghost use Rattle.dns_replay.specs.Made.{IsMadeOf};
 ghost use Rattle.dns_replay.specs.Runs.{AreSame, RunsFrom};
@@ -11,7 +11,7 @@ use crate::run::{Ending, run_script};
 use crate::standing::{World, settings_again};
 use dns_memory::Heap;
 use dns_names::Name;
-use dns_primary::{Primary, ZoneSettings};
+use dns_primary::{Primary, ZoneSpec};
 use dns_sectors::Plan;
 use dns_store::{FormatError, KeptStore, format};
 use dns_zone::{Zone, ZoneIndex};
@@ -41,7 +41,7 @@ fn names_of<I: ZoneIndex>(alloc: Heap, zones: &[Zone<I>]) -> Result<Vec<Name, He
 fn make_one<D: ScriptDevice, I: ZoneIndex>(
     alloc: Heap,
     zone: &Zone<I>,
-    settings: &ZoneSettings,
+    settings: &ZoneSpec,
     plan: &Rc<Plan, Heap>,
 ) -> Result<D, FormatError>
     ensures { IfOk result (IsMadeOf D.Sectors zone.now settings.now) }
@@ -63,7 +63,7 @@ fn make_into<D: ScriptDevice, I: ZoneIndex>(
     alloc: Heap,
     devices: &mut Vec<D, Heap>,
     zone: &Zone<I>,
-    settings: &ZoneSettings,
+    settings: &ZoneSpec,
     plan: &Rc<Plan, Heap>,
 ) -> Result<(), FormatError>
     ensures { OnOk result ((device : _) × (devices.new.items ≡ devices.old.items ++ device ∷ [])
@@ -78,7 +78,7 @@ fn make_into<D: ScriptDevice, I: ZoneIndex>(
 fn make_all<D: ScriptDevice, I: ZoneIndex>(
     alloc: Heap,
     zones: &[Zone<I>],
-    settings: &[ZoneSettings],
+    settings: &[ZoneSpec],
     plan: &Rc<Plan, Heap>,
 ) -> Result<Vec<D, Heap>, NotMade>
     requires { length zones.now ≡ length settings.now }
@@ -99,7 +99,7 @@ fn make_all<D: ScriptDevice, I: ZoneIndex>(
 fn replay_over<D: ScriptDevice, I: ZoneIndex, W: Write>(
     world: World<'_>,
     zones: &[Zone<I>],
-    again: Vec<ZoneSettings, Heap>,
+    again: Vec<ZoneSpec, Heap>,
     devices: Vec<D, Heap>,
     script: &[u8],
     out: &mut W,
@@ -121,7 +121,7 @@ fn replay_over<D: ScriptDevice, I: ZoneIndex, W: Write>(
 pub fn replay_zones<D: ScriptDevice, I: ZoneIndex, W: Write>(
     alloc: Heap,
     zones: Vec<Zone<I>, Heap>,
-    settings: Vec<ZoneSettings, Heap>,
+    settings: Vec<ZoneSpec, Heap>,
     script: &[u8],
     out: &mut W,
 ) -> Result<Ending, NotMade>

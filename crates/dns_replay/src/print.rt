@@ -91,7 +91,7 @@ fn print_replies<W: Write>(alloc: Heap, effects: &Effects, out: &mut W) -> io::R
         (flat_map printed_reply (replies_out effects.now))) }
 {
     print_headers(alloc, effects.headers.as_slice(), out)?;
-    match &effects.reply {
+    match &effects.message {
         Some(reply) => print_reply(alloc, reply.to, reply.octets.as_slice(), out),
         None => Ok(()),
     }

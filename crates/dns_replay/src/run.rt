@@ -1,8 +1,8 @@
 //! Scripts run over a primary, a line at a time.
 ghost use Rattle.std.specs.Prelude.{◌≡◌, ◌≢◌, IfOk};
-ghost use Rattle.dns_replay.specs.Commands.{said};
+ghost use Rattle.dns_replay.specs.Commands.{said_command};
 ghost use Rattle.dns_replay.specs.Lines.{lines};
-ghost use Rattle.dns_replay.specs.Scripts.{PlanLeads, peer_of, said_by};
+ghost use Rattle.dns_replay.specs.Scripts.{PlanLeads, peer_of, commanded_by};
 ghost use Rattle.dns_replay.specs.Runs.{DoesBy, LeadsOn, LineDoes, RanScript};
 
 use crate::command::{Command, read_command};
@@ -97,7 +97,8 @@ fn run_command<D: ScriptDevice, I: ZoneIndex, W: Write>(
     out: &mut W,
 ) -> io::Result<After>
     ensures { IfOk result
-        (DoesBy D.left_by world.entry.origins.now world.entry.settings.now (said_by (said command.now))
+        (DoesBy D.left_by world.entry.origins.now world.entry.settings.now
+        (commanded_by (said_command command.now))
         primary.old devices.old.items primary.new devices.new.items
         (W.contents out.old) (W.contents out.new)) }
 {
@@ -171,7 +172,7 @@ pub fn run_script<D: ScriptDevice, I: ZoneIndex, W: Write>(
     let mut number: u64 = 1;
     let mut rest = Some(script);
     'lines: while let Some(text) = rest {
-        let (line, behind) = split_line(text);
+        let (line, pending) = split_line(text);
         match run_line(world, &mut running, &mut devices, line, out) {
             Ok(After::GoesOn) => {}
             Ok(After::NoCommand) => return Ending::Syntax(number),
@@ -179,7 +180,7 @@ pub fn run_script<D: ScriptDevice, I: ZoneIndex, W: Write>(
             Err(_) => return Ending::Failed,
         }
         number += 1;
-        rest = behind;
+        rest = pending;
     }
     Ending::Done
 }

@@ -3,9 +3,9 @@ ghost use Rattle.std.specs.Prelude.{◌≡◌, ◌==◌, ℕ, suc, true, List, S
 ghost use Rattle.std.specs.Prelude.{MatchResult};
 ghost use Rattle.std.specs.Option.{option_copied};
 ghost use Rattle.dns_names.specs.Name.{Labels};
-ghost use Rattle.dns_held.specs.Each.{Each2};
+ghost use Rattle.dns_versions.specs.Each.{Each2};
 ghost use Rattle.dns_primary.specs.declared.event.Effects.{Effects as StatedEffects};
-ghost use Rattle.dns_primary.specs.declared.primary.ZoneSettings.{ZoneSettings as StatedSettings};
+ghost use Rattle.dns_primary.specs.declared.primary.ZoneSpec.{ZoneSpec as StatedSettings};
 ghost use Rattle.dns_primary.specs.Machine.{Machine};
 ghost use Rattle.dns_primary.specs.Step.{Event as StatedEvent};
 ghost use Rattle.dns_primary.specs.Steps.{SteppedBy, event_shown};
@@ -25,7 +25,7 @@ use crate::run::After;
 use crate::stepping::happen;
 use dns_memory::Heap;
 use dns_names::Name;
-use dns_primary::{Event, NotOpened, Primary, ZoneSettings};
+use dns_primary::{Event, NotOpened, Primary, ZoneSpec};
 use dns_sectors::{self, Plan};
 use dns_store::{KeptStore, OpenError};
 use dns_zone::ZoneIndex;
@@ -40,15 +40,15 @@ pub struct World<'w> {
     /// What memory comes from.
     pub heap: Heap,
     pub origins: &'w [Name],
-    pub settings: &'w [ZoneSettings],
+    pub settings: &'w [ZoneSpec],
     pub plan: &'w Plan,
 }
 
 /// The same settings again.
-fn setting_again(alloc: Heap, settings: &ZoneSettings) -> Result<ZoneSettings, AllocError>
+fn setting_again(alloc: Heap, settings: &ZoneSpec) -> Result<ZoneSpec, AllocError>
     ensures { IfOk result (AreSame settings.now) }
 {
-    Ok(ZoneSettings {
+    Ok(ZoneSpec {
         snapshot: settings.snapshot,
         journal: settings.journal,
         keep: settings.keep,
@@ -60,8 +60,8 @@ fn setting_again(alloc: Heap, settings: &ZoneSettings) -> Result<ZoneSettings, A
 /// The settings of all zones again.
 pub(crate) fn settings_again(
     alloc: Heap,
-    settings: &[ZoneSettings],
-) -> Result<Vec<ZoneSettings, Heap>, AllocError>
+    settings: &[ZoneSpec],
+) -> Result<Vec<ZoneSpec, Heap>, AllocError>
     ensures { IfOk result (λ again. Each2 AreSame settings.now again.items) }
 {
     let mut again = Vec::new(alloc);

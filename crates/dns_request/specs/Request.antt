@@ -5,18 +5,9 @@ use Rattle.dns_records.specs.Types.{type_ixfr, type_axfr, type_mailb, type_maila
 use Rattle.dns_wire.specs.Message.{Question, Message, header_of}
 use Rattle.dns_wire.specs.Reads.{Reads}
 use Rattle.dns_wire.specs.Reading.{message_of}
+use Rattle.dns_request.specs.Codes.{rcode_formerr, rcode_notimp, rcode_refused}
 use Rattle.dns_request.specs.declared.request.Transport.{Transport}
 use Rattle.dns_request.specs.declared.request.Transport.TheVariants.{Udp, Tcp}
-
--- Response codes (RFC 1035 4.1.1).
-abbrev pub rcode_formerr : ℕ
-rcode_formerr = 1
-
-abbrev pub rcode_notimp : ℕ
-rcode_notimp = 4
-
-abbrev pub rcode_refused : ℕ
-rcode_refused = 5
 
 -- Kinds of requests (RFC 1035 4.1.1, RFC 2136 2.2).
 abbrev pub opcode_query : ℕ

@@ -6,7 +6,8 @@ use Rattle.dns_names.specs.Name.{Labels}
 use Rattle.dns_zone.specs.Zone.{Zone}
 use Rattle.dns_wire.specs.Message.{Message, header_of}
 use Rattle.dns_wire.specs.Reads.{Reads}
-use Rattle.dns_request.specs.Request.{Request, Transfer, request_as, read_as, too_long, Refused, rcode_formerr, IsRequest}
+use Rattle.dns_request.specs.Codes.{rcode_formerr}
+use Rattle.dns_request.specs.Request.{Request, Transfer, request_as, read_as, too_long, Refused, IsRequest}
 use Rattle.dns_request.specs.declared.request.Transport.{Transport}
 use Rattle.dns_request.specs.declared.request.Transport.TheVariants.{Udp, Tcp}
 use Rattle.dns_secondary.specs.Request.{question_asked, request_message, request_octets, most_by}

@@ -9,7 +9,7 @@ use Rattle.dns_request.specs.declared.request.Transport.TheVariants.{Udp, Tcp}
 use Rattle.dns_secondary.specs.State.{State, Begun, Led, Whole, Removing, Adding, Ended, IsUnfinished}
 use Rattle.dns_secondary.specs.Rest.{is_current, Means, Reaches, FailsBy}
 use Rattle.dns_secondary.specs.Receiving.{Receiving, header_fault}
-use Rattle.dns_secondary.specs.Told.{verdict, Concludes, TellsProgress, Fails, EndsInNoZone, Hears, Feeds, RefusesFrom, RefusesFeed, over}
+use Rattle.dns_secondary.specs.Told.{progress_at_end, Concludes, TellsProgress, Fails, EndsInNoZone, Hears, Feeds, RefusesFrom, RefusesFeed, over}
 use Rattle.dns_secondary.specs.declared.fault.Fault.{Fault}
 use Rattle.dns_secondary.specs.declared.fault.Fault.TheVariants.{OutOfMemory}
 use Rattle.dns_secondary.specs.declared.fault.Progress.{Progress}
@@ -34,7 +34,7 @@ led_again true t e = absurd cc
 led_again false Udp e = (refl, refl)
 led_again false Tcp e = absurd cc
 
-more_open : (s : Receiving) (at : State) (set : List Record) → verdict s at ≡ More → Means s.apex s.held at set → ⊥
+more_open : (s : Receiving) (at : State) (set : List Record) → progress_at_end s at ≡ More → Means s.apex s.held at set → ⊥
 more_open s Begun set e m = m
 more_open s (Led soa) set e m = let no = (led_more (is_current s.held soa) s.transport e).0 in let yes = m.0 in absurd cc
 more_open s (Whole soa so_far) set e m = m
@@ -42,7 +42,7 @@ more_open s (Removing soa so_far) set e m = m
 more_open s (Adding soa so_far reached) set e m = m
 more_open s (Ended ended) set e m = absurd cc
 
-more_unfinished : (s : Receiving) (at : State) → verdict s at ≡ More → IsUnfinished at
+more_unfinished : (s : Receiving) (at : State) → progress_at_end s at ≡ More → IsUnfinished at
 more_unfinished s Begun e = tt
 more_unfinished s (Led soa) e = tt
 more_unfinished s (Whole soa so_far) e = tt
@@ -50,10 +50,10 @@ more_unfinished s (Removing soa so_far) e = tt
 more_unfinished s (Adding soa so_far reached) e = tt
 more_unfinished s (Ended ended) e = absurd cc
 
-more_tcp : (s : Receiving) (at : State) (soa : Record) → verdict s at ≡ More → at ≡ Led soa → s.transport ≡ Tcp
-more_tcp s at soa e is = (led_more (is_current s.held soa) s.transport (ap (verdict s) (sym is) ∙ e)).1
+more_tcp : (s : Receiving) (at : State) (soa : Record) → progress_at_end s at ≡ More → at ≡ Led soa → s.transport ≡ Tcp
+more_tcp s at soa e is = (led_more (is_current s.held soa) s.transport (ap (progress_at_end s) (sym is) ∙ e)).1
 
-current_led : (s : Receiving) (at : State) → verdict s at ≡ UpToDate → (soa : Record) × (at ≡ Led soa) × (is_current s.held soa ≡ true)
+current_led : (s : Receiving) (at : State) → progress_at_end s at ≡ UpToDate → (soa : Record) × (at ≡ Led soa) × (is_current s.held soa ≡ true)
 current_led s Begun e = absurd cc
 current_led s (Led soa) e = (soa, refl, led_current (is_current s.held soa) s.transport e)
 current_led s (Whole soa set) e = absurd cc
@@ -62,7 +62,7 @@ current_led s (Adding soa set reached) e = absurd cc
 current_led s (Ended set) e = absurd cc
 
 again_led : (s : Receiving) (at : State)
-    → verdict s at ≡ RetryTcp
+    → progress_at_end s at ≡ RetryTcp
     → (soa : Record) × (at ≡ Led soa) × (is_current s.held soa ≡ false) × (s.transport ≡ Udp)
 again_led s Begun e = absurd cc
 again_led s (Led soa) e = let both = led_again (is_current s.held soa) s.transport e in (soa, refl, both.0, both.1)
@@ -73,7 +73,7 @@ again_led s (Ended set) e = absurd cc
 
 pub tells : (s : Receiving) (at next : State) (records : List ResourceRecord) (p : Progress) (new : Receiving)
     → Reaches s.apex s.held at records next
-    → p ≡ verdict (over s) next
+    → p ≡ progress_at_end (over s) next
     → Concludes (over s) next p new
     → TellsProgress s at records p new
 tells s at next records More new run e c = (
@@ -120,7 +120,7 @@ fails_last s at next records fault run h =
 -- the same of a result
 pub tells_ok : (s : Receiving) (at next : State) (records : List ResourceRecord) (r : Result Progress Fault) (new : Receiving)
     → Reaches s.apex s.held at records next
-    → IfOk r (λ p. p ≡ verdict s next)
+    → IfOk r (λ p. p ≡ progress_at_end s next)
     → IfOk r (λ p. Concludes s next p new)
     → IfOk r (λ p. TellsProgress s at records p new)
 tells_ok s at next records (Ok p) new run e c = tells s at next records p new run e c

@@ -111,14 +111,14 @@ after_fault s OutOfMemory = s
 after_fault s fault = over s
 
 -- What is reported after the last record of a message.
-abbrev pub verdict : Receiving → State → Progress
-verdict s (Led soa) =
+abbrev pub progress_at_end : Receiving → State → Progress
+progress_at_end s (Led soa) =
     if is_current s.held soa then UpToDate else elim s.transport [ Udp ↦ RetryTcp | Tcp ↦ More ]
-verdict s (Ended set) = Done
-verdict s Begun = More
-verdict s (Whole soa set) = More
-verdict s (Removing soa set) = More
-verdict s (Adding soa set reached) = More
+progress_at_end s (Ended set) = Done
+progress_at_end s Begun = More
+progress_at_end s (Whole soa set) = More
+progress_at_end s (Removing soa set) = More
+progress_at_end s (Adding soa set reached) = More
 
 -- What that makes of the receiver.
 abbrev pub Concludes : Receiving → State → Progress → Receiving → Type 0

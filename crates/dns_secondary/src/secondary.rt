@@ -14,7 +14,7 @@ ghost use Rattle.dns_secondary.specs.State.{Begun, Led};
 ghost use Rattle.dns_secondary.specs.Rest.{is_current, Reaches, FailsBy};
 ghost use Rattle.dns_secondary.specs.Receiving.{header_fault, is_answer, repeats_question, type_asked};
 ghost use Rattle.dns_secondary.specs.Request.{question_asked, request_octets, request_message, most_by};
-ghost use Rattle.dns_secondary.specs.Told.{verdict, Concludes, Feeds, Hears, TellsProgress, Fails};
+ghost use Rattle.dns_secondary.specs.Told.{progress_at_end, Concludes, Feeds, Hears, TellsProgress, Fails};
 ghost use Rattle.dns_secondary.specs.Told.{RefusesMessage};
 ghost use Rattle.dns_secondary.specs.Told.{RefusesFrom, RefusesFeed, EndsInNoZone, holding, after_fault};
 
@@ -220,7 +220,7 @@ impl<I: ZoneIndex> Secondary<I> {
 
     /// What is reported where the answer was read so far.
     fn verdict(&self, reading: &Reading<I>) -> Progress
-        ensures { result ≡ verdict self.now reading.now }
+        ensures { result ≡ progress_at_end self.now reading.now }
     {
         match &reading.phase {
             Phase::Ended => Progress::Done,
@@ -232,7 +232,7 @@ impl<I: ZoneIndex> Secondary<I> {
     /// What is reported of a SOA alone.
     fn verdict_alone(&self, soa: &Record) -> Progress
         requires { is_soa soa.now ≡ true }
-        ensures { result ≡ verdict self.now (Led soa.now) }
+        ensures { result ≡ progress_at_end self.now (Led soa.now) }
     {
         if is_current(&self.held, soa) {
             return Progress::UpToDate;
@@ -265,8 +265,8 @@ impl<I: ZoneIndex> Secondary<I> {
     /// The end of the answer.
     fn finish(&mut self, reading: Reading<I>) -> Result<Progress, Fault>
         requires over { self.old.state ≡ None }
-        requires end { verdict self.old reading ≡ Progress.Done }
-        ensures told { IfOk result (λ p. p ≡ verdict self.old reading) }
+        requires end { progress_at_end self.old reading ≡ Progress.Done }
+        ensures told { IfOk result (λ p. p ≡ progress_at_end self.old reading) }
         ensures ends { IfOk result (λ p. Concludes self.old reading p self.new) }
         ensures refused { IfErr result (λ e. (e ≡ Fault.OutOfMemory) ⊎ EndsInNoZone self.old reading e) }
         ensures stays { OnErr result (self.new ≡ self.old) }
@@ -280,7 +280,7 @@ impl<I: ZoneIndex> Secondary<I> {
     /// The end of a message.
     fn conclude(&mut self, reading: Reading<I>) -> Result<Progress, Fault>
         requires { self.old.state ≡ None }
-        ensures told { IfOk result (λ p. p ≡ verdict self.old reading) }
+        ensures told { IfOk result (λ p. p ≡ progress_at_end self.old reading) }
         ensures ends { IfOk result (λ p. Concludes self.old reading p self.new) }
         ensures refused { IfErr result (λ e. (e ≡ Fault.OutOfMemory) ⊎ EndsInNoZone self.old reading e) }
         ensures stays { OnErr result (self.new ≡ self.old) }

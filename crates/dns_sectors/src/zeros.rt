@@ -1,7 +1,7 @@
 //! Zeros that are written over sectors one after the other.
 ghost use Rattle.std.specs.Prelude.{◌≡◌, ◌≤◌, ◌-◌, ◌↔◌, ℕ, List, OnOk};
 ghost use Rattle.dns_sectors.specs.Device.{LeavesOnly, CountsFailure};
-ghost use Rattle.dns_sectors.specs.Crash.{applied, CrashOf};
+ghost use Rattle.dns_sectors.specs.Crash.{after_writes, CrashOf};
 ghost use Rattle.dns_sectors.specs.Phase.{zeros_from};
 
 use crate::{DeviceError, Sectors};
@@ -13,7 +13,8 @@ pub fn write_zeros<D: Sectors>(device: &mut D, from: usize, until: usize) -> Res
     requires range { from ≤ until }
     requires within { until ≤ D.count device.old }
     ensures written { D.is_honest device.old
-        → OnOk result (D.seen device.new ≡ applied (zeros_from from (until - from)) (D.seen device.old)) }
+        → OnOk result
+        (D.seen device.new ≡ after_writes (zeros_from from (until - from)) (D.seen device.old)) }
     ensures crash { D.is_honest device.old
         → (c : List (List ℕ))
         → D.may_leave device.new c

@@ -1,41 +1,51 @@
--- How a run of `check` ends.
-use Rattle.std.proofs.Common.{◌≡◌, ℕ, inl, inr, true, false, List, [], length, Option, Result, Ok, Err, IfOk, refl, ap, ◌∙◌, arith}
-use Rattle.std.specs.Prelude.{◌⊎◌, Bool, Contains}
+-- What a status tells of the fault that was told.
+use Rattle.std.proofs.Common.{◌≡◌, ℕ, Bool, true, false, inl, inr, List, Option, Result, Ok, Err, IfOk, refl, sym, subst, ◌∙◌}
+use Rattle.std.specs.Prelude.{◌⊎◌}
 use Rattle.std.specs.Bool.{MatchBool}
+use Rattle.std.specs.Result.{result_unwrap_or}
 use Rattle.std.specs.Io.KnownBytes.{Appends}
-use Rattle.std.proofs.KnownBytes.{Keeps-refl}
-use Rattle.dns_names.specs.Name.{Labels}
-use Rattle.dns_names.specs.Text.{name_of_text}
-use Rattle.dns_records.specs.Types.{type_soa}
-use Rattle.dns_records.specs.Record.{Record, serial_of}
 use Rattle.dns_configuration.specs.declared.files.Fault.{Fault}
-use Rattle.dns_configuration.specs.Faults.{is_memory, line, loaded, fault_text}
-use Rattle.dns_server.specs.Checks.{CheckEnds, ok_text}
+use Rattle.dns_configuration.specs.Faults as files
+use Rattle.dns_configuration.specs.Faults.{IsTold, fault_text, line}
+use Rattle.dns_server.specs.declared.device_faults.DeviceFault.{DeviceFault}
+use Rattle.dns_server.specs.declared.device_faults.DeviceFault.TheVariants.{Exists, Device, Blank, Damaged, OldFormat, Geometry, ZoneTooLarge, SerialNotRaised, NoRoom, OutOfMemory}
+use Rattle.dns_server.specs.DeviceFaults.{IsDeviceTold, device_text, is_memory_fault, status_of}
 
--- A file that holds a zone.
-pub good : (octets : Option (List ℕ)) (path origin : List ℕ) (out out_after err : Option (List ℕ)) (apex : Labels) (records : List Record) (soa : Record) (count serial : ℕ) → name_of_text [] origin ≡ Ok apex → loaded octets apex ≡ Ok records → Contains records soa → soa.rtype ≡ type_soa → count ≡ length records → serial ≡ serial_of soa → Appends out out_after (line (ok_text count serial)) → CheckEnds octets path origin out out_after err err 0
-good octets path origin out out_after err apex records soa count serial named holds has is counted shown written = record {
-  done = λ _. (ok_text count serial, record { apex = apex; records = records; soa = soa; named = named; holds = holds; has = (has, is); says = ap (λ n. ok_text n serial) counted ∙ ap (ok_text (length records)) shown }, written, Keeps-refl err);
-  refused = λ e. absurd (omega (arith, e));
-  others = inl (omega arith);
-}
+-- What holds of the status of a run that went on, and of 3, holds of the status.
+pub unwrapped : {E : Type 0} (P : ℕ → Type 0) (r : Result ℕ E) (status : ℕ) → status ≡ result_unwrap_or r 3 → IfOk r P → P 3 → P status
+unwrapped P (Ok x) status e h f = subst P (sym e) h
+unwrapped P (Err x) status e h f = subst P (sym e) f
 
--- A file that holds none.
-pub bad : {E : Type 0} (octets : Option (List ℕ)) (path origin : List ℕ) (out err err_after : Option (List ℕ)) (apex : Labels) (fault : Fault) (r : Result ℕ E) → name_of_text [] origin ≡ Ok apex → ((is_memory fault ≡ true) ⊎ (loaded octets apex ≡ Err fault)) → IfOk r (λ status. MatchBool (is_memory fault) (status ≡ 3) ((status ≡ 1) × Appends err err_after (line (fault_text path fault)))) → IfOk r (λ status. CheckEnds octets path origin out out err err_after status)
-bad octets path origin out err err_after apex fault (Err e) named why h = tt
-bad octets path origin out err err_after apex fault (Ok status) named why h = go (is_memory fault) refl h
+status_known : (fault : DeviceFault) → (status_of fault ≡ 1) ⊎ (status_of fault ≡ 3)
+status_known Exists = inl refl
+status_known Device = inr refl
+status_known Blank = inl refl
+status_known (Damaged sector) = inl refl
+status_known OldFormat = inl refl
+status_known Geometry = inl refl
+status_known ZoneTooLarge = inl refl
+status_known SerialNotRaised = inl refl
+status_known NoRoom = inl refl
+status_known OutOfMemory = inr refl
+
+-- The fault of a device was told: the status is 3, or it is 1 and the fault is one of those that are refusals.
+pub device_told : {E : Type 0} (P : ℕ → Type 0) (path : List ℕ) (fault : DeviceFault) (explain : Bool) (err err_after : Option (List ℕ)) (r : Result ℕ E) → IfOk r (λ status. IsDeviceTold path fault explain err err_after status) → P 3 → (status_of fault ≡ 1 → Appends err err_after (line (device_text path fault explain)) → P 1) → IfOk r P
+device_told P path fault explain err err_after (Err e) told failed refused = tt
+device_told P path fault explain err err_after (Ok status) told failed refused = go (is_memory_fault fault) told
   where
-    failed : status ≡ 3 → CheckEnds octets path origin out out err err_after status
-    failed e = record { done = λ f. absurd (omega (arith, e, f)); refused = λ f. absurd (omega (arith, e, f)); others = inr e }
+    known : status ≡ status_of fault → Appends err err_after (line (device_text path fault explain)) → ((status_of fault ≡ 1) ⊎ (status_of fault ≡ 3)) → P status
+    known e said (inl one) = subst P (sym (e ∙ one)) (refused one said)
+    known e said (inr three) = subst P (sym (e ∙ three)) failed
 
-    told_of : is_memory fault ≡ false → ((is_memory fault ≡ true) ⊎ (loaded octets apex ≡ Err fault)) → loaded octets apex ≡ Err fault
-    told_of other (inl memory) = absurd cc
-    told_of other (inr e) = e
+    go : (b : Bool) → MatchBool b (status ≡ 3) ((status ≡ status_of fault) × Appends err err_after (line (device_text path fault explain))) → P status
+    go true e = subst P (sym e) failed
+    go false e = known e.0 e.1 (status_known fault)
 
-    go : (b : Bool) → is_memory fault ≡ b → MatchBool b (status ≡ 3) ((status ≡ 1) × Appends err err_after (line (fault_text path fault))) → CheckEnds octets path origin out out err err_after status
-    go true is e = failed e
-    go false is e = record {
-      done = λ f. absurd (omega (arith, e.0, f));
-      refused = λ _. (fault_text path fault, inr (record { apex = apex; fault = fault; named = named; refused = told_of is why; says = refl }), e.1, Keeps-refl out);
-      others = inl (omega (arith, e.0));
-    }
+-- The fault of a file or a word was told.
+pub fault_told : {E : Type 0} (P : ℕ → Type 0) (what : List ℕ) (fault : Fault) (err err_after : Option (List ℕ)) (r : Result ℕ E) → IfOk r (λ status. IsTold what fault err err_after status) → P 3 → (files.is_memory fault ≡ false → Appends err err_after (line (fault_text what fault)) → P 1) → IfOk r P
+fault_told P what fault err err_after (Err e) told failed refused = tt
+fault_told P what fault err err_after (Ok status) told failed refused = go (files.is_memory fault) refl told
+  where
+    go : (b : Bool) → files.is_memory fault ≡ b → MatchBool b (status ≡ 3) ((status ≡ 1) × Appends err err_after (line (fault_text what fault))) → P status
+    go true is e = subst P (sym e) failed
+    go false is e = subst P (sym e.0) (refused is e.1)

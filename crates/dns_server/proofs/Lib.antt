@@ -1,3 +1,15 @@
-pub mod Ended
+pub mod ReplayEnded
 pub mod Replayed
 pub mod Soas
+pub mod Known
+pub mod Served
+pub mod Turned
+pub mod Changed
+pub mod Ended
+pub mod LoadEnded
+pub mod Made
+pub mod Migrated
+pub mod Refused
+pub mod Shown
+pub mod Stored
+pub mod Taken

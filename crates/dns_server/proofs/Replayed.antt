@@ -11,8 +11,8 @@ use Rattle.std.specs.declared.net.ip_addr.IpAddr.{IpAddr}
 use Rattle.dns_names.specs.Name.{Labels}
 use Rattle.dns_policy.specs.Prefix.{IsAllowed}
 use Rattle.dns_zone.specs.Zone.{Zone}
-use Rattle.dns_held.specs.Each.{Each3}
-use Rattle.dns_primary.specs.declared.primary.ZoneSettings as primary
+use Rattle.dns_versions.specs.Each.{Each3}
+use Rattle.dns_primary.specs.declared.primary.ZoneSpec as primary
 use Rattle.dns_primary.specs.Machine.{Machine, ZoneState}
 use Rattle.dns_primary.specs.Fresh as fresh
 use Rattle.dns_configuration.specs.declared.configuration.Configuration.{Configuration}
@@ -23,8 +23,8 @@ use Rattle.dns_configuration.specs.Faults.{is_memory, line, fault_text}
 use Rattle.dns_configuration.specs.Files.{HoldsConfiguration, IsFirstFault, IsLoadedFrom}
 use Rattle.dns_configuration.specs.Known.{IsSettingOf, origins_of}
 use Rattle.dns_store.specs.declared.formatting.FormatError.{FormatError}
-use Rattle.dns_devices.specs.Faults.{IsDeviceTold, fault_of_format}
-use Rattle.dns_devices.proofs.Ended.{device_told}
+use Rattle.dns_server.specs.DeviceFaults.{IsDeviceTold, fault_of_format}
+use Rattle.dns_server.proofs.Ended.{device_told}
 use Rattle.dns_sectors.specs.Device.{Content}
 use Rattle.dns_sectors.specs.declared.device.Sectors.{Ghosts}
 use Rattle.dns_sectors.specs.declared.memory.Keep as told
@@ -32,7 +32,7 @@ use Rattle.dns_primary.proofs.Begun.{fresh_machine}
 use Rattle.dns_replay.specs.Crashes.{IsCrash}
 use Rattle.dns_replay.specs.Scripts.{Crash}
 use Rattle.dns_replay.specs.declared.run.Ending.TheVariants as ending
-use Rattle.dns_server.specs.Replays.{Begins, IsFreshZone, IsScriptFault, IsUnmadeTold, Ran, ReplayEnds, ScriptEnds, devices_of}
+use Rattle.dns_server.specs.Replay.{Begins, IsFreshZone, IsScriptFault, IsUnmadeTold, Ran, ReplayEnds, ScriptEnds, device_paths}
 
 -- A script that can't be read, or whose line is no command.
 pub script_refused : {E : Type 0} (origins : List Labels) (crash : Crash) (devices : List (List ℕ)) (m : Machine) (script : File) (fault : Fault) (out out_after err err_after : Option (List ℕ)) (r : Result ℕ E) → is_memory fault ≡ false → IsScriptFault origins crash m (option_copied script.octets) fault out out_after → IfOk r (λ status. MatchBool (is_memory fault) (status ≡ 3) ((status ≡ 1) × Appends err err_after (line (fault_text script.path.now fault)))) → IfOk r (ScriptEnds origins crash devices m script out out_after err err_after)
@@ -45,7 +45,7 @@ script_refused origins crash devices m script fault out out_after err err_after 
       others = inl (omega (arith, said.0));
     }
 
-pub refused_over : {E : Type 0} (origins : List Labels) (crash : Crash) (devices : List (List ℕ)) (zones : List Zone) (known : List primary.ZoneSettings) (script : File) (fault : Fault) (out out_after err err_after : Option (List ℕ)) (r : Result ℕ E) → is_memory fault ≡ false
+pub refused_over : {E : Type 0} (origins : List Labels) (crash : Crash) (devices : List (List ℕ)) (zones : List Zone) (known : List primary.ZoneSpec) (script : File) (fault : Fault) (out out_after err err_after : Option (List ℕ)) (r : Result ℕ E) → is_memory fault ≡ false
     → ((m : Machine) → fresh.IsFresh zones known m → IsScriptFault origins crash m (option_copied script.octets) fault out out_after) → IfOk r (λ status. MatchBool (is_memory fault) (status ≡ 3) ((status ≡ 1) × Appends err err_after (line (fault_text script.path.now fault))))
     → IfOk r (λ status. (m : Machine) → fresh.IsFresh zones known m → ScriptEnds origins crash devices m script out out_after err err_after status)
 refused_over origins crash devices zones known script fault out out_after err err_after (Err e) is h k = tt
@@ -84,7 +84,7 @@ script_unmade origins crash devices m script out err err_after status (inr h) = 
   others = inl (omega (arith, h.0));
 }
 
-pub unmade_over : {E : Type 0} (origins : List Labels) (crash : Crash) (devices : List (List ℕ)) (zones : List Zone) (known : List primary.ZoneSettings) (script : File) (out out_after err err_after : Option (List ℕ)) (r : Result ℕ E) → out_after ≡ out
+pub unmade_over : {E : Type 0} (origins : List Labels) (crash : Crash) (devices : List (List ℕ)) (zones : List Zone) (known : List primary.ZoneSpec) (script : File) (out out_after err err_after : Option (List ℕ)) (r : Result ℕ E) → out_after ≡ out
     → IfOk r (λ status. (status ≡ 3) ⊎ ((status ≡ 1) × IsUnmadeTold devices err err_after))
     → IfOk r (λ status. (m : Machine) → fresh.IsFresh zones known m → ScriptEnds origins crash devices m script out out_after err err_after status)
 unmade_over origins crash devices zones known script out out_after err err_after (Err e) same h = tt
@@ -100,7 +100,7 @@ unmade_told devices place path error err err_after r is h =
     (inl refl) (λ _ said. inr (refl, record { place = place; path = path; is = is; error = error; told = said }))
 
 -- The path of the device of the zone there.
-pub device_at : (own : List ZoneSettings) (place : ℕ) (zone : ZoneSettings) → place < length own → slice_get (devices_of own) place ≡ Some (string_bytes (get_or own place zone).device)
+pub device_at : (own : List ZoneSettings) (place : ℕ) (zone : ZoneSettings) → place < length own → slice_get (device_paths own) place ≡ Some (string_bytes (get_or own place zone).device)
 device_at [] place zone inside = absurd (omega (arith, inside))
 device_at (z ∷ own) zero zone inside = refl
 device_at (z ∷ own) (suc place) zone inside = device_at own place zone (omega (arith, inside))
@@ -113,7 +113,7 @@ loaded_names files [] (z ∷ zones) h = absurd h
 loaded_names files (s ∷ settings) [] h = absurd h
 
 -- The zones that were loaded are those of a machine to which nothing has happened.
-pub fresh_zones : (files : List File) (settings : List ZoneSettings) (known : List primary.ZoneSettings) (zones : List Zone) (states : List ZoneState) → AllZip (IsLoadedFrom files) settings zones → AllZip IsSettingOf settings known → Each3 IsFreshZone settings zones states → Each3 fresh.IsLoaded zones known states
+pub fresh_zones : (files : List File) (settings : List ZoneSettings) (known : List primary.ZoneSpec) (zones : List Zone) (states : List ZoneState) → AllZip (IsLoadedFrom files) settings zones → AllZip IsSettingOf settings known → Each3 IsFreshZone settings zones states → Each3 fresh.IsLoaded zones known states
 fresh_zones files [] [] [] [] h k e = tt
 fresh_zones files (s ∷ ss) (p ∷ ps) (z ∷ zs) (m ∷ ms) h k e = (
   record {
@@ -137,7 +137,7 @@ fresh_zones files [] [] [] (m ∷ ms) h k e = absurd e
 fresh_zones files (s ∷ ss) (p ∷ ps) (z ∷ zs) [] h k e = absurd e
 
 -- ... and the other way round.
-begun_zones : (files : List File) (settings : List ZoneSettings) (known : List primary.ZoneSettings) (zones : List Zone) (states : List ZoneState) → AllZip (IsLoadedFrom files) settings zones → AllZip IsSettingOf settings known → Each3 fresh.IsLoaded zones known states → Each3 IsFreshZone settings zones states
+begun_zones : (files : List File) (settings : List ZoneSettings) (known : List primary.ZoneSpec) (zones : List Zone) (states : List ZoneState) → AllZip (IsLoadedFrom files) settings zones → AllZip IsSettingOf settings known → Each3 fresh.IsLoaded zones known states → Each3 IsFreshZone settings zones states
 begun_zones files [] [] [] [] h k e = tt
 begun_zones files (s ∷ ss) (p ∷ ps) (z ∷ zs) (m ∷ ms) h k e = (
   record {
@@ -162,7 +162,7 @@ begun_zones files (s ∷ ss) (p ∷ ps) [] states h k e = absurd h
 begun_zones files [] [] [] (m ∷ ms) h k e = absurd e
 begun_zones files (s ∷ ss) (p ∷ ps) (z ∷ zs) [] h k e = absurd e
 
-pub is_fresh : (files : List File) (settings : List ZoneSettings) (known : List primary.ZoneSettings) (zones : List Zone) (m : Machine) → AllZip (IsLoadedFrom files) settings zones → AllZip IsSettingOf settings known → Begins settings zones m → fresh.IsFresh zones known m
+pub is_fresh : (files : List File) (settings : List ZoneSettings) (known : List primary.ZoneSpec) (zones : List Zone) (m : Machine) → AllZip (IsLoadedFrom files) settings zones → AllZip IsSettingOf settings known → Begins settings zones m → fresh.IsFresh zones known m
 is_fresh files settings known zones m h k b = record { zones_are = fresh_zones files settings known zones m.zones h k b.zones_are; waiting = b.waiting; connections = b.connections }
 
 pub as_many : {A B C : Type 0} (R : A → B → Type 0) (Q : A → C → Type 0) (xs : List A) (ys : List B) (zs : List C) → AllZip R xs ys → AllZip Q xs zs → length ys ≡ length zs
@@ -174,13 +174,13 @@ as_many R Q (x ∷ xs) [] zs h k = absurd h
 as_many R Q (x ∷ xs) (y ∷ ys) [] h k = absurd k
 
 -- There is one.
-begun : (files : List File) (settings : List ZoneSettings) (known : List primary.ZoneSettings) (zones : List Zone) → AllZip (IsLoadedFrom files) settings zones → AllZip IsSettingOf settings known → (m : Machine) × Begins settings zones m
+begun : (files : List File) (settings : List ZoneSettings) (known : List primary.ZoneSpec) (zones : List Zone) → AllZip (IsLoadedFrom files) settings zones → AllZip IsSettingOf settings known → (m : Machine) × Begins settings zones m
 begun files settings known zones h k =
     let m = fresh_machine zones known (as_many (IsLoadedFrom files) IsSettingOf settings zones known h k) in
     (m.0, record { zones_are = begun_zones files settings known zones m.0.zones h k m.1.zones_are; waiting = m.1.waiting; connections = m.1.connections })
 
-pub script_ran : {D E : Type 0} (g : Ghosts D) (kept : D → told.Keep → Content) (config : File) (files : List File) (script : File) (c : Configuration) (zones : List Zone) (known : List primary.ZoneSettings) (devices : List (List ℕ)) (out out_after err err_after : Option (List ℕ)) (r : Result ℕ E)
-    → HoldsConfiguration (option_copied config.octets) (Ok c) → AllZip (IsLoadedFrom files) c.zones.items zones → AllZip IsSettingOf c.zones.items known → devices ≡ devices_of c.zones.items
+pub script_ran : {D E : Type 0} (g : Ghosts D) (kept : D → told.Keep → Content) (config : File) (files : List File) (script : File) (c : Configuration) (zones : List Zone) (known : List primary.ZoneSpec) (devices : List (List ℕ)) (out out_after err err_after : Option (List ℕ)) (r : Result ℕ E)
+    → HoldsConfiguration (option_copied config.octets) (Ok c) → AllZip (IsLoadedFrom files) c.zones.items zones → AllZip IsSettingOf c.zones.items known → devices ≡ device_paths c.zones.items
     → IfOk r (λ status. (m : Machine) → fresh.IsFresh zones known m → ScriptEnds (map (λ (z : Zone). z.apex) zones) (IsCrash g kept (map (λ (z : Zone). z.apex) zones) known) devices m script out out_after err err_after status) → IfOk r (ReplayEnds g kept config files script out out_after err err_after)
 script_ran g kept config files script c zones known devices out out_after err err_after (Err e) holds loaded settings same h = tt
 script_ran g kept config files script c zones known devices out out_after err err_after (Ok status) holds loaded settings same h = inr (inl (record {
@@ -192,7 +192,7 @@ script_ran g kept config files script c zones known devices out out_after err er
   settings = settings;
   begins = begun files c.zones.items known zones loaded settings;
   ends = λ m b.
-      subst (λ (ns : List Labels). ScriptEnds ns (IsCrash g kept ns known) (devices_of c.zones.items) m script out out_after err err_after status) (loaded_names files c.zones.items zones loaded) (
+      subst (λ (ns : List Labels). ScriptEnds ns (IsCrash g kept ns known) (device_paths c.zones.items) m script out out_after err err_after status) (loaded_names files c.zones.items zones loaded) (
       subst (λ (ds : List (List ℕ)). ScriptEnds (map (λ (z : Zone). z.apex) zones) (IsCrash g kept (map (λ (z : Zone). z.apex) zones) known) ds m script out out_after err err_after status) same (h m (is_fresh files c.zones.items known zones m loaded settings b)));
 }))
 

@@ -1,2 +1,12 @@
-pub mod Checks
-pub mod Replays
+pub mod Check
+pub mod Replay
+pub mod Opening
+pub mod Serve
+pub mod ServedTurns
+pub mod DeviceFaults
+pub mod Load
+pub mod LoadRun
+pub mod Init
+pub mod Migrate
+pub mod Dump
+pub mod Log

@@ -1,7 +1,7 @@
 //! What one who mends a refused master file is told beside its fault: the word that was met, or the lines of
 //! the records that are no zone together. It serves `--explain` alone, and no clause says more of it than
 //! that it ends.
-use crate::files::Index;
+use crate::checking::Index;
 use dns_configuration::{Fault, File, PrintedWord, apex, load};
 use dns_masterfile::{FileError, Places, RefusedEntry, TypeWord, find_places};
 use dns_memory::Heap;
@@ -86,11 +86,11 @@ fn first_wildcard_ns(records: &[Record]) -> Option<Clash> {
 /// The second SOA, and the first.
 fn second_soa(records: &[Record]) -> Option<Clash> {
     let earlier = records.iter().position(|r| r.rtype() == SOA)?;
-    let behind = records[earlier + 1..]
+    let pending = records[earlier + 1..]
         .iter()
         .position(|r| r.rtype() == SOA)?;
     Some(Clash {
-        place: earlier + 1 + behind,
+        place: earlier + 1 + pending,
         earlier: Some(earlier),
     })
 }

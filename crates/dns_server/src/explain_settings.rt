@@ -10,7 +10,8 @@ use std::io::{self, Write};
 
 /// The commands of a script.
 const COMMANDS: &str =
-    "udp ADDR HEX, connect ADDR, tcp N HEX, pump N, close N, flush, checkpoint ORIGIN, fail N, stop N, crash [ORIGIN=LIST ..] or reopen N [ORIGIN=LIST ..]";
+    "udp ADDR HEX, connect ADDR, tcp N HEX, pump N, close N, flush, checkpoint ORIGIN, fail N, stop N, \
+crash [ORIGIN=LIST ..] or reopen N [ORIGIN=LIST ..]";
 
 /// Tells which line of a script is no command.
 fn explain_script<E: Write>(
@@ -26,9 +27,9 @@ fn explain_script<E: Write>(
         let Some(text) = rest else {
             return Ok(());
         };
-        let (line, behind) = split_line(text);
+        let (line, pending) = split_line(text);
         number = number.saturating_add(1);
-        rest = behind;
+        rest = pending;
         if read_command(heap, origins, line)?.is_none() {
             let met = PrintedWord(line);
             return writeln!(err, "{what}:{number}: '{met}': {COMMANDS} is expected");

@@ -1,14 +1,38 @@
-//! The edge of the server: files, configurations, and runs over them.
+//! The server: each command over any devices and any reading of files, one file a command, and `serve` over
+//! sockets.
 #![tactic(auto)]
 
+mod change;
+mod checking;
+mod device_faults;
+mod devices;
+mod dumping;
 mod explain;
 mod explain_settings;
-mod files;
 mod inputs;
-mod run;
+mod loading;
+mod log;
+mod making;
+mod migrating;
+mod next_version;
+mod opening;
+mod readiness;
+mod replaying;
+mod serving;
+mod sockets;
+mod stores;
 
+pub use change::change_to;
+pub use checking::{Index, check};
+pub use device_faults::{DeviceFault, refusal, tell_device};
+pub use devices::{Devices, Disk};
+pub use dumping::dump;
 pub use explain::{explain_check, explain_unreadable};
 pub use explain_settings::explain_replay;
-pub use files::{Index, check};
 pub use inputs::{file, master_files, octets, octets_in};
-pub use run::replay;
+pub use loading::load;
+pub use making::init;
+pub use migrating::migrate;
+pub use next_version::{Loaded, load_zone};
+pub use replaying::replay;
+pub use serving::serve;

@@ -10,7 +10,7 @@ use Rattle.dns_sectors.specs.Device.{Content}
 use Rattle.dns_layout.specs.Sector.{sector_at}
 use Rattle.dns_layout.specs.Own.{IsIntactIn}
 use Rattle.dns_layout.specs.Forms.{SaysRootIn}
-use Rattle.dns_layout.specs.Store.{Shape as Sizes}
+use Rattle.dns_layout.specs.Store.{Sizes}
 use Rattle.dns_layout.specs.declared.format.Format.{Format}
 use Rattle.dns_layout.specs.declared.root.Root.{Root}
 use Rattle.dns_journal.specs.Reads.{FindsEntry, IsRefusal, NamesSpoilt, IsThat}

@@ -13,8 +13,8 @@ use Rattle.dns_sectors.specs.declared.device.Sectors.{Ghosts}
 use Rattle.dns_sectors.proofs.Moments.{started}
 use Rattle.dns_layout.specs.Journal.{Entry}
 use Rattle.dns_layout.specs.Sector.{snapshot_length, snapshot_sectors, payload_in}
-use Rattle.dns_layout.specs.Store.{Shape as Sizes, Stored, OpensBy}
-use Rattle.dns_journal.specs.State.{is_closed, device_of, newest_of}
+use Rattle.dns_layout.specs.Store.{Sizes, Stored, OpensBy}
+use Rattle.dns_journal.specs.State.{is_closed, device_of, newest_number_of}
 use Rattle.dns_journal.specs.Bank.{sectors_for, journal_room_of, snapshot_room_of}
 use Rattle.dns_journal.specs.declared.journal.Journal.{Journal}
 use Rattle.dns_store.specs.Versions.{Versions, Kept, newest_after, OpensAsEither, version_at, moved_to}
@@ -117,7 +117,7 @@ module _ {D : Type 0} {g : Ghosts D} (journal : Journal D g) (base : Zone) (chan
   pub snapshot_is : snapshot_room_of journal ≡ k.shape.snapshot
   snapshot_is = sym kept.keeps.2.says.snapshot_room_is ∙ kept.keeps.2.opens.valid.snapshot
 
-  newest_is : newest_of journal ≡ length k.shown
+  newest_is : newest_number_of journal ≡ length k.shown
   newest_is = omega (arith, number_kept journal k kept_as.0 kept_as.1 kept, ap (λ (vs : Versions). length vs) lent.nothing_staged)
 
   entries_are : entries_after_base k ≡ entries_along (version_at k k.base) (drop k.base k.shown)
@@ -132,14 +132,14 @@ module _ {D : Type 0} {g : Ghosts D} (journal : Journal D g) (base : Zone) (chan
       ∙ ap (λ (xs : List ℕ). sum_by (λ size. size) (drop (length changes - i) xs)) (sym entries_are)
       ∙ ap (λ n. sum_by (λ size. size) (drop (n - i) (entries_after_base k))) same_length
 
-  pub kept_is : (keep room m n : ℕ) → IsMostKept sectors_for changes (min keep (newest_of journal)) (journal_room_of journal - room) m → IsKeptNumber k keep room n → m ≡ n
+  pub kept_is : (keep room m n : ℕ) → IsMostKept sectors_for changes (min keep (newest_number_of journal)) (journal_room_of journal - room) m → IsKeptNumber k keep room n → m ≡ n
   kept_is keep room m n one other =
-      most_one sectors_for changes (λ size. size) (entries_after_base k) keep (min keep (newest_of journal)) (journal_room_of journal - room) m n same_length same_sums (omega arith)
+      most_one sectors_for changes (λ size. size) (entries_after_base k) keep (min keep (newest_number_of journal)) (journal_room_of journal - room) m n same_length same_sums (omega arith)
       (λ i few there. omega (arith, few, there, same_length, count, newest_is)) one (subst (λ j. IsMostKept (λ size. size) (entries_after_base k) keep (j - room) n) (sym journal_is) other)
 
-  pub kept_number : (keep room m : ℕ) → IsMostKept sectors_for changes (min keep (newest_of journal)) (journal_room_of journal - room) m → IsKeptNumber k keep room m
+  pub kept_number : (keep room m : ℕ) → IsMostKept sectors_for changes (min keep (newest_number_of journal)) (journal_room_of journal - room) m → IsKeptNumber k keep room m
   kept_number keep room m one =
-      let least : min keep (newest_of journal) ≤ keep = omega arith in
+      let least : min keep (newest_number_of journal) ≤ keep = omega arith in
       subst (λ j. IsMostKept (λ size. size) (entries_after_base k) keep (j - room) m) journal_is
       (record {
         few = omega (arith, one.few, least);

@@ -17,7 +17,7 @@ use Rattle.dns_layout.specs.Own.{Own, IsIntactIn}
 use Rattle.dns_layout.specs.declared.format.Format.TheVariants.{Two}
 use Rattle.dns_layout.specs.Forms.{SaysPart, SaysRoot}
 use Rattle.dns_layout.specs.Journal.{Stand}
-use Rattle.dns_layout.specs.Store.{Shape as Sizes, AreParts, OpensBy, IsTidy, all_sectors, snapshot_place, journal_place}
+use Rattle.dns_layout.specs.Store.{Sizes, AreParts, OpensBy, IsTidy, all_sectors, snapshot_place, journal_place}
 use Rattle.dns_layout.specs.declared.root.Root.{Root}
 use Rattle.dns_layout.specs.declared.root.Bank.TheVariants.{Zero}
 use Rattle.dns_journal.specs.Reads.{sectors_from}

@@ -12,9 +12,9 @@ use Rattle.dns_sectors.specs.Device.{Content, LeavesOnly}
 use Rattle.dns_sectors.specs.declared.device.Sectors.{Ghosts}
 use Rattle.dns_sectors.proofs.Moments.{started, weaker}
 use Rattle.dns_layout.specs.Journal.{Entry}
-use Rattle.dns_layout.specs.Store.{Shape, Stored, OpensAs, IsTidy}
+use Rattle.dns_layout.specs.Store.{Sizes, Stored, OpensAs, IsTidy}
 use Rattle.dns_journal.specs.Bank.{AreEntries, IsTurned, LeavesEither}
-use Rattle.dns_journal.specs.State.{Keeps, IsOpenedTimes, is_closed, device_of, left_of, newest_of, opened_of}
+use Rattle.dns_journal.specs.State.{Keeps, IsOpenedTimes, is_closed, device_of, free_sectors, newest_number_of, opened_of}
 use Rattle.dns_journal.specs.declared.journal.Journal.{Journal}
 use Rattle.dns_store.specs.Versions.{Versions, Kept, newest_after, OpensAsLeft, OpensAsEither, version_at, moved_to, closed_between}
 use Rattle.dns_layout.specs.declared.format.Format.{Format}
@@ -165,7 +165,7 @@ module _ {D : Type 0} {g : Ghosts D} (old new : Journal D g) (k : Kept) (none : 
   kept_bare s staged kept = subst (λ (es : List Entry). Keeps (sizes_of k.shape) old s es) (nothing_staged k.shape.apex k.shape.snapshot (newest_after k.loaded k.shown) k.staged staged none kept.changes) kept.keeps
 
   pub turn_leaves : ((d : D) (c : Content) → g.is_honest d → g.left_since d (g.moment d) c → g.may_leave d c)
-      → ((shape : Shape) (s : Stored) → Keeps shape old s [] → LeavesOnly g.moment g.left_since (device_of old) (device_of new) (LeavesEither shape s octets changes (opened_of old)))
+      → ((shape : Sizes) (s : Stored) → Keeps shape old s [] → LeavesOnly g.moment g.left_since (device_of old) (device_of new) (LeavesEither shape s octets changes (opened_of old)))
       → (is_closed old ≡ true → device_of new ≡ device_of old) → (closed : Bool) → KeepsVersionsBy old k closed → LeavesOnly g.moment g.left_since (device_of old) (device_of new) (OpensAsEither opens k base)
   turn_leaves only_now any still false (s, staged, kept) =
       weaker g.moment g.left_since (device_of old) (device_of new) (LeavesEither (sizes_of k.shape) s octets changes (opened_of old)) (OpensAsEither opens k base) (any (sizes_of k.shape) s (kept_bare s staged kept))
@@ -174,15 +174,15 @@ module _ {D : Type 0} {g : Ghosts D} (old new : Journal D g) (k : Kept) (none : 
       subst (λ (d : D). LeavesOnly g.moment g.left_since (device_of old) d (OpensAsEither opens k base)) (sym (still kept.closed))
       (started g.moment g.left_since (device_of old) (OpensAsEither opens k base) (λ c left. inl (kept.left c (only_now (device_of old) c kept.honest left))))
 
-  pub turn_keeps : ((shape : Shape) (s : Stored) → Keeps shape old s [] → (turned : Stored) × IsTurned s octets changes turned × Keeps shape new turned []) → opened_of new ≡ opened_of old → (is_closed old ≡ true → ⊥) → (closed : Bool) → KeepsVersionsBy old k closed → KeepsVersionsBy new (moved_to base k) closed
+  pub turn_keeps : ((shape : Sizes) (s : Stored) → Keeps shape old s [] → (turned : Stored) × IsTurned s octets changes turned × Keeps shape new turned []) → opened_of new ≡ opened_of old → (is_closed old ≡ true → ⊥) → (closed : Bool) → KeepsVersionsBy old k closed → KeepsVersionsBy new (moved_to base k) closed
   turn_keeps turn same not false (s, staged, kept) =
       let after = turn (sizes_of k.shape) s (kept_bare s staged kept) in
       (after.0, [], record { keeps = after.2; opened = same ∙ kept.opened; part = part_turned Two k s after.0 base octets changes kept.part (still_fit k s base kept.part is.later) is after.1; changes = subst (λ (vs : Versions). AreChanges k.shape.apex k.shape.snapshot (newest_after k.loaded k.shown) vs []) (sym none) tt })
   turn_keeps turn same not true kept = absurd (not kept.closed)
 
   pub turn_closes : ((d : D) (t : ℕ) (c : Content) → g.is_honest d → t ≤ g.moment d → g.may_leave d c → g.left_since d t c)
-      → ((shape : Shape) (s : Stored) → Keeps shape old s [] → LeavesOnly g.moment g.left_since (device_of old) (device_of new) (LeavesEither shape s octets changes (opened_of old)))
-      → (g.is_honest (device_of old) → g.is_honest (device_of new)) → (is_closed old ≡ true → ⊥) → is_closed new ≡ true → left_of new ≡ left_of old → newest_of new ≡ newest_of old → (closed : Bool) → KeepsVersionsBy old k closed → (closed ≡ false) × IsClosedBy new (closed_between base k)
+      → ((shape : Sizes) (s : Stored) → Keeps shape old s [] → LeavesOnly g.moment g.left_since (device_of old) (device_of new) (LeavesEither shape s octets changes (opened_of old)))
+      → (g.is_honest (device_of old) → g.is_honest (device_of new)) → (is_closed old ≡ true → ⊥) → is_closed new ≡ true → free_sectors new ≡ free_sectors old → newest_number_of new ≡ newest_number_of old → (closed : Bool) → KeepsVersionsBy old k closed → (closed ≡ false) × IsClosedBy new (closed_between base k)
   turn_closes counts_now any honest not closes left number false (s, staged, kept) =
       let bare = kept_bare s staged kept in
       let run = any (sizes_of k.shape) s bare in

@@ -10,7 +10,7 @@ use Rattle.dns_layout.specs.Sector.{blank, tag, root_tag_in, digit_in, sector_at
 use Rattle.dns_layout.specs.Own.{IsIntactIn}
 use Rattle.dns_layout.specs.Forms.{SaysRootIn, bank_number}
 use Rattle.dns_layout.specs.Journal.{ReadsIn}
-use Rattle.dns_layout.specs.Store.{Shape, Stored, IsRootIn, OpensByIn, OpensAsIn, snapshot_place, journal_place, bank_end, all_sectors}
+use Rattle.dns_layout.specs.Store.{Sizes, Stored, IsRootIn, OpensByIn, OpensAsIn, snapshot_place, journal_place, bank_end, all_sectors}
 use Rattle.dns_layout.specs.declared.format.Format.{Format}
 use Rattle.dns_layout.specs.declared.format.Format.TheVariants.{One, Two}
 use Rattle.dns_layout.specs.declared.root.Root.{Root}
@@ -48,10 +48,10 @@ blank_intact One at x is = tt
 blank_intact Two at x is = λ not. absurd (not is)
 
 module _ (f : Format) where
-  pub stands_first : (s : Shape) (c : Content) (k : Stored) → OpensAsIn f s c k → (parts : List (List ℕ)) × OpensByIn f s c (sector_at c 0) parts k
+  pub stands_first : (s : Sizes) (c : Content) (k : Stored) → OpensAsIn f s c k → (parts : List (List ℕ)) × OpensByIn f s c (sector_at c 0) parts k
   stands_first s c k (root, parts, by) = (parts, subst (λ (r : List ℕ). OpensByIn f s c r parts k) (sym by.stands) by)
 
-  module _ (s : Shape) (c : Content) (k : Stored) (parts : List (List ℕ)) (by : OpensByIn f s c (sector_at c 0) parts k) (d : Content) where
+  module _ (s : Sizes) (c : Content) (k : Stored) (parts : List (List ℕ)) (by : OpensByIn f s c (sector_at c 0) parts k) (d : Content) where
     root_intact : IsIntactIn f 0 (sector_at c 0)
     root_intact = by.own 0 (omega arith) (λ left. absurd (omega (arith, left.from)))
 
@@ -112,7 +112,7 @@ module _ (f : Format) where
         (subst (λ v. ReadsIn f (bank_end s (number (sector_at c 0))) c (journal_place s (number (sector_at c 0))) v cursor.opened k.entries) (sym (version ∙ sym says.base_is ∙ by.base))
         (subst (λ o. ReadsIn f (bank_end s (number (sector_at c 0))) c (journal_place s (number (sector_at c 0))) k.base o k.entries) (sym (opened ∙ sym says.bank_open_is)) by.journal)))
 
-  pub place_of : (s : Shape) (c : Content) (root : Root) (n : ℕ) → SaysRootIn f (sector_at c 0) root → n ≡ bank_number root.bank → 1 + n * (s.snapshot + s.journal) ≡ snapshot_place s (number (sector_at c 0))
+  pub place_of : (s : Sizes) (c : Content) (root : Root) (n : ℕ) → SaysRootIn f (sector_at c 0) root → n ≡ bank_number root.bank → 1 + n * (s.snapshot + s.journal) ≡ snapshot_place s (number (sector_at c 0))
   place_of s c root n says is = ap (λ b. 1 + b * (s.snapshot + s.journal)) (is ∙ sym says.bank_is)
 
 -- What a refusal says on any device.
@@ -126,14 +126,14 @@ of_fault head r (inl memory) = subst (λ e. IsOfBank e) (sym memory) tt
 of_fault head r (inr damaged) = subst (λ e. IsOfBank e) (sym damaged) tt
 
 module _ (f : Format) where
-  pub bank_refused : (s : Shape) (count : ℕ) (x : List ℕ) → IsRootIn f s x × (count ≡ all_sectors s) → (r : OpenError) → IsOfBank r → OpenRefusalIn f s count x r
+  pub bank_refused : (s : Sizes) (count : ℕ) (x : List ℕ) → IsRootIn f s x × (count ≡ all_sectors s) → (r : OpenError) → IsOfBank r → OpenRefusalIn f s count x r
   bank_refused s count x root Device is = tt
   bank_refused s count x root Blank is = absurd is
   bank_refused s count x root (Damaged place) is = inr root
   bank_refused s count x root Geometry is = absurd is
   bank_refused s count x root OutOfMemory is = tt
 
-  pub root_refused : (s : Shape) (count : ℕ) (c : Content) (r : OpenError) → (r ≡ Device) ⊎ NamesSpoiltIn f c 0 1 r ⊎ RootRefusalIn f s count (sector_at c 0) r → OpenRefusalIn f s count (sector_at c 0) r
+  pub root_refused : (s : Sizes) (count : ℕ) (c : Content) (r : OpenError) → (r ≡ Device) ⊎ NamesSpoiltIn f c 0 1 r ⊎ RootRefusalIn f s count (sector_at c 0) r → OpenRefusalIn f s count (sector_at c 0) r
   root_refused s count c Device why = tt
   root_refused s count c Blank (inl failed) = absurd cc
   root_refused s count c Blank (inr (inl spoilt)) = absurd spoilt

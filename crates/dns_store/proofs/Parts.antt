@@ -4,7 +4,7 @@ use Rattle.std.proofs.Math.Nat.{eq-or-lt_of_le}
 use Rattle.std.specs.List.{flat_map}
 use Rattle.dns_sectors.specs.Device.{Content}
 use Rattle.dns_layout.specs.Sector.{AreZeros, sector_at, number, payload_in, snapshot_length}
-use Rattle.dns_layout.specs.Store.{Shape, Stored, IsPartIn, ArePartsIn, OpensByIn, snapshot_place}
+use Rattle.dns_layout.specs.Store.{Sizes, Stored, IsPartIn, ArePartsIn, OpensByIn, snapshot_place}
 use Rattle.dns_layout.specs.declared.format.Format.{Format}
 use Rattle.dns_journal.specs.Reads.{sectors_from}
 use Rattle.dns_journal.proofs.Looking.{from_more, length-from, stand_is}
@@ -38,7 +38,7 @@ module _ (f : Format) where
   part_held x at c octets holds place fault =
       fault.wrong (subst (λ n. IsPartIn f x fault.index (sector_at c n)) (sym fault.place_is) (are_at (parts_in f x) x c at fault.index holds.parts fault.within))
 
-  module _ (s : Shape) (c : Content) (x : List ℕ) (parts : List (List ℕ)) (k : Stored) (opens : OpensByIn f s c x parts k) where
+  module _ (s : Sizes) (c : Content) (x : List ℕ) (parts : List (List ℕ)) (k : Stored) (opens : OpensByIn f s c x parts k) where
     parts_are : parts ≡ sectors_from c (snapshot_place s (number x)) (parts_in f x)
     parts_are = stand_is parts c (snapshot_place s (number x)) opens.placed ∙ ap (λ n. sectors_from c (snapshot_place s (number x)) n) opens.count
 

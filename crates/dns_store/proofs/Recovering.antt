@@ -7,7 +7,7 @@ use Rattle.dns_changes.specs.Change.{Change, IsChange}
 use Rattle.dns_changes.specs.Entry.{HasEntry, entry}
 use Rattle.dns_sectors.specs.Device.{Content}
 use Rattle.dns_layout.specs.Sector.{open_count, number}
-use Rattle.dns_layout.specs.Journal.{Entry, size_of, octets_of_in, place_behind, version_behind, open_behind}
+use Rattle.dns_layout.specs.Journal.{Entry, entry_size, octets_of_in, place_behind, version_behind, open_behind}
 use Rattle.dns_layout.specs.declared.format.Format.{Format}
 use Rattle.dns_journal.specs.declared.read.Cursor.{Cursor}
 use Rattle.dns_journal.specs.declared.read.ReadError.{ReadError}
@@ -59,7 +59,7 @@ pub record Next (f : Format) (old now next : Cursor) (c : Content) (apex : Label
 module _ (f : Format) (old now next : Cursor) (c : Content) (apex : Labels) (room : ℕ) (base : List Record) (vs : Versions) (es : List Entry) (newest : List Record) (changes : List Change) (octets : List ℕ) (finds : FindsEntry f now next c octets) where
   with_first : (front rest : Versions) (left : List Entry) → vs ≡ front ++ rest → AreLed base front changes → newest ≡ newest_after base front → ReadsFrom f now c left → AreChangesIn f apex room newest rest left
       → place_behind now.at left ≡ place_behind old.at es → version_behind now.version left ≡ version_behind old.version es → open_behind now.opened left ≡ open_behind old.opened es
-      → (e : Entry) (behind : List Entry) → left ≡ e ∷ behind → octets ≡ octets_of_in f e → ReadsFrom f next c behind → next.at ≡ now.at + size_of e → next.opened ≡ open_count e.head
+      → (e : Entry) (behind : List Entry) → left ≡ e ∷ behind → octets ≡ octets_of_in f e → ReadsFrom f next c behind → next.at ≡ now.at + entry_size e → next.opened ≡ open_count e.head
       → Next f old now next c apex room base vs es newest changes octets
   with_first front [] left versions led newest_is reads are place version opened e behind is octets_are more at open_is = absurd (subst (λ (l : List Entry). AreChangesIn f apex room newest [] l) is are)
   with_first front (v ∷ rest) left versions led newest_is reads are place version opened e behind is octets_are more at open_is =

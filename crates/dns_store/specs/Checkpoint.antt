@@ -11,7 +11,7 @@ use Rattle.dns_sectors.specs.declared.device.Sectors.{Ghosts}
 use Rattle.dns_journal.specs.declared.journal.Journal.{Journal}
 use Rattle.dns_store.specs.Versions.{Versions, Kept, newest_after, version_at}
 use Rattle.dns_store.specs.Room.{entries_along}
-use Rattle.dns_store.specs.Opens.{keeps as keeps_versions}
+use Rattle.dns_store.specs.Opens.{journal_keeps as keeps_versions}
 use Rattle.dns_store.specs.declared.checkpoint.CheckpointError.{CheckpointError}
 use Rattle.dns_store.specs.declared.checkpoint.CheckpointError.TheVariants.{Device, Closed, OutOfMemory}
 use Rattle.dns_store.specs.Recovered.{AreLed}

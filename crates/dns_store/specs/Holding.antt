@@ -5,7 +5,7 @@ use Rattle.dns_changes.specs.Change.{Change}
 use Rattle.dns_sectors.specs.declared.device.Sectors.{Ghosts}
 use Rattle.dns_journal.specs.declared.journal.Journal.{Journal}
 use Rattle.dns_store.specs.Versions.{Kept, version_at}
-use Rattle.dns_store.specs.Opens.{keeps as keeps_versions}
+use Rattle.dns_store.specs.Opens.{journal_keeps as keeps_versions}
 use Rattle.dns_store.specs.Recovered.{AreLed}
 
 -- The journal keeps the versions; this is the zone at the base, and these are the changes from there to the

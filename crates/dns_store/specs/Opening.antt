@@ -6,7 +6,7 @@ use Rattle.dns_sectors.specs.Device.{Content}
 use Rattle.dns_layout.specs.Sector.{sector_at, number}
 use Rattle.dns_layout.specs.Forms.{SaysRootIn}
 use Rattle.dns_layout.specs.Journal.{place_behind}
-use Rattle.dns_layout.specs.Store.{Shape as Sizes, Stored, IsRootIn, all_sectors, journal_place, bank_end}
+use Rattle.dns_layout.specs.Store.{Sizes, Stored, IsRootIn, all_sectors, journal_place, bank_end}
 use Rattle.dns_layout.specs.Store.{version_of}
 use Rattle.dns_layout.specs.declared.format.Format.{Format}
 use Rattle.dns_layout.specs.declared.format.Format.TheVariants.{Two}
@@ -16,7 +16,7 @@ use Rattle.dns_store.specs.declared.root.OpenError.{OpenError}
 use Rattle.dns_store.specs.declared.root.OpenError.TheVariants.{Device, Damaged, OutOfMemory}
 use Rattle.dns_store.specs.Versions.{Shape, Kept, Opened, newest_after, opened_again}
 use Rattle.dns_sectors.specs.declared.device.Sectors.{Ghosts}
-use Rattle.dns_journal.specs.State.{device_of, newest_of}
+use Rattle.dns_journal.specs.State.{device_of, newest_number_of}
 use Rattle.dns_zone.specs.Zone.{Zone}
 use Rattle.dns_store.specs.declared.kept_store.KeptStore.{KeptStore}
 use Rattle.dns_store.specs.Opens.{base_of, fresh, opens}
@@ -97,6 +97,6 @@ pub record AnswersAs {D I : Type 0} {g : Ghosts D} (shape : Shape) (o : Opened) 
     (newest : Zone)
     : Type 0 where
   pub newest_is : newest ≡ record { apex = shape.apex; records = newest_after o.loaded o.versions }
-  pub number_is : newest_of store.journal ≡ length o.versions
+  pub number_is : newest_number_of store.journal ≡ length o.versions
   pub base_is : store.base ≡ record { apex = shape.apex; records = base_of o }
   pub led : AreLed (base_of o) (drop o.base o.versions) store.changes.items

@@ -6,7 +6,7 @@ use Rattle.dns_layout.specs.Sector.{apex_field_in}
 use Rattle.dns_layout.specs.Sector.{snapshot_sectors_in, root_tag_in}
 use Rattle.dns_layout.specs.Own.{IsIntactIn}
 use Rattle.dns_layout.specs.Forms.{SaysRootIn}
-use Rattle.dns_layout.specs.Store.{Shape, IsRootIn, all_sectors}
+use Rattle.dns_layout.specs.Store.{Sizes, IsRootIn, all_sectors}
 use Rattle.dns_layout.specs.declared.format.Format.{Format}
 use Rattle.dns_layout.specs.declared.format.Format.TheVariants.{Two}
 use Rattle.dns_layout.specs.declared.root.Root.{Root}
@@ -27,7 +27,7 @@ pub record IsSoundIn (f : Format) (x : List ℕ) : Type 0 where
   pub more : open_count x < 2 ^ 64 - 1
 
 -- The root of a store of this shape, intact, on a device of that many sectors.
-pub record IsFoundRootIn (f : Format) (s : Shape) (count : ℕ) (x : List ℕ) (r : Root) : Type 0 where
+pub record IsFoundRootIn (f : Format) (s : Sizes) (count : ℕ) (x : List ℕ) (r : Root) : Type 0 where
   pub own : IsIntactIn f 0 x
   pub says : SaysRootIn f x r
   pub valid : IsRootIn f s x
@@ -35,7 +35,7 @@ pub record IsFoundRootIn (f : Format) (s : Shape) (count : ℕ) (x : List ℕ) (
   pub size : count ≡ all_sectors s
 
 -- Why there is none: it was never written; it is no sound root; or it is the root of another store.
-abbrev pub RootRefusalIn : Format → Shape → ℕ → List ℕ → OpenError → Type 0
+abbrev pub RootRefusalIn : Format → Sizes → ℕ → List ℕ → OpenError → Type 0
 RootRefusalIn f s count x Device = ⊥
 RootRefusalIn f s count x Blank = x ≡ blank
 RootRefusalIn f s count x (Damaged place) = (place ≡ 0) × (x ≢ blank) × (IsSoundIn f x → ⊥)
@@ -44,7 +44,7 @@ RootRefusalIn f s count x OutOfMemory = ⊥
 
 -- Why a device isn't opened as a store of this shape: sizes that no store has, what its first sector is; or
 -- another sector isn't what it should be, after a root of that shape.
-abbrev pub OpenRefusalIn : Format → Shape → ℕ → List ℕ → OpenError → Type 0
+abbrev pub OpenRefusalIn : Format → Sizes → ℕ → List ℕ → OpenError → Type 0
 OpenRefusalIn f s count x Device = Unit {0}
 OpenRefusalIn f s count x Blank = x ≡ blank
 OpenRefusalIn f s count x (Damaged place) =
@@ -53,7 +53,7 @@ OpenRefusalIn f s count x Geometry =
     (count ≡ 0) ⊎ (65536 < s.snapshot) ⊎ (65536 < s.journal) ⊎ RootRefusalIn f s count x Geometry
 OpenRefusalIn f s count x OutOfMemory = Unit {0}
 
-abbrev pub OpenRefusal : Shape → ℕ → List ℕ → OpenError → Type 0
+abbrev pub OpenRefusal : Sizes → ℕ → List ℕ → OpenError → Type 0
 OpenRefusal s count x e = OpenRefusalIn Two s count x e
 
 -- what is said of a snapshot or a journal

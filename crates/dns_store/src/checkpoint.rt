@@ -6,13 +6,13 @@ ghost use Rattle.dns_names.specs.Name.{Labels};
 ghost use Rattle.dns_zone.specs.Records.{is_ordered};
 ghost use Rattle.dns_layout.specs.Sector.{snapshot_sectors as sectors_of_octets};
 ghost use Rattle.dns_sectors.specs.Device.{LeavesOnly};
-ghost use Rattle.dns_journal.specs.State.{device_of, is_closed, newest_of};
+ghost use Rattle.dns_journal.specs.State.{device_of, is_closed, newest_number_of};
 ghost use Rattle.dns_journal.specs.Reads.{HasRisen};
 ghost use Rattle.dns_journal.specs.Bank.{sectors_for, snapshot_room_of, journal_room_of};
 ghost use Rattle.dns_store.specs.Versions.{Versions, Kept, newest_after, version_at, OpensAsEither, moved_to};
 ghost use Rattle.dns_store.specs.Versions.{closed_between};
 ghost use Rattle.dns_store.specs.Recovered.{AreLed};
-ghost use Rattle.dns_store.specs.Opens.{IsClosedBy, opens, keeps as keeps_versions};
+ghost use Rattle.dns_store.specs.Opens.{IsClosedBy, opens, journal_keeps as keeps_versions};
 ghost use Rattle.dns_store.specs.Plain.{sectors_of_snapshot};
 ghost use Rattle.dns_store.specs.Checkpoint.{AllZones, IsBaseOf, IsMostKept, IsNextBase};
 
@@ -134,7 +134,7 @@ impl<D: Sectors, I: ZoneIndex> KeptStore<D, I> {
 
     // How many of the newest changes a checkpoint keeps, which leaves so many sectors of the journal.
     fn kept_number(&self, keep: usize, room: usize) -> usize
-        ensures { IsMostKept sectors_for self.now.changes.items (min keep (newest_of self.now.journal))
+        ensures { IsMostKept sectors_for self.now.changes.items (min keep (newest_number_of self.now.journal))
             (journal_room_of self.now.journal - room) result }
     {
         let most = keep.min(self.journal.newest() as usize);
@@ -153,7 +153,7 @@ fn turn_bank<D: Sectors>(
 ) -> Result<(), TurnError>
     requires fits { sectors_of_octets (length octets.now) ≤ snapshot_room_of journal.old }
     requires room { sum_by sectors_for changes.now ≤ journal_room_of journal.old }
-    requires few { length changes.now ≤ newest_of journal.old }
+    requires few { length changes.now ≤ newest_number_of journal.old }
     // A crash at any moment of it leaves the durable version, with the old base or the new one.
     ensures any_moment { (k : Kept) (base : ℕ) → keeps_versions journal.old k → k.staged ≡ []
         → IsBaseOf k base octets.now changes.now

@@ -48,7 +48,7 @@ impl<D: Sectors, I: ZoneIndex> KeptStore<D, I> {
     ghost use Rattle.dns_store.specs.Recovered.{AreLed};
     ghost use Rattle.dns_store.specs.Opens.{IsPartOf, base_of, sizes_of, fresh};
     ghost use Rattle.dns_store.specs.Opening.{store_device, keeps};
-    ghost use Rattle.dns_journal.specs.State.{newest_of};
+    ghost use Rattle.dns_journal.specs.State.{newest_number_of};
 
     // The store of a device whose root was raised: it keeps what the device opens as.
     pub(crate) fn over(
@@ -68,7 +68,7 @@ impl<D: Sectors, I: ZoneIndex> KeptStore<D, I> {
         ensures device { store_device result ≡ device }
         ensures base { result.base ≡ base }
         ensures changes { result.changes ≡ changes.entry }
-        ensures newest { newest_of result.journal ≡ next.version }
+        ensures newest { newest_number_of result.journal ≡ next.version }
         ensures keeps { (shape : Shape) (o : Opened) (s : Stored) (x : List ℕ) (parts : List (List ℕ))
             → D.is_honest device → Only (D.seen device) (D.may_leave device)
             → OpensBy (sizes_of shape) (D.seen device) x parts s → SaysRoot x root

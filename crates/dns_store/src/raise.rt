@@ -5,7 +5,7 @@ ghost use Rattle.dns_sectors.specs.Device.{Only, LeavesOnly, CountsFailure};
 ghost use Rattle.dns_layout.specs.Sector.{open_count, bank_open};
 ghost use Rattle.dns_layout.specs.Forms.{SaysRoot};
 ghost use Rattle.dns_layout.specs.Journal.{AllBehind};
-ghost use Rattle.dns_layout.specs.Store.{Shape, Stored, OpensBy, IsTidy};
+ghost use Rattle.dns_layout.specs.Store.{Sizes, Stored, OpensBy, IsTidy};
 ghost use Rattle.dns_store.specs.Turn.{IsRaised, StaysStored, other_bank_of};
 
 use dns_journal::clear_bank;
@@ -19,7 +19,7 @@ pub(crate) fn raise_root<D: Sectors>(device: &mut D, root: &mut Root) -> Result<
     requires more { root.old.open_count < 2 ^ 64 - 1 }
     ensures any_moment { D.is_honest device.old → Only (D.seen device.old) (D.may_leave device.old)
         → LeavesOnly D.moment D.left_since device.old device.new (StaysStored (D.seen device.old) root.old) }
-    ensures raised { (s : Shape) (k : Stored) (x : List ℕ) (parts : List (List ℕ)) → D.is_honest device.old
+    ensures raised { (s : Sizes) (k : Stored) (x : List ℕ) (parts : List (List ℕ)) → D.is_honest device.old
         → Only (D.seen device.old) (D.may_leave device.old)
         → OpensBy s (D.seen device.old) x parts k → IsTidy s (D.seen device.old) → SaysRoot x root.old
         → OnOk result

@@ -5,7 +5,7 @@ use Rattle.std.proofs.lemmas.Bool.Decides.{nat_tests}
 use Rattle.dns_records.specs.Types.{type_soa}
 use Rattle.dns_records.specs.Record.{Record}
 use Rattle.dns_changes.specs.Change.{Change, is_soa}
-use Rattle.dns_transfer.specs.Records.{others, sequence, sequences}
+use Rattle.dns_transfer.specs.Records.{all_but_soa, sequence, sequences}
 use Rattle.dns_transfer.specs.Left.{left_in}
 use Rattle.dns_transfer.proofs.Lists.{get_left, within, past, drop_get, drop_past, drop_right}
 
@@ -33,6 +33,6 @@ no_more changes number behind e =
     ap (λ (cs : List Change). drop behind (sequences cs)) (drop_past changes number (past changes number e)) ∙ drop_past [] behind (omega arith)
 
 -- a SOA is none of the others
-pub not_other : (r : Record) (rs : List Record) → r.rtype ≡ type_soa → others (r ∷ rs) ≡ others rs
+pub not_other : (r : Record) (rs : List Record) → r.rtype ≡ type_soa → all_but_soa (r ∷ rs) ≡ all_but_soa rs
 not_other r rs e =
-    let is : is_soa r ≡ true = grind (arith, nat_tests) in ap (λ b. cond (not b) (r ∷ others rs) (others rs)) is
+    let is : is_soa r ≡ true = grind (arith, nat_tests) in ap (λ b. cond (not b) (r ∷ all_but_soa rs) (all_but_soa rs)) is

@@ -3,7 +3,7 @@ use Rattle.std.specs.Prelude.{◌≡◌, ℕ, drop, List, [], ◌∷◌, ◌++�
 use Rattle.dns_records.specs.Record.{Record}
 use Rattle.dns_changes.specs.Change.{Change}
 use Rattle.dns_transfer.specs.Form.{Form, Current, Incremental, Full}
-use Rattle.dns_transfer.specs.Records.{transfer_answer, others, sequences}
+use Rattle.dns_transfer.specs.Records.{transfer_answer, all_but_soa, sequences}
 use Rattle.dns_transfer.specs.declared.form.Form as code
 use Rattle.dns_transfer.specs.declared.form.Form.TheVariants as form
 use Rattle.dns_transfer.specs.declared.rest.Place.{Place}
@@ -22,7 +22,7 @@ left_in changes number behind = drop behind (sequences (drop number changes))
 -- The records of an answer that are left.
 abbrev pub left_at : Record → List Record → List Change → Place → List Record
 left_at soa records changes (Opening form) = transfer_answer soa records (stated_form changes form)
-left_at soa records changes (Zone place) = others (drop place records) ++ soa ∷ []
+left_at soa records changes (Zone place) = all_but_soa (drop place records) ++ soa ∷ []
 left_at soa records changes (Sequence number behind) = left_in changes number behind ++ soa ∷ []
 left_at soa records changes End = []
 

@@ -14,15 +14,15 @@ abbrev pub sequences : List Change → List Record
 sequences changes = flat_map sequence changes
 
 -- The records of a zone but its SOA: glue and what is below a cut among them (RFC 5936 2.2, 3.2).
-abbrev pub others : List Record → List Record
-others records = filter (λ r. not (is_soa r)) records
+abbrev pub all_but_soa : List Record → List Record
+all_but_soa records = filter (λ r. not (is_soa r)) records
 
 -- The answer for a zone of these records, in order, and that SOA: it comes first and last (RFC 1995 4,
 -- RFC 5936 2.2).
 abbrev pub transfer_answer : Record → List Record → Form → List Record
 transfer_answer soa records Current = soa ∷ []
 transfer_answer soa records (Incremental changes) = soa ∷ sequences changes ++ soa ∷ []
-transfer_answer soa records Full = soa ∷ others records ++ soa ∷ []
+transfer_answer soa records Full = soa ∷ all_but_soa records ++ soa ∷ []
 
 -- The records of a transfer from a zone of these records, to which these changes lead, for a client that has
 -- a serial.

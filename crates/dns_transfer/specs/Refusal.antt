@@ -6,13 +6,9 @@ use Rattle.dns_names.specs.Name.{names_eq}
 use Rattle.dns_records.specs.Types.{type_soa, type_ixfr, class_in}
 use Rattle.dns_records.specs.Record.{serial_of}
 use Rattle.dns_wire.specs.Message.{Question, ResourceRecord, record_of_item}
-use Rattle.dns_request.specs.Request.{rcode_formerr, rcode_refused}
+use Rattle.dns_request.specs.Codes.{rcode_formerr, rcode_notauth, rcode_refused}
 use Rattle.dns_request.specs.declared.request.Transport.{Transport}
 use Rattle.dns_request.specs.declared.request.Transport.TheVariants.{Udp, Tcp}
-
--- RFC 2136 2.2
-abbrev pub rcode_notauth : ℕ
-rcode_notauth = 9
 
 -- The SOA of the client's version (RFC 1995 3).
 abbrev pub is_client_soa : Question → ResourceRecord → Bool

@@ -6,7 +6,7 @@ ghost use Rattle.dns_records.specs.Record.{Record as Stated};
 ghost use Rattle.dns_changes.specs.Change.{Change as StatedChange};
 ghost use Rattle.dns_transfer.specs.declared.rest.Place.TheVariants.{End, Opening, Zone};
 ghost use Rattle.dns_transfer.specs.Left.{left_at, left_in, left_of};
-ghost use Rattle.dns_transfer.specs.Records.{others, sequence};
+ghost use Rattle.dns_transfer.specs.Records.{all_but_soa, sequence};
 
 use crate::{Form, History};
 use dns_changes::Change;
@@ -108,8 +108,8 @@ fn next_other<'a, I: ZoneIndex>(
     place: usize,
 ) -> Option<(&'a Record, usize)>
     requires { ready.old ≡ drop place (I.records index.now) }
-    ensures left { MatchOption result (others ready.old ≡ [])
-        (λ r. others ready.old ≡ r.0.now ∷ others ready.new) }
+    ensures left { MatchOption result (all_but_soa ready.old ≡ [])
+        (λ r. all_but_soa ready.old ≡ r.0.now ∷ all_but_soa ready.new) }
     ensures ready { IfSome result (λ r. ready.new ≡ drop r.1 (I.records index.now)) }
 {
     let _len = index.len();

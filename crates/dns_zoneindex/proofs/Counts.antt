@@ -1,9 +1,9 @@
 -- How many records are at and under names.
 use Rattle.std.proofs.Common.{◌≡◌, ◌+◌, List, [], ◌∷◌, ◌++◌, length, map, arith, length-append}
 use Rattle.std.proofs.lemmas.List.{length-map}
-use Rattle.dns_zoneindex.specs.Entries.{Entry, Child, pushed, flat}
+use Rattle.dns_zoneindex.specs.Entries.{PathRecord, Child, pushed, flat}
 
-pub length-pushed : (c : Child) (es : List Entry) → length (map (pushed c.label) c.own ++ es) ≡ length c.own + length es
+pub length-pushed : (c : Child) (es : List PathRecord) → length (map (pushed c.label) c.own ++ es) ≡ length c.own + length es
 length-pushed c es = omega (arith, length-append (map (pushed c.label) c.own) es, length-map c.own (pushed c.label))
 
 pub length-flat-append : (a b : List Child) → length (flat (a ++ b)) ≡ length (flat a) + length (flat b)

@@ -9,8 +9,8 @@ use Rattle.dns_names.specs.Name.{Labels, under}
 use Rattle.dns_zone.specs.Order.{bytes_same, bytes_itself, both_true}
 use Rattle.dns_zone.specs.Ancestry.{under_from, under_with}
 use Rattle.dns_zone.specs.Records.{exists}
-use Rattle.dns_zoneindex.specs.Entries.{Entry, step, below, some}
-use Rattle.dns_zoneindex.specs.Owned.{records_of}
+use Rattle.dns_zoneindex.specs.Entries.{PathRecord, under_label, below, some}
+use Rattle.dns_zoneindex.specs.Owned.{path_records}
 use Rattle.dns_zoneindex.proofs.Owned.{AreOwned}
 
 abbrev pub starts : Labels → Labels → Bool
@@ -37,29 +37,29 @@ turned owner name = both_ways (starts (reverse name) (reverse owner)) (under own
     (λ e. (let h = under_from owner name e in
     subst (λ x. starts (reverse name) x ≡ true) (sym (ap reverse h.1 ∙ reverse-append h.0 name)) (starts_with (reverse name) (reverse h.0))))
 
-any_cond : (f : Entry → Bool) (b : Bool) (x : Entry) (es : List Entry) (c : Bool) → list_any f es ≡ c → list_any f (cond b (x ∷ es) es) ≡ (b && f x) || c
+any_cond : (f : PathRecord → Bool) (b : Bool) (x : PathRecord) (es : List PathRecord) (c : Bool) → list_any f es ≡ c → list_any f (cond b (x ∷ es) es) ≡ (b && f x) || c
 any_cond f true x es c h = ap (λ z. f x || z) h
 any_cond f false x es c h = h
 
-step_some : (l : List ℕ) (p : Labels) (es : List Entry) → list_any (λ e. starts p e.path) (step l es) ≡ list_any (λ e. starts (l ∷ p) e.path) es
+step_some : (l : List ℕ) (p : Labels) (es : List PathRecord) → list_any (λ e. starts p e.path) (under_label l es) ≡ list_any (λ e. starts (l ∷ p) e.path) es
 step_some l p [] = refl
-step_some l p (e ∷ es) = elim (e.path) as (λ q. list_any (λ x. starts p x.path) (elim q [ [] ↦ step l es | m ∷ rest ↦ cond (bytes_eq l m) (record { path = rest; record_there = e.record_there } ∷ step l es) (step l es) ]) ≡ (starts (l ∷ p) q || list_any (λ x. starts (l ∷ p) x.path) es)) [
+step_some l p (e ∷ es) = elim (e.path) as (λ q. list_any (λ x. starts p x.path) (elim q [ [] ↦ under_label l es | m ∷ rest ↦ cond (bytes_eq l m) (record { path = rest; record_there = e.record_there } ∷ under_label l es) (under_label l es) ]) ≡ (starts (l ∷ p) q || list_any (λ x. starts (l ∷ p) x.path) es)) [
   | [] ↦ step_some l p es
-  | m ∷ rest ↦ any_cond (λ x. starts p x.path) (bytes_eq l m) (record { path = rest; record_there = e.record_there }) (step l es) (list_any (λ x. starts (l ∷ p) x.path) es) (step_some l p es)
+  | m ∷ rest ↦ any_cond (λ x. starts p x.path) (bytes_eq l m) (record { path = rest; record_there = e.record_there }) (under_label l es) (list_any (λ x. starts (l ∷ p) x.path) es) (step_some l p es)
 ]
 
-below_some : (p : Labels) (es : List Entry) → some (below p es) ≡ list_any (λ e. starts p e.path) es
+below_some : (p : Labels) (es : List PathRecord) → some (below p es) ≡ list_any (λ e. starts p e.path) es
 below_some [] [] = refl
 below_some [] (e ∷ es) = refl
-below_some (l ∷ p) es = below_some p (step l es) ∙ step_some l p es
+below_some (l ∷ p) es = below_some p (under_label l es) ∙ step_some l p es
 
-owned_some : (name : Labels) (es : List Entry) → AreOwned es → list_any (λ e. starts (reverse name) e.path) es ≡ exists (records_of es) name
+owned_some : (name : Labels) (es : List PathRecord) → AreOwned es → list_any (λ e. starts (reverse name) e.path) es ≡ exists (path_records es) name
 owned_some name [] h = refl
 owned_some name (e ∷ es) h = λ i. (ap (λ p. starts (reverse name) p) h.0 ∙ turned e.record_there.owner name) i || owned_some name es h.1 i
 
-pub exists_at : (name : Labels) (es : List Entry) → AreOwned es → some (below (reverse name) es) ≡ exists (records_of es) name
+pub exists_at : (name : Labels) (es : List PathRecord) → AreOwned es → some (below (reverse name) es) ≡ exists (path_records es) name
 exists_at name es h = below_some (reverse name) es ∙ owned_some name es h
 
-pub some_of : (es : List Entry) → 0 < length es → true ≡ some es
+pub some_of : (es : List PathRecord) → 0 < length es → true ≡ some es
 some_of [] h = absurd (omega (arith, h))
 some_of (e ∷ es) h = refl

@@ -16,9 +16,9 @@ use Rattle.dns_records.specs.Record.{Record}
 use Rattle.dns_zone.specs.Order.{both_true}
 use Rattle.dns_zone.specs.Records.{is_ordered}
 use Rattle.dns_zone.specs.Sets.{Sorted, sorted_from}
-use Rattle.dns_zoneindex.specs.Entries.{Entry, Child, here, pushed, flat}
+use Rattle.dns_zoneindex.specs.Entries.{PathRecord, Child, here, pushed, flat}
 use Rattle.dns_zoneindex.specs.Children.{label_cmp, AreChildren}
-use Rattle.dns_zoneindex.specs.Owned.{records_of, are_owned}
+use Rattle.dns_zoneindex.specs.Owned.{path_records, are_owned}
 use Rattle.dns_zoneindex.specs.Setting.{before}
 use Rattle.dns_zoneindex.specs.Size.{weight}
 use Rattle.dns_zoneindex.specs.Falls.{weight-append, weight-pushed}
@@ -49,26 +49,26 @@ drop_next (suc n) (x ∷ xs) l t e =
     ap (λ k. drop k (x ∷ xs)) next ∙ drop_next n xs l t e
 
 -- parts of what rises
-not_before_front : (p : Labels) (a b : List Entry) → NotBefore p (a ++ b) → NotBefore p a
+not_before_front : (p : Labels) (a b : List PathRecord) → NotBefore p (a ++ b) → NotBefore p a
 not_before_front p [] b h = tt
 not_before_front p (e ∷ a) b h = (h.0, not_before_front p a b h.1)
 
-pub rising_front : (a b : List Entry) → Rising (a ++ b) → Rising a
+pub rising_front : (a b : List PathRecord) → Rising (a ++ b) → Rising a
 rising_front [] b h = tt
 rising_front (e ∷ a) b h = (not_before_front e.path a b h.0, rising_front a b h.1)
 
-pub rising_back : (a b : List Entry) → Rising (a ++ b) → Rising b
+pub rising_back : (a b : List PathRecord) → Rising (a ++ b) → Rising b
 rising_back [] b h = h
 rising_back (e ∷ a) b h = rising_back a b h.1
 
 same_head : (l : List ℕ) (p q : Labels) → path_cmp (l ∷ p) (l ∷ q) ≡ path_cmp p q
 same_head l p q = ap (λ o. ordering_then o (path_cmp p q)) (tied_itself label_total l)
 
-not_before_pushed : (l : List ℕ) (p : Labels) (es : List Entry) → NotBefore (l ∷ p) (map (pushed l) es) → NotBefore p es
+not_before_pushed : (l : List ℕ) (p : Labels) (es : List PathRecord) → NotBefore (l ∷ p) (map (pushed l) es) → NotBefore p es
 not_before_pushed l p [] h = tt
 not_before_pushed l p (f ∷ es) h = (ap is_gt (sym (same_head l p f.path)) ∙ h.0, not_before_pushed l p es h.1)
 
-pub rising_pushed : (l : List ℕ) (es : List Entry) → Rising (map (pushed l) es) → Rising es
+pub rising_pushed : (l : List ℕ) (es : List PathRecord) → Rising (map (pushed l) es) → Rising es
 rising_pushed l [] h = tt
 rising_pushed l (e ∷ es) h = (not_before_pushed l e.path es h.0, rising_pushed l es h.1)
 
@@ -129,7 +129,7 @@ ends_here n l (s ∷ []) r never = never
 ends_here n l (s ∷ t ∷ front) r never = ends_here n l (t ∷ front) r never
 
 -- a child more, before those that are after all that is left
-abbrev pub AheadOf : List Child → List Entry → Type 0
+abbrev pub AheadOf : List Child → List PathRecord → Type 0
 AheadOf [] es = Unit {0}
 AheadOf (c ∷ cs) es = list_all (before c.label) es ≡ true
 
@@ -161,7 +161,7 @@ length-from : (n : ℕ) (rs : List Record) → length (from_depth n rs) ≡ leng
 length-from n [] = refl
 length-from n (r ∷ rs) = ap (λ k. suc k) (length-from n rs)
 
-pub group_falls : (n : ℕ) (l : List ℕ) (front group : List Record) (cs : List Child) (all : List Entry) → 0 < length group → AllByRecursion (HasLabel n l) group → from_depth n (front ++ group) ++ flat cs ≡ all → weight (from_depth (n + 1) group) < weight all
+pub group_falls : (n : ℕ) (l : List ℕ) (front group : List Record) (cs : List Child) (all : List PathRecord) → 0 < length group → AllByRecursion (HasLabel n l) group → from_depth n (front ++ group) ++ flat cs ≡ all → weight (from_depth (n + 1) group) < weight all
 group_falls n l front group cs all some h is =
     let under = from_depth (n + 1) group in
     let same : weight (from_depth n group) ≡ weight (map (pushed l) under) = ap weight (from-same n l group h) in
@@ -260,7 +260,7 @@ turned_more n all left front group l nodes new x taken label own some h is =
     subst (Holds n all front) (sym (ap reverse is ∙ stacked_more nodes x)) (turned n all left front group l x (reverse nodes) taken label own some h)
 
 -- the whole list, from the root
-pub records_are : (n : ℕ) (rs : List Record) → records_of (from_depth n rs) ≡ rs
+pub records_are : (n : ℕ) (rs : List Record) → path_records (from_depth n rs) ≡ rs
 records_are n [] = refl
 records_are n (r ∷ rs) = ap (λ z. r ∷ z) (records_are n rs)
 
@@ -271,8 +271,8 @@ at_root (r ∷ rs) = (refl, at_root rs)
 pub root_rising : (rs : List Record) → is_ordered rs ≡ true → Rising (from_depth 0 rs)
 root_rising rs h = rising (from_depth 0 rs) (at_root rs) (subst Sorted (sym (records_are 0 rs)) (sorted_from rs h))
 
-pub root_owned : (es : List Entry) (rs : List Record) → es ≡ from_depth 0 rs → are_owned es ≡ true
+pub root_owned : (es : List PathRecord) (rs : List Record) → es ≡ from_depth 0 rs → are_owned es ≡ true
 root_owned es rs is = ap are_owned is ∙ owned_test (from_depth 0 rs) (at_root rs)
 
-pub root_records : (es : List Entry) (rs : List Record) → es ≡ from_depth 0 rs → records_of es ≡ rs
-root_records es rs is = ap records_of is ∙ records_are 0 rs
+pub root_records : (es : List PathRecord) (rs : List Record) → es ≡ from_depth 0 rs → path_records es ≡ rs
+root_records es rs is = ap path_records is ∙ records_are 0 rs

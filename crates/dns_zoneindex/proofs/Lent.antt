@@ -7,11 +7,11 @@ use Rattle.std.proofs.lemmas.Option.{slice_get_past}
 use Rattle.dns_records.specs.Record.{Record}
 use Rattle.dns_zone.specs.Records.{next_after}
 use Rattle.dns_zone.proofs.Searching.{told_nat}
-use Rattle.dns_zoneindex.specs.Entries.{Entry, Child, here, pushed, flat}
+use Rattle.dns_zoneindex.specs.Entries.{PathRecord, Child, here, pushed, flat}
 use Rattle.dns_zoneindex.specs.Children.{joined}
 use Rattle.dns_zoneindex.specs.Lent.{IsLent, IsThere}
 use Rattle.dns_zoneindex.proofs.Slots.{joined-append}
-use Rattle.dns_zoneindex.specs.Owned.{records_of}
+use Rattle.dns_zoneindex.specs.Owned.{path_records}
 
 pub lent_front : (rs more : List Record) (place : ℕ) → place < length rs → IsLent (rs ++ more) place (drop place rs)
 lent_front rs more place inside = record {
@@ -49,26 +49,26 @@ pub lent_slice : (rs more : List Record) (place : ℕ) → place < length rs →
 lent_slice rs more place inside = subst (IsLent (rs ++ more) place) (sym (slice_end rs place)) (lent_front rs more place inside)
 
 -- the records of entries
-pub records_pushed : (l : List ℕ) (own : List Entry) → records_of (map (pushed l) own) ≡ records_of own
+pub records_pushed : (l : List ℕ) (own : List PathRecord) → path_records (map (pushed l) own) ≡ path_records own
 records_pushed l [] = refl
 records_pushed l (e ∷ own) = ap (λ z. e.record_there ∷ z) (records_pushed l own)
 
-pub records_flat : (c : Child) (cs : List Child) → records_of (flat (c ∷ cs)) ≡ records_of c.own ++ records_of (flat cs)
-records_flat c cs = map-append (λ (e : Entry). e.record_there) (map (pushed c.label) c.own) (flat cs) ∙ ap (λ z. z ++ records_of (flat cs)) (records_pushed c.label c.own)
+pub records_flat : (c : Child) (cs : List Child) → path_records (flat (c ∷ cs)) ≡ path_records c.own ++ path_records (flat cs)
+records_flat c cs = map-append (λ (e : PathRecord). e.record_there) (map (pushed c.label) c.own) (flat cs) ∙ ap (λ z. z ++ path_records (flat cs)) (records_pushed c.label c.own)
 
-pub records_joined : (a b : List Child) → records_of (flat (a ++ b)) ≡ records_of (flat a) ++ records_of (flat b)
+pub records_joined : (a b : List Child) → path_records (flat (a ++ b)) ≡ path_records (flat a) ++ path_records (flat b)
 records_joined [] b = refl
 records_joined (c ∷ a) b =
     records_flat c (a ++ b)
-    ∙ ap (λ z. records_of c.own ++ z) (records_joined a b)
-    ∙ sym (append_assoc (records_of c.own) (records_of (flat a)) (records_of (flat b)))
-    ∙ ap (λ z. z ++ records_of (flat b)) (sym (records_flat c a))
+    ∙ ap (λ z. path_records c.own ++ z) (records_joined a b)
+    ∙ sym (append_assoc (path_records c.own) (path_records (flat a)) (path_records (flat b)))
+    ∙ ap (λ z. z ++ path_records (flat b)) (sym (records_flat c a))
 
-pub records_own : (rs : List Record) (es : List Entry) → records_of (map here rs ++ es) ≡ rs ++ records_of es
+pub records_own : (rs : List Record) (es : List PathRecord) → path_records (map here rs ++ es) ≡ rs ++ path_records es
 records_own [] es = refl
 records_own (r ∷ rs) es = ap (λ z. r ∷ z) (records_own rs es)
 
-pub records_count : (es : List Entry) → length (records_of es) ≡ length es
+pub records_count : (es : List PathRecord) → length (path_records es) ≡ length es
 records_count es = length-map es (λ e. e.record_there)
 
 -- the record of a position
@@ -87,17 +87,17 @@ lent_first xs place (r ∷ rest) h = sym (front_of xs place ∙ ap (λ z. slice_
 
 -- a run within a slot
 pub lent_there : (slots : List (List Child)) (place : ℕ) (slot : List Child) (left : ℕ) (run : List Record) → IsThere slots place slot left
-    → IsLent (records_of (flat slot)) left run
-    → IsLent (records_of (flat (joined slots))) place run
+    → IsLent (path_records (flat slot)) left run
+    → IsLent (path_records (flat (joined slots))) place run
 lent_there slots place slot left run h lent =
-    let a = records_of (flat (joined h.front)) in
-    let b = records_of (flat slot) in
-    let d = records_of (flat (joined h.back)) in
+    let a = path_records (flat (joined h.front)) in
+    let b = path_records (flat slot) in
+    let d = path_records (flat (joined h.back)) in
     let before : length a ≡ length (flat (joined h.front)) = records_count (flat (joined h.front)) in
     let inside : left < length b = omega (arith, h.within, records_count (flat slot)) in
     let at : left ≡ place - length (flat (joined h.front)) = omega (arith, h.before) in
-    let is : records_of (flat (joined slots)) ≡ a ++ (b ++ d) =
-    ap (λ x. records_of (flat x)) (ap joined h.whole ∙ joined-append h.front (slot ∷ h.back))
+    let is : path_records (flat (joined slots)) ≡ a ++ (b ++ d) =
+    ap (λ x. path_records (flat x)) (ap joined h.whole ∙ joined-append h.front (slot ∷ h.back))
     ∙ records_joined (joined h.front) (slot ++ joined h.back)
     ∙ ap (λ z. a ++ z) (records_joined slot (joined h.back)) in
     subst (λ x. IsLent x place run) (sym is)

@@ -10,22 +10,22 @@ use Rattle.dns_zone.specs.Zone.{Zone}
 use Rattle.dns_zone.proofs.Cuts.{or_else}
 use Rattle.dns_zone.proofs.Enclosers.{encloser_here, encloser_up}
 use Rattle.dns_zone.proofs.Uncut.{cut_up, cut_past, owns_nothing, uncut_outside, under_above}
-use Rattle.dns_zoneindex.specs.Entries.{Entry, step, below, here_of, some}
-use Rattle.dns_zoneindex.specs.Owned.{records_of}
-use Rattle.dns_zoneindex.specs.Reach.{zone_of, LeadsToName, LeadsAbove}
+use Rattle.dns_zoneindex.specs.Entries.{PathRecord, under_label, below, here_of, some}
+use Rattle.dns_zoneindex.specs.Owned.{path_records}
+use Rattle.dns_zoneindex.specs.Reach.{zone_of_entries, LeadsToName, LeadsAbove}
 use Rattle.dns_zoneindex.proofs.Down.{down}
 use Rattle.dns_zoneindex.proofs.Exists.{exists_at, some_of}
 use Rattle.dns_zoneindex.proofs.Led.{owned_at}
 use Rattle.dns_zoneindex.proofs.Owned.{AreOwned}
 
 -- what is at and under a name tells whether it exists
-pub there : (name : Labels) (es own : List Entry) → AreOwned es → own ≡ below (reverse name) es → 0 < length own → exists (records_of es) name ≡ true
+pub there : (name : Labels) (es own : List PathRecord) → AreOwned es → own ≡ below (reverse name) es → 0 < length own → exists (path_records es) name ≡ true
 there name es own h is pos = sym (exists_at name es h) ∙ ap some (sym is) ∙ sym (some_of own pos)
 
-pub absent : (name : Labels) (es own : List Entry) → AreOwned es → own ≡ below (reverse name) es → own ≡ [] → exists (records_of es) name ≡ false
+pub absent : (name : Labels) (es own : List PathRecord) → AreOwned es → own ≡ below (reverse name) es → own ≡ [] → exists (path_records es) name ≡ false
 absent name es own h is none = sym (exists_at name es h) ∙ ap some (sym is) ∙ ap some none
 
-pub owned : (name : Labels) (es own : List Entry) (rs : List Record) → AreOwned es → own ≡ below (reverse name) es → rs ≡ here_of own → rs ≡ records_at (records_of es) name
+pub owned : (name : Labels) (es own : List PathRecord) (rs : List Record) → AreOwned es → own ≡ below (reverse name) es → rs ≡ here_of own → rs ≡ records_at (path_records es) name
 owned name es own rs h is here = here ∙ ap here_of is ∙ owned_at name es h
 
 absent_uncut : (z : Zone) (n : Labels) → exists z.records n ≡ false → cuts_at z n ≡ false
@@ -53,9 +53,9 @@ none_below (x ∷ xs) l n e = told_it (under x.owner (l ∷ n)) refl (none_below
     told_it false is k = ap (λ b. b || exists xs (l ∷ n)) is ∙ k
 
 -- ---- the states
-pub at_root : (apex : Labels) (es : List Entry) (name : Labels) → name ≡ [] → LeadsToName (zone_of apex es) es name es
+pub at_root : (apex : Labels) (es : List PathRecord) (name : Labels) → name ≡ [] → LeadsToName (zone_of_entries apex es) es name es
 at_root apex es name is = record {
-  uncut = subst (λ n. cut (zone_of apex es) n ≡ None) (sym is) (uncut_outside (zone_of apex es) [] (never (names_eq [] apex)));
+  uncut = subst (λ n. cut (zone_of_entries apex es) n ≡ None) (sym is) (uncut_outside (zone_of_entries apex es) [] (never (names_eq [] apex)));
   own_is = ap (λ n. below (reverse n) es) (sym is);
 }
   where
@@ -64,10 +64,10 @@ at_root apex es name is = record {
     never false = refl
 
 -- the name is a cut
-pub to_cut : (apex : Labels) (es : List Entry) (name above : Labels) (l : List ℕ) (own : List Entry) (rs : List Record) → name ≡ l ∷ above → LeadsToName (zone_of apex es) es above own
-    → rs ≡ records_at (records_of es) name → cuts_at (zone_of apex es) name ≡ true → EndsAtCut (zone_of apex es) name name rs
+pub to_cut : (apex : Labels) (es : List PathRecord) (name above : Labels) (l : List ℕ) (own : List PathRecord) (rs : List Record) → name ≡ l ∷ above → LeadsToName (zone_of_entries apex es) es above own
+    → rs ≡ records_at (path_records es) name → cuts_at (zone_of_entries apex es) name ≡ true → EndsAtCut (zone_of_entries apex es) name name rs
 to_cut apex es name above l own rs is h held cuts =
-    let z = zone_of apex es in
+    let z = zone_of_entries apex es in
     let here : cuts_at z (l ∷ above) ≡ true = subst (λ n. cuts_at z n ≡ true) is cuts in
     record {
       cut = subst (λ n. cut z n ≡ Some n) (sym is) (cut_up z l above ∙ (λ i. or_else (h.uncut i) (cond (here i) (Some (l ∷ above)) None)));
@@ -75,20 +75,20 @@ to_cut apex es name above l own rs is h held cuts =
     }
 
 -- the name exists and is none
-pub to_there : (apex : Labels) (es : List Entry) (name above : Labels) (l : List ℕ) (own child : List Entry) → name ≡ l ∷ above → LeadsToName (zone_of apex es) es above own
-    → child ≡ below (reverse name) es → cuts_at (zone_of apex es) name ≡ false → LeadsToName (zone_of apex es) es name child
+pub to_there : (apex : Labels) (es : List PathRecord) (name above : Labels) (l : List ℕ) (own child : List PathRecord) → name ≡ l ∷ above → LeadsToName (zone_of_entries apex es) es above own
+    → child ≡ below (reverse name) es → cuts_at (zone_of_entries apex es) name ≡ false → LeadsToName (zone_of_entries apex es) es name child
 to_there apex es name above l own child is h child_is cuts =
-    let z = zone_of apex es in
+    let z = zone_of_entries apex es in
     record {
       uncut = subst (λ n. cut z n ≡ None) (sym is) (cut_past z l above (subst (λ n. cuts_at z n ≡ false) is cuts) ∙ h.uncut);
       own_is = child_is;
     }
 
 -- the name doesn't exist, and the one above does
-pub to_above : (apex : Labels) (es : List Entry) (name above : Labels) (l : List ℕ) (own child : List Entry) → AreOwned es → name ≡ l ∷ above → LeadsToName (zone_of apex es) es above own
-    → 0 < length own → child ≡ step l own → child ≡ [] → LeadsAbove (zone_of apex es) es name above own
+pub to_above : (apex : Labels) (es : List PathRecord) (name above : Labels) (l : List ℕ) (own child : List PathRecord) → AreOwned es → name ≡ l ∷ above → LeadsToName (zone_of_entries apex es) es above own
+    → 0 < length own → child ≡ under_label l own → child ≡ [] → LeadsAbove (zone_of_entries apex es) es name above own
 to_above apex es name above l own child h is led pos child_is none =
-    let z = zone_of apex es in
+    let z = zone_of_entries apex es in
     let gone : exists z.records (l ∷ above) ≡ false = absent (l ∷ above) es child h (down (l ∷ above) above l es own child refl led.own_is child_is) none in
     subst (λ n. LeadsAbove z es n above own) (sym is) (record {
       uncut = cut_past z l above (absent_uncut z (l ∷ above) gone) ∙ led.uncut;
@@ -98,18 +98,18 @@ to_above apex es name above l own child h is led pos child_is none =
     })
 
 -- a cut stays the cut of all names under it
-pub stays_cut : (apex : Labels) (es : List Entry) (name above : Labels) (l : List ℕ) (at : Labels) (rs : List Record) → name ≡ l ∷ above → EndsAtCut (zone_of apex es) above at rs → EndsAtCut (zone_of apex es) name at rs
+pub stays_cut : (apex : Labels) (es : List PathRecord) (name above : Labels) (l : List ℕ) (at : Labels) (rs : List Record) → name ≡ l ∷ above → EndsAtCut (zone_of_entries apex es) above at rs → EndsAtCut (zone_of_entries apex es) name at rs
 stays_cut apex es name above l at rs is h =
-    let z = zone_of apex es in
+    let z = zone_of_entries apex es in
     record {
       cut = subst (λ n. cut z n ≡ Some at) (sym is) (cut_up z l above ∙ ap (λ o. or_else o (cond (cuts_at z (l ∷ above)) (Some (l ∷ above)) None)) h.cut);
       owned = h.owned;
     }
 
 -- under a name that doesn't exist none does
-pub stays_above : (apex : Labels) (es : List Entry) (name above : Labels) (l : List ℕ) (at : Labels) (own : List Entry) → name ≡ l ∷ above → LeadsAbove (zone_of apex es) es above at own → LeadsAbove (zone_of apex es) es name at own
+pub stays_above : (apex : Labels) (es : List PathRecord) (name above : Labels) (l : List ℕ) (at : Labels) (own : List PathRecord) → name ≡ l ∷ above → LeadsAbove (zone_of_entries apex es) es above at own → LeadsAbove (zone_of_entries apex es) es name at own
 stays_above apex es name above l at own is h =
-    let z = zone_of apex es in
+    let z = zone_of_entries apex es in
     let gone = none_below z.records l above h.absent in
     subst (λ n. LeadsAbove z es n at own) (sym is) (record {
       uncut = cut_past z l above (absent_uncut z (l ∷ above) gone) ∙ h.uncut;
@@ -119,7 +119,7 @@ stays_above apex es name above l at own is h =
     })
 
 -- ---- the answers
-pub end_name : (apex : Labels) (es : List Entry) (name : Labels) (own : List Entry) (rs : List Record) → AreOwned es → LeadsToName (zone_of apex es) es name own → 0 < length own → rs ≡ here_of own → EndsAtName (zone_of apex es) name rs
+pub end_name : (apex : Labels) (es : List PathRecord) (name : Labels) (own : List PathRecord) (rs : List Record) → AreOwned es → LeadsToName (zone_of_entries apex es) es name own → 0 < length own → rs ≡ here_of own → EndsAtName (zone_of_entries apex es) name rs
 end_name apex es name own rs h led pos here = record {
   uncut = led.uncut;
   there = there name es own h led.own_is pos;
@@ -129,41 +129,41 @@ end_name apex es name own rs h led pos here = record {
 abbrev star : List ℕ
 star = 42 ∷ []
 
-wild_is : (apex : Labels) (es : List Entry) (name at : Labels) (own child : List Entry) → LeadsAbove (zone_of apex es) es name at own → child ≡ step star own → child ≡ below (reverse (source (records_of es) name)) es
+wild_is : (apex : Labels) (es : List PathRecord) (name at : Labels) (own child : List PathRecord) → LeadsAbove (zone_of_entries apex es) es name at own → child ≡ under_label star own → child ≡ below (reverse (source (path_records es) name)) es
 wild_is apex es name at own child led is =
-    down (source (records_of es) name) at star es own child (ap wildcard (sym led.above)) led.own_is is
+    down (source (path_records es) name) at star es own child (ap wildcard (sym led.above)) led.own_is is
 
-pub end_wildcard : (apex : Labels) (es : List Entry) (name at : Labels) (own child : List Entry) (rs : List Record) → AreOwned es → LeadsAbove (zone_of apex es) es name at own
-    → child ≡ step star own → 0 < length child → rs ≡ here_of child → EndsAtWildcard (zone_of apex es) name at rs
+pub end_wildcard : (apex : Labels) (es : List PathRecord) (name at : Labels) (own child : List PathRecord) (rs : List Record) → AreOwned es → LeadsAbove (zone_of_entries apex es) es name at own
+    → child ≡ under_label star own → 0 < length child → rs ≡ here_of child → EndsAtWildcard (zone_of_entries apex es) name at rs
 end_wildcard apex es name at own child rs h led is pos here =
     let wild = wild_is apex es name at own child led is in
     record {
       uncut = led.uncut;
       absent = led.absent;
       above = led.above;
-      there = there (source (records_of es) name) es child h wild pos;
-      owned = owned (source (records_of es) name) es child rs h wild here;
+      there = there (source (path_records es) name) es child h wild pos;
+      owned = owned (source (path_records es) name) es child rs h wild here;
     }
 
-pub end_nowhere : (apex : Labels) (es : List Entry) (name at : Labels) (own child : List Entry) → AreOwned es → LeadsAbove (zone_of apex es) es name at own → child ≡ step star own → child ≡ [] → EndsNowhere (zone_of apex es) name
+pub end_nowhere : (apex : Labels) (es : List PathRecord) (name at : Labels) (own child : List PathRecord) → AreOwned es → LeadsAbove (zone_of_entries apex es) es name at own → child ≡ under_label star own → child ≡ [] → EndsNowhere (zone_of_entries apex es) name
 end_nowhere apex es name at own child h led is none = record {
   uncut = led.uncut;
   absent = led.absent;
-  unmatched = absent (source (records_of es) name) es child h (wild_is apex es name at own child led is) none;
+  unmatched = absent (source (path_records es) name) es child h (wild_is apex es name at own child led is) none;
 }
 
 -- a set of no records
-none_cut : (apex : Labels) (es : List Entry) (name : Labels) → es ≡ [] → cut (zone_of apex es) name ≡ None
-none_cut apex es [] e = uncut_outside (zone_of apex es) [] (never (names_eq [] apex))
+none_cut : (apex : Labels) (es : List PathRecord) (name : Labels) → es ≡ [] → cut (zone_of_entries apex es) name ≡ None
+none_cut apex es [] e = uncut_outside (zone_of_entries apex es) [] (never (names_eq [] apex))
   where
     never : (b : Bool) → (b && not b) ≡ false
     never true = refl
     never false = refl
-none_cut apex es (l ∷ rest) e = cut_past (zone_of apex es) l rest (absent_uncut (zone_of apex es) (l ∷ rest) (ap (λ x. exists (records_of x) (l ∷ rest)) e)) ∙ none_cut apex es rest e
+none_cut apex es (l ∷ rest) e = cut_past (zone_of_entries apex es) l rest (absent_uncut (zone_of_entries apex es) (l ∷ rest) (ap (λ x. exists (path_records x) (l ∷ rest)) e)) ∙ none_cut apex es rest e
 
-pub end_empty : (apex : Labels) (es : List Entry) (name : Labels) → es ≡ [] → EndsNowhere (zone_of apex es) name
+pub end_empty : (apex : Labels) (es : List PathRecord) (name : Labels) → es ≡ [] → EndsNowhere (zone_of_entries apex es) name
 end_empty apex es name e = record {
   uncut = none_cut apex es name e;
-  absent = ap (λ x. exists (records_of x) name) e;
-  unmatched = subst (λ x. exists (records_of x) (source (records_of es) name) ≡ false) (sym e) refl;
+  absent = ap (λ x. exists (path_records x) name) e;
+  unmatched = subst (λ x. exists (path_records x) (source (path_records es) name) ≡ false) (sym e) refl;
 }

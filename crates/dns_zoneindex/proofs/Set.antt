@@ -6,33 +6,33 @@ use Rattle.std.specs.Ordering.{is_lt, is_gt}
 use Rattle.std.specs.FinMap.Entries.{by_order}
 use Rattle.std.specs.declared.cmp.Ordering.TheVariants.{Less, Equal, Greater}
 use Rattle.dns_records.specs.Record.{Record}
-use Rattle.dns_zoneindex.specs.Entries.{Entry, Child, here, pushed, flat, own_at, labels_in}
+use Rattle.dns_zoneindex.specs.Entries.{PathRecord, Child, here, pushed, flat, own_at, labels_in}
 use Rattle.dns_zoneindex.specs.Children.{label_cmp, AllChildren, AreChildren}
 use Rattle.dns_zoneindex.specs.Assoc.{child_of, put_child, without_child}
 use Rattle.dns_zoneindex.specs.Setting.{keep, before, behind, deeper, set_at}
 use Rattle.dns_zoneindex.proofs.Sides.{label_total, all_map}
 use Rattle.dns_zoneindex.proofs.Under.{step-own}
 
-pub keep-append : (p : Entry → Bool) (a b : List Entry) → keep p (a ++ b) ≡ keep p a ++ keep p b
+pub keep-append : (p : PathRecord → Bool) (a b : List PathRecord) → keep p (a ++ b) ≡ keep p a ++ keep p b
 keep-append p [] b = refl
 keep-append p (e ∷ a) b = elim (p e) as (λ t. cond t (e ∷ keep p (a ++ b)) (keep p (a ++ b)) ≡ cond t (e ∷ keep p a) (keep p a) ++ keep p b) [
   | true ↦ ap (λ z. e ∷ z) (keep-append p a b)
   | false ↦ keep-append p a b
 ]
 
-keep-all : (p : Entry → Bool) (m : List ℕ) (own : List Entry) → ((e : Entry) → p (pushed m e) ≡ true) → keep p (map (pushed m) own) ≡ map (pushed m) own
+keep-all : (p : PathRecord → Bool) (m : List ℕ) (own : List PathRecord) → ((e : PathRecord) → p (pushed m e) ≡ true) → keep p (map (pushed m) own) ≡ map (pushed m) own
 keep-all p m [] h = refl
 keep-all p m (e ∷ own) h = rw (h e) (ap (λ z. pushed m e ∷ z) (keep-all p m own h))
 
-keep-none : (p : Entry → Bool) (m : List ℕ) (own : List Entry) → ((e : Entry) → p (pushed m e) ≡ false) → keep p (map (pushed m) own) ≡ []
+keep-none : (p : PathRecord → Bool) (m : List ℕ) (own : List PathRecord) → ((e : PathRecord) → p (pushed m e) ≡ false) → keep p (map (pushed m) own) ≡ []
 keep-none p m [] h = refl
 keep-none p m (e ∷ own) h = rw (h e) (keep-none p m own h)
 
 -- one child that is kept, or that is not
-pub one-all : (p : Entry → Bool) (c : Child) (cs : List Child) {out : List Entry} → ((e : Entry) → p (pushed c.label e) ≡ true) → keep p (flat cs) ≡ out → keep p (flat (c ∷ cs)) ≡ map (pushed c.label) c.own ++ out
+pub one-all : (p : PathRecord → Bool) (c : Child) (cs : List Child) {out : List PathRecord} → ((e : PathRecord) → p (pushed c.label e) ≡ true) → keep p (flat cs) ≡ out → keep p (flat (c ∷ cs)) ≡ map (pushed c.label) c.own ++ out
 one-all p c cs h k = keep-append p (map (pushed c.label) c.own) (flat cs) ∙ (λ i. keep-all p c.label c.own h i ++ k i)
 
-pub one-none : (p : Entry → Bool) (c : Child) (cs : List Child) {out : List Entry} → ((e : Entry) → p (pushed c.label e) ≡ false) → keep p (flat cs) ≡ out → keep p (flat (c ∷ cs)) ≡ out
+pub one-none : (p : PathRecord → Bool) (c : Child) (cs : List Child) {out : List PathRecord} → ((e : PathRecord) → p (pushed c.label e) ≡ false) → keep p (flat cs) ≡ out → keep p (flat (c ∷ cs)) ≡ out
 one-none p c cs h k = keep-append p (map (pushed c.label) c.own) (flat cs) ∙ (λ i. keep-none p c.label c.own h i ++ k i)
 
 -- those after the label
@@ -83,15 +83,15 @@ flat-without l (c ∷ cs) h = elim (label_cmp l c.label) as (λ o. label_cmp l c
 ] refl
 
 -- the name's own records stay before all children
-here-before : (l : List ℕ) (rs : List Record) (es : List Entry) → keep (before l) (map here rs ++ es) ≡ map here rs ++ keep (before l) es
+here-before : (l : List ℕ) (rs : List Record) (es : List PathRecord) → keep (before l) (map here rs ++ es) ≡ map here rs ++ keep (before l) es
 here-before l [] es = refl
 here-before l (r ∷ rs) es = ap (λ z. here r ∷ z) (here-before l rs es)
 
-here-behind : (l : List ℕ) (rs : List Record) (es : List Entry) → keep (behind l) (map here rs ++ es) ≡ keep (behind l) es
+here-behind : (l : List ℕ) (rs : List Record) (es : List PathRecord) → keep (behind l) (map here rs ++ es) ≡ keep (behind l) es
 here-behind l [] es = refl
 here-behind l (r ∷ rs) es = here-behind l rs es
 
-here-deeper : (rs : List Record) (es : List Entry) → keep deeper (map here rs ++ es) ≡ keep deeper es
+here-deeper : (rs : List Record) (es : List PathRecord) → keep deeper (map here rs ++ es) ≡ keep deeper es
 here-deeper [] es = refl
 here-deeper (r ∷ rs) es = here-deeper rs es
 

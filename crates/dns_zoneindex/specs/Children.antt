@@ -5,7 +5,7 @@ use Rattle.std.specs.Cmp.Lexicographic.{slice_cmp}
 use Rattle.std.specs.declared.cmp.Ordering.{Ordering}
 use Rattle.std.specs.declared.cmp.Ordering.TheVariants.{Less}
 use Rattle.dns_records.specs.Record.{Record}
-use Rattle.dns_zoneindex.specs.Entries.{Entry, Child, here, flat}
+use Rattle.dns_zoneindex.specs.Entries.{PathRecord, Child, here, flat}
 use Rattle.dns_zoneindex.specs.Keys.{IsKey}
 use Rattle.dns_zoneindex.specs.declared.node.Children.{Children}
 use Rattle.dns_zoneindex.specs.declared.node.Children.TheVariants.{Empty, One, Many}
@@ -22,7 +22,7 @@ abbrev pub joined : List (List Child) → List Child
 joined [] = []
 joined (s ∷ slots) = s ++ joined slots
 
-abbrev pub own_of : List Record → Children → List Entry
+abbrev pub own_of : List Record → Children → List PathRecord
 own_of records children = map here records ++ flat (items children)
 
 abbrev pub label_cmp : List ℕ → List ℕ → Ordering

@@ -2,8 +2,8 @@
 use Rattle.std.proofs.Common.{◌≡◌, ℕ, suc, ◌+◌, ◌<◌, ◌≤◌, List, [], ◌∷◌, ◌++◌, length, map, refl, arith}
 use Rattle.std.specs.Prelude.{max}
 use Rattle.dns_records.specs.Record.{Record}
-use Rattle.dns_zoneindex.specs.Entries.{Entry, Child, here, pushed, flat}
-use Rattle.dns_zoneindex.specs.Size.{weight, sizes_of, slot_size, node_size}
+use Rattle.dns_zoneindex.specs.Entries.{PathRecord, Child, here, pushed, flat}
+use Rattle.dns_zoneindex.specs.Size.{weight, children_size, slot_size, node_size}
 use Rattle.dns_zoneindex.specs.Children.{items, joined, own_of, child_in, AreChildren, IsGroup}
 use Rattle.dns_zoneindex.specs.declared.node.Children.{Children}
 use Rattle.dns_zoneindex.specs.declared.node.Children.TheVariants.{Empty, One, Many}
@@ -12,16 +12,16 @@ use Rattle.dns_zoneindex.specs.declared.node.Kind.{Kind}
 use Rattle.dns_zoneindex.specs.declared.node.Kind.TheVariants.{Leaf, Branch}
 use denote.Param.Weighed.{most}
 
-pub weight-append : (a b : List Entry) → weight (a ++ b) ≡ weight a + weight b
+pub weight-append : (a b : List PathRecord) → weight (a ++ b) ≡ weight a + weight b
 weight-append [] b = omega arith
 weight-append (e ∷ a) b = omega (arith, weight-append a b)
 
-pub weight-pushed : (l : List ℕ) (a : List Entry)
+pub weight-pushed : (l : List ℕ) (a : List PathRecord)
     → weight (map (pushed l) a) ≡ weight a + length a + length a + length a
 weight-pushed l [] = refl
 weight-pushed l (e ∷ a) = omega (arith, weight-pushed l a)
 
-pub sizes_flat : (cs : List Child) → AreChildren cs → sizes_of cs ≤ weight (flat cs)
+pub sizes_flat : (cs : List Child) → AreChildren cs → children_size cs ≤ weight (flat cs)
 sizes_flat [] h = omega arith
 sizes_flat (c ∷ cs) h =
     omega (
@@ -32,7 +32,7 @@ sizes_flat (c ∷ cs) h =
       weight-pushed c.label c.own,
     )
 
-sizes-append : (a b : List Child) → sizes_of (a ++ b) ≡ sizes_of a + sizes_of b
+sizes-append : (a b : List Child) → children_size (a ++ b) ≡ children_size a + children_size b
 sizes-append [] b = omega arith
 sizes-append (x ∷ a) b = omega (arith, sizes-append a b)
 
@@ -54,17 +54,18 @@ slot_falls (One n) = omega arith
 slot_falls (Many g) = omega arith
 
 -- children that are there weigh something
-some_weighs : (s : List Child) → 0 < length s → 2 ≤ sizes_of s
+some_weighs : (s : List Child) → 0 < length s → 2 ≤ children_size s
 some_weighs [] p = absurd (omega (arith, p))
 some_weighs (c ∷ s) p = omega arith
 
 -- no slot weighs more than all together, nor as much where another is there
-most_of_all : (slots : List (List Child)) → most (λ s. slot_size s + 1) slots ≤ sizes_of (joined slots) + 2
+most_of_all : (slots : List (List Child))
+    → most (λ s. slot_size s + 1) slots ≤ children_size (joined slots) + 2
 most_of_all [] = omega arith
 most_of_all (s ∷ slots) = omega (arith, most_of_all slots, sizes-append s (joined slots))
 
 pub group_falls : (count : ℕ) (slots : List (List Child)) (keys : List ℕ) → IsGroup count slots keys
-    → max (most (λ s. slot_size s + 1) slots) 0 ≤ sizes_of (joined slots)
+    → max (most (λ s. slot_size s + 1) slots) 0 ≤ children_size (joined slots)
 group_falls count [] keys h = absurd (omega (arith, h.2))
 group_falls count (s ∷ []) keys h = absurd (omega (arith, h.2))
 group_falls count (s ∷ t ∷ slots) keys h =

@@ -6,24 +6,24 @@ use Rattle.std.specs.Cmp.Lexicographic.{slice_cmp}
 use Rattle.std.specs.declared.cmp.Ordering.{Ordering}
 use Rattle.dns_names.specs.Name.{Labels}
 use Rattle.dns_records.specs.Record.{Record}
-use Rattle.dns_zoneindex.specs.Entries.{Entry, here}
+use Rattle.dns_zoneindex.specs.Entries.{PathRecord, here}
 use Rattle.dns_zoneindex.specs.Setting.{before}
 
-abbrev pub entry_below : ℕ → Record → Entry
+abbrev pub entry_below : ℕ → Record → PathRecord
 entry_below depth r = record { path = drop depth (reverse r.owner); record_there = r }
 
-abbrev pub from_depth : ℕ → List Record → List Entry
+abbrev pub from_depth : ℕ → List Record → List PathRecord
 from_depth depth records = map (entry_below depth) records
 
 abbrev pub path_cmp : Labels → Labels → Ordering
 path_cmp p q = slice_cmp (slice_cmp nat_cmp) p q
 
 -- Paths never fall.
-abbrev pub NotBefore : Labels → List Entry → Type 0
+abbrev pub NotBefore : Labels → List PathRecord → Type 0
 NotBefore path [] = Unit {0}
 NotBefore path (f ∷ es) = (is_gt (path_cmp path f.path) ≡ false) × NotBefore path es
 
-abbrev pub Rising : List Entry → Type 0
+abbrev pub Rising : List PathRecord → Type 0
 Rising [] = Unit {0}
 Rising (e ∷ es) = NotBefore e.path es × Rising es
 

@@ -3,13 +3,13 @@ use Rattle.std.specs.Prelude.{Bool, List, map, reverse}
 use Rattle.std.specs.List.{list_all}
 use Rattle.dns_names.specs.Name.{names_eq}
 use Rattle.dns_records.specs.Record.{Record}
-use Rattle.dns_zoneindex.specs.Entries.{Entry}
+use Rattle.dns_zoneindex.specs.Entries.{PathRecord}
 
-abbrev pub records_of : List Entry → List Record
-records_of es = map (λ e. e.record_there) es
+abbrev pub path_records : List PathRecord → List Record
+path_records es = map (λ e. e.record_there) es
 
-abbrev pub stands_at_owner : Entry → Bool
+abbrev pub stands_at_owner : PathRecord → Bool
 stands_at_owner e = names_eq e.path (reverse e.record_there.owner)
 
-abbrev pub are_owned : List Entry → Bool
+abbrev pub are_owned : List PathRecord → Bool
 are_owned es = list_all stands_at_owner es

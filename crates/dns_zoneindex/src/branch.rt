@@ -2,7 +2,7 @@
 ghost use Rattle.std.specs.Prelude.{◌≡◌, ◌<◌, length, IfOk};
 ghost use Rattle.std.specs.Option.{option_copied};
 ghost use Rattle.dns_zoneindex.specs.Children.{items, own_of, node_of, leaf_label, AreChildren};
-ghost use Rattle.dns_zoneindex.specs.Entries.{step, here_of, own_at};
+ghost use Rattle.dns_zoneindex.specs.Entries.{under_label, here_of, own_at};
 ghost use Rattle.dns_zoneindex.specs.Held.{held};
 ghost use Rattle.dns_zoneindex.specs.Keys.{IsKey};
 ghost use Rattle.std.specs.Str.{bytes_eq};
@@ -84,7 +84,7 @@ impl Branch {
 
     /// The child of a label.
     pub(crate) fn child(&self, label: &[u8]) -> Option<&Node>
-        ensures found { own_at (option_copied result) ≡ step label.now self.now.own }
+        ensures found { own_at (option_copied result) ≡ under_label label.now self.now.own }
         ensures kept { 0 < length self.now.own }
     {
         self.children.find(label)

@@ -6,9 +6,9 @@ ghost use Rattle.dns_records.specs.Record.{Record as Stated};
 ghost use Rattle.dns_records.specs.Types.{type_ns};
 ghost use Rattle.dns_zone.specs.Node.{cuts_at, IsMatch};
 ghost use Rattle.dns_zone.specs.Records.{is_ordered, owns_type, records_at};
-ghost use Rattle.dns_zoneindex.specs.Entries.{Entry};
-ghost use Rattle.dns_zoneindex.specs.Owned.{records_of, are_owned};
-ghost use Rattle.dns_zoneindex.specs.Reach.{zone_of, LeadsToName, IsReached};
+ghost use Rattle.dns_zoneindex.specs.Entries.{PathRecord};
+ghost use Rattle.dns_zoneindex.specs.Owned.{path_records, are_owned};
+ghost use Rattle.dns_zoneindex.specs.Reach.{zone_of_entries, LeadsToName, IsReached};
 
 use crate::node::Node;
 use crate::path::split;
@@ -58,12 +58,12 @@ fn next<'n, 's>(
     apex: &NameRef<'_>,
     name: &NameRef<'n>,
 ) -> Reached<'n, 's>
-    ensures { (es : List Entry)
+    ensures { (es : List PathRecord)
         → are_owned es ≡ true
-        → is_ordered (records_of es) ≡ true
+        → is_ordered (path_records es) ≡ true
         → name.now ≡ label.now ∷ above.entry
-        → LeadsToName (zone_of apex.now es) es above.entry node.now.own
-        → IsReached (zone_of apex.now es) es name.now result }
+        → LeadsToName (zone_of_entries apex.now es) es above.entry node.now.own
+        → IsReached (zone_of_entries apex.now es) es name.now result }
 {
     match node.child(label) {
         Some(child) => {
@@ -80,8 +80,8 @@ fn next<'n, 's>(
 /// How far the labels of a name lead from the root, in the zone of an apex.
 fn reach<'n, 's>(root: &'s Node, apex: &NameRef<'_>, name: &NameRef<'n>) -> Reached<'n, 's>
     requires owned { are_owned root.now.own ≡ true }
-    requires order { is_ordered (records_of root.now.own) ≡ true }
-    ensures { IsReached (zone_of apex.now root.now.own) root.now.own name.now result }
+    requires order { is_ordered (path_records root.now.own) ≡ true }
+    ensures { IsReached (zone_of_entries apex.now root.now.own) root.now.own name.now result }
 {
     match split(name) {
         None => Reached::There(root),
@@ -100,8 +100,8 @@ pub(crate) fn find_node<'n, 's>(
     name: &NameRef<'n>,
 ) -> Match<'n, 's>
     requires owned { are_owned root.now.own ≡ true }
-    requires order { is_ordered (records_of root.now.own) ≡ true }
-    ensures { IsMatch (zone_of apex.now root.now.own) name.now result }
+    requires order { is_ordered (path_records root.now.own) ≡ true }
+    ensures { IsMatch (zone_of_entries apex.now root.now.own) name.now result }
 {
     match reach(root, apex, name) {
         Reached::Cut(cut, owned) => Match::Cut(cut, owned),

@@ -3,7 +3,7 @@
 ghost use Rattle.std.specs.Prelude.{◌≡◌, ◌<◌, [], length, reverse, IfOk, IfSome};
 ghost use Rattle.std.specs.Option.{option_copied};
 ghost use Rattle.dns_zoneindex.specs.Children.{items, own_of, node_of, AreChildren};
-ghost use Rattle.dns_zoneindex.specs.Entries.{below, step, here_of, own_at, labels_in};
+ghost use Rattle.dns_zoneindex.specs.Entries.{below, under_label, here_of, own_at, labels_in};
 ghost use Rattle.dns_zoneindex.specs.Held.{held};
 ghost use Rattle.dns_zoneindex.specs.Keys.{IsKey};
 ghost use Rattle.dns_zoneindex.specs.Setting.{set_at};
@@ -108,13 +108,13 @@ impl Model for Branch {
 
     ghost use Rattle.dns_zoneindex.specs.Children.{node_of, IsBranch};
     ghost use Rattle.dns_zoneindex.specs.Held.{held};
-    ghost use Rattle.dns_zoneindex.specs.Size.{size_of};
+    ghost use Rattle.dns_zoneindex.specs.Size.{size_of_child};
 
     ghost view = { λ n. node_of n.label.items (held n.records) n.children };
 
     ghost invariant = { λ n. IsBranch n.count n.key n.label.items (held n.records) n.children };
 
-    ghost size = { size_of };
+    ghost size = { size_of_child };
 
     ghost use Rattle.dns_zoneindex.specs.Falls.{children_falls};
 
@@ -128,13 +128,13 @@ impl Model for Group {
     ghost Value = { List Child };
 
     ghost use Rattle.dns_zoneindex.specs.Children.{joined, IsGroup};
-    ghost use Rattle.dns_zoneindex.specs.Size.{sizes_of};
+    ghost use Rattle.dns_zoneindex.specs.Size.{children_size};
 
     ghost view = { λ g. joined g.slots.items };
 
     ghost invariant = { λ g. IsGroup g.count g.slots.items g.keys };
 
-    ghost size = { sizes_of };
+    ghost size = { children_size };
 
     ghost use Rattle.dns_zoneindex.specs.Falls.{group_falls};
 
@@ -335,7 +335,7 @@ impl Node {
 
     /// The child of a label.
     pub(crate) fn child(&self, label: &[u8]) -> Option<&Node>
-        ensures found { own_at (option_copied result) ≡ step label.now self.now.own }
+        ensures found { own_at (option_copied result) ≡ under_label label.now self.now.own }
         ensures kept { 0 < length self.now.own }
     {
         match &self.kind {

@@ -3,7 +3,7 @@ ghost use Rattle.std.specs.Prelude.{◌≡◌, IfSome, IfNone};
 ghost use Rattle.dns_zoneindex.specs.Children.{items};
 ghost use Rattle.dns_zoneindex.specs.Entries.{flat};
 ghost use Rattle.dns_zoneindex.specs.Lent.{IsLent, IsThere, IsBeyond};
-ghost use Rattle.dns_zoneindex.specs.Owned.{records_of};
+ghost use Rattle.dns_zoneindex.specs.Owned.{path_records};
 
 use crate::node::{Branch, Children, Group, Kind, Node, Slot};
 use dns_records::Record;
@@ -28,7 +28,7 @@ impl Children {
     /// Records from an index on, of all that are at and under the children.
     #[cycle(run)]
     pub(crate) fn run_from(&self, place: usize) -> &[Record]
-        ensures { IsLent (records_of (flat (items self.now))) place result.now }
+        ensures { IsLent (path_records (flat (items self.now))) place result.now }
     {
         match self {
             Children::Empty => &[],
@@ -48,7 +48,7 @@ impl Node {
     /// Records from an index on, of all that are at and under the name.
     #[cycle(run)]
     pub(crate) fn run_from(&self, place: usize) -> &[Record]
-        ensures { IsLent (records_of self.now.own) place result.now }
+        ensures { IsLent (path_records self.now.own) place result.now }
     {
         match &self.kind {
             Kind::Leaf(record) => {
@@ -66,7 +66,7 @@ impl Branch {
     /// Records from an index on, of all that are at and under the name.
     #[cycle(run)]
     fn run_from(&self, place: usize) -> &[Record]
-        ensures { IsLent (records_of self.now.own) place result.now }
+        ensures { IsLent (path_records self.now.own) place result.now }
     {
         let own = self.records.as_slice();
         if place < own.len() {

@@ -3,7 +3,7 @@ ghost use Rattle.std.specs.Prelude.{◌≡◌, true};
 ghost use Rattle.std.specs.List.{AllByRecursion};
 ghost use Rattle.dns_records.specs.Record.{IsRecord};
 ghost use Rattle.dns_zone.specs.Records.{is_ordered};
-ghost use Rattle.dns_zoneindex.specs.Owned.{records_of, are_owned};
+ghost use Rattle.dns_zoneindex.specs.Owned.{path_records, are_owned};
 
 use crate::edit::{with_record, without_record};
 use crate::tree::Tree;
@@ -19,12 +19,12 @@ pub struct SharedTree {
     alloc: Heap,
     tree: Tree,
     ghost each_at_owner: { are_owned tree ≡ true },
-    ghost in_order: { is_ordered (records_of tree) ≡ true },
-    ghost each_valid: { ∥ AllByRecursion IsRecord (records_of tree) ∥₁ },
+    ghost in_order: { is_ordered (path_records tree) ≡ true },
+    ghost each_valid: { ∥ AllByRecursion IsRecord (path_records tree) ∥₁ },
 }
 
 impl ZoneIndex for SharedTree {
-    ghost records = { λ set. records_of set.tree };
+    ghost records = { λ set. path_records set.tree };
 
     ghost ordered = { λ set. set.in_order };
 

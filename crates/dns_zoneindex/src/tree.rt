@@ -7,8 +7,8 @@ ghost use Rattle.dns_zoneindex.specs.Held.{held};
 ghost use Rattle.dns_zone.specs.Node.{IsMatch};
 ghost use Rattle.dns_zone.specs.Records.{is_ordered};
 ghost use Rattle.dns_zoneindex.specs.Lent.{IsLent};
-ghost use Rattle.dns_zoneindex.specs.Owned.{records_of, are_owned};
-ghost use Rattle.dns_zoneindex.specs.Reach.{zone_of};
+ghost use Rattle.dns_zoneindex.specs.Owned.{path_records, are_owned};
+ghost use Rattle.dns_zoneindex.specs.Reach.{zone_of_entries};
 ghost use Rattle.dns_zoneindex.specs.Setting.{set_at};
 
 use crate::descent::find_node;
@@ -40,9 +40,9 @@ enum Root {
 
 impl Model for Tree {
     ghost use Rattle.std.specs.Prelude.{List};
-    ghost use Rattle.dns_zoneindex.specs.Entries.{Entry};
+    ghost use Rattle.dns_zoneindex.specs.Entries.{PathRecord};
 
-    ghost Value = { List Entry };
+    ghost Value = { List PathRecord };
 
     ghost use Rattle.dns_zoneindex.specs.Tree.{entries};
 
@@ -84,7 +84,7 @@ impl Tree {
 
     /// How many records there are.
     pub(crate) fn count(&self) -> usize
-        ensures { result ≡ length (records_of self.now) }
+        ensures { result ≡ length (path_records self.now) }
     {
         match &self.root {
             Root::Empty => 0,
@@ -114,7 +114,7 @@ impl Tree {
 
     /// Records from an index on, in one piece.
     pub(crate) fn run_from(&self, place: usize) -> &[Record]
-        ensures { IsLent (records_of self.now) place result.now }
+        ensures { IsLent (path_records self.now) place result.now }
     {
         match &self.root {
             Root::Empty => &[],
@@ -125,8 +125,8 @@ impl Tree {
     /// What the zone of an apex has for a name.
     pub(crate) fn find_node<'n>(&self, apex: &NameRef<'_>, name: &NameRef<'n>) -> Match<'n, '_>
         requires owned { are_owned self.now ≡ true }
-        requires order { is_ordered (records_of self.now) ≡ true }
-        ensures { IsMatch (zone_of apex.now self.now) name.now result }
+        requires order { is_ordered (path_records self.now) ≡ true }
+        ensures { IsMatch (zone_of_entries apex.now self.now) name.now result }
     {
         match &self.root {
             Root::Empty => Match::Nothing,

@@ -1,7 +1,7 @@
 //! The index of a record in order.
 ghost use Rattle.std.specs.Prelude.{◌≡◌, ◌<◌, true, length, slice_get, Some};
 ghost use Rattle.dns_zone.specs.Records.{is_ordered, next_after};
-ghost use Rattle.dns_zoneindex.specs.Owned.{records_of};
+ghost use Rattle.dns_zoneindex.specs.Owned.{path_records};
 
 use crate::tree::Tree;
 use dns_records::Record;
@@ -9,8 +9,9 @@ use dns_records::Record;
 impl Tree {
     /// How many records are not greater than one, which is looked for by halves.
     pub(crate) fn count_to(&self, after: &Record) -> usize
-        requires { is_ordered (records_of self.now) ≡ true }
-        ensures { slice_get (records_of self.now) result ≡ next_after (Some after.now) (records_of self.now) }
+        requires { is_ordered (path_records self.now) ≡ true }
+        ensures { slice_get (path_records self.now) result
+            ≡ next_after (Some after.now) (path_records self.now) }
     {
         let mut low = 0;
         let mut high = self.count();
@@ -27,8 +28,8 @@ impl Tree {
 
     /// The record at an index.
     fn record(&self, place: usize) -> &Record
-        requires { place < length (records_of self.now) }
-        ensures { slice_get (records_of self.now) place ≡ Some result.now }
+        requires { place < length (path_records self.now) }
+        ensures { slice_get (path_records self.now) place ≡ Some result.now }
     {
         &self.run_from(place)[0]
     }

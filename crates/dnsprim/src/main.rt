@@ -5,14 +5,12 @@
 use clap::error::ErrorKind;
 use dns_command::{Asked, Task, read_words};
 use dns_configuration::{FAILED, File, REFUSED, USAGE};
-use dns_devices::{Disk, dump, init, migrate};
-use dns_files::{DiskFile, FileSectors};
 use dns_memory::{Heap, heap};
+use dns_sectors::{DiskFile, FileSectors};
 use dns_server::{
-    Index, check, explain_check, explain_replay, explain_unreadable, file, master_files, octets,
-    replay,
+    Disk, Index, check, dump, explain_check, explain_replay, explain_unreadable, file, init, load,
+    master_files, migrate, octets, replay, serve,
 };
-use dns_service::serve;
 use std::io::{self, Write};
 use std::process::ExitCode;
 use std::{env, fs};
@@ -164,6 +162,39 @@ fn run_dump(
     Ok(status)
 }
 
+/// Loads a zone's master file, and gives the exit status.
+fn run_load(
+    rt: &HostRuntime,
+    heap: Heap,
+    config: &str,
+    origin: &str,
+    explain: bool,
+) -> io::Result<u8> {
+    let text = octets(rt, config)?;
+    let config = file(config, &text);
+    let texts = master_files(rt, heap, "", &config)?;
+    let mut files = Vec::new(rt.alloc());
+    for (path, text) in &texts {
+        files.push(file(path, text))?;
+    }
+    let (mut out, mut err) = (io::writer(rt), rt.stderr());
+    let status = load::<Device, _, Index, _, _>(
+        rt.alloc(),
+        heap,
+        &Disk(rt),
+        &config,
+        &files,
+        origin,
+        explain,
+        &mut out,
+        &mut err,
+    );
+    if explain && status == REFUSED {
+        explain_files(rt, heap, &config, &files)?;
+    }
+    Ok(status)
+}
+
 /// Migrates devices, and gives the exit status.
 fn run_migrate(rt: &HostRuntime, heap: Heap, config: &str, explain: bool) -> io::Result<u8> {
     let text = octets(rt, config)?;
@@ -218,6 +249,7 @@ fn run(rt: &HostRuntime, asked: Asked<'_>) -> io::Result<u8> {
         Task::Replay(config, script) => run_replay(rt, heap, config, script, asked.explain),
         Task::Init(config) => run_init(rt, heap, config, asked.explain),
         Task::Dump(config, origin) => run_dump(rt, heap, config, origin, asked.explain),
+        Task::Load(config, origin) => run_load(rt, heap, config, origin, asked.explain),
         Task::Migrate(config) => run_migrate(rt, heap, config, asked.explain),
         Task::Serve(config, turns) => run_serve(rt, heap, config, turns, asked.explain),
     }
@@ -238,7 +270,8 @@ fn start(rt: &HostRuntime) -> io::Result<u8> {
         Ok(Some(asked)) => run(rt, asked),
         Ok(None) => {
             eprintln!(rt;
-                "usage: dnsprim check FILE ORIGIN | replay CONFIG SCRIPT | init CONFIG | dump CONFIG ORIGIN | migrate CONFIG | serve CONFIG --turns N [--explain]"
+                "usage: dnsprim check FILE ORIGIN | replay CONFIG SCRIPT | init CONFIG | \
+dump CONFIG ORIGIN | load CONFIG ORIGIN | migrate CONFIG | serve CONFIG --turns N [--explain]"
             )?;
             Ok(USAGE)
         }

@@ -17,8 +17,8 @@ returns-in-Referral g c = IfOk-weaker c.as_they_are.result _ _ (λ shown e t f i
     ∙ sym (ap (λ (o : Outcome). records_of (authority_by f.zone o)) (represented_is f.outcome f.name last.kind last.node is.kind ∙ ap (λ k. outcome_of k last.node) c.in-Referral.is))) c.as_they_are.ensures
 
 pub returns-in_default : goal.returns-in_default
-returns-in_default g c = IfOk-weaker c.start_of_authority.result _ _ (λ shown e t f is holds.
+returns-in_default g c t f is holds =
     let last = c.args.last.now in
     let zone = lent_at c.args.zones.now last.zone f.zone c.index-zones-last.result c.index-zones-last.is is.zone in
-    e ∙ ap negative_soa zone
-    ∙ sym (ap (λ (o : Outcome). records_of (authority_by f.zone o)) (represented_is f.outcome f.name last.kind last.node is.kind) ∙ negative_authority f.zone last.node last.kind c.in_default.not-Referral c.in_default.not-Alias c.in_default.not-Answers)) c.start_of_authority.ensures
+    c.of_one.ensures ∙ sym c.start_of_authority.ensures ∙ ap negative_soa zone
+    ∙ sym (ap (λ (o : Outcome). records_of (authority_by f.zone o)) (represented_is f.outcome f.name last.kind last.node is.kind) ∙ negative_authority f.zone last.node last.kind c.in_default.not-Referral c.in_default.not-Alias c.in_default.not-Answers)

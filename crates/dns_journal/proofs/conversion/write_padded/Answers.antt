@@ -1,7 +1,7 @@
 use Rattle.std.proofs.Common.{◌-◌, ◌∙◌, sym, ap}
 use Rattle.std.proofs.lemmas.Result.{on_ok_weaker}
 use Rattle.dns_sectors.specs.Device.{Content}
-use Rattle.dns_sectors.specs.Crash.{CrashOf, applied}
+use Rattle.dns_sectors.specs.Crash.{CrashOf, after_writes}
 use Rattle.dns_sectors.specs.Phase.{pairs, zeros_from}
 use Rattle.dns_sectors.proofs.Moments.{joined, weaker}
 use Rattle.dns_journal.specs.Converting.{with_zeros}
@@ -21,7 +21,7 @@ returns-in_err-write_all-clause-any_moment g c honest =
 pub returns-clause-written : goal.returns-clause-written
 returns-clause-written g c honest =
     on_ok_weaker c.write_zeros.result
-    (λ written. written ∙ ap (λ (d : Content). applied (zeros_from c.args.from (c.args.until - c.args.from)) d) (c.in_ok-write_all.ensures.written honest)
+    (λ written. written ∙ ap (λ (d : Content). after_writes (zeros_from c.args.from (c.args.until - c.args.from)) d) (c.in_ok-write_all.ensures.written honest)
     ∙ sym (applied-append (pairs c.args.writes.now) (zeros_from c.args.from (c.args.until - c.args.from)) (g.D.Sectors.seen c.args.device.now)))
     (c.write_zeros.ensures.written (c.write_all.ensures.honest.1 honest))
 

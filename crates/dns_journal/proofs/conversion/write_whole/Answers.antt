@@ -1,7 +1,7 @@
 use Rattle.std.proofs.Common.{◌+◌, ◌++◌, ◌∙◌, sym, ap, length}
 use Rattle.std.proofs.lemmas.Result.{on_ok_weaker}
 use Rattle.dns_sectors.specs.Device.{Content}
-use Rattle.dns_sectors.specs.Crash.{CrashOf, applied}
+use Rattle.dns_sectors.specs.Crash.{CrashOf, after_writes}
 use Rattle.dns_sectors.proofs.Moments.{goes_on, joined, weaker}
 use Rattle.dns_journal.specs.Converting.{with_zeros}
 use Rattle.dns_journal.proofs.Places.{applied-append}
@@ -30,7 +30,7 @@ returns-clause-written g c honest =
     let one = with_zeros c.args.parts.now (c.args.places.first + length c.args.parts.now) c.args.places.journal in
     let two = with_zeros c.args.entries.now (c.args.places.journal + length c.args.entries.now) c.args.places.until in
     let mid = c.write_padded.ensures.honest.1 honest in
-    let written = c.sync.ensures.seen (c.write_padded-2.ensures.honest.1 mid) ∙ c.in_ok-write_padded-2.ensures.written mid ∙ ap (λ (d : Content). applied two d) (c.in_ok-write_padded.ensures.written honest) ∙ sym (applied-append one two (g.D.Sectors.seen c.args.device.now)) in
+    let written = c.sync.ensures.seen (c.write_padded-2.ensures.honest.1 mid) ∙ c.in_ok-write_padded-2.ensures.written mid ∙ ap (λ (d : Content). after_writes two d) (c.in_ok-write_padded.ensures.written honest) ∙ sym (applied-append one two (g.D.Sectors.seen c.args.device.now)) in
     on_ok_weaker c.sync.result (λ only. written) (c.sync.ensures.durable (c.write_padded-2.ensures.honest.1 mid))
 
 pub returns-clause-any_moment : goal.returns-clause-any_moment

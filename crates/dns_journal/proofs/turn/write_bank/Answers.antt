@@ -2,7 +2,7 @@ use Rattle.std.proofs.Common.{◌≡◌, ◌≤◌, ◌+◌, ◌*◌, List, leng
 use Rattle.dns_sectors.specs.Phase.{pairs}
 use Rattle.dns_sectors.specs.declared.phase.SectorWrite.{SectorWrite}
 use Rattle.dns_layout.specs.Sector.{snapshot_sectors}
-use Rattle.dns_layout.specs.Store.{Shape, other_of}
+use Rattle.dns_layout.specs.Store.{Sizes, other_of}
 use Rattle.dns_journal.specs.Bank.{PushesParts}
 use Rattle.dns_journal.proofs.Laying.{entries_end, entries_count, versions_count, bank_ends, other_small, lays}
 use Rattle.dns_layout.specs.Forms.{bank_number}
@@ -23,7 +23,7 @@ returns-clause-next c =
 
 pub returns-clause-laid : goal.returns-clause-laid
 returns-clause-laid c =
-    let s : Shape = record { snapshot = c.args.root.now.snapshot_room; journal = c.args.root.now.journal_room; apex = c.args.root.now.apex } in
+    let s : Sizes = record { snapshot = c.args.root.now.snapshot_room; journal = c.args.root.now.journal_room; apex = c.args.root.now.apex } in
     let bank = c.number.ensures ∙ c.other_bank.ensures in
     let first : 1 + c.number.result * (c.args.root.now.snapshot_room + c.args.root.now.journal_room) ≡ 1 + other_of (bank_number c.args.root.now.bank) * (c.args.root.now.snapshot_room + c.args.root.now.journal_room) =
     ap (λ n. 1 + n * (c.args.root.now.snapshot_room + c.args.root.now.journal_room)) bank in

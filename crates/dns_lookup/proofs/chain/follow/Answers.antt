@@ -12,8 +12,8 @@ names-init g c =
     let zones = c.args.zones.now in
     let t = c.args.qtype in
     let first = c.args.first in
-    let items : c.push.new.self.items ≡ first ∷ [] = c.in_ok-push.ensures.items ∙ ap (λ (ones : List Found). ones ++ first ∷ []) c.new-found.ensures.items in
-    (7, omega (arith, c.new-found.ensures.len, c.in_ok-push.ensures.len), λ f is. record { before = f ∷ []; are = subst (λ (ones : List Found). RepresentAll zones (f ∷ []) ones) (sym items) (is, tt); rest = refl }, λ holds. subst (λ (ones : List Found). AllLend zones t ones) (sym items) (holds, tt))
+    let items : c.push.new.self.items ≡ first ∷ [] = c.in_ok-push.ensures.items ∙ ap (λ (ones : List Found). ones ++ first ∷ []) c.in_ok-found.ensures.items in
+    (7, omega (arith, c.in_ok-found.ensures.len, c.in_ok-push.ensures.len), λ f is. record { before = f ∷ []; are = subst (λ (ones : List Found). RepresentAll zones (f ∷ []) ones) (sym items) (is, tt); rest = refl }, λ holds. subst (λ (ones : List Found). AllLend zones t ones) (sym items) (holds, tt))
 
 pub returns-in_default-clause-represents : goal.returns-in_default-clause-represents
 returns-in_default-clause-represents g c f is =

@@ -1,9 +1,9 @@
 use Rattle.std.proofs.Common.{◌≡◌, sym, subst, ap, ◌∙◌, arith}
 use Rattle.std.specs.Prelude.{Some, None, slice_get}
-use Rattle.dns_held.specs.Held.{HasVersions}
+use Rattle.dns_versions.specs.Held.{HasVersions}
 use Rattle.dns_records.specs.Types.{type_soa, class_in}
 use Rattle.dns_primary.specs.Machine.{kept_of}
-use Rattle.dns_primary.specs.Update.{admission_in, place_of}
+use Rattle.dns_primary.specs.Update.{admission_in, zone_position}
 use Rattle.dns_primary.specs.Keeps.{admits_at, IsSet}
 use Rattle.dns_primary.proofs.Admitted.{same_place, asked_at, at_place}
 use Rattle.dns_primary.proofs.admission.admit.Goals as goal
@@ -13,7 +13,7 @@ returns-in-None-clause-admission g c states a held set zone_is address_is =
     let t : a.zone.qtype ≡ type_soa = ap (λ q. q.qtype) zone_is ∙ sym c.qtype.ensures ∙ c.if-qtype-ne-SOA.false in
     let k : a.zone.qclass ≡ class_in = ap (λ q. q.qclass) zone_is ∙ sym c.qclass.ensures ∙ c.if-qclass-ne-CLASS_IN.false in
     let name_is : c.lend.result ≡ a.zone.name = c.lend.ensures ∙ c.requires.name ∙ ap (λ q. q.name) (sym zone_is) in
-    let at : place_of a.zone.name states ≡ None = ap (λ n. place_of n states) (sym name_is) ∙ sym (same_place g.S.ZoneStore.keeps c.lend.result c.args.zones.now c.args.behind.now states held) ∙ sym c.place_of.ensures.place ∙ c.in-None.is in
+    let at : zone_position a.zone.name states ≡ None = ap (λ n. zone_position n states) (sym name_is) ∙ sym (same_place g.S.ZoneStore.keeps c.lend.result c.args.zones.now c.args.pending.now states held) ∙ sym c.place_of.ensures.place ∙ c.in-None.is in
     sym (asked_at states a None t k at)
 
 pub returns-in-Ok-clause-admission : goal.returns-in-Ok-clause-admission
@@ -22,9 +22,9 @@ returns-in-Ok-clause-admission g c states a held set zone_is address_is =
     let t : a.zone.qtype ≡ type_soa = ap (λ q. q.qtype) zone_is ∙ sym c.qtype.ensures ∙ c.if-qtype-ne-SOA.false in
     let k : a.zone.qclass ≡ class_in = ap (λ q. q.qclass) zone_is ∙ sym c.qclass.ensures ∙ c.if-qclass-ne-CLASS_IN.false in
     let name_is : c.lend.result ≡ a.zone.name = c.lend.ensures ∙ c.requires.name ∙ ap (λ q. q.name) (sym zone_is) in
-    let at : place_of a.zone.name states ≡ Some place = ap (λ n. place_of n states) (sym name_is) ∙ sym (same_place g.S.ZoneStore.keeps c.lend.result c.args.zones.now c.args.behind.now states held) ∙ sym c.place_of.ensures.place ∙ c.in-Some.is in
-    let one = at_place g.S.ZoneStore.keeps c.args.zones.now c.args.behind.now c.args.settings.now states place c.index-behind-place.result c.index-settings-place.result held set (omega (arith, c.requires.as_many, c.in-Some.ensures.inside)) in
-    let by_test = c.in-Ok.ensures place one.zone one.state (subst (λ b. HasVersions g.S.ZoneStore.keeps one.zone b (kept_of one.state)) (sym c.index-behind-place.is) one.held) (subst (λ s. IsSet s one.state) (sym c.index-settings-place.is) one.set) in
+    let at : zone_position a.zone.name states ≡ Some place = ap (λ n. zone_position n states) (sym name_is) ∙ sym (same_place g.S.ZoneStore.keeps c.lend.result c.args.zones.now c.args.pending.now states held) ∙ sym c.place_of.ensures.place ∙ c.in-Some.is in
+    let one = at_place g.S.ZoneStore.keeps c.args.zones.now c.args.pending.now c.args.settings.now states place c.index-pending-place.result c.index-settings-place.result held set (omega (arith, c.requires.as_many, c.in-Some.ensures.inside)) in
+    let by_test = c.in-Ok.ensures place one.zone one.state (subst (λ b. HasVersions g.S.ZoneStore.keeps one.zone b (kept_of one.state)) (sym c.index-pending-place.is) one.held) (subst (λ s. IsSet s one.state) (sym c.index-settings-place.is) one.set) in
     ap (admits_at place) one.there ∙ by_test ∙ sym (ap (admission_in c.args.address place) one.there) ∙ ap (λ x. admission_in x place (slice_get states place)) (sym address_is) ∙ sym (asked_at states a (Some place) t k at)
 
 pub returns-in-Err-clause-admission : goal.returns-in-Err-clause-admission
@@ -33,7 +33,7 @@ returns-in-Err-clause-admission g c states a held set zone_is address_is =
     let t : a.zone.qtype ≡ type_soa = ap (λ q. q.qtype) zone_is ∙ sym c.qtype.ensures ∙ c.if-qtype-ne-SOA.false in
     let k : a.zone.qclass ≡ class_in = ap (λ q. q.qclass) zone_is ∙ sym c.qclass.ensures ∙ c.if-qclass-ne-CLASS_IN.false in
     let name_is : c.lend.result ≡ a.zone.name = c.lend.ensures ∙ c.requires.name ∙ ap (λ q. q.name) (sym zone_is) in
-    let at : place_of a.zone.name states ≡ Some place = ap (λ n. place_of n states) (sym name_is) ∙ sym (same_place g.S.ZoneStore.keeps c.lend.result c.args.zones.now c.args.behind.now states held) ∙ sym c.place_of.ensures.place ∙ c.in-Some.is in
-    let one = at_place g.S.ZoneStore.keeps c.args.zones.now c.args.behind.now c.args.settings.now states place c.index-behind-place.result c.index-settings-place.result held set (omega (arith, c.requires.as_many, c.in-Some.ensures.inside)) in
-    let by_test = c.in-Err.ensures place one.zone one.state (subst (λ b. HasVersions g.S.ZoneStore.keeps one.zone b (kept_of one.state)) (sym c.index-behind-place.is) one.held) (subst (λ s. IsSet s one.state) (sym c.index-settings-place.is) one.set) in
+    let at : zone_position a.zone.name states ≡ Some place = ap (λ n. zone_position n states) (sym name_is) ∙ sym (same_place g.S.ZoneStore.keeps c.lend.result c.args.zones.now c.args.pending.now states held) ∙ sym c.place_of.ensures.place ∙ c.in-Some.is in
+    let one = at_place g.S.ZoneStore.keeps c.args.zones.now c.args.pending.now c.args.settings.now states place c.index-pending-place.result c.index-settings-place.result held set (omega (arith, c.requires.as_many, c.in-Some.ensures.inside)) in
+    let by_test = c.in-Err.ensures place one.zone one.state (subst (λ b. HasVersions g.S.ZoneStore.keeps one.zone b (kept_of one.state)) (sym c.index-pending-place.is) one.held) (subst (λ s. IsSet s one.state) (sym c.index-settings-place.is) one.set) in
     by_test ∙ sym (ap (admission_in c.args.address place) one.there) ∙ ap (λ x. admission_in x place (slice_get states place)) (sym address_is) ∙ sym (asked_at states a (Some place) t k at)

@@ -5,12 +5,12 @@ use Rattle.dns_primary.proofs.checkpoint.move_base.Goals as goal
 
 pub returns-in-Ok-clause-moved : goal.returns-in-Ok-clause-moved
 returns-in-Ok-clause-moved g c zone z h keep settled =
-    moved_ok g.S.ZoneStore.keeps zone c.args.behind.now c.checkpoint.new.self z c.args.keep c.args.room keep settled h c.in-Ok.field-0
+    moved_ok g.S.ZoneStore.keeps zone c.args.pending.now c.checkpoint.new.self z c.args.keep c.args.room keep settled h c.in-Ok.field-0
     (λ shut. (let refused = (c.in-Ok.ensures.closed (kept_of z) h.kept).1 shut in absurd cc)) (λ n none is. c.in-Ok.ensures.moved (kept_of z) n h.kept none is)
 
 pub returns-in-Err-clause-moved : goal.returns-in-Err-clause-moved
 returns-in-Err-clause-moved g c zone z h keep settled =
-    moved_refused g.S.ZoneStore.keeps zone c.args.behind.now c.checkpoint.new.self z c.args.keep c.args.room keep settled h c.in-Err.error
+    moved_refused g.S.ZoneStore.keeps zone c.args.pending.now c.checkpoint.new.self z c.args.keep c.args.room keep settled h c.in-Err.error
     (c.in-Err.ensures.closed (kept_of z) h.kept).1 (c.in-Err.ensures.closed (kept_of z) h.kept).0
     (λ n none is device. (c.in-Err.ensures.device (kept_of z) n h.kept none is device).1)
     (c.in-Err.ensures.stays (kept_of z) h.kept)

@@ -1,6 +1,6 @@
 use Rattle.std.proofs.Common.{◌≡◌, ◌+◌, List, [], ◌∷◌, ◌++◌, map, take, sym, subst, ap, ◌∙◌, arith}
 use Rattle.std.proofs.lemmas.List.{map-append, take_all}
-use Rattle.dns_held.specs.Each.{Each2}
+use Rattle.dns_versions.specs.Each.{Each2}
 use Rattle.dns_primary.specs.Machine.{Waits}
 use Rattle.dns_primary.specs.Flush.{all_out, goes_out, released}
 use Rattle.dns_primary.specs.Keeps.{IsWaiting, header_out}

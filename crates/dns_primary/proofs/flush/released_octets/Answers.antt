@@ -2,8 +2,9 @@ use Rattle.std.proofs.Common.{◌≡◌, sym, ap, ◌∙◌, Bool}
 use Rattle.std.specs.Prelude.{slice_get, if◌then◌else◌}
 use Rattle.dns_wire.specs.Codes.{number_of_rcode}
 use Rattle.dns_wire.specs.Text.{text}
+use Rattle.dns_request.specs.Codes.{rcode_servfail}
 use Rattle.dns_answer.specs.Answer.{bare_reply}
-use Rattle.dns_primary.specs.Flush.{is_closed_in, rcode_servfail}
+use Rattle.dns_primary.specs.Flush.{is_closed_in}
 use Rattle.dns_primary.proofs.flush.released_octets.Goals as goal
 use Rattle.dns_primary.proofs.flush.released_octets.Goals.{then-is_closed_at, else-is_closed_at}
 

@@ -5,11 +5,11 @@ use Rattle.dns_primary.proofs.open.open_all.Given as goal
 
 abbrev pub invariant-loop-place : goal.invariant-loop-place
 invariant-loop-place g l = record {
-  opened : AreOpened l.place l.fn.apexes l.fn.settings l.fn.devices.items l.zones.items l.behind.items;
+  opened : AreOpened l.place l.fn.apexes l.fn.settings l.fn.devices.items l.zones.items l.pending.items;
   rest : l.devices.items ≡ drop l.place l.fn.devices.items;
   room : length l.fn.settings ≤ vec_capacity l.devices;
   zones_room : length l.fn.settings ≤ vec_capacity l.zones;
-  behind_room : length l.fn.settings ≤ vec_capacity l.behind;
+  pending_room : length l.fn.settings ≤ vec_capacity l.pending;
   zones_many : length l.zones.items ≡ l.place;
-  behind_many : length l.behind.items ≡ l.place;
+  pending_many : length l.pending.items ≡ l.place;
 }

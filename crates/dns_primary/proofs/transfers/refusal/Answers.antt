@@ -5,9 +5,10 @@ use Rattle.dns_wire.specs.Message.{Header, Question, Message}
 use Rattle.dns_wire.specs.Text.{text}
 use Rattle.dns_wire.specs.declared.codes.Rcode.{Rcode}
 use Rattle.dns_wire.specs.declared.codes.Rcode.TheVariants as code
+use Rattle.dns_request.specs.Codes.{rcode_servfail}
 use Rattle.dns_request.specs.declared.request.Transport.{Transport}
 use Rattle.dns_answer.specs.Answer.{bare_reply, fitted, with_question}
-use Rattle.dns_primary.specs.Flush.{Replied, rcode_servfail}
+use Rattle.dns_primary.specs.Flush.{Replied}
 use Rattle.dns_primary.specs.Keeps.{AreEffects}
 use Rattle.dns_primary.specs.Steps.{one_reply}
 use Rattle.dns_primary.specs.Transfer.{refusal_of, transport_of}

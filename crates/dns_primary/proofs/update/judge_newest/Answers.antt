@@ -5,7 +5,7 @@ use Rattle.dns_changes.specs.Version.{IsVersionAfter}
 use Rattle.dns_update.specs.Verdict.{Refuses, Keeps, Leaves, verdict, IsVerdict}
 use Rattle.dns_update.specs.declared.Judged.{Judged}
 use Rattle.dns_update.specs.declared.Judged.TheVariants as judged
-use Rattle.dns_held.specs.Held.{newest_zone}
+use Rattle.dns_versions.specs.Held.{newest_zone}
 use Rattle.dns_primary.specs.Update.{lacked_by}
 use Rattle.dns_primary.proofs.Judged.{refused_is, kept_is, leaving}
 use Rattle.dns_primary.proofs.update.judge_newest.Goals as goal

@@ -6,5 +6,5 @@ use Rattle.dns_replay.proofs.lines.split_line.Goals as goal
 
 pub returns-clause-line : goal.returns-clause-line
 returns-clause-line c =
-    let behind = option_copied c.cut_at.result.1 in
-    lines_of_pieces c.args.script.now c.cut_at.result.0.now behind c.cut_at.ensures.pieces ∙ ap (λ (line : List ℕ). line ∷ lines_left behind) (sym c.without_return.ensures)
+    let pending = option_copied c.cut_at.result.1 in
+    lines_of_pieces c.args.script.now c.cut_at.result.0.now pending c.cut_at.ensures.pieces ∙ ap (λ (line : List ℕ). line ∷ lines_left pending) (sym c.without_return.ensures)

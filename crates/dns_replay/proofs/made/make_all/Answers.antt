@@ -1,8 +1,8 @@
 use Rattle.std.proofs.Common.{add-one, subst, arith, take, take_all}
 use Rattle.std.specs.Prelude.{slice_index_or}
 use Rattle.dns_zone.specs.Zone.{Zone}
-use Rattle.dns_held.specs.Each.{Each3}
-use Rattle.dns_primary.specs.declared.primary.ZoneSettings.{ZoneSettings}
+use Rattle.dns_versions.specs.Each.{Each3}
+use Rattle.dns_primary.specs.declared.primary.ZoneSpec.{ZoneSpec}
 use Rattle.dns_replay.specs.Made.{IsMadeOf}
 use Rattle.dns_replay.proofs.Loaded.{each3_more}
 use Rattle.dns_replay.proofs.made.make_all.Goals as goal
@@ -13,7 +13,7 @@ loop-place-preserved g c =
     let z = c.index-zones-place.result in
     let s = c.index-settings-place.result in
     let i = c.loop-place.place in
-    let is = subst (λ (y : ZoneSettings). IsMadeOf g.D.Sectors (slice_index_or c.args.zones.now i z) y made.0) c.index-settings-place.is (subst (λ (y : Zone). IsMadeOf g.D.Sectors y s made.0) c.index-zones-place.is made.2) in
+    let is = subst (λ (y : ZoneSpec). IsMadeOf g.D.Sectors (slice_index_or c.args.zones.now i z) y made.0) c.index-settings-place.is (subst (λ (y : Zone). IsMadeOf g.D.Sectors y s made.0) c.index-zones-place.is made.2) in
     rw (add-one, made.1) (each3_more (IsMadeOf g.D.Sectors) c.args.zones.now c.args.settings.now i z s c.loop-place.devices.items made.0 (omega arith) (omega arith) c.loop-place.invariant is)
 
 pub returns : goal.returns

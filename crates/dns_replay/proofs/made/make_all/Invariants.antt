@@ -1,5 +1,5 @@
 use Rattle.std.proofs.Common.{take}
-use Rattle.dns_held.specs.Each.{Each3}
+use Rattle.dns_versions.specs.Each.{Each3}
 use Rattle.dns_replay.specs.Made.{IsMadeOf}
 use Rattle.dns_replay.proofs.made.make_all.Given as goal
 

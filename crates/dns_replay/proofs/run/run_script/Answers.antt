@@ -6,23 +6,23 @@ use Rattle.dns_replay.proofs.run.run_script.Goals as goal
 
 pub returns-in-Ok-NoCommand : goal.returns-in-Ok-NoCommand
 returns-in-Ok-NoCommand g c = λ _. (
-    let behind = option_copied c.split_line.result.1 in
+    let pending = option_copied c.split_line.result.1 in
     let rest : option_copied c.lines.rest ≡ Some c.in-Some.text.now = search rules in
     let whole = ap lines_left rest ∙ c.split_line.ensures.line in
     let none = rw c.in-Ok-NoCommand.field-0-is at c.in-Ok-NoCommand.ensures in
-    stops_all g.D.ScriptDevice.left_by c.args.world.origins.now c.args.world.settings.now (lines c.args.script.now) c.args.primary c.lines.number c.split_line.result.0.now (lines_left behind) (lines_left (option_copied c.lines.rest)) (g.W.Write.contents c.args.out.now) (g.W.Write.contents c.lines.out) (g.W.Write.contents c.run_line.new.out) c.lines.running c.lines.devices.items whole c.lines.invariant.run none.0 none.3)
+    stops_all g.D.ScriptDevice.left_by c.args.world.origins.now c.args.world.settings.now (lines c.args.script.now) c.args.primary c.lines.number c.split_line.result.0.now (lines_left pending) (lines_left (option_copied c.lines.rest)) (g.W.Write.contents c.args.out.now) (g.W.Write.contents c.lines.out) (g.W.Write.contents c.run_line.new.out) c.lines.running c.lines.devices.items whole c.lines.invariant.run none.0 none.3)
 
 pub returns-in-Ok-Refused : goal.returns-in-Ok-Refused
 returns-in-Ok-Refused g c = λ _. (
-    let behind = option_copied c.split_line.result.1 in
+    let pending = option_copied c.split_line.result.1 in
     let rest : option_copied c.lines.rest ≡ Some c.in-Some.text.now = search rules in
     let whole = ap lines_left rest ∙ c.split_line.ensures.line in
     let refused = rw c.in-Ok-Refused.field-0-is at c.in-Ok-Refused.ensures in
-    refused_all g.D.ScriptDevice.left_by c.args.world.origins.now c.args.world.settings.now (lines c.args.script.now) c.args.primary c.lines.number c.split_line.result.0.now (lines_left behind) (lines_left (option_copied c.lines.rest)) (g.W.Write.contents c.args.out.now) (g.W.Write.contents c.lines.out) (g.W.Write.contents c.run_line.new.out) c.lines.running c.lines.devices.items refused.0 whole c.lines.invariant.run refused.1 refused.2)
+    refused_all g.D.ScriptDevice.left_by c.args.world.origins.now c.args.world.settings.now (lines c.args.script.now) c.args.primary c.lines.number c.split_line.result.0.now (lines_left pending) (lines_left (option_copied c.lines.rest)) (g.W.Write.contents c.args.out.now) (g.W.Write.contents c.lines.out) (g.W.Write.contents c.run_line.new.out) c.lines.running c.lines.devices.items refused.0 whole c.lines.invariant.run refused.1 refused.2)
 
 pub lines-preserved : goal.lines-preserved
 lines-preserved g c =
-    let behind = option_copied c.split_line.result.1 in
+    let pending = option_copied c.split_line.result.1 in
     let rest : option_copied c.lines.rest ≡ Some c.in-Some.text.now = search rules in
     let whole = ap lines_left rest ∙ c.split_line.ensures.line in
     let less = c.split_line.ensures.less in
@@ -30,7 +30,7 @@ lines-preserved g c =
     let count = c.lines.invariant.count in
     record {
       count = omega (arith, less, was, count);
-      run = more_all g.D.ScriptDevice.left_by c.args.world.origins.now c.args.world.settings.now (lines c.args.script.now) c.args.primary c.lines.number c.split_line.result.0.now (lines_left behind) (lines_left (option_copied c.lines.rest)) (g.W.Write.contents c.args.out.now) (g.W.Write.contents c.lines.out) (g.W.Write.contents c.run_line.new.out) c.lines.running c.run_line.new.primary c.lines.devices.items c.run_line.new.devices.items whole c.lines.invariant.run (rw c.in-Ok-GoesOn.field-0-is at c.in-Ok-GoesOn.ensures);
+      run = more_all g.D.ScriptDevice.left_by c.args.world.origins.now c.args.world.settings.now (lines c.args.script.now) c.args.primary c.lines.number c.split_line.result.0.now (lines_left pending) (lines_left (option_copied c.lines.rest)) (g.W.Write.contents c.args.out.now) (g.W.Write.contents c.lines.out) (g.W.Write.contents c.run_line.new.out) c.lines.running c.run_line.new.primary c.lines.devices.items c.run_line.new.devices.items whole c.lines.invariant.run (rw c.in-Ok-GoesOn.field-0-is at c.in-Ok-GoesOn.ensures);
     }
 
 pub returns : goal.returns

@@ -1,5 +1,5 @@
 use Rattle.std.proofs.Common.{take}
-use Rattle.dns_held.specs.Each.{Each2}
+use Rattle.dns_versions.specs.Each.{Each2}
 use Rattle.dns_replay.specs.Runs.{AreSame}
 use Rattle.dns_replay.proofs.standing.settings_again.Given as goal
 

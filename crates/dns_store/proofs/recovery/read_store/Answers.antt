@@ -8,7 +8,7 @@ use Rattle.dns_zone.specs.Zone.{IsZone}
 use Rattle.dns_layout.specs.Sector.{sector_at, number, snapshot_sectors_in}
 use Rattle.dns_layout.specs.Own.{IsIntactIn, IsAltered}
 use Rattle.dns_layout.specs.Journal.{place_behind, version_behind}
-use Rattle.dns_layout.specs.Store.{Shape as Sizes, snapshot_place}
+use Rattle.dns_layout.specs.Store.{Sizes, snapshot_place}
 use Rattle.dns_journal.specs.declared.read.Cursor.{Cursor}
 use Rattle.dns_journal.specs.Reads.{NamesSpoilt}
 use Rattle.dns_journal.proofs.Looking.{reads_then}

@@ -1,7 +1,7 @@
 use Rattle.std.proofs.Common.{◌≡◌, true, false, [], sym, refl, subst, ◌∙◌}
 use Rattle.dns_zone.specs.Node.{cuts_at, EndsAtCut}
-use Rattle.dns_zoneindex.specs.Owned.{records_of}
-use Rattle.dns_zoneindex.specs.Reach.{zone_of}
+use Rattle.dns_zoneindex.specs.Owned.{path_records}
+use Rattle.dns_zoneindex.specs.Reach.{zone_of_entries}
 use Rattle.dns_zoneindex.proofs.Down.{down}
 use Rattle.dns_zoneindex.proofs.Owned.{owned_from}
 use Rattle.dns_zoneindex.proofs.Reaching.{owned, to_cut, to_there, to_above}
@@ -15,8 +15,8 @@ returns-then-is_cut c = λ es at_owner order is led.
     let rs = c.records-owned.result.now in
     let child_is = down name c.args.above c.args.label.now es c.args.node.now.own child is led.own_is c.in-Some.ensures.found in
     let held = owned name es child rs (owned_from es at_owner) child_is c.records-owned.ensures.own in
-    let cuts : cuts_at (zone_of apex es) name ≡ true = sym (c.is_cut.ensures (records_of es) order held) ∙ c.if-is_cut.true in
-    subst (λ n. EndsAtCut (zone_of apex es) name n rs) (sym c.reborrow.ensures) (to_cut apex es name c.args.above c.args.label.now c.args.node.now.own rs is led held cuts)
+    let cuts : cuts_at (zone_of_entries apex es) name ≡ true = sym (c.is_cut.ensures (path_records es) order held) ∙ c.if-is_cut.true in
+    subst (λ n. EndsAtCut (zone_of_entries apex es) name n rs) (sym c.reborrow.ensures) (to_cut apex es name c.args.above c.args.label.now c.args.node.now.own rs is led held cuts)
 
 pub returns-else-is_cut : goal.returns-else-is_cut
 returns-else-is_cut c = λ es at_owner order is led.
@@ -26,7 +26,7 @@ returns-else-is_cut c = λ es at_owner order is led.
     let rs = c.records-owned.result.now in
     let child_is = down name c.args.above c.args.label.now es c.args.node.now.own child is led.own_is c.in-Some.ensures.found in
     let held = owned name es child rs (owned_from es at_owner) child_is c.records-owned.ensures.own in
-    let cuts : cuts_at (zone_of apex es) name ≡ false = sym (c.is_cut.ensures (records_of es) order held) ∙ c.if-is_cut.false in
+    let cuts : cuts_at (zone_of_entries apex es) name ≡ false = sym (c.is_cut.ensures (path_records es) order held) ∙ c.if-is_cut.false in
     to_there apex es name c.args.above c.args.label.now c.args.node.now.own child is led child_is cuts
 
 pub returns-in-None : goal.returns-in-None

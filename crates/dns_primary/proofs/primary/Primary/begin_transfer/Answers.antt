@@ -3,12 +3,13 @@ use Rattle.std.specs.Prelude.{true}
 use Rattle.std.proofs.lemmas.List.{length-map}
 use Rattle.dns_wire.specs.Message.{header_of}
 use Rattle.dns_wire.specs.Text.{text}
+use Rattle.dns_request.specs.Codes.{rcode_servfail}
 use Rattle.dns_answer.specs.Answer.{bare_reply}
 use Rattle.dns_primary.specs.declared.event.To.{To}
 use Rattle.dns_primary.specs.declared.event.To.TheVariants.{Connection}
 use Rattle.dns_primary.specs.declared.transfers.OpenTransfer.{OpenTransfer}
 use Rattle.dns_primary.specs.Machine.{kept_of}
-use Rattle.dns_primary.specs.Flush.{Replied, rcode_servfail}
+use Rattle.dns_primary.specs.Flush.{Replied}
 use Rattle.dns_primary.specs.Transfer.{TransferBegins, is_free, set_transfer, with_transfer}
 use Rattle.dns_primary.specs.Keeps.{AreEffects, HasConnection, sending_on}
 use Rattle.dns_primary.specs.Steps.{nothing, one_reply}
@@ -34,7 +35,7 @@ returns-in-Ok g c = record {
       record {
         fails = [];
         failed = tt;
-        any_moment = (rests g.S.ZoneStore c.args.self.now.zones.items c.args.self.now.behind.items (map kept_of old.zones) (λ x k h y left. g.met.S.ZoneStore.at_rest x k h y left) kept.zones_are);
+        any_moment = (rests g.S.ZoneStore c.args.self.now.zones.items c.args.self.now.pending.items (map kept_of old.zones) (λ x k h y left. g.met.S.ZoneStore.at_rest x k h y left) kept.zones_are);
         next = next;
         stated = nothing;
         is = inl (refl, subst (λ (t : To). TransferBegins old t s [] next) (sym c.in-Connection.is) (refl, refl), record { sent = refl; accepted = refl; noted = refl });
@@ -57,7 +58,7 @@ returns-in-Err g c = record {
       record {
         fails = [];
         failed = tt;
-        any_moment = (rests g.S.ZoneStore c.args.self.now.zones.items c.args.self.now.behind.items (map kept_of old.zones) (λ x k h y left. g.met.S.ZoneStore.at_rest x k h y left) kept.zones_are);
+        any_moment = (rests g.S.ZoneStore c.args.self.now.zones.items c.args.self.now.pending.items (map kept_of old.zones) (λ x k h y left. g.met.S.ZoneStore.at_rest x k h y left) kept.zones_are);
         next = old;
         stated = lack (Replied c.args.to (text (bare_reply (header_of c.args.header.now) rcode_servfail)));
         is = inr (record { nothing = refl; stays = refl; is = refl });
@@ -79,7 +80,7 @@ returns-in-Address g c = record {
   step = λ old kept free.
       let s = c.args.session in
       let p = c.args.self.now in
-      let rest = (rests g.S.ZoneStore c.args.self.now.zones.items c.args.self.now.behind.items (map kept_of old.zones) (λ x k h y left. g.met.S.ZoneStore.at_rest x k h y left) kept.zones_are) in
+      let rest = (rests g.S.ZoneStore c.args.self.now.zones.items c.args.self.now.pending.items (map kept_of old.zones) (λ x k h y left. g.met.S.ZoneStore.at_rest x k h y left) kept.zones_are) in
       let step = TransferBeginsOrLacks old c.args.to (header_of c.args.header.now) s in
       ⊎_elim
       (λ h.

@@ -15,7 +15,7 @@ pub returns-then-len-ge-MOST_CONNECTIONS : goal.returns-then-len-ge-MOST_CONNECT
 returns-then-len-ge-MOST_CONNECTIONS g c = record {
   step = λ old kept.
       let most : 64 ≤ length old.connections = omega (arith, kept.as_many, c.len.ensures, c.if-len-ge-MOST_CONNECTIONS.true) in
-      stays c.args.self.now old c.nothing-effects.result nothing (λ fails stated next. Step fails old (Connect c.args.peer) stated next) (rests g.S.ZoneStore c.args.self.now.zones.items c.args.self.now.behind.items (map kept_of old.zones) (λ x k h y left. g.met.S.ZoneStore.at_rest x k h y left) kept.zones_are) kept c.nothing-effects.ensures.effects_are
+      stays c.args.self.now old c.nothing-effects.result nothing (λ fails stated next. Step fails old (Connect c.args.peer) stated next) (rests g.S.ZoneStore c.args.self.now.zones.items c.args.self.now.pending.items (map kept_of old.zones) (λ x k h y left. g.met.S.ZoneStore.at_rest x k h y left) kept.zones_are) kept c.nothing-effects.ensures.effects_are
       (inl (refl, inr (most, gives_none old)));
 }
 
@@ -28,7 +28,7 @@ returns-in-Ok g c = record {
       record {
         fails = [];
         failed = tt;
-        any_moment = (rests g.S.ZoneStore c.args.self.now.zones.items c.args.self.now.behind.items (map kept_of old.zones) (λ x k h y left. g.met.S.ZoneStore.at_rest x k h y left) kept.zones_are);
+        any_moment = (rests g.S.ZoneStore c.args.self.now.zones.items c.args.self.now.pending.items (map kept_of old.zones) (λ x k h y left. g.met.S.ZoneStore.at_rest x k h y left) kept.zones_are);
         next = connected number c.args.peer old;
         stated = record { sent = []; accepted = Some number; noted = Nothing };
         is = inl (refl, inl (few, (number, sym (kept.connections_are number) ∙ c.in-Ok.ensures.was_vacant, refl, refl)));
@@ -51,7 +51,7 @@ returns-in-Err g c = record {
       record {
         fails = [];
         failed = tt;
-        any_moment = (rests g.S.ZoneStore c.args.self.now.zones.items c.args.self.now.behind.items (map kept_of old.zones) (λ x k h y left. g.met.S.ZoneStore.at_rest x k h y left) kept.zones_are);
+        any_moment = (rests g.S.ZoneStore c.args.self.now.zones.items c.args.self.now.pending.items (map kept_of old.zones) (λ x k h y left. g.met.S.ZoneStore.at_rest x k h y left) kept.zones_are);
         next = old;
         stated = record { sent = []; accepted = None; noted = OutOfMemory };
         is = inr (record { takes = refl; noted = refl; accepted = refl; stays = inl (refl, refl, refl) });

@@ -3,9 +3,9 @@ use Rattle.std.proofs.lemmas.List.{append-nil}
 use Rattle.std.specs.Prelude.{None}
 use Rattle.dns_sectors.specs.Device.{LeavesOnly}
 use Rattle.dns_store.specs.Versions.{OpensAsLeft}
-use Rattle.dns_held.specs.Each.{Each2}
-use Rattle.dns_held.specs.Held.{HasVersions, newest_each}
-use Rattle.dns_held.specs.Flush.{first_true}
+use Rattle.dns_versions.specs.Each.{Each2}
+use Rattle.dns_versions.specs.Held.{HasVersions, newest_each}
+use Rattle.dns_versions.specs.Flush.{first_true}
 use Rattle.dns_primary.specs.declared.event.Waiting.{Waiting}
 use Rattle.dns_primary.specs.Machine.{kept_of}
 use Rattle.dns_primary.specs.Flush.{flushed, flush_sends}
@@ -17,14 +17,14 @@ use Rattle.dns_primary.proofs.primary.Primary.flush.Goals as goal
 pub returns-clause-step : goal.returns-clause-step
 returns-clause-step g c old kept =
     let zones = c.args.self.now.zones in
-    let behind = c.args.self.now.behind in
+    let pending = c.args.self.now.pending in
     let a = c.deref_mut.ensures.value in
     let b = c.deref_mut-2.ensures.value in
     let given = moved3 (sym a) (sym b) (map kept_of old.zones) (λ z b k. HasVersions g.S.ZoneStore.keeps z b k) kept.zones_are in
     let done = c.flush-failed.ensures.flushed old given kept.waiting_are in
     let fails = done.0 in
     let z = refilled zones.len c.flush-failed.new.zones zones.items (omega (arith, c.flush-failed.auto.zones, ap length a, zones.ok)) in
-    let y = refilled behind.len c.flush-failed.new.behind behind.items (omega (arith, c.flush-failed.auto.behind, ap length b, behind.ok)) in
+    let y = refilled pending.len c.flush-failed.new.pending pending.items (omega (arith, c.flush-failed.auto.pending, ap length b, pending.ok)) in
     record {
       fails = fails;
       failed = failed_at (λ b. g.S.ZoneStore.failed b.store) fails b (sym y) done.2;
@@ -46,9 +46,9 @@ returns-clause-step g c old kept =
 pub returns-clause-newest : goal.returns-clause-newest
 returns-clause-newest g c =
     let zones = c.args.self.now.zones in
-    let behind = c.args.self.now.behind in
+    let pending = c.args.self.now.pending in
     let a = c.deref_mut.ensures.value in
     let b = c.deref_mut-2.ensures.value in
     let z = refilled zones.len c.flush-failed.new.zones zones.items (omega (arith, c.flush-failed.auto.zones, ap length a, zones.ok)) in
-    let y = refilled behind.len c.flush-failed.new.behind behind.items (omega (arith, c.flush-failed.auto.behind, ap length b, behind.ok)) in
+    let y = refilled pending.len c.flush-failed.new.pending pending.items (omega (arith, c.flush-failed.auto.pending, ap length b, pending.ok)) in
     (λ i. newest_each (z i) (y i)) ∙ c.flush-failed.ensures.newest ∙ (λ i. newest_each (a i) (b i))

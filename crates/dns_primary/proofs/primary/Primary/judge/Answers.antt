@@ -1,9 +1,9 @@
 use Rattle.std.proofs.Common.{List, map, sym, subst}
 use Rattle.std.specs.Prelude.{IfOk}
 use Rattle.dns_zone.specs.Zone.{Zone}
-use Rattle.dns_held.specs.declared.behind.Behind.{Behind}
-use Rattle.dns_held.specs.Each.{Each2}
-use Rattle.dns_held.specs.Held.{HasVersions}
+use Rattle.dns_versions.specs.declared.pending.PendingZone.{PendingZone}
+use Rattle.dns_versions.specs.Each.{Each2}
+use Rattle.dns_versions.specs.Held.{HasVersions}
 use Rattle.dns_primary.specs.Machine.{kept_of}
 use Rattle.dns_primary.specs.Keeps.{IsSet}
 use Rattle.dns_primary.specs.Queue.{IsReady}
@@ -18,5 +18,5 @@ returns-clause-tested g c m kept =
 
 pub returns-clause-ready : goal.returns-clause-ready
 returns-clause-ready g c =
-    subst (λ (l : List Zone). IfOk c.admit_and_judge.result (IsReady g.I.ZoneIndex.records l c.args.self.now.behind.items)) c.deref.ensures.value
-    (subst (λ (l : List (Behind g.row.I.Denot g.row.S.Denot)). IfOk c.admit_and_judge.result (IsReady g.I.ZoneIndex.records c.deref.result.now l)) c.deref-2.ensures.value c.admit_and_judge.ensures.ready)
+    subst (λ (l : List Zone). IfOk c.admit_and_judge.result (IsReady g.I.ZoneIndex.records l c.args.self.now.pending.items)) c.deref.ensures.value
+    (subst (λ (l : List (PendingZone g.row.I.Denot g.row.S.Denot)). IfOk c.admit_and_judge.result (IsReady g.I.ZoneIndex.records c.deref.result.now l)) c.deref-2.ensures.value c.admit_and_judge.ensures.ready)

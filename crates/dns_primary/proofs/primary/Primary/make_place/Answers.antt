@@ -20,4 +20,4 @@ pub returns-clause-step : goal.returns-clause-step
 returns-clause-step g c old kept =
     let long = long2 c.args.self.now.waiting.items old.waiting kept.waiting_are in
     let free : is_full old ≡ false = grind (arith, nat_tests, long, c.is_full.ensures.value, c.is_full.ensures.fits, c.if-is_full.false) in
-    stays c.args.self.now old c.nothing.result nothing (λ fails stated next. IsUpdateBegun fails old None stated next) (rests g.S.ZoneStore c.args.self.now.zones.items c.args.self.now.behind.items (map kept_of old.zones) (λ x k h y left. g.met.S.ZoneStore.at_rest x k h y left) kept.zones_are) kept c.nothing.ensures.effects_are (placed_free old free)
+    stays c.args.self.now old c.nothing.result nothing (λ fails stated next. IsUpdateBegun fails old None stated next) (rests g.S.ZoneStore c.args.self.now.zones.items c.args.self.now.pending.items (map kept_of old.zones) (λ x k h y left. g.met.S.ZoneStore.at_rest x k h y left) kept.zones_are) kept c.nothing.ensures.effects_are (placed_free old free)

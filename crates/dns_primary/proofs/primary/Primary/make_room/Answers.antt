@@ -6,13 +6,13 @@ use Rattle.dns_policy.specs.Prefix.{IsAllowed}
 use Rattle.dns_sectors.specs.Device.{LeavesOnly}
 use Rattle.dns_store.specs.Versions.{Kept, OpensAsLeft}
 use Rattle.dns_store.specs.Checkpoint.{IsKeptNumber}
-use Rattle.dns_held.specs.declared.behind.Behind.{Behind}
-use Rattle.dns_held.specs.Each.{Each3}
-use Rattle.dns_held.proofs.Lists.{newest_kept}
-use Rattle.dns_held.specs.Flush.{IsCounted, first_true}
-use Rattle.dns_held.specs.Held.{HasVersions, shown_zone}
+use Rattle.dns_versions.specs.declared.pending.PendingZone.{PendingZone}
+use Rattle.dns_versions.specs.Each.{Each3}
+use Rattle.dns_versions.proofs.Lists.{newest_kept}
+use Rattle.dns_versions.specs.Flush.{IsCounted, first_true}
+use Rattle.dns_versions.specs.Held.{HasVersions, shown_zone}
 use Rattle.dns_primary.specs.declared.event.Noted.{Noted}
-use Rattle.dns_primary.specs.declared.primary.ZoneSettings.{ZoneSettings}
+use Rattle.dns_primary.specs.declared.primary.ZoneSpec.{ZoneSpec}
 use Rattle.dns_primary.specs.Machine.{Setting, Machine, kept_of}
 use Rattle.dns_primary.specs.Flush.{all_out, flushed, flushed_zone}
 use Rattle.dns_primary.specs.Step.{noted_of}
@@ -33,16 +33,16 @@ index-requires g c =
 pub index_mut-requires : goal.index_mut-requires
 index_mut-requires g c =
     let q = c.flush-effects.new.self in
-    omega (arith, c.requires.inside, c.flush-effects.ensures.as_many, q.behind.ok)
+    omega (arith, c.requires.inside, c.flush-effects.ensures.as_many, q.pending.ok)
 
 pub returns-clause-step : goal.returns-clause-step
 returns-clause-step g c old kept =
     let keeps = g.S.ZoneStore.keeps in
-    let R = λ (z : Zone) (b : Behind g.row.I.Denot g.row.S.Denot) (k : Kept). HasVersions keeps z b k in
+    let R = λ (z : Zone) (b : PendingZone g.row.I.Denot g.row.S.Denot) (k : Kept). HasVersions keeps z b k in
     let p = c.args.self.now in
     let q = c.flush-effects.new.self in
     let place = c.args.place in
-    let long = long3_first R p.zones.items p.behind.items (map kept_of old.zones) kept.zones_are in
+    let long = long3_first R p.zones.items p.pending.items (map kept_of old.zones) kept.zones_are in
     let many = length-map old.zones kept_of in
     let s = c.flush-effects.ensures.step old kept in
     let fails = s.fails in
@@ -51,26 +51,26 @@ returns-clause-step g c old kept =
     let at = zone_at fails old.zones place z.0 (s.is).0 z.1 in
     let zf = flushed_zone at.0 z.0 in
     let mid : IsKept q (flushed fails old) = subst (λ (x : Machine). IsKept q x) ((s.is).1).state s.kept in
-    let inside : place < length q.behind.items = omega (arith, c.requires.inside, c.flush-effects.ensures.as_many) in
+    let inside : place < length q.pending.items = omega (arith, c.requires.inside, c.flush-effects.ensures.as_many) in
     let d = shown_zone (kept_of zf) in
     let b = c.index_mut.result.now in
-    let new = c.move_base-moved.new.behind in
+    let new = c.move_base-moved.new.pending in
     let held : HasVersions keeps (slice_index_or q.zones.items place d) b (kept_of zf) =
-    subst (λ (x : Behind g.row.I.Denot g.row.S.Denot). HasVersions keeps (slice_index_or q.zones.items place d) x (kept_of zf)) (sym c.index_mut.ensures.value)
-    (at3 R q.zones.items q.behind.items (map kept_of zones) place d b (kept_of zf) mid.zones_are (map_get kept_of zones place zf at.1)) in
-    let set : IsSet c.index.result.now zf = subst (λ (x : ZoneSettings). IsSet x zf) (sym c.index.ensures) (get2 IsSet q.settings.items zones place c.index.result.now zf mid.settings_are at.1) in
+    subst (λ (x : PendingZone g.row.I.Denot g.row.S.Denot). HasVersions keeps (slice_index_or q.zones.items place d) x (kept_of zf)) (sym c.index_mut.ensures.value)
+    (at3 R q.zones.items q.pending.items (map kept_of zones) place d b (kept_of zf) mid.zones_are (map_get kept_of zones place zf at.1)) in
+    let set : IsSet c.index.result.now zf = subst (λ (x : ZoneSpec). IsSet x zf) (sym c.index.ensures) (get2 IsSet q.settings.items zones place c.index.result.now zf mid.settings_are at.1) in
     let r = c.move_base-moved.result in
     let moved = c.move_base-moved.ensures.moved (slice_index_or q.zones.items place d) zf held set.keep (zone_settled at.0 z.0) in
     let setting : (moved.0).setting ≡ zf.setting = setting_of c.args.room zf moved.0 r moved.1 in
     record {
       fails = either_fails (moved_by r) place fails;
-      failed = failed_either (λ (x : Behind g.row.I.Denot g.row.S.Denot). g.S.ZoneStore.failed x.store) (moved_by r) place fails p.behind.items q.behind.items new s.failed (λ a here.
-          let first : b ≡ a = c.index_mut.ensures.value ∙ got q.behind.items place a b here in
-          subst (λ (x : Behind g.row.I.Denot g.row.S.Denot). IsCounted (moved_by r) (g.S.ZoneStore.failed x.store) (g.S.ZoneStore.failed new.store)) first
+      failed = failed_either (λ (x : PendingZone g.row.I.Denot g.row.S.Denot). g.S.ZoneStore.failed x.store) (moved_by r) place fails p.pending.items q.pending.items new s.failed (λ a here.
+          let first : b ≡ a = c.index_mut.ensures.value ∙ got q.pending.items place a b here in
+          subst (λ (x : PendingZone g.row.I.Denot g.row.S.Denot). IsCounted (moved_by r) (g.S.ZoneStore.failed x.store) (g.S.ZoneStore.failed new.store)) first
           (record { grows = c.move_base-moved.ensures.grows; rises = λ is. c.move_base-moved.ensures.failed (device_of r is) }));
-      any_moment = moved_moments (λ (x : Behind g.row.I.Denot g.row.S.Denot). x.store) g.S.ZoneStore.moment g.S.ZoneStore.left_since g.S.ZoneStore.opens p.behind.items q.behind.items old.zones place c.args.room z.0 b new s.any_moment z.1
+      any_moment = moved_moments (λ (x : PendingZone g.row.I.Denot g.row.S.Denot). x.store) g.S.ZoneStore.moment g.S.ZoneStore.left_since g.S.ZoneStore.opens p.pending.items q.pending.items old.zones place c.args.room z.0 b new s.any_moment z.1
           (λ a first. move_at g.S.ZoneStore.moment g.S.ZoneStore.left_since g.S.ZoneStore.opens c.args.room z.0 at.0 a.store b.store new.store
-          (subst (λ (x : Behind g.row.I.Denot g.row.S.Denot). LeavesOnly g.S.ZoneStore.moment g.S.ZoneStore.left_since a.store x.store (OpensAsLeft g.S.ZoneStore.opens (kept_of z.0))) (sym c.index_mut.ensures.value) first)
+          (subst (λ (x : PendingZone g.row.I.Denot g.row.S.Denot). LeavesOnly g.S.ZoneStore.moment g.S.ZoneStore.left_since a.store x.store (OpensAsLeft g.S.ZoneStore.opens (kept_of z.0))) (sym c.index_mut.ensures.value) first)
           (λ k n is none number. c.move_base-moved.ensures.any_moment k n (subst (λ (j : Kept). keeps b.store j) (sym is) held.kept) none
           (subst (λ (keep : ℕ). IsKeptNumber k keep c.args.room n) (sym (set.keep ∙ ap (λ (t : Setting). t.keep) (setting_stays at.0 z.0))) number))
           (λ shut. c.move_base-moved.ensures.still (kept_of zf) held.kept shut)
@@ -81,11 +81,11 @@ returns-clause-step g c old kept =
       effects_are = record {
         sent = ap all_out (sym ((s.is).1).sent) ∙ (s.effects_are).sent;
         accepted = sym ((s.is).1).accepted ∙ (s.effects_are).accepted;
-        noted = ap (λ (n : Noted). noted_moved n place r) (sym ((s.is).1).noted ∙ (s.effects_are).noted) ∙ sym c.noted_behind-effects.ensures;
+        noted = ap (λ (n : Noted). noted_moved n place r) (sym ((s.is).1).noted ∙ (s.effects_are).noted) ∙ sym c.noted_pending-effects.ensures;
       };
       kept = record {
-        zones_are = subst (λ (ks : List Kept). Each3 R q.zones.items (slice_set q.behind.items place new) ks) (sym (map_set kept_of zones place moved.0))
-            (mid_set R q.zones.items q.behind.items (map kept_of zones) place d new (kept_of moved.0) mid.zones_are moved.2);
+        zones_are = subst (λ (ks : List Kept). Each3 R q.zones.items (slice_set q.pending.items place new) ks) (sym (map_set kept_of zones place moved.0))
+            (mid_set R q.zones.items q.pending.items (map kept_of zones) place d new (kept_of moved.0) mid.zones_are moved.2);
         settings_are = right_set IsSet q.settings.items zones place zf moved.0 mid.settings_are at.1
             (λ x is. record { keep = is.keep ∙ ap (λ (t : Setting). t.keep) (sym setting); update = λ y. subst (λ (t : Setting). IsTrue (t.may_update y) ↔ IsAllowed x.update.items y) (sym setting) (is.update y); transfer = λ y. subst (λ (t : Setting). IsTrue (t.may_transfer y) ↔ IsAllowed x.transfer.items y) (sym setting) (is.transfer y) });
         waiting_are = mid.waiting_are;
@@ -99,5 +99,5 @@ pub returns-clause-newest : goal.returns-clause-newest
 returns-clause-newest g c =
     let q = c.flush-effects.new.self in
     let b = c.index_mut.result.now in
-    newest_kept q.zones.items q.behind.items c.args.place b c.move_base-moved.new.behind (c.move_base-moved.ensures.tip ∙ ap (λ (x : Behind g.row.I.Denot g.row.S.Denot). x.tip) c.index_mut.ensures.value)
+    newest_kept q.zones.items q.pending.items c.args.place b c.move_base-moved.new.pending (c.move_base-moved.ensures.tip ∙ ap (λ (x : PendingZone g.row.I.Denot g.row.S.Denot). x.tip) c.index_mut.ensures.value)
     ∙ c.flush-effects.ensures.newest

@@ -26,7 +26,7 @@ returns-in-Ok g c = record {
       (let number = c.args.number in
       let items = c.args.self.now.transfers.items in
       let news = c.next_on.new.transfers.items in
-      let rest = (rests g.S.ZoneStore c.args.self.now.zones.items c.args.self.now.behind.items (map kept_of old.zones) (λ x k h y left. g.met.S.ZoneStore.at_rest x k h y left) kept.zones_are) in
+      let rest = (rests g.S.ZoneStore c.args.self.now.zones.items c.args.self.now.pending.items (map kept_of old.zones) (λ x k h y left. g.met.S.ZoneStore.at_rest x k h y left) kept.zones_are) in
       ⊎_elim
       (λ e.
       (let at = sym (kept.transfers_are number) ∙ e.0 in
@@ -80,7 +80,7 @@ returns-in-Ok g c = record {
       record {
         fails = [];
         failed = tt;
-        any_moment = (rests g.S.ZoneStore c.args.self.now.zones.items c.args.self.now.behind.items (map kept_of old.zones) (λ x k h y left. g.met.S.ZoneStore.at_rest x k h y left) kept.zones_are);
+        any_moment = (rests g.S.ZoneStore c.args.self.now.zones.items c.args.self.now.pending.items (map kept_of old.zones) (λ x k h y left. g.met.S.ZoneStore.at_rest x k h y left) kept.zones_are);
         next = next;
         stated = one_reply (Replied (Connection number) octets);
         is = inl (refl, subst (λ (o : Option Sending). IsPumped old number o (Replied (Connection number) octets ∷ []) next) (sym at) (sent_on old number s s.left octets rest h.2 (h.3).1), record { sent = refl; accepted = refl; noted = refl });
@@ -102,7 +102,7 @@ returns-in-Err g c = record {
       record {
         fails = [];
         failed = tt;
-        any_moment = (rests g.S.ZoneStore c.args.self.now.zones.items c.args.self.now.behind.items (map kept_of old.zones) (λ x k h y left. g.met.S.ZoneStore.at_rest x k h y left) kept.zones_are);
+        any_moment = (rests g.S.ZoneStore c.args.self.now.zones.items c.args.self.now.pending.items (map kept_of old.zones) (λ x k h y left. g.met.S.ZoneStore.at_rest x k h y left) kept.zones_are);
         next = old;
         stated = record nothing { noted = OutOfMemory };
         is = inr (record { takes = refl; noted = refl; accepted = refl; stays = inl (refl, refl, refl) });

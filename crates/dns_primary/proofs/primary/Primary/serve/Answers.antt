@@ -3,6 +3,7 @@ use Rattle.dns_wire.specs.Codes.{number_of_rcode}
 use Rattle.dns_wire.specs.Message.{Header, header_of}
 use Rattle.dns_wire.specs.Text.{text}
 use Rattle.dns_zone.specs.Zone.{Zone}
+use Rattle.dns_request.specs.Codes.{rcode_servfail}
 use Rattle.dns_request.specs.Request as request
 use Rattle.dns_request.specs.Request.{request_of}
 use Rattle.std.specs.Prelude.{IfOk, IfErr}
@@ -10,7 +11,7 @@ use Rattle.dns_primary.specs.Update.{Asked, room_lacked}
 use Rattle.dns_primary.specs.Step.{is_update, request_lacks}
 use Rattle.dns_answer.specs.Answer.{answered, bare_reply, fitted, handled, handled_as, with_question}
 use Rattle.dns_primary.specs.Machine.{kept_of, shown_zones}
-use Rattle.dns_primary.specs.Flush.{Replied, rcode_servfail}
+use Rattle.dns_primary.specs.Flush.{Replied}
 use Rattle.dns_primary.specs.Keeps.{AreEffects}
 use Rattle.dns_primary.specs.Steps.{AtAnyMomentOf, IsServedOrLacks, IsTransferredOrLacks, LacksRequest, nothing, one_reply}
 use Rattle.dns_primary.proofs.Moved.{on_any}
@@ -22,7 +23,7 @@ returns-in-Ignored g c = record {
   step = λ old kept.
       let octets = c.args.octets.now in
       on_any old c.args.self.now c.args.self.now c.nothing.result (request_lacks old c.args.to c.args.peer (handled (shown_zones old) octets c.args.transport)) (IsServedOrLacks old c.args.peer c.args.to octets c.args.transport)
-      (stays c.args.self.now old c.nothing.result nothing (IsServedOrLacks old c.args.peer c.args.to octets c.args.transport) (rests g.S.ZoneStore c.args.self.now.zones.items c.args.self.now.behind.items (map kept_of old.zones) (λ x k h y left. g.met.S.ZoneStore.at_rest x k h y left) kept.zones_are) kept c.nothing.ensures.effects_are
+      (stays c.args.self.now old c.nothing.result nothing (IsServedOrLacks old c.args.peer c.args.to octets c.args.transport) (rests g.S.ZoneStore c.args.self.now.zones.items c.args.self.now.pending.items (map kept_of old.zones) (λ x k h y left. g.met.S.ZoneStore.at_rest x k h y left) kept.zones_are) kept c.nothing.ensures.effects_are
       (served_as old old c.args.peer c.args.to octets c.args.transport request.Ignored [] nothing c.in-Ignored.ensures.request (refl, gives_none old)));
 }
 
@@ -33,7 +34,7 @@ returns-in-Refused g c = record {
       let rcode = number_of_rcode c.in-Refused.rcode in
       let reply = λ (h : Header). Replied c.args.to (text (bare_reply h rcode)) in
       on_any old c.args.self.now c.args.self.now c.refusal.result (request_lacks old c.args.to c.args.peer (handled (shown_zones old) octets c.args.transport)) (IsServedOrLacks old c.args.peer c.args.to octets c.args.transport)
-      (stays c.args.self.now old c.refusal.result (one_reply (reply (header_of octets))) (IsServedOrLacks old c.args.peer c.args.to octets c.args.transport) (rests g.S.ZoneStore c.args.self.now.zones.items c.args.self.now.behind.items (map kept_of old.zones) (λ x k h y left. g.met.S.ZoneStore.at_rest x k h y left) kept.zones_are) kept
+      (stays c.args.self.now old c.refusal.result (one_reply (reply (header_of octets))) (IsServedOrLacks old c.args.peer c.args.to octets c.args.transport) (rests g.S.ZoneStore c.args.self.now.zones.items c.args.self.now.pending.items (map kept_of old.zones) (λ x k h y left. g.met.S.ZoneStore.at_rest x k h y left) kept.zones_are) kept
       (subst (λ (h : Header). AreEffects (one_reply (reply h)) c.refusal.result) c.in-Refused.ensures.of c.refusal.ensures)
       (served_as old old c.args.peer c.args.to octets c.args.transport (request.Refused rcode) [] (one_reply (reply (header_of octets))) c.in-Refused.ensures.request (refl, gives_one old (reply (header_of octets)))));
 }
@@ -51,7 +52,7 @@ returns-in-NotServed g c = record {
       let header : header_of c.header_octets-header.result.now ≡ header_of octets = c.header_octets-header.ensures.octets ∙ ap header_of of in
       let none = subst (λ (h : Header). IfErr c.refuse.result (λ _. AreEffects (lack (Replied c.args.to (text (bare_reply h rcode_servfail)))) c.reply.result)) header c.reply.ensures.failed in
       on_any old c.args.self.now c.args.self.now c.reply.result (request_lacks old c.args.to c.args.peer (handled (shown_zones old) octets c.args.transport)) (IsServedOrLacks old c.args.peer c.args.to octets c.args.transport)
-      (replies_or_lacks c.args.self.now old c.reply.result c.args.peer c.args.to octets c.args.transport r reply c.in-NotServed.ensures.request (λ e. cc e) refl (rests g.S.ZoneStore c.args.self.now.zones.items c.args.self.now.behind.items (map kept_of old.zones) (λ x k h y left. g.met.S.ZoneStore.at_rest x k h y left) kept.zones_are) kept
+      (replies_or_lacks c.args.self.now old c.reply.result c.args.peer c.args.to octets c.args.transport r reply c.in-NotServed.ensures.request (λ e. cc e) refl (rests g.S.ZoneStore c.args.self.now.zones.items c.args.self.now.pending.items (map kept_of old.zones) (λ x k h y left. g.met.S.ZoneStore.at_rest x k h y left) kept.zones_are) kept
       (replied (λ v. v.items) c.refuse.result c.reply.result c.args.to reply (text (bare_reply (header_of octets) rcode_servfail)) is c.reply.ensures.sent none));
 }
 
@@ -62,14 +63,14 @@ returns-in-Query g c = record {
       let q = c.in-Query.query in
       let r = request.Query q.message.message q.question in
       let of : q.message.octets ≡ octets = c.in-Query.ensures.of in
-      let zones : c.deref.result.now ≡ shown_zones old = c.deref.ensures.value ∙ are_shown g.S.ZoneStore.keeps c.args.self.now.zones.items c.args.self.now.behind.items old.zones kept.zones_are in
+      let zones : c.deref.result.now ≡ shown_zones old = c.deref.ensures.value ∙ are_shown g.S.ZoneStore.keeps c.args.self.now.zones.items c.args.self.now.pending.items old.zones kept.zones_are in
       let reply = fitted c.args.transport (answered (shown_zones old) octets q.message.message q.question) in
       let shown = subst (λ (zs : List Zone). IfOk c.reply-in-Query.result (λ v. v.items ≡ fitted c.args.transport (answered zs q.message.octets q.message.message q.question))) zones c.reply-in-Query.ensures in
       let is = subst (λ (xs : List ℕ). IfOk c.reply-in-Query.result (λ v. v.items ≡ fitted c.args.transport (answered (shown_zones old) xs q.message.message q.question))) of shown in
       let header : header_of c.header_octets-header-in-Query.result.now ≡ header_of octets = c.header_octets-header-in-Query.ensures.octets ∙ ap header_of of in
       let none = subst (λ (h : Header). IfErr c.reply-in-Query.result (λ _. AreEffects (lack (Replied c.args.to (text (bare_reply h rcode_servfail)))) c.reply-in-Query-2.result)) header c.reply-in-Query-2.ensures.failed in
       on_any old c.args.self.now c.args.self.now c.reply-in-Query-2.result (request_lacks old c.args.to c.args.peer (handled (shown_zones old) octets c.args.transport)) (IsServedOrLacks old c.args.peer c.args.to octets c.args.transport)
-      (replies_or_lacks c.args.self.now old c.reply-in-Query-2.result c.args.peer c.args.to octets c.args.transport r reply c.in-Query.ensures.request (λ e. cc e) refl (rests g.S.ZoneStore c.args.self.now.zones.items c.args.self.now.behind.items (map kept_of old.zones) (λ x k h y left. g.met.S.ZoneStore.at_rest x k h y left) kept.zones_are) kept
+      (replies_or_lacks c.args.self.now old c.reply-in-Query-2.result c.args.peer c.args.to octets c.args.transport r reply c.in-Query.ensures.request (λ e. cc e) refl (rests g.S.ZoneStore c.args.self.now.zones.items c.args.self.now.pending.items (map kept_of old.zones) (λ x k h y left. g.met.S.ZoneStore.at_rest x k h y left) kept.zones_are) kept
       (replied (λ v. v.items) c.reply-in-Query.result c.reply-in-Query-2.result c.args.to reply (text (bare_reply (header_of octets) rcode_servfail)) is c.reply-in-Query-2.ensures.sent none));
 }
 
@@ -89,7 +90,7 @@ returns-in-Update g c = record {
       record {
         fails = s.fails;
         failed = s.failed;
-        any_moment = subst (λ (o : Option (ℕ × ℕ)). AtAnyMomentOf g.S.ZoneStore o old c.args.self.now.behind.items c.update.new.self.behind.items) lacked s.any_moment;
+        any_moment = subst (λ (o : Option (ℕ × ℕ)). AtAnyMomentOf g.S.ZoneStore o old c.args.self.now.pending.items c.update.new.self.pending.items) lacked s.any_moment;
         next = s.next;
         stated = s.stated;
         is = ⊎_elim (λ h. served_as old s.next c.args.peer c.args.to octets c.args.transport r s.fails s.stated e h)

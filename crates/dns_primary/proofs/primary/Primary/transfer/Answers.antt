@@ -2,9 +2,10 @@ use Rattle.std.proofs.Common.{◌≡◌, [], map, Ok, Err, inl, inr, ⊎_elim, r
 use Rattle.std.specs.Prelude.{IfOk}
 use Rattle.dns_wire.specs.Message.{Header}
 use Rattle.dns_wire.specs.Text.{text}
+use Rattle.dns_request.specs.Codes.{rcode_servfail}
 use Rattle.dns_answer.specs.Answer.{bare_reply}
 use Rattle.dns_primary.specs.Machine.{kept_of}
-use Rattle.dns_primary.specs.Flush.{Replied, rcode_servfail}
+use Rattle.dns_primary.specs.Flush.{Replied}
 use Rattle.dns_primary.specs.Transfer.{OpensFrom, is_free, may_have, refusal_of, transport_of, zone_named}
 use Rattle.dns_primary.specs.Keeps.{AreEffects}
 use Rattle.dns_primary.specs.Steps.{IsTransferredOrLacks, LacksAlone, one_reply}
@@ -44,8 +45,8 @@ returns-in-Err-opened-clause-step g c old kept =
     let reply = Replied c.args.to (refusal_of (transport_of c.args.to) q.message.octets m q.question rcode) in
     let step = IsTransferredOrLacks old c.args.peer c.args.to q.message.octets m q.question in
     ⊎_elim
-    (λ h. stays p old c.refusal.result (one_reply reply) step (rests g.S.ZoneStore c.args.self.now.zones.items c.args.self.now.behind.items (map kept_of old.zones) (λ x k h y left. g.met.S.ZoneStore.at_rest x k h y left) kept.zones_are) kept h (inl (refl, (Err rcode, o, (refl, refl)), record { sent = refl; accepted = refl; noted = refl })))
-    (λ h. stays p old c.refusal.result (lack (Replied c.args.to (text (bare_reply m.header rcode_servfail)))) step (rests g.S.ZoneStore c.args.self.now.zones.items c.args.self.now.behind.items (map kept_of old.zones) (λ x k h y left. g.met.S.ZoneStore.at_rest x k h y left) kept.zones_are) kept h (inr (record { nothing = refl; stays = refl; is = refl })))
+    (λ h. stays p old c.refusal.result (one_reply reply) step (rests g.S.ZoneStore c.args.self.now.zones.items c.args.self.now.pending.items (map kept_of old.zones) (λ x k h y left. g.met.S.ZoneStore.at_rest x k h y left) kept.zones_are) kept h (inl (refl, (Err rcode, o, (refl, refl)), record { sent = refl; accepted = refl; noted = refl })))
+    (λ h. stays p old c.refusal.result (lack (Replied c.args.to (text (bare_reply m.header rcode_servfail)))) step (rests g.S.ZoneStore c.args.self.now.zones.items c.args.self.now.pending.items (map kept_of old.zones) (λ x k h y left. g.met.S.ZoneStore.at_rest x k h y left) kept.zones_are) kept h (inr (record { nothing = refl; stays = refl; is = refl })))
     c.refusal.ensures
 
 pub returns-in-Err-clause-step : goal.returns-in-Err-clause-step
@@ -53,6 +54,6 @@ returns-in-Err-clause-step g c old kept =
     let q = c.args.request.now in
     let m = q.message.message in
     let step = IsTransferredOrLacks old c.args.peer c.args.to q.message.octets m q.question in
-    stays c.args.self.now old c.out_of_memory.result (lack (Replied c.args.to (text (bare_reply m.header rcode_servfail)))) step (rests g.S.ZoneStore c.args.self.now.zones.items c.args.self.now.behind.items (map kept_of old.zones) (λ x k h y left. g.met.S.ZoneStore.at_rest x k h y left) kept.zones_are) kept
+    stays c.args.self.now old c.out_of_memory.result (lack (Replied c.args.to (text (bare_reply m.header rcode_servfail)))) step (rests g.S.ZoneStore c.args.self.now.zones.items c.args.self.now.pending.items (map kept_of old.zones) (λ x k h y left. g.met.S.ZoneStore.at_rest x k h y left) kept.zones_are) kept
     (subst (λ (h : Header). AreEffects (lack (Replied c.args.to (text (bare_reply h rcode_servfail)))) c.out_of_memory.result) c.header_octets-header.ensures.message c.out_of_memory.ensures)
     (inr (record { nothing = refl; stays = refl; is = refl }))

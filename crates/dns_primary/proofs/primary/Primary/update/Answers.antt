@@ -3,8 +3,9 @@ use Rattle.std.proofs.Common.{Option, ℕ}
 use Rattle.dns_wire.specs.Message.{Header, header_of}
 use Rattle.dns_wire.specs.Codes.{number_of_rcode}
 use Rattle.dns_wire.specs.Text.{text}
+use Rattle.dns_request.specs.Codes.{rcode_servfail}
 use Rattle.dns_answer.specs.Answer.{bare_reply}
-use Rattle.dns_primary.specs.Flush.{Replied, rcode_servfail}
+use Rattle.dns_primary.specs.Flush.{Replied}
 use Rattle.dns_primary.specs.declared.update.Outcome.TheVariants as outcome
 use Rattle.dns_primary.specs.declared.queue.Tested.{Tested}
 use Rattle.dns_primary.specs.Update.{Admission, Rejects, admission, admitted, room_lacked}
@@ -24,7 +25,7 @@ returns-in_default g c = record {
       let a = asked_of c.args.update.now in
       let reply = λ (h : Header). Replied c.args.update.now.to (text (bare_reply h rcode_servfail)) in
       on_any old c.args.self.now c.args.self.now c.out_of_memory.result (room_lacked old a) (IsUpdatedOrLacks old a)
-      (stays c.args.self.now old c.out_of_memory.result (lack (reply (header_of c.args.update.now.header.now))) (IsUpdatedOrLacks old a) (rests g.S.ZoneStore c.args.self.now.zones.items c.args.self.now.behind.items (map kept_of old.zones) (λ x k h y left. g.met.S.ZoneStore.at_rest x k h y left) kept.zones_are) kept c.out_of_memory.ensures
+      (stays c.args.self.now old c.out_of_memory.result (lack (reply (header_of c.args.update.now.header.now))) (IsUpdatedOrLacks old a) (rests g.S.ZoneStore c.args.self.now.zones.items c.args.self.now.pending.items (map kept_of old.zones) (λ x k h y left. g.met.S.ZoneStore.at_rest x k h y left) kept.zones_are) kept c.out_of_memory.ensures
       (inr (record { noted = refl; accepted = refl; stays = inl (refl, refl, ap (λ (h : Header). reply h ∷ []) c.requires.header) })));
 }
 
@@ -34,7 +35,7 @@ returns g c = record {
       let a = asked_of c.args.update.now in
       let reply = λ (h : Header). Replied c.args.update.now.to (text (bare_reply h rcode_servfail)) in
       on_any old c.args.self.now c.args.self.now c.out_of_memory-in-Err.result (room_lacked old a) (IsUpdatedOrLacks old a)
-      (stays c.args.self.now old c.out_of_memory-in-Err.result (lack (reply (header_of c.args.update.now.header.now))) (IsUpdatedOrLacks old a) (rests g.S.ZoneStore c.args.self.now.zones.items c.args.self.now.behind.items (map kept_of old.zones) (λ x k h y left. g.met.S.ZoneStore.at_rest x k h y left) kept.zones_are) kept c.out_of_memory-in-Err.ensures
+      (stays c.args.self.now old c.out_of_memory-in-Err.result (lack (reply (header_of c.args.update.now.header.now))) (IsUpdatedOrLacks old a) (rests g.S.ZoneStore c.args.self.now.zones.items c.args.self.now.pending.items (map kept_of old.zones) (λ x k h y left. g.met.S.ZoneStore.at_rest x k h y left) kept.zones_are) kept c.out_of_memory-in-Err.ensures
       (inr (record { noted = refl; accepted = refl; stays = inl (refl, refl, ap (λ (h : Header). reply h ∷ []) c.requires.header) })));
 }
 
@@ -74,9 +75,9 @@ returns-in-Ok-Judged g c = record {
 
 pub answer-requires-clause-inside : goal.answer-requires-clause-inside
 answer-requires-clause-inside g c =
-    let ready = subst (λ (t : Tested g.row.I.Denot). IsReady g.I.ZoneIndex.records c.args.self.now.zones.items c.args.self.now.behind.items t) c.in-Ok-Judged.field-0-is c.in-Ok-Judged.ensures.ready in
+    let ready = subst (λ (t : Tested g.row.I.Denot). IsReady g.I.ZoneIndex.records c.args.self.now.zones.items c.args.self.now.pending.items t) c.in-Ok-Judged.field-0-is c.in-Ok-Judged.ensures.ready in
     omega (arith, ready.0, c.args.self.now.as_many)
 
 pub answer-requires-clause-stageable : goal.answer-requires-clause-stageable
 answer-requires-clause-stageable g c =
-    (subst (λ (t : Tested g.row.I.Denot). IsReady g.I.ZoneIndex.records c.args.self.now.zones.items c.args.self.now.behind.items t) c.in-Ok-Judged.field-0-is c.in-Ok-Judged.ensures.ready).1
+    (subst (λ (t : Tested g.row.I.Denot). IsReady g.I.ZoneIndex.records c.args.self.now.zones.items c.args.self.now.pending.items t) c.in-Ok-Judged.field-0-is c.in-Ok-Judged.ensures.ready).1

@@ -4,13 +4,13 @@ use Rattle.std.proofs.lemmas.Option.{get_or_from_slice_get}
 use Rattle.dns_records.specs.Record.{record_cmp}
 use Rattle.dns_zone.proofs.Listed.{next_is}
 use Rattle.dns_zone.proofs.Searching.{low_half, high_half}
-use Rattle.dns_zoneindex.specs.Owned.{records_of}
+use Rattle.dns_zoneindex.specs.Owned.{path_records}
 use Rattle.dns_zoneindex.proofs.Halves.{not_greater, greater}
 use Rattle.dns_zoneindex.proofs.tree.Tree.count_to.Goals as goal
 
 pub places-preserved-then-is_gt : goal.places-preserved-then-is_gt
 places-preserved-then-is_gt c =
-    let xs = records_of c.args.self.now in
+    let xs = path_records c.args.self.now in
     let after = c.args.after.now in
     let middle = c.places.low + (c.places.high - c.places.low) / 2 in
     let r = c.record.result.now in
@@ -26,7 +26,7 @@ places-preserved-then-is_gt c =
 
 pub places-preserved : goal.places-preserved
 places-preserved c =
-    let xs = records_of c.args.self.now in
+    let xs = path_records c.args.self.now in
     let after = c.args.after.now in
     let middle = c.places.low + (c.places.high - c.places.low) / 2 in
     let r = c.record.result.now in
@@ -42,6 +42,6 @@ places-preserved c =
 
 pub returns : goal.returns
 returns c =
-    let xs = records_of c.args.self.now in
+    let xs = path_records c.args.self.now in
     let met : c.places.low ≡ c.places.high = omega arith in
     next_is c.args.after.now xs c.places.low (omega arith) c.places.invariant.before (λ k d from to. c.places.invariant.behind k d (omega arith) to)

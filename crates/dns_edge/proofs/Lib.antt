@@ -1,2 +1,0 @@
-pub mod Framed
-pub mod Pushed

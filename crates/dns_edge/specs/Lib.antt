@@ -1,5 +1,0 @@
-pub mod Framed
-pub mod Memory
-pub mod Stream
-pub mod Connection
-pub mod Connections

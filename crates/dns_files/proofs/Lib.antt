@@ -1,2 +1,0 @@
-mod Arithmetic
-mod Changes

@@ -1,0 +1,137 @@
+-- What is done one after the other.
+use Rattle.std.proofs.Common.{◌≡◌, ◌≢◌, inl, inr, ℕ, ◌+◌, ◌<◌, Bool, false, not, ◌==◌, List, [], ◌∷◌, ◌++◌, Option, Some, None, length, map, take, get_or, refl, ap, sym, subst, ◌∙◌, slice_set, arith}
+use Rattle.std.specs.List.{concat}
+use Rattle.std.proofs.lemmas.List.{map-append, set-set, take_more}
+use Rattle.std.proofs.lemmas.Bool.Decides.{nat_tests}
+use Rattle.dns_network.specs.Framed.{pending_length}
+use Rattle.dns_network.specs.declared.connection.Connection.{Connection}
+use Rattle.dns_network.specs.declared.stream.Moved.{Moved}
+use Rattle.dns_network.specs.declared.stream.Moved.TheVariants.{Octets, Later, Ended}
+use Rattle.dns_network.specs.declared.stream.Stream as stream
+use Rattle.dns_network.specs.Connection.{HasMoved, MovesOn, held_of, rest_of, unhandled}
+use Rattle.dns_network.specs.Connections.{HasMovedAt}
+use Rattle.dns_zone.specs.declared.index.ZoneIndex as index
+use Rattle.dns_store.specs.declared.zone_store.ZoneStore as store
+use Rattle.dns_versions.specs.Each.{Each2}
+use Rattle.dns_primary.specs.declared.event.Effects.{Effects}
+use Rattle.dns_primary.specs.declared.event.To.{To}
+use Rattle.dns_primary.specs.declared.event.Waiting.{Waiting}
+use Rattle.dns_primary.specs.declared.primary.Primary.{Primary}
+use Rattle.dns_primary.specs.Machine.{Waits}
+use Rattle.dns_primary.specs.Step.{Event, Flush}
+use Rattle.dns_primary.specs.Keeps.{IsWaiting}
+use Rattle.dns_network.specs.declared.network.Network.{Ghosts}
+use Rattle.dns_network.specs.Delivery.{Served, Going, TakesEvent, AreGoing, AreSent, IsSent, out_of, reply_to_send}
+use Rattle.dns_network.specs.Turn.{TurnMoment, Asks, Moves, Happens, HasAsked, HasHappened, EventComes, IsMoment, IsTurn, MomentsLead, NoneWaits}
+use Rattle.dns_network.proofs.Steps.{steps_on}
+
+-- a connection with no message and no rest has nothing to handle
+pub nothing_came : {S : Type 0} (c : Connection S) → held_of c ≡ [] → rest_of c ≡ [] → unhandled c ≡ []
+nothing_came c held rest = ap (λ (ms : List (List ℕ)). concat (map pending_length ms) ++ rest_of c) held ∙ rest
+
+-- a connection was closed, and nothing had changed before
+pub closed_still : {S : Type 0} (number : ℕ) (old mid new : List (Option (Connection S))) → mid ≡ old → new ≡ slice_set mid number None
+    → new ≡ slice_set old number None
+closed_still {S = S} number old mid new same gone = gone ∙ ap (λ (cs : List (Option (Connection S))). slice_set cs number None) same
+
+-- A server, its parts told one by one.
+abbrev pub standing : {I D S N : Type 0} {i : index.Ghosts I} {d : store.Ghosts D} → Primary I D i d → N → List (Option (Connection S))
+    → Served I D S N i d
+standing primary network connections = record { primary = primary; connections = connections; network = network }
+
+-- where nothing is kept of replies that wait, none waits
+none_of : (kept : List Waiting) (waiting : List Waits) → length kept ≡ 0 → Each2 IsWaiting kept waiting → waiting ≡ []
+none_of [] [] none h = refl
+none_of [] (w ∷ waiting) none h = absurd h
+none_of (k ∷ kept) waiting none h = absurd (omega (arith, none))
+
+pub none_waits : {I D : Type 0} {i : index.Ghosts I} {d : store.Ghosts D} (primary : Primary I D i d) (waits : Bool)
+    → waits ≡ not (length primary.waiting.items == 0) → waits ≡ false → NoneWaits primary
+none_waits primary waits is none = λ m kept. none_of primary.waiting.items m.waiting (grind (arith, nat_tests, is, none)) kept.waiting_are
+
+module _ {S : Type 0} (s : stream.Ghosts S) where
+  has_moved : (moved : Moved) (c e : Connection S) → moved ≢ Ended → MovesOn s moved c e → HasMoved s c e
+  has_moved (Octets count) c e lasts h = h
+  has_moved Later c e lasts h = h
+  has_moved Ended c e lasts h = absurd (lasts refl)
+
+  -- a connection on which octets moved was closed then
+  pub closed_then : (number : ℕ) (moved : Moved) (old mid new : List (Option (Connection S))) → HasMovedAt s number moved old mid
+      → new ≡ slice_set mid number None → new ≡ slice_set old number None
+  closed_then number moved old mid new (inl same) gone = closed_still number old mid new same gone
+  closed_then number moved old mid new (inr (c, e, there, on, is)) gone =
+      closed_still number (slice_set old number (Some e)) mid new is gone ∙ set-set old number (Some e) None
+
+module _ {I D S N : Type 0} {i : index.Ghosts I} {d : store.Ghosts D} (s : stream.Ghosts S) (n : Ghosts N S) where
+  pub by_one : (one : TurnMoment) (a b : Served I D S N i d) → IsMoment s n one a b → MomentsLead s n a b
+  by_one one a b h = (one ∷ [], (b, h, refl))
+
+  pub and_on : (a b c : Served I D S N i d) → MomentsLead s n a b → MomentsLead s n b c → MomentsLead s n a c
+  and_on a b c (first, is) (later, more) = (first ++ later, steps_on (λ old one new. IsMoment s n one old new) first later a b c is more)
+
+  -- an event happens, and its replies go out
+  pub happened : (event : Event) (effects : Effects) (old given told new : Served I D S N i d) → EventComes n event old given
+      → TakesEvent given.primary event told.primary effects → told ≡ record given { primary = told.primary }
+      → (sent : AreSent n (out_of effects) told new) → HasHappened n event effects sent.0 old new
+  happened event effects old given told new is_given takes rest sent =
+      record { given = given; is_given = is_given; told = told; takes = takes; rest = rest; out = sent.1; sent = sent.2 }
+
+  pub happens : (event : Event) (effects : Effects) (old given told new : Served I D S N i d) → EventComes n event old given
+      → TakesEvent given.primary event told.primary effects → told ≡ record given { primary = told.primary }
+      → AreSent n (out_of effects) told new → MomentsLead s n old new
+  happens event effects old given told new is_given takes rest sent =
+      by_one (Happens event effects sent.0) old new (happened event effects old given told new is_given takes rest sent)
+
+  -- a turn after which no reply waits, and one after which one does
+  pub not_flushed : (old new : Served I D S N i d) → MomentsLead s n old new → NoneWaits new.primary
+      → (moments : List TurnMoment) × IsTurn s n moments old new
+  not_flushed old new (moments, done) none =
+      (moments ++ [], record { first = moments; last = []; are = refl; between = new; done = done; flushed = refl; flush = inl (refl, none) })
+
+  pub flush_after : (old done looked flushed new : Served I D S N i d) (effects : Effects) (goings : List Going) → MomentsLead s n old done
+      → HasAsked n done looked → HasHappened n Flush effects goings looked flushed → HasAsked n flushed new
+      → (moments : List TurnMoment) × IsTurn s n moments old new
+  flush_after old done looked flushed new effects goings (moments, first) before flush pending =
+      let last = Asks ∷ Happens Flush effects goings ∷ Asks ∷ [] in (
+        moments ++ last,
+        record {
+          first = moments;
+          last = last;
+          are = refl;
+          between = done;
+          done = first;
+          flushed = (looked, before, (flushed, flush, (new, pending, refl)));
+          flush = inr (effects, goings, refl);
+        },
+      )
+
+  -- octets moved on a connection whose stream didn't end
+  pub moves : (number : ℕ) (moved : Moved) (primary : Primary I D i d) (network : N) (old new : List (Option (Connection S))) → moved ≢ Ended
+      → HasMovedAt s number moved old new → MomentsLead s n (standing primary network old) (standing primary network new)
+  moves number moved primary network old new lasts (inl same) = ([], ap (standing primary network) same)
+  moves number moved primary network old new lasts (inr (c, e, there, on, is)) =
+      by_one (Moves number) (standing primary network old) (standing primary network new)
+      (record { before = c; after = e; there = there; moved = has_moved s moved c e lasts on; rest = ap (standing primary network) is })
+
+module _ {I D S N : Type 0} {i : index.Ghosts I} {d : store.Ghosts D} (n : Ghosts N S) where
+  going_on : (first later : List Going) (a b c : Served I D S N i d) → AreGoing n first a b → AreGoing n later b c → AreGoing n (first ++ later) a c
+  going_on first later a b c is more = steps_on (λ old one new. IsSent n one.to one.octets one.cut old new) first later a b c is more
+
+  pub sent_on : (first later : List (To × List ℕ)) (a b c : Served I D S N i d) → AreSent n first a b → AreSent n later b c → AreSent n (first ++ later) a c
+  sent_on first later a b c (goings, is, went) (next, more, goes) =
+      (goings ++ next, map-append reply_to_send goings next ∙ (λ k. is k ++ more k), going_on goings next a b c went goes)
+
+  -- one reply is sent, or its connection is closed
+  pub one_sent : (to : To) (reply : List ℕ) (a b : Served I D S N i d) → (cut : Bool) × IsSent n to reply cut a b → AreSent n ((to, reply) ∷ []) a b
+  one_sent to reply a b (cut, is) = (record { to = to; octets = reply; cut = cut } ∷ [], refl, (b, is, refl))
+
+  -- so is the next one of those that items tell
+  pub next_sent : {P : Type 0} (told : P → To × List ℕ) (items : List P) (at : ℕ) (other : P) (a b c : Served I D S N i d) → at < length items
+      → AreSent n (map told (take at items)) a b → (cut : Bool) × IsSent n (told (get_or items at other)).0 (told (get_or items at other)).1 cut b c
+      → AreSent n (map told (take (at + 1) items)) a c
+  next_sent told items at other a b c lt is more =
+      let here = get_or items at other in
+      let next : map told (take (at + 1) items) ≡ map told (take at items) ++ told here ∷ [] =
+      ap (map told) (take_more items at other lt) ∙ map-append told (take at items) (here ∷ []) in
+      subst (λ (l : List (To × List ℕ)). AreSent n l a c) (sym next)
+      (sent_on (map told (take at items)) (told here ∷ []) a b c is (one_sent (told here).0 (told here).1 b c more))

@@ -1,0 +1,184 @@
+-- What turns are of the machine.
+use Rattle.std.proofs.Common.{◌≡◌, ◌⊎◌, inl, inr, ℕ, Bool, true, false, List, [], ◌∷◌, ◌++◌, refl, ap, sym, subst, ◌∙◌}
+use Rattle.std.specs.List.{flat_map}
+use Rattle.std.proofs.lemmas.Grind.{flat_map-append}
+use Rattle.dns_network.specs.declared.stream.Stream as stream
+use Rattle.dns_zone.specs.declared.index.ZoneIndex as index
+use Rattle.dns_store.specs.declared.zone_store.ZoneStore as store
+use Rattle.dns_versions.specs.Each.{Each2}
+use Rattle.dns_primary.specs.declared.event.Peer.{Peer}
+use Rattle.dns_primary.specs.declared.event.Effects.{Effects}
+use Rattle.dns_primary.specs.declared.event.To.{To}
+use Rattle.dns_primary.specs.declared.event.To.TheVariants as to
+use Rattle.dns_primary.specs.declared.primary.Primary.{Primary}
+use Rattle.dns_primary.specs.Machine.{Machine}
+use Rattle.dns_primary.specs.Flush.{Sent, all_out}
+use Rattle.dns_primary.specs.Keeps.{IsKept}
+use Rattle.dns_primary.specs.Step as machine
+use Rattle.dns_primary.specs.Step.{Event, Datagram, Connect, Arrives, Flush, Checkpoint, Pump, Closed, Step}
+use Rattle.dns_primary.specs.Runs.{Moment, Took, Run, last_of, machine_after}
+use Rattle.dns_network.specs.declared.network.Network.{Ghosts}
+use Rattle.dns_network.specs.Delivery.{Served, Going, AreGoing, IsClosed, IsSent, TakesEvent}
+use Rattle.dns_network.specs.Turn.{TurnMoment, Asks, Moves, Connects, Happens, Closes, AreMoments, AreTurns, HasAsked, HasHappened, EventComes, IsMoment, IsRound, IsTurn}
+use Rattle.dns_network.specs.Runs.{IsRunOf, IsStepOf, Told, closed_for, closing, told_by, told_in, told_of}
+
+run_on : (first later : List Moment) (m : Machine) → Run m first → Run (last_of m first) later → Run m (first ++ later)
+run_on [] later m is more = more
+run_on (t ∷ rest) later m (here, is) more = (here, run_on rest later (machine_after t) is more)
+
+last_on : (first later : List Moment) (m : Machine) → last_of (last_of m first) later ≡ last_of m (first ++ later)
+last_on [] later m = refl
+last_on (t ∷ rest) later m = last_on rest later (machine_after t)
+
+each_on : (first later : List Told) (run more : List Moment) → Each2 IsStepOf first run → Each2 IsStepOf later more → Each2 IsStepOf (first ++ later) (run ++ more)
+each_on [] later [] more is next = next
+each_on (one ∷ rest) later (t ∷ run) more (here, is) next = (here, each_on rest later run more is next)
+each_on [] later (t ∷ run) more is next = absurd is
+each_on (one ∷ rest) later [] more is next = absurd is
+
+-- A run of these from a machine, whose end is kept.
+record RunsTo (told : List Told) (start : Machine) (keeps : Machine → Type 0) : Type 0 where
+  pub run : List Moment
+  pub runs : Run start run
+  pub each : Each2 IsStepOf told run
+  pub kept : keeps (last_of start run)
+
+-- no event is a run of no moment
+none_told : (keeps : Machine → Type 0) (m : Machine) → keeps m → RunsTo [] m keeps
+none_told keeps m kept = record { run = []; runs = tt; each = tt; kept = kept }
+
+-- one run after another
+told_on : (first later : List Told) (mid end : Machine → Type 0) (m : Machine) → RunsTo first m mid
+    → ((e : Machine) → mid e → RunsTo later e end) → RunsTo (first ++ later) m end
+told_on first later mid end m is more =
+    let next = more (last_of m is.run) is.kept in
+    record {
+      run = is.run ++ next.run;
+      runs = run_on is.run next.run m is.runs next.runs;
+      each = each_on first later is.run next.run is.each next.each;
+      kept = subst end (last_on is.run next.run m) next.kept;
+    }
+
+closing_is : (number : ℕ) (fails : List Bool) (m next : Machine) (stated : machine.Effects) → Step fails m (Closed number) stated next
+    → IsStepOf (closing number) (Took (Closed number) fails stated next)
+closing_is number fails m next stated (inl (none, gives)) = (refl, ap (λ (out : List Sent). all_out out) gives.sent, gives.accepted, gives.noted)
+closing_is number fails m next stated (inr lacks) = absurd (let clash : false ≡ true = lacks.takes in cc)
+
+told_append : (first last : List TurnMoment) → flat_map told_in first ++ flat_map told_in last ≡ flat_map told_in (first ++ last)
+told_append first last = sym (flat_map-append told_in first last)
+
+module _ {I D : Type 0} {i : index.Ghosts I} {d : store.Ghosts D} where
+  -- an event that a primary takes
+  event_told : (event : Event) (effects : Effects) (old new : Primary I D i d) (m : Machine) → TakesEvent old event new effects → IsKept old m
+      → RunsTo (told_of event effects ∷ []) m (λ e. IsKept new e)
+  event_told event effects old new m takes kept =
+      let step = takes m kept in
+      record {
+        run = Took event step.fails step.stated step.next ∷ [];
+        runs = (step.is, tt);
+        each = ((refl, step.effects_are.sent, step.effects_are.accepted, step.effects_are.noted), tt);
+        kept = step.kept;
+      }
+
+  closing_told : (number : ℕ) (effects : Effects) (old new : Primary I D i d) (m : Machine) → TakesEvent old (Closed number) new effects → IsKept old m
+      → RunsTo (closing number ∷ []) m (λ e. IsKept new e)
+  closing_told number effects old new m takes kept =
+      let step = takes m kept in
+      record {
+        run = Took (Closed number) step.fails step.stated step.next ∷ [];
+        runs = (step.is, tt);
+        each = (closing_is number step.fails m step.next step.stated step.is, tt);
+        kept = step.kept;
+      }
+
+module _ {I D S N : Type 0} {i : index.Ghosts I} {d : store.Ghosts D} (n : Ghosts N S) where
+  -- where the primary stays
+  stays : (old new : Served I D S N i d) (m : Machine) → new.primary ≡ old.primary → IsKept old.primary m → IsKept new.primary m
+  stays old new m same kept = subst (λ (p : Primary I D i d). IsKept p m) (sym same) kept
+
+  sent_told : (target : To) (reply : List ℕ) (cut : Bool) (old new : Served I D S N i d) (m : Machine) → IsSent n target reply cut old new → IsKept old.primary m
+      → RunsTo (closed_for target cut) m (λ e. IsKept new.primary e)
+  sent_told (to.Address peer) reply false old new m is kept =
+      none_told (λ e. IsKept new.primary e) m (stays old new m (ap (λ (x : Served I D S N i d). x.primary) is.0) kept)
+  sent_told (to.Connection number) reply false old new m is kept =
+      none_told (λ e. IsKept new.primary e) m (stays old new m (ap (λ (x : Served I D S N i d). x.primary) is.0) kept)
+  sent_told (to.Connection number) reply true old new m is kept =
+      closing_told number is.effects old.primary new.primary m is.told kept
+  sent_told to.Nowhere reply false old new m is kept =
+      none_told (λ e. IsKept new.primary e) m (stays old new m (ap (λ (x : Served I D S N i d). x.primary) is) kept)
+  sent_told (to.Address peer) reply true old new m is kept = absurd is
+  sent_told to.Nowhere reply true old new m is kept = absurd is
+
+  goings_told : (goings : List Going) (old new : Served I D S N i d) (m : Machine) → AreGoing n goings old new → IsKept old.primary m
+      → RunsTo (flat_map (λ going. closed_for going.to going.cut) goings) m (λ e. IsKept new.primary e)
+  goings_told [] old new m is kept =
+      none_told (λ e. IsKept new.primary e) m (stays old new m (ap (λ (x : Served I D S N i d). x.primary) is) kept)
+  goings_told (one ∷ rest) old new m (between, here, is) kept =
+      told_on (closed_for one.to one.cut) (flat_map (λ going. closed_for going.to going.cut) rest) (λ e. IsKept between.primary e) (λ e. IsKept new.primary e) m
+      (sent_told one.to one.octets one.cut old between m here kept) (λ e kept'. goings_told rest between new e is kept')
+
+  given_stays : (event : Event) (old given : Served I D S N i d) → EventComes n event old given → given.primary ≡ old.primary
+  given_stays (Datagram peer octets) old given is = ap (λ (x : Served I D S N i d). x.primary) is.0
+  given_stays (Arrives number message) old given is = ap (λ (x : Served I D S N i d). x.primary) is.4
+  given_stays (Pump number) old given is = ap (λ (x : Served I D S N i d). x.primary) is
+  given_stays Flush old given is = ap (λ (x : Served I D S N i d). x.primary) is
+  given_stays (Connect peer) old given is = absurd is
+  given_stays (Checkpoint place) old given is = absurd is
+  given_stays (Closed number) old given is = absurd is
+
+  asked_stays : (old new : Served I D S N i d) → HasAsked n old new → new.primary ≡ old.primary
+  asked_stays old new is = ap (λ (x : Served I D S N i d). x.primary) is.rest
+
+module _ {I D S N : Type 0} {i : index.Ghosts I} {d : store.Ghosts D} (s : stream.Ghosts S) (n : Ghosts N S) where
+  moment_told : (one : TurnMoment) (old new : Served I D S N i d) (m : Machine) → IsMoment s n one old new → IsKept old.primary m
+      → RunsTo (told_in one) m (λ e. IsKept new.primary e)
+  moment_told Asks old new m is kept = none_told (λ e. IsKept new.primary e) m (stays n old new m (asked_stays n old new is) kept)
+  moment_told (Moves number) old new m is kept =
+      none_told (λ e. IsKept new.primary e) m (stays n old new m (ap (λ (x : Served I D S N i d). x.primary) is.rest) kept)
+  moment_told (Connects peer effects) old new m is kept = event_told (Connect peer) effects old.primary new.primary m is.taken.told kept
+  moment_told (Happens event effects goings) old new m is kept =
+      told_on (told_of event effects ∷ []) (flat_map (λ going. closed_for going.to going.cut) goings) (λ e. IsKept is.told.primary e) (λ e. IsKept new.primary e) m
+      (event_told event effects is.given.primary is.told.primary m is.takes (stays n old is.given m (given_stays n event old is.given is.is_given) kept))
+      (λ e kept'. goings_told n goings is.told new e is.sent kept')
+  moment_told (Closes number) old new m is kept = closing_told number is.effects old.primary new.primary m is.told kept
+
+  moments_told : (moments : List TurnMoment) (old new : Served I D S N i d) (m : Machine) → AreMoments s n moments old new → IsKept old.primary m
+      → RunsTo (flat_map told_in moments) m (λ e. IsKept new.primary e)
+  moments_told [] old new m is kept =
+      none_told (λ e. IsKept new.primary e) m (stays n old new m (ap (λ (x : Served I D S N i d). x.primary) is) kept)
+  moments_told (one ∷ rest) old new m (between, here, is) kept =
+      told_on (told_in one) (flat_map told_in rest) (λ e. IsKept between.primary e) (λ e. IsKept new.primary e) m
+      (moment_told one old between m here kept) (λ e kept'. moments_told rest between new e is kept')
+
+  paused : (old new : Served I D S N i d) (m : Machine) → (new ≡ old) ⊎ HasAsked n old new → IsKept old.primary m → IsKept new.primary m
+  paused old new m (inl same) kept = stays n old new m (ap (λ (x : Served I D S N i d). x.primary) same) kept
+  paused old new m (inr asked) kept = stays n old new m (asked_stays n old new asked) kept
+
+  turn_told : (moments : List TurnMoment) (old new : Served I D S N i d) (m : Machine) → IsTurn s n moments old new → IsKept old.primary m
+      → RunsTo (flat_map told_in moments) m (λ e. IsKept new.primary e)
+  turn_told moments old new m is kept =
+      subst (λ (l : List Told). RunsTo l m (λ e. IsKept new.primary e))
+      (told_append is.first is.last ∙ ap (flat_map told_in) (sym is.are))
+      (told_on (flat_map told_in is.first) (flat_map told_in is.last) (λ e. IsKept is.between.primary e) (λ e. IsKept new.primary e) m
+      (moments_told is.first old is.between m is.done kept) (λ e kept'. moments_told is.last is.between new e is.flushed kept'))
+
+  after_round : (old new : Served I D S N i d) (told : List Told) (m : Machine) → (new ≡ old) ⊎ HasAsked n old new
+      → RunsTo told m (λ e. IsKept old.primary e) → RunsTo told m (λ e. IsKept new.primary e)
+  after_round old new told m pause is =
+      record { run = is.run; runs = is.runs; each = is.each; kept = paused old new (last_of m is.run) pause is.kept }
+
+  turns_to : (turns : List (List TurnMoment)) (old new : Served I D S N i d) (m : Machine) → AreTurns s n turns old new → IsKept old.primary m
+      → RunsTo (told_by turns) m (λ e. IsKept new.primary e)
+  turns_to [] old new m is kept =
+      none_told (λ e. IsKept new.primary e) m (stays n old new m (ap (λ (x : Served I D S N i d). x.primary) is) kept)
+  turns_to (one ∷ rest) old new m (between, here, is) kept =
+      told_on (flat_map told_in one) (told_by rest) (λ e. IsKept between.primary e) (λ e. IsKept new.primary e) m
+      (after_round here.ended between (flat_map told_in one) m here.after
+      (turn_told one here.begun here.ended m here.turn (paused old here.begun m here.before kept)))
+      (λ e kept'. turns_to rest between new e is kept')
+
+  pub turns_run : (turns : List (List TurnMoment)) (old new : Served I D S N i d) (m : Machine) → AreTurns s n turns old new → IsKept old.primary m
+      → (run : List Moment) × IsRunOf (told_by turns) m run × IsKept new.primary (last_of m run)
+  turns_run turns old new m is kept =
+      let made = turns_to turns old new m is kept in
+      (made.run, record { runs = made.runs; each = made.each }, made.kept)

@@ -1,0 +1,10 @@
+use Rattle.std.proofs.Common.{arith, ◌<◌, vec_len}
+use Rattle.dns_network.proofs.Pushed.{moved_one}
+use Rattle.dns_network.proofs.connections.Connections.read.Goals as goal
+
+pub returns-in-Some : goal.returns-in-Some
+returns-in-Some g c =
+    let places = c.args.self.now.places in
+    let within : c.args.number < vec_len places = omega arith in
+    moved_one c.args.number places.items (vec_len places) c.index_mut.result.now (omega (arith, places.ok)) within c.index_mut.ensures.value
+    g.S.Stream c.read.result c.in-Some.connection c.read.new.self c.in-Some.is c.read.ensures.moved

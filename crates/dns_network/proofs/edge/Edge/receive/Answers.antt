@@ -1,0 +1,27 @@
+use Rattle.std.proofs.Common.{◌≡◌, ℕ, List, Some, length, refl, sym, subst, ◌∙◌, inl, inr, take, arith}
+use Rattle.std.proofs.lemmas.List.{with_items_is}
+use Rattle.dns_primary.specs.Step.{Datagram}
+use Rattle.dns_network.specs.Delivery.{served}
+use Rattle.dns_network.specs.Turn.{Asks}
+use Rattle.dns_network.proofs.Leads.{by_one, happens}
+use Rattle.dns_network.proofs.edge.Edge.receive.Goals as goal
+
+pub returns-in_default : goal.returns-in_default
+returns-in_default g c =
+    let old = served c.args.primary.now c.args.self.now c.args.network.now in
+    let new = served c.args.primary.now c.args.self.now c.receive.new.self in
+    by_one g.S.Stream g.N.Network Asks old new (record { rest = refl; nothing = inr (inl c.in_default.ensures.came) })
+
+pub returns : goal.returns
+returns g c =
+    let old = served c.args.primary.now c.args.self.now c.args.network.now in
+    let given = served c.args.primary.now c.args.self.now c.receive.new.self in
+    let same : length c.receive.new.into ≡ c.args.self.now.buffer.len = omega (arith, c.receive.auto.into, c.deref_mut.ensures.len) in
+    let told = served c.step-effects.new.self c.args.self.now c.receive.new.self in
+    let new = served c.deliver.new.primary c.deliver.new.self c.deliver.new.network in
+    happens g.S.Stream g.N.Network (Datagram c.in-Some.peer (take c.in-Some.count c.deref.result.now)) c.step-effects.result old given told new (
+      refl,
+      subst (λ (buffer : List ℕ). g.N.Network.receives c.args.network.now (Some (take c.in-Some.count buffer, c.in-Some.peer)) c.receive.new.self)
+          (sym (c.deref.ensures.value ∙ with_items_is c.args.self.now.buffer c.receive.new.into same)) c.in-Some.ensures.came,
+    )
+    (λ m kept. c.step-effects.ensures.step m kept) refl c.deliver.ensures

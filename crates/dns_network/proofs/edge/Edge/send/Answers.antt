@@ -1,0 +1,24 @@
+use Rattle.std.proofs.Common.{Bool, true, refl, sym, subst}
+use Rattle.dns_network.specs.Connections.{places_of}
+use Rattle.dns_primary.specs.declared.event.To.{To}
+use Rattle.dns_network.specs.Delivery.{IsSent, connections_of, served}
+use Rattle.dns_network.proofs.Leads.{closed_still}
+use Rattle.dns_network.proofs.edge.Edge.send.Goals as goal
+
+pub returns-then-reply-gt-LONGEST : goal.returns-then-reply-gt-LONGEST
+returns-then-reply-gt-LONGEST g c =
+    let old = served c.args.primary.now c.args.self.now c.args.network.now in
+    let new = served c.close.new.primary c.close.new.self c.args.network.now in
+    let told = c.close.ensures.told in
+    subst (λ (t : To). (cut : Bool) × IsSent g.N.Network t c.args.reply.now cut old new) (sym c.in-Connection.is)
+    (true, record { effects = told.0; told = told.1; gone = c.close.ensures.gone; network = refl })
+
+pub returns-in-Err : goal.returns-in-Err
+returns-in-Err g c =
+    let old = served c.args.primary.now c.args.self.now c.args.network.now in
+    let new = served c.close-in-Err.new.primary c.close-in-Err.new.self c.args.network.now in
+    let told = c.close-in-Err.ensures.told in
+    let number = c.in-Connection.number in
+    let gone = closed_still number (connections_of c.args.self.now) (places_of c.push.new.self) (connections_of c.close-in-Err.new.self) c.in-Err.ensures.refused c.close-in-Err.ensures.gone in
+    subst (λ (t : To). (cut : Bool) × IsSent g.N.Network t c.args.reply.now cut old new) (sym c.in-Connection.is)
+    (true, record { effects = told.0; told = told.1; gone = gone; network = refl })

@@ -1,0 +1,20 @@
+use Rattle.std.proofs.Common.{[], refl}
+use Rattle.std.specs.declared.net.ip_addr.IpAddr.TheVariants.{V4}
+use Rattle.dns_primary.specs.declared.event.To.TheVariants.{Address}
+use Rattle.dns_primary.specs.declared.event.HeaderTo.{HeaderTo}
+use Rattle.dns_primary.specs.Keeps.{header_out}
+use Rattle.dns_network.specs.Delivery.{served}
+use Rattle.dns_network.proofs.Leads.{next_sent}
+use Rattle.dns_network.proofs.edge.Edge.send_headers.Goals as goal
+
+pub loop-header-init : goal.loop-header-init
+loop-header-init g c = ([], refl, refl)
+
+pub loop-header-preserved : goal.loop-header-preserved
+loop-header-preserved g c =
+    let none : HeaderTo = record { to = Address (record { address = V4 (record { octets = [] }); port = 0 }); octets = [] } in
+    next_sent g.N.Network (λ h. header_out h) c.args.headers.now c.loop-header.header-index none
+    (served c.args.primary.now c.args.self.now c.args.network.now)
+    (served c.loop-header.primary c.loop-header.self c.loop-header.network)
+    (served c.send.new.primary c.send.new.self c.send.new.network)
+    c.loop-header-test.true c.loop-header.invariant c.send.ensures

@@ -1,0 +1,15 @@
+use Rattle.std.proofs.Common.{ℕ, Bool, List, Option, sym, subst}
+use Rattle.dns_primary.specs.declared.event.Reply.{Reply}
+use Rattle.dns_primary.specs.Keeps.{reply_out}
+use Rattle.dns_network.specs.Delivery.{AreSent, IsSent, served}
+use Rattle.dns_primary.specs.To.{octets_in}
+use Rattle.dns_network.proofs.Leads.{one_sent}
+use Rattle.dns_network.proofs.edge.Edge.send_reply.Goals as goal
+
+pub returns-in-Some : goal.returns-in-Some
+returns-in-Some g c =
+    let old = served c.args.primary.now c.args.self.now c.args.network.now in
+    let new = served c.send.new.primary c.send.new.self c.send.new.network in
+    subst (λ (reply : Option Reply). AreSent g.N.Network (reply_out reply) old new) (sym c.in-Some.is)
+    (one_sent g.N.Network c.in-Some.reply.to (octets_in c.in-Some.reply.octets) old new
+    (subst (λ (octets : List ℕ). (cut : Bool) × IsSent g.N.Network c.in-Some.reply.to octets cut old new) c.as_slice-octets.ensures c.send.ensures))

@@ -1,0 +1,58 @@
+-- All connections, as their contracts see them.
+use Rattle.std.specs.Prelude.{◌≡◌, ◌⊎◌, ◌==◌, ℕ, Bool, true, false, not, List, [], length, Option, Some, None}
+use Rattle.std.specs.Prelude.{slice_get, slice_set}
+use Rattle.dns_network.specs.declared.connection.Connection.{Connection}
+use Rattle.dns_network.specs.declared.connections.Connections.{Connections}
+use Rattle.dns_network.specs.declared.stream.Stream.{Ghosts}
+use Rattle.dns_network.specs.declared.stream.Moved.{Moved}
+use Rattle.dns_network.specs.Connection.{IsQueued, MovesOn, HasHandedOver, held_of, unwritten_of}
+
+module _ {S : Type 0} where
+  -- what is stored under each number, from 0 on
+  abbrev pub places_of : Connections S → List (Option (Connection S))
+  places_of connections = connections.places.items
+
+  -- a connection has that number
+  abbrev pub is_open_at : Option (Option (Connection S)) → Bool
+  is_open_at None = false
+  is_open_at (Some None) = false
+  is_open_at (Some (Some c)) = true
+
+  abbrev pub is_open : ℕ → List (Option (Connection S)) → Bool
+  is_open number places = is_open_at (slice_get places number)
+
+  -- A reply was queued on the connection with that number: this one was there, if there is such a place and a
+  -- connection in it, and nothing else has changed.
+  abbrev pub IsPushedTo : ℕ → List ℕ → Option (Option (Connection S)) → List (Option (Connection S))
+      → List (Option (Connection S)) → Type 0
+  IsPushedTo number reply None old new = new ≡ old
+  IsPushedTo number reply (Some None) old new = new ≡ old
+  IsPushedTo number reply (Some (Some c)) old new =
+      (d : Connection S) × IsQueued reply c d × (new ≡ slice_set old number (Some d))
+
+  abbrev pub IsReplyPushed : ℕ → List ℕ → List (Option (Connection S)) → List (Option (Connection S)) → Type 0
+  IsReplyPushed number reply old new = IsPushedTo number reply (slice_get old number) old new
+
+  -- octets are left to write on the connection with that number
+  abbrev pub has_left_at : Option (Option (Connection S)) → Bool
+  has_left_at None = false
+  has_left_at (Some None) = false
+  has_left_at (Some (Some c)) = not (length (unwritten_of c) == 0)
+
+  -- Nothing has changed, or octets may have moved on the connection with that number, and on no other one.
+  abbrev pub HasMovedAt : Ghosts S → ℕ → Moved → List (Option (Connection S))
+      → List (Option (Connection S)) → Type 0
+  HasMovedAt s number moved old new =
+      (new ≡ old)
+      ⊎ ((c : Connection S) × (d : Connection S) × (slice_get old number ≡ Some (Some c))
+      × MovesOn s moved c d × (new ≡ slice_set old number (Some d)))
+
+  -- The connection with that number handed over its first message, and no other one has changed; or it had
+  -- none.
+  abbrev pub HandsOver : ℕ → Option (List ℕ) → List (Option (Connection S))
+      → List (Option (Connection S)) → Type 0
+  HandsOver number None old new =
+      (new ≡ old) × ((c : Connection S) → slice_get old number ≡ Some (Some c) → held_of c ≡ [])
+  HandsOver number (Some message) old new =
+      (c : Connection S) × (d : Connection S) × (slice_get old number ≡ Some (Some c))
+      × HasHandedOver message c d × (new ≡ slice_set old number (Some d))

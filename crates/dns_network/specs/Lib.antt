@@ -1,0 +1,11 @@
+pub mod Framed
+pub mod MemoryStream
+pub mod Stream
+pub mod Connection
+pub mod Connections
+pub mod Datagrams
+pub mod Delivery
+pub mod MemoryNetwork
+pub mod Runs
+pub mod Steps
+pub mod Turn

@@ -1,0 +1,149 @@
+//! A connection: its stream, what came on it and what is to go out.
+ghost use Rattle.std.specs.Prelude.{◌≡◌, ◌≢◌, ◌<◌, ◌==◌, ◌++◌, ◌∷◌, ℕ, List, [], not, false, length, drop};
+ghost use Rattle.std.specs.Prelude.{OnOk, OnErr, IfNone, MatchOption};
+ghost use Rattle.dns_network.specs.Framed.{IsFramed};
+ghost use Rattle.dns_network.specs.Stream.{IfOctets, moved};
+ghost use Rattle.dns_network.specs.Connection.{HasMoved, IsQueued, MovesOn, held_of, unwritten_of, rest_of};
+ghost use Rattle.dns_network.specs.Connection.{stream_of};
+
+use crate::{Framing, Moved, Octets, Outbox, Stream};
+use dns_memory::Heap;
+use std::alloc::AllocError;
+
+/// A connection that is silent for so many seconds, while nothing is left to write, may be closed.
+const SILENCE: u64 = 30;
+
+/// A connection: its stream, the messages that came and weren't handled yet, what is left to write, and the
+/// second in which octets last moved.
+pub struct Connection<S: Stream> {
+    stream: S,
+    framing: Framing,
+    messages: Vec<Octets, Heap>,
+    outbox: Outbox,
+    heard: u64,
+}
+
+// Written out, so that a proof lets one go by one call (docs/GATE.md).
+impl<S: Stream + Drop> Drop for Connection<S> {
+    fn drop(self) {
+        let Connection {
+            stream,
+            framing,
+            messages,
+            outbox,
+            heard: _,
+        } = self;
+        drop((stream, framing, messages, outbox));
+    }
+}
+
+impl<S: Stream + Drop> Connection<S> {
+    /// A connection of which nothing was read and to which nothing was written, in the second `now`.
+    pub fn new(alloc: Heap, stream: S, now: u64) -> Connection<S>
+        ensures stream { stream_of result ≡ stream }
+        ensures left { unwritten_of result ≡ [] }
+        ensures held { held_of result ≡ [] }
+        ensures rest { rest_of result ≡ [] }
+    {
+        Connection {
+            stream,
+            framing: Framing::new(alloc),
+            messages: Vec::new(alloc),
+            outbox: Outbox::new(alloc),
+            heard: now,
+        }
+    }
+
+    /// The stream.
+    pub fn stream_mut(&mut self) -> &mut S {
+        &mut self.stream
+    }
+
+    /// Whether octets are left to write.
+    pub fn has_left(&self) -> bool
+        ensures { result ≡ not (length (unwritten_of self.now) == 0) }
+    {
+        !self.outbox.is_empty()
+    }
+
+    /// Puts a reply after all that is left to write, with its length before it. Where memory is refused it
+    /// isn't there.
+    pub fn push(&mut self, reply: &[u8]) -> Result<(), AllocError>
+        requires { length reply.now < 65536 }
+        ensures queued { OnOk result (IsQueued reply.now self.old self.new) }
+        ensures refused { OnErr result (self.new ≡ self.old) }
+    {
+        self.outbox.push(reply)
+    }
+
+    /// Writes what is left to write, as far as the stream takes it.
+    pub fn write(&mut self, now: u64) -> Moved
+        ensures left { unwritten_of self.new ≡ drop (moved result) (unwritten_of self.old) }
+        // What the stream took and what is left are what they were, in order.
+        ensures moved { HasMoved S.Stream self.old self.new }
+        ensures still { S.is_faithful (stream_of self.old)
+            → S.received (stream_of self.new) ≡ S.received (stream_of self.old) }
+        ensures held { held_of self.new ≡ held_of self.old }
+        ensures rest { rest_of self.new ≡ rest_of self.old }
+    {
+        let moved = self.outbox.write(&mut self.stream);
+        if let Moved::Octets(_) = moved {
+            self.heard = now;
+        }
+        moved
+    }
+
+    /// Reads one piece of the stream into the buffer, and takes the messages that are whole with it; nothing
+    /// is read while octets are left to write, or a whole message is held. Where memory is refused the stream
+    /// has ended.
+    pub fn read(&mut self, alloc: Heap, buffer: &mut [u8], now: u64) -> Moved
+        ensures writes_first { unwritten_of self.old ≢ [] → self.new ≡ self.old }
+        ensures held_first { held_of self.old ≢ [] → self.new ≡ self.old }
+        // The piece that was read follows what was read before, and its messages are held.
+        ensures came { S.is_faithful (stream_of self.old) → IfOctets result
+            ((piece : List ℕ) × (S.received (stream_of self.new) ≡ S.received (stream_of self.old) ++ piece)
+            × IsFramed (rest_of self.old ++ piece) (held_of self.new) (rest_of self.new)) }
+        ensures moved { MovesOn S.Stream result self.old self.new }
+        ensures still { S.is_faithful (stream_of self.old)
+            → S.sent (stream_of self.new) ≡ S.sent (stream_of self.old) }
+        ensures left { unwritten_of self.new ≡ unwritten_of self.old }
+    {
+        if self.has_left() || !self.messages.is_empty() {
+            return Moved::Later;
+        }
+        let moved = self.stream.read(buffer);
+        let Moved::Octets(count) = moved else {
+            return moved;
+        };
+        match self.framing.feed(alloc, &buffer[..count]) {
+            Ok(messages) => {
+                self.messages = messages;
+                self.heard = now;
+                moved
+            }
+            Err(_) => Moved::Ended,
+        }
+    }
+
+    /// The first of the messages that came and weren't handled yet, which is handed over.
+    pub fn next_message(&mut self) -> Option<Octets>
+        ensures first { MatchOption result (held_of self.old ≡ [])
+            (λ m. held_of self.old ≡ m.items ∷ held_of self.new) }
+        ensures left { unwritten_of self.new ≡ unwritten_of self.old }
+        ensures stream { stream_of self.new ≡ stream_of self.old }
+        ensures rest { rest_of self.new ≡ rest_of self.old }
+        ensures none { IfNone result (self.new ≡ self.old) }
+    {
+        if self.messages.is_empty() {
+            return None;
+        }
+        Some(self.messages.remove(0))
+    }
+
+    /// Whether nothing is left to write and for 30 seconds nothing came or went.
+    pub fn is_silent(&self, now: u64) -> bool
+        ensures busy { unwritten_of self.now ≢ [] → result ≡ false }
+    {
+        self.outbox.is_empty() && now.saturating_sub(self.heard) >= SILENCE
+    }
+}

@@ -1,0 +1,395 @@
+//! Turns: what is done with the network, one turn after the other.
+ghost use Rattle.std.specs.Prelude.{◌≡◌, Bool, List, map, replicate, false, None, slice_set, IfOk};
+ghost use Rattle.dns_primary.specs.declared.event.Effects.{Effects as StatedEffects};
+ghost use Rattle.dns_primary.specs.Keeps.{header_out, reply_out};
+ghost use Rattle.dns_primary.specs.Step.{Closed};
+ghost use Rattle.dns_network.specs.Delivery.{AreSent, IsSent, TakesEvent, connections_of, out_of, served};
+ghost use Rattle.dns_network.specs.Turn.{IsTurn, IsWelcomed, MomentsLead, NoneWaits, TurnMoment};
+
+use crate::{Connection, Connections, Moved, Network, Note, Notes, Stream};
+use dns_memory::Heap;
+use dns_primary::{Effects, Event, HeaderTo, Noted, Peer, Primary, Reply, To};
+use dns_store::ZoneStore;
+use dns_zone::ZoneIndex;
+use std::alloc::AllocError;
+
+/// How many octets are read at once. A datagram of over 512 octets is distinguished from shorter ones by its
+/// length.
+const PIECE: usize = 4096;
+
+/// The longest message on a stream (RFC 1035 section 4.2.2).
+const LONGEST: usize = 65535;
+
+/// The connections of a server, and a buffer for what is read.
+pub struct Edge<S: Stream> {
+    connections: Connections<S>,
+    // the numbers of all connections are below it
+    end: usize,
+    // the second in which a visit of each connection last found nothing to do, and since when none has got
+    // something to send
+    rested: Option<u64>,
+    buffer: Vec<u8, Heap>,
+}
+
+// Written out, so that a proof lets one go by one call (docs/GATE.md).
+impl<S: Stream + Drop> Drop for Edge<S> {
+    fn drop(self) {
+        let Edge {
+            connections,
+            end: _,
+            rested: _,
+            buffer,
+        } = self;
+        drop((connections, buffer));
+    }
+}
+
+impl<S: Stream + Drop> Edge<S> {
+    /// No connection. Refused where the memory for the buffer and for the places of connections is.
+    pub fn new(alloc: Heap) -> Result<Edge<S>, AllocError>
+        ensures { IfOk result (λ edge. connections_of edge ≡ replicate 64 None) }
+    {
+        let mut buffer = Vec::new(alloc);
+        buffer.resize(PIECE, 0)?;
+        Ok(Edge {
+            connections: Connections::new(alloc)?,
+            end: 0,
+            rested: None,
+            buffer,
+        })
+    }
+
+    /// The connection with that number.
+    pub fn connection_mut(&mut self, number: usize) -> Option<&mut Connection<S>> {
+        self.connections.get_mut(number)
+    }
+
+    /// After which number there is no connection.
+    fn last_end(&self) -> usize {
+        for number in (0..self.end).rev() {
+            if self.connections.is_open(number) {
+                return number.saturating_add(1);
+            }
+        }
+        0
+    }
+
+    /// Closes a connection: its stream is let go, and what waits to go to it goes nowhere.
+    fn close<I: ZoneIndex, D: ZoneStore, L: Notes>(
+        &mut self,
+        alloc: Heap,
+        primary: &mut Primary<I, D>,
+        notes: &mut L,
+        number: usize,
+    )
+        ensures told { (effects : StatedEffects)
+            × TakesEvent primary.old (Closed number) primary.new effects }
+        ensures gone { connections_of self.new ≡ slice_set (connections_of self.old) number None }
+    {
+        let _nothing = primary.step(alloc, Event::Closed(number));
+        self.connections.remove(number);
+        self.end = self.last_end();
+        notes.note(Note::Closed(number));
+    }
+
+    /// Sends a reply to where it goes, or queues it there. A connection whose reply can't be queued is
+    /// closed.
+    #[inline(always)]
+    fn send<I: ZoneIndex, D: ZoneStore, N: Network<S>, L: Notes>(
+        &mut self,
+        alloc: Heap,
+        network: &mut N,
+        primary: &mut Primary<I, D>,
+        notes: &mut L,
+        to: To,
+        reply: &[u8],
+    )
+        ensures { (cut : Bool) × IsSent N.Network to reply.now cut (served primary.old self.old network.old)
+            (served primary.new self.new network.new) }
+    {
+        match to {
+            To::Address(peer) => network.send(peer, reply),
+            To::Connection(number) => {
+                self.rested = None;
+                if reply.len() > LONGEST {
+                    self.close(alloc, primary, notes, number);
+                } else if let Err(_) = self.connections.push(number, reply) {
+                    notes.note(Note::OutOfMemory);
+                    self.close(alloc, primary, notes, number);
+                }
+            }
+            To::Nowhere => {}
+        }
+    }
+
+    /// Sends the replies that waited, in their order.
+    #[inline(always)]
+    fn send_headers<I: ZoneIndex, D: ZoneStore, N: Network<S>, L: Notes>(
+        &mut self,
+        alloc: Heap,
+        network: &mut N,
+        primary: &mut Primary<I, D>,
+        notes: &mut L,
+        headers: &[HeaderTo],
+    )
+        ensures { AreSent N.Network (map (λ h. header_out h) headers.now)
+            (served primary.old self.old network.old) (served primary.new self.new network.new) }
+    {
+        for header in headers {
+            self.send(alloc, network, primary, notes, header.to, &header.octets);
+        }
+    }
+
+    /// Sends the reply to what came, if there is one.
+    #[inline(always)]
+    fn send_reply<I: ZoneIndex, D: ZoneStore, N: Network<S>, L: Notes>(
+        &mut self,
+        alloc: Heap,
+        network: &mut N,
+        primary: &mut Primary<I, D>,
+        notes: &mut L,
+        reply: &Option<Reply>,
+    )
+        ensures { AreSent N.Network (reply_out reply.now) (served primary.old self.old network.old)
+            (served primary.new self.new network.new) }
+    {
+        if let Some(reply) = reply {
+            let octets = reply.octets.as_slice();
+            self.send(alloc, network, primary, notes, reply.to, octets);
+        }
+    }
+
+    /// Lets the effects of an event happen: the replies that waited in their order, then the one to what
+    /// came; and reports the rest.
+    #[inline(always)]
+    fn deliver<I: ZoneIndex, D: ZoneStore, N: Network<S>, L: Notes>(
+        &mut self,
+        alloc: Heap,
+        network: &mut N,
+        primary: &mut Primary<I, D>,
+        notes: &mut L,
+        effects: Effects,
+    )
+        ensures { AreSent N.Network (out_of effects) (served primary.old self.old network.old)
+            (served primary.new self.new network.new) }
+    {
+        self.send_headers(alloc, network, primary, notes, effects.headers.as_slice());
+        self.send_reply(alloc, network, primary, notes, &effects.message);
+        tell(notes, effects.noted);
+    }
+
+    /// Takes up a connection that a peer made: the primary is told, and it gets its place. One that gets no
+    /// number is closed at once. It is compiled apart, so that a turn in which none comes doesn't pay for it.
+    #[inline(never)]
+    fn welcome<I: ZoneIndex, D: ZoneStore, L: Notes>(
+        &mut self,
+        alloc: Heap,
+        primary: &mut Primary<I, D>,
+        notes: &mut L,
+        stream: S,
+        peer: Peer,
+        now: u64,
+    )
+        ensures { IsWelcomed stream peer primary.old primary.new (connections_of self.old)
+            (connections_of self.new) }
+    {
+        let effects = primary.step(alloc, Event::Connect(peer));
+        tell(notes, effects.noted);
+        let Some(number) = effects.accepted else {
+            return;
+        };
+        notes.note(Note::Opened(number, peer));
+        let connection = Connection::new(alloc, stream, now);
+        if let Err(_) = self.connections.insert(number, connection) {
+            self.close(alloc, primary, notes, number);
+            return;
+        }
+        self.end = self.end.max(number.saturating_add(1));
+        self.rested = None;
+    }
+
+    /// Accepts one connection, if a peer made one.
+    fn accept<I: ZoneIndex, D: ZoneStore, N: Network<S>, L: Notes>(
+        &mut self,
+        alloc: Heap,
+        network: &mut N,
+        primary: &mut Primary<I, D>,
+        notes: &mut L,
+        now: u64,
+    ) -> bool
+        ensures { MomentsLead S.Stream N.Network (served primary.old self.old network.old)
+            (served primary.new self.new network.new) }
+    {
+        let Some((stream, peer)) = network.accept() else {
+            return false;
+        };
+        self.welcome(alloc, primary, notes, stream, peer, now);
+        true
+    }
+
+    /// Reads one datagram, if one came, and lets it be answered.
+    fn receive<I: ZoneIndex, D: ZoneStore, N: Network<S>, L: Notes>(
+        &mut self,
+        alloc: Heap,
+        network: &mut N,
+        primary: &mut Primary<I, D>,
+        notes: &mut L,
+    ) -> bool
+        ensures { MomentsLead S.Stream N.Network (served primary.old self.old network.old)
+            (served primary.new self.new network.new) }
+    {
+        let Some((count, peer)) = network.receive(&mut self.buffer) else {
+            return false;
+        };
+        let effects = primary.step(alloc, Event::Datagram(peer, &self.buffer[..count]));
+        self.deliver(alloc, network, primary, notes, effects);
+        true
+    }
+
+    /// Queues the next message of the transfer that is open on a connection, and answers whether there was
+    /// one. Where memory is refused there was none, and a later pump gives it.
+    fn pump<I: ZoneIndex, D: ZoneStore, N: Network<S>, L: Notes>(
+        &mut self,
+        alloc: Heap,
+        network: &mut N,
+        primary: &mut Primary<I, D>,
+        notes: &mut L,
+        number: usize,
+    ) -> bool
+        ensures { MomentsLead S.Stream N.Network (served primary.old self.old network.old)
+            (served primary.new self.new network.new) }
+    {
+        let effects = primary.step(alloc, Event::Pump(number));
+        let is_sent = effects.message.is_some();
+        self.deliver(alloc, network, primary, notes, effects);
+        is_sent
+    }
+
+    /// Reads one piece of a connection where there is none to handle, and handles one message.
+    fn hear<I: ZoneIndex, D: ZoneStore, N: Network<S>, L: Notes>(
+        &mut self,
+        alloc: Heap,
+        network: &mut N,
+        primary: &mut Primary<I, D>,
+        notes: &mut L,
+        number: usize,
+        now: u64,
+    ) -> bool
+        ensures { MomentsLead S.Stream N.Network (served primary.old self.old network.old)
+            (served primary.new self.new network.new) }
+    {
+        let moved = self.connections.read(alloc, number, &mut self.buffer, now);
+        if let Moved::Ended = moved {
+            self.close(alloc, primary, notes, number);
+            return true;
+        }
+        if let Some(message) = self.connections.next_message(number) {
+            let effects = primary.step(alloc, Event::Message(number, &message));
+            self.deliver(alloc, network, primary, notes, effects);
+            return true;
+        }
+        if self.connections.is_silent(number, now) {
+            self.close(alloc, primary, notes, number);
+            return true;
+        }
+        moved != Moved::Later
+    }
+
+    /// Gives a connection its part of a turn: what is left to write is written; else the next message of a
+    /// transfer is queued; else a piece is read, and a message handled.
+    fn visit<I: ZoneIndex, D: ZoneStore, N: Network<S>, L: Notes>(
+        &mut self,
+        alloc: Heap,
+        network: &mut N,
+        primary: &mut Primary<I, D>,
+        notes: &mut L,
+        number: usize,
+        now: u64,
+    ) -> bool
+        ensures { MomentsLead S.Stream N.Network (served primary.old self.old network.old)
+            (served primary.new self.new network.new) }
+    {
+        if !self.connections.is_open(number) {
+            return false;
+        }
+        if self.connections.has_left(number) {
+            let moved = self.connections.write(number, now);
+            if let Moved::Ended = moved {
+                self.close(alloc, primary, notes, number);
+                return true;
+            }
+            return moved != Moved::Later;
+        }
+        if self.pump(alloc, network, primary, notes, number) {
+            return true;
+        }
+        self.hear(alloc, network, primary, notes, number, now)
+    }
+
+    /// Visits each connection, by rising number, and answers whether one had something to do. Where none had
+    /// in this second, and the network is still, they are not visited again.
+    fn visit_each<I: ZoneIndex, D: ZoneStore, N: Network<S>, L: Notes>(
+        &mut self,
+        alloc: Heap,
+        network: &mut N,
+        primary: &mut Primary<I, D>,
+        notes: &mut L,
+        now: u64,
+    ) -> bool
+        ensures { MomentsLead S.Stream N.Network (served primary.old self.old network.old)
+            (served primary.new self.new network.new) }
+    {
+        if self.rested == Some(now) && network.is_still() {
+            return false;
+        }
+        let mut is_done = false;
+        for number in 0..self.end {
+            if self.visit(alloc, network, primary, notes, number, now) {
+                is_done = true;
+            }
+        }
+        self.rested = if is_done { None } else { Some(now) };
+        is_done
+    }
+
+    /// Makes one turn, in the second `now`, and answers whether anything was done in it: at most one
+    /// connection is accepted and at most one datagram read; each connection has its part, by rising number;
+    /// then there is a flush if a reply waits for one.
+    ///
+    /// A read or a write that would wait does nothing, and one that fails closes its connection. So does
+    /// refused memory.
+    pub fn turn<I: ZoneIndex, D: ZoneStore, N: Network<S>, L: Notes>(
+        &mut self,
+        alloc: Heap,
+        network: &mut N,
+        primary: &mut Primary<I, D>,
+        notes: &mut L,
+        now: u64,
+    ) -> bool
+        ensures turn { (moments : List TurnMoment) × IsTurn S.Stream N.Network moments
+            (served primary.old self.old network.old) (served primary.new self.new network.new) }
+        ensures idle { result ≡ false → NoneWaits primary.new }
+    {
+        let accepted = self.accept(alloc, network, primary, notes, now);
+        let received = self.receive(alloc, network, primary, notes);
+        let visited = self.visit_each(alloc, network, primary, notes, now);
+        let mut is_done = accepted || received || visited;
+        if primary.has_waiting() {
+            network.look();
+            let effects = primary.step(alloc, Event::Flush);
+            self.deliver(alloc, network, primary, notes, effects);
+            network.look();
+            is_done = true;
+        }
+        is_done
+    }
+}
+
+/// Tells what was noted of an event.
+fn tell<L: Notes>(notes: &mut L, noted: Noted) {
+    match noted {
+        Noted::Nothing => {}
+        Noted::OutOfMemory => notes.note(Note::OutOfMemory),
+        Noted::Device(place) => notes.note(Note::Device(place)),
+    }
+}

@@ -1,0 +1,148 @@
+//! A network in memory, for tests.
+ghost use Rattle.std.specs.Prelude.{◌≡◌, ◌≤◌, ◌++◌, ◌∷◌, [], length, map, IfSome, OnOk, OnErr};
+ghost use Rattle.std.specs.Option.{option_map};
+ghost use Rattle.dns_network.specs.MemoryNetwork.{Accepts, Receives, SendsDatagram, SendsNothing, datagrams_from};
+
+use crate::{MemoryStream, Network, Note, Notes, Octets};
+use dns_memory::Heap;
+use dns_primary::Peer;
+use std::alloc::AllocError;
+
+/// A network in memory. What is sent by it is kept, and so is what is reported of turns.
+pub struct MemoryNetwork {
+    alloc: Heap,
+    streams: Vec<(MemoryStream, Peer), Heap>,
+    datagrams: Vec<(Octets, Peer), Heap>,
+    sent: Vec<(Octets, Peer), Heap>,
+    sends_fail: bool,
+}
+
+// Written out, so that a proof lets one go by one call (docs/GATE.md).
+impl Drop for MemoryNetwork {
+    fn drop(self) {
+        let MemoryNetwork {
+            alloc: _,
+            streams,
+            datagrams,
+            sent,
+            sends_fail: _,
+        } = self;
+        drop((streams, datagrams, sent));
+    }
+}
+
+impl MemoryNetwork {
+    /// A network on which nothing came yet.
+    pub fn new(alloc: Heap) -> MemoryNetwork {
+        MemoryNetwork {
+            alloc,
+            streams: Vec::new(alloc),
+            datagrams: Vec::new(alloc),
+            sent: Vec::new(alloc),
+            sends_fail: false,
+        }
+    }
+
+    /// A peer connects, by this stream.
+    pub fn connect(&mut self, stream: MemoryStream, peer: Peer) -> Result<(), AllocError> {
+        self.streams.push((stream, peer))?;
+        Ok(())
+    }
+
+    /// A peer sends a datagram.
+    pub fn give(&mut self, octets: &[u8], peer: Peer) -> Result<(), AllocError> {
+        let octets = Vec::from_slice(self.alloc, octets)?;
+        self.datagrams.push((octets, peer))?;
+        Ok(())
+    }
+
+    /// The datagrams that were sent, in their order, each with its peer.
+    pub fn sent(&self) -> &[(Octets, Peer)]
+        ensures { map (λ d. (d.0.items, d.1)) result.now ≡ datagrams_from self.now }
+    {
+        &self.sent
+    }
+
+    /// From here on datagrams can be sent or not.
+    pub fn set_sends_fail(&mut self, sends_fail: bool) {
+        self.sends_fail = sends_fail;
+    }
+
+    // Keeps a datagram that is sent.
+    fn keep(&mut self, octets: &[u8], peer: Peer) -> Result<(), AllocError>
+        ensures kept { OnOk result
+            (datagrams_from self.new ≡ datagrams_from self.old ++ (octets.now, peer) ∷ []) }
+        ensures refused { OnErr result (datagrams_from self.new ≡ datagrams_from self.old) }
+    {
+        let octets = Vec::from_slice(self.alloc, octets)?;
+        self.sent.push((octets, peer))?;
+        Ok(())
+    }
+}
+
+impl Network<MemoryStream> for MemoryNetwork {
+    ghost accepts = { Accepts };
+
+    ghost receives = { Receives };
+
+    ghost sends = { SendsDatagram };
+
+    ghost looks = { SendsNothing };
+
+    fn accept(&mut self) -> Option<(MemoryStream, Peer)> {
+        if self.streams.is_empty() {
+            return None;
+        }
+        Some(self.streams.remove(0))
+    }
+
+    fn receive(&mut self, into: &mut [u8]) -> Option<(usize, Peer)> {
+        if self.datagrams.is_empty() {
+            return None;
+        }
+        let (octets, peer) = self.datagrams.remove(0);
+        let count = octets.len().min(into.len());
+        into[..count].copy_from_slice(&octets[..count]);
+        Some((count, peer))
+    }
+
+    fn send(&mut self, to: Peer, octets: &[u8]) {
+        if !self.sends_fail {
+            let _kept = self.keep(octets, to);
+        }
+    }
+
+    fn look(&mut self) {}
+
+    fn is_still(&self) -> bool {
+        false
+    }
+
+    fn wait(&mut self) {}
+}
+
+/// Notes in memory, for tests: one that memory is refused for is dropped.
+#[derive(Drop)]
+pub struct MemoryNotes {
+    notes: Vec<Note, Heap>,
+}
+
+impl MemoryNotes {
+    /// No note.
+    pub fn new(alloc: Heap) -> MemoryNotes {
+        MemoryNotes {
+            notes: Vec::new(alloc),
+        }
+    }
+
+    /// The notes, in their order.
+    pub fn as_slice(&self) -> &[Note] {
+        &self.notes
+    }
+}
+
+impl Notes for MemoryNotes {
+    fn note(&mut self, note: Note) {
+        let _kept = self.notes.push(note);
+    }
+}

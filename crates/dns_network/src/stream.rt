@@ -1,0 +1,45 @@
+//! A stream of octets as the edge needs it: reads and writes that don't wait.
+ghost use Rattle.std.specs.Prelude.{◌≡◌, ◌≤◌, ◌↔◌, ◌++◌, List, ℕ, length, take};
+ghost use Rattle.dns_network.specs.Stream.{moved};
+
+/// What became of a read or a write.
+#[derive(Clone, Copy, Debug, PartialEq, Eq)]
+pub enum Moved {
+    /// So many octets moved.
+    Octets(usize),
+    /// None could without waiting.
+    Later,
+    /// None will any more: the stream ended, or failed.
+    Ended,
+}
+
+/// A stream of octets in both directions, of which no call waits.
+///
+/// What moved is known of a *faithful* stream; each clause of that has it as its premise, so that a call is
+/// safe on any. That a socket is faithful is assumed wherever a fact about it is used, and is proved nowhere.
+pub trait Stream {
+    /// The octets that were read from it so far.
+    ghost received: { Self → List ℕ };
+
+    /// The octets that it took so far.
+    ghost sent: { Self → List ℕ };
+
+    /// The stream behaves as its model says.
+    ghost is_faithful: { Self → Type 0 };
+
+    /// Reads octets that came, as many as there are and as there is room for.
+    fn read(&mut self, into: &mut [u8]) -> Moved
+        ensures few { moved result ≤ length into.new }
+        ensures came { is_faithful self.old
+            → received self.new ≡ received self.old ++ take (moved result) into.new }
+        ensures still { is_faithful self.old → sent self.new ≡ sent self.old }
+        ensures faithful { is_faithful self.new ↔ is_faithful self.old };
+
+    /// Hands octets over, and answers how many of them were taken, from the front.
+    fn write(&mut self, octets: &[u8]) -> Moved
+        ensures few { moved result ≤ length octets.now }
+        ensures went { is_faithful self.old
+            → sent self.new ≡ sent self.old ++ take (moved result) octets.now }
+        ensures still { is_faithful self.old → received self.new ≡ received self.old }
+        ensures faithful { is_faithful self.new ↔ is_faithful self.old };
+}

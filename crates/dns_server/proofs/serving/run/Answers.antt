@@ -1,0 +1,18 @@
+use Rattle.dns_network.specs.Delivery.{connections_of, served}
+use Rattle.dns_server.specs.ServedTurns.{served_at_start}
+use Rattle.dns_server.proofs.Turned.{paused, turned}
+use Rattle.dns_server.proofs.serving.run.Goals as goal
+
+pub loop-turn-preserved : goal.loop-turn-preserved
+loop-turn-preserved g c =
+    let s = g.S.Stream in
+    let n = g.N.Network in
+    turned s n c.loop-turn.turn (served_at_start c.args.primary.now c.args.network.now)
+    (served c.loop-turn.primary c.loop-turn.edge c.loop-turn.network)
+    (served c.loop-turn.primary c.loop-turn.edge c.glance-now.new.network)
+    (served c.turn-is_done.new.primary c.turn-is_done.new.self c.turn-is_done.new.network)
+    (served c.turn-is_done.new.primary c.turn-is_done.new.self c.rest-now.new.network)
+    c.loop-turn.invariant
+    (paused s n c.loop-turn.primary (connections_of c.loop-turn.edge) c.loop-turn.network c.glance-now.new.network c.glance-now.ensures)
+    c.turn-is_done.ensures.turn
+    (paused s n c.turn-is_done.new.primary (connections_of c.turn-is_done.new.self) c.turn-is_done.new.network c.rest-now.new.network c.rest-now.ensures)

@@ -1,0 +1,14 @@
+use Rattle.std.proofs.Common.{ℕ}
+use Rattle.dns_server.proofs.Ended.{unwrapped}
+use Rattle.dns_server.specs.Serve.{ServingEnds}
+use Rattle.dns_server.proofs.Served.{serving_failed}
+use Rattle.dns_server.proofs.serving.serve.Goals as goal
+
+pub returns : goal.returns
+returns g c =
+    let opened = g.F.Devices.opened c.args.devices.now in
+    let config = c.args.config.now in
+    let err = g.E.Write.contents c.args.err.now in
+    let err_after = g.E.Write.contents c.serve_all.new.err in
+    unwrapped (λ (status : ℕ). ServingEnds g.D.Sectors opened config c.args.turns c.args.explain err err_after status) c.serve_all.result c.unwrap_or.result c.unwrap_or.ensures c.serve_all.ensures
+    (serving_failed g.D.Sectors opened config c.args.turns c.args.explain err err_after)

@@ -1,0 +1,43 @@
+-- What is done to a primary while it is served.
+use Rattle.std.specs.Prelude.{◌≡◌, ◌⊎◌, ℕ, List, length, Option, None, replicate}
+use Rattle.dns_network.specs.declared.connection.Connection.{Connection}
+use Rattle.dns_network.specs.declared.stream.Stream as stream
+use Rattle.dns_zone.specs.declared.index.ZoneIndex as index
+use Rattle.dns_store.specs.declared.zone_store.ZoneStore as store
+use Rattle.dns_primary.specs.declared.primary.Primary.{Primary}
+use Rattle.dns_primary.specs.Machine.{Machine}
+use Rattle.dns_primary.specs.Runs.{Moment}
+use Rattle.dns_network.specs.declared.network.Network.{Ghosts}
+use Rattle.dns_network.specs.Delivery.{Served}
+use Rattle.dns_network.specs.Turn.{TurnMoment, AreTurns}
+use Rattle.dns_network.specs.Runs.{IsRunOf, told_by}
+
+-- A network looked what came meanwhile, or waited, or nothing was done.
+abbrev pub HasPaused : {S N : Type 0} → Ghosts N S → N → N → Type 0
+HasPaused n old new = (new ≡ old) ⊎ n.looks old new
+
+module _ {I D S N : Type 0} {i : index.Ghosts I} {d : store.Ghosts D} where
+  -- A primary before the first connection.
+  abbrev pub served_at_start : Primary I D i d → N → Served I D S N i d
+  served_at_start primary network =
+      record { primary = primary; connections = replicate 64 None; network = network }
+
+  -- A primary is served over a network, from no connection on: so many turns are made, and nothing else is
+  -- done to it.
+  pub record IsServedOn (s : stream.Ghosts S) (n : Ghosts N S) (count : ℕ) (old : Primary I D i d)
+      (network : N) (new : Primary I D i d) (network' : N) : Type 0 where
+    pub connections : List (Option (Connection S))
+    pub turns : List (List TurnMoment)
+    pub many : length turns ≡ count
+    pub made : AreTurns s n turns (served_at_start old network)
+        (record { primary = new; connections = connections; network = network' })
+
+-- The events of these turns are those of a run from this machine.
+abbrev pub HaveRun : List (List TurnMoment) → Machine → Type 0
+HaveRun turns m = (run : List Moment) × IsRunOf (told_by turns) m run
+
+-- So many turns were made, and whichever machine was kept before them, their events are those of a run from
+-- it.
+abbrev pub HasTurned : ℕ → (Machine → Type 0) → Type 0
+HasTurned count keeps =
+    (turns : List (List TurnMoment)) × (length turns ≡ count) × ((m : Machine) → keeps m → HaveRun turns m)

@@ -1,0 +1,48 @@
+//! What a server reports of its turns.
+ghost use Rattle.std.specs.Prelude.{OnOk};
+ghost use Rattle.std.specs.Io.KnownBytes.{Appends};
+ghost use Rattle.dns_server.specs.Log.{note_line};
+
+use dns_names::Name;
+use dns_network::{Note, Notes};
+use dns_policy::print_address;
+use std::io::{self, Write};
+
+/// Lines of a log: one for each note. One that can't be written is left out.
+#[derive(Drop)]
+pub(crate) struct Log<'a, E: Write> {
+    pub(crate) err: &'a mut E,
+    /// The names of the zones, by their positions.
+    pub(crate) origins: &'a [Name],
+}
+
+impl<E: Write> Log<'_, E> {
+    /// Writes the line of a note.
+    fn line(&mut self, note: Note) -> io::Result<()>
+        ensures written { OnOk result
+            (Appends (E.contents self.old.err.now) (E.contents self.new.err.now)
+            (note_line self.old.origins.now note)) }
+    {
+        match note {
+            Note::Opened(number, peer) => {
+                writeln!(
+                    self.err,
+                    "conn {number} open {}",
+                    print_address(peer.address)
+                )
+            }
+            Note::Closed(number) => writeln!(self.err, "conn {number} closed"),
+            Note::OutOfMemory => writeln!(self.err, "out of memory"),
+            Note::Device(place) => match self.origins.get(place) {
+                Some(origin) => writeln!(self.err, "device {origin}"),
+                None => Ok(()),
+            },
+        }
+    }
+}
+
+impl<E: Write> Notes for Log<'_, E> {
+    fn note(&mut self, note: Note) {
+        let _written = self.line(note);
+    }
+}

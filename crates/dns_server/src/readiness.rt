@@ -1,0 +1,145 @@
+//! Which connections may have something to read, and which may take what is written, as events reported.
+ghost use Rattle.std.specs.Prelude.{◌≤◌};
+
+use dns_memory::Heap;
+use std::cell::Cell;
+use std::rc::Rc;
+
+/// A set of numbers below 128, each a bit. Its contents change pending a `&`.
+#[derive(Drop)]
+struct Bits(Cell<u128>);
+
+impl Bits {
+    /// None.
+    fn new() -> Bits {
+        Bits(Cell::new(0))
+    }
+
+    /// Whether this bit is in it.
+    fn has(&self, bit: u128) -> bool {
+        self.0.get() & bit != 0
+    }
+
+    /// Puts this bit into it.
+    fn set(&self, bit: u128) {
+        self.0.set(self.0.get() | bit);
+    }
+
+    /// Takes this bit out of it.
+    fn clear(&self, bit: u128) {
+        self.0.set(self.0.get() & !bit);
+    }
+
+    /// The least bit that isn't in it, if there is one.
+    fn free(&self) -> Option<u128> {
+        1_u128.checked_shl(self.0.get().trailing_ones())
+    }
+}
+
+/// What may be ready of all connections, each of which has a number. They share it with the one that takes up
+/// events.
+///
+/// The system reports each change once, and keeps it until events are taken up. So a connection of which a
+/// read said that it would wait has nothing more to read before its next event; and likewise for a write.
+#[derive(Drop)]
+pub(crate) struct Readiness {
+    /// The numbers that connections have.
+    taken: Bits,
+    /// Those where no read said that it would wait since the last event.
+    may_read: Bits,
+    /// Those where no write said so.
+    may_write: Bits,
+}
+
+impl Readiness {
+    /// That of no connection.
+    pub(crate) fn new() -> Readiness {
+        Readiness {
+            taken: Bits::new(),
+            may_read: Bits::new(),
+            may_write: Bits::new(),
+        }
+    }
+
+    /// Whether on each connection both the last read and the last write said that it would wait. One that has
+    /// octets to write isn't read, and one that has none isn't written to: so one that is ready for either is
+    /// counted as ready until an event or a call tells more.
+    pub(crate) fn is_still(&self) -> bool {
+        self.taken.0.get() & self.may_read.0.get() & self.may_write.0.get() == 0
+    }
+
+    /// Takes up an event of the connection with this number: it may be ready for both.
+    ///
+    /// An event of an earlier connection with the same number does no harm: it only lets a call be tried that
+    /// finds nothing. No event ever says that a connection isn't ready.
+    pub(crate) fn wake(&self, number: usize) {
+        let Ok(number) = u32::try_from(number) else {
+            return;
+        };
+        if let Some(bit) = 1_u128.checked_shl(number) {
+            self.may_both(bit);
+        }
+    }
+
+    /// Lets both a read and a write be tried on the connection with this bit.
+    fn may_both(&self, bit: u128) {
+        self.may_read.set(bit);
+        self.may_write.set(bit);
+    }
+}
+
+/// The number of a connection among all. It is free again when this is let go.
+pub(crate) struct Place {
+    readiness: Rc<Readiness, Heap>,
+    bit: u128,
+}
+
+impl Place {
+    /// The least number that is free. Both a read and a write may find something to do there. There is none
+    /// while 128 are taken.
+    pub(crate) fn new(readiness: Rc<Readiness, Heap>) -> Option<Place> {
+        let bit = readiness.taken.free()?;
+        readiness.taken.set(bit);
+        readiness.may_both(bit);
+        Some(Place { readiness, bit })
+    }
+
+    /// The number.
+    pub(crate) fn number(&self) -> usize
+        ensures { result ≤ 128 }
+    {
+        self.bit.trailing_zeros() as usize
+    }
+
+    /// Whether a read may find something.
+    pub(crate) fn may_read(&self) -> bool {
+        self.readiness.may_read.has(self.bit)
+    }
+
+    /// Whether a write may find room.
+    pub(crate) fn may_write(&self) -> bool {
+        self.readiness.may_write.has(self.bit)
+    }
+
+    /// Notes that a read said that it would wait. Nothing else that a read answers says that there is nothing
+    /// more.
+    pub(crate) fn note_read_waits(&self) {
+        self.readiness.may_read.clear(self.bit);
+    }
+
+    /// Notes that a write said that it would wait. Nothing else that a write answers says that there is no
+    /// room.
+    pub(crate) fn note_write_waits(&self) {
+        self.readiness.may_write.clear(self.bit);
+    }
+}
+
+impl Drop for Place {
+    fn drop(self) {
+        self.readiness.taken.clear(self.bit);
+        let Place {
+            readiness: _readiness,
+            bit: _,
+        } = self;
+    }
+}

@@ -1,0 +1,285 @@
+//! A server over devices and sockets.
+ghost use Rattle.std.specs.Prelude.{◌≡◌, ◌⊎◌, IfOk};
+ghost use Rattle.dns_server.specs.Serve.{IsRefusalTold, ServingEnds};
+ghost use Rattle.dns_server.specs.ServedTurns.{HasPaused, HasTurned, IsServedOn};
+ghost use Rattle.dns_primary.specs.Keeps.{IsKept};
+
+use crate::log::Log;
+use crate::opening::{Refusal, open_primary};
+use crate::sockets::Sockets;
+use crate::{Devices, tell_device};
+use dns_configuration::{DONE, FAILED, File, ZoneSettings, origins_of, read_configuration, tell};
+use dns_memory::Heap;
+use dns_names::Name;
+use dns_network::{Edge, Network, Notes, Stream};
+use dns_primary::Primary;
+use dns_sectors::Sectors;
+use dns_store::ZoneStore;
+use dns_zone::{Zone, ZoneIndex};
+use std::alloc::Global;
+use std::io::{self, Write};
+use std::net::{Net, SocketAddr};
+use std::time::{Clock, Instant};
+
+/// In which turns the clock and the events of sockets are looked at, besides those after a wait: each one of
+/// so many.
+const GLANCE: u32 = 32;
+
+/// Tells which version of a zone is shown.
+fn tell_zone<I: ZoneIndex, E: Write>(
+    err: &mut E,
+    origin: &Name,
+    version: u64,
+    zone: &Zone<I>,
+) -> io::Result<()> {
+    let serial = zone.soa().serial();
+    writeln!(err, "zone {origin} version {version} serial {serial}")
+}
+
+/// Tells which version of each zone is shown.
+fn tell_zones<I: ZoneIndex, S: ZoneStore, E: Write>(
+    err: &mut E,
+    primary: &Primary<I, S>,
+    origins: &[Name],
+) -> io::Result<()> {
+    for place in 0..origins.len() {
+        if let Some((version, zone)) = primary.shown(place) {
+            tell_zone(err, &origins[place], version, zone)?;
+        }
+    }
+    Ok(())
+}
+
+/// The seconds since the start, or those before where the clock fails.
+fn seconds<R: Clock>(rt: &R, start: &Instant, before: u64) -> u64 {
+    match start.elapsed(rt) {
+        Ok(passed) => passed.as_secs(),
+        Err(_) => before,
+    }
+}
+
+/// Looks what came in each so-many-th turn, and gives the seconds since the start.
+fn glance<R: Clock, S, N: Network<S>>(
+    rt: &R,
+    start: &Instant,
+    network: &mut N,
+    turn: u32,
+    now: u64,
+) -> u64
+    ensures { HasPaused N.Network network.old network.new }
+{
+    if turn % GLANCE != 0 {
+        return now;
+    }
+    network.look();
+    seconds(rt, start, now)
+}
+
+/// Waits until something may have come, where nothing was done, and gives the seconds since the start.
+fn rest<R: Clock, S, N: Network<S>>(
+    rt: &R,
+    start: &Instant,
+    network: &mut N,
+    is_done: bool,
+    now: u64,
+) -> u64
+    ensures { HasPaused N.Network network.old network.new }
+{
+    if is_done {
+        return now;
+    }
+    network.wait();
+    seconds(rt, start, now)
+}
+
+/// Makes so many turns, and waits after each one in which nothing was done.
+fn run<R: Clock, I: ZoneIndex, D: ZoneStore, S: Stream + Drop, N: Network<S>, L: Notes>(
+    heap: Heap,
+    rt: &R,
+    primary: &mut Primary<I, D>,
+    network: &mut N,
+    notes: &mut L,
+    turns: u32,
+) -> io::Result<()>
+    ensures { IfOk result
+        (λ _. IsServedOn S.Stream N.Network turns primary.old network.old primary.new network.new) }
+{
+    let mut edge: Edge<S> = Edge::new(heap)?;
+    let start = Instant::now(rt)?;
+    let mut now = 0;
+    for turn in 0..turns {
+        now = glance(rt, &start, network, turn, now);
+        let is_done = edge.turn(heap, network, primary, notes, now);
+        now = rest(rt, &start, network, is_done, now);
+    }
+    Ok(())
+}
+
+/// Listens on an address, and makes so many turns.
+fn listen<R: Net + Clock, I: ZoneIndex, S: ZoneStore, E: Write>(
+    heap: Heap,
+    rt: &R,
+    primary: &mut Primary<I, S>,
+    origins: &[Name],
+    address: SocketAddr,
+    turns: u32,
+    err: &mut E,
+) -> io::Result<u8>
+    ensures { IfOk result (λ status. (status ≡ FAILED)
+        ⊎ ((status ≡ DONE) × HasTurned turns (λ m. IsKept primary.old m))) }
+{
+    let Ok(mut sockets) = Sockets::bind(heap, rt, address) else {
+        writeln!(err, "{address}: Unavailable")?;
+        return Ok(FAILED);
+    };
+    writeln!(err, "listening on {address}")?;
+    let mut log = Log { err, origins };
+    run(heap, rt, primary, &mut sockets, &mut log, turns)?;
+    Ok(DONE)
+}
+
+/// Tells which versions are shown, listens, and makes so many turns.
+fn serve_primary<R: Net + Clock, I: ZoneIndex, S: ZoneStore, E: Write>(
+    heap: Heap,
+    rt: &R,
+    primary: Primary<I, S>,
+    origins: &[Name],
+    address: SocketAddr,
+    turns: u32,
+    err: &mut E,
+) -> io::Result<u8>
+    ensures { IfOk result (λ status. (status ≡ FAILED)
+        ⊎ ((status ≡ DONE) × HasTurned turns (λ m. IsKept primary m))) }
+{
+    let mut primary = primary;
+    tell_zones(err, &primary, origins)?;
+    listen(heap, rt, &mut primary, origins, address, turns, err)
+}
+
+/// What a server has besides a primary: the names of its zones, the address on which it listens, how many
+/// turns it makes, and where its log goes.
+#[derive(Drop)]
+struct Service<'a, R, E> {
+    heap: Heap,
+    rt: &'a R,
+    origins: &'a [Name],
+    address: SocketAddr,
+    turns: u32,
+    err: &'a mut E,
+}
+
+/// What can be served so. (A call that names both a store over a device and the memory of every collection
+/// has no proof, so that the service is a type parameter.)
+trait Servable<S> {
+    /// All turns of a service were made of it.
+    ghost is_served: { Self → S → Type 0 };
+
+    /// Serves it, and gives the exit status.
+    fn serve_as(self, service: &mut S) -> u8
+        ensures { (result ≡ FAILED) ⊎ ((result ≡ DONE) × is_served self service.old) };
+}
+
+impl<R: Net + Clock, I: ZoneIndex, S: ZoneStore, E: Write> Servable<Service<'_, R, E>>
+    for Primary<I, S> {
+    ghost is_served = { λ primary service. HasTurned service.turns (λ m. IsKept primary m) };
+
+    fn serve_as(self, service: &mut Service<'_, R, E>) -> u8 {
+        serve_primary(
+            service.heap,
+            service.rt,
+            self,
+            service.origins,
+            service.address,
+            service.turns,
+            service.err,
+        )
+        .unwrap_or(FAILED)
+    }
+}
+
+/// Serves a primary, and gives the exit status.
+fn serve_as<S, P: Servable<S>>(primary: P, service: &mut S) -> u8
+    ensures { (result ≡ FAILED) ⊎ ((result ≡ DONE) × P.is_served primary service.old) }
+{
+    primary.serve_as(service)
+}
+
+/// Tells which device is refused, and gives the exit status.
+fn tell_refusal<E: Write>(
+    err: &mut E,
+    zones: &[ZoneSettings],
+    refusal: Refusal,
+    explain: bool,
+) -> io::Result<u8>
+    ensures { IfOk result
+        (λ status. IsRefusalTold zones.now refusal.place refusal.fault explain (E.contents err.old)
+        (E.contents err.new) status) }
+{
+    match zones.get(refusal.place) {
+        Some(own) => tell_device(err, &own.device, refusal.fault, explain),
+        None => Ok(FAILED),
+    }
+}
+
+/// Opens the stores of all zones and serves them, and gives the exit status.
+fn serve_all<D: Sectors + Drop, F: Devices<D>, I: ZoneIndex, R: Net + Clock, E: Write>(
+    alloc: Global,
+    heap: Heap,
+    rt: &R,
+    devices: &F,
+    config: &File<'_>,
+    turns: u32,
+    explain: bool,
+    err: &mut E,
+) -> io::Result<u8>
+    ensures { IfOk result
+        (λ status. ServingEnds D.Sectors (F.opened devices.now) config.now turns explain (E.contents err.old)
+        (E.contents err.new) status) }
+{
+    let configuration = match read_configuration(alloc, heap, config) {
+        Ok(configuration) => configuration,
+        Err(fault) => return tell(err, config.path, fault),
+    };
+    let origins = origins_of(heap, &configuration.zones)?;
+    match open_primary::<D, F, I>(heap, devices, &configuration.zones, &origins) {
+        Ok(primary) => {
+            let mut service = Service {
+                heap,
+                rt,
+                origins: &origins,
+                address: configuration.listen,
+                turns,
+                err,
+            };
+            Ok(serve_as(primary, &mut service))
+        }
+        Err(refusal) => tell_refusal(err, &configuration.zones, refusal, explain),
+    }
+}
+
+/// Opens the stores of a configuration's zones, each in its device, and serves them on its address by UDP and
+/// TCP for so many turns. A log goes to `err`: `zone ORIGIN version V serial M` for each zone,
+/// `listening on ADDRESS`, and then `conn N open ADDRESS`, `conn N closed`, `out of memory` and
+/// `device ORIGIN` as they come.
+///
+/// Faults are reported in one line, the first in this order: the configuration, the devices (of which, if it
+/// is wanted, a second line says what can be done), the address (`ADDRESS: Unavailable`). Gives the exit
+/// status: `DONE`, `REFUSED`, or `FAILED` where a device or the address can't be had, a writer failed or
+/// memory was refused.
+pub fn serve<D: Sectors + Drop, F: Devices<D>, I: ZoneIndex, R: Net + Clock, E: Write>(
+    alloc: Global,
+    heap: Heap,
+    rt: &R,
+    devices: &F,
+    config: &File<'_>,
+    turns: u32,
+    explain: bool,
+    err: &mut E,
+) -> u8
+    ensures { ServingEnds D.Sectors (F.opened devices.now) config.now turns explain (E.contents err.old)
+        (E.contents err.new) result }
+{
+    serve_all::<D, F, I, R, E>(alloc, heap, rt, devices, config, turns, explain, err).unwrap_or(
+        FAILED,
+    )
+}

@@ -1,3 +1,0 @@
-pub mod Known
-pub mod Served
-pub mod Turned

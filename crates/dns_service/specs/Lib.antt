@@ -1,3 +1,0 @@
-pub mod Opening
-pub mod Serving
-pub mod Turns

@@ -1,5 +1,0 @@
-mod Leads
-mod ReadAhead
-pub mod Running
-pub mod Steps
-mod Taken

@@ -1,6 +1,0 @@
-use Rattle.std.proofs.Common.{map, take}
-use Rattle.dns_turns.specs.Datagrams.{HaveGone, stands_in}
-use Rattle.dns_turns.proofs.datagrams.Queue.send.Given as goal
-
-abbrev pub invariant-loop-datagram : goal.invariant-loop-datagram
-invariant-loop-datagram g l = HaveGone g.S.DatagramSocket (map stands_in (take l.datagram-index l.datagram-items)) l.initial.socket l.socket

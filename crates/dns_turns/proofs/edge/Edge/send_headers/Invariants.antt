@@ -1,9 +1,0 @@
-use Rattle.std.proofs.Common.{map, take}
-use Rattle.dns_primary.specs.Keeps.{header_out}
-use Rattle.dns_turns.specs.Delivery.{AreSent, served}
-use Rattle.dns_turns.proofs.edge.Edge.send_headers.Given as goal
-
-abbrev pub invariant-loop-header : goal.invariant-loop-header
-invariant-loop-header g l =
-    AreSent g.N.Network (map (λ h. header_out h) (take l.header-index l.headers))
-    (served l.initial.primary l.initial.self l.initial.network) (served l.primary l.self l.network)

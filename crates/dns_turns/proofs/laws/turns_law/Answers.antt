@@ -1,5 +1,0 @@
-use Rattle.dns_turns.proofs.Running.{turns_run}
-use Rattle.dns_turns.proofs.laws.turns_law.Goals as goal
-
-pub returns : goal.returns
-returns g c = turns_run g.S.Stream g.N.Network

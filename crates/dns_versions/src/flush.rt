@@ -1,0 +1,78 @@
+//! The flush of zones: their stores are flushed, and what was staged is shown.
+ghost use Rattle.std.specs.Prelude.{◌≡◌, ◌⊎◌, ◌<◌, List, ◌∷◌, [], ◌++◌, Bool, true, false, length};
+ghost use Rattle.dns_sectors.specs.Device.{LeavesOnly};
+ghost use Rattle.dns_store.specs.Versions.{Kept, OpensAsLeft};
+ghost use Rattle.dns_versions.specs.Each.{Each3};
+ghost use Rattle.dns_versions.specs.Held.{HasVersions, newer, newest_each};
+ghost use Rattle.dns_versions.specs.Flush.{IsCounted, FailedWhere, kept_after_flush, flushed_to, first_true};
+
+use crate::PendingZone;
+use dns_store::{FlushError, ZoneStore};
+use dns_zone::{Zone, ZoneIndex};
+
+/// Makes the staged versions of a zone durable and shows the newest, unless its device fails. Answers whether
+/// it failed. A zone whose device failed before stays as it is.
+pub fn flush_zone<I: ZoneIndex, S: ZoneStore>(
+    zone: &mut Zone<I>,
+    pending: &mut PendingZone<I, S>,
+) -> bool
+    ensures held { (k : Kept)
+        → HasVersions S.keeps zone.old pending.old k
+        → HasVersions S.keeps zone.new pending.new (kept_after_flush result k) }
+    // A crash at any moment of it leaves a device that opens as the versions shown and some of those staged.
+    ensures any_moment { (k : Kept)
+        → S.keeps pending.old.store k
+        → LeavesOnly S.moment S.left_since pending.old.store pending.new.store (OpensAsLeft S.opens k) }
+    ensures failed { IsCounted result (S.failed pending.old.store) (S.failed pending.new.store) }
+    ensures open { (k : Kept) → HasVersions S.keeps zone.old pending.old k
+        → result ≡ true → k.closed ≡ false }
+    ensures newest { newer zone.new pending.new.tip ≡ newer zone.old pending.old.tip }
+{
+    match pending.store.flush() {
+        Ok(()) => {
+            if let Some(tip) = pending.tip.take() {
+                *zone = tip;
+            }
+            pending.number = pending.store.newest();
+            false
+        }
+        Err(FlushError::Device) => true,
+        Err(FlushError::Closed) => false,
+    }
+}
+
+/// The position of the first failure, where it is known of one position more whether it failed.
+fn first_failure(first: Option<usize>, failed: bool, place: usize) -> Option<usize>
+    ensures { (fails : List Bool) → first ≡ first_true fails → place ≡ length fails
+        → result ≡ first_true (fails ++ failed ∷ []) }
+{
+    match first {
+        Some(earlier) => Some(earlier),
+        None => { if failed { Some(place) } else { None } }
+    }
+}
+
+/// Flushes all zones in order. Answers the position of the first whose device failed.
+pub fn flush_all<I: ZoneIndex, S: ZoneStore>(
+    zones: &mut [Zone<I>],
+    pending: &mut [PendingZone<I, S>],
+) -> Option<usize>
+    requires { length zones.old ≡ length pending.old }
+    ensures held { (ks : List Kept) → Each3 (λ z b k. HasVersions S.keeps z b k) zones.old pending.old ks
+        → (fails : List Bool) × (length fails ≡ length ks)
+        × Each3 (λ z b k. HasVersions S.keeps z b k) zones.new pending.new (flushed_to fails ks)
+        × (result ≡ first_true fails)
+        × FailedWhere (λ b. S.failed b.store) fails pending.old pending.new }
+    ensures any_moment { (ks : List Kept)
+        → Each3 (λ z b k. HasVersions S.keeps z b k) zones.old pending.old ks
+        → Each3 (λ a b k. LeavesOnly S.moment S.left_since a.store b.store (OpensAsLeft S.opens k))
+        pending.old pending.new ks }
+    ensures newest { newest_each zones.new pending.new ≡ newest_each zones.old pending.old }
+{
+    let mut first = None;
+    for i in 0..pending.len() {
+        let failed = flush_zone(&mut zones[i], &mut pending[i]);
+        first = first_failure(first, failed, i);
+    }
+    first
+}
