@@ -15,8 +15,8 @@ pub enum Task<'a> {
     Init(&'a str),
     /// `dump CONFIG ORIGIN`
     Dump(&'a str, &'a str),
-    /// `load CONFIG ORIGIN`
-    Load(&'a str, &'a str),
+    /// `load CONFIG ORIGIN`, and whether what it would change is printed alone (`--dry-run`)
+    Load(&'a str, &'a str, bool),
     /// `migrate CONFIG`
     Migrate(&'a str),
     /// `serve CONFIG --turns N`
@@ -110,7 +110,12 @@ fn load_command<'a>(alloc: Global) -> Result<Command<'a>, Error> {
     let about =
         "Makes a zone's master file the next version of what its device keeps; not while it is served";
     let command = of_one_word(alloc, "load", about, config(alloc))?;
-    Ok(command.arg(origin(alloc))?)
+    let command = command.arg(origin(alloc))?;
+    let dry_run = Arg::new(alloc, "dry-run")
+        .long("dry-run")
+        .action(ArgAction::SetTrue)
+        .help("Prints the records that would go and come, and loads none");
+    Ok(command.arg(dry_run)?)
 }
 
 fn migrate_command<'a>(alloc: Global) -> Result<Command<'a>, Error> {
@@ -165,7 +170,10 @@ fn task_of<'a>(name: &str, inner: &ArgMatches<'a>) -> Option<Task<'a>> {
         "replay" => Some(Task::Replay(inner.get_str("CONFIG")?, inner.get_str("SCRIPT")?)),
         "init" => Some(Task::Init(inner.get_str("CONFIG")?)),
         "dump" => Some(Task::Dump(inner.get_str("CONFIG")?, inner.get_str("ORIGIN")?)),
-        "load" => Some(Task::Load(inner.get_str("CONFIG")?, inner.get_str("ORIGIN")?)),
+        "load" => {
+            let dry_run = inner.get_flag("dry-run");
+            Some(Task::Load(inner.get_str("CONFIG")?, inner.get_str("ORIGIN")?, dry_run))
+        }
         "migrate" => Some(Task::Migrate(inner.get_str("CONFIG")?)),
         "serve" => {
             let turns = inner.get_str("turns")?.parse().ok()?;

@@ -1,7 +1,7 @@
 -- A transfer that is opened in a run is followed.
-use Rattle.std.proofs.Common.{◌≡◌, ◌+◌, ◌<◌, ◌≤◌, ◌^◌, ◌⊎◌, inl, inr, ⊎_elim, ℕ, zero, suc, Bool, true, false, List, [], ◌∷◌, ◌++◌, length, map, take, drop, Option, Some, None, refl, sym, ap, subst, ◌∙◌, arith, append_assoc, append-nil}
+use Rattle.std.proofs.Common.{◌≡◌, ◌+◌, ◌<◌, ◌≤◌, ◌^◌, ◌⊎◌, inl, inr, ⊎_elim, ℕ, zero, suc, Bool, true, false, List, [], ◌∷◌, ◌++◌, length, map, take, drop, get_or, Option, Some, None, refl, sym, ap, subst, ◌∙◌, arith, append_assoc, append-nil}
 use Rattle.std.specs.Prelude.{◌==◌, slice_get, option_map, if◌then◌else◌}
-use Rattle.std.specs.List.{AllByRecursion}
+use Rattle.std.specs.List.{AllByRecursion, Contains}
 use Rattle.dns_names.specs.Name.{Labels, IsName, names_eq}
 use Rattle.dns_records.specs.Types.{type_soa, class_in}
 use Rattle.dns_records.specs.Record.{Record, IsRecord, serial_of}
@@ -31,7 +31,7 @@ use Rattle.dns_headline.specs.Copies as copies
 use Rattle.dns_headline.proofs.Chains.{pending, last_zone}
 use Rattle.dns_headline.proofs.Fed.{transfer_is_followed}
 use Rattle.dns_headline.proofs.Sessions.{opened_for}
-use Rattle.dns_store.specs.Versions.{Versions, newest_after, shown_of, version_at}
+use Rattle.dns_store.specs.Versions.{Opened, Versions, newest_after, shown_of, version_at}
 use Rattle.dns_versions.specs.Each.{Each2, Each3}
 use Rattle.dns_versions.specs.Held.{shown_zone}
 use Rattle.dns_primary.specs.declared.primary.ZoneSpec.{ZoneSpec}
@@ -40,13 +40,13 @@ use Rattle.dns_primary.specs.Update.{zone_position}
 use Rattle.dns_primary.specs.Transfer.{changes_along, transfer_version, zone_at, zone_named}
 use Rattle.dns_primary.specs.Step.{Event, Datagram, Arrives, Connect, Flush, Checkpoint, Pump, Closed, Effects, Step}
 use Rattle.dns_primary.specs.Continues.{OpensOn, Continues}
-use Rattle.dns_primary.specs.Fresh.{IsLoaded, IsFresh}
-use Rattle.dns_primary.specs.Runs.{Moment, Took, Stopped, Configured, machine_after, Happens, Run, last_of, IsHistory, HasHistory, Lasts, AllLast, Brings, BringsIn, CameIn, AllCameIn, Promise}
+use Rattle.dns_primary.specs.Fresh.{IsLoaded, IsFresh, IsResumed}
+use Rattle.dns_primary.specs.Runs.{Moment, Took, Stopped, Configured, machine_after, Happens, Run, last_of, IsHistory, HasHistory, Lasts, AllLast, Brings, BringsIn, CameIn, AllCameSince, StaysTrue, Promise, Continuation}
 use Rattle.dns_primary.proofs.Zonewise.{pair_found, all_found}
-use Rattle.dns_primary.proofs.Brought.{IsNamed, NamedAt, place_named}
-use Rattle.dns_primary.proofs.Stopping.{fresh_keeps, history_front, later_lasts}
+use Rattle.dns_primary.proofs.Brought.{IsNamed, NamedAt, place_named, all_came_since}
+use Rattle.dns_primary.proofs.Stopping.{fresh_keeps, resumed_keeps, history_front}
 use Rattle.dns_primary.proofs.Continued.{run_goes, step_opened}
-use Rattle.dns_headline.specs.Headline.{CarriesOctets, AreOctetsIn, IsSoundZone, changes_to, IsHeldOf, Asks, OpensFor, IsGivenOut, pumped_in, TransfersAreFollowed}
+use Rattle.dns_headline.specs.Headline.{CarriesOctets, AreOctetsIn, IsSoundZone, WasRead, IsSoundState, BeginsLoaded, BeginsResumed, changes_to, IsHeldOf, Asks, OpensFor, IsGivenOut, pumped_in, TransfersAreFollowed}
 use Rattle.dns_headline.proofs.Given.{given_all}
 use Rattle.dns_headline.proofs.Chained.{IsValidChange, AreSent, Leads, leads_on, newest_joined, history_pending, from_number, ends_alike, valid_pending, soas_valid, transfer_valid}
 use Rattle.dns_headline.proofs.Read.{update_reads, transfer_read}
@@ -84,9 +84,24 @@ came_sent m [] z u o c = absurd c
 came_sent m (t ∷ rest) z u o (inl b) = brought m t z u o.0 b
 came_sent m (t ∷ rest) z u o (inr c) = came_sent (machine_after t) rest z u o.1 c
 
-all_sent : (m : Machine) (run : List Moment) (z : ZoneState) (made : List Made) → AllByRecursion AreOctetsIn run → AllByRecursion (λ u. CameIn m run z u.update) made → AreSent made
-all_sent m run z [] o c = tt
-all_sent m run z (u ∷ made) o c = (came_sent m run z u.update o c.0, all_sent m run z made o c.1)
+-- what was there at the start was read from octets, too
+was_sent : (u : Message) → WasRead u → AllByRecursion IsSent u.authorities
+was_sent u h = updates_sent h.0 u h.1 h.2
+
+had : (olds : List Made) (u : Made) → AllByRecursion (λ v. WasRead v.update) olds → (k : ℕ) → k < length olds → get_or olds k u ≡ u → AllByRecursion IsSent (u.update).authorities
+had [] u h k within at = absurd (omega within)
+had (v ∷ olds) u h zero within at = subst (λ (w : Made). AllByRecursion IsSent (w.update).authorities) at (was_sent v.update h.0)
+had (v ∷ olds) u h (suc k) within at = had olds u h.1 k (omega (arith, within)) at
+
+one_sent : (m : Machine) (run : List Moment) (z w : ZoneState) (u : Made) → AllByRecursion AreOctetsIn run → AllByRecursion (λ v. WasRead v.update) (updates_of z)
+    → Contains (updates_of z) u ⊎ CameIn m run w u.update → AllByRecursion IsSent (u.update).authorities
+one_sent m run z w u o h (inl there) = had (updates_of z) u h there.0 there.1 there.2
+one_sent m run z w u o h (inr came) = came_sent m run w u.update o came
+
+all_sent : (m : Machine) (run : List Moment) (z w : ZoneState) (made : List Made) → AllByRecursion AreOctetsIn run → AllByRecursion (λ v. WasRead v.update) (updates_of z)
+    → AllByRecursion (λ u. Contains (updates_of z) u ⊎ CameIn m run w u.update) made → AreSent made
+all_sent m run z w [] o h c = tt
+all_sent m run z w (u ∷ made) o h c = (one_sent m run z w u o h c.0, all_sent m run z w made o h c.1)
 
 front_sent : (xs ys : List Made) → AreSent (xs ++ ys) → AreSent xs
 front_sent [] ys h = tt
@@ -138,22 +153,50 @@ named_found P apex zones z h e = at_found P zones z (zone_position apex zones) h
 abbrev IsSoundlyLoaded : ZoneState → Type 0
 IsSoundlyLoaded z = IsSoundZone (record { apex = z.setting.shape.apex; records = z.loaded })
 
-loaded_soundly : (zones : List Zone) (settings : List ZoneSpec) (states : List ZoneState) → AllByRecursion IsSoundZone zones → Each3 IsLoaded zones settings states → AllByRecursion IsSoundlyLoaded states
+-- what is loaded has no update
+loaded_soundly : (zones : List Zone) (settings : List ZoneSpec) (states : List ZoneState) → AllByRecursion IsSoundZone zones → Each3 IsLoaded zones settings states → AllByRecursion IsSoundState states
 loaded_soundly [] [] [] s h = tt
 loaded_soundly (a ∷ zones) (t ∷ settings) (z ∷ states) s h =
     let apex : a.apex ≡ z.setting.shape.apex = sym (ap (λ x. x.apex) (h.0).shape) in
     let records = sym (h.0).loaded in
-    (subst IsSoundZone (λ i. record { apex = apex i; records = records i }) s.0, loaded_soundly zones settings states s.1 h.1)
+    let none : updates_of z ≡ [] = λ i. (h.0).shown i ++ (h.0).staged i in
+    (
+      record {
+        loaded = subst IsSoundZone (λ i. record { apex = apex i; records = records i }) s.0;
+        updates = subst (AllByRecursion (λ (u : Made). WasRead u.update)) (sym none) tt;
+      },
+      loaded_soundly zones settings states s.1 h.1,
+    )
 loaded_soundly _ _ _ s h = absurd h
 
-sound_later : (olds news : List ZoneState) → AllLast olds news → AllByRecursion IsSoundlyLoaded olds → AllByRecursion IsSoundlyLoaded news
-sound_later [] [] h s = tt
-sound_later [] (w ∷ news) h s = absurd h
-sound_later (z ∷ olds) [] h s = absurd h
-sound_later (z ∷ olds) (w ∷ news) h s =
-    let shape = sym (h.0).shape in
-    let loaded = sym (h.0).loaded in
-    (subst IsSoundZone (λ i. record { apex = (shape i).apex; records = loaded i }) s.0, sound_later olds news h.1 s.1)
+-- What is known of a zone in a run: it was loaded soundly, and its updates came and were accepted.
+record IsKnown (w : ZoneState) : Type 0 where
+  loaded : IsSoundlyLoaded w
+  history : HasHistory w
+  sent : AreSent (updates_of w)
+
+known_each : (m : Machine) (run : List Moment) (olds news : List ZoneState) → AllByRecursion AreOctetsIn run → AllByRecursion IsSoundState olds → AllLast olds news
+    → AllByRecursion HasHistory news → Each2 (AllCameSince m run) olds news → AllByRecursion IsKnown news
+known_each m run [] [] o s l h c = tt
+known_each m run [] (w ∷ news) o s l h c = absurd l
+known_each m run (z ∷ olds) [] o s l h c = absurd l
+known_each m run (z ∷ olds) (w ∷ news) o s l h c =
+    let shape = sym (l.0).shape in
+    let loaded = sym (l.0).loaded in
+    (
+      record {
+        loaded = subst IsSoundZone (λ i. record { apex = (shape i).apex; records = loaded i }) (s.0).loaded;
+        history = h.0;
+        sent = all_sent m run z w (updates_of w) o (s.0).updates c.0;
+      },
+      known_each m run olds news o s.1 l.1 h.1 c.1,
+    )
+
+-- what was shown at a moment is shown at the end
+last_from : (start : Machine) (earlier between : List Moment) (zones : List ZoneState) → AllLast start.zones zones → AllByRecursion (StaysTrue zones) (earlier ++ between)
+    → AllLast (last_of start earlier).zones zones
+last_from start [] between zones l m = l
+last_from start (t ∷ earlier) between zones l m = last_from (machine_after t) earlier between zones (m.0).shown m.1
 
 -- ---- a zone and its versions
 versions_joined : (xs ys : List Made) → versions_of (xs ++ ys) ≡ versions_of xs ++ versions_of ys
@@ -167,12 +210,6 @@ drop_all (x ∷ xs) ys = drop_all xs ys
 take_all : (xs ys : List Made) → take (length xs) (versions_of (xs ++ ys)) ≡ versions_of xs
 take_all [] ys = refl
 take_all (x ∷ xs) ys = ap (λ (vs : Versions). x.records ∷ vs) (take_all xs ys)
-
--- What is known of a zone in a run: it was loaded soundly, and its updates came and were accepted.
-record IsKnown (w : ZoneState) : Type 0 where
-  loaded : IsSoundlyLoaded w
-  history : HasHistory w
-  sent : AreSent (updates_of w)
 
 module _ (w : ZoneState) (k : IsKnown w) where
   abbrev apex : Labels
@@ -331,32 +368,22 @@ one_question a b e = cc
 some_octets : (number : ℕ) (a b : List ℕ) → Arrives number a ≡ Arrives number b → a ≡ b
 some_octets number a b e = cc
 
-module _ (zones : List Zone) (settings : List ZoneSpec) (start : Machine) (earlier between later' : List Moment) (event : Event)
+module _ (start : Machine) (earlier between later' : List Moment) (event : Event)
     (fails : List Bool) (effects : Effects) (opened : Machine) (s : Receiving) (number : ℕ) (sending : Sending)
-    (sound : AllByRecursion IsSoundZone zones)
-    (fresh : IsFresh zones settings start)
+    (sound : AllByRecursion IsSoundState start.zones)
+    (goes : Continuation start (earlier ++ between))
     (run : Run start ((earlier ++ between) ++ Took event fails effects opened ∷ later'))
     (octets : AllByRecursion AreOctetsIn (earlier ++ between))
     (asks : Asks s (last_of start earlier) (last_of start (earlier ++ between)))
     (opens : OpensFor s number (last_of start (earlier ++ between)) event opened sending) where
-  before_run : Run start (earlier ++ between)
-  before_run = (run_parts start (earlier ++ between) (Took event fails effects opened ∷ later') run).0
-
   abbrev now : Machine
   now = last_of start (earlier ++ between)
 
   rest_run : Step fails now event effects opened × Run opened later'
   rest_run = (run_parts start (earlier ++ between) (Took event fails effects opened ∷ later') run).1
 
-  promise : Promise start (earlier ++ between)
-  promise = fresh_keeps zones settings start (earlier ++ between) fresh before_run
-
-  two_runs : Run start earlier × Run (last_of start earlier) between
-  two_runs = run_parts start earlier between before_run
-
   lasts : AllLast (last_of start earlier).zones now.zones
-  lasts = subst (λ (m : Machine). AllLast (last_of start earlier).zones m.zones) (sym (last_joined start earlier between))
-      (later_lasts zones settings start earlier between fresh two_runs.0 two_runs.1)
+  lasts = last_from start earlier between now.zones goes.loaded goes.moments
 
   on : OpensOn now number event sending
   on = step_opened number fails now event effects opened sending opens.none opens.opens rest_run.0
@@ -364,15 +391,11 @@ module _ (zones : List Zone) (settings : List ZoneSpec) (start : Machine) (earli
   comes : on.octets ≡ request_octets s.apex s.held s.id
   comes = some_octets number on.octets (request_octets s.apex s.held s.id) (sym on.arrives ∙ opens.comes)
 
-  all_loaded : AllByRecursion IsSoundlyLoaded now.zones
-  all_loaded = sound_later start.zones now.zones promise.loaded (loaded_soundly zones settings start.zones sound fresh.zones_are)
+  all_known : AllByRecursion IsKnown now.zones
+  all_known = known_each start (earlier ++ between) start.zones now.zones octets sound goes.loaded goes.history goes.came
 
   known : (w : ZoneState) (apex : Labels) → zone_named apex now.zones ≡ Some w → IsKnown w
-  known w apex e = record {
-    loaded = named_found IsSoundlyLoaded apex now.zones w all_loaded e;
-    history = named_found HasHistory apex now.zones w promise.history e;
-    sent = all_sent start (earlier ++ between) w (updates_of w) octets (named_found (AllCameIn start (earlier ++ between)) apex now.zones w promise.came e);
-  }
+  known w apex e = named_found IsKnown apex now.zones w all_known e
 
   read : (message_of on.octets ≡ Some on.message) × ((on.message).questions ≡ on.question ∷ [])
   read = transfer_read (shown_zones now) on.octets Tcp on.octets on.message on.question on.asks
@@ -456,9 +479,39 @@ module _ (zones : List Zone) (settings : List ZoneSpec) (start : Machine) (earli
       })
       went
 
-pub transfers_are_followed : TransfersAreFollowed
-transfers_are_followed zones settings start earlier between later' event fails effects opened s number sending taken message rest fed sound fresh run octets asks opens given messages went = (
-  w zones settings start earlier between later' event fails effects opened s number sending sound fresh run octets asks opens,
-  named zones settings start earlier between later' event fails effects opened s number sending sound fresh run octets asks opens,
-  follows zones settings start earlier between later' event fails effects opened s number sending sound fresh run octets asks opens taken message rest fed given messages went,
+-- of a machine whose runs go on so, and whose zones are sound
+followed_from : (start : Machine) (earlier between later' : List Moment) (event : Event) (fails : List Bool) (effects : Effects) (opened : Machine) (s : Receiving) (number : ℕ)
+    (sending : Sending) (taken : List (List ℕ)) (message : List ℕ) (rest : List (List ℕ)) (fed : Receiving)
+    → AllByRecursion IsSoundState start.zones
+    → Continuation start (earlier ++ between)
+    → Run start ((earlier ++ between) ++ Took event fails effects opened ∷ later')
+    → AllByRecursion AreOctetsIn (earlier ++ between)
+    → Asks s (last_of start earlier) (last_of start (earlier ++ between))
+    → OpensFor s number (last_of start (earlier ++ between)) event opened sending
+    → IsGivenOut number (Some sending) later'
+    → pumped_in number later' ≡ taken ++ message ∷ rest
+    → copies.AllTellMore s taken fed
+    → (w : ZoneState) × (zone_named s.apex (last_of start (earlier ++ between)).zones ≡ Some w) × FollowsInOrder fed message rest (shown_of (kept_of w))
+followed_from start earlier between later' event fails effects opened s number sending taken message rest fed sound goes run octets asks opens given messages went = (
+  w start earlier between later' event fails effects opened s number sending sound goes run octets asks opens,
+  named start earlier between later' event fails effects opened s number sending sound goes run octets asks opens,
+  follows start earlier between later' event fails effects opened s number sending sound goes run octets asks opens taken message rest fed given messages went,
 )
+
+before_run : (start : Machine) (earlier between later' : List Moment) (t : Moment) → Run start ((earlier ++ between) ++ t ∷ later') → Run start (earlier ++ between)
+before_run start earlier between later' t run = (run_parts start (earlier ++ between) (t ∷ later') run).0
+
+promise_goes : (start : Machine) (run : List Moment) → Run start run → Promise start run → Continuation start run
+promise_goes start run r p = record { loaded = p.loaded; history = p.history; came = all_came_since start run r; openings = p.openings; moments = p.moments }
+
+pub loaded_are_followed : TransfersAreFollowed BeginsLoaded
+loaded_are_followed start earlier between later' event fails effects opened s number sending taken message rest fed (zones, settings, sound, fresh) run octets asks opens given messages went =
+    let before = before_run start earlier between later' (Took event fails effects opened) run in
+    followed_from start earlier between later' event fails effects opened s number sending taken message rest fed (loaded_soundly zones settings start.zones sound fresh.zones_are)
+    (promise_goes start (earlier ++ between) before (fresh_keeps zones settings start (earlier ++ between) fresh before)) run octets asks opens given messages went
+
+pub resumed_are_followed : TransfersAreFollowed BeginsResumed
+resumed_are_followed start earlier between later' event fails effects opened s number sending taken message rest fed (held, sound, resumed) run octets asks opens given messages went =
+    let before = before_run start earlier between later' (Took event fails effects opened) run in
+    followed_from start earlier between later' event fails effects opened s number sending taken message rest fed sound (resumed_keeps held start (earlier ++ between) resumed before) run octets asks
+    opens given messages went

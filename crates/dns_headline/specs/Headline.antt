@@ -6,6 +6,8 @@ use Rattle.dns_names.specs.Name.{Labels, IsName}
 use Rattle.dns_records.specs.Record.{Record, IsRecord}
 use Rattle.dns_zone.specs.Zone.{Zone, IsZone}
 use Rattle.dns_changes.specs.Change.{Change}
+use Rattle.dns_wire.specs.Message.{Message}
+use Rattle.dns_wire.specs.Reads.{Reads}
 use Rattle.dns_transfer.specs.Form.{advances}
 use Rattle.dns_transfer.specs.Session.{Sending}
 use Rattle.dns_request.specs.declared.request.Transport.TheVariants.{Tcp}
@@ -14,15 +16,15 @@ use Rattle.dns_secondary.specs.Request.{request_octets}
 use Rattle.dns_secondary.specs.State.{Begun}
 use Rattle.dns_headline.specs.Copies as copies
 use Rattle.dns_headline.specs.Copies.{FollowsInOrder}
-use Rattle.dns_store.specs.Versions.{shown_of}
+use Rattle.dns_store.specs.Versions.{Opened, shown_of}
 use Rattle.dns_versions.specs.Held.{shown_zone}
 use Rattle.dns_primary.specs.declared.primary.ZoneSpec.{ZoneSpec}
-use Rattle.dns_primary.specs.Machine.{ZoneState, Machine, kept_of, versions_of, sending_at}
+use Rattle.dns_primary.specs.Machine.{ZoneState, Machine, kept_of, updates_of, versions_of, sending_at}
 use Rattle.dns_primary.specs.Flush.{Sent, Answered, Replied}
 use Rattle.dns_primary.specs.Transfer.{changes_along, zone_named}
 use Rattle.dns_primary.specs.Step.{Event, Datagram, Arrives, Connect, Flush, Checkpoint, Pump, Closed}
 use Rattle.dns_primary.specs.Step.{Effects}
-use Rattle.dns_primary.specs.Fresh.{IsFresh}
+use Rattle.dns_primary.specs.Fresh.{IsFresh, IsResumed}
 use Rattle.dns_primary.specs.Runs.{Moment, Took, Stopped, Configured, Run, last_of}
 
 -- What comes in an event are octets.
@@ -105,17 +107,35 @@ IsGivenOut number (Some s) (Took event fails effects new ∷ rest) =
 IsGivenOut number (Some s) (Stopped event tries new ∷ rest) = ⊥
 IsGivenOut number (Some s) (Configured new ∷ rest) = ⊥
 
--- Whoever asks for a transfer in a run is fed what it gives out, in order: the next message is not refused
--- but for memory, and after the last, and after no other, the version is held that was shown when the
--- transfer was opened.
-abbrev pub TransfersAreFollowed : Type 0
-TransfersAreFollowed =
-    (zones : List Zone) (settings : List ZoneSpec) (start : Machine)
-    (earlier between later : List Moment) (event : Event) (fails : List Bool) (effects : Effects)
-    (opened : Machine) (s : Receiving) (number : ℕ) (sending : Sending)
+-- A machine of valid zones to which nothing has happened.
+abbrev pub BeginsLoaded : Machine → Type 0
+BeginsLoaded m =
+    (zones : List Zone) × (settings : List ZoneSpec) × AllByRecursion IsSoundZone zones × IsFresh zones settings m
+
+-- The update was read from octets.
+abbrev pub WasRead : Message → Type 0
+WasRead update =
+    (octets : List ℕ) × AllByRecursion (λ octet. octet < 256) octets × Reads octets update
+
+-- The zone was valid when it was loaded, and each update that it has since was read from octets.
+pub record IsSoundState (z : ZoneState) : Type 0 where
+  pub loaded : IsSoundZone (record { apex = z.setting.shape.apex; records = z.loaded })
+  pub updates : AllByRecursion (λ u. WasRead u.update) (updates_of z)
+
+-- A machine of stores that were there, as an earlier run left them, or `migrate`, to which nothing has
+-- happened since.
+abbrev pub BeginsResumed : Machine → Type 0
+BeginsResumed m = (held : List Opened) × AllByRecursion IsSoundState m.zones × IsResumed held m
+
+-- Whoever asks for a transfer in a run of a machine that begins so is fed what it gives out, in order: the
+-- next message is not refused but for memory, and after the last, and after no other, the version is held
+-- that was shown when the transfer was opened.
+abbrev pub TransfersAreFollowed : (Machine → Type 0) → Type 0
+TransfersAreFollowed Begins =
+    (start : Machine) (earlier between later : List Moment) (event : Event) (fails : List Bool)
+    (effects : Effects) (opened : Machine) (s : Receiving) (number : ℕ) (sending : Sending)
     (before : List (List ℕ)) (message : List ℕ) (rest : List (List ℕ)) (now : Receiving)
-    → AllByRecursion IsSoundZone zones
-    → IsFresh zones settings start
+    → Begins start
     → Run start ((earlier ++ between) ++ Took event fails effects opened ∷ later)
     → AllByRecursion AreOctetsIn (earlier ++ between)
     → Asks s (last_of start earlier) (last_of start (earlier ++ between))

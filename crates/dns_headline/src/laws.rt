@@ -1,6 +1,6 @@
 //! The laws that join what `dns_transfer` sends to what `dns_secondary` makes of it, and both to the machine.
 ghost use Rattle.dns_headline.specs.Copies.{TransferIsTaken, TransferIsFollowed};
-ghost use Rattle.dns_headline.specs.Headline.{TransfersAreFollowed};
+ghost use Rattle.dns_headline.specs.Headline.{BeginsLoaded, BeginsResumed, TransfersAreFollowed};
 
 /// The records of a transfer mean the version that is shown to whoever holds nothing, or an older version of
 /// the window (RFC 1995 sections 2 and 4, RFC 5936 section 2.2).
@@ -22,10 +22,14 @@ pub fn copies_law()
 /// it holds exactly the records that the machine showed when the transfer was opened (RFC 1995 section 4, RFC
 /// 5936 section 2.2).
 ///
-/// Its premises: the zones were valid when they were loaded, what came are octets, and the serial goes less
-/// than 2^31 from the version that is held to the one that is shown (RFC 1982 section 3.2). That the code
-/// makes such a run is what `Primary::step`, `open` and `into_devices` of `dns_primary` say, and that it is
-/// fed so what `Secondary::feed` of `dns_secondary` says.
+/// So it is of a run that begins with zones that were loaded, and of one that begins with stores that are
+/// there, as an earlier run or `migrate` of `dns_store` left them.
+///
+/// Its premises: the zones were valid when they were loaded, what came, in the run and before it, are octets,
+/// and the serial goes less than 2^31 from the version that is held to the one that is shown (RFC 1982
+/// section 3.2). That the code makes such a run is what `Primary::step`, `open` and `into_devices` of
+/// `dns_primary` say, and that it is fed so what `Secondary::feed` of `dns_secondary` says.
 pub fn headline_law()
-    ensures { TransfersAreFollowed }
+    ensures loaded { TransfersAreFollowed BeginsLoaded }
+    ensures resumed { TransfersAreFollowed BeginsResumed }
 {}

@@ -22,7 +22,7 @@ mod words;
 mod zone;
 
 pub use places::{Places, RefusedEntry, find_places};
-pub use print::TypeWord;
+pub use print::{RecordLine, TypeWord};
 pub use read::read_zone;
 use std::alloc::{AllocError, AllocFailed};
 use thiserror::Error;

@@ -218,11 +218,11 @@ impl fmt::Display for TypeWord {
     }
 }
 
-/// A record as a line of a master file.
+/// A record as a line of a master file, `OWNER TTL IN TYPE RDATA` ended by LF, with names in full.
 #[derive(Drop)]
-pub(crate) struct Line<'a>(pub &'a Record);
+pub struct RecordLine<'a>(pub &'a Record);
 
-impl fmt::Display for Line<'_> {
+impl fmt::Display for RecordLine<'_> {
     ghost output = { λ r. Some (printed_record r.0.now) };
 
     fn fmt<W: fmt::Write>(&self, f: &mut fmt::Formatter<W>) -> fmt::Result {

@@ -6,7 +6,7 @@ ghost use Rattle.dns_zone.specs.Made.{IsSetOf};
 ghost use Rattle.dns_masterfile.specs.Meaning.{FileMeans};
 ghost use Rattle.dns_masterfile.specs.Printed.{in_print_order, is_wanted, printed_record, printed_zone};
 
-use crate::print::Line;
+use crate::print::RecordLine;
 use dns_records::{Record, types};
 use dns_zone::{Records, Zone, ZoneIndex};
 use std::io::{self, Write};
@@ -24,7 +24,7 @@ fn print_if<W: Write>(wanted: bool, r: &Record, out: &mut W) -> io::Result<()>
         (Appends (W.contents out.old) (W.contents out.new) (if wanted then printed_record r.now else [])) }
 {
     if wanted {
-        write!(out, "{}", Line(r))?;
+        write!(out, "{}", RecordLine(r))?;
     }
     Ok(())
 }

@@ -2,8 +2,8 @@
 //! section 4.1, RFC 2136 section 2).
 #![tactic(auto)]
 
-mod order;
+mod classification;
 mod request;
 
-pub use order::classify;
+pub use classification::classify;
 pub use request::{Request, RequestMessage, Transport};

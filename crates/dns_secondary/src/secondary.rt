@@ -93,20 +93,6 @@ fn is_asked(apex: &Name, rtype: u16, question: &QuestionView<'_>) -> bool
     is_named & (question.qtype() == rtype) & (question.qclass() == CLASS_IN)
 }
 
-/// Whether the message was cut off, the bit TC (RFC 1035 section 4.1.1).
-fn is_truncated(message: &Message<'_>) -> bool
-    ensures { result ≡ message.now.message.header.tc }
-{
-    message.octets()[2] / 2 % 2 == 1
-}
-
-/// The response code of a message (RFC 1035 section 4.1.1).
-fn rcode_of(message: &Message<'_>) -> u8
-    ensures { result ≡ message.now.message.header.rcode }
-{
-    message.octets()[3] % 16
-}
-
 /// Whether the version that is held, if one is, is as new as a SOA (RFC 1995 section 2).
 fn is_current<I: ZoneIndex>(held: &Option<Zone<I>>, soa: &Record) -> bool
     requires { is_soa soa.now ≡ true }
@@ -183,7 +169,7 @@ impl<I: ZoneIndex> Secondary<I> {
         ensures { result ≡ is_answer self.now message.now.message }
     {
         let is_response = message.is_response() & (message.opcode() == Opcode::Query.number());
-        is_response & !is_truncated(message) & repeats_question(&self.apex, &self.held, message)
+        is_response & !message.is_truncated() & repeats_question(&self.apex, &self.held, message)
     }
 
     /// Why a message is refused by its header and its question.
@@ -196,7 +182,7 @@ impl<I: ZoneIndex> Secondary<I> {
         if message.id() != self.id {
             return Some(Fault::WrongId);
         }
-        let rcode = rcode_of(message);
+        let rcode = message.rcode();
         if rcode != 0 {
             return Some(Fault::Refused(rcode));
         }

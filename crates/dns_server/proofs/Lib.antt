@@ -7,6 +7,7 @@ pub mod Turned
 pub mod Changed
 pub mod Ended
 pub mod LoadEnded
+pub mod Compared
 pub mod Made
 pub mod Migrated
 pub mod Refused

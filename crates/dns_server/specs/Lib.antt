@@ -6,6 +6,7 @@ pub mod ServedTurns
 pub mod DeviceFaults
 pub mod Load
 pub mod LoadRun
+pub mod Compare
 pub mod Init
 pub mod Migrate
 pub mod Dump

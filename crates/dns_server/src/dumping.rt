@@ -17,7 +17,7 @@ use std::alloc::Global;
 use std::io::{self, Write};
 
 /// The newest zone that the device of a configured one keeps.
-fn open_zone<D: Sectors + Drop, F: Devices<D>, I: ZoneIndex>(
+pub(crate) fn open_zone<D: Sectors + Drop, F: Devices<D>, I: ZoneIndex>(
     heap: Heap,
     devices: &F,
     own: &ZoneSettings,

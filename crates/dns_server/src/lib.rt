@@ -4,6 +4,7 @@
 
 mod change;
 mod checking;
+mod comparing;
 mod device_faults;
 mod devices;
 mod dumping;
@@ -24,6 +25,7 @@ mod stores;
 
 pub use change::change_to;
 pub use checking::{Index, check};
+pub use comparing::compare;
 pub use device_faults::{DeviceFault, refusal, tell_device};
 pub use devices::{Devices, Disk};
 pub use dumping::dump;

@@ -60,7 +60,7 @@ fn print_loaded<W: Write>(out: &mut W, own: &ZoneSettings, answer: Loaded) -> io
 }
 
 /// The path of what a fault is of: the master file where its serial is refused, and else the device.
-fn path_blamed(own: &ZoneSettings, fault: DeviceFault) -> &str
+pub(crate) fn path_blamed(own: &ZoneSettings, fault: DeviceFault) -> &str
     ensures { result.now ≡ path_blamed own.now fault }
 {
     match fault {

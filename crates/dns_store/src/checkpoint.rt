@@ -179,41 +179,25 @@ fn turn_bank<D: Sectors>(
     }
 }
 
-// Forgets so many of the oldest entries.
-pub(crate) fn keep_newest<T: Drop>(entries: &mut Vec<T, Heap>, gone: usize)
-    requires { gone ≤ length entries.old.items }
-    ensures { entries.new.items ≡ drop gone entries.old.items }
+// Forgets so many of the oldest changes.
+pub(crate) fn keep_newest(changes: &mut Vec<Change, Heap>, gone: usize)
+    requires { gone ≤ length changes.old.items }
+    ensures { changes.new.items ≡ drop gone changes.old.items }
 {
-    let kept = entries.len() - gone;
-    entries.rotate_left(gone);
-    entries.truncate(kept);
+    let kept = changes.len() - gone;
+    changes.rotate_left(gone);
+    changes.truncate(kept);
 }
 
-// What takes sectors of a journal.
-pub(crate) trait Entry {
-    ghost takes: { Self → ℕ };
-
-    fn sectors(&self) -> usize
-        ensures { result ≡ takes self.now };
-}
-
-impl Entry for Change {
-    ghost takes = { sectors_for };
-
-    fn sectors(&self) -> usize {
-        entry_sectors(self.encoded_len())
-    }
-}
-
-// How many of the newest entries are kept: the greatest number, at most `keep`, that take at most so many
-// sectors.
-pub(crate) fn most_kept<E: Entry>(entries: &[E], keep: usize, room: usize) -> usize
-    ensures { IsMostKept E.takes entries.now keep room result }
+// How many of the newest changes are kept: the greatest number, at most `keep`, whose entries take at most so
+// many sectors.
+pub(crate) fn most_kept(changes: &[Change], keep: usize, room: usize) -> usize
+    ensures { IsMostKept sectors_for changes.now keep room result }
 {
-    let most = keep.min(entries.len());
+    let most = keep.min(changes.len());
     let mut left = room;
     for kept in 0..most {
-        let sectors = entries[entries.len() - 1 - kept].sectors();
+        let sectors = entry_sectors(changes[changes.len() - 1 - kept].encoded_len());
         if sectors > left {
             return kept;
         }

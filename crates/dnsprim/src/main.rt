@@ -8,8 +8,8 @@ use dns_configuration::{FAILED, File, REFUSED, USAGE};
 use dns_memory::{Heap, heap};
 use dns_sectors::{DiskFile, FileSectors};
 use dns_server::{
-    Disk, Index, check, dump, explain_check, explain_replay, explain_unreadable, file, init, load,
-    master_files, migrate, octets, replay, serve,
+    Disk, Index, check, compare, dump, explain_check, explain_replay, explain_unreadable, file,
+    init, load, master_files, migrate, octets, replay, serve,
 };
 use std::io::{self, Write};
 use std::process::ExitCode;
@@ -162,12 +162,13 @@ fn run_dump(
     Ok(status)
 }
 
-/// Loads a zone's master file, and gives the exit status.
+/// Loads a zone's master file, or prints what that would change, and gives the exit status.
 fn run_load(
     rt: &HostRuntime,
     heap: Heap,
     config: &str,
     origin: &str,
+    dry_run: bool,
     explain: bool,
 ) -> io::Result<u8> {
     let text = octets(rt, config)?;
@@ -177,18 +178,34 @@ fn run_load(
     for (path, text) in &texts {
         files.push(file(path, text))?;
     }
-    let (mut out, mut err) = (io::writer(rt), rt.stderr());
-    let status = load::<Device, _, Index, _, _>(
-        rt.alloc(),
-        heap,
-        &Disk(rt),
-        &config,
-        &files,
-        origin,
-        explain,
-        &mut out,
-        &mut err,
-    );
+    let mut out = io::BufWriter::new(rt.alloc(), io::writer(rt))?;
+    let mut err = rt.stderr();
+    let status = if dry_run {
+        compare::<Device, _, Index, _, _>(
+            rt.alloc(),
+            heap,
+            &Disk(rt),
+            &config,
+            &files,
+            origin,
+            explain,
+            &mut out,
+            &mut err,
+        )
+    } else {
+        load::<Device, _, Index, _, _>(
+            rt.alloc(),
+            heap,
+            &Disk(rt),
+            &config,
+            &files,
+            origin,
+            explain,
+            &mut out,
+            &mut err,
+        )
+    };
+    out.flush()?;
     if explain && status == REFUSED {
         explain_files(rt, heap, &config, &files)?;
     }
@@ -249,7 +266,9 @@ fn run(rt: &HostRuntime, asked: Asked<'_>) -> io::Result<u8> {
         Task::Replay(config, script) => run_replay(rt, heap, config, script, asked.explain),
         Task::Init(config) => run_init(rt, heap, config, asked.explain),
         Task::Dump(config, origin) => run_dump(rt, heap, config, origin, asked.explain),
-        Task::Load(config, origin) => run_load(rt, heap, config, origin, asked.explain),
+        Task::Load(config, origin, dry_run) => {
+            run_load(rt, heap, config, origin, dry_run, asked.explain)
+        }
         Task::Migrate(config) => run_migrate(rt, heap, config, asked.explain),
         Task::Serve(config, turns) => run_serve(rt, heap, config, turns, asked.explain),
     }
@@ -271,7 +290,7 @@ fn start(rt: &HostRuntime) -> io::Result<u8> {
         Ok(None) => {
             eprintln!(rt;
                 "usage: dnsprim check FILE ORIGIN | replay CONFIG SCRIPT | init CONFIG | \
-dump CONFIG ORIGIN | load CONFIG ORIGIN | migrate CONFIG | serve CONFIG --turns N [--explain]"
+dump CONFIG ORIGIN | load CONFIG ORIGIN [--dry-run] | migrate CONFIG | serve CONFIG --turns N [--explain]"
             )?;
             Ok(USAGE)
         }

@@ -1,5 +1,5 @@
-use Rattle.dns_headline.proofs.Followed.{transfers_are_followed}
+use Rattle.dns_headline.proofs.Followed.{loaded_are_followed, resumed_are_followed}
 use Rattle.dns_headline.proofs.laws.headline_law.Goals as goal
 
 pub returns : goal.returns
-returns c = transfers_are_followed
+returns c = record { loaded = loaded_are_followed; resumed = resumed_are_followed }

@@ -1,17 +1,18 @@
 use Rattle.std.proofs.Common.{◌<◌, ◌≤◌, length, arith}
+use Rattle.dns_journal.specs.Bank.{sectors_for}
 use Rattle.dns_store.proofs.Keeping.{newest_more, most_here}
 use Rattle.dns_store.proofs.checkpoint.most_kept.Goals as goal
 
 pub returns-then-sectors-left : goal.returns-then-sectors-left
 returns-then-sectors-left g c =
-    let takes = g.E.Entry.takes in
-    let lt : c.loop-kept.kept < length c.args.entries.now = omega (arith, c.loop-kept-test.true, c.min-most.ensures) in
+    let takes = sectors_for in
+    let lt : c.loop-kept.kept < length c.args.changes.now = omega (arith, c.loop-kept-test.true, c.min-most.ensures) in
     let few : c.loop-kept.kept ≤ c.args.keep = omega (arith, c.loop-kept-test.true, c.min-most.ensures) in
-    let more = newest_more takes c.args.entries.now c.loop-kept.kept c.index-entries-entries.result lt c.index-entries-entries.is in
-    most_here takes c.args.entries.now c.args.keep c.args.room c.loop-kept.kept few (omega (arith, lt)) (omega (arith, c.loop-kept.invariant)) (omega (arith, more, c.sectors-sectors.ensures, c.if-sectors-left.true, c.loop-kept.invariant))
+    let more = newest_more takes c.args.changes.now c.loop-kept.kept c.index-changes-changes.result lt c.index-changes-changes.is in
+    most_here takes c.args.changes.now c.args.keep c.args.room c.loop-kept.kept few (omega (arith, lt)) (omega (arith, c.loop-kept.invariant)) (omega (arith, more, c.entry_sectors.ensures, c.encoded_len.ensures, c.if-sectors-left.true, c.loop-kept.invariant))
 
 pub loop-kept-preserved : goal.loop-kept-preserved
 loop-kept-preserved g c =
-    let lt : c.loop-kept.kept < length c.args.entries.now = omega (arith, c.loop-kept-test.true, c.min-most.ensures) in
-    let more = newest_more g.E.Entry.takes c.args.entries.now c.loop-kept.kept c.index-entries-entries.result lt c.index-entries-entries.is in
-    omega (arith, more, c.sectors-sectors.ensures, c.if-sectors-left.false, c.loop-kept.invariant)
+    let lt : c.loop-kept.kept < length c.args.changes.now = omega (arith, c.loop-kept-test.true, c.min-most.ensures) in
+    let more = newest_more sectors_for c.args.changes.now c.loop-kept.kept c.index-changes-changes.result lt c.index-changes-changes.is in
+    omega (arith, more, c.entry_sectors.ensures, c.encoded_len.ensures, c.if-sectors-left.false, c.loop-kept.invariant)

@@ -130,8 +130,8 @@ returns-clause-moved g c k n lent is =
     let same = kept_is journal base items k lent opened c.args.keep c.args.room m n c.kept_number-kept.ensures is in
     let moved = c.in_ok-turn_bank.ensures.moved k (length k.shown - m) lent.keeps lent.nothing_staged base_here in
     let after = is_lent journal base items k lent opened m le c.turn_bank.new.journal c.in_ok-base.base c.in_ok-base.octets.items found moved in
-    let newest : c.keep_newest.new.entries.items ≡ drop (length c.args.self.now.changes.items - c.kept_number-kept.result) c.args.self.now.changes.items = c.keep_newest.ensures ∙ ap (λ i. drop i c.args.self.now.changes.items) gone in
-    subst (λ j. IsBaseLent c.turn_bank.new.journal c.in_ok-base.base c.keep_newest.new.entries.items (moved_to (length k.shown - j) k)) same
+    let newest : c.keep_newest.new.changes.items ≡ drop (length c.args.self.now.changes.items - c.kept_number-kept.result) c.args.self.now.changes.items = c.keep_newest.ensures ∙ ap (λ i. drop i c.args.self.now.changes.items) gone in
+    subst (λ j. IsBaseLent c.turn_bank.new.journal c.in_ok-base.base c.keep_newest.new.changes.items (moved_to (length k.shown - j) k)) same
     (subst (λ (l : List Change). IsBaseLent c.turn_bank.new.journal c.in_ok-base.base l (moved_to (length k.shown - m) k)) (sym newest) after)
 
 pub returns-then-is_closed-clause-closed : goal.returns-then-is_closed-clause-closed

@@ -6,14 +6,14 @@ use Rattle.dns_wire.specs.Message.{header_of}
 use Rattle.dns_wire.specs.Reading.{message_of}
 use Rattle.dns_request.specs.Request.{read_as, too_long}
 use Rattle.dns_request.proofs.Passing.{is_read, kind_not_served, kind_served, none_read, not_served}
-use Rattle.dns_request.proofs.order.classify.Goals as goal
+use Rattle.dns_request.proofs.classification.classify.Goals as goal
 
 pub returns-then-is_none-clause-request : goal.returns-then-is_none-clause-request
 returns-then-is_none-clause-request c =
     let octets = c.args.octets.now in
     let whole : 12 ≤ length octets = search rules in
     let ignored : (nat_lt (length octets) 12 || (header_of octets).qr) ≡ false = ap (λ b. b || (header_of octets).qr) (le-ltb (length octets) 12 whole) ∙ sym c.is_response.ensures ∙ c.if-is_response.false in
-    let other : ((header_of octets).opcode == 0 || (header_of octets).opcode == 5) ≡ false = ap (λ (n : ℕ). n == 0 || n == 5) (sym c.opcode_number.ensures) ∙ kind_not_served c.from_number.result c.opcode_number.result c.from_number.ensures.none (c.is_none.ensures ∙ ap not c.if-is_none.true) in
+    let other : ((header_of octets).opcode == 0 || (header_of octets).opcode == 5) ≡ false = ap (λ (n : ℕ). n == 0 || n == 5) (sym c.opcode.ensures) ∙ kind_not_served c.from_number.result c.opcode.result c.from_number.ensures.none (c.is_none.ensures ∙ ap not c.if-is_none.true) in
     sym (not_served (nat_lt (length octets) 12 || (header_of octets).qr) _ (too_long c.args.transport octets) (message_of octets) ignored other)
 
 pub returns-in-Ok-clause-request : goal.returns-in-Ok-clause-request
@@ -21,7 +21,7 @@ returns-in-Ok-clause-request c =
     let octets = c.args.octets.now in
     let whole : 12 ≤ length octets = search rules in
     let ignored : (nat_lt (length octets) 12 || (header_of octets).qr) ≡ false = ap (λ b. b || (header_of octets).qr) (le-ltb (length octets) 12 whole) ∙ sym c.is_response.ensures ∙ c.if-is_response.false in
-    let served : ((header_of octets).opcode == 0 || (header_of octets).opcode == 5) ≡ true = ap (λ (n : ℕ). n == 0 || n == 5) (sym c.opcode_number.ensures) ∙ kind_served c.from_number.result c.opcode_number.result c.from_number.ensures.found (c.is_none.ensures ∙ ap not c.if-is_none.false) in
+    let served : ((header_of octets).opcode == 0 || (header_of octets).opcode == 5) ≡ true = ap (λ (n : ℕ). n == 0 || n == 5) (sym c.opcode.ensures) ∙ kind_served c.from_number.result c.opcode.result c.from_number.ensures.found (c.is_none.ensures ∙ ap not c.if-is_none.false) in
     let short : too_long c.args.transport octets ≡ false = sym c.is_too_long.ensures ∙ c.if-is_too_long.false in
     let fit : AreOctets octets = λ i. omega (arith, c.type_inv.octets i) in
     let m = c.in-Ok.message in
@@ -34,7 +34,7 @@ returns-in-Err-clause-request c =
     let octets = c.args.octets.now in
     let whole : 12 ≤ length octets = search rules in
     let ignored : (nat_lt (length octets) 12 || (header_of octets).qr) ≡ false = ap (λ b. b || (header_of octets).qr) (le-ltb (length octets) 12 whole) ∙ sym c.is_response.ensures ∙ c.if-is_response.false in
-    let served : ((header_of octets).opcode == 0 || (header_of octets).opcode == 5) ≡ true = ap (λ (n : ℕ). n == 0 || n == 5) (sym c.opcode_number.ensures) ∙ kind_served c.from_number.result c.opcode_number.result c.from_number.ensures.found (c.is_none.ensures ∙ ap not c.if-is_none.false) in
+    let served : ((header_of octets).opcode == 0 || (header_of octets).opcode == 5) ≡ true = ap (λ (n : ℕ). n == 0 || n == 5) (sym c.opcode.ensures) ∙ kind_served c.from_number.result c.opcode.result c.from_number.ensures.found (c.is_none.ensures ∙ ap not c.if-is_none.false) in
     let short : too_long c.args.transport octets ≡ false = sym c.is_too_long.ensures ∙ c.if-is_too_long.false in
     let fit : AreOctets octets = λ i. omega (arith, c.type_inv.octets i) in
     let none : message_of octets ≡ None = none_read (message_of octets) (λ m e. (let ok = c.read.ensures.only m ((c.at_most_one.ensures.computed octets m fit).1 e) in let bad = subst (λ r. IsOk r) c.in-Err.is ok in cc)) in

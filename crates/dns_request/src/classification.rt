@@ -7,7 +7,7 @@ ghost use Rattle.dns_request.specs.Shown.{IsOf, request_shown};
 use crate::{Request, RequestMessage, Transport};
 use dns_records::types;
 use dns_wire::limits::MOST_BY_UDP;
-use dns_wire::{Message, Opcode, QuestionView, Rcode, at_most_one};
+use dns_wire::{Message, Opcode, QuestionView, Rcode, at_most_one, header};
 
 /// Whether the octets are more than the transport takes (RFC 1035 section 4.2.1).
 fn is_too_long(octets: &[u8], transport: Transport) -> bool
@@ -17,22 +17,6 @@ fn is_too_long(octets: &[u8], transport: Transport) -> bool
         Transport::Udp => octets.len() > MOST_BY_UDP,
         Transport::Tcp => false,
     }
-}
-
-/// Whether the header is that of a response, the bit QR (RFC 1035 section 4.1.1).
-fn is_response(octets: &[u8]) -> bool
-    requires { 12 ≤ length octets.now }
-    ensures { result ≡ (header_of octets.now).qr }
-{
-    octets[2] / 128 % 2 == 1
-}
-
-/// The number of the kind of request, OPCODE (RFC 1035 section 4.1.1).
-fn opcode_number(octets: &[u8]) -> u8
-    requires { 12 ≤ length octets.now }
-    ensures { result ≡ (header_of octets.now).opcode }
-{
-    octets[2] / 8 % 16
 }
 
 /// Whether the message has the counts of a request: no additional records, and in a query no others but those
@@ -100,10 +84,10 @@ pub fn classify(octets: &[u8], transport: Transport) -> Request<'_>
     let Some(header) = octets.first_chunk::<12>() else {
         return Request::Ignored;
     };
-    if is_response(octets) {
+    if header::is_response(octets) {
         return Request::Ignored;
     }
-    if Opcode::from_number(opcode_number(octets)).is_none() {
+    if Opcode::from_number(header::opcode(octets)).is_none() {
         return Request::Refused(header, Rcode::NotImp);
     }
     if is_too_long(octets, transport) {
