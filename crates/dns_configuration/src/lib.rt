@@ -5,13 +5,13 @@
 mod configuration;
 mod explain;
 mod files;
-mod known;
 mod loading;
+mod zone_specs;
 
 pub use configuration::{Configuration, ConfigurationError, ZoneSettings};
 pub use explain::explain_configuration;
 pub use files::{
     DONE, FAILED, Fault, File, PrintedWord, REFUSED, USAGE, apex, read_configuration, tell,
 };
-pub use known::{origins_of, settings_of};
 pub use loading::{load, load_all, load_one};
+pub use zone_specs::{origins_of, settings_of};

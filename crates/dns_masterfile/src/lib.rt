@@ -7,6 +7,7 @@ ghost use Rattle.dns_masterfile.specs.declared.FileError.TheVariants.{OutOfMemor
 mod comments;
 mod context;
 mod entry;
+mod entry_words;
 mod kind;
 pub mod laws;
 mod opaque;
@@ -16,7 +17,6 @@ mod print;
 mod rdata;
 mod read;
 mod scanner;
-mod take;
 mod values;
 mod words;
 mod zone;

@@ -4,18 +4,18 @@
 
 mod command;
 mod device;
+mod events;
 mod keeps;
 mod lines;
-mod made;
 mod print;
+mod replay_state;
 mod run;
-mod standing;
-mod stepping;
+mod setup;
 
 pub use command::{Command, read_command};
 pub use device::ScriptDevice;
 pub use keeps::{Keep, ZoneKeep};
 pub use lines::split_line;
-pub use made::{NotMade, replay_zones};
+pub use replay_state::World;
 pub use run::{Ending, run_script};
-pub use standing::World;
+pub use setup::{NotMade, replay_zones};

@@ -13,7 +13,7 @@ ghost use Rattle.dns_replay.specs.Scripts.{refusal_word, refused_line};
 ghost use Rattle.dns_replay.specs.Runs.{replies_out};
 
 use crate::device::ScriptDevice;
-use crate::stepping::version_at;
+use crate::events::version_at;
 use dns_memory::Heap;
 use dns_names::Name;
 use dns_policy::print_address;

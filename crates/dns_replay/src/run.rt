@@ -9,7 +9,7 @@ use crate::command::{Command, read_command};
 use crate::device::ScriptDevice;
 use crate::lines::split_line;
 use crate::print::print_stop;
-use crate::standing::{World, crash, run_event};
+use crate::replay_state::{World, crash, run_event};
 use dns_memory::Heap;
 use dns_primary::{Event, Peer, Primary};
 use dns_sectors::Plan;

@@ -5,6 +5,7 @@ mod checkpoint;
 mod choosing;
 mod device_format;
 mod formatting;
+mod incremental_check;
 mod kept_store;
 mod laws;
 mod migrating;
@@ -14,7 +15,6 @@ mod records;
 mod recovery;
 mod root;
 mod snapshot;
-mod staying;
 mod versions;
 mod zone_store;
 

@@ -17,8 +17,8 @@ ghost use Rattle.dns_store.specs.Root.{IsOfBank};
 ghost use Rattle.dns_store.specs.Damage.{NamesSector, NamesSpoiltIn, NamesWrongEntryIn, IsReachedEntryIn};
 
 use crate::OpenError;
+use crate::incremental_check::next_zone;
 use crate::octets::{octets_after, snapshot_len};
-use crate::staying::next_zone;
 use dns_changes::{Change, ChangeError};
 use dns_journal::{Cursor, ReadError, next_entry};
 use dns_layout::{Format, snapshot_sectors_in};

@@ -13,8 +13,8 @@ use Rattle.dns_transfer.specs.Left.{left_in, left_at}
 use Rattle.dns_transfer.specs.Messages.{Heading, IsNextMessage, message_with, octets_with, datagram_of}
 use Rattle.dns_transfer.specs.Session.{IsFilled, with_answer}
 use Rattle.dns_transfer.specs.declared.form.Form.TheVariants as form
-use Rattle.dns_transfer.specs.declared.rest.Place.{Place}
-use Rattle.dns_transfer.specs.declared.rest.Place.TheVariants.{Opening, Zone, Sequence, End}
+use Rattle.dns_transfer.specs.declared.unsent.Place.{Place}
+use Rattle.dns_transfer.specs.declared.unsent.Place.TheVariants.{Opening, Zone, Sequence, End}
 
 -- ---- filling
 -- so many records are in the message, and so many are left

@@ -6,8 +6,8 @@ use Rattle.dns_transfer.specs.Form.{Form, Current, Incremental, Full}
 use Rattle.dns_transfer.specs.Records.{transfer_answer, all_but_soa, sequences}
 use Rattle.dns_transfer.specs.declared.form.Form as code
 use Rattle.dns_transfer.specs.declared.form.Form.TheVariants as form
-use Rattle.dns_transfer.specs.declared.rest.Place.{Place}
-use Rattle.dns_transfer.specs.declared.rest.Place.TheVariants.{Opening, Zone, Sequence, End}
+use Rattle.dns_transfer.specs.declared.unsent.Place.{Place}
+use Rattle.dns_transfer.specs.declared.unsent.Place.TheVariants.{Opening, Zone, Sequence, End}
 
 -- Changes are identified by the number of the first among those that are kept.
 abbrev pub stated_form : List Change → code.Form → Form

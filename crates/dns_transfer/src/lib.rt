@@ -6,11 +6,11 @@ mod form;
 mod history;
 pub mod laws;
 mod refusal;
-mod rest;
 mod session;
+mod unsent;
 
 pub use form::{Form, choose_form};
 pub use history::History;
 pub use refusal::{client_serial, refusal_of};
-pub use rest::{Place, Rest};
 pub use session::{Session, Version};
+pub use unsent::{Place, Rest};

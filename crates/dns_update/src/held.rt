@@ -10,11 +10,11 @@ ghost use Rattle.dns_update.specs.ResourceRecord.{as_record};
 ghost use Rattle.dns_update.specs.Ranges.{is_outside};
 ghost use Rattle.dns_update.specs.Effect.{owns_other, succeeds};
 
-use crate::among::{
+use crate::item::ResourceRecord;
+use crate::owner_records::{
     are_above, has_one, has_type, owns_other, put_among, succeeds_one, take_named, take_types,
     take_types_behind,
 };
-use crate::item::ResourceRecord;
 use dns_memory::Heap;
 use dns_names::NameRef;
 use dns_records::Record;

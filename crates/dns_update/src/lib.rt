@@ -2,10 +2,10 @@
 //! change that it is.
 #![tactic(auto)]
 
-mod among;
 mod effect;
 mod held;
 mod item;
+mod owner_records;
 mod prerequisites;
 mod prescan;
 mod runs;

@@ -4,9 +4,9 @@ ghost use Rattle.std.specs.List.{AllByRecursion, splice};
 ghost use Rattle.dns_records.specs.Record.{IsRecord};
 ghost use Rattle.dns_zone.specs.Records.{are_of, is_ordered, others, united};
 
-use crate::gather::are_valid;
 use crate::lookup::{exists, find_node, records_near};
 use crate::search::{Key, count_before, end_of_match, find_record, first_behind, matching};
+use crate::sorting::are_valid;
 use crate::{Match, ZoneIndex};
 use dns_memory::Heap;
 use dns_names::NameRef;

@@ -5,7 +5,7 @@ ghost use Rattle.dns_zone.specs.Made.{IsSetOf};
 ghost use Rattle.dns_zone.specs.Node.{IsMatch};
 ghost use Rattle.dns_zone.specs.Survey.{fault_found};
 
-use crate::gather::{refusal_of_doubles, rises, set_of, sort};
+use crate::sorting::{refusal_of_doubles, rises, set_of, sort};
 use crate::survey::{Survey, survey_of};
 use crate::{Match, Records, ZoneError, ZoneIndex};
 use dns_memory::Heap;

@@ -5,7 +5,7 @@ use Rattle.dns_wire.specs.Pushed.{IsPushed}
 use Rattle.dns_wire.specs.Text.{text}
 use Rattle.dns_transfer.specs.Left.{Remaining, left_of, left_at}
 use Rattle.dns_transfer.specs.Session.{IsFilled}
-use Rattle.dns_transfer.specs.declared.rest.Place.{Place}
+use Rattle.dns_transfer.specs.declared.unsent.Place.{Place}
 use Rattle.dns_transfer.proofs.Filled.{Filling, filling_next, filled_full}
 use Rattle.dns_transfer.proofs.filling.fill.Goals as goal
 

@@ -8,7 +8,7 @@ use Rattle.dns_wire.specs.Text.{text}
 use Rattle.dns_transfer.specs.Left.{left_at}
 use Rattle.dns_transfer.specs.Messages.{message_with}
 use Rattle.dns_transfer.specs.Session.{IsFilled, Sending}
-use Rattle.dns_transfer.specs.declared.rest.Place.TheVariants.{End}
+use Rattle.dns_transfer.specs.declared.unsent.Place.TheVariants.{End}
 use Rattle.dns_transfer.proofs.Filled.{some_left, datagram_whole, datagram_alone, datagram_none}
 use Rattle.dns_transfer.proofs.session.Session.datagram.Goals as goal
 

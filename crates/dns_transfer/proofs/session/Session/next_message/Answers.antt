@@ -6,7 +6,7 @@ use Rattle.dns_request.specs.declared.request.Transport.TheVariants.{Udp, Tcp}
 use Rattle.dns_transfer.specs.Left.{left_at}
 use Rattle.dns_transfer.specs.Messages.{message_with}
 use Rattle.dns_transfer.specs.Session.{IsFilled, Sending, SendsBy}
-use Rattle.dns_transfer.specs.declared.rest.Place.{Place}
+use Rattle.dns_transfer.specs.declared.unsent.Place.{Place}
 use Rattle.dns_transfer.proofs.Filled.{next_of, some_left}
 use Rattle.dns_transfer.proofs.session.Session.next_message.Goals as goal
 use Rattle.dns_transfer.proofs.session.Session.next_message.Goals.{in-Tcp+in_ok-message-in-Tcp+in_ok-fill-in-Tcp, in-Udp+in_ok-datagram-in-Udp}
