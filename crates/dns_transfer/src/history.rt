@@ -8,21 +8,20 @@ use dns_memory::Heap;
 use dns_records::Record;
 use std::alloc::AllocError;
 use std::marker::Model;
-use std::rc::Rc;
 
 /// The changes that lead from one version of a zone to a later one, the oldest first.
 #[derive(Drop)]
 pub struct History {
-    changes: Vec<Rc<Change, Heap>, Heap>,
+    changes: Vec<Change, Heap>,
 }
 
 impl Model for History {
-    ghost use Rattle.std.specs.Prelude.{List, map};
+    ghost use Rattle.std.specs.Prelude.{List};
     ghost use Rattle.dns_changes.specs.Change.{Change as Stated};
 
     ghost Value = { List Stated };
 
-    ghost view = { λ h. map (λ c. c.value) h.changes.items };
+    ghost view = { λ h. h.changes.items };
 }
 
 /// Copies of records.
@@ -58,11 +57,10 @@ impl History {
     }
 
     /// Puts a newer change after the others.
-    pub fn push(&mut self, alloc: Heap, change: Change) -> Result<(), AllocError>
+    pub fn push(&mut self, change: Change) -> Result<(), AllocError>
         ensures ok { OnOk result (self.new ≡ self.old ++ change ∷ []) }
         ensures err { OnErr result (self.new ≡ self.old) }
     {
-        let change = Rc::new(alloc, change)?;
         self.changes.push(change)?;
         Ok(())
     }
@@ -74,7 +72,7 @@ impl History {
         let mut history = History::new(alloc);
         let mut number = first;
         'changes: while number < changes.len() {
-            history.push(alloc, copied_change(alloc, &changes[number])?)?;
+            history.push(copied_change(alloc, &changes[number])?)?;
             number += 1;
         }
         Ok(history)
@@ -98,6 +96,6 @@ impl History {
     pub fn get(&self, number: usize) -> Option<&Change>
         ensures { option_copied result ≡ slice_get self.now number }
     {
-        Some(self.changes.get(number)?.as_ref())
+        self.changes.get(number)
     }
 }

@@ -6,7 +6,8 @@ ghost use Rattle.dns_changes.specs.Version.{IsVersionAfter};
 ghost use Rattle.dns_store.specs.Versions.{Kept, StandsStill, newest_of, staged_with};
 ghost use Rattle.dns_versions.specs.Held.{HasVersions, newer};
 ghost use Rattle.dns_store.specs.Plain.{octets_of};
-ghost use Rattle.dns_versions.specs.Staging.{HasRoomBy, has_room, lacks_room, sectors_lacked};
+ghost use Rattle.dns_store.specs.Room.{entry_between};
+ghost use Rattle.dns_versions.specs.Staging.{HasRoomBy, has_room, sectors_lacked};
 
 use crate::{PendingZone, newest};
 use dns_changes::Change;
@@ -61,42 +62,25 @@ impl From<StageError> for StagingError {
     }
 }
 
-/// Whether there is room for the version that a change leads to, whose snapshot has so many octets.
+/// Whether there is room for a version, whose snapshot has so many octets, and whose entry takes so many
+/// sectors.
 pub(crate) fn has_room<I: ZoneIndex, S: ZoneStore>(
     pending: &PendingZone<I, S>,
-    change: &Change,
     records: &I,
     octets: usize,
+    sectors: usize,
 ) -> bool
     ensures room { (k : Kept) (zone : Stated)
         → HasVersions S.keeps zone pending.now k
-        → IsChange (newest_of k) (I.records records.now) change.now
         → (length (I.records records.now) ≤ 65536 → octets ≡ octets_of (I.records records.now))
+        → sectors ≡ entry_between (newest_of k) (I.records records.now)
         → result ≡ has_room k (I.records records.now) }
     ensures few { result ≡ true → length (I.records records.now) ≤ 65536 }
 {
     records.len() <= MOST_RECORDS
         && snapshot_sectors(octets) <= pending.snapshot as usize
-        && entry_sectors(change.encoded_len()) <= pending.journal as usize
+        && sectors <= pending.journal as usize
         && pending.store.newest() < u64::MAX
-}
-
-/// Whether there is room for the version that a change leads to, but not in what is left of the journal.
-fn lacks_room<I: ZoneIndex, S: ZoneStore>(
-    zone: &Zone<I>,
-    pending: &PendingZone<I, S>,
-    change: &Change,
-    records: &I,
-) -> bool
-    requires next { IsVersionAfter (newer zone.now pending.now.tip) change.now (I.records records.now) }
-    requires change { IsChange (newer zone.now pending.now.tip).records (I.records records.now) change.now }
-    ensures { (k : Kept) → HasVersions S.keeps zone.now pending.now k
-        → result ≡ lacks_room k (I.records records.now) }
-{
-    let _valid = newest(zone, pending).apex();
-    let octets = octets_after(pending.octets, change);
-    let sectors = entry_sectors(change.encoded_len());
-    has_room(pending, change, records, octets) && pending.store.left() < sectors
 }
 
 /// How many sectors the entry of a change takes, where there is room for the version that it leads to, but
@@ -112,10 +96,13 @@ pub fn sectors_lacked<I: ZoneIndex, S: ZoneStore>(
     ensures { (k : Kept) → HasVersions S.keeps zone.now pending.now k
         → result ≡ sectors_lacked k (I.records records.now) }
 {
-    if !lacks_room(zone, pending, change, records) {
-        return None;
+    let _valid = newest(zone, pending).apex();
+    let octets = octets_after(pending.octets, change);
+    let sectors = entry_sectors(change.encoded_len());
+    if has_room(pending, records, octets, sectors) && pending.store.left() < sectors {
+        return Some(sectors);
     }
-    Some(entry_sectors(change.encoded_len()))
+    None
 }
 
 /// The next version of a zone, of records that are known to be one.
@@ -152,7 +139,8 @@ pub fn stage<I: ZoneIndex, S: ZoneStore>(
 {
     let _valid = newest(&*zone, &*pending).apex();
     let octets = octets_after(pending.octets, &change);
-    if !has_room(pending, &change, &records, octets) {
+    let sectors = entry_sectors(change.encoded_len());
+    if !has_room(pending, &records, octets, sectors) {
         drop((change, records));
         return Err(StagingError::NoRoom);
     }

@@ -2,6 +2,7 @@ use Rattle.std.proofs.Common.{◌≡◌, ◌≤◌, ◌<◌, true, length, sym, 
 use Rattle.std.specs.Prelude.{Err}
 use Rattle.dns_zone.specs.Zone.{Zone, IsZone}
 use Rattle.dns_changes.specs.Change.{IsChange}
+use Rattle.dns_layout.specs.Sector.{entry_sectors}
 use Rattle.dns_store.specs.Versions.{newest_of}
 use Rattle.dns_store.specs.Room.{entry_between, sectors_left}
 use Rattle.dns_store.specs.Staged.{entry_is}
@@ -20,7 +21,7 @@ returns-then-not-has_room-clause-room g c k held =
     let after = g.I.ZoneIndex.records c.args.records in
     let change : IsChange (newest_of k) after c.args.change = subst (λ (z : Zone). IsChange z.records after c.args.change) is c.requires.change in
     let octets = counted before c.args.pending.now.octets c.octets_after-octets.result after c.args.change valid c.requires.next c.requires.change (held.octets_are ∙ ap (λ (z : Zone). octets_of z.records) (sym is)) c.octets_after-octets.ensures in
-    let room : c.has_room.result ≡ has_room k after = c.has_room.ensures.room k c.args.zone.now held change octets in
+    let room : c.has_room.result ≡ has_room k after = c.has_room.ensures.room k c.args.zone.now held octets (c.entry_sectors-sectors.ensures ∙ ap entry_sectors c.encoded_len.ensures.octets ∙ sym (entry_is (newest_of k) after c.args.change change)) in
     sym room ∙ c.if-not-has_room.true
 
 pub returns-in_err-stage-clause-room : goal.returns-in_err-stage-clause-room
@@ -31,7 +32,7 @@ returns-in_err-stage-clause-room g c k held =
     let after = g.I.ZoneIndex.records c.args.records in
     let change : IsChange (newest_of k) after c.args.change = subst (λ (z : Zone). IsChange z.records after c.args.change) is c.requires.change in
     let octets = counted before c.args.pending.now.octets c.octets_after-octets.result after c.args.change valid c.requires.next c.requires.change (held.octets_are ∙ ap (λ (z : Zone). octets_of z.records) (sym is)) c.octets_after-octets.ensures in
-    let room : c.has_room.result ≡ has_room k after = c.has_room.ensures.room k c.args.zone.now held change octets in
+    let room : c.has_room.result ≡ has_room k after = c.has_room.ensures.room k c.args.zone.now held octets (c.entry_sectors-sectors.ensures ∙ ap entry_sectors c.encoded_len.ensures.octets ∙ sym (entry_is (newest_of k) after c.args.change change)) in
     let has : has_room k after ≡ true = sym room ∙ c.if-not-has_room.false in
     let entry = entry_is (newest_of k) after c.args.change change in
     let error = c.in_err-stage.field-0.0 in
@@ -49,7 +50,7 @@ returns-clause-staged g c k held =
     let after = g.I.ZoneIndex.records c.args.records in
     let change : IsChange (newest_of k) after c.args.change = subst (λ (z : Zone). IsChange z.records after c.args.change) is c.requires.change in
     let octets = counted before c.args.pending.now.octets c.octets_after-octets.result after c.args.change valid c.requires.next c.requires.change (held.octets_are ∙ ap (λ (z : Zone). octets_of z.records) (sym is)) c.octets_after-octets.ensures in
-    let room : c.has_room.result ≡ has_room k after = c.has_room.ensures.room k c.args.zone.now held change octets in
+    let room : c.has_room.result ≡ has_room k after = c.has_room.ensures.room k c.args.zone.now held octets (c.entry_sectors-sectors.ensures ∙ ap entry_sectors c.encoded_len.ensures.octets ∙ sym (entry_is (newest_of k) after c.args.change change)) in
     let few : length after ≤ 65536 = c.has_room.ensures.few c.if-not-has_room.false in
     let named : record { apex = before.apex; records = after } ≡ record { apex = k.shape.apex; records = after } = λ i. record { apex = (is i).apex; records = after } in
     let version : c.in_ok-version.version ≡ record { apex = before.apex; records = after } = c.in_ok-version.ensures ∙ (λ i. record { apex = (c.newest-2.ensures.either i).apex; records = after }) in
@@ -71,6 +72,6 @@ returns-clause-room g c k held =
     let after = g.I.ZoneIndex.records c.args.records in
     let change : IsChange (newest_of k) after c.args.change = subst (λ (z : Zone). IsChange z.records after c.args.change) is c.requires.change in
     let octets = counted before c.args.pending.now.octets c.octets_after-octets.result after c.args.change valid c.requires.next c.requires.change (held.octets_are ∙ ap (λ (z : Zone). octets_of z.records) (sym is)) c.octets_after-octets.ensures in
-    let room : c.has_room.result ≡ has_room k after = c.has_room.ensures.room k c.args.zone.now held change octets in
+    let room : c.has_room.result ≡ has_room k after = c.has_room.ensures.room k c.args.zone.now held octets (c.entry_sectors-sectors.ensures ∙ ap entry_sectors c.encoded_len.ensures.octets ∙ sym (entry_is (newest_of k) after c.args.change change)) in
     let fits = c.in_ok-stage.ensures.fits k held.kept in
     (sym room ∙ c.if-not-has_room.false, subst (λ n. n ≤ sectors_left k) (sym (entry_is (newest_of k) after c.args.change change)) fits)
