@@ -89,7 +89,7 @@ was_sent : (u : Message) → WasRead u → AllByRecursion IsSent u.authorities
 was_sent u h = updates_sent h.0 u h.1 h.2
 
 had : (olds : List Made) (u : Made) → AllByRecursion (λ v. WasRead v.update) olds → (k : ℕ) → k < length olds → get_or olds k u ≡ u → AllByRecursion IsSent (u.update).authorities
-had [] u h k within at = absurd (omega within)
+had [] u h k within at = absurd (omega (arith, within))
 had (v ∷ olds) u h zero within at = subst (λ (w : Made). AllByRecursion IsSent (w.update).authorities) at (was_sent v.update h.0)
 had (v ∷ olds) u h (suc k) within at = had olds u h.1 k (omega (arith, within)) at
 

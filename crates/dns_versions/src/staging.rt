@@ -99,10 +99,13 @@ pub fn sectors_lacked<I: ZoneIndex, S: ZoneStore>(
     let _valid = newest(zone, pending).apex();
     let octets = octets_after(pending.octets, change);
     let sectors = entry_sectors(change.encoded_len());
-    if has_room(pending, records, octets, sectors) && pending.store.left() < sectors {
-        return Some(sectors);
+    if !has_room(pending, records, octets, sectors) {
+        return None;
     }
-    None
+    if pending.store.left() >= sectors {
+        return None;
+    }
+    Some(sectors)
 }
 
 /// The next version of a zone, of records that are known to be one.
