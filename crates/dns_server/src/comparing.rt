@@ -22,11 +22,11 @@ use std::alloc::Global;
 use std::io::{self, Write};
 
 /// Prints a record after a sign.
-fn print_record<W: Write>(out: &mut W, sign: &str, record: &Record) -> io::Result<()>
+fn print_record<W: Write>(out: &mut W, sign: &str, entry: &Record) -> io::Result<()>
     ensures { OnOk result
-        (Appends (W.contents out.old) (W.contents out.new) (signed_lines sign.now (record.now ∷ []))) }
+        (Appends (W.contents out.old) (W.contents out.new) (signed_lines sign.now (entry.now ∷ []))) }
 {
-    write!(out, "{sign} {}", RecordLine(record))
+    write!(out, "{sign} {}", RecordLine(entry))
 }
 
 /// Prints a line for each of these records, after a sign.
