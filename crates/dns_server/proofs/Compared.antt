@@ -1,11 +1,12 @@
 -- How a run ends that compares a zone's master file with its device.
-use Rattle.std.proofs.Common.{◌≡◌, ℕ, Bool, true, false, inl, inr, List, [], ◌∷◌, Option, Result, Ok, Err, IfOk, refl, sym, ap, subst, ◌∙◌, arith}
+use Rattle.std.proofs.Common.{◌≡◌, ℕ, Bool, true, false, inl, inr, List, [], ◌∷◌, ◌++◌, Option, Result, Ok, Err, IfOk, OnOk, refl, sym, ap, subst, ◌∙◌, arith}
 use Rattle.std.specs.Prelude.{◌⊎◌}
 use Rattle.std.specs.List.{AllZip}
 use Rattle.std.specs.String.{string_bytes}
 use Rattle.std.specs.Io.KnownBytes.{Appends}
 use Rattle.std.proofs.KnownBytes.{Keeps-refl}
 use Rattle.dns_zone.specs.Zone.{Zone}
+use Rattle.dns_masterfile.proofs.PrintedZone.{appends_two}
 use Rattle.dns_sectors.specs.declared.device.Sectors.{Ghosts}
 use Rattle.dns_configuration.specs.declared.configuration.ZoneSettings.{ZoneSettings}
 use Rattle.dns_configuration.specs.declared.files.File.{File}
@@ -78,3 +79,8 @@ compare_unnamed g opened config files origin explain out err err_after text why 
   refused = λ _. (text, said, Keeps-refl out, inl why);
   others = inl (omega arith);
 }
+
+-- One text was written, and then another, if it was.
+pub appends_on : {E : Type 0} (a b c : Option (List ℕ)) (x y : List ℕ) (r : Result (Unit {0}) E) → Appends a b x → OnOk r (Appends b c y) → OnOk r (Appends a c (x ++ y))
+appends_on a b c x y (Ok u) h k = appends_two a b c x y h k
+appends_on a b c x y (Err e) h k = tt

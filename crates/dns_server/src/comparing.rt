@@ -34,8 +34,8 @@ fn print_records<W: Write>(out: &mut W, sign: &str, records: &[Record]) -> io::R
     ensures { OnOk result
         (Appends (W.contents out.old) (W.contents out.new) (signed_lines sign.now records.now)) }
 {
-    for record in records {
-        print_record(out, sign, record)?;
+    for entry in records {
+        print_record(out, sign, entry)?;
     }
     Ok(())
 }
