@@ -2,10 +2,10 @@
 use Rattle.std.specs.Prelude.{Bool, true, false, ◌≡◌, ℕ, ◌+◌, ◌<◌, ◌≤◌, List, [], ◌∷◌, ◌++◌, length, nat_lt}
 use Rattle.std.specs.Prelude.{if◌then◌else◌, Option, Some, None}
 use Rattle.std.specs.Int.{w16, w32, to_be_bytes}
-use Rattle.dns_records.specs.Types.{Field, Values, Name, UncompressedName, Strings, class_in}
+use Rattle.dns_records.specs.Types.{Field, Values, Name, UncompressedName, Strings, class_in, type_a}
 use Rattle.dns_names.specs.Name.{Labels, IsName, wire}
 use Rattle.dns_records.specs.Record.{Record}
-use Rattle.dns_wire.specs.Compress.{Place, Compressing, new_places, compressed_record}
+use Rattle.dns_wire.specs.Compress.{Place, Compressing, pointer, new_places, compressed_record}
 use Rattle.dns_wire.specs.Text.{EchoedQuestion}
 use Rattle.dns_wire.specs.declared.WriteError.{WriteError}
 use Rattle.dns_wire.specs.declared.WriteError.TheVariants.{OutOfMemory, DoesNotFit}
@@ -53,6 +53,12 @@ is_name Strings = false
 abbrev pub fixed_octets : ℕ → ℕ → List ℕ
 fixed_octets rtype ttl =
     to_be_bytes w16 rtype ++ to_be_bytes w16 class_in ++ to_be_bytes w32 ttl ++ 0 ∷ 0 ∷ []
+
+-- The octets of the record of an address whose owner is a pointer to an offset.
+abbrev pub address_octets : ℕ → ℕ → List ℕ → List ℕ
+address_octets offset ttl address =
+    pointer offset ++ to_be_bytes w16 type_a ++ to_be_bytes w16 class_in ++ to_be_bytes w32 ttl
+    ++ to_be_bytes w16 4 ++ address
 
 -- The target for a suffix at an offset, if a pointer can name the offset.
 abbrev pub noted : ℕ → Labels → List Place

@@ -36,6 +36,43 @@ impl<'a> Compressor<'a> {
         Ok(())
     }
 
+    /// Writes octets as they are. Most often there are none, which costs no call.
+    #[inline(always)]
+    pub(crate) fn put_some(&mut self, octets: &[u8]) -> Result<(), WriteError>
+        requires { length self.old.octets.items ≤ self.old.limit }
+        ensures written { OnOk result
+            (Wrote self.old.limit self.old.octets.items self.new.octets.items self.new.limit self.new.places
+            (plain_octets self.old.places octets.now)) }
+        ensures refused { IfErr result
+            (RefusesUpTo self.old.limit (length self.old.octets.items + length octets.now)) }
+    {
+        if octets.is_empty() {
+            return Ok(());
+        }
+        self.put(octets)
+    }
+
+    /// Writes a pointer to an offset (RFC 1035 section 4.1.4), octet by octet, which costs no call.
+    #[inline(always)]
+    fn put_pointer(&mut self, offset: usize) -> Result<(), WriteError>
+        requires low { offset < 16384 }
+        requires room { length self.old.octets.items ≤ self.old.limit }
+        ensures written { OnOk result
+            (Wrote self.old.limit self.old.octets.items self.new.octets.items self.new.limit self.new.places
+            (plain_octets self.old.places (stated_pointer offset))) }
+        ensures refused { IfErr result
+            (RefusesUpTo self.old.limit (length self.old.octets.items + 2)) }
+    {
+        if self.limit - self.octets.len() < 2 {
+            return Err(WriteError::DoesNotFit);
+        }
+        let [high, low] = pointer(offset);
+        self.octets.reserve(2)?;
+        self.octets.push_reserved(high);
+        self.octets.push_reserved(low);
+        Ok(())
+    }
+
     /// Writes a name: the fewest labels, and a pointer to the rest where some rest occurs earlier (RFC 1035
     /// section 4.1.4).
     #[inline(always)]
@@ -55,7 +92,7 @@ impl<'a> Compressor<'a> {
         'labels: while rest.len() > 1 {
             let at = self.octets.len();
             if let Some(offset) = self.places.find_or_keep(at, rest)? {
-                return self.put(&pointer(offset));
+                return self.put_pointer(offset);
             }
             let (label, behind) = rest.split_at(1 + rest[0] as usize);
             self.put(label)?;

@@ -1,15 +1,19 @@
 //! The targets that pointers can name: where a suffix was written before (RFC 1035 section 4.1.4).
 ghost use Rattle.std.specs.Prelude.{◌≡◌, ◌<◌, List, [], ◌∷◌, ◌++◌, length, get_or, IfOk, IfSome, MatchOption};
-ghost use Rattle.std.specs.Prelude.{OnErr, OnOk};
+ghost use Rattle.std.specs.Prelude.{OnErr, OnOk, Some};
 ghost use Rattle.dns_names.specs.Name.{labels_of, names_eq};
 ghost use Rattle.dns_names.specs.Plain.{IsPlain};
 ghost use Rattle.dns_wire.specs.Compress.{Place, new_places};
 ghost use Rattle.dns_wire.specs.Indexed.{IsIndexed, bucket_of, offset_at};
 ghost use Rattle.dns_wire.specs.Puts.{noted};
 
+use arrayvec::ArrayVec;
 use dns_memory::Heap;
 use std::alloc::AllocError;
 use std::marker::Model;
+
+/// How many targets are kept in place, and take no memory.
+const IN_PLACE: usize = 4;
 
 /// Where a suffix of an earlier name occurs: the plain form of the suffix is lent.
 #[derive(Drop)]
@@ -29,6 +33,16 @@ impl<'a> Model for Target<'a> {
     ghost view = { λ m. record { offset = m.offset; suffix = labels_of m.suffix.now } };
 
     ghost invariant = { λ m. IsPlain m.suffix.now × (m.offset < 16384) };
+}
+
+/// What an unused element of an array holds.
+impl<'a> Default for Target<'a> {
+    fn default() -> Target<'a> {
+        Target {
+            offset: 0,
+            suffix: &[0],
+        }
+    }
 }
 
 impl<'a> Target<'a> {
@@ -254,25 +268,32 @@ impl<'a> Listed<'a> {
 }
 
 /// The targets of a message, in the order of their offsets: those of the name after the header, and the
-/// others. Most replies have none but those of the question's name, and they take no memory.
+/// others. Most replies have few besides those of the question's name, and they take no memory.
 #[derive(Drop)]
 pub(crate) struct Places<'a> {
     /// The name that is written in full after the header: the root, where there is none.
     first: &'a [u8],
+    /// The targets after its own.
+    few: ArrayVec<Target<'a>, 4>,
+    /// How many of these there may be.
+    in_place: usize,
+    /// Those after them.
     listed: Listed<'a>,
 }
 
 impl<'a> Model for Places<'a> {
-    ghost use Rattle.std.specs.Prelude.{List, [], ◌++◌};
+    ghost use Rattle.std.specs.Prelude.{◌≡◌, ◌<◌, ◌≤◌, List, [], ◌++◌};
+    ghost use Rattle.arrayvec.specs.ArrayVec.{array_vec_len};
     ghost use Rattle.dns_names.specs.Name.{labels_of};
     ghost use Rattle.dns_names.specs.Plain.{IsPlain};
     ghost use Rattle.dns_wire.specs.Compress.{Place, new_places};
 
     ghost Value = { List Place };
 
-    ghost view = { λ p. new_places [] 12 (labels_of p.first.now) ++ p.listed };
+    ghost view = { λ p. new_places [] 12 (labels_of p.first.now) ++ p.few.items ++ p.listed };
 
-    ghost invariant = { λ p. IsPlain p.first.now };
+    ghost invariant = { λ p.
+        IsPlain p.first.now × (p.in_place ≤ 4) × (array_vec_len p.few < p.in_place → p.listed ≡ []) };
 }
 
 impl<'a> Places<'a> {
@@ -281,9 +302,12 @@ impl<'a> Places<'a> {
     pub(crate) fn new(alloc: Heap, looked_through: usize) -> Places<'a>
         ensures { result ≡ [] }
     {
+        let in_place = looked_through.min(IN_PLACE);
         Places {
             first: &[0],
-            listed: Listed::new(alloc, looked_through),
+            few: ArrayVec::new(),
+            in_place,
+            listed: Listed::new(alloc, looked_through - in_place),
         }
     }
 
@@ -294,6 +318,23 @@ impl<'a> Places<'a> {
         ensures { self.new ≡ new_places [] 12 (labels_of name.now) }
     {
         self.first = name;
+    }
+
+    /// An offset at which a suffix with a label occurs, where it is found without a search of the targets that
+    /// take memory.
+    pub(crate) fn find(&self, suffix: &[u8]) -> Option<usize>
+        requires { IsPlain suffix.now }
+        ensures place { IfSome result (λ found. Some found ≡ offset_at self.now (labels_of suffix.now)) }
+        ensures low { IfSome result (λ found. found < 16384) }
+        ensures some { IfSome result (λ _. 1 < length suffix.now) }
+    {
+        if suffix.len() <= 1 {
+            return None;
+        }
+        if let Some(found) = place_within(self.first, suffix) {
+            return Some(found);
+        }
+        place_of(self.few.as_slice(), suffix)
     }
 
     /// The least offset at which a suffix occurs. Where it occurs nowhere, it is noted that it occurs at this
@@ -314,6 +355,15 @@ impl<'a> Places<'a> {
         if let Some(found) = place_within(self.first, suffix) {
             return Ok(Some(found));
         }
-        self.listed.find_or_keep(offset, suffix)
+        if let Some(found) = place_of(self.few.as_slice(), suffix) {
+            return Ok(Some(found));
+        }
+        if self.few.len() >= self.in_place {
+            return self.listed.find_or_keep(offset, suffix);
+        }
+        if offset < 16384 {
+            self.few.push(Target { offset, suffix });
+        }
+        Ok(None)
     }
 }

@@ -1,5 +1,5 @@
 //! A record written after a message's octets, its names compressed.
-ghost use Rattle.std.specs.Prelude.{◌≡◌, ◌+◌, ◌-◌, ◌<◌, ◌≤◌, ◌++◌, length, take, drop, IfErr, OnOk};
+ghost use Rattle.std.specs.Prelude.{◌≡◌, ℕ, ◌+◌, ◌-◌, ◌<◌, ◌≤◌, ◌++◌, length, take, drop, IfErr, IfSome, OnOk};
 ghost use Rattle.std.specs.Int.{w16, to_be_bytes as be_octets};
 ghost use Rattle.dns_names.specs.Name.{labels_of, wire};
 ghost use Rattle.dns_names.specs.Plain.{IsPlain};
@@ -8,12 +8,13 @@ ghost use Rattle.std.specs.List.{list_any};
 ghost use Rattle.dns_records.specs.Fields.{stated_field, stated_fields};
 ghost use Rattle.dns_wire.specs.Compress.{compressed_fields, compressed_rdata, compressed_record};
 ghost use Rattle.dns_wire.specs.Puts.{Wrote, RefusesUpTo, BeginsWithName, fixed_octets, compressed_all};
-ghost use Rattle.dns_wire.specs.Puts.{is_name};
+ghost use Rattle.dns_wire.specs.Puts.{address_octets, is_name, plain_octets};
 
 use crate::compressor::Compressor;
+use crate::name::POINTER_BITS;
 use crate::{ReplyRecord, WriteError};
 use byteorder::{BigEndian, ByteOrder};
-use dns_records::types::CLASS_IN;
+use dns_records::types::{A, CLASS_IN};
 use dns_records::{Field, count_within, form};
 
 /// The name at the front of plain octets, and the octets after it.
@@ -39,6 +40,23 @@ fn fixed(rtype: u16, ttl: u32) -> [u8; 10]
     BigEndian::write_u16(&mut octets, rtype);
     BigEndian::write_u16(&mut octets[2..], CLASS_IN);
     BigEndian::write_u32(&mut octets[4..], ttl);
+    octets
+}
+
+/// The octets of the record of an address, whose owner is a pointer to an offset (RFC 1035 sections 3.4.1 and
+/// 4.1.3).
+fn address_octets(offset: usize, ttl: u32, address: &[u8]) -> [u8; 16]
+    requires low { offset < 16384 }
+    requires size { length address.now ≡ 4 }
+    ensures { result ≡ address_octets offset ttl address.now }
+{
+    let mut octets = [0; 16];
+    BigEndian::write_u16(&mut octets, POINTER_BITS + offset as u16);
+    BigEndian::write_u16(&mut octets[2..], A);
+    BigEndian::write_u16(&mut octets[4..], CLASS_IN);
+    BigEndian::write_u32(&mut octets[6..], ttl);
+    BigEndian::write_u16(&mut octets[10..], 4);
+    octets[12..].copy_from_slice(address);
     octets
 }
 
@@ -85,7 +103,7 @@ impl<'a> Compressor<'a> {
                 Field::Strings => return self.put(rest),
             }
         }
-        self.put(rest)
+        self.put_some(rest)
     }
 
     /// Writes the length of the data that begins at an offset into the two octets before it.
@@ -122,6 +140,22 @@ impl<'a> Compressor<'a> {
         }
     }
 
+    /// All octets of a record that is an address whose owner occurs earlier. Most records are such, and are
+    /// written in one piece.
+    fn address(&self, one: &ReplyRecord<'_>) -> Option<[u8; 16]>
+        ensures { IfSome result
+            (λ octets. (at : ℕ) → compressed_record self.now.places at one.now
+            ≡ plain_octets self.now.places octets) }
+    {
+        let rdata = one.rdata();
+        if one.rtype() != A || rdata.len() != 4 {
+            return None;
+        }
+        let owner = one.owner();
+        let offset = self.places.find(owner.as_wire())?;
+        Some(address_octets(offset, one.ttl(), rdata))
+    }
+
     /// Writes a record (RFC 1035 section 4.1.3).
     #[inline(never)]
     pub(crate) fn put_record(&mut self, one: &ReplyRecord<'a>) -> Result<(), WriteError>
@@ -135,6 +169,9 @@ impl<'a> Compressor<'a> {
             (length self.old.octets.items
             + length (compressed_record self.old.places (length self.old.octets.items) one.now).octets)) }
     {
+        if let Some(octets) = self.address(one) {
+            return self.put(&octets);
+        }
         self.put_name(one.owner().as_wire())?;
         self.put(&fixed(one.rtype(), one.ttl()))?;
         let start = self.octets.len();

@@ -3,7 +3,7 @@ use Rattle.std.specs.Option.{option_map}
 use Rattle.std.proofs.lemmas.Result.{IfErr-weaker}
 use Rattle.dns_names.specs.Name.{Labels, labels_of}
 use Rattle.dns_names.specs.Plain.{IsPlain}
-use Rattle.dns_wire.specs.Compress.{Place, place_of, compress_name, new_places, compressed_name}
+use Rattle.dns_wire.specs.Compress.{Place, place_of, pointer, compress_name, new_places, compressed_name}
 use Rattle.dns_wire.specs.Puts.{Wrote, RefusesUpTo, plain_octets, noted}
 use Rattle.dns_wire.proofs.Exits.{on_ok, err_exit}
 use Rattle.dns_wire.proofs.Suffixes.{FirstLabel, first_label}
@@ -12,7 +12,7 @@ use Rattle.dns_wire.specs.Indexed.{offset_at}
 use Rattle.dns_wire.proofs.Indexed.{StillKnown, still_next}
 use Rattle.dns_wire.proofs.NamePut.{NameLeft, name_known, name_next, not_known, compressed_label}
 use Rattle.dns_wire.proofs.compressor.Compressor.put_name.Goals as goal
-use Rattle.dns_wire.proofs.compressor.Compressor.put_name.Goals.{After-put, After-split_at}
+use Rattle.dns_wire.proofs.compressor.Compressor.put_name.Goals.{After-put_pointer, After-split_at}
 
 -- what is kept where the suffix was found, and where it was not
 at_some : (found : Option ℕ) (offset : ℕ) (now kept : List Place) (more : List Place) → found ≡ Some offset → MatchOption found (kept ≡ now ++ more) (λ _. kept ≡ now) → kept ≡ now
@@ -21,7 +21,7 @@ at_some found offset now kept more is h = subst (λ (o : Option ℕ). MatchOptio
 at_none : (found : Option ℕ) (now kept : List Place) (more : List Place) → found ≡ None → MatchOption found (kept ≡ now ++ more) (λ _. kept ≡ now) → kept ≡ now ++ more
 at_none found now kept more is h = subst (λ (o : Option ℕ). MatchOption o (kept ≡ now ++ more) (λ _. kept ≡ now)) is h
 
-pointer_left : (c : After-put) → Leaves c.args.self.now.octets.items (compressed_name c.args.self.now.places (length c.args.self.now.octets.items) (labels_of c.args.name.now)) c.labels.self.octets.items c.pointer.result c.labels.self.places
+pointer_left : (c : After-put_pointer) → Leaves c.args.self.now.octets.items (compressed_name c.args.self.now.places (length c.args.self.now.octets.items) (labels_of c.args.name.now)) c.labels.self.octets.items (pointer c.in-Some.offset) c.labels.self.places
 pointer_left c =
     let before = c.args.self.now.octets.items in
     let known = c.args.self.now.places in
@@ -30,26 +30,26 @@ pointer_left c =
     let place : Some c.in-Some.offset ≡ option_map (λ p. p.offset) (place_of known (f.label ∷ f.rest)) =
     sym c.in-Some.is ∙ c.in_ok-offset.ensures.place ∙ c.labels.invariant.still (labels_of c.labels.rest.now) (omega (arith)) ∙ ap (offset_at known) f.is in
     let left : NameLeft before all known c.labels.self.octets.items c.labels.self.places (f.label ∷ f.rest) = subst (λ (n : Labels). NameLeft before all known c.labels.self.octets.items c.labels.self.places n) f.is c.labels.invariant.left in
-    name_known before all known c.labels.self.octets.items c.labels.self.places f.label f.rest c.in-Some.offset c.pointer.result place c.pointer.ensures left
+    name_known before all known c.labels.self.octets.items c.labels.self.places f.label f.rest c.in-Some.offset (pointer c.in-Some.offset) place refl left
 
 pub returns-in-Some-clause-written : goal.returns-in-Some-clause-written
 returns-in-Some-clause-written c =
     let s = c.args.self.now in
     let now = c.labels.self in
-    let new = c.put.new.self in
+    let new = c.put_pointer.new.self in
     let all = compressed_name s.places (length s.octets.items) (labels_of c.args.name.now) in
     let same = at_some c.in_ok-offset.field-0 c.in-Some.offset now.places c.find_or_keep.new.self (noted c.len-at.result (labels_of c.labels.rest.now)) c.in-Some.is c.in_ok-offset.ensures.kept in
-    let last = plain_octets c.find_or_keep.new.self c.pointer.result in
-    on_ok c.put.result (Wrote now.limit now.octets.items new.octets.items new.limit new.places last) (Wrote s.limit s.octets.items new.octets.items new.limit new.places all) c.put.ensures.written
-    (λ w. wrote_last s.limit s.octets.items all now.octets.items c.pointer.result now.places now.limit new.octets.items new.limit new.places last refl same c.labels.invariant.same (pointer_left c) w)
+    let last = plain_octets c.find_or_keep.new.self (pointer c.in-Some.offset) in
+    on_ok c.put_pointer.result (Wrote now.limit now.octets.items new.octets.items new.limit new.places last) (Wrote s.limit s.octets.items new.octets.items new.limit new.places all) c.put_pointer.ensures.written
+    (λ w. wrote_last s.limit s.octets.items all now.octets.items (pointer c.in-Some.offset) now.places now.limit new.octets.items new.limit new.places last refl same c.labels.invariant.same (pointer_left c) w)
 
 pub returns-in-Some-clause-refused : goal.returns-in-Some-clause-refused
 returns-in-Some-clause-refused c =
     let s = c.args.self.now in
     let now = c.labels.self in
     let all = compressed_name s.places (length s.octets.items) (labels_of c.args.name.now) in
-    IfErr-weaker c.put.result (RefusesUpTo now.limit (length now.octets.items + length c.pointer.result)) (RefusesUpTo s.limit (length s.octets.items + length all.octets))
-    (λ e h. refuses_last s.limit s.octets.items all now.octets.items c.pointer.result now.places now.limit e c.labels.invariant.same (pointer_left c) h) c.put.ensures.refused
+    IfErr-weaker c.put_pointer.result (RefusesUpTo now.limit (length now.octets.items + 2)) (RefusesUpTo s.limit (length s.octets.items + length all.octets))
+    (λ e h. refuses_last s.limit s.octets.items all now.octets.items (pointer c.in-Some.offset) now.places now.limit e c.labels.invariant.same (pointer_left c) h) c.put_pointer.ensures.refused
 
 -- the label that is written next
 record Next (rest front back : List ℕ) (known : List Place) : Type 0 where
@@ -94,7 +94,7 @@ pub labels-preserved : goal.labels-preserved
 labels-preserved c =
     let s = c.args.self.now in
     let now = c.labels.self in
-    let new = c.put-in-labels.new.self in
+    let new = c.put.new.self in
     let all = compressed_name s.places (length s.octets.items) (labels_of c.args.name.now) in
     let n = next (goal.at.labels-preserved c).After-split_at in
     let left : NameLeft s.octets.items all s.places now.octets.items now.places (n.first.label ∷ n.first.rest) = subst (λ (x : Labels). NameLeft s.octets.items all s.places now.octets.items now.places x) n.first.is c.labels.invariant.left in

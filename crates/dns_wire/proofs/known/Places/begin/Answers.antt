@@ -1,4 +1,4 @@
-use Rattle.std.proofs.Common.{◌≡◌, [], ◌++◌, List, ap, ◌∙◌}
+use Rattle.std.proofs.Common.{◌≡◌, [], ◌++◌, List, sym, ap, ◌∙◌}
 use Rattle.std.proofs.lemmas.List.{append-nil}
 use Rattle.dns_names.specs.Name.{labels_of}
 use Rattle.dns_wire.specs.Compress.{Place, new_places}
@@ -9,5 +9,9 @@ pub returns : goal.returns
 returns c =
     let first = new_places [] 12 (labels_of c.self.inside.first.now) in
     let name = new_places [] 12 (labels_of c.args.name.now) in
-    let none : c.self.inside.listed ≡ [] = none_behind first c.self.inside.listed (c.self.view_is ∙ c.requires.first) in
-    ap (λ (ps : List Place). name ++ ps) none ∙ append-nil name
+    let few = c.self.inside.few.items in
+    let listed = c.self.inside.listed in
+    let all : (first ++ few) ++ listed ≡ [] = c.self.view_is ∙ c.requires.first in
+    let none : listed ≡ [] = none_behind (first ++ few) listed all in
+    let front : first ++ few ≡ [] = sym (append-nil (first ++ few)) ∙ ap (λ (ps : List Place). (first ++ few) ++ ps) (sym none) ∙ all in
+    ap (λ (ps : List Place). (name ++ few) ++ ps) none ∙ append-nil (name ++ few) ∙ ap (λ (ps : List Place). name ++ ps) (none_behind first few front) ∙ append-nil name
