@@ -1,15 +1,17 @@
 -- What is done one after the other.
 use Rattle.std.proofs.Common.{◌≡◌, ◌≢◌, inl, inr, ℕ, ◌+◌, ◌<◌, Bool, false, not, ◌==◌, List, [], ◌∷◌, ◌++◌, Option, Some, None, length, map, take, get_or, refl, ap, sym, subst, ◌∙◌, slice_set, arith}
 use Rattle.std.specs.List.{concat}
+use Rattle.std.specs.Prelude.{slice_get}
 use Rattle.std.proofs.lemmas.List.{map-append, set-set, take_more}
 use Rattle.std.proofs.lemmas.Bool.Decides.{nat_tests}
 use Rattle.dns_network.specs.Framed.{pending_length}
 use Rattle.dns_network.specs.declared.connection.Connection.{Connection}
 use Rattle.dns_network.specs.declared.stream.Moved.{Moved}
-use Rattle.dns_network.specs.declared.stream.Moved.TheVariants.{Octets, Later, Ended}
+use Rattle.dns_network.specs.declared.stream.Moved.TheVariants.{Ended}
 use Rattle.dns_network.specs.declared.stream.Stream as stream
-use Rattle.dns_network.specs.Connection.{HasMoved, MovesOn, held_of, rest_of, unhandled}
-use Rattle.dns_network.specs.Connections.{HasMovedAt}
+use Rattle.dns_network.specs.Closing.{Cause, GivesCause, HasEnded, NoMemory}
+use Rattle.dns_network.specs.Connection.{HasLost, held_of, rest_of, stream_of, unhandled}
+use Rattle.dns_network.specs.Connections.{HasBecome, HasMovedAt, IsThere}
 use Rattle.dns_zone.specs.declared.index.ZoneIndex as index
 use Rattle.dns_store.specs.declared.zone_store.ZoneStore as store
 use Rattle.dns_versions.specs.Each.{Each2}
@@ -18,11 +20,12 @@ use Rattle.dns_primary.specs.declared.event.To.{To}
 use Rattle.dns_primary.specs.declared.event.Waiting.{Waiting}
 use Rattle.dns_primary.specs.declared.primary.Primary.{Primary}
 use Rattle.dns_primary.specs.Machine.{Waits}
-use Rattle.dns_primary.specs.Step.{Event, Flush}
+use Rattle.dns_primary.specs.Step.{Event, Closed, Flush}
 use Rattle.dns_primary.specs.Keeps.{IsWaiting}
 use Rattle.dns_network.specs.declared.network.Network.{Ghosts}
-use Rattle.dns_network.specs.Delivery.{Served, Going, TakesEvent, AreGoing, AreSent, IsSent, out_of, reply_to_send}
-use Rattle.dns_network.specs.Turn.{TurnMoment, Asks, Moves, Happens, HasAsked, HasHappened, EventComes, IsMoment, IsTurn, MomentsLead, NoneWaits}
+use Rattle.dns_network.specs.Delivery.{Served, Going, TakesEvent, AreGoing, AreSent, IsClosed, IsSent, out_of, reply_to_send}
+use Rattle.dns_network.specs.Turn.{TurnMoment, Asks, Moves, Happens, Closes, HasAsked, HasHappened, EventComes, IsMoment, IsTurn, MomentsLead, NoneWaits}
+use Rattle.dns_network.proofs.Pushed.{set_there}
 use Rattle.dns_network.proofs.Steps.{steps_on}
 
 -- a connection with no message and no rest has nothing to handle
@@ -50,24 +53,33 @@ pub none_waits : {I D : Type 0} {i : index.Ghosts I} {d : store.Ghosts D} (prima
 none_waits primary waits is none = λ m kept. none_of primary.waiting.items m.waiting (grind (arith, nat_tests, is, none)) kept.waiting_are
 
 module _ {S : Type 0} (s : stream.Ghosts S) where
-  has_moved : (moved : Moved) (c e : Connection S) → moved ≢ Ended → MovesOn s moved c e → HasMoved s c e
-  has_moved (Octets count) c e lasts h = h
-  has_moved Later c e lasts h = h
-  has_moved Ended c e lasts h = absurd (lasts refl)
+  -- a stream that a read or a write told to have ended is there, and has
+  pub ends : (now number : ℕ) (moved : Moved) (old new : List (Option (Connection S))) → moved ≡ Ended → HasMovedAt s now number moved old new
+      → GivesCause s now HasEnded number new
+  ends now number moved old new is (inl (lasts, same)) = absurd (lasts is)
+  ends now number moved old new is (inr (c, d, there, on, set)) =
+      let at : slice_get new number ≡ Some (Some d) =
+      ap (λ (cs : List (Option (Connection S))). slice_get cs number) set ∙ set_there old number (Some c) (Some d) there in
+      subst (IsThere (λ c. s.has_ended (stream_of c))) (sym at) (on.ended is)
 
-  -- a connection on which octets moved was closed then
-  pub closed_then : (number : ℕ) (moved : Moved) (old mid new : List (Option (Connection S))) → HasMovedAt s number moved old mid
-      → new ≡ slice_set mid number None → new ≡ slice_set old number None
-  closed_then number moved old mid new (inl same) gone = closed_still number old mid new same gone
-  closed_then number moved old mid new (inr (c, e, there, on, is)) gone =
-      closed_still number (slice_set old number (Some e)) mid new is gone ∙ set-set old number (Some e) None
+  -- a piece was lost of a connection that is there
+  pub loses : (now number : ℕ) (old new : List (Option (Connection S))) → HasBecome (HasLost s) number old new
+      → GivesCause s now NoMemory number old
+  loses now number old new (c, d, there, lost, set) =
+      subst (IsThere (λ c. (e : Connection S) × HasLost s c e)) (sym there) (d, lost)
 
-module _ {I D S N : Type 0} {i : index.Ghosts I} {d : store.Ghosts D} (s : stream.Ghosts S) (n : Ghosts N S) where
-  pub by_one : (one : TurnMoment) (a b : Served I D S N i d) → IsMoment s n one a b → MomentsLead s n a b
+  -- a connection that has changed was closed then
+  pub closed_then : (became : Connection S → Connection S → Type 0) (number : ℕ) (old mid new : List (Option (Connection S)))
+      → HasBecome became number old mid → new ≡ slice_set mid number None → new ≡ slice_set old number None
+  closed_then became number old mid new (c, d, there, on, set) gone =
+      closed_still number (slice_set old number (Some d)) mid new set gone ∙ set-set old number (Some d) None
+
+module _ {I D S N : Type 0} {i : index.Ghosts I} {d : store.Ghosts D} (s : stream.Ghosts S) (n : Ghosts N S) (now : ℕ) where
+  pub by_one : (one : TurnMoment) (a b : Served I D S N i d) → IsMoment s n now one a b → MomentsLead s n now a b
   by_one one a b h = (one ∷ [], (b, h, refl))
 
-  pub and_on : (a b c : Served I D S N i d) → MomentsLead s n a b → MomentsLead s n b c → MomentsLead s n a c
-  and_on a b c (first, is) (later, more) = (first ++ later, steps_on (λ old one new. IsMoment s n one old new) first later a b c is more)
+  pub and_on : (a b c : Served I D S N i d) → MomentsLead s n now a b → MomentsLead s n now b c → MomentsLead s n now a c
+  and_on a b c (first, is) (later, more) = (first ++ later, steps_on (λ old one new. IsMoment s n now one old new) first later a b c is more)
 
   -- an event happens, and its replies go out
   pub happened : (event : Event) (effects : Effects) (old given told new : Served I D S N i d) → EventComes n event old given
@@ -78,19 +90,19 @@ module _ {I D S N : Type 0} {i : index.Ghosts I} {d : store.Ghosts D} (s : strea
 
   pub happens : (event : Event) (effects : Effects) (old given told new : Served I D S N i d) → EventComes n event old given
       → TakesEvent given.primary event told.primary effects → told ≡ record given { primary = told.primary }
-      → AreSent n (out_of effects) told new → MomentsLead s n old new
+      → AreSent n (out_of effects) told new → MomentsLead s n now old new
   happens event effects old given told new is_given takes rest sent =
       by_one (Happens event effects sent.0) old new (happened event effects old given told new is_given takes rest sent)
 
   -- a turn after which no reply waits, and one after which one does
-  pub not_flushed : (old new : Served I D S N i d) → MomentsLead s n old new → NoneWaits new.primary
-      → (moments : List TurnMoment) × IsTurn s n moments old new
+  pub not_flushed : (old new : Served I D S N i d) → MomentsLead s n now old new → NoneWaits new.primary
+      → (moments : List TurnMoment) × IsTurn s n now moments old new
   not_flushed old new (moments, done) none =
       (moments ++ [], record { first = moments; last = []; are = refl; between = new; done = done; flushed = refl; flush = inl (refl, none) })
 
-  pub flush_after : (old done looked flushed new : Served I D S N i d) (effects : Effects) (goings : List Going) → MomentsLead s n old done
+  pub flush_after : (old done looked flushed new : Served I D S N i d) (effects : Effects) (goings : List Going) → MomentsLead s n now old done
       → HasAsked n done looked → HasHappened n Flush effects goings looked flushed → HasAsked n flushed new
-      → (moments : List TurnMoment) × IsTurn s n moments old new
+      → (moments : List TurnMoment) × IsTurn s n now moments old new
   flush_after old done looked flushed new effects goings (moments, first) before flush pending =
       let last = Asks ∷ Happens Flush effects goings ∷ Asks ∷ [] in (
         moments ++ last,
@@ -105,13 +117,21 @@ module _ {I D S N : Type 0} {i : index.Ghosts I} {d : store.Ghosts D} (s : strea
         },
       )
 
-  -- octets moved on a connection whose stream didn't end
-  pub moves : (number : ℕ) (moved : Moved) (primary : Primary I D i d) (network : N) (old new : List (Option (Connection S))) → moved ≢ Ended
-      → HasMovedAt s number moved old new → MomentsLead s n (standing primary network old) (standing primary network new)
-  moves number moved primary network old new lasts (inl same) = ([], ap (standing primary network) same)
-  moves number moved primary network old new lasts (inr (c, e, there, on, is)) =
+  -- octets may have moved on a connection
+  pub moves : (number : ℕ) (moved : Moved) (primary : Primary I D i d) (network : N) (old new : List (Option (Connection S)))
+      → HasMovedAt s now number moved old new → MomentsLead s n now (standing primary network old) (standing primary network new)
+  moves number moved primary network old new (inl (lasts, same)) = ([], ap (standing primary network) same)
+  moves number moved primary network old new (inr (c, e, there, on, is)) =
       by_one (Moves number) (standing primary network old) (standing primary network new)
-      (record { before = c; after = e; there = there; moved = has_moved s moved c e lasts on; rest = ap (standing primary network) is })
+      (record { before = c; after = e; there = there; moved = on.moved; rest = ap (standing primary network) is })
+
+  -- a connection gave a cause to close it, and was closed
+  pub closes : (number : ℕ) (cause : Cause) (before after : Primary I D i d) (network : N) (old new : List (Option (Connection S)))
+      → GivesCause s now cause number old → (effects : Effects) × TakesEvent before (Closed number) after effects → new ≡ slice_set old number None
+      → MomentsLead s n now (standing before network old) (standing after network new)
+  closes number cause before after network old new gives (effects, told) gone =
+      by_one (Closes number cause) (standing before network old) (standing after network new)
+      (record { gives = gives; closed = record { effects = effects; told = told; gone = gone; network = refl } })
 
 module _ {I D S N : Type 0} {i : index.Ghosts I} {d : store.Ghosts D} (n : Ghosts N S) where
   going_on : (first later : List Going) (a b c : Served I D S N i d) → AreGoing n first a b → AreGoing n later b c → AreGoing n (first ++ later) a c

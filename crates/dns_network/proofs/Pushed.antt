@@ -1,21 +1,29 @@
 -- What is done with what is at a position.
-use Rattle.std.proofs.Common.{◌≡◌, inr, ℕ, ◌<◌, List, [], ◌∷◌, ◌++◌, length, Option, Some, None, Result, Ok, Err, refl, sym, ap, ◌∙◌, subst, slice_set, get_or}
-use Rattle.std.specs.Prelude.{slice_get, OnOk, IfNone, MatchOption}
+use Rattle.std.proofs.Common.{◌≡◌, inl, inr, ℕ, zero, suc, ◌<◌, List, [], ◌∷◌, ◌++◌, length, Option, Some, None, Result, Ok, Err, refl, sym, ap, ◌∙◌, subst, slice_set, get_or}
+use Rattle.std.specs.Prelude.{slice_get, OnOk, OnErr, IfOk, IfNone, MatchOption}
 use Rattle.std.specs.Option.{option_map}
 use Rattle.std.proofs.lemmas.List.{set-get_or}
 use Rattle.std.proofs.lemmas.Option.{slice_get_read}
 use Rattle.dns_network.specs.declared.connection.Connection.{Connection}
 use Rattle.dns_network.specs.declared.stream.Stream.{Ghosts}
 use Rattle.dns_network.specs.declared.stream.Moved.{Moved}
-use Rattle.dns_network.specs.declared.stream.Moved.TheVariants.{Octets, Later, Ended}
+use Rattle.dns_network.specs.declared.stream.Moved.TheVariants.{Later, Ended}
 use Rattle.dns_network.specs.Framed.{pending_length}
-use Rattle.dns_network.specs.Connection.{HasMoved, IsQueued, MovesOn, held_of, rest_of, unwritten_of, stream_of, unhandled}
-use Rattle.dns_network.specs.Connections.{IsPushedTo, IsReplyPushed, HasMovedAt, HandsOver}
+use Rattle.dns_network.specs.Connection.{IsQueued, MovesOn, heard_of, held_of, rest_of, unwritten_of, stream_of, unhandled}
+use Rattle.dns_network.specs.Connections.{IsPushedTo, IsReplyPushed, HasBecome, HasMovedAt, HandsOver}
 use Rattle.dns_network.proofs.Framed.{joined, apart}
 
 pub on_ok : {T E P Q : Type 0} (r : Result T E) → (P → Q) → OnOk r P → OnOk r Q
 on_ok (Ok x) f p = f p
 on_ok (Err e) f p = tt
+
+pub on_err : {T E P Q : Type 0} (r : Result T E) → (P → Q) → OnErr r P → OnErr r Q
+on_err (Ok x) f p = tt
+on_err (Err e) f p = f p
+
+pub if_ok : {T E : Type 0} (P Q : T → Type 0) (r : Result T E) → ((x : T) → P x → Q x) → IfOk r P → IfOk r Q
+if_ok P Q (Ok x) f p = f x p
+if_ok P Q (Err e) f p = tt
 
 -- the messages that wait on what is at a position
 abbrev held_at : {S : Type 0} → Option (Option (Connection S)) → List (List ℕ)
@@ -31,11 +39,15 @@ one_less message c d held rest =
     ∙ ap (λ (r : List ℕ). joined (message ∷ held_of d) ++ r) (sym rest)
     ∙ apart message (held_of d) (rest_of d)
 
--- a stream on which octets may have moved goes on or has ended
-pub goes_on : {S : Type 0} (s : Ghosts S) (moved : Moved) (c d : Connection S) → HasMoved s c d → MovesOn s moved c d
-goes_on s (Octets count) c d h = h
-goes_on s Later c d h = h
-goes_on s Ended c d h = tt
+-- what was put at a position is there
+pub set_there : {A : Type 0} (xs : List A) (i : ℕ) (x y : A) → slice_get xs i ≡ Some x → slice_get (slice_set xs i y) i ≡ Some y
+set_there [] i x y h = absurd (cc h)
+set_there (z ∷ xs) zero x y h = refl
+set_there (z ∷ xs) (suc i) x y h = set_there xs i x y h
+
+-- nothing was done
+pub nothing_moved : {S : Type 0} (s : Ghosts S) (now number : ℕ) (old new : List (Option (Connection S))) → new ≡ old → HasMovedAt s now number Later old new
+nothing_moved s now number old new same = inl ((λ e. cc), same)
 
 module _ {S : Type 0} (number : ℕ) (old : List (Option (Connection S))) (size : ℕ) (here : Option (Connection S))
     (long : size ≡ length old) (within : number < size) (read : here ≡ get_or old number here) where
@@ -58,17 +70,21 @@ module _ {S : Type 0} (number : ℕ) (old : List (Option (Connection S))) (size 
   pub none_waits : here ≡ None → (c : Connection S) → slice_get old number ≡ Some (Some c) → held_of c ≡ []
   none_waits is c there = ap held_at (sym there ∙ at ∙ ap Some is)
 
-  pub moved_one : (s : Ghosts S) (moved : Moved) (c d : Connection S) → here ≡ Some c → MovesOn s moved c d
-      → HasMovedAt s number moved old (slice_set old number (Some d))
-  moved_one s moved c d is on = inr (c, d, at ∙ ap Some is, on, refl)
+  pub become_one : (became : Connection S → Connection S → Type 0) (c d : Connection S) → here ≡ Some c → became c d
+      → HasBecome became number old (slice_set old number (Some d))
+  become_one became c d is on = (c, d, at ∙ ap Some is, on, refl)
+
+  pub moved_one : (s : Ghosts S) (now : ℕ) (moved : Moved) (c d : Connection S) → here ≡ Some c → MovesOn s now moved c d
+      → HasMovedAt s now number moved old (slice_set old number (Some d))
+  moved_one s now moved c d is on = inr (become_one (MovesOn s now moved) c d is on)
 
   pub handed_one : {M : Type 0} (octets : M → List ℕ) (handed : Option M) (c d : Connection S) → here ≡ Some c
       → MatchOption handed (held_of c ≡ []) (λ m. held_of c ≡ octets m ∷ held_of d)
-      → unwritten_of d ≡ unwritten_of c → stream_of d ≡ stream_of c → rest_of d ≡ rest_of c → IfNone handed (d ≡ c)
+      → unwritten_of d ≡ unwritten_of c → stream_of d ≡ stream_of c → rest_of d ≡ rest_of c → heard_of d ≡ heard_of c → IfNone handed (d ≡ c)
       → HandsOver number (option_map octets handed) old (slice_set old number (Some d))
-  handed_one octets None c d is first left stream rest none = (
+  handed_one octets None c d is first left stream rest heard none = (
     ap (slice_set old number) (ap Some none ∙ sym is) ∙ nothing_there,
     λ c' there. ap held_at (sym there ∙ at ∙ ap Some is) ∙ first,
   )
-  handed_one octets (Some m) c d is first left stream rest none =
-      (c, d, at ∙ ap Some is, record { came = one_less (octets m) c d first rest; left = left; stream = stream }, refl)
+  handed_one octets (Some m) c d is first left stream rest heard none =
+      (c, d, at ∙ ap Some is, record { came = one_less (octets m) c d first rest; left = left; stream = stream; heard = heard }, refl)

@@ -103,7 +103,7 @@ module _ {I D S N : Type 0} {i : index.Ghosts I} {d : store.Ghosts D} (n : Ghost
   sent_told (to.Connection number) reply false old new m is kept =
       none_told (λ e. IsKept new.primary e) m (stays old new m (ap (λ (x : Served I D S N i d). x.primary) is.0) kept)
   sent_told (to.Connection number) reply true old new m is kept =
-      closing_told number is.effects old.primary new.primary m is.told kept
+      closing_told number is.closed.effects old.primary new.primary m is.closed.told kept
   sent_told to.Nowhere reply false old new m is kept =
       none_told (λ e. IsKept new.primary e) m (stays old new m (ap (λ (x : Served I D S N i d). x.primary) is) kept)
   sent_told (to.Address peer) reply true old new m is kept = absurd is
@@ -130,37 +130,38 @@ module _ {I D S N : Type 0} {i : index.Ghosts I} {d : store.Ghosts D} (n : Ghost
   asked_stays old new is = ap (λ (x : Served I D S N i d). x.primary) is.rest
 
 module _ {I D S N : Type 0} {i : index.Ghosts I} {d : store.Ghosts D} (s : stream.Ghosts S) (n : Ghosts N S) where
-  moment_told : (one : TurnMoment) (old new : Served I D S N i d) (m : Machine) → IsMoment s n one old new → IsKept old.primary m
+  moment_told : (now : ℕ) (one : TurnMoment) (old new : Served I D S N i d) (m : Machine) → IsMoment s n now one old new → IsKept old.primary m
       → RunsTo (told_in one) m (λ e. IsKept new.primary e)
-  moment_told Asks old new m is kept = none_told (λ e. IsKept new.primary e) m (stays n old new m (asked_stays n old new is) kept)
-  moment_told (Moves number) old new m is kept =
+  moment_told now Asks old new m is kept = none_told (λ e. IsKept new.primary e) m (stays n old new m (asked_stays n old new is) kept)
+  moment_told now (Moves number) old new m is kept =
       none_told (λ e. IsKept new.primary e) m (stays n old new m (ap (λ (x : Served I D S N i d). x.primary) is.rest) kept)
-  moment_told (Connects peer effects) old new m is kept = event_told (Connect peer) effects old.primary new.primary m is.taken.told kept
-  moment_told (Happens event effects goings) old new m is kept =
+  moment_told now (Connects peer effects) old new m is kept = event_told (Connect peer) effects old.primary new.primary m is.taken.told kept
+  moment_told now (Happens event effects goings) old new m is kept =
       told_on (told_of event effects ∷ []) (flat_map (λ going. closed_for going.to going.cut) goings) (λ e. IsKept is.told.primary e) (λ e. IsKept new.primary e) m
       (event_told event effects is.given.primary is.told.primary m is.takes (stays n old is.given m (given_stays n event old is.given is.is_given) kept))
       (λ e kept'. goings_told n goings is.told new e is.sent kept')
-  moment_told (Closes number) old new m is kept = closing_told number is.effects old.primary new.primary m is.told kept
+  moment_told now (Closes number cause) old new m is kept =
+      closing_told number is.closed.effects old.primary new.primary m is.closed.told kept
 
-  moments_told : (moments : List TurnMoment) (old new : Served I D S N i d) (m : Machine) → AreMoments s n moments old new → IsKept old.primary m
+  moments_told : (now : ℕ) (moments : List TurnMoment) (old new : Served I D S N i d) (m : Machine) → AreMoments s n now moments old new → IsKept old.primary m
       → RunsTo (flat_map told_in moments) m (λ e. IsKept new.primary e)
-  moments_told [] old new m is kept =
+  moments_told now [] old new m is kept =
       none_told (λ e. IsKept new.primary e) m (stays n old new m (ap (λ (x : Served I D S N i d). x.primary) is) kept)
-  moments_told (one ∷ rest) old new m (between, here, is) kept =
+  moments_told now (one ∷ rest) old new m (between, here, is) kept =
       told_on (told_in one) (flat_map told_in rest) (λ e. IsKept between.primary e) (λ e. IsKept new.primary e) m
-      (moment_told one old between m here kept) (λ e kept'. moments_told rest between new e is kept')
+      (moment_told now one old between m here kept) (λ e kept'. moments_told now rest between new e is kept')
 
   paused : (old new : Served I D S N i d) (m : Machine) → (new ≡ old) ⊎ HasAsked n old new → IsKept old.primary m → IsKept new.primary m
   paused old new m (inl same) kept = stays n old new m (ap (λ (x : Served I D S N i d). x.primary) same) kept
   paused old new m (inr asked) kept = stays n old new m (asked_stays n old new asked) kept
 
-  turn_told : (moments : List TurnMoment) (old new : Served I D S N i d) (m : Machine) → IsTurn s n moments old new → IsKept old.primary m
+  turn_told : (now : ℕ) (moments : List TurnMoment) (old new : Served I D S N i d) (m : Machine) → IsTurn s n now moments old new → IsKept old.primary m
       → RunsTo (flat_map told_in moments) m (λ e. IsKept new.primary e)
-  turn_told moments old new m is kept =
+  turn_told now moments old new m is kept =
       subst (λ (l : List Told). RunsTo l m (λ e. IsKept new.primary e))
       (told_append is.first is.last ∙ ap (flat_map told_in) (sym is.are))
       (told_on (flat_map told_in is.first) (flat_map told_in is.last) (λ e. IsKept is.between.primary e) (λ e. IsKept new.primary e) m
-      (moments_told is.first old is.between m is.done kept) (λ e kept'. moments_told is.last is.between new e is.flushed kept'))
+      (moments_told now is.first old is.between m is.done kept) (λ e kept'. moments_told now is.last is.between new e is.flushed kept'))
 
   after_round : (old new : Served I D S N i d) (told : List Told) (m : Machine) → (new ≡ old) ⊎ HasAsked n old new
       → RunsTo told m (λ e. IsKept old.primary e) → RunsTo told m (λ e. IsKept new.primary e)
@@ -174,7 +175,7 @@ module _ {I D S N : Type 0} {i : index.Ghosts I} {d : store.Ghosts D} (s : strea
   turns_to (one ∷ rest) old new m (between, here, is) kept =
       told_on (flat_map told_in one) (told_by rest) (λ e. IsKept between.primary e) (λ e. IsKept new.primary e) m
       (after_round here.ended between (flat_map told_in one) m here.after
-      (turn_told one here.begun here.ended m here.turn (paused old here.begun m here.before kept)))
+      (turn_told here.now one here.begun here.ended m here.turn (paused old here.begun m here.before kept)))
       (λ e kept'. turns_to rest between new e is kept')
 
   pub turns_run : (turns : List (List TurnMoment)) (old new : Served I D S N i d) (m : Machine) → AreTurns s n turns old new → IsKept old.primary m

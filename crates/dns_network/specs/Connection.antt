@@ -1,11 +1,17 @@
 -- A connection, as its contracts see it.
-use Rattle.std.specs.Prelude.{◌≡◌, ◌↔◌, ◌++◌, ℕ, List, map}
+use Rattle.std.specs.Prelude.{◌≡◌, ◌≢◌, ◌≤◌, ◌⊎◌, ◌↔◌, ◌++◌, ◌-◌, ℕ, List, [], map}
 use Rattle.std.specs.List.{concat}
 use Rattle.dns_network.specs.Framed.{pending_length}
 use Rattle.dns_network.specs.declared.connection.Connection.{Connection}
 use Rattle.dns_network.specs.declared.stream.Stream.{Ghosts}
 use Rattle.dns_network.specs.declared.stream.Moved.{Moved}
 use Rattle.dns_network.specs.declared.stream.Moved.TheVariants.{Octets, Later, Ended}
+
+-- The second in which octets last moved, after a read or a write in the second `now`.
+abbrev pub heard_after : Moved → ℕ → ℕ → ℕ
+heard_after (Octets count) now before = now
+heard_after Later now before = before
+heard_after Ended now before = before
 
 module _ {S : Type 0} where
   abbrev pub stream_of : Connection S → S
@@ -22,35 +28,66 @@ module _ {S : Type 0} where
   abbrev pub rest_of : Connection S → List ℕ
   rest_of connection = connection.framing
 
+  -- the second in which octets last moved
+  abbrev pub heard_of : Connection S → ℕ
+  heard_of connection = connection.heard
+
   -- nothing was read, written or handled
   pub record IsQueued (reply : List ℕ) (old new : Connection S) : Type 0 where
     pub left : unwritten_of new ≡ unwritten_of old ++ pending_length reply
     pub stream : stream_of new ≡ stream_of old
     pub held : held_of new ≡ held_of old
     pub rest : rest_of new ≡ rest_of old
+    pub heard : heard_of new ≡ heard_of old
 
   -- what came and was not handled yet
   abbrev pub unhandled : Connection S → List ℕ
   unhandled connection = concat (map pending_length (held_of connection)) ++ rest_of connection
 
-  -- Octets may have moved: what the stream took and what is left to write are what they were, in order, and
-  -- what was read from it follows what was not handled yet.
-  pub record HasMoved (s : Ghosts S) (old new : Connection S) : Type 0 where
+  -- no octet has moved
+  pub record HasStayed (s : Ghosts S) (old new : Connection S) : Type 0 where
+    pub sent : s.is_faithful (stream_of old) → s.sent (stream_of new) ≡ s.sent (stream_of old)
+    pub received : s.is_faithful (stream_of old) → s.received (stream_of new) ≡ s.received (stream_of old)
+    pub heard : heard_of new ≡ heard_of old
+
+  -- Octets may have moved in the second `now`: what the stream took and what is left to write are what they
+  -- were, in order, and what was read from it follows what was not handled yet.
+  pub record HasMoved (s : Ghosts S) (now : ℕ) (old new : Connection S) : Type 0 where
     pub faithful : s.is_faithful (stream_of new) ↔ s.is_faithful (stream_of old)
     pub went : s.is_faithful (stream_of old)
         → s.sent (stream_of new) ++ unwritten_of new ≡ s.sent (stream_of old) ++ unwritten_of old
     pub came : s.is_faithful (stream_of old)
         → (piece : List ℕ) × (s.received (stream_of new) ≡ s.received (stream_of old) ++ piece)
         × (unhandled new ≡ unhandled old ++ piece)
+    pub heard : (heard_of new ≡ now) ⊎ HasStayed s old new
 
-  -- So it is where the stream didn't end.
-  abbrev pub MovesOn : Ghosts S → Moved → Connection S → Connection S → Type 0
-  MovesOn s (Octets count) old new = HasMoved s old new
-  MovesOn s Later old new = HasMoved s old new
-  MovesOn s Ended old new = Unit {0}
+  -- So it is after a read or a write, and where that says that the stream ended, it has.
+  pub record MovesOn (s : Ghosts S) (now : ℕ) (result : Moved) (old new : Connection S) : Type 0 where
+    pub moved : HasMoved s now old new
+    pub ended : result ≡ Ended → s.has_ended (stream_of new)
+
+  -- A piece was read, one octet or more, and is not among what came: memory for it was refused. All else is
+  -- what it was.
+  pub record HasLost (s : Ghosts S) (old new : Connection S) : Type 0 where
+    pub faithful : s.is_faithful (stream_of new) ↔ s.is_faithful (stream_of old)
+    pub lost : s.is_faithful (stream_of old)
+        → (piece : List ℕ) × (piece ≢ []) × (s.received (stream_of new) ≡ s.received (stream_of old) ++ piece)
+    pub still : s.is_faithful (stream_of old) → s.sent (stream_of new) ≡ s.sent (stream_of old)
+    pub left : unwritten_of new ≡ unwritten_of old
+    pub held : held_of new ≡ held_of old
+    pub rest : rest_of new ≡ rest_of old
+    pub heard : heard_of new ≡ heard_of old
 
   -- The first message that came and was not handled yet was handed over, and nothing moved.
   pub record HasHandedOver (message : List ℕ) (old new : Connection S) : Type 0 where
     pub came : unhandled old ≡ pending_length message ++ unhandled new
     pub left : unwritten_of new ≡ unwritten_of old
     pub stream : stream_of new ≡ stream_of old
+    pub heard : heard_of new ≡ heard_of old
+
+  -- In the second `now` nothing is left to write or to handle, and octets last moved 30 seconds before, or
+  -- more.
+  pub record IsSilent (now : ℕ) (c : Connection S) : Type 0 where
+    pub left : unwritten_of c ≡ []
+    pub held : held_of c ≡ []
+    pub heard : 30 ≤ now - heard_of c

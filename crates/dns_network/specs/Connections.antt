@@ -1,16 +1,30 @@
 -- All connections, as their contracts see them.
-use Rattle.std.specs.Prelude.{◌≡◌, ◌⊎◌, ◌==◌, ℕ, Bool, true, false, not, List, [], length, Option, Some, None}
+use Rattle.std.specs.Prelude.{◌≡◌, ◌≢◌, ◌⊎◌, ◌==◌, ℕ, Bool, true, false, not, List, [], length, Option, Some, None}
 use Rattle.std.specs.Prelude.{slice_get, slice_set}
 use Rattle.dns_network.specs.declared.connection.Connection.{Connection}
 use Rattle.dns_network.specs.declared.connections.Connections.{Connections}
 use Rattle.dns_network.specs.declared.stream.Stream.{Ghosts}
 use Rattle.dns_network.specs.declared.stream.Moved.{Moved}
+use Rattle.dns_network.specs.declared.stream.Moved.TheVariants.{Ended}
 use Rattle.dns_network.specs.Connection.{IsQueued, MovesOn, HasHandedOver, held_of, unwritten_of}
 
 module _ {S : Type 0} where
   -- what is stored under each number, from 0 on
   abbrev pub places_of : Connections S → List (Option (Connection S))
   places_of connections = connections.places.items
+
+  -- A connection is there, and this is known of it.
+  abbrev pub IsThere : (Connection S → Type 0) → Option (Option (Connection S)) → Type 0
+  IsThere known None = ⊥
+  IsThere known (Some None) = ⊥
+  IsThere known (Some (Some c)) = known c
+
+  -- This has become of the connection with that number, and no other one has changed.
+  abbrev pub HasBecome : (Connection S → Connection S → Type 0) → ℕ → List (Option (Connection S))
+      → List (Option (Connection S)) → Type 0
+  HasBecome became number old new =
+      (c : Connection S) × (d : Connection S) × (slice_get old number ≡ Some (Some c)) × became c d
+      × (new ≡ slice_set old number (Some d))
 
   -- a connection has that number
   abbrev pub is_open_at : Option (Option (Connection S)) → Bool
@@ -39,13 +53,12 @@ module _ {S : Type 0} where
   has_left_at (Some None) = false
   has_left_at (Some (Some c)) = not (length (unwritten_of c) == 0)
 
-  -- Nothing has changed, or octets may have moved on the connection with that number, and on no other one.
-  abbrev pub HasMovedAt : Ghosts S → ℕ → Moved → List (Option (Connection S))
+  -- Nothing has changed, and no stream ended; or octets may have moved on the connection with that number, and
+  -- on no other one.
+  abbrev pub HasMovedAt : Ghosts S → ℕ → ℕ → Moved → List (Option (Connection S))
       → List (Option (Connection S)) → Type 0
-  HasMovedAt s number moved old new =
-      (new ≡ old)
-      ⊎ ((c : Connection S) × (d : Connection S) × (slice_get old number ≡ Some (Some c))
-      × MovesOn s moved c d × (new ≡ slice_set old number (Some d)))
+  HasMovedAt s now number moved old new =
+      ((moved ≢ Ended) × (new ≡ old)) ⊎ HasBecome (MovesOn s now moved) number old new
 
   -- The connection with that number handed over its first message, and no other one has changed; or it had
   -- none.
@@ -54,5 +67,4 @@ module _ {S : Type 0} where
   HandsOver number None old new =
       (new ≡ old) × ((c : Connection S) → slice_get old number ≡ Some (Some c) → held_of c ≡ [])
   HandsOver number (Some message) old new =
-      (c : Connection S) × (d : Connection S) × (slice_get old number ≡ Some (Some c))
-      × HasHandedOver message c d × (new ≡ slice_set old number (Some d))
+      HasBecome (HasHandedOver message) number old new

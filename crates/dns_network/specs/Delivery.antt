@@ -1,8 +1,8 @@
 -- What a server by turns has, and where the replies of its machine go.
-use Rattle.std.specs.Prelude.{◌≡◌, ◌⊎◌, ◌++◌, ℕ, Bool, true, false, List, map, Option, None}
-use Rattle.std.specs.Prelude.{slice_set}
+use Rattle.std.specs.Prelude.{◌≡◌, ◌⊎◌, ◌<◌, ◌++◌, ℕ, Bool, true, false, List, map, Option, None}
+use Rattle.std.specs.Prelude.{length, slice_set}
 use Rattle.dns_network.specs.declared.connection.Connection.{Connection}
-use Rattle.dns_network.specs.Connections.{IsReplyPushed, places_of}
+use Rattle.dns_network.specs.Connections.{IsReplyPushed, is_open, places_of}
 use Rattle.dns_zone.specs.declared.index.ZoneIndex as index
 use Rattle.dns_store.specs.declared.zone_store.ZoneStore as store
 use Rattle.dns_primary.specs.declared.event.To.{To}
@@ -21,8 +21,7 @@ use Rattle.dns_network.specs.Steps.{AreSteps}
 abbrev pub out_of : Effects → List (To × List ℕ)
 out_of effects = map header_out effects.headers.items ++ reply_out effects.message
 
--- A reply that goes out. It is cut where the connection to which it goes is closed in its stead, since it
--- can't be queued there.
+-- A reply that goes out. It is cut where the connection to which it goes is closed in its stead.
 pub record Going : Type 0 where
   pub to : To
   pub octets : List ℕ
@@ -58,6 +57,12 @@ module _ {I D S N : Type 0} {i : index.Ghosts I} {d : store.Ghosts D} where
     pub gone : new.connections ≡ slice_set old.connections number None
     pub network : new.network ≡ old.network
 
+  -- The connection to which a reply was to go was closed in its stead: the reply is longer than a message on a
+  -- stream can be (RFC 1035 section 4.2.2), or it is open and memory was refused.
+  pub record IsCut (number : ℕ) (reply : List ℕ) (old new : Served I D S N i d) : Type 0 where
+    pub cause : (65535 < length reply) ⊎ (is_open number old.connections ≡ true)
+    pub closed : IsClosed number old new
+
   -- A reply to a connection is queued there after all that was queued before, with its length before it, or,
   -- where it is cut, that connection is closed; no other one is touched. One to a peer is handed to the
   -- network, and one to nowhere goes nowhere.
@@ -67,7 +72,7 @@ module _ {I D S N : Type 0} {i : index.Ghosts I} {d : store.Ghosts D} where
   IsSent n (to.Connection number) reply false old new =
       (new ≡ record old { connections = new.connections })
       × IsReplyPushed number reply old.connections new.connections
-  IsSent n (to.Connection number) reply true old new = IsClosed number old new
+  IsSent n (to.Connection number) reply true old new = IsCut number reply old new
   IsSent n to.Nowhere reply false old new = new ≡ old
   IsSent n (to.Address peer) reply true old new = ⊥
   IsSent n to.Nowhere reply true old new = ⊥

@@ -1,4 +1,5 @@
 pub mod Framed
+pub mod Closing
 pub mod MemoryStream
 pub mod Stream
 pub mod Connection

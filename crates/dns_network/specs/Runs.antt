@@ -53,7 +53,7 @@ told_in (Moves number) = []
 told_in (Connects peer effects) = told_of (Connect peer) effects ∷ []
 told_in (Happens event effects goings) =
     told_of event effects ∷ flat_map (λ going. closed_for going.to going.cut) goings
-told_in (Closes number) = closing number ∷ []
+told_in (Closes number cause) = closing number ∷ []
 
 -- What it is told in turns, in order.
 abbrev pub told_by : List (List TurnMoment) → List Told

@@ -1,16 +1,17 @@
 //! A connection: its stream, what came on it and what is to go out.
 ghost use Rattle.std.specs.Prelude.{◌≡◌, ◌≢◌, ◌<◌, ◌==◌, ◌++◌, ◌∷◌, ℕ, List, [], not, false, length, drop};
-ghost use Rattle.std.specs.Prelude.{OnOk, OnErr, IfNone, MatchOption};
+ghost use Rattle.std.specs.Prelude.{◌↔◌, IsTrue, IfOk, OnOk, OnErr, IfNone, MatchOption};
 ghost use Rattle.dns_network.specs.Framed.{IsFramed};
 ghost use Rattle.dns_network.specs.Stream.{IfOctets, moved};
-ghost use Rattle.dns_network.specs.Connection.{HasMoved, IsQueued, MovesOn, held_of, unwritten_of, rest_of};
-ghost use Rattle.dns_network.specs.Connection.{stream_of};
+ghost use Rattle.dns_network.specs.Connection.{HasLost, HasMoved, IsQueued, IsSilent, MovesOn, heard_after};
+ghost use Rattle.dns_network.specs.Connection.{heard_of, held_of, unwritten_of, rest_of, stream_of};
 
 use crate::{Framing, Moved, Octets, Outbox, Stream};
 use dns_memory::Heap;
 use std::alloc::AllocError;
 
-/// A connection that is silent for so many seconds, while nothing is left to write, may be closed.
+/// A connection that is silent for so many seconds, while nothing is left to write or to handle, may be
+/// closed.
 const SILENCE: u64 = 30;
 
 /// A connection: its stream, the messages that came and weren't handled yet, what is left to write, and the
@@ -44,6 +45,7 @@ impl<S: Stream + Drop> Connection<S> {
         ensures left { unwritten_of result ≡ [] }
         ensures held { held_of result ≡ [] }
         ensures rest { rest_of result ≡ [] }
+        ensures heard { heard_of result ≡ now }
     {
         Connection {
             stream,
@@ -80,7 +82,9 @@ impl<S: Stream + Drop> Connection<S> {
     pub fn write(&mut self, now: u64) -> Moved
         ensures left { unwritten_of self.new ≡ drop (moved result) (unwritten_of self.old) }
         // What the stream took and what is left are what they were, in order.
-        ensures moved { HasMoved S.Stream self.old self.new }
+        ensures moved { HasMoved S.Stream now self.old self.new }
+        ensures ended { result ≡ Moved.Ended → S.has_ended (stream_of self.new) }
+        ensures heard { heard_of self.new ≡ heard_after result now (heard_of self.old) }
         ensures still { S.is_faithful (stream_of self.old)
             → S.received (stream_of self.new) ≡ S.received (stream_of self.old) }
         ensures held { held_of self.new ≡ held_of self.old }
@@ -94,35 +98,32 @@ impl<S: Stream + Drop> Connection<S> {
     }
 
     /// Reads one piece of the stream into the buffer, and takes the messages that are whole with it; nothing
-    /// is read while octets are left to write, or a whole message is held. Where memory is refused the stream
-    /// has ended.
-    pub fn read(&mut self, alloc: Heap, buffer: &mut [u8], now: u64) -> Moved
+    /// is read while octets are left to write, or a whole message is held. Where memory is refused the piece
+    /// is lost.
+    pub fn read(&mut self, alloc: Heap, buffer: &mut [u8], now: u64) -> Result<Moved, AllocError>
         ensures writes_first { unwritten_of self.old ≢ [] → self.new ≡ self.old }
         ensures held_first { held_of self.old ≢ [] → self.new ≡ self.old }
         // The piece that was read follows what was read before, and its messages are held.
-        ensures came { S.is_faithful (stream_of self.old) → IfOctets result
+        ensures came { S.is_faithful (stream_of self.old) → IfOk result (λ moved. IfOctets moved
             ((piece : List ℕ) × (S.received (stream_of self.new) ≡ S.received (stream_of self.old) ++ piece)
-            × IsFramed (rest_of self.old ++ piece) (held_of self.new) (rest_of self.new)) }
-        ensures moved { MovesOn S.Stream result self.old self.new }
+            × IsFramed (rest_of self.old ++ piece) (held_of self.new) (rest_of self.new))) }
+        ensures moved { IfOk result (λ moved. MovesOn S.Stream now moved self.old self.new) }
+        ensures heard { IfOk result
+            (λ moved. heard_of self.new ≡ heard_after moved now (heard_of self.old)) }
+        ensures lost { OnErr result (HasLost S.Stream self.old self.new) }
         ensures still { S.is_faithful (stream_of self.old)
             → S.sent (stream_of self.new) ≡ S.sent (stream_of self.old) }
         ensures left { unwritten_of self.new ≡ unwritten_of self.old }
     {
         if self.has_left() || !self.messages.is_empty() {
-            return Moved::Later;
+            return Ok(Moved::Later);
         }
         let moved = self.stream.read(buffer);
-        let Moved::Octets(count) = moved else {
-            return moved;
-        };
-        match self.framing.feed(alloc, &buffer[..count]) {
-            Ok(messages) => {
-                self.messages = messages;
-                self.heard = now;
-                moved
-            }
-            Err(_) => Moved::Ended,
+        if let Moved::Octets(count) = moved {
+            self.messages = self.framing.feed(alloc, &buffer[..count])?;
+            self.heard = now;
         }
+        Ok(moved)
     }
 
     /// The first of the messages that came and weren't handled yet, which is handed over.
@@ -132,6 +133,7 @@ impl<S: Stream + Drop> Connection<S> {
         ensures left { unwritten_of self.new ≡ unwritten_of self.old }
         ensures stream { stream_of self.new ≡ stream_of self.old }
         ensures rest { rest_of self.new ≡ rest_of self.old }
+        ensures heard { heard_of self.new ≡ heard_of self.old }
         ensures none { IfNone result (self.new ≡ self.old) }
     {
         if self.messages.is_empty() {
@@ -140,10 +142,12 @@ impl<S: Stream + Drop> Connection<S> {
         Some(self.messages.remove(0))
     }
 
-    /// Whether nothing is left to write and for 30 seconds nothing came or went.
+    /// Whether nothing is left to write or to handle, and for 30 seconds nothing came or went.
     pub fn is_silent(&self, now: u64) -> bool
-        ensures busy { unwritten_of self.now ≢ [] → result ≡ false }
+        ensures { IsTrue result ↔ IsSilent now self.now }
     {
-        self.outbox.is_empty() && now.saturating_sub(self.heard) >= SILENCE
+        self.outbox.is_empty()
+            && self.messages.is_empty()
+            && now.saturating_sub(self.heard) >= SILENCE
     }
 }

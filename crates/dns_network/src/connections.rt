@@ -1,9 +1,10 @@
 //! All connections, by their numbers.
 ghost use Rattle.std.specs.Prelude.{◌≡◌, ◌≤◌, ◌<◌, length, replicate, slice_get, slice_set, true, false};
-ghost use Rattle.std.specs.Prelude.{None, Some, IfErr, IfOk, OnOk, OnErr};
+ghost use Rattle.std.specs.Prelude.{◌↔◌, None, Some, IsTrue, IfErr, IfOk, OnOk, OnErr};
 ghost use Rattle.std.specs.Option.{option_map};
-ghost use Rattle.dns_network.specs.Connections.{HandsOver, HasMovedAt, IsReplyPushed, has_left_at, is_open};
-ghost use Rattle.dns_network.specs.Connections.{places_of};
+ghost use Rattle.dns_network.specs.Connection.{HasLost, IsSilent};
+ghost use Rattle.dns_network.specs.Connections.{HandsOver, HasBecome, HasMovedAt, IsReplyPushed, IsThere};
+ghost use Rattle.dns_network.specs.Connections.{has_left_at, is_open, places_of};
 
 use crate::{Connection, Moved, Octets, Stream};
 use dns_memory::Heap;
@@ -79,6 +80,7 @@ impl<S: Stream + Drop> Connections<S> {
         ensures queued { OnOk result
             (IsReplyPushed number reply.now (places_of self.old) (places_of self.new)) }
         ensures refused { OnErr result (places_of self.new ≡ places_of self.old) }
+        ensures there { OnErr result (is_open number (places_of self.old) ≡ true) }
     {
         if number >= self.places.len() {
             return Ok(());
@@ -101,7 +103,7 @@ impl<S: Stream + Drop> Connections<S> {
 
     /// Writes what is left to write on the connection with that number, as far as its stream takes it.
     pub fn write(&mut self, number: usize, now: u64) -> Moved
-        ensures { HasMovedAt S.Stream number result (places_of self.old) (places_of self.new) }
+        ensures { HasMovedAt S.Stream now number result (places_of self.old) (places_of self.new) }
     {
         if number >= self.places.len() {
             return Moved::Later;
@@ -113,15 +115,24 @@ impl<S: Stream + Drop> Connections<S> {
     }
 
     /// Reads one piece of the stream of the connection with that number, as `Connection::read` does.
-    pub fn read(&mut self, alloc: Heap, number: usize, buffer: &mut [u8], now: u64) -> Moved
-        ensures { HasMovedAt S.Stream number result (places_of self.old) (places_of self.new) }
+    pub fn read(
+        &mut self,
+        alloc: Heap,
+        number: usize,
+        buffer: &mut [u8],
+        now: u64,
+    ) -> Result<Moved, AllocError>
+        ensures moved { IfOk result
+            (λ moved. HasMovedAt S.Stream now number moved (places_of self.old) (places_of self.new)) }
+        ensures lost { OnErr result
+            (HasBecome (HasLost S.Stream) number (places_of self.old) (places_of self.new)) }
     {
         if number >= self.places.len() {
-            return Moved::Later;
+            return Ok(Moved::Later);
         }
         match &mut self.places[number] {
             Some(connection) => connection.read(alloc, buffer, now),
-            None => Moved::Later,
+            None => Ok(Moved::Later),
         }
     }
 
@@ -140,10 +151,10 @@ impl<S: Stream + Drop> Connections<S> {
         }
     }
 
-    /// Whether nothing is left to write to the connection with that number, and for 30 seconds nothing came
-    /// or went.
+    /// Whether there is a connection with that number, nothing is left to write to it or to handle, and for
+    /// 30 seconds nothing came or went.
     pub fn is_silent(&self, number: usize, now: u64) -> bool
-        ensures busy { has_left_at (slice_get (places_of self.now) number) ≡ true → result ≡ false }
+        ensures { IsTrue result ↔ IsThere (IsSilent now) (slice_get (places_of self.now) number) }
     {
         match self.places.get(number) {
             Some(Some(connection)) => connection.is_silent(now),

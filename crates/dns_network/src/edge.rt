@@ -1,5 +1,5 @@
 //! Turns: what is done with the network, one turn after the other.
-ghost use Rattle.std.specs.Prelude.{◌≡◌, Bool, List, map, replicate, false, None, slice_set, IfOk};
+ghost use Rattle.std.specs.Prelude.{◌≡◌, ℕ, Bool, List, map, replicate, false, None, slice_set, IfOk};
 ghost use Rattle.dns_primary.specs.declared.event.Effects.{Effects as StatedEffects};
 ghost use Rattle.dns_primary.specs.Keeps.{header_out, reply_out};
 ghost use Rattle.dns_primary.specs.Step.{Closed};
@@ -190,7 +190,7 @@ impl<S: Stream + Drop> Edge<S> {
         peer: Peer,
         now: u64,
     )
-        ensures { IsWelcomed stream peer primary.old primary.new (connections_of self.old)
+        ensures { IsWelcomed now stream peer primary.old primary.new (connections_of self.old)
             (connections_of self.new) }
     {
         let effects = primary.step(alloc, Event::Connect(peer));
@@ -217,7 +217,7 @@ impl<S: Stream + Drop> Edge<S> {
         notes: &mut L,
         now: u64,
     ) -> bool
-        ensures { MomentsLead S.Stream N.Network (served primary.old self.old network.old)
+        ensures { MomentsLead S.Stream N.Network now (served primary.old self.old network.old)
             (served primary.new self.new network.new) }
     {
         let Some((stream, peer)) = network.accept() else {
@@ -235,7 +235,7 @@ impl<S: Stream + Drop> Edge<S> {
         primary: &mut Primary<I, D>,
         notes: &mut L,
     ) -> bool
-        ensures { MomentsLead S.Stream N.Network (served primary.old self.old network.old)
+        ensures { (now : ℕ) → MomentsLead S.Stream N.Network now (served primary.old self.old network.old)
             (served primary.new self.new network.new) }
     {
         let Some((count, peer)) = network.receive(&mut self.buffer) else {
@@ -256,7 +256,7 @@ impl<S: Stream + Drop> Edge<S> {
         notes: &mut L,
         number: usize,
     ) -> bool
-        ensures { MomentsLead S.Stream N.Network (served primary.old self.old network.old)
+        ensures { (now : ℕ) → MomentsLead S.Stream N.Network now (served primary.old self.old network.old)
             (served primary.new self.new network.new) }
     {
         let effects = primary.step(alloc, Event::Pump(number));
@@ -275,10 +275,14 @@ impl<S: Stream + Drop> Edge<S> {
         number: usize,
         now: u64,
     ) -> bool
-        ensures { MomentsLead S.Stream N.Network (served primary.old self.old network.old)
+        ensures { MomentsLead S.Stream N.Network now (served primary.old self.old network.old)
             (served primary.new self.new network.new) }
     {
-        let moved = self.connections.read(alloc, number, &mut self.buffer, now);
+        let Ok(moved) = self.connections.read(alloc, number, &mut self.buffer, now) else {
+            notes.note(Note::OutOfMemory);
+            self.close(alloc, primary, notes, number);
+            return true;
+        };
         if let Moved::Ended = moved {
             self.close(alloc, primary, notes, number);
             return true;
@@ -306,7 +310,7 @@ impl<S: Stream + Drop> Edge<S> {
         number: usize,
         now: u64,
     ) -> bool
-        ensures { MomentsLead S.Stream N.Network (served primary.old self.old network.old)
+        ensures { MomentsLead S.Stream N.Network now (served primary.old self.old network.old)
             (served primary.new self.new network.new) }
     {
         if !self.connections.is_open(number) {
@@ -336,7 +340,7 @@ impl<S: Stream + Drop> Edge<S> {
         notes: &mut L,
         now: u64,
     ) -> bool
-        ensures { MomentsLead S.Stream N.Network (served primary.old self.old network.old)
+        ensures { MomentsLead S.Stream N.Network now (served primary.old self.old network.old)
             (served primary.new self.new network.new) }
     {
         if self.rested == Some(now) && network.is_still() {
@@ -366,7 +370,7 @@ impl<S: Stream + Drop> Edge<S> {
         notes: &mut L,
         now: u64,
     ) -> bool
-        ensures turn { (moments : List TurnMoment) × IsTurn S.Stream N.Network moments
+        ensures turn { (moments : List TurnMoment) × IsTurn S.Stream N.Network now moments
             (served primary.old self.old network.old) (served primary.new self.new network.new) }
         ensures idle { result ≡ false → NoneWaits primary.new }
     {

@@ -1,6 +1,6 @@
 //! A stream in memory, for tests.
-ghost use Rattle.std.specs.Prelude.{◌≡◌, []};
-ghost use Rattle.dns_network.specs.MemoryStream.{received_by, sent_by};
+ghost use Rattle.std.specs.Prelude.{◌≡◌, [], true};
+ghost use Rattle.dns_network.specs.MemoryStream.{HasEnded, has_failed, received_by, sent_by};
 
 use crate::{Moved, Octets, Stream};
 use dns_memory::Heap;
@@ -18,6 +18,8 @@ pub struct MemoryStream {
     most: usize,
     // which call fails, counted down; nought is none
     fail_at: u64,
+    // a call failed
+    has_failed: bool,
     // the peer writes no more
     is_closed: bool,
 }
@@ -31,6 +33,7 @@ impl Drop for MemoryStream {
             sent,
             most: _,
             fail_at: _,
+            has_failed: _,
             is_closed: _,
         } = self;
         drop((waiting, received, sent));
@@ -49,6 +52,7 @@ impl MemoryStream {
             sent: Vec::new(alloc),
             most: usize::MAX,
             fail_at: 0,
+            has_failed: false,
             is_closed: false,
         }
     }
@@ -96,9 +100,13 @@ impl MemoryStream {
     fn fails(&mut self) -> bool
         ensures received { received_by self.new ≡ received_by self.old }
         ensures sent { sent_by self.new ≡ sent_by self.old }
+        ensures failed { result ≡ true → has_failed self.new ≡ true }
     {
         let fails = self.fail_at == 1;
         self.fail_at = self.fail_at.saturating_sub(1);
+        if fails {
+            self.has_failed = true;
+        }
         fails
     }
 }
@@ -109,6 +117,8 @@ impl Stream for MemoryStream {
     ghost sent = { sent_by };
 
     ghost is_faithful = { λ _. Unit {0} };
+
+    ghost has_ended = { HasEnded };
 
     fn read(&mut self, into: &mut [u8]) -> Moved {
         if self.fails() {
@@ -127,7 +137,10 @@ impl Stream for MemoryStream {
                 self.waiting.drain(..count);
                 Moved::Octets(count)
             }
-            Err(_) => Moved::Ended,
+            Err(_) => {
+                self.has_failed = true;
+                Moved::Ended
+            }
         }
     }
 
@@ -141,7 +154,10 @@ impl Stream for MemoryStream {
         }
         match self.sent.extend_from_slice(&octets[..count]) {
             Ok(()) => Moved::Octets(count),
-            Err(_) => Moved::Ended,
+            Err(_) => {
+                self.has_failed = true;
+                Moved::Ended
+            }
         }
     }
 }

@@ -1,5 +1,5 @@
 //! What is left to write to a stream: `Outbox`.
-ghost use Rattle.std.specs.Prelude.{◌≡◌, ◌<◌, ◌==◌, ◌↔◌, ◌++◌, [], length, drop, OnOk, OnErr};
+ghost use Rattle.std.specs.Prelude.{◌≡◌, ◌<◌, ◌==◌, ◌↔◌, ◌++◌, [], length, take, drop, OnOk, OnErr};
 ghost use Rattle.dns_network.specs.Framed.{pending_length};
 ghost use Rattle.dns_network.specs.Stream.{moved};
 
@@ -63,8 +63,11 @@ impl Outbox {
         // What was taken by the stream and what is left are what they were, in order.
         ensures went { S.is_faithful stream.old
             → S.sent stream.new ++ self.new ≡ S.sent stream.old ++ self.old }
+        ensures took { S.is_faithful stream.old
+            → S.sent stream.new ≡ S.sent stream.old ++ take (moved result) self.old }
         ensures still { S.is_faithful stream.old → S.received stream.new ≡ S.received stream.old }
         ensures faithful { S.is_faithful stream.new ↔ S.is_faithful stream.old }
+        ensures ended { result ≡ Moved.Ended → S.has_ended stream.new }
     {
         let moved = stream.write(self.octets.as_slice());
         if let Moved::Octets(count) = moved {

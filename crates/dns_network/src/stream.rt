@@ -1,11 +1,11 @@
 //! A stream of octets as the edge needs it: reads and writes that don't wait.
-ghost use Rattle.std.specs.Prelude.{◌≡◌, ◌≤◌, ◌↔◌, ◌++◌, List, ℕ, length, take};
-ghost use Rattle.dns_network.specs.Stream.{moved};
+ghost use Rattle.std.specs.Prelude.{◌≡◌, ◌<◌, ◌≤◌, ◌↔◌, ◌++◌, List, ℕ, length, take};
+ghost use Rattle.dns_network.specs.Stream.{IfOctets, moved};
 
 /// What became of a read or a write.
 #[derive(Clone, Copy, Debug, PartialEq, Eq)]
 pub enum Moved {
-    /// So many octets moved.
+    /// So many octets moved, one or more.
     Octets(usize),
     /// None could without waiting.
     Later,
@@ -27,9 +27,14 @@ pub trait Stream {
     /// The stream behaves as its model says.
     ghost is_faithful: { Self → Type 0 };
 
+    /// The stream says itself that it ended, or failed.
+    ghost has_ended: { Self → Type 0 };
+
     /// Reads octets that came, as many as there are and as there is room for.
     fn read(&mut self, into: &mut [u8]) -> Moved
         ensures few { moved result ≤ length into.new }
+        ensures some { IfOctets result (0 < moved result) }
+        ensures ended { result ≡ Moved.Ended → has_ended self.new }
         ensures came { is_faithful self.old
             → received self.new ≡ received self.old ++ take (moved result) into.new }
         ensures still { is_faithful self.old → sent self.new ≡ sent self.old }
@@ -38,6 +43,8 @@ pub trait Stream {
     /// Hands octets over, and answers how many of them were taken, from the front.
     fn write(&mut self, octets: &[u8]) -> Moved
         ensures few { moved result ≤ length octets.now }
+        ensures some { IfOctets result (0 < moved result) }
+        ensures ended { result ≡ Moved.Ended → has_ended self.new }
         ensures went { is_faithful self.old
             → sent self.new ≡ sent self.old ++ take (moved result) octets.now }
         ensures still { is_faithful self.old → received self.new ≡ received self.old }

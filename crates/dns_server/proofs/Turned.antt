@@ -25,13 +25,13 @@ module _ {I D S N : Type 0} {i : index.Ghosts I} {d : store.Ghosts D} (s : strea
   paused primary connections old new (inl same) = inl (λ k. record { primary = primary; connections = connections; network = same k })
   paused primary connections old new (inr looks) = inr (record { rest = refl; nothing = inr (inr looks) })
 
-  pub turned : (count : ℕ) (a old start end new : Served I D S N i d) → Made count a old → (start ≡ old) ⊎ HasAsked n old start
-      → (moments : List TurnMoment) × IsTurn s n moments start end → (new ≡ end) ⊎ HasAsked n end new → Made (count + 1) a new
-  turned count a old start end new (turns, many, made) before (moments, turn) after = (
+  pub turned : (count now : ℕ) (a old start end new : Served I D S N i d) → Made count a old → (start ≡ old) ⊎ HasAsked n old start
+      → (moments : List TurnMoment) × IsTurn s n now moments start end → (new ≡ end) ⊎ HasAsked n end new → Made (count + 1) a new
+  turned count now a old start end new (turns, many, made) before (moments, turn) after = (
     turns ++ moments ∷ [],
     omega (arith, many, length_push turns moments),
     step_more (λ x one y. IsRound s n one x y) turns moments a old new made
-        (record { begun = start; ended = end; before = before; turn = turn; after = after }),
+        (record { now = now; begun = start; ended = end; before = before; turn = turn; after = after }),
   )
 
   pub has_turned : (count : ℕ) (old new : Primary I D i d) (network network' : N) → IsServedOn s n count old network new network'

@@ -1,6 +1,6 @@
 //! The sockets of a server. None of their calls waits but `wait`, which waits until one of them is ready.
 ghost use Rattle.std.specs.Prelude.{◌≡◌, []};
-ghost use Rattle.dns_network.specs.Stream.{moved};
+ghost use Rattle.dns_network.specs.Stream.{IfOctets, moved};
 
 use crate::readiness::{Place, Readiness};
 use dns_memory::Heap;
@@ -195,7 +195,8 @@ impl DatagramSocket for Udp {
 
 /// What an error of a stream means for it: no octet moved.
 fn after(error: &io::Error) -> Moved
-    ensures { moved result ≡ 0 }
+    ensures none { moved result ≡ 0 }
+    ensures still { IfOctets result ⊥ }
 {
     match error.kind() {
         ErrorKind::WouldBlock | ErrorKind::Interrupted => Moved::Later,
@@ -209,6 +210,8 @@ impl Stream for Socket {
     ghost sent = { λ _. [] };
 
     ghost is_faithful = { λ _. ⊥ };
+
+    ghost has_ended = { λ _. Unit {0} };
 
     /// Where the last read would have waited, and no event came since, the system isn't asked.
     fn read(&mut self, into: &mut [u8]) -> Moved {

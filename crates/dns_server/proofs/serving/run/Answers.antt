@@ -7,7 +7,7 @@ pub loop-turn-preserved : goal.loop-turn-preserved
 loop-turn-preserved g c =
     let s = g.S.Stream in
     let n = g.N.Network in
-    turned s n c.loop-turn.turn (served_at_start c.args.primary.now c.args.network.now)
+    turned s n c.loop-turn.turn c.glance-now.result (served_at_start c.args.primary.now c.args.network.now)
     (served c.loop-turn.primary c.loop-turn.edge c.loop-turn.network)
     (served c.loop-turn.primary c.loop-turn.edge c.glance-now.new.network)
     (served c.turn-is_done.new.primary c.turn-is_done.new.self c.turn-is_done.new.network)

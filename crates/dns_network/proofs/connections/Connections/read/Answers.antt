@@ -1,10 +1,24 @@
-use Rattle.std.proofs.Common.{arith, ◌<◌, vec_len}
-use Rattle.dns_network.proofs.Pushed.{moved_one}
+use Rattle.std.proofs.Common.{arith, ◌<◌, vec_len, slice_set, Some}
+use Rattle.dns_network.specs.Connection.{HasLost, MovesOn}
+use Rattle.dns_network.specs.Connections.{HasMovedAt}
+use Rattle.dns_network.proofs.Pushed.{become_one, if_ok, moved_one, on_err}
 use Rattle.dns_network.proofs.connections.Connections.read.Goals as goal
 
-pub returns-in-Some : goal.returns-in-Some
-returns-in-Some g c =
+pub returns-in-Some-clause-moved : goal.returns-in-Some-clause-moved
+returns-in-Some-clause-moved g c =
     let places = c.args.self.now.places in
     let within : c.args.number < vec_len places = omega arith in
-    moved_one c.args.number places.items (vec_len places) c.index_mut.result.now (omega (arith, places.ok)) within c.index_mut.ensures.value
-    g.S.Stream c.read.result c.in-Some.connection c.read.new.self c.in-Some.is c.read.ensures.moved
+    let d = c.read.new.self in
+    if_ok (λ moved. MovesOn g.S.Stream c.args.now moved c.in-Some.connection d)
+    (λ moved. HasMovedAt g.S.Stream c.args.now c.args.number moved places.items (slice_set places.items c.args.number (Some d)))
+    c.read.result
+    (λ moved on. moved_one c.args.number places.items (vec_len places) c.index_mut.result.now (omega (arith, places.ok)) within c.index_mut.ensures.value g.S.Stream c.args.now moved c.in-Some.connection d c.in-Some.is on)
+    c.read.ensures.moved
+
+pub returns-in-Some-clause-lost : goal.returns-in-Some-clause-lost
+returns-in-Some-clause-lost g c =
+    let places = c.args.self.now.places in
+    let within : c.args.number < vec_len places = omega arith in
+    on_err c.read.result
+    (λ lost. become_one c.args.number places.items (vec_len places) c.index_mut.result.now (omega (arith, places.ok)) within c.index_mut.ensures.value (HasLost g.S.Stream) c.in-Some.connection c.read.new.self c.in-Some.is lost)
+    c.read.ensures.lost

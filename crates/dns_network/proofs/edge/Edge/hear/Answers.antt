@@ -1,37 +1,51 @@
 use Rattle.std.proofs.Common.{ℕ, List, Option, refl, sym, ap, subst}
 use Rattle.dns_network.specs.declared.connection.Connection.{Connection}
-use Rattle.dns_network.specs.Connection.{HasHandedOver}
-use Rattle.dns_network.specs.Connections.{places_of}
+use Rattle.std.specs.Prelude.{slice_get}
+use Rattle.dns_network.specs.Closing.{HasEnded, NoMemory, Silent}
+use Rattle.dns_network.specs.Connection.{HasHandedOver, HasLost, IsSilent}
+use Rattle.dns_network.specs.Connections.{IsThere, places_of}
 use Rattle.dns_primary.specs.Step.{Arrives}
 use Rattle.dns_network.specs.Delivery.{connections_of, served}
-use Rattle.dns_network.specs.Turn.{Closes, MomentsLead}
-use Rattle.dns_network.proofs.Leads.{and_on, by_one, closed_still, closed_then, happens, moves, standing}
+use Rattle.dns_network.specs.Turn.{MomentsLead}
+use Rattle.dns_network.proofs.Leads.{and_on, closed_still, closed_then, closes, ends, happens, loses, moves, standing}
 use Rattle.dns_network.proofs.edge.Edge.hear.Goals as goal
+
+pub returns-in_default : goal.returns-in_default
+returns-in_default g c =
+    let now = c.args.now in
+    let number = c.args.number in
+    let here = connections_of c.args.self.now in
+    let mid = places_of c.read.new.self in
+    let new = connections_of c.close.new.self in
+    closes g.S.Stream g.N.Network now number NoMemory c.args.primary.now c.close.new.primary c.args.network.now here new
+    (loses g.S.Stream now number here mid c.in_default.ensures.lost) c.close.ensures.told
+    (closed_then g.S.Stream (HasLost g.S.Stream) number here mid new c.in_default.ensures.lost c.close.ensures.gone)
 
 pub returns-in-Ended : goal.returns-in-Ended
 returns-in-Ended g c =
-    let old = served c.args.primary.now c.args.self.now c.args.network.now in
-    let new = served c.close.new.primary c.close.new.self c.args.network.now in
-    let told = c.close.ensures.told in
-    by_one g.S.Stream g.N.Network (Closes c.args.number) old new
-    (record {
-      effects = told.0;
-      told = told.1;
-      gone = closed_then g.S.Stream c.args.number c.read-moved.result (connections_of c.args.self.now) (places_of c.read-moved.new.self) (connections_of c.close.new.self) c.read-moved.ensures c.close.ensures.gone;
-      network = refl;
-    })
+    let now = c.args.now in
+    let number = c.args.number in
+    let network = c.args.network.now in
+    let here = connections_of c.args.self.now in
+    let there = places_of c.read.new.self in
+    let moved = c.in-Ok.ensures.moved in
+    and_on g.S.Stream g.N.Network now (standing c.args.primary.now network here) (standing c.args.primary.now network there)
+    (served c.close-in-Ended.new.primary c.close-in-Ended.new.self network)
+    (moves g.S.Stream g.N.Network now number c.in-Ok.moved c.args.primary.now network here there moved)
+    (closes g.S.Stream g.N.Network now number HasEnded c.args.primary.now c.close-in-Ended.new.primary network there (connections_of c.close-in-Ended.new.self)
+    (ends g.S.Stream now number c.in-Ok.moved here there c.in-Ended.is moved) c.close-in-Ended.ensures.told c.close-in-Ended.ensures.gone)
 
 pub returns-in-Some : goal.returns-in-Some
 returns-in-Some g c =
     let old = served c.args.primary.now c.args.self.now c.args.network.now in
-    let mid = standing c.args.primary.now c.args.network.now (places_of c.read-moved.new.self) in
+    let mid = standing c.args.primary.now c.args.network.now (places_of c.read.new.self) in
     let given = standing c.args.primary.now c.args.network.now (places_of c.next_message.new.self) in
     let told = standing c.step-effects.new.self c.args.network.now (places_of c.next_message.new.self) in
     let new = served c.deliver.new.primary c.deliver.new.self c.deliver.new.network in
     let handed = c.in-Some.ensures in
-    and_on g.S.Stream g.N.Network old mid new
-    (moves g.S.Stream g.N.Network c.args.number c.read-moved.result c.args.primary.now c.args.network.now (connections_of c.args.self.now) (places_of c.read-moved.new.self) c.in_default.not-Ended c.read-moved.ensures)
-    (happens g.S.Stream g.N.Network (Arrives c.args.number c.deref.result.now) c.step-effects.result mid given told new (
+    and_on g.S.Stream g.N.Network c.args.now old mid new
+    (moves g.S.Stream g.N.Network c.args.now c.args.number c.in-Ok.moved c.args.primary.now c.args.network.now (connections_of c.args.self.now) (places_of c.read.new.self) c.in-Ok.ensures.moved)
+    (happens g.S.Stream g.N.Network c.args.now (Arrives c.args.number c.deref.result.now) c.step-effects.result mid given told new (
       handed.0,
       handed.1,
       handed.2,
@@ -42,18 +56,24 @@ returns-in-Some g c =
 
 pub returns-then-is_silent : goal.returns-then-is_silent
 returns-then-is_silent g c =
-    let old = served c.args.primary.now c.args.self.now c.args.network.now in
-    let mid = standing c.args.primary.now c.args.network.now (places_of c.read-moved.new.self) in
-    let new = served c.close-then-is_silent.new.primary c.close-then-is_silent.new.self c.args.network.now in
-    let told = c.close-then-is_silent.ensures.told in
-    let gone = closed_still c.args.number (places_of c.read-moved.new.self) (places_of c.next_message.new.self) (connections_of c.close-then-is_silent.new.self) c.in_default-next_message.ensures.0 c.close-then-is_silent.ensures.gone in
-    and_on g.S.Stream g.N.Network old mid new
-    (moves g.S.Stream g.N.Network c.args.number c.read-moved.result c.args.primary.now c.args.network.now (connections_of c.args.self.now) (places_of c.read-moved.new.self) c.in_default.not-Ended c.read-moved.ensures)
-    (by_one g.S.Stream g.N.Network (Closes c.args.number) mid new
-    (record { effects = told.0; told = told.1; gone = gone; network = refl }))
+    let now = c.args.now in
+    let number = c.args.number in
+    let network = c.args.network.now in
+    let here = connections_of c.args.self.now in
+    let there = places_of c.read.new.self in
+    let still = c.in_default-next_message.ensures.0 in
+    let new = connections_of c.close-then-is_silent.new.self in
+    let gone = closed_still number there (places_of c.next_message.new.self) new still c.close-then-is_silent.ensures.gone in
+    let silent = subst (λ (cs : List (Option (Connection g.row.S.Denot))). IsThere (IsSilent now) (slice_get cs number)) still
+    (c.is_silent.ensures.0 c.if-is_silent.true) in
+    and_on g.S.Stream g.N.Network now (standing c.args.primary.now network here) (standing c.args.primary.now network there)
+    (served c.close-then-is_silent.new.primary c.close-then-is_silent.new.self network)
+    (moves g.S.Stream g.N.Network now number c.in-Ok.moved c.args.primary.now network here there c.in-Ok.ensures.moved)
+    (closes g.S.Stream g.N.Network now number Silent c.args.primary.now c.close-then-is_silent.new.primary network there new
+    silent c.close-then-is_silent.ensures.told gone)
 
 pub returns : goal.returns
 returns g c =
     let old = served c.args.primary.now c.args.self.now c.args.network.now in
-    subst (λ (cs : List (Option (Connection g.row.S.Denot))). MomentsLead g.S.Stream g.N.Network old (standing c.args.primary.now c.args.network.now cs)) (sym c.in_default-next_message.ensures.0)
-    (moves g.S.Stream g.N.Network c.args.number c.read-moved.result c.args.primary.now c.args.network.now (connections_of c.args.self.now) (places_of c.read-moved.new.self) c.in_default.not-Ended c.read-moved.ensures)
+    subst (λ (cs : List (Option (Connection g.row.S.Denot))). MomentsLead g.S.Stream g.N.Network c.args.now old (standing c.args.primary.now c.args.network.now cs)) (sym c.in_default-next_message.ensures.0)
+    (moves g.S.Stream g.N.Network c.args.now c.args.number c.in-Ok.moved c.args.primary.now c.args.network.now (connections_of c.args.self.now) (places_of c.read.new.self) c.in-Ok.ensures.moved)

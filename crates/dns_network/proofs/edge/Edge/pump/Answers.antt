@@ -5,8 +5,8 @@ use Rattle.dns_network.proofs.Leads.{happens}
 use Rattle.dns_network.proofs.edge.Edge.pump.Goals as goal
 
 pub returns : goal.returns
-returns g c =
+returns g c = λ now.
     let old = served c.args.primary.now c.args.self.now c.args.network.now in
     let told = served c.step-effects.new.self c.args.self.now c.args.network.now in
     let new = served c.deliver.new.primary c.deliver.new.self c.deliver.new.network in
-    happens g.S.Stream g.N.Network (Pump c.args.number) c.step-effects.result old old told new refl (λ m kept. c.step-effects.ensures.step m kept) refl c.deliver.ensures
+    happens g.S.Stream g.N.Network now (Pump c.args.number) c.step-effects.result old old told new refl (λ m kept. c.step-effects.ensures.step m kept) refl c.deliver.ensures

@@ -1,4 +1,4 @@
-use Rattle.std.proofs.Common.{Bool, true, refl, sym, subst}
+use Rattle.std.proofs.Common.{Bool, true, refl, sym, subst, inl, inr}
 use Rattle.dns_network.specs.Connections.{places_of}
 use Rattle.dns_primary.specs.declared.event.To.{To}
 use Rattle.dns_network.specs.Delivery.{IsSent, connections_of, served}
@@ -10,8 +10,13 @@ returns-then-reply-gt-LONGEST g c =
     let old = served c.args.primary.now c.args.self.now c.args.network.now in
     let new = served c.close.new.primary c.close.new.self c.args.network.now in
     let told = c.close.ensures.told in
-    subst (λ (t : To). (cut : Bool) × IsSent g.N.Network t c.args.reply.now cut old new) (sym c.in-Connection.is)
-    (true, record { effects = told.0; told = told.1; gone = c.close.ensures.gone; network = refl })
+    subst (λ (t : To). (cut : Bool) × IsSent g.N.Network t c.args.reply.now cut old new) (sym c.in-Connection.is) (
+      true,
+      record {
+        cause = inl c.if-reply-gt-LONGEST.true;
+        closed = record { effects = told.0; told = told.1; gone = c.close.ensures.gone; network = refl };
+      },
+    )
 
 pub returns-in-Err : goal.returns-in-Err
 returns-in-Err g c =
@@ -20,5 +25,10 @@ returns-in-Err g c =
     let told = c.close-in-Err.ensures.told in
     let number = c.in-Connection.number in
     let gone = closed_still number (connections_of c.args.self.now) (places_of c.push.new.self) (connections_of c.close-in-Err.new.self) c.in-Err.ensures.refused c.close-in-Err.ensures.gone in
-    subst (λ (t : To). (cut : Bool) × IsSent g.N.Network t c.args.reply.now cut old new) (sym c.in-Connection.is)
-    (true, record { effects = told.0; told = told.1; gone = gone; network = refl })
+    subst (λ (t : To). (cut : Bool) × IsSent g.N.Network t c.args.reply.now cut old new) (sym c.in-Connection.is) (
+      true,
+      record {
+        cause = inr c.in-Err.ensures.there;
+        closed = record { effects = told.0; told = told.1; gone = gone; network = refl };
+      },
+    )

@@ -9,10 +9,10 @@ returns-else-has_waiting-clause-turn g c =
     let old = served c.args.primary.now c.args.self.now c.args.network.now in
     let received = served c.receive-received.new.primary c.receive-received.new.self c.receive-received.new.network in
     let done = served c.visit_each-visited.new.primary c.visit_each-visited.new.self c.visit_each-visited.new.network in
-    not_flushed g.S.Stream g.N.Network old done
-    (and_on g.S.Stream g.N.Network old received done
-    (and_on g.S.Stream g.N.Network old (served c.accept-accepted.new.primary c.accept-accepted.new.self c.accept-accepted.new.network)
-    received c.accept-accepted.ensures c.receive-received.ensures)
+    not_flushed g.S.Stream g.N.Network c.args.now old done
+    (and_on g.S.Stream g.N.Network c.args.now old received done
+    (and_on g.S.Stream g.N.Network c.args.now old (served c.accept-accepted.new.primary c.accept-accepted.new.self c.accept-accepted.new.network)
+    received c.accept-accepted.ensures (c.receive-received.ensures c.args.now))
     c.visit_each-visited.ensures)
     (none_waits c.visit_each-visited.new.primary c.has_waiting.result c.has_waiting.ensures c.if-has_waiting.false)
 
@@ -28,11 +28,11 @@ returns-then-has_waiting-clause-turn g c =
     let told = served c.step-effects.new.self c.visit_each-visited.new.self c.look.new.self in
     let flushed = served c.deliver.new.primary c.deliver.new.self c.deliver.new.network in
     let new = served c.deliver.new.primary c.deliver.new.self c.look-then-has_waiting.new.self in
-    flush_after g.S.Stream g.N.Network old done looked flushed new c.step-effects.result c.deliver.ensures.0
-    (and_on g.S.Stream g.N.Network old received done
-    (and_on g.S.Stream g.N.Network old (served c.accept-accepted.new.primary c.accept-accepted.new.self c.accept-accepted.new.network)
-    received c.accept-accepted.ensures c.receive-received.ensures)
+    flush_after g.S.Stream g.N.Network c.args.now old done looked flushed new c.step-effects.result c.deliver.ensures.0
+    (and_on g.S.Stream g.N.Network c.args.now old received done
+    (and_on g.S.Stream g.N.Network c.args.now old (served c.accept-accepted.new.primary c.accept-accepted.new.self c.accept-accepted.new.network)
+    received c.accept-accepted.ensures (c.receive-received.ensures c.args.now))
     c.visit_each-visited.ensures)
     (record { rest = refl; nothing = inr (inr c.look.ensures) })
-    (happened g.S.Stream g.N.Network Flush c.step-effects.result looked looked told flushed refl (λ m kept. c.step-effects.ensures.step m kept) refl c.deliver.ensures)
+    (happened g.S.Stream g.N.Network c.args.now Flush c.step-effects.result looked looked told flushed refl (λ m kept. c.step-effects.ensures.step m kept) refl c.deliver.ensures)
     (record { rest = refl; nothing = inr (inr c.look-then-has_waiting.ensures) })

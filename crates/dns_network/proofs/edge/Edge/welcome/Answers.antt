@@ -1,4 +1,5 @@
-use Rattle.std.proofs.Common.{ℕ, Option, refl, sym, subst, inl, inr}
+use Rattle.std.proofs.Common.{ℕ, ◌≤◌, List, Option, length, refl, sym, subst, inl, inr}
+use Rattle.dns_network.specs.declared.connection.Connection.{Connection}
 use Rattle.dns_network.specs.Connections.{places_of}
 use Rattle.dns_network.specs.Delivery.{connections_of}
 use Rattle.dns_network.specs.Turn.{IsPlaced}
@@ -12,7 +13,7 @@ returns-in_default g c =
       c.step-effects.result,
       record {
         told = λ m kept. c.step-effects.ensures.step m kept;
-        placed = subst (λ (accepted : Option ℕ). IsPlaced c.args.stream accepted here here) (sym c.in_default.is) refl;
+        placed = subst (λ (accepted : Option ℕ). IsPlaced c.args.now c.args.stream accepted here here) (sym c.in_default.is) refl;
       },
     )
 
@@ -28,9 +29,10 @@ returns-in-Err g c =
       told.0,
       record {
         told = λ m kept. c.step-effects.ensures.step m kept;
-        placed = subst (λ (accepted : Option ℕ). IsPlaced c.args.stream accepted here (places_of c.insert.new.self)) (sym c.in-Some.is)
+        placed = subst (λ (accepted : Option ℕ). IsPlaced c.args.now c.args.stream accepted here (places_of c.insert.new.self)) (sym c.in-Some.is)
             (inl (c.in-Err.ensures.back.1, c.in-Err.ensures.still));
       },
+      subst (λ (cs : List (Option (Connection g.row.S.Denot))). length cs ≤ c.in-Some.number) (sym c.in-Err.ensures.still) c.in-Err.ensures.back.1,
       told.1,
       c.close.ensures.gone,
     )
@@ -43,7 +45,7 @@ returns g c =
       c.step-effects.result,
       record {
         told = λ m kept. c.step-effects.ensures.step m kept;
-        placed = subst (λ (accepted : Option ℕ). IsPlaced c.args.stream accepted here (places_of c.insert.new.self)) (sym c.in-Some.is)
+        placed = subst (λ (accepted : Option ℕ). IsPlaced c.args.now c.args.stream accepted here (places_of c.insert.new.self)) (sym c.in-Some.is)
             (inr (
               c.in_default-insert.ensures.place,
               (
@@ -51,6 +53,7 @@ returns g c =
                 c.new-connection.ensures.stream,
                 c.new-connection.ensures.left,
                 nothing_came made c.new-connection.ensures.held c.new-connection.ensures.rest,
+                c.new-connection.ensures.heard,
                 c.in_default-insert.ensures.put,
               ),
             ));
