@@ -159,8 +159,7 @@ loaded_soundly [] [] [] s h = tt
 loaded_soundly (a ∷ zones) (t ∷ settings) (z ∷ states) s h =
     let apex : a.apex ≡ z.setting.shape.apex = sym (ap (λ x. x.apex) (h.0).shape) in
     let records = sym (h.0).loaded in
-    let none : updates_of z ≡ [] = λ i. (h.0).shown i ++ (h.0).staged i in
-    (
+    let none : updates_of z ≡ [] = λ i. (h.0).shown i ++ (h.0).staged i in (
       record {
         loaded = subst IsSoundZone (λ i. record { apex = apex i; records = records i }) s.0;
         updates = subst (AllByRecursion (λ (u : Made). WasRead u.update)) (sym none) tt;
@@ -182,8 +181,7 @@ known_each m run [] (w ∷ news) o s l h c = absurd l
 known_each m run (z ∷ olds) [] o s l h c = absurd l
 known_each m run (z ∷ olds) (w ∷ news) o s l h c =
     let shape = sym (l.0).shape in
-    let loaded = sym (l.0).loaded in
-    (
+    let loaded = sym (l.0).loaded in (
       record {
         loaded = subst IsSoundZone (λ i. record { apex = (shape i).apex; records = loaded i }) (s.0).loaded;
         history = h.0;

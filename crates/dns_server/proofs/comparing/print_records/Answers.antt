@@ -16,6 +16,6 @@ loop-entry-preserved g c =
     let sign = c.args.sign.now in
     let more : take (i + 1) xs ≡ take i xs ++ x ∷ [] = take_more xs i x (omega (arith, c.loop-entry-test.true)) ∙ ap (λ (r : Record). take i xs ++ r ∷ []) (sym c.entry-item.is) in
     let text : signed_lines sign (take (i + 1) xs) ≡ signed_lines sign (take i xs) ++ signed_lines sign (x ∷ []) =
-        ap (λ (rs : List Record). signed_lines sign rs) more ∙ flat_map-append (λ (r : Record). sign ++ 32 ∷ printed_record r) (take i xs) (x ∷ []) in
+    ap (λ (rs : List Record). signed_lines sign rs) more ∙ flat_map-append (λ (r : Record). sign ++ 32 ∷ printed_record r) (take i xs) (x ∷ []) in
     subst (λ (t : List ℕ). Appends (g.W.Write.contents c.args.out.now) (g.W.Write.contents c.print_record.new.out) t) (sym text)
     (appends_two (g.W.Write.contents c.args.out.now) (g.W.Write.contents c.loop-entry.out) (g.W.Write.contents c.print_record.new.out) (signed_lines sign (take i xs)) (signed_lines sign (x ∷ [])) c.loop-entry.invariant (c.in_ok-print_record.ensures))
