@@ -16,7 +16,7 @@ use Rattle.dns_zone.specs.Zone.{Zone}
 use Rattle.dns_lookup.specs.Lookup.{Found}
 use Rattle.dns_answer.specs.Sections.{Shown, additional_of, addresses_for, answer_of, authority_of, from_zone, records_of, unseen}
 use Rattle.dns_answer.specs.Added.{AddsUnseen, AddsUpTo, AreSectionsUpTo, record_count}
-use Rattle.dns_answer.specs.Known.{all_stand, none_stands, stood, AreHosts, AreKnown, AreOwners, HasNoAddressOf}
+use Rattle.dns_answer.specs.Known.{all_stand, is_address, none_stands, stood, AreHosts, AreKnown, AreOwners, HasNoAddressOf}
 use Rattle.dns_answer.specs.declared.additional.Sections.{Sections}
 use Rattle.dns_answer.proofs.Adding.{adds_none, adds_then, chosen, gathered, moved, no_host, opened, unseen_append}
 
@@ -335,3 +335,15 @@ gathered_up_to most t fs bare s answer authority none up =
           gathered t fs bare s answer authority none (subst (λ (xs : List Record). AddsUnseen bare s xs) (sym exact) up.added));
       more = λ over. omega (arith, over, ap length (up.added.answer ∙ answer), ap length (up.added.authority ∙ authority), ap length here, ap length all, length-append u (unseen (stood bare ++ u) up.rest));
     }
+
+-- where no address is, none is like an address
+pub no_address : (seen : List Record) (r : Record) → list_any is_address seen ≡ false → is_address r ≡ true → list_any (same r) seen ≡ false
+no_address [] r none here = refl
+no_address (x ∷ xs) r none here = go (same r x) refl (is_address x) refl (λ rest. no_address xs r rest here)
+  where
+    go : (b : Bool) → same r x ≡ b → (a : Bool) → is_address x ≡ a → (list_any is_address xs ≡ false → list_any (same r) xs ≡ false) → list_any (same r) (x ∷ xs) ≡ false
+    go b is true address later = let bad : true ≡ false = sym (ap (λ (t : Bool). t || list_any is_address xs) address) ∙ none in absurd cc
+    go true is false other later = let bad : true ≡ false = sym here ∙ ap is_address (same_is r x is) ∙ other in absurd cc
+    go false is false other later =
+        ap (λ (t : Bool). t || list_any (same r) xs) is
+        ∙ later (sym (ap (λ (t : Bool). t || list_any is_address xs) other) ∙ none)

@@ -74,6 +74,13 @@ fn put_owners<'a>(owners: &mut Names<'a>, shown: &[ReplyRecord<'a>]) -> Result<(
     Ok(())
 }
 
+/// Whether one of the records is an address.
+fn have_address(shown: &[ReplyRecord<'_>]) -> bool
+    ensures { result ≡ list_any is_address shown.now }
+{
+    shown.iter().any(|one| is_address(one))
+}
+
 /// Whether one of the records has a host.
 fn have_host(records: &[Record]) -> bool
     ensures { result ≡ list_any (λ r. is_some (host_of r)) records.now }
@@ -203,6 +210,36 @@ impl<'a> Sections<'a> {
         self.push_new_addresses_of(zone, &host, most)
     }
 
+    /// Whether one of the sections has an address.
+    fn have_address(&self) -> bool
+        ensures { result ≡ list_any is_address (stood self.now) }
+    {
+        have_address(self.answer.as_slice())
+            || have_address(self.authority.as_slice())
+            || have_address(self.additional.as_slice())
+    }
+
+    /// Puts in the addresses that go with a record of the zone, until there are more than so many, where it is
+    /// the only one: no host is looked up before it.
+    fn push_for_one<I: ZoneIndex>(
+        &mut self,
+        zone: &'a Zone<I>,
+        stored: &Record,
+        most: u16,
+    ) -> Result<(), AllocError>
+        ensures { OnOk result
+            (AddsUpTo most self.old self.new
+            (addresses_for (record { zone = zone.now; shown = stored.now }))) }
+    {
+        let Some(host) = stored.host() else {
+            return Ok(());
+        };
+        if self.have_address() {
+            return self.push_addresses_of(zone, &host, most);
+        }
+        self.push_new_addresses_of(zone, &host, most)
+    }
+
     /// The owners of the addresses in the sections.
     fn owners(&self, alloc: Heap) -> Result<Names<'a>, AllocError>
         ensures { IfOk result (λ owners. AreOwners owners (stood self.now)) }
@@ -266,6 +303,9 @@ impl<'a> Sections<'a> {
         ensures { OnOk result
             (AddsUpTo most self.old self.new (flat_map addresses_for (from_zone zone.now records.now))) }
     {
+        if let [one] = records {
+            return self.push_for_one(zone, one, most);
+        }
         if !have_host(records) {
             return Ok(());
         }
