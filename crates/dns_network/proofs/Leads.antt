@@ -1,5 +1,5 @@
 -- What is done one after the other.
-use Rattle.std.proofs.Common.{◌≡◌, ◌≢◌, inl, inr, ℕ, ◌+◌, ◌<◌, Bool, false, not, ◌==◌, List, [], ◌∷◌, ◌++◌, Option, Some, None, length, map, take, get_or, refl, ap, sym, subst, ◌∙◌, slice_set, arith}
+use Rattle.std.proofs.Common.{◌≡◌, inl, inr, ℕ, ◌+◌, ◌<◌, ◌≤◌, Bool, false, not, ◌==◌, List, [], ◌∷◌, ◌++◌, Option, Some, None, length, map, take, get_or, refl, ap, sym, subst, ◌∙◌, slice_set, arith}
 use Rattle.std.specs.List.{concat}
 use Rattle.std.specs.Prelude.{slice_get}
 use Rattle.std.proofs.lemmas.List.{map-append, set-set, take_more}
@@ -16,15 +16,20 @@ use Rattle.dns_zone.specs.declared.index.ZoneIndex as index
 use Rattle.dns_store.specs.declared.zone_store.ZoneStore as store
 use Rattle.dns_versions.specs.Each.{Each2}
 use Rattle.dns_primary.specs.declared.event.Effects.{Effects}
+use Rattle.dns_primary.specs.declared.event.Noted.{Noted}
+use Rattle.dns_primary.specs.declared.event.Peer.{Peer}
 use Rattle.dns_primary.specs.declared.event.To.{To}
+use Rattle.dns_network.specs.Notes.{AreNoted, notes_of, notes_of_opened}
 use Rattle.dns_primary.specs.declared.event.Waiting.{Waiting}
 use Rattle.dns_primary.specs.declared.primary.Primary.{Primary}
 use Rattle.dns_primary.specs.Machine.{Waits}
 use Rattle.dns_primary.specs.Step.{Event, Closed, Flush}
 use Rattle.dns_primary.specs.Keeps.{IsWaiting}
 use Rattle.dns_network.specs.declared.network.Network.{Ghosts}
-use Rattle.dns_network.specs.Delivery.{Served, Going, TakesEvent, AreGoing, AreSent, IsClosed, IsSent, out_of, reply_to_send}
-use Rattle.dns_network.specs.Turn.{TurnMoment, Asks, Moves, Happens, Closes, HasAsked, HasHappened, EventComes, IsMoment, IsTurn, MomentsLead, NoneWaits}
+use Rattle.dns_network.specs.declared.network.Note.TheVariants as note
+use Rattle.dns_network.specs.declared.network.Notes as notes
+use Rattle.dns_network.specs.Delivery.{Served, Going, TakesEvent, AreGoing, AreSent, HasEffects, IsSent, reply_to_send}
+use Rattle.dns_network.specs.Turn.{TurnMoment, Asks, Moves, Happens, Closes, HasAsked, HasHappened, EventComes, IsCauseNoted, IsMoment, IsTurn, MomentsLead, NoneWaits}
 use Rattle.dns_network.proofs.Pushed.{set_there}
 use Rattle.dns_network.proofs.Steps.{steps_on}
 
@@ -32,15 +37,24 @@ use Rattle.dns_network.proofs.Steps.{steps_on}
 pub nothing_came : {S : Type 0} (c : Connection S) → held_of c ≡ [] → rest_of c ≡ [] → unhandled c ≡ []
 nothing_came c held rest = ap (λ (ms : List (List ℕ)). concat (map pending_length ms) ++ rest_of c) held ∙ rest
 
+-- what a primary reports is noted, and then that a peer has a connection
+pub noted_then : {L : Type 0} (l : notes.Ghosts L) (noted : Noted) (accepted : Option ℕ) (peer : Peer) (a b c : L) → AreNoted l (notes_of noted) a b
+    → AreNoted l (notes_of_opened accepted peer) b c → AreNoted l (notes_of noted ++ notes_of_opened accepted peer) a c
+noted_then l noted accepted peer a b c = steps_on (λ old one new. l.takes old one new) (notes_of noted) (notes_of_opened accepted peer) a b c
+
+-- a number is past the last place, and nothing has changed
+pub still_past : {A : Type 0} (number : ℕ) (old new : List A) → new ≡ old → length old ≤ number → length new ≤ number
+still_past {A = A} number old new same past = subst (λ (xs : List A). length xs ≤ number) (sym same) past
+
 -- a connection was closed, and nothing had changed before
 pub closed_still : {S : Type 0} (number : ℕ) (old mid new : List (Option (Connection S))) → mid ≡ old → new ≡ slice_set mid number None
     → new ≡ slice_set old number None
 closed_still {S = S} number old mid new same gone = gone ∙ ap (λ (cs : List (Option (Connection S))). slice_set cs number None) same
 
 -- A server, its parts told one by one.
-abbrev pub standing : {I D S N : Type 0} {i : index.Ghosts I} {d : store.Ghosts D} → Primary I D i d → N → List (Option (Connection S))
-    → Served I D S N i d
-standing primary network connections = record { primary = primary; connections = connections; network = network }
+abbrev pub standing : {I D S N L : Type 0} {i : index.Ghosts I} {d : store.Ghosts D} → Primary I D i d → N → L → List (Option (Connection S))
+    → Served I D S N L i d
+standing primary network notes connections = record { primary = primary; connections = connections; network = network; notes = notes }
 
 -- where nothing is kept of replies that wait, none waits
 none_of : (kept : List Waiting) (waiting : List Waits) → length kept ≡ 0 → Each2 IsWaiting kept waiting → waiting ≡ []
@@ -74,35 +88,35 @@ module _ {S : Type 0} (s : stream.Ghosts S) where
   closed_then became number old mid new (c, d, there, on, set) gone =
       closed_still number (slice_set old number (Some d)) mid new set gone ∙ set-set old number (Some d) None
 
-module _ {I D S N : Type 0} {i : index.Ghosts I} {d : store.Ghosts D} (s : stream.Ghosts S) (n : Ghosts N S) (now : ℕ) where
-  pub by_one : (one : TurnMoment) (a b : Served I D S N i d) → IsMoment s n now one a b → MomentsLead s n now a b
+module _ {I D S N L : Type 0} {i : index.Ghosts I} {d : store.Ghosts D} (s : stream.Ghosts S) (n : Ghosts N S) (l : notes.Ghosts L) (now : ℕ) where
+  pub by_one : (one : TurnMoment) (a b : Served I D S N L i d) → IsMoment s n l now one a b → MomentsLead s n l now a b
   by_one one a b h = (one ∷ [], (b, h, refl))
 
-  pub and_on : (a b c : Served I D S N i d) → MomentsLead s n now a b → MomentsLead s n now b c → MomentsLead s n now a c
-  and_on a b c (first, is) (later, more) = (first ++ later, steps_on (λ old one new. IsMoment s n now one old new) first later a b c is more)
+  pub and_on : (a b c : Served I D S N L i d) → MomentsLead s n l now a b → MomentsLead s n l now b c → MomentsLead s n l now a c
+  and_on a b c (first, is) (later, more) = (first ++ later, steps_on (λ old one new. IsMoment s n l now one old new) first later a b c is more)
 
-  -- an event happens, and its replies go out
-  pub happened : (event : Event) (effects : Effects) (old given told new : Served I D S N i d) → EventComes n event old given
+  -- an event happens, and so do its effects
+  pub happened : (event : Event) (effects : Effects) (goings : List Going) (old given told new : Served I D S N L i d) → EventComes n event old given
       → TakesEvent given.primary event told.primary effects → told ≡ record given { primary = told.primary }
-      → (sent : AreSent n (out_of effects) told new) → HasHappened n event effects sent.0 old new
-  happened event effects old given told new is_given takes rest sent =
-      record { given = given; is_given = is_given; told = told; takes = takes; rest = rest; out = sent.1; sent = sent.2 }
+      → HasEffects n l effects goings told new → HasHappened n l event effects goings old new
+  happened event effects goings old given told new is_given takes rest is =
+      record { given = given; is_given = is_given; told = told; takes = takes; rest = rest; happened = is }
 
-  pub happens : (event : Event) (effects : Effects) (old given told new : Served I D S N i d) → EventComes n event old given
+  pub happens : (event : Event) (effects : Effects) (old given told new : Served I D S N L i d) → EventComes n event old given
       → TakesEvent given.primary event told.primary effects → told ≡ record given { primary = told.primary }
-      → AreSent n (out_of effects) told new → MomentsLead s n now old new
-  happens event effects old given told new is_given takes rest sent =
-      by_one (Happens event effects sent.0) old new (happened event effects old given told new is_given takes rest sent)
+      → (goings : List Going) × HasEffects n l effects goings told new → MomentsLead s n l now old new
+  happens event effects old given told new is_given takes rest (goings, is) =
+      by_one (Happens event effects goings) old new (happened event effects goings old given told new is_given takes rest is)
 
   -- a turn after which no reply waits, and one after which one does
-  pub not_flushed : (old new : Served I D S N i d) → MomentsLead s n now old new → NoneWaits new.primary
-      → (moments : List TurnMoment) × IsTurn s n now moments old new
+  pub not_flushed : (old new : Served I D S N L i d) → MomentsLead s n l now old new → NoneWaits new.primary
+      → (moments : List TurnMoment) × IsTurn s n l now moments old new
   not_flushed old new (moments, done) none =
       (moments ++ [], record { first = moments; last = []; are = refl; between = new; done = done; flushed = refl; flush = inl (refl, none) })
 
-  pub flush_after : (old done looked flushed new : Served I D S N i d) (effects : Effects) (goings : List Going) → MomentsLead s n now old done
-      → HasAsked n done looked → HasHappened n Flush effects goings looked flushed → HasAsked n flushed new
-      → (moments : List TurnMoment) × IsTurn s n now moments old new
+  pub flush_after : (old done looked flushed new : Served I D S N L i d) (effects : Effects) (goings : List Going) → MomentsLead s n l now old done
+      → HasAsked n done looked → HasHappened n l Flush effects goings looked flushed → HasAsked n flushed new
+      → (moments : List TurnMoment) × IsTurn s n l now moments old new
   flush_after old done looked flushed new effects goings (moments, first) before flush pending =
       let last = Asks ∷ Happens Flush effects goings ∷ Asks ∷ [] in (
         moments ++ last,
@@ -118,40 +132,46 @@ module _ {I D S N : Type 0} {i : index.Ghosts I} {d : store.Ghosts D} (s : strea
       )
 
   -- octets may have moved on a connection
-  pub moves : (number : ℕ) (moved : Moved) (primary : Primary I D i d) (network : N) (old new : List (Option (Connection S)))
-      → HasMovedAt s now number moved old new → MomentsLead s n now (standing primary network old) (standing primary network new)
-  moves number moved primary network old new (inl (lasts, same)) = ([], ap (standing primary network) same)
-  moves number moved primary network old new (inr (c, e, there, on, is)) =
-      by_one (Moves number) (standing primary network old) (standing primary network new)
-      (record { before = c; after = e; there = there; moved = on.moved; rest = ap (standing primary network) is })
+  pub moves : (number : ℕ) (moved : Moved) (primary : Primary I D i d) (network : N) (notes : L) (old new : List (Option (Connection S)))
+      → HasMovedAt s now number moved old new → MomentsLead s n l now (standing primary network notes old) (standing primary network notes new)
+  moves number moved primary network notes old new (inl (lasts, same)) = ([], ap (standing primary network notes) same)
+  moves number moved primary network notes old new (inr (c, e, there, on, is)) =
+      by_one (Moves number) (standing primary network notes old) (standing primary network notes new)
+      (record { before = c; after = e; there = there; moved = on.moved; rest = ap (standing primary network notes) is })
 
   -- a connection gave a cause to close it, and was closed
-  pub closes : (number : ℕ) (cause : Cause) (before after : Primary I D i d) (network : N) (old new : List (Option (Connection S)))
-      → GivesCause s now cause number old → (effects : Effects) × TakesEvent before (Closed number) after effects → new ≡ slice_set old number None
-      → MomentsLead s n now (standing before network old) (standing after network new)
-  closes number cause before after network old new gives (effects, told) gone =
-      by_one (Closes number cause) (standing before network old) (standing after network new)
-      (record { gives = gives; closed = record { effects = effects; told = told; gone = gone; network = refl } })
+  pub closes : (number : ℕ) (cause : Cause) (before after : Primary I D i d) (network : N) (first mid last : L) (old new : List (Option (Connection S)))
+      → GivesCause s now cause number old → IsCauseNoted l cause (standing before network first old) (standing before network mid old)
+      → (effects : Effects) × TakesEvent before (Closed number) after effects → new ≡ slice_set old number None → l.takes mid (note.Closed number) last
+      → MomentsLead s n l now (standing before network first old) (standing after network last new)
+  closes number cause before after network first mid last old new gives told (effects, takes) gone noted =
+      by_one (Closes number cause) (standing before network first old) (standing after network last new)
+      (record {
+        gives = gives;
+        told = standing before network mid old;
+        noted = told;
+        closed = record { effects = effects; told = takes; gone = gone; network = refl; noted = noted };
+      })
 
-module _ {I D S N : Type 0} {i : index.Ghosts I} {d : store.Ghosts D} (n : Ghosts N S) where
-  going_on : (first later : List Going) (a b c : Served I D S N i d) → AreGoing n first a b → AreGoing n later b c → AreGoing n (first ++ later) a c
-  going_on first later a b c is more = steps_on (λ old one new. IsSent n one.to one.octets one.cut old new) first later a b c is more
+module _ {I D S N L : Type 0} {i : index.Ghosts I} {d : store.Ghosts D} (n : Ghosts N S) (l : notes.Ghosts L) where
+  going_on : (first later : List Going) (a b c : Served I D S N L i d) → AreGoing n l first a b → AreGoing n l later b c → AreGoing n l (first ++ later) a c
+  going_on first later a b c is more = steps_on (λ old one new. IsSent n l one.to one.octets one.cut old new) first later a b c is more
 
-  pub sent_on : (first later : List (To × List ℕ)) (a b c : Served I D S N i d) → AreSent n first a b → AreSent n later b c → AreSent n (first ++ later) a c
+  pub sent_on : (first later : List (To × List ℕ)) (a b c : Served I D S N L i d) → AreSent n l first a b → AreSent n l later b c → AreSent n l (first ++ later) a c
   sent_on first later a b c (goings, is, went) (next, more, goes) =
       (goings ++ next, map-append reply_to_send goings next ∙ (λ k. is k ++ more k), going_on goings next a b c went goes)
 
   -- one reply is sent, or its connection is closed
-  pub one_sent : (to : To) (reply : List ℕ) (a b : Served I D S N i d) → (cut : Bool) × IsSent n to reply cut a b → AreSent n ((to, reply) ∷ []) a b
+  pub one_sent : (to : To) (reply : List ℕ) (a b : Served I D S N L i d) → (cut : Bool) × IsSent n l to reply cut a b → AreSent n l ((to, reply) ∷ []) a b
   one_sent to reply a b (cut, is) = (record { to = to; octets = reply; cut = cut } ∷ [], refl, (b, is, refl))
 
   -- so is the next one of those that items tell
-  pub next_sent : {P : Type 0} (told : P → To × List ℕ) (items : List P) (at : ℕ) (other : P) (a b c : Served I D S N i d) → at < length items
-      → AreSent n (map told (take at items)) a b → (cut : Bool) × IsSent n (told (get_or items at other)).0 (told (get_or items at other)).1 cut b c
-      → AreSent n (map told (take (at + 1) items)) a c
+  pub next_sent : {P : Type 0} (told : P → To × List ℕ) (items : List P) (at : ℕ) (other : P) (a b c : Served I D S N L i d) → at < length items
+      → AreSent n l (map told (take at items)) a b → (cut : Bool) × IsSent n l (told (get_or items at other)).0 (told (get_or items at other)).1 cut b c
+      → AreSent n l (map told (take (at + 1) items)) a c
   next_sent told items at other a b c lt is more =
       let here = get_or items at other in
       let next : map told (take (at + 1) items) ≡ map told (take at items) ++ told here ∷ [] =
       ap (map told) (take_more items at other lt) ∙ map-append told (take at items) (here ∷ []) in
-      subst (λ (l : List (To × List ℕ)). AreSent n l a c) (sym next)
+      subst (λ (out : List (To × List ℕ)). AreSent n l out a c) (sym next)
       (sent_on (map told (take at items)) (told here ∷ []) a b c is (one_sent (told here).0 (told here).1 b c more))

@@ -7,7 +7,7 @@ use Rattle.std.proofs.lemmas.Option.{slice_get_read}
 use Rattle.dns_network.specs.declared.connection.Connection.{Connection}
 use Rattle.dns_network.specs.declared.stream.Stream.{Ghosts}
 use Rattle.dns_network.specs.declared.stream.Moved.{Moved}
-use Rattle.dns_network.specs.declared.stream.Moved.TheVariants.{Later, Ended}
+use Rattle.dns_network.specs.declared.stream.Moved.TheVariants.{Later}
 use Rattle.dns_network.specs.Framed.{pending_length}
 use Rattle.dns_network.specs.Connection.{IsQueued, MovesOn, heard_of, held_of, rest_of, unwritten_of, stream_of, unhandled}
 use Rattle.dns_network.specs.Connections.{IsPushedTo, IsReplyPushed, HasBecome, HasMovedAt, HandsOver}

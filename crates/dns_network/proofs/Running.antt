@@ -6,7 +6,6 @@ use Rattle.dns_network.specs.declared.stream.Stream as stream
 use Rattle.dns_zone.specs.declared.index.ZoneIndex as index
 use Rattle.dns_store.specs.declared.zone_store.ZoneStore as store
 use Rattle.dns_versions.specs.Each.{Each2}
-use Rattle.dns_primary.specs.declared.event.Peer.{Peer}
 use Rattle.dns_primary.specs.declared.event.Effects.{Effects}
 use Rattle.dns_primary.specs.declared.event.To.{To}
 use Rattle.dns_primary.specs.declared.event.To.TheVariants as to
@@ -18,8 +17,12 @@ use Rattle.dns_primary.specs.Step as machine
 use Rattle.dns_primary.specs.Step.{Event, Datagram, Connect, Arrives, Flush, Checkpoint, Pump, Closed, Step}
 use Rattle.dns_primary.specs.Runs.{Moment, Took, Run, last_of, machine_after}
 use Rattle.dns_network.specs.declared.network.Network.{Ghosts}
-use Rattle.dns_network.specs.Delivery.{Served, Going, AreGoing, IsClosed, IsSent, TakesEvent}
-use Rattle.dns_network.specs.Turn.{TurnMoment, Asks, Moves, Connects, Happens, Closes, AreMoments, AreTurns, HasAsked, HasHappened, EventComes, IsMoment, IsRound, IsTurn}
+use Rattle.dns_network.specs.declared.network.Note.{Note}
+use Rattle.dns_network.specs.declared.network.Note.TheVariants as note
+use Rattle.dns_network.specs.declared.network.Notes as notes
+use Rattle.dns_network.specs.Closing.{Cause, HasEnded, Silent, NoMemory, NoPlace}
+use Rattle.dns_network.specs.Delivery.{Served, Going, AreGoing, HasEffects, HasNoted, IsSent, TakesEvent}
+use Rattle.dns_network.specs.Turn.{TurnMoment, Asks, Moves, Connects, Happens, Closes, AreMoments, AreTurns, HasAsked, EventComes, IsCauseNoted, IsMoment, IsTurn}
 use Rattle.dns_network.specs.Runs.{IsRunOf, IsStepOf, Told, closed_for, closing, told_by, told_in, told_of}
 
 run_on : (first later : List Moment) (m : Machine) → Run m first → Run (last_of m first) later → Run m (first ++ later)
@@ -91,71 +94,95 @@ module _ {I D : Type 0} {i : index.Ghosts I} {d : store.Ghosts D} where
         kept = step.kept;
       }
 
-module _ {I D S N : Type 0} {i : index.Ghosts I} {d : store.Ghosts D} (n : Ghosts N S) where
+module _ {I D S N L : Type 0} {i : index.Ghosts I} {d : store.Ghosts D} (n : Ghosts N S) (l : notes.Ghosts L) where
   -- where the primary stays
-  stays : (old new : Served I D S N i d) (m : Machine) → new.primary ≡ old.primary → IsKept old.primary m → IsKept new.primary m
+  stays : (old new : Served I D S N L i d) (m : Machine) → new.primary ≡ old.primary → IsKept old.primary m → IsKept new.primary m
   stays old new m same kept = subst (λ (p : Primary I D i d). IsKept p m) (sym same) kept
 
-  sent_told : (target : To) (reply : List ℕ) (cut : Bool) (old new : Served I D S N i d) (m : Machine) → IsSent n target reply cut old new → IsKept old.primary m
+  noted_stays : (one : Note) (old new : Served I D S N L i d) → HasNoted l one old new → new.primary ≡ old.primary
+  noted_stays one old new is = ap (λ (x : Served I D S N L i d). x.primary) is.rest
+
+  cut_stays : {P Q : Type 0} (old new : Served I D S N L i d) → (P × (new ≡ old)) ⊎ (Q × HasNoted l note.OutOfMemory old new) → new.primary ≡ old.primary
+  cut_stays old new (inl (long, same)) = ap (λ (x : Served I D S N L i d). x.primary) same
+  cut_stays old new (inr (there, noted)) = noted_stays note.OutOfMemory old new noted
+
+  cause_stays : (cause : Cause) (old new : Served I D S N L i d) → IsCauseNoted l cause old new → new.primary ≡ old.primary
+  cause_stays HasEnded old new same = ap (λ (x : Served I D S N L i d). x.primary) same
+  cause_stays Silent old new same = ap (λ (x : Served I D S N L i d). x.primary) same
+  cause_stays NoMemory old new noted = noted_stays note.OutOfMemory old new noted
+  cause_stays NoPlace old new same = ap (λ (x : Served I D S N L i d). x.primary) same
+
+  sent_told : (target : To) (reply : List ℕ) (cut : Bool) (old new : Served I D S N L i d) (m : Machine) → IsSent n l target reply cut old new → IsKept old.primary m
       → RunsTo (closed_for target cut) m (λ e. IsKept new.primary e)
   sent_told (to.Address peer) reply false old new m is kept =
-      none_told (λ e. IsKept new.primary e) m (stays old new m (ap (λ (x : Served I D S N i d). x.primary) is.0) kept)
+      none_told (λ e. IsKept new.primary e) m (stays old new m (ap (λ (x : Served I D S N L i d). x.primary) is.0) kept)
   sent_told (to.Connection number) reply false old new m is kept =
-      none_told (λ e. IsKept new.primary e) m (stays old new m (ap (λ (x : Served I D S N i d). x.primary) is.0) kept)
+      none_told (λ e. IsKept new.primary e) m (stays old new m (ap (λ (x : Served I D S N L i d). x.primary) is.0) kept)
   sent_told (to.Connection number) reply true old new m is kept =
-      closing_told number is.closed.effects old.primary new.primary m is.closed.told kept
+      closing_told number is.closed.effects is.told.primary new.primary m is.closed.told (stays old is.told m (cut_stays old is.told is.cause) kept)
   sent_told to.Nowhere reply false old new m is kept =
-      none_told (λ e. IsKept new.primary e) m (stays old new m (ap (λ (x : Served I D S N i d). x.primary) is) kept)
+      none_told (λ e. IsKept new.primary e) m (stays old new m (ap (λ (x : Served I D S N L i d). x.primary) is) kept)
   sent_told (to.Address peer) reply true old new m is kept = absurd is
   sent_told to.Nowhere reply true old new m is kept = absurd is
 
-  goings_told : (goings : List Going) (old new : Served I D S N i d) (m : Machine) → AreGoing n goings old new → IsKept old.primary m
+  goings_told : (goings : List Going) (old new : Served I D S N L i d) (m : Machine) → AreGoing n l goings old new → IsKept old.primary m
       → RunsTo (flat_map (λ going. closed_for going.to going.cut) goings) m (λ e. IsKept new.primary e)
   goings_told [] old new m is kept =
-      none_told (λ e. IsKept new.primary e) m (stays old new m (ap (λ (x : Served I D S N i d). x.primary) is) kept)
+      none_told (λ e. IsKept new.primary e) m (stays old new m (ap (λ (x : Served I D S N L i d). x.primary) is) kept)
   goings_told (one ∷ rest) old new m (between, here, is) kept =
       told_on (closed_for one.to one.cut) (flat_map (λ going. closed_for going.to going.cut) rest) (λ e. IsKept between.primary e) (λ e. IsKept new.primary e) m
       (sent_told one.to one.octets one.cut old between m here kept) (λ e kept'. goings_told rest between new e is kept')
 
-  given_stays : (event : Event) (old given : Served I D S N i d) → EventComes n event old given → given.primary ≡ old.primary
-  given_stays (Datagram peer octets) old given is = ap (λ (x : Served I D S N i d). x.primary) is.0
-  given_stays (Arrives number message) old given is = ap (λ (x : Served I D S N i d). x.primary) is.4
-  given_stays (Pump number) old given is = ap (λ (x : Served I D S N i d). x.primary) is
-  given_stays Flush old given is = ap (λ (x : Served I D S N i d). x.primary) is
+  effects_told : (effects : Effects) (goings : List Going) (old new : Served I D S N L i d) (m : Machine) → HasEffects n l effects goings old new
+      → IsKept old.primary m → RunsTo (flat_map (λ going. closed_for going.to going.cut) goings) m (λ e. IsKept new.primary e)
+  effects_told effects goings old new m is kept =
+      let run = goings_told goings old is.between m is.sent kept in
+      record {
+        run = run.run;
+        runs = run.runs;
+        each = run.each;
+        kept = stays is.between new (last_of m run.run) (ap (λ (x : Served I D S N L i d). x.primary) is.rest) run.kept;
+      }
+
+  given_stays : (event : Event) (old given : Served I D S N L i d) → EventComes n event old given → given.primary ≡ old.primary
+  given_stays (Datagram peer octets) old given is = ap (λ (x : Served I D S N L i d). x.primary) is.0
+  given_stays (Arrives number message) old given is = ap (λ (x : Served I D S N L i d). x.primary) is.4
+  given_stays (Pump number) old given is = ap (λ (x : Served I D S N L i d). x.primary) is
+  given_stays Flush old given is = ap (λ (x : Served I D S N L i d). x.primary) is
   given_stays (Connect peer) old given is = absurd is
   given_stays (Checkpoint place) old given is = absurd is
   given_stays (Closed number) old given is = absurd is
 
-  asked_stays : (old new : Served I D S N i d) → HasAsked n old new → new.primary ≡ old.primary
-  asked_stays old new is = ap (λ (x : Served I D S N i d). x.primary) is.rest
+  asked_stays : (old new : Served I D S N L i d) → HasAsked n old new → new.primary ≡ old.primary
+  asked_stays old new is = ap (λ (x : Served I D S N L i d). x.primary) is.rest
 
-module _ {I D S N : Type 0} {i : index.Ghosts I} {d : store.Ghosts D} (s : stream.Ghosts S) (n : Ghosts N S) where
-  moment_told : (now : ℕ) (one : TurnMoment) (old new : Served I D S N i d) (m : Machine) → IsMoment s n now one old new → IsKept old.primary m
+module _ {I D S N L : Type 0} {i : index.Ghosts I} {d : store.Ghosts D} (s : stream.Ghosts S) (n : Ghosts N S) (l : notes.Ghosts L) where
+  moment_told : (now : ℕ) (one : TurnMoment) (old new : Served I D S N L i d) (m : Machine) → IsMoment s n l now one old new → IsKept old.primary m
       → RunsTo (told_in one) m (λ e. IsKept new.primary e)
-  moment_told now Asks old new m is kept = none_told (λ e. IsKept new.primary e) m (stays n old new m (asked_stays n old new is) kept)
+  moment_told now Asks old new m is kept = none_told (λ e. IsKept new.primary e) m (stays n l old new m (asked_stays n l old new is) kept)
   moment_told now (Moves number) old new m is kept =
-      none_told (λ e. IsKept new.primary e) m (stays n old new m (ap (λ (x : Served I D S N i d). x.primary) is.rest) kept)
+      none_told (λ e. IsKept new.primary e) m (stays n l old new m (ap (λ (x : Served I D S N L i d). x.primary) is.rest) kept)
   moment_told now (Connects peer effects) old new m is kept = event_told (Connect peer) effects old.primary new.primary m is.taken.told kept
   moment_told now (Happens event effects goings) old new m is kept =
       told_on (told_of event effects ∷ []) (flat_map (λ going. closed_for going.to going.cut) goings) (λ e. IsKept is.told.primary e) (λ e. IsKept new.primary e) m
-      (event_told event effects is.given.primary is.told.primary m is.takes (stays n old is.given m (given_stays n event old is.given is.is_given) kept))
-      (λ e kept'. goings_told n goings is.told new e is.sent kept')
+      (event_told event effects is.given.primary is.told.primary m is.takes (stays n l old is.given m (given_stays n l event old is.given is.is_given) kept))
+      (λ e kept'. effects_told n l effects goings is.told new e is.happened kept')
   moment_told now (Closes number cause) old new m is kept =
-      closing_told number is.closed.effects old.primary new.primary m is.closed.told kept
+      closing_told number is.closed.effects is.told.primary new.primary m is.closed.told (stays n l old is.told m (cause_stays n l cause old is.told is.noted) kept)
 
-  moments_told : (now : ℕ) (moments : List TurnMoment) (old new : Served I D S N i d) (m : Machine) → AreMoments s n now moments old new → IsKept old.primary m
+  moments_told : (now : ℕ) (moments : List TurnMoment) (old new : Served I D S N L i d) (m : Machine) → AreMoments s n l now moments old new → IsKept old.primary m
       → RunsTo (flat_map told_in moments) m (λ e. IsKept new.primary e)
   moments_told now [] old new m is kept =
-      none_told (λ e. IsKept new.primary e) m (stays n old new m (ap (λ (x : Served I D S N i d). x.primary) is) kept)
+      none_told (λ e. IsKept new.primary e) m (stays n l old new m (ap (λ (x : Served I D S N L i d). x.primary) is) kept)
   moments_told now (one ∷ rest) old new m (between, here, is) kept =
       told_on (told_in one) (flat_map told_in rest) (λ e. IsKept between.primary e) (λ e. IsKept new.primary e) m
       (moment_told now one old between m here kept) (λ e kept'. moments_told now rest between new e is kept')
 
-  paused : (old new : Served I D S N i d) (m : Machine) → (new ≡ old) ⊎ HasAsked n old new → IsKept old.primary m → IsKept new.primary m
-  paused old new m (inl same) kept = stays n old new m (ap (λ (x : Served I D S N i d). x.primary) same) kept
-  paused old new m (inr asked) kept = stays n old new m (asked_stays n old new asked) kept
+  paused : (old new : Served I D S N L i d) (m : Machine) → (new ≡ old) ⊎ HasAsked n old new → IsKept old.primary m → IsKept new.primary m
+  paused old new m (inl same) kept = stays n l old new m (ap (λ (x : Served I D S N L i d). x.primary) same) kept
+  paused old new m (inr asked) kept = stays n l old new m (asked_stays n l old new asked) kept
 
-  turn_told : (now : ℕ) (moments : List TurnMoment) (old new : Served I D S N i d) (m : Machine) → IsTurn s n now moments old new → IsKept old.primary m
+  turn_told : (now : ℕ) (moments : List TurnMoment) (old new : Served I D S N L i d) (m : Machine) → IsTurn s n l now moments old new → IsKept old.primary m
       → RunsTo (flat_map told_in moments) m (λ e. IsKept new.primary e)
   turn_told now moments old new m is kept =
       subst (λ (l : List Told). RunsTo l m (λ e. IsKept new.primary e))
@@ -163,22 +190,22 @@ module _ {I D S N : Type 0} {i : index.Ghosts I} {d : store.Ghosts D} (s : strea
       (told_on (flat_map told_in is.first) (flat_map told_in is.last) (λ e. IsKept is.between.primary e) (λ e. IsKept new.primary e) m
       (moments_told now is.first old is.between m is.done kept) (λ e kept'. moments_told now is.last is.between new e is.flushed kept'))
 
-  after_round : (old new : Served I D S N i d) (told : List Told) (m : Machine) → (new ≡ old) ⊎ HasAsked n old new
+  after_round : (old new : Served I D S N L i d) (told : List Told) (m : Machine) → (new ≡ old) ⊎ HasAsked n old new
       → RunsTo told m (λ e. IsKept old.primary e) → RunsTo told m (λ e. IsKept new.primary e)
   after_round old new told m pause is =
       record { run = is.run; runs = is.runs; each = is.each; kept = paused old new (last_of m is.run) pause is.kept }
 
-  turns_to : (turns : List (List TurnMoment)) (old new : Served I D S N i d) (m : Machine) → AreTurns s n turns old new → IsKept old.primary m
+  turns_to : (turns : List (List TurnMoment)) (old new : Served I D S N L i d) (m : Machine) → AreTurns s n l turns old new → IsKept old.primary m
       → RunsTo (told_by turns) m (λ e. IsKept new.primary e)
   turns_to [] old new m is kept =
-      none_told (λ e. IsKept new.primary e) m (stays n old new m (ap (λ (x : Served I D S N i d). x.primary) is) kept)
+      none_told (λ e. IsKept new.primary e) m (stays n l old new m (ap (λ (x : Served I D S N L i d). x.primary) is) kept)
   turns_to (one ∷ rest) old new m (between, here, is) kept =
       told_on (flat_map told_in one) (told_by rest) (λ e. IsKept between.primary e) (λ e. IsKept new.primary e) m
       (after_round here.ended between (flat_map told_in one) m here.after
       (turn_told here.now one here.begun here.ended m here.turn (paused old here.begun m here.before kept)))
       (λ e kept'. turns_to rest between new e is kept')
 
-  pub turns_run : (turns : List (List TurnMoment)) (old new : Served I D S N i d) (m : Machine) → AreTurns s n turns old new → IsKept old.primary m
+  pub turns_run : (turns : List (List TurnMoment)) (old new : Served I D S N L i d) (m : Machine) → AreTurns s n l turns old new → IsKept old.primary m
       → (run : List Moment) × IsRunOf (told_by turns) m run × IsKept new.primary (last_of m run)
   turns_run turns old new m is kept =
       let made = turns_to turns old new m is kept in

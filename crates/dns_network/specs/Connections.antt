@@ -53,8 +53,8 @@ module _ {S : Type 0} where
   has_left_at (Some None) = false
   has_left_at (Some (Some c)) = not (length (unwritten_of c) == 0)
 
-  -- Nothing has changed, and no stream ended; or octets may have moved on the connection with that number, and
-  -- on no other one.
+  -- Nothing has changed, and no stream ended; or octets may have moved on the connection with that number,
+  -- and on no other one.
   abbrev pub HasMovedAt : Ghosts S → ℕ → ℕ → Moved → List (Option (Connection S))
       → List (Option (Connection S)) → Type 0
   HasMovedAt s now number moved old new =

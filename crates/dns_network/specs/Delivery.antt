@@ -15,6 +15,10 @@ use Rattle.dns_primary.specs.Keeps.{IsKept, header_out, reply_out}
 use Rattle.dns_primary.specs.Steps.{SteppedBy}
 use Rattle.dns_network.specs.declared.edge.Edge.{Edge}
 use Rattle.dns_network.specs.declared.network.Network.{Ghosts}
+use Rattle.dns_network.specs.declared.network.Note.{Note}
+use Rattle.dns_network.specs.declared.network.Note.TheVariants as note
+use Rattle.dns_network.specs.declared.network.Notes as notes
+use Rattle.dns_network.specs.Notes.{AreNoted, notes_of}
 use Rattle.dns_network.specs.Steps.{AreSteps}
 
 -- What goes out with the effects of an event, in its order.
@@ -39,49 +43,71 @@ TakesEvent old event new effects = (m : Machine) → IsKept old m → SteppedBy 
 abbrev pub connections_of : {S : Type 0} → Edge S → List (Option (Connection S))
 connections_of edge = places_of edge.connections
 
--- A primary, connections by their numbers, and a network.
-pub record Served (I D S N : Type 0) (i : index.Ghosts I) (d : store.Ghosts D) : Type 0 where
+-- A primary, connections by their numbers, a network, and what takes notes.
+pub record Served (I D S N L : Type 0) (i : index.Ghosts I) (d : store.Ghosts D) : Type 0 where
   pub primary : Primary I D i d
   pub connections : List (Option (Connection S))
   pub network : N
+  pub notes : L
 
-module _ {I D S N : Type 0} {i : index.Ghosts I} {d : store.Ghosts D} where
-  abbrev pub served : Primary I D i d → Edge S → N → Served I D S N i d
-  served primary edge network =
-      record { primary = primary; connections = connections_of edge; network = network }
+module _ {I D S N L : Type 0} {i : index.Ghosts I} {d : store.Ghosts D} where
+  abbrev pub served : Primary I D i d → Edge S → N → L → Served I D S N L i d
+  served primary edge network notes =
+      record { primary = primary; connections = connections_of edge; network = network; notes = notes }
 
-  -- A connection was closed: its stream was let go, and the primary told.
-  pub record IsClosed (number : ℕ) (old new : Served I D S N i d) : Type 0 where
+  -- This was noted, and nothing else done.
+  pub record HasNoted (l : notes.Ghosts L) (one : Note) (old new : Served I D S N L i d) : Type 0 where
+    pub rest : new ≡ record old { notes = new.notes }
+    pub noted : l.takes old.notes one new.notes
+
+  -- A connection was closed: its stream was let go, the primary told, and it was noted.
+  pub record IsClosed (l : notes.Ghosts L) (number : ℕ) (old new : Served I D S N L i d) : Type 0 where
     pub effects : Effects
     pub told : TakesEvent old.primary (Closed number) new.primary effects
     pub gone : new.connections ≡ slice_set old.connections number None
     pub network : new.network ≡ old.network
+    pub noted : l.takes old.notes (note.Closed number) new.notes
 
-  -- The connection to which a reply was to go was closed in its stead: the reply is longer than a message on a
-  -- stream can be (RFC 1035 section 4.2.2), or it is open and memory was refused.
-  pub record IsCut (number : ℕ) (reply : List ℕ) (old new : Served I D S N i d) : Type 0 where
-    pub cause : (65535 < length reply) ⊎ (is_open number old.connections ≡ true)
-    pub closed : IsClosed number old new
+  -- The connection to which a reply was to go was closed in its stead: the reply is longer than a message on
+  -- a stream can be (RFC 1035 section 4.2.2), or it is open and memory was refused, which was noted first.
+  pub record IsCut (l : notes.Ghosts L) (number : ℕ) (reply : List ℕ) (old new : Served I D S N L i d)
+      : Type 0 where
+    pub told : Served I D S N L i d
+    pub cause : ((65535 < length reply) × (told ≡ old))
+        ⊎ ((is_open number old.connections ≡ true) × HasNoted l note.OutOfMemory old told)
+    pub closed : IsClosed l number told new
 
   -- A reply to a connection is queued there after all that was queued before, with its length before it, or,
   -- where it is cut, that connection is closed; no other one is touched. One to a peer is handed to the
   -- network, and one to nowhere goes nowhere.
-  abbrev pub IsSent : Ghosts N S → To → List ℕ → Bool → Served I D S N i d → Served I D S N i d → Type 0
-  IsSent n (to.Address peer) reply false old new =
+  abbrev pub IsSent : Ghosts N S → notes.Ghosts L → To → List ℕ → Bool → Served I D S N L i d
+      → Served I D S N L i d → Type 0
+  IsSent n l (to.Address peer) reply false old new =
       (new ≡ record old { network = new.network }) × n.sends old.network peer reply new.network
-  IsSent n (to.Connection number) reply false old new =
+  IsSent n l (to.Connection number) reply false old new =
       (new ≡ record old { connections = new.connections })
       × IsReplyPushed number reply old.connections new.connections
-  IsSent n (to.Connection number) reply true old new = IsCut number reply old new
-  IsSent n to.Nowhere reply false old new = new ≡ old
-  IsSent n (to.Address peer) reply true old new = ⊥
-  IsSent n to.Nowhere reply true old new = ⊥
+  IsSent n l (to.Connection number) reply true old new = IsCut l number reply old new
+  IsSent n l to.Nowhere reply false old new = new ≡ old
+  IsSent n l (to.Address peer) reply true old new = ⊥
+  IsSent n l to.Nowhere reply true old new = ⊥
 
   -- so does each of these, one after the other
-  abbrev pub AreGoing : Ghosts N S → List Going → Served I D S N i d → Served I D S N i d → Type 0
-  AreGoing n = AreSteps (λ old one new. IsSent n one.to one.octets one.cut old new)
+  abbrev pub AreGoing : Ghosts N S → notes.Ghosts L → List Going → Served I D S N L i d
+      → Served I D S N L i d → Type 0
+  AreGoing n l = AreSteps (λ old one new. IsSent n l one.to one.octets one.cut old new)
 
   -- so does each of these replies, some of them cut
-  abbrev pub AreSent : Ghosts N S → List (To × List ℕ) → Served I D S N i d → Served I D S N i d → Type 0
-  AreSent n out old new =
-      (goings : List Going) × (map reply_to_send goings ≡ out) × AreGoing n goings old new
+  abbrev pub AreSent : Ghosts N S → notes.Ghosts L → List (To × List ℕ) → Served I D S N L i d
+      → Served I D S N L i d → Type 0
+  AreSent n l out old new =
+      (goings : List Going) × (map reply_to_send goings ≡ out) × AreGoing n l goings old new
+
+  -- The effects of an event have happened: its replies were sent, and then noted what it reports.
+  pub record HasEffects (n : Ghosts N S) (l : notes.Ghosts L) (effects : Effects)
+      (goings : List Going) (old new : Served I D S N L i d) : Type 0 where
+    pub between : Served I D S N L i d
+    pub out : map reply_to_send goings ≡ out_of effects
+    pub sent : AreGoing n l goings old between
+    pub rest : new ≡ record between { notes = new.notes }
+    pub noted : AreNoted l (notes_of effects.noted) between.notes new.notes

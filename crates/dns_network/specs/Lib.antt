@@ -7,6 +7,7 @@ pub mod Connections
 pub mod Datagrams
 pub mod Delivery
 pub mod MemoryNetwork
+pub mod Notes
 pub mod Runs
 pub mod Steps
 pub mod Turn

@@ -3,6 +3,8 @@ use Rattle.std.specs.Prelude.{◌≡◌, ◌⊎◌, ◌++◌, ℕ, List, [], ◌
 use Rattle.dns_primary.specs.declared.event.Peer.{Peer}
 use Rattle.dns_network.specs.declared.memory_stream.MemoryStream.{MemoryStream}
 use Rattle.dns_network.specs.declared.memory_network.MemoryNetwork.{MemoryNetwork}
+use Rattle.dns_network.specs.declared.memory_network.MemoryNotes.{MemoryNotes}
+use Rattle.dns_network.specs.declared.network.Note.{Note}
 
 -- The connections and the datagrams that came and were not asked for yet, and the datagrams that were sent.
 abbrev pub connections_to : MemoryNetwork → List (MemoryStream × Peer)
@@ -34,3 +36,8 @@ abbrev pub SendsDatagram : MemoryNetwork → Peer → List ℕ → MemoryNetwork
 SendsDatagram old peer octets new =
     (datagrams_from new ≡ datagrams_from old ++ (octets, peer) ∷ [])
     ⊎ (datagrams_from new ≡ datagrams_from old)
+
+-- A note is kept after the others, or dropped.
+abbrev pub TakesNote : MemoryNotes → Note → MemoryNotes → Type 0
+TakesNote old note new =
+    (new.notes.items ≡ old.notes.items ++ note ∷ []) ⊎ (new.notes.items ≡ old.notes.items)

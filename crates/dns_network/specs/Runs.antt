@@ -16,7 +16,8 @@ use Rattle.dns_primary.specs.Keeps.{IsKept}
 use Rattle.dns_primary.specs.Step.{Event, Connect, Closed}
 use Rattle.dns_primary.specs.Runs.{Moment, Took, Stopped, Configured, Run, last_of}
 use Rattle.dns_network.specs.declared.network.Network.{Ghosts}
-use Rattle.dns_network.specs.Delivery.{Served, Going, out_of}
+use Rattle.dns_network.specs.declared.network.Notes as notes
+use Rattle.dns_network.specs.Delivery.{Served, out_of}
 use Rattle.dns_network.specs.Turn.{TurnMoment, Asks, Moves, Connects, Happens, Closes, AreTurns}
 
 -- An event that a primary is told, and what it reports of it: the replies that go out, in order, the number
@@ -74,9 +75,9 @@ pub record IsRunOf (told : List Told) (start : Machine) (run : List Moment) : Ty
 
 -- Whatever turns are made, and whichever machine the primary kept before them: a run of that machine has
 -- their events, and the primary keeps the machine at its end.
-abbrev pub TurnsAreRuns : {I D S N : Type 0} → index.Ghosts I → store.Ghosts D → stream.Ghosts S
-    → Ghosts N S → Type 0
-TurnsAreRuns {I = I} {D = D} {S = S} {N = N} i d s n =
-    (turns : List (List TurnMoment)) (old new : Served I D S N i d) (start : Machine)
-    → AreTurns s n turns old new → IsKept old.primary start
+abbrev pub TurnsAreRuns : {I D S N L : Type 0} → index.Ghosts I → store.Ghosts D → stream.Ghosts S
+    → Ghosts N S → notes.Ghosts L → Type 0
+TurnsAreRuns {I = I} {D = D} {S = S} {N = N} {L = L} i d s n l =
+    (turns : List (List TurnMoment)) (old new : Served I D S N L i d) (start : Machine)
+    → AreTurns s n l turns old new → IsKept old.primary start
     → (run : List Moment) × IsRunOf (told_by turns) start run × IsKept new.primary (last_of start run)

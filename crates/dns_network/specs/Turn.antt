@@ -1,9 +1,9 @@
 -- What is done in a turn.
-use Rattle.std.specs.Prelude.{◌≡◌, ◌⊎◌, ◌≤◌, ◌<◌, ℕ, List, [], ◌∷◌, ◌++◌, length, map}
+use Rattle.std.specs.Prelude.{◌≡◌, ◌⊎◌, ◌≤◌, ◌<◌, ℕ, List, [], ◌∷◌, ◌++◌, length}
 use Rattle.std.specs.Prelude.{Option, Some, None, slice_get, slice_set}
 use Rattle.dns_network.specs.declared.connection.Connection.{Connection}
 use Rattle.dns_network.specs.declared.stream.Stream as stream
-use Rattle.dns_network.specs.Closing.{Cause, GivesCause}
+use Rattle.dns_network.specs.Closing.{Cause, GivesCause, HasEnded, Silent, NoMemory, NoPlace}
 use Rattle.dns_network.specs.Connection.{HasMoved, HasHandedOver, heard_of, stream_of, unwritten_of, unhandled}
 use Rattle.dns_zone.specs.declared.index.ZoneIndex as index
 use Rattle.dns_store.specs.declared.zone_store.ZoneStore as store
@@ -14,7 +14,10 @@ use Rattle.dns_primary.specs.Machine.{Machine}
 use Rattle.dns_primary.specs.Keeps.{IsKept}
 use Rattle.dns_primary.specs.Step.{Event, Datagram, Connect, Arrives, Flush, Checkpoint, Pump, Closed}
 use Rattle.dns_network.specs.declared.network.Network.{Ghosts}
-use Rattle.dns_network.specs.Delivery.{Served, Going, TakesEvent, IsClosed, AreGoing, out_of, reply_to_send}
+use Rattle.dns_network.specs.declared.network.Note.TheVariants as note
+use Rattle.dns_network.specs.declared.network.Notes as notes
+use Rattle.dns_network.specs.Notes.{AreNoted, notes_of, notes_of_opened}
+use Rattle.dns_network.specs.Delivery.{Served, Going, TakesEvent, HasEffects, HasNoted, IsClosed}
 use Rattle.dns_network.specs.Steps.{AreSteps}
 
 -- One thing that is done: the network is asked, and nothing came; octets move on the connection with a
@@ -34,8 +37,8 @@ IsFlush moments =
     × (moments ≡ Asks ∷ Happens Flush effects goings ∷ Asks ∷ [])
 
 module _ {S : Type 0} where
-  -- A connection on which nothing came and to which nothing goes yet is put, in the second `now`, in the place
-  -- with the number that the peer got, if it got one and there is such a place.
+  -- A connection on which nothing came and to which nothing goes yet is put, in the second `now`, in the
+  -- place with the number that the peer got, if it got one and there is such a place.
   abbrev pub IsPlaced : ℕ → S → Option ℕ → List (Option (Connection S)) → List (Option (Connection S))
       → Type 0
   IsPlaced now stream None old new = new ≡ old
@@ -49,45 +52,49 @@ module _ {S : Type 0} where
 abbrev pub NoneWaits : {I D : Type 0} {i : index.Ghosts I} {d : store.Ghosts D} → Primary I D i d → Type 0
 NoneWaits primary = (m : Machine) → IsKept primary m → m.waiting ≡ []
 
-module _ {I D S : Type 0} {i : index.Ghosts I} {d : store.Ghosts D} where
-  -- The connection of a peer is taken up: the primary is told of it, and it is put in its place.
-  pub record IsTakenUp (now : ℕ) (stream : S) (peer : Peer) (effects : Effects)
-      (before after : Primary I D i d) (old new : List (Option (Connection S))) : Type 0 where
+module _ {I D S L : Type 0} {i : index.Ghosts I} {d : store.Ghosts D} where
+  -- The connection of a peer is taken up: the primary is told of it, it is put in its place, and it is noted.
+  pub record IsTakenUp (l : notes.Ghosts L) (now : ℕ) (stream : S) (peer : Peer) (effects : Effects)
+      (before after : Primary I D i d) (old new : List (Option (Connection S))) (first last : L)
+      : Type 0 where
     pub told : TakesEvent before (Connect peer) after effects
     pub placed : IsPlaced now stream effects.accepted old new
+    pub noted : AreNoted l (notes_of effects.noted ++ notes_of_opened effects.accepted peer) first last
 
   -- It is, or it is and then it is closed again, since there is no place with its number.
-  abbrev pub IsWelcomed : ℕ → S → Peer → Primary I D i d → Primary I D i d → List (Option (Connection S))
-      → List (Option (Connection S)) → Type 0
-  IsWelcomed now stream peer before after old new =
-      ((effects : Effects) × IsTakenUp now stream peer effects before after old new)
-      ⊎ ((between : Primary I D i d) × (place : List (Option (Connection S))) × (number : ℕ)
-      × (effects : Effects) × (none : Effects) × IsTakenUp now stream peer effects before between old place
+  abbrev pub IsWelcomed : notes.Ghosts L → ℕ → S → Peer → Primary I D i d → Primary I D i d
+      → List (Option (Connection S)) → List (Option (Connection S)) → L → L → Type 0
+  IsWelcomed l now stream peer before after old new first last =
+      ((effects : Effects) × IsTakenUp l now stream peer effects before after old new first last)
+      ⊎ ((between : Primary I D i d) × (place : List (Option (Connection S))) × (mid : L) × (number : ℕ)
+      × (effects : Effects) × (none : Effects)
+      × IsTakenUp l now stream peer effects before between old place first mid
       × (length place ≤ number) × TakesEvent between (Closed number) after none
-      × (new ≡ slice_set place number None))
+      × (new ≡ slice_set place number None) × l.takes mid (note.Closed number) last)
 
-module _ {I D S N : Type 0} {i : index.Ghosts I} {d : store.Ghosts D} where
-  pub record HasAsked (n : Ghosts N S) (old new : Served I D S N i d) : Type 0 where
+module _ {I D S N L : Type 0} {i : index.Ghosts I} {d : store.Ghosts D} where
+  pub record HasAsked (n : Ghosts N S) (old new : Served I D S N L i d) : Type 0 where
     pub rest : new ≡ record old { network = new.network }
     pub nothing : n.accepts old.network None new.network
         ⊎ (n.receives old.network None new.network ⊎ n.looks old.network new.network)
 
-  pub record MovedOn (s : stream.Ghosts S) (now number : ℕ) (old new : Served I D S N i d) : Type 0 where
+  pub record MovedOn (s : stream.Ghosts S) (now number : ℕ) (old new : Served I D S N L i d) : Type 0 where
     pub before : Connection S
     pub after : Connection S
     pub there : slice_get old.connections number ≡ Some (Some before)
     pub moved : HasMoved s now before after
     pub rest : new ≡ record old { connections = slice_set old.connections number (Some after) }
 
-  pub record HasConnected (n : Ghosts N S) (now : ℕ) (peer : Peer) (effects : Effects)
-      (old new : Served I D S N i d) : Type 0 where
+  pub record HasConnected (n : Ghosts N S) (l : notes.Ghosts L) (now : ℕ) (peer : Peer)
+      (effects : Effects) (old new : Served I D S N L i d) : Type 0 where
     pub stream : S
     pub came : n.accepts old.network (Some (stream, peer)) new.network
-    pub taken : IsTakenUp now stream peer effects old.primary new.primary old.connections new.connections
+    pub taken : IsTakenUp l now stream peer effects old.primary new.primary old.connections
+        new.connections old.notes new.notes
 
   -- How an event comes: a datagram from the network, a message from the connection with its number; a pump
   -- and a flush come of themselves, and no others do.
-  abbrev pub EventComes : Ghosts N S → Event → Served I D S N i d → Served I D S N i d → Type 0
+  abbrev pub EventComes : Ghosts N S → Event → Served I D S N L i d → Served I D S N L i d → Type 0
   EventComes n (Datagram peer octets) old new =
       (new ≡ record old { network = new.network }) × n.receives old.network (Some (octets, peer)) new.network
   EventComes n (Arrives number message) old new =
@@ -100,62 +107,70 @@ module _ {I D S N : Type 0} {i : index.Ghosts I} {d : store.Ghosts D} where
   EventComes n (Checkpoint place) old new = ⊥
   EventComes n (Closed number) old new = ⊥
 
-  pub record HasHappened (n : Ghosts N S) (event : Event) (effects : Effects) (goings : List Going)
-      (old new : Served I D S N i d) : Type 0 where
-    pub given : Served I D S N i d
+  pub record HasHappened (n : Ghosts N S) (l : notes.Ghosts L) (event : Event) (effects : Effects)
+      (goings : List Going) (old new : Served I D S N L i d) : Type 0 where
+    pub given : Served I D S N L i d
     pub is_given : EventComes n event old given
-    pub told : Served I D S N i d
+    pub told : Served I D S N L i d
     pub takes : TakesEvent given.primary event told.primary effects
     pub rest : told ≡ record given { primary = told.primary }
-    pub out : map reply_to_send goings ≡ out_of effects
-    pub sent : AreGoing n goings told new
+    pub happened : HasEffects n l effects goings told new
+
+  -- Refused memory is noted before the connection is closed for it, and no other cause is.
+  abbrev pub IsCauseNoted : notes.Ghosts L → Cause → Served I D S N L i d → Served I D S N L i d → Type 0
+  IsCauseNoted l HasEnded old new = new ≡ old
+  IsCauseNoted l Silent old new = new ≡ old
+  IsCauseNoted l NoMemory old new = HasNoted l note.OutOfMemory old new
+  IsCauseNoted l NoPlace old new = new ≡ old
 
   -- The connection with a number gave a cause to close it, and was closed.
-  pub record ClosedFor (s : stream.Ghosts S) (now number : ℕ) (cause : Cause)
-      (old new : Served I D S N i d) : Type 0 where
+  pub record ClosedFor (s : stream.Ghosts S) (l : notes.Ghosts L) (now number : ℕ) (cause : Cause)
+      (old new : Served I D S N L i d) : Type 0 where
     pub gives : GivesCause s now cause number old.connections
-    pub closed : IsClosed number old new
+    pub told : Served I D S N L i d
+    pub noted : IsCauseNoted l cause old told
+    pub closed : IsClosed l number told new
 
   -- It is done in the second `now`.
-  abbrev pub IsMoment : stream.Ghosts S → Ghosts N S → ℕ → TurnMoment → Served I D S N i d
-      → Served I D S N i d → Type 0
-  IsMoment s n now Asks old new = HasAsked n old new
-  IsMoment s n now (Moves number) old new = MovedOn s now number old new
-  IsMoment s n now (Connects peer effects) old new = HasConnected n now peer effects old new
-  IsMoment s n now (Happens event effects goings) old new = HasHappened n event effects goings old new
-  IsMoment s n now (Closes number cause) old new = ClosedFor s now number cause old new
+  abbrev pub IsMoment : stream.Ghosts S → Ghosts N S → notes.Ghosts L → ℕ → TurnMoment → Served I D S N L i d
+      → Served I D S N L i d → Type 0
+  IsMoment s n l now Asks old new = HasAsked n old new
+  IsMoment s n l now (Moves number) old new = MovedOn s now number old new
+  IsMoment s n l now (Connects peer effects) old new = HasConnected n l now peer effects old new
+  IsMoment s n l now (Happens event effects goings) old new = HasHappened n l event effects goings old new
+  IsMoment s n l now (Closes number cause) old new = ClosedFor s l now number cause old new
 
-  abbrev pub AreMoments : stream.Ghosts S → Ghosts N S → ℕ → List TurnMoment → Served I D S N i d
-      → Served I D S N i d → Type 0
-  AreMoments s n now = AreSteps (λ old one new. IsMoment s n now one old new)
+  abbrev pub AreMoments : stream.Ghosts S → Ghosts N S → notes.Ghosts L → ℕ → List TurnMoment
+      → Served I D S N L i d → Served I D S N L i d → Type 0
+  AreMoments s n l now = AreSteps (λ old one new. IsMoment s n l now one old new)
 
   -- Nothing else is done from here to there, in this second.
-  abbrev pub MomentsLead : stream.Ghosts S → Ghosts N S → ℕ → Served I D S N i d → Served I D S N i d
-      → Type 0
-  MomentsLead s n now old new = (moments : List TurnMoment) × AreMoments s n now moments old new
+  abbrev pub MomentsLead : stream.Ghosts S → Ghosts N S → notes.Ghosts L → ℕ → Served I D S N L i d
+      → Served I D S N L i d → Type 0
+  MomentsLead s n l now old new = (moments : List TurnMoment) × AreMoments s n l now moments old new
 
   -- A turn, in the second `now`: what is done first in it, and then, where a reply waits, a flush.
-  pub record IsTurn (s : stream.Ghosts S) (n : Ghosts N S) (now : ℕ) (moments : List TurnMoment)
-      (old new : Served I D S N i d) : Type 0 where
+  pub record IsTurn (s : stream.Ghosts S) (n : Ghosts N S) (l : notes.Ghosts L) (now : ℕ)
+      (moments : List TurnMoment) (old new : Served I D S N L i d) : Type 0 where
     pub first : List TurnMoment
     pub last : List TurnMoment
     pub are : moments ≡ first ++ last
-    pub between : Served I D S N i d
-    pub done : AreMoments s n now first old between
-    pub flushed : AreMoments s n now last between new
+    pub between : Served I D S N L i d
+    pub done : AreMoments s n l now first old between
+    pub flushed : AreMoments s n l now last between new
     pub flush : ((last ≡ []) × NoneWaits between.primary) ⊎ IsFlush last
 
   -- A turn, and before and after it the network may be asked, or wait.
-  pub record IsRound (s : stream.Ghosts S) (n : Ghosts N S) (moments : List TurnMoment)
-      (old new : Served I D S N i d) : Type 0 where
+  pub record IsRound (s : stream.Ghosts S) (n : Ghosts N S) (l : notes.Ghosts L) (moments : List TurnMoment)
+      (old new : Served I D S N L i d) : Type 0 where
     pub now : ℕ
-    pub begun : Served I D S N i d
-    pub ended : Served I D S N i d
+    pub begun : Served I D S N L i d
+    pub ended : Served I D S N L i d
     pub before : (begun ≡ old) ⊎ HasAsked n old begun
-    pub turn : IsTurn s n now moments begun ended
+    pub turn : IsTurn s n l now moments begun ended
     pub after : (new ≡ ended) ⊎ HasAsked n ended new
 
   -- Turns are made, one after the other; each is told by its moments.
-  abbrev pub AreTurns : stream.Ghosts S → Ghosts N S → List (List TurnMoment) → Served I D S N i d
-      → Served I D S N i d → Type 0
-  AreTurns s n = AreSteps (λ old moments new. IsRound s n moments old new)
+  abbrev pub AreTurns : stream.Ghosts S → Ghosts N S → notes.Ghosts L → List (List TurnMoment)
+      → Served I D S N L i d → Served I D S N L i d → Type 0
+  AreTurns s n l = AreSteps (λ old moments new. IsRound s n l moments old new)

@@ -3,7 +3,10 @@ ghost use Rattle.std.specs.Prelude.{◌≡◌, ℕ, Bool, List, map, replicate, 
 ghost use Rattle.dns_primary.specs.declared.event.Effects.{Effects as StatedEffects};
 ghost use Rattle.dns_primary.specs.Keeps.{header_out, reply_out};
 ghost use Rattle.dns_primary.specs.Step.{Closed};
-ghost use Rattle.dns_network.specs.Delivery.{AreSent, IsSent, TakesEvent, connections_of, out_of, served};
+ghost use Rattle.dns_network.specs.declared.network.Note.TheVariants as note;
+ghost use Rattle.dns_network.specs.Notes.{AreNoted, notes_of};
+ghost use Rattle.dns_network.specs.Delivery.{AreSent, Going, HasEffects, IsSent, TakesEvent, connections_of};
+ghost use Rattle.dns_network.specs.Delivery.{served};
 ghost use Rattle.dns_network.specs.Turn.{IsTurn, IsWelcomed, MomentsLead, NoneWaits, TurnMoment};
 
 use crate::{Connection, Connections, Moved, Network, Note, Notes, Stream};
@@ -85,6 +88,7 @@ impl<S: Stream + Drop> Edge<S> {
         ensures told { (effects : StatedEffects)
             × TakesEvent primary.old (Closed number) primary.new effects }
         ensures gone { connections_of self.new ≡ slice_set (connections_of self.old) number None }
+        ensures noted { L.takes notes.old (note.Closed number) notes.new }
     {
         let _nothing = primary.step(alloc, Event::Closed(number));
         self.connections.remove(number);
@@ -104,8 +108,9 @@ impl<S: Stream + Drop> Edge<S> {
         to: To,
         reply: &[u8],
     )
-        ensures { (cut : Bool) × IsSent N.Network to reply.now cut (served primary.old self.old network.old)
-            (served primary.new self.new network.new) }
+        ensures { (cut : Bool) × IsSent N.Network L.Notes to reply.now cut
+            (served primary.old self.old network.old notes.old)
+            (served primary.new self.new network.new notes.new) }
     {
         match to {
             To::Address(peer) => network.send(peer, reply),
@@ -132,8 +137,9 @@ impl<S: Stream + Drop> Edge<S> {
         notes: &mut L,
         headers: &[HeaderTo],
     )
-        ensures { AreSent N.Network (map (λ h. header_out h) headers.now)
-            (served primary.old self.old network.old) (served primary.new self.new network.new) }
+        ensures { AreSent N.Network L.Notes (map (λ h. header_out h) headers.now)
+            (served primary.old self.old network.old notes.old)
+            (served primary.new self.new network.new notes.new) }
     {
         for header in headers {
             self.send(alloc, network, primary, notes, header.to, &header.octets);
@@ -150,8 +156,9 @@ impl<S: Stream + Drop> Edge<S> {
         notes: &mut L,
         reply: &Option<Reply>,
     )
-        ensures { AreSent N.Network (reply_out reply.now) (served primary.old self.old network.old)
-            (served primary.new self.new network.new) }
+        ensures { AreSent N.Network L.Notes (reply_out reply.now)
+            (served primary.old self.old network.old notes.old)
+            (served primary.new self.new network.new notes.new) }
     {
         if let Some(reply) = reply {
             let octets = reply.octets.as_slice();
@@ -170,8 +177,9 @@ impl<S: Stream + Drop> Edge<S> {
         notes: &mut L,
         effects: Effects,
     )
-        ensures { AreSent N.Network (out_of effects) (served primary.old self.old network.old)
-            (served primary.new self.new network.new) }
+        ensures { (goings : List Going) × HasEffects N.Network L.Notes effects goings
+            (served primary.old self.old network.old notes.old)
+            (served primary.new self.new network.new notes.new) }
     {
         self.send_headers(alloc, network, primary, notes, effects.headers.as_slice());
         self.send_reply(alloc, network, primary, notes, &effects.message);
@@ -190,8 +198,8 @@ impl<S: Stream + Drop> Edge<S> {
         peer: Peer,
         now: u64,
     )
-        ensures { IsWelcomed now stream peer primary.old primary.new (connections_of self.old)
-            (connections_of self.new) }
+        ensures { IsWelcomed L.Notes now stream peer primary.old primary.new (connections_of self.old)
+            (connections_of self.new) notes.old notes.new }
     {
         let effects = primary.step(alloc, Event::Connect(peer));
         tell(notes, effects.noted);
@@ -217,8 +225,9 @@ impl<S: Stream + Drop> Edge<S> {
         notes: &mut L,
         now: u64,
     ) -> bool
-        ensures { MomentsLead S.Stream N.Network now (served primary.old self.old network.old)
-            (served primary.new self.new network.new) }
+        ensures { MomentsLead S.Stream N.Network L.Notes now
+            (served primary.old self.old network.old notes.old)
+            (served primary.new self.new network.new notes.new) }
     {
         let Some((stream, peer)) = network.accept() else {
             return false;
@@ -235,8 +244,9 @@ impl<S: Stream + Drop> Edge<S> {
         primary: &mut Primary<I, D>,
         notes: &mut L,
     ) -> bool
-        ensures { (now : ℕ) → MomentsLead S.Stream N.Network now (served primary.old self.old network.old)
-            (served primary.new self.new network.new) }
+        ensures { (now : ℕ) → MomentsLead S.Stream N.Network L.Notes now
+            (served primary.old self.old network.old notes.old)
+            (served primary.new self.new network.new notes.new) }
     {
         let Some((count, peer)) = network.receive(&mut self.buffer) else {
             return false;
@@ -256,8 +266,9 @@ impl<S: Stream + Drop> Edge<S> {
         notes: &mut L,
         number: usize,
     ) -> bool
-        ensures { (now : ℕ) → MomentsLead S.Stream N.Network now (served primary.old self.old network.old)
-            (served primary.new self.new network.new) }
+        ensures { (now : ℕ) → MomentsLead S.Stream N.Network L.Notes now
+            (served primary.old self.old network.old notes.old)
+            (served primary.new self.new network.new notes.new) }
     {
         let effects = primary.step(alloc, Event::Pump(number));
         let is_sent = effects.message.is_some();
@@ -275,8 +286,9 @@ impl<S: Stream + Drop> Edge<S> {
         number: usize,
         now: u64,
     ) -> bool
-        ensures { MomentsLead S.Stream N.Network now (served primary.old self.old network.old)
-            (served primary.new self.new network.new) }
+        ensures { MomentsLead S.Stream N.Network L.Notes now
+            (served primary.old self.old network.old notes.old)
+            (served primary.new self.new network.new notes.new) }
     {
         let Ok(moved) = self.connections.read(alloc, number, &mut self.buffer, now) else {
             notes.note(Note::OutOfMemory);
@@ -310,8 +322,9 @@ impl<S: Stream + Drop> Edge<S> {
         number: usize,
         now: u64,
     ) -> bool
-        ensures { MomentsLead S.Stream N.Network now (served primary.old self.old network.old)
-            (served primary.new self.new network.new) }
+        ensures { MomentsLead S.Stream N.Network L.Notes now
+            (served primary.old self.old network.old notes.old)
+            (served primary.new self.new network.new notes.new) }
     {
         if !self.connections.is_open(number) {
             return false;
@@ -340,8 +353,9 @@ impl<S: Stream + Drop> Edge<S> {
         notes: &mut L,
         now: u64,
     ) -> bool
-        ensures { MomentsLead S.Stream N.Network now (served primary.old self.old network.old)
-            (served primary.new self.new network.new) }
+        ensures { MomentsLead S.Stream N.Network L.Notes now
+            (served primary.old self.old network.old notes.old)
+            (served primary.new self.new network.new notes.new) }
     {
         if self.rested == Some(now) && network.is_still() {
             return false;
@@ -370,8 +384,9 @@ impl<S: Stream + Drop> Edge<S> {
         notes: &mut L,
         now: u64,
     ) -> bool
-        ensures turn { (moments : List TurnMoment) × IsTurn S.Stream N.Network now moments
-            (served primary.old self.old network.old) (served primary.new self.new network.new) }
+        ensures turn { (moments : List TurnMoment) × IsTurn S.Stream N.Network L.Notes now moments
+            (served primary.old self.old network.old notes.old)
+            (served primary.new self.new network.new notes.new) }
         ensures idle { result ≡ false → NoneWaits primary.new }
     {
         let accepted = self.accept(alloc, network, primary, notes, now);
@@ -390,7 +405,9 @@ impl<S: Stream + Drop> Edge<S> {
 }
 
 /// Tells what was noted of an event.
-fn tell<L: Notes>(notes: &mut L, noted: Noted) {
+fn tell<L: Notes>(notes: &mut L, noted: Noted)
+    ensures { AreNoted L.Notes (notes_of noted) notes.old notes.new }
+{
     match noted {
         Noted::Nothing => {}
         Noted::OutOfMemory => notes.note(Note::OutOfMemory),

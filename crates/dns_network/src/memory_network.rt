@@ -1,7 +1,8 @@
 //! A network in memory, for tests.
 ghost use Rattle.std.specs.Prelude.{◌≡◌, ◌≤◌, ◌++◌, ◌∷◌, [], length, map, IfSome, OnOk, OnErr};
 ghost use Rattle.std.specs.Option.{option_map};
-ghost use Rattle.dns_network.specs.MemoryNetwork.{Accepts, Receives, SendsDatagram, SendsNothing, datagrams_from};
+ghost use Rattle.dns_network.specs.MemoryNetwork.{Accepts, Receives, SendsDatagram, SendsNothing, TakesNote};
+ghost use Rattle.dns_network.specs.MemoryNetwork.{datagrams_from};
 
 use crate::{MemoryStream, Network, Note, Notes, Octets};
 use dns_memory::Heap;
@@ -142,6 +143,8 @@ impl MemoryNotes {
 }
 
 impl Notes for MemoryNotes {
+    ghost takes = { TakesNote };
+
     fn note(&mut self, note: Note) {
         let _kept = self.notes.push(note);
     }

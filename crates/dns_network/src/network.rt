@@ -2,6 +2,7 @@
 ghost use Rattle.std.specs.Prelude.{◌≤◌, ℕ, List, Option, length, take, IfSome};
 ghost use Rattle.std.specs.Option.{option_map};
 ghost use Rattle.dns_primary.specs.declared.event.Peer.{Peer as StatedPeer};
+ghost use Rattle.dns_network.specs.declared.network.Note.{Note as StatedNote};
 
 use dns_primary::Peer;
 
@@ -64,6 +65,10 @@ pub enum Note {
 
 /// To whom turns report.
 pub trait Notes {
+    /// It may go on so where it took this note.
+    ghost takes: { Self → StatedNote → Self → Type 0 };
+
     /// Takes a note.
-    fn note(&mut self, note: Note);
+    fn note(&mut self, note: Note)
+        ensures { takes self.old note self.new };
 }

@@ -8,45 +8,46 @@ use Rattle.dns_store.specs.declared.zone_store.ZoneStore as store
 use Rattle.dns_primary.specs.declared.primary.Primary.{Primary}
 use Rattle.dns_primary.specs.Keeps.{IsKept}
 use Rattle.dns_network.specs.declared.network.Network.{Ghosts}
+use Rattle.dns_network.specs.declared.network.Notes as notes
 use Rattle.dns_network.specs.Delivery.{Served}
 use Rattle.dns_network.specs.Turn.{TurnMoment, AreTurns, HasAsked, IsRound, IsTurn}
 use Rattle.dns_network.proofs.Running.{turns_run}
 use Rattle.dns_network.proofs.Steps.{step_more}
 use Rattle.dns_server.specs.ServedTurns.{HasPaused, HasTurned, IsServedOn, served_at_start}
 
-module _ {I D S N : Type 0} {i : index.Ghosts I} {d : store.Ghosts D} (s : stream.Ghosts S) (n : Ghosts N S) where
+module _ {I D S N L : Type 0} {i : index.Ghosts I} {d : store.Ghosts D} (s : stream.Ghosts S) (n : Ghosts N S) (l : notes.Ghosts L) where
   -- So many turns were made.
-  abbrev pub Made : ℕ → Served I D S N i d → Served I D S N i d → Type 0
-  Made count a b = (turns : List (List TurnMoment)) × (length turns ≡ count) × AreTurns s n turns a b
+  abbrev pub Made : ℕ → Served I D S N L i d → Served I D S N L i d → Type 0
+  Made count a b = (turns : List (List TurnMoment)) × (length turns ≡ count) × AreTurns s n l turns a b
 
-  pub paused : (primary : Primary I D i d) (connections : List (Option (Connection S))) (old new : N) → HasPaused n old new
-      → ◌≡◌ {A = Served I D S N i d} (record { primary = primary; connections = connections; network = new }) (record { primary = primary; connections = connections; network = old })
-      ⊎ HasAsked n (record { primary = primary; connections = connections; network = old }) (record { primary = primary; connections = connections; network = new })
-  paused primary connections old new (inl same) = inl (λ k. record { primary = primary; connections = connections; network = same k })
-  paused primary connections old new (inr looks) = inr (record { rest = refl; nothing = inr (inr looks) })
+  pub paused : (primary : Primary I D i d) (connections : List (Option (Connection S))) (noted : L) (old new : N) → HasPaused n old new
+      → ◌≡◌ {A = Served I D S N L i d} (record { primary = primary; connections = connections; network = new; notes = noted }) (record { primary = primary; connections = connections; network = old; notes = noted })
+      ⊎ HasAsked n (record { primary = primary; connections = connections; network = old; notes = noted }) (record { primary = primary; connections = connections; network = new; notes = noted })
+  paused primary connections noted old new (inl same) = inl (λ k. record { primary = primary; connections = connections; network = same k; notes = noted })
+  paused primary connections noted old new (inr looks) = inr (record { rest = refl; nothing = inr (inr looks) })
 
-  pub turned : (count now : ℕ) (a old start end new : Served I D S N i d) → Made count a old → (start ≡ old) ⊎ HasAsked n old start
-      → (moments : List TurnMoment) × IsTurn s n now moments start end → (new ≡ end) ⊎ HasAsked n end new → Made (count + 1) a new
+  pub turned : (count now : ℕ) (a old start end new : Served I D S N L i d) → Made count a old → (start ≡ old) ⊎ HasAsked n old start
+      → (moments : List TurnMoment) × IsTurn s n l now moments start end → (new ≡ end) ⊎ HasAsked n end new → Made (count + 1) a new
   turned count now a old start end new (turns, many, made) before (moments, turn) after = (
     turns ++ moments ∷ [],
     omega (arith, many, length_push turns moments),
-    step_more (λ x one y. IsRound s n one x y) turns moments a old new made
+    step_more (λ x one y. IsRound s n l one x y) turns moments a old new made
         (record { now = now; begun = start; ended = end; before = before; turn = turn; after = after }),
   )
 
-  pub has_turned : (count : ℕ) (old new : Primary I D i d) (network network' : N) → IsServedOn s n count old network new network'
+  pub has_turned : (count : ℕ) (old new : Primary I D i d) (network network' : N) (first last : L) → IsServedOn s n l count old network first new network' last
       → HasTurned count (λ m. IsKept old m)
-  has_turned count old new network network' is = (
+  has_turned count old new network network' first last is = (
     is.turns,
     is.many,
     λ m kept.
-        let to = turns_run s n is.turns (served_at_start old network) (record { primary = new; connections = is.connections; network = network' }) m is.made kept in
+        let to = turns_run s n l is.turns (served_at_start old network first) (record { primary = new; connections = is.connections; network = network'; notes = last }) m is.made kept in
         (to.0, to.1),
   )
 
 -- ... whatever the network is.
-pub has_been_turned : {I D S N : Type 0} {i : index.Ghosts I} {d : store.Ghosts D} {s : stream.Ghosts S} {n : Ghosts N S}
-    {count : ℕ} {old new : Primary I D i d} {network network' : N} → IsServedOn s n count old network new network'
+pub has_been_turned : {I D S N L : Type 0} {i : index.Ghosts I} {d : store.Ghosts D} {s : stream.Ghosts S} {n : Ghosts N S} {l : notes.Ghosts L}
+    {count : ℕ} {old new : Primary I D i d} {network network' : N} {first last : L} → IsServedOn s n l count old network first new network' last
     → HasTurned count (λ m. IsKept old m)
-has_been_turned {s = s} {n = n} {count = count} {old = old} {new = new} {network = network} {network' = network'} is =
-    has_turned s n count old new network network' is
+has_been_turned {s = s} {n = n} {l = l} {count = count} {old = old} {new = new} {network = network} {network' = network'} {first = first} {last = last} is =
+    has_turned s n l count old new network network' first last is

@@ -8,6 +8,7 @@ use Rattle.dns_primary.specs.declared.primary.Primary.{Primary}
 use Rattle.dns_primary.specs.Machine.{Machine}
 use Rattle.dns_primary.specs.Runs.{Moment}
 use Rattle.dns_network.specs.declared.network.Network.{Ghosts}
+use Rattle.dns_network.specs.declared.network.Notes as notes
 use Rattle.dns_network.specs.Delivery.{Served}
 use Rattle.dns_network.specs.Turn.{TurnMoment, AreTurns}
 use Rattle.dns_network.specs.Runs.{IsRunOf, told_by}
@@ -16,21 +17,22 @@ use Rattle.dns_network.specs.Runs.{IsRunOf, told_by}
 abbrev pub HasPaused : {S N : Type 0} → Ghosts N S → N → N → Type 0
 HasPaused n old new = (new ≡ old) ⊎ n.looks old new
 
-module _ {I D S N : Type 0} {i : index.Ghosts I} {d : store.Ghosts D} where
+module _ {I D S N L : Type 0} {i : index.Ghosts I} {d : store.Ghosts D} where
   -- A primary before the first connection.
-  abbrev pub served_at_start : Primary I D i d → N → Served I D S N i d
-  served_at_start primary network =
-      record { primary = primary; connections = replicate 64 None; network = network }
+  abbrev pub served_at_start : Primary I D i d → N → L → Served I D S N L i d
+  served_at_start primary network notes =
+      record { primary = primary; connections = replicate 64 None; network = network; notes = notes }
 
   -- A primary is served over a network, from no connection on: so many turns are made, and nothing else is
   -- done to it.
-  pub record IsServedOn (s : stream.Ghosts S) (n : Ghosts N S) (count : ℕ) (old : Primary I D i d)
-      (network : N) (new : Primary I D i d) (network' : N) : Type 0 where
+  pub record IsServedOn (s : stream.Ghosts S) (n : Ghosts N S) (l : notes.Ghosts L) (count : ℕ)
+      (old : Primary I D i d) (network : N) (notes : L) (new : Primary I D i d) (network' : N) (notes' : L)
+      : Type 0 where
     pub connections : List (Option (Connection S))
     pub turns : List (List TurnMoment)
     pub many : length turns ≡ count
-    pub made : AreTurns s n turns (served_at_start old network)
-        (record { primary = new; connections = connections; network = network' })
+    pub made : AreTurns s n l turns (served_at_start old network notes)
+        (record { primary = new; connections = connections; network = network'; notes = notes' })
 
 -- The events of these turns are those of a run from this machine.
 abbrev pub HaveRun : List (List TurnMoment) → Machine → Type 0

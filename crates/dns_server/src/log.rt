@@ -1,7 +1,7 @@
 //! What a server reports of its turns.
-ghost use Rattle.std.specs.Prelude.{OnOk};
+ghost use Rattle.std.specs.Prelude.{◌≡◌, OnOk};
 ghost use Rattle.std.specs.Io.KnownBytes.{Appends};
-ghost use Rattle.dns_server.specs.Log.{note_line};
+ghost use Rattle.dns_server.specs.Log.{IsLogged, note_line};
 
 use dns_names::Name;
 use dns_network::{Note, Notes};
@@ -14,11 +14,15 @@ pub(crate) struct Log<'a, E: Write> {
     pub(crate) err: &'a mut E,
     /// The names of the zones, by their positions.
     pub(crate) origins: &'a [Name],
+    /// Whether a line couldn't be written.
+    pub(crate) has_failed: bool,
 }
 
 impl<E: Write> Log<'_, E> {
     /// Writes the line of a note.
     fn line(&mut self, note: Note) -> io::Result<()>
+        ensures origins { self.new.origins.now ≡ self.old.origins.now }
+        ensures still { self.new.has_failed ≡ self.old.has_failed }
         ensures written { OnOk result
             (Appends (E.contents self.old.err.now) (E.contents self.new.err.now)
             (note_line self.old.origins.now note)) }
@@ -42,7 +46,13 @@ impl<E: Write> Log<'_, E> {
 }
 
 impl<E: Write> Notes for Log<'_, E> {
+    ghost takes = { λ old note new. (new.origins.now ≡ old.origins.now)
+        × IsLogged old.origins.now note old.has_failed new.has_failed (E.contents old.err.now)
+        (E.contents new.err.now) };
+
     fn note(&mut self, note: Note) {
-        let _written = self.line(note);
+        if let Err(_) = self.line(note) {
+            self.has_failed = true;
+        }
     }
 }

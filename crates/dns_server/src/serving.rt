@@ -102,7 +102,8 @@ fn run<R: Clock, I: ZoneIndex, D: ZoneStore, S: Stream + Drop, N: Network<S>, L:
     turns: u32,
 ) -> io::Result<()>
     ensures { IfOk result
-        (λ _. IsServedOn S.Stream N.Network turns primary.old network.old primary.new network.new) }
+        (λ _. IsServedOn S.Stream N.Network L.Notes turns primary.old network.old notes.old primary.new
+        network.new notes.new) }
 {
     let mut edge: Edge<S> = Edge::new(heap)?;
     let start = Instant::now(rt)?;
@@ -133,8 +134,15 @@ fn listen<R: Net + Clock, I: ZoneIndex, S: ZoneStore, E: Write>(
         return Ok(FAILED);
     };
     writeln!(err, "listening on {address}")?;
-    let mut log = Log { err, origins };
+    let mut log = Log {
+        err,
+        origins,
+        has_failed: false,
+    };
     run(heap, rt, primary, &mut sockets, &mut log, turns)?;
+    if log.has_failed {
+        return Ok(FAILED);
+    }
     Ok(DONE)
 }
 

@@ -2,4 +2,4 @@ use Rattle.dns_network.proofs.Running.{turns_run}
 use Rattle.dns_network.proofs.laws.turns_law.Goals as goal
 
 pub returns : goal.returns
-returns g c = turns_run g.S.Stream g.N.Network
+returns g c = turns_run g.S.Stream g.N.Network g.L.Notes

@@ -8,18 +8,18 @@ use Rattle.dns_network.proofs.edge.Edge.receive.Goals as goal
 
 pub returns-in_default : goal.returns-in_default
 returns-in_default g c = λ now.
-    let old = served c.args.primary.now c.args.self.now c.args.network.now in
-    let new = served c.args.primary.now c.args.self.now c.receive.new.self in
-    by_one g.S.Stream g.N.Network now Asks old new (record { rest = refl; nothing = inr (inl c.in_default.ensures.came) })
+    let old = served c.args.primary.now c.args.self.now c.args.network.now c.args.notes.now in
+    let new = served c.args.primary.now c.args.self.now c.receive.new.self c.args.notes.now in
+    by_one g.S.Stream g.N.Network g.L.Notes now Asks old new (record { rest = refl; nothing = inr (inl c.in_default.ensures.came) })
 
 pub returns : goal.returns
 returns g c = λ now.
-    let old = served c.args.primary.now c.args.self.now c.args.network.now in
-    let given = served c.args.primary.now c.args.self.now c.receive.new.self in
+    let old = served c.args.primary.now c.args.self.now c.args.network.now c.args.notes.now in
+    let given = served c.args.primary.now c.args.self.now c.receive.new.self c.args.notes.now in
     let same : length c.receive.new.into ≡ c.args.self.now.buffer.len = omega (arith, c.receive.auto.into, c.deref_mut.ensures.len) in
-    let told = served c.step-effects.new.self c.args.self.now c.receive.new.self in
-    let new = served c.deliver.new.primary c.deliver.new.self c.deliver.new.network in
-    happens g.S.Stream g.N.Network now (Datagram c.in-Some.peer (take c.in-Some.count c.deref.result.now)) c.step-effects.result old given told new (
+    let told = served c.step-effects.new.self c.args.self.now c.receive.new.self c.args.notes.now in
+    let new = served c.deliver.new.primary c.deliver.new.self c.deliver.new.network c.deliver.new.notes in
+    happens g.S.Stream g.N.Network g.L.Notes now (Datagram c.in-Some.peer (take c.in-Some.count c.deref.result.now)) c.step-effects.result old given told new (
       refl,
       subst (λ (buffer : List ℕ). g.N.Network.receives c.args.network.now (Some (take c.in-Some.count buffer, c.in-Some.peer)) c.receive.new.self)
           (sym (c.deref.ensures.value ∙ with_items_is c.args.self.now.buffer c.receive.new.into same)) c.in-Some.ensures.came,

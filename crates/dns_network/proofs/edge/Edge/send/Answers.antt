@@ -7,28 +7,31 @@ use Rattle.dns_network.proofs.edge.Edge.send.Goals as goal
 
 pub returns-then-reply-gt-LONGEST : goal.returns-then-reply-gt-LONGEST
 returns-then-reply-gt-LONGEST g c =
-    let old = served c.args.primary.now c.args.self.now c.args.network.now in
-    let new = served c.close.new.primary c.close.new.self c.args.network.now in
+    let old = served c.args.primary.now c.args.self.now c.args.network.now c.args.notes.now in
+    let new = served c.close.new.primary c.close.new.self c.args.network.now c.close.new.notes in
     let told = c.close.ensures.told in
-    subst (λ (t : To). (cut : Bool) × IsSent g.N.Network t c.args.reply.now cut old new) (sym c.in-Connection.is) (
+    subst (λ (t : To). (cut : Bool) × IsSent g.N.Network g.L.Notes t c.args.reply.now cut old new) (sym c.in-Connection.is) (
       true,
       record {
-        cause = inl c.if-reply-gt-LONGEST.true;
-        closed = record { effects = told.0; told = told.1; gone = c.close.ensures.gone; network = refl };
+        told = old;
+        cause = inl (c.if-reply-gt-LONGEST.true, refl);
+        closed = record { effects = told.0; told = told.1; gone = c.close.ensures.gone; network = refl; noted = c.close.ensures.noted };
       },
     )
 
 pub returns-in-Err : goal.returns-in-Err
 returns-in-Err g c =
-    let old = served c.args.primary.now c.args.self.now c.args.network.now in
-    let new = served c.close-in-Err.new.primary c.close-in-Err.new.self c.args.network.now in
+    let old = served c.args.primary.now c.args.self.now c.args.network.now c.args.notes.now in
+    let new = served c.close-in-Err.new.primary c.close-in-Err.new.self c.args.network.now c.close-in-Err.new.notes in
+    let noted = served c.args.primary.now c.args.self.now c.args.network.now c.note.new.self in
     let told = c.close-in-Err.ensures.told in
     let number = c.in-Connection.number in
     let gone = closed_still number (connections_of c.args.self.now) (places_of c.push.new.self) (connections_of c.close-in-Err.new.self) c.in-Err.ensures.refused c.close-in-Err.ensures.gone in
-    subst (λ (t : To). (cut : Bool) × IsSent g.N.Network t c.args.reply.now cut old new) (sym c.in-Connection.is) (
+    subst (λ (t : To). (cut : Bool) × IsSent g.N.Network g.L.Notes t c.args.reply.now cut old new) (sym c.in-Connection.is) (
       true,
       record {
-        cause = inr c.in-Err.ensures.there;
-        closed = record { effects = told.0; told = told.1; gone = gone; network = refl };
+        told = noted;
+        cause = inr (c.in-Err.ensures.there, record { rest = refl; noted = c.note.ensures });
+        closed = record { effects = told.0; told = told.1; gone = gone; network = refl; noted = c.close-in-Err.ensures.noted };
       },
     )

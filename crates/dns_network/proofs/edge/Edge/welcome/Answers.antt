@@ -1,9 +1,9 @@
-use Rattle.std.proofs.Common.{ℕ, ◌≤◌, List, Option, length, refl, sym, subst, inl, inr}
-use Rattle.dns_network.specs.declared.connection.Connection.{Connection}
+use Rattle.std.proofs.Common.{ℕ, Option, refl, sym, subst, inl, inr}
 use Rattle.dns_network.specs.Connections.{places_of}
 use Rattle.dns_network.specs.Delivery.{connections_of}
 use Rattle.dns_network.specs.Turn.{IsPlaced}
-use Rattle.dns_network.proofs.Leads.{nothing_came}
+use Rattle.dns_network.specs.Notes.{AreNoted, notes_of_opened}
+use Rattle.dns_network.proofs.Leads.{noted_then, nothing_came, still_past}
 use Rattle.dns_network.proofs.edge.Edge.welcome.Goals as goal
 
 pub returns-in_default : goal.returns-in_default
@@ -14,6 +14,8 @@ returns-in_default g c =
       record {
         told = λ m kept. c.step-effects.ensures.step m kept;
         placed = subst (λ (accepted : Option ℕ). IsPlaced c.args.now c.args.stream accepted here here) (sym c.in_default.is) refl;
+        noted = noted_then g.L.Notes c.step-effects.result.noted c.step-effects.result.accepted c.args.peer c.args.notes.now c.tell.new.notes c.tell.new.notes c.tell.ensures
+            (subst (λ (accepted : Option ℕ). AreNoted g.L.Notes (notes_of_opened accepted c.args.peer) c.tell.new.notes c.tell.new.notes) (sym c.in_default.is) refl);
       },
     )
 
@@ -24,6 +26,7 @@ returns-in-Err g c =
     inr (
       c.step-effects.new.self,
       places_of c.insert.new.self,
+      c.note.new.self,
       c.in-Some.number,
       c.step-effects.result,
       told.0,
@@ -31,10 +34,14 @@ returns-in-Err g c =
         told = λ m kept. c.step-effects.ensures.step m kept;
         placed = subst (λ (accepted : Option ℕ). IsPlaced c.args.now c.args.stream accepted here (places_of c.insert.new.self)) (sym c.in-Some.is)
             (inl (c.in-Err.ensures.back.1, c.in-Err.ensures.still));
+        noted = noted_then g.L.Notes c.step-effects.result.noted c.step-effects.result.accepted c.args.peer c.args.notes.now c.tell.new.notes c.note.new.self c.tell.ensures
+            (subst (λ (accepted : Option ℕ). AreNoted g.L.Notes (notes_of_opened accepted c.args.peer) c.tell.new.notes c.note.new.self) (sym c.in-Some.is)
+            (c.note.new.self, c.note.ensures, refl));
       },
-      subst (λ (cs : List (Option (Connection g.row.S.Denot))). length cs ≤ c.in-Some.number) (sym c.in-Err.ensures.still) c.in-Err.ensures.back.1,
+      still_past c.in-Some.number here (places_of c.insert.new.self) c.in-Err.ensures.still c.in-Err.ensures.back.1,
       told.1,
       c.close.ensures.gone,
+      c.close.ensures.noted,
     )
 
 pub returns : goal.returns
@@ -57,5 +64,8 @@ returns g c =
                 c.in_default-insert.ensures.put,
               ),
             ));
+        noted = noted_then g.L.Notes c.step-effects.result.noted c.step-effects.result.accepted c.args.peer c.args.notes.now c.tell.new.notes c.note.new.self c.tell.ensures
+            (subst (λ (accepted : Option ℕ). AreNoted g.L.Notes (notes_of_opened accepted c.args.peer) c.tell.new.notes c.note.new.self) (sym c.in-Some.is)
+            (c.note.new.self, c.note.ensures, refl));
       },
     )

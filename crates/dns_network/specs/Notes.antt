@@ -1,0 +1,24 @@
+-- What is noted in a turn.
+use Rattle.std.specs.Prelude.{ℕ, List, [], ◌∷◌, Option, Some, None}
+use Rattle.dns_primary.specs.declared.event.Peer.{Peer}
+use Rattle.dns_primary.specs.declared.event.Noted.{Noted}
+use Rattle.dns_primary.specs.declared.event.Noted.TheVariants as noted
+use Rattle.dns_network.specs.declared.network.Note.{Note}
+use Rattle.dns_network.specs.declared.network.Note.TheVariants.{Opened, OutOfMemory, Device}
+use Rattle.dns_network.specs.declared.network.Notes.{Ghosts}
+use Rattle.dns_network.specs.Steps.{AreSteps}
+
+-- of what a primary reports
+abbrev pub notes_of : Noted → List Note
+notes_of noted.Nothing = []
+notes_of noted.OutOfMemory = OutOfMemory ∷ []
+notes_of (noted.Device place) = Device place ∷ []
+
+-- of a peer that gets this number, or none
+abbrev pub notes_of_opened : Option ℕ → Peer → List Note
+notes_of_opened None peer = []
+notes_of_opened (Some number) peer = Opened number peer ∷ []
+
+-- These were taken, one after the other.
+abbrev pub AreNoted : {L : Type 0} → Ghosts L → List Note → L → L → Type 0
+AreNoted l = AreSteps (λ old one new. l.takes old one new)
