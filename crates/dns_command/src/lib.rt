@@ -21,6 +21,8 @@ pub enum Task<'a> {
     Migrate(&'a str),
     /// `serve CONFIG --turns N`
     Serve(&'a str, u32),
+    /// `fetch ADDRESS:PORT ORIGIN [--since FILE]`
+    Fetch(&'a str, &'a str, Option<&'a str>),
 }
 
 /// What the words ask for, and whether a fault is to be explained in a second line.
@@ -137,6 +139,25 @@ fn serve_command<'a>(alloc: Global) -> Result<Command<'a>, Error> {
     Ok(command.arg(turns)?)
 }
 
+fn fetch_command<'a>(alloc: Global) -> Result<Command<'a>, Error> {
+    let about =
+        "Takes a zone in from another server, by a transfer, and prints it as a master file";
+    let server = word(
+        alloc,
+        "ADDRESS:PORT",
+        "The server: an address and a port, as 192.0.2.1:53 or [2001:db8::1]:53",
+    );
+    let command = of_one_word(alloc, "fetch", about, server)?.arg(origin(alloc))?;
+    let since = Arg::new(alloc, "since")
+        .long("since")
+        .value_name("FILE")
+        .action(ArgAction::Set)
+        .help(
+            "A master file with an older version of the zone, of which the changes are asked for",
+        );
+    Ok(command.arg(since)?)
+}
+
 /// The command with one more subcommand, if that was made.
 fn with<'a>(
     command: Command<'a>,
@@ -160,7 +181,8 @@ fn whole_command<'a>(alloc: Global) -> Result<Command<'a>, Error> {
     let command = with(command, dump_command(alloc))?;
     let command = with(command, load_command(alloc))?;
     let command = with(command, migrate_command(alloc))?;
-    with(command, serve_command(alloc))
+    let command = with(command, serve_command(alloc))?;
+    with(command, fetch_command(alloc))
 }
 
 /// The task of a subcommand and its words. None where one is missing, or where a number is none.
@@ -178,6 +200,10 @@ fn task_of<'a>(name: &str, inner: &ArgMatches<'a>) -> Option<Task<'a>> {
         "serve" => {
             let turns = inner.get_str("turns")?.parse().ok()?;
             Some(Task::Serve(inner.get_str("CONFIG")?, turns))
+        }
+        "fetch" => {
+            let (server, origin) = (inner.get_str("ADDRESS:PORT")?, inner.get_str("ORIGIN")?);
+            Some(Task::Fetch(server, origin, inner.get_str("since")))
         }
         _ => None,
     }

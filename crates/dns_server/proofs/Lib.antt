@@ -14,3 +14,6 @@ pub mod Refused
 pub mod Shown
 pub mod Stored
 pub mod Taken
+pub mod Heard
+pub mod Carried
+pub mod Fetched

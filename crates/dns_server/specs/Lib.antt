@@ -11,3 +11,6 @@ pub mod Init
 pub mod Migrate
 pub mod Dump
 pub mod Log
+pub mod FetchFaults
+pub mod TakingIn
+pub mod Fetch

@@ -8,8 +8,8 @@ use dns_configuration::{FAILED, File, REFUSED, USAGE};
 use dns_memory::{Heap, heap};
 use dns_sectors::{DiskFile, FileSectors};
 use dns_server::{
-    Disk, Index, check, compare, dump, explain_check, explain_replay, explain_unreadable, file,
-    init, load, master_files, migrate, octets, replay, serve,
+    Disk, Index, Tcp, TcpSocket, check, compare, dump, explain_check, explain_replay,
+    explain_unreadable, fetch, file, init, load, master_files, migrate, octets, replay, serve,
 };
 use std::io::{self, Write};
 use std::process::ExitCode;
@@ -258,6 +258,43 @@ fn run_serve(
     Ok(status)
 }
 
+/// Takes in a zone from another server, and gives the exit status.
+fn run_fetch(
+    rt: &HostRuntime,
+    heap: Heap,
+    server: &str,
+    origin: &str,
+    since: Option<&str>,
+    explain: bool,
+) -> io::Result<u8> {
+    let text = match since {
+        Some(path) => octets(rt, path)?,
+        None => None,
+    };
+    let held = file(since.unwrap_or(""), &text);
+    let since = since.map(|_path| &held);
+    let mut out = io::BufWriter::new(rt.alloc(), io::writer(rt))?;
+    let mut err = rt.stderr();
+    let status = fetch::<TcpSocket, _, Index, _, _>(
+        heap,
+        &Tcp { heap, rt },
+        server,
+        origin,
+        since,
+        explain,
+        &mut out,
+        &mut err,
+    );
+    out.flush()?;
+    if explain && status == REFUSED {
+        if let Some(file) = since {
+            explain_missing(rt, file, &mut err)?;
+        }
+        explain_check(heap, &held, origin, &mut err)?;
+    }
+    Ok(status)
+}
+
 /// Does the task, and gives the exit status.
 fn run(rt: &HostRuntime, asked: Asked<'_>) -> io::Result<u8> {
     let heap = heap(rt.alloc())?;
@@ -271,6 +308,14 @@ fn run(rt: &HostRuntime, asked: Asked<'_>) -> io::Result<u8> {
         }
         Task::Migrate(config) => run_migrate(rt, heap, config, asked.explain),
         Task::Serve(config, turns) => run_serve(rt, heap, config, turns, asked.explain),
+        Task::Fetch(server, origin, since) => run_fetch(
+            rt,
+            heap,
+            server,
+            origin,
+            since,
+            asked.explain,
+        ),
     }
 }
 
@@ -290,7 +335,8 @@ fn start(rt: &HostRuntime) -> io::Result<u8> {
         Ok(None) => {
             eprintln!(rt;
                 "usage: dnsprim check FILE ORIGIN | replay CONFIG SCRIPT | init CONFIG | \
-dump CONFIG ORIGIN | load CONFIG ORIGIN [--dry-run] | migrate CONFIG | serve CONFIG --turns N [--explain]"
+dump CONFIG ORIGIN | load CONFIG ORIGIN [--dry-run] | migrate CONFIG | serve CONFIG --turns N | \
+fetch ADDRESS:PORT ORIGIN [--since FILE] [--explain]"
             )?;
             Ok(USAGE)
         }

@@ -1,0 +1,37 @@
+use Rattle.std.proofs.Common.{inl, inr, arith, map, take}
+use Rattle.dns_secondary.specs.declared.fault.Fault.{Fault}
+use Rattle.dns_server.specs.FetchFaults.{ComesOfAsking, fault_of}
+use Rattle.dns_server.specs.TakingIn.{TellRefusal}
+use Rattle.dns_server.proofs.Heard.{ended_fed, err_goes, more_fed, next_at, refused_fed, split_at}
+use Rattle.dns_server.proofs.taking_in.hear.Goals as goal
+
+pub returns-in_err-feed-clause-refused : goal.returns-in_err-feed-clause-refused
+returns-in_err-feed-clause-refused g c =
+    let s = c.args.secondary.now in
+    let now = c.loop-message.secondary in
+    let i = c.loop-message.message-index in
+    let m = c.message-item.result in
+    let ms = c.args.messages.now in
+    let parts = split_at (λ m. m.items) ms i m (omega arith) c.message-item.is in
+    err_goes (λ e. ComesOfAsking e (TellRefusal s (map (λ m. m.items) ms))) c.from_residual.result _ c.from_residual.ensures.1
+    (refused_fed s now _ _ _ m.items c.deref.result.now c.in_err-feed.field-0.0 c.loop-message.invariant parts c.deref.ensures.value c.in_err-feed.ensures.refused)
+
+pub returns-in-Done-clause-told : goal.returns-in-Done-clause-told
+returns-in-Done-clause-told g c =
+    let i = c.loop-message.message-index in
+    let m = c.message-item.result in
+    let parts = split_at (λ m. m.items) c.args.messages.now i m (omega arith) c.message-item.is in
+    ended_fed c.args.secondary.now c.loop-message.secondary c.feed.new.self _ _ _ m.items c.deref.result.now c.in_ok-feed.field-0 c.loop-message.invariant parts c.deref.ensures.value c.in_ok-feed.ensures.fed (inl c.in-Done.is)
+
+pub returns-in-UpToDate-clause-told : goal.returns-in-UpToDate-clause-told
+returns-in-UpToDate-clause-told g c =
+    let i = c.loop-message.message-index in
+    let m = c.message-item.result in
+    let parts = split_at (λ m. m.items) c.args.messages.now i m (omega arith) c.message-item.is in
+    ended_fed c.args.secondary.now c.loop-message.secondary c.feed.new.self _ _ _ m.items c.deref.result.now c.in_ok-feed.field-0 c.loop-message.invariant parts c.deref.ensures.value c.in_ok-feed.ensures.fed (inr c.in-UpToDate.is)
+
+pub loop-message-preserved : goal.loop-message-preserved
+loop-message-preserved g c =
+    let i = c.loop-message.message-index in
+    let m = c.message-item.result in
+    more_fed c.args.secondary.now c.loop-message.secondary c.feed.new.self _ _ m.items c.deref.result.now c.in_ok-feed.field-0 c.loop-message.invariant (next_at (λ m. m.items) c.args.messages.now i m (omega arith) c.message-item.is) c.deref.ensures.value c.in_ok-feed.ensures.fed c.in-More.is

@@ -1,0 +1,147 @@
+-- The messages of a stream by which a zone is taken in.
+use Rattle.std.specs.Prelude.{◌≡◌, ◌⊎◌, ℕ, Bool, true, false, List, [], ◌∷◌, ◌++◌, Option, Some, None}
+use Rattle.dns_names.specs.Name.{Labels}
+use Rattle.dns_records.specs.Record.{Record}
+use Rattle.dns_zone.specs.Zone.{Zone}
+use Rattle.dns_wire.specs.Message.{Message, ResourceRecord}
+use Rattle.dns_wire.specs.Reads.{Reads}
+use Rattle.dns_request.specs.declared.request.Transport.TheVariants.{Tcp}
+use Rattle.dns_secondary.specs.Receiving.{Receiving, header_fault}
+use Rattle.dns_secondary.specs.Request.{request_octets}
+use Rattle.dns_secondary.specs.Rest.{Reaches}
+use Rattle.dns_secondary.specs.State.{State, Begun}
+use Rattle.dns_secondary.specs.Taken.{Taken}
+use Rattle.dns_secondary.specs.Told.{Feeds, RefusesFeed, RefusesFrom}
+use Rattle.dns_secondary.specs.declared.fault.Fault.{Fault}
+use Rattle.dns_secondary.specs.declared.fault.Progress.TheVariants.{More, Done, UpToDate}
+use Rattle.dns_network.specs.Framed.{pending_length, IsFramed}
+use Rattle.dns_network.specs.declared.stream.Stream.{Ghosts}
+
+-- The number of the request.
+abbrev pub request_number : ℕ
+request_number = 1
+
+-- One who asks by TCP for the zone of an apex, or for the changes of a version that is held, and has read the
+-- answer up to that state.
+abbrev pub asking_at : Labels → Option Zone → State → Receiving
+asking_at apex held at =
+    record { apex = apex; held = held; id = request_number; transport = Tcp; state = Some at }
+
+-- ... and has read nothing yet.
+abbrev pub asking : Labels → Option Zone → Receiving
+asking apex held = asking_at apex held Begun
+
+-- Each of these octets is a message that answers the request, by its header and its question; and their
+-- records in order (RFC 5936 2.2.1).
+abbrev pub AreAnswers : Labels → Option Zone → List (List ℕ) → List ResourceRecord → Type 0
+AreAnswers apex held [] records = records ≡ []
+AreAnswers apex held (octets ∷ rest) records =
+    (message : Message) × Reads octets message × (header_fault (asking apex held) message ≡ None)
+    × (later : List ResourceRecord) × (records ≡ message.answers ++ later) × AreAnswers apex held rest later
+
+-- The records of a first part of some messages, which are answers, mean the records of this zone: a whole
+-- zone, changes of the version that is held, or that it is current (RFC 5936 2.2, RFC 1995 2 and 4).
+pub record IsToldBy (apex : Labels) (held : Option Zone) (messages : List (List ℕ))
+    (zone : List Record) : Type 0 where
+  pub first : List (List ℕ)
+  pub later : List (List ℕ)
+  pub parts : messages ≡ first ++ later
+  pub records : List ResourceRecord
+  pub answers : AreAnswers apex held first records
+  pub means : Taken apex held records zone
+
+-- One of some messages is refused for this fault, after those before it, which are answers.
+pub record IsRefusedIn (apex : Labels) (held : Option Zone) (messages : List (List ℕ))
+    (fault : Fault) : Type 0 where
+  pub first : List (List ℕ)
+  pub message : List ℕ
+  pub later : List (List ℕ)
+  pub parts : messages ≡ first ++ message ∷ later
+  pub records : List ResourceRecord
+  pub answers : AreAnswers apex held first records
+  pub at : State
+  pub reached : Reaches apex held Begun records at
+  pub refused : RefusesFrom (asking_at apex held at) (Some at) message fault
+
+module _ {S : Type 0} (g : Ghosts S) where
+  -- Octets were sent on a stream, and octets were received, if it is faithful.
+  pub record HasCarried (old : S) (out came : List ℕ) (new : S) : Type 0 where
+    pub faithful : g.is_faithful old → g.is_faithful new
+    pub sent : g.is_faithful old → g.sent new ≡ g.sent old ++ out
+    pub received : g.is_faithful old → g.received new ≡ g.received old ++ came
+
+  -- The request was sent, after its length, and the messages that were received, each after its length, are
+  -- these, and a rest that is no whole message (RFC 1035 4.2.2).
+  pub record IsAnswered (apex : Labels) (held : Option Zone) (old : S) (messages : List (List ℕ))
+      (new : S) : Type 0 where
+    pub octets : List ℕ
+    pub rest : List ℕ
+    pub framed : IsFramed octets messages rest
+    pub carried : HasCarried old (pending_length (request_octets apex held request_number)) octets new
+
+  -- A zone was taken in: the messages that were received tell it.
+  abbrev pub IsTakenIn : Labels → Option Zone → S → List Record → S → Type 0
+  IsTakenIn apex held old zone new =
+      (messages : List (List ℕ)) × IsAnswered apex held old messages new × IsToldBy apex held messages zone
+
+  -- The answer was refused: one of the messages that were received is.
+  abbrev pub IsAnswerRefused : Labels → Option Zone → S → Fault → S → Type 0
+  IsAnswerRefused apex held old fault new =
+      (messages : List (List ℕ)) × IsAnswered apex held old messages new
+      × IsRefusedIn apex held messages fault
+
+  -- It was so on a stream that may have been had.
+  abbrev pub IsTakenFrom : (S → Type 0) → Labels → Option Zone → List Record → Type 0
+  IsTakenFrom reached apex held zone = (old new : S) × reached old × IsTakenIn apex held old zone new
+
+  abbrev pub IsRefusedFrom : (S → Type 0) → Labels → Option Zone → Fault → Type 0
+  IsRefusedFrom reached apex held fault =
+      (old new : S) × reached old × IsAnswerRefused apex held old fault new
+
+-- Messages are fed, of each of which it is reported that more is to come.
+abbrev pub TellMore : Receiving → List (List ℕ) → Receiving → Type 0
+TellMore s [] now = now ≡ s
+TellMore s (message ∷ rest) now = (next : Receiving) × Feeds s message More next × TellMore next rest now
+
+-- Messages are fed up to one of which it is reported that the answer is at its end.
+pub record TellEnd (s : Receiving) (messages : List (List ℕ)) (new : Receiving) : Type 0 where
+  pub first : List (List ℕ)
+  pub message : List ℕ
+  pub later : List (List ℕ)
+  pub parts : messages ≡ first ++ message ∷ later
+  pub now : Receiving
+  pub more : TellMore s first now
+  pub last : Feeds now message Done new ⊎ Feeds now message UpToDate new
+
+-- ... or up to one that is refused.
+pub record TellRefusal (s : Receiving) (messages : List (List ℕ)) (fault : Fault) : Type 0 where
+  pub first : List (List ℕ)
+  pub message : List ℕ
+  pub later : List (List ℕ)
+  pub parts : messages ≡ first ++ message ∷ later
+  pub now : Receiving
+  pub more : TellMore s first now
+  pub refused : RefusesFeed now message fault
+
+-- What these tell.
+abbrev pub Tells : Receiving → List (List ℕ) → Bool → Receiving → Type 0
+Tells s messages true new = TellEnd s messages new
+Tells s messages false new = TellMore s messages new
+
+module _ {S : Type 0} (g : Ghosts S) where
+  -- Nothing was sent on a stream, and octets that were received are messages and a rest.
+  pub record HasHeard (old : S) (messages : List (List ℕ)) (rest : List ℕ) (new : S) : Type 0 where
+    pub octets : List ℕ
+    pub framed : IsFramed octets messages rest
+    pub carried : HasCarried g old [] octets new
+
+  -- The messages lead to the answer's end.
+  abbrev pub HasHeardEnd : S → Receiving → S → Receiving → Type 0
+  HasHeardEnd old s new now =
+      (messages : List (List ℕ)) × (rest : List ℕ) × HasHeard old messages rest new × TellEnd s messages now
+
+  -- One of the messages is refused.
+  abbrev pub HasHeardRefusal : S → Receiving → Fault → S → Type 0
+  HasHeardRefusal old s fault new =
+      (messages : List (List ℕ)) × (rest : List ℕ) × HasHeard old messages rest new
+      × TellRefusal s messages fault

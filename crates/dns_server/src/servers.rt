@@ -1,0 +1,160 @@
+//! Other servers, by their addresses, and streams to them on which one may wait.
+ghost use Rattle.std.specs.Prelude.{◌≡◌, ◌↔◌, [], IfSome};
+ghost use Rattle.std.specs.declared.net.socket_addr.SocketAddr.{SocketAddr as StatedAddress};
+ghost use Rattle.dns_network.specs.Stream.{moved};
+
+use dns_memory::Heap;
+use dns_network::{Moved, Stream};
+use mio::net::TcpStream;
+use mio::{Events, Interest, Poll, Token};
+use std::io::{self, ErrorKind, Read, Write};
+use std::net::{Net, SocketAddr};
+use std::time::Duration;
+
+/// How many seconds a wait for a server lasts at most.
+const PATIENCE: u64 = 30;
+
+/// How many events are taken up at once. One socket is waited for.
+const EVENTS: usize = 4;
+
+/// How often a connection that is being made is waited for.
+const TRIES: usize = 4;
+
+/// The one socket, in events.
+const SOCKET: Token = Token(0);
+
+/// A stream of octets on which one may wait.
+pub trait WaitingStream: Stream {
+    /// Waits until octets may have come, or may be taken, and answers whether that was so before the time for
+    /// it was over. It neither reads nor sends.
+    fn wait(&mut self) -> bool
+        ensures received { Self.is_faithful self.old → Self.received self.new ≡ Self.received self.old }
+        ensures sent { Self.is_faithful self.old → Self.sent self.new ≡ Self.sent self.old }
+        ensures faithful { Self.is_faithful self.new ↔ Self.is_faithful self.old };
+}
+
+/// Servers by their addresses. Whoever has them may answer a call differently from one time to the next, as
+/// a network does.
+pub trait Servers<S> {
+    /// It may give this stream to the server at an address.
+    ghost reached: { Self → StatedAddress → S → Type 0 };
+
+    /// A stream to the server at an address, if that can be reached.
+    fn connect(&self, address: SocketAddr) -> Option<S>
+        ensures { IfSome result (λ stream. reached self.now address stream) };
+}
+
+/// Servers by TCP. Nothing that is proved says what the system answers.
+#[derive(Clone, Copy)]
+pub struct Tcp<'a, R> {
+    pub heap: Heap,
+    pub rt: &'a R,
+}
+
+/// A stream by TCP.
+///
+/// Nothing that is proved says what the system does with a socket, so this one is never taken to be faithful.
+#[derive(Drop)]
+pub struct TcpSocket {
+    stream: TcpStream,
+    poll: Poll,
+    events: Events<Heap>,
+}
+
+impl TcpSocket {
+    /// A stream to an address, of which it is not known yet whether it can be reached.
+    fn begin<R: Net>(heap: Heap, rt: &R, address: SocketAddr) -> io::Result<TcpSocket> {
+        let mut stream = TcpStream::connect(rt, address)?;
+        let poll = Poll::new(rt)?;
+        let both = Interest::READABLE | Interest::WRITABLE;
+        poll.registry().register(&mut stream, SOCKET, both)?;
+        let events = Events::with_capacity(heap, EVENTS)?;
+        Ok(TcpSocket {
+            stream,
+            poll,
+            events,
+        })
+    }
+
+    /// Waits for an event of the socket, and answers whether there was one, or a signal.
+    fn has_event(&mut self) -> bool {
+        let most = Duration::from_secs(PATIENCE);
+        match self.poll.poll(&mut self.events, Some(most)) {
+            Ok(()) => !self.events.is_empty(),
+            Err(error) => error.kind() == ErrorKind::Interrupted,
+        }
+    }
+
+    /// Waits until the server is reached, and answers whether it is.
+    fn is_reached(&mut self) -> bool {
+        for _try in 0..TRIES {
+            if !self.has_event() {
+                return false;
+            }
+            match self.stream.take_error() {
+                Ok(None) => {}
+                _ => return false,
+            }
+            match self.stream.peer_addr() {
+                Ok(_) => return true,
+                Err(error) if error.kind() == ErrorKind::NotConnected => {}
+                Err(_) => return false,
+            }
+        }
+        false
+    }
+}
+
+impl<R: Net> Servers<TcpSocket> for Tcp<'_, R> {
+    ghost reached = { λ _ _ _. Unit {0} };
+
+    fn connect(&self, address: SocketAddr) -> Option<TcpSocket> {
+        let mut socket = TcpSocket::begin(self.heap, self.rt, address).ok()?;
+        if !socket.is_reached() {
+            return None;
+        }
+        Some(socket)
+    }
+}
+
+/// What an error of a stream means for it: no octet moved.
+fn after(error: &io::Error) -> Moved
+    ensures { moved result ≡ 0 }
+{
+    match error.kind() {
+        ErrorKind::WouldBlock | ErrorKind::Interrupted => Moved::Later,
+        _ => Moved::Ended,
+    }
+}
+
+impl Stream for TcpSocket {
+    ghost received = { λ _. [] };
+
+    ghost sent = { λ _. [] };
+
+    ghost is_faithful = { λ _. ⊥ };
+
+    fn read(&mut self, into: &mut [u8]) -> Moved {
+        match self.stream.read(into) {
+            Ok(0) => Moved::Ended,
+            Ok(count) => Moved::Octets(count),
+            Err(error) => after(&error),
+        }
+    }
+
+    fn write(&mut self, octets: &[u8]) -> Moved {
+        match self.stream.write(octets) {
+            Ok(0) => Moved::Ended,
+            Ok(count) => Moved::Octets(count),
+            Err(error) => after(&error),
+        }
+    }
+}
+
+/// The system reports each change once. A wait comes only after a call that would have waited, so that
+/// nothing is there that was reported already.
+impl WaitingStream for TcpSocket {
+    fn wait(&mut self) -> bool {
+        self.has_event()
+    }
+}

@@ -1,0 +1,170 @@
+//! A zone that is taken in over a stream: the request, and the answer as it comes (RFC 5936, RFC 1995).
+ghost use Rattle.std.specs.Prelude.{◌≡◌, ◌≤◌, [], length, map, take, Some, IfOk, IfErr};
+ghost use Rattle.dns_zone.specs.Zone.{Zone as Stated};
+ghost use Rattle.dns_network.specs.Framed.{pending_length};
+ghost use Rattle.dns_secondary.specs.Request.{request_octets};
+ghost use Rattle.dns_server.specs.FetchFaults.{ComesOfAsking};
+ghost use Rattle.dns_server.specs.TakingIn.{HasCarried, HasHeardEnd, HasHeardRefusal, IsAnswerRefused};
+ghost use Rattle.dns_server.specs.TakingIn.{IsTakenIn, Tells, TellRefusal};
+
+use crate::fetch_faults::FetchFault;
+use crate::servers::WaitingStream;
+use dns_memory::Heap;
+use dns_names::Name;
+use dns_network::{Framing, Moved, Octets, Outbox, framing_law};
+use dns_request::Transport;
+use dns_secondary::laws::taken_law;
+use dns_secondary::{Progress, Secondary};
+use dns_zone::{Zone, ZoneIndex};
+
+/// The number of the request. One request is made on a connection, so that each may have the same.
+const REQUEST_NUMBER: u16 = 1;
+
+/// How many octets are read at once, at most: those of the longest message (RFC 1035 section 4.2.2).
+const PIECE: usize = 65536;
+
+/// Writes all that is left to write, and waits where it must.
+fn write_all<S: WaitingStream>(stream: &mut S, outbox: &mut Outbox) -> Result<(), FetchFault>
+    ensures written { IfOk result (λ _. HasCarried S.Stream stream.old outbox.old [] stream.new) }
+    ensures others { IfErr result (λ e. ComesOfAsking e (λ _. ⊥)) }
+{
+    'writes: for _ in 0..u64::MAX {
+        if outbox.is_empty() {
+            return Ok(());
+        }
+        match outbox.write(stream) {
+            Moved::Octets(_) => {}
+            Moved::Later => {
+                if !stream.wait() {
+                    return Err(FetchFault::TimedOut);
+                }
+            }
+            Moved::Ended => return Err(FetchFault::Closed),
+        }
+    }
+    Err(FetchFault::TimedOut)
+}
+
+/// Sends the request for the zone.
+fn ask<S: WaitingStream, I: ZoneIndex>(
+    heap: Heap,
+    stream: &mut S,
+    secondary: &Secondary<I>,
+) -> Result<(), FetchFault>
+    ensures asked { IfOk result (λ _. HasCarried S.Stream stream.old
+        (pending_length (request_octets secondary.now.apex secondary.now.held secondary.now.id)) []
+        stream.new) }
+    ensures others { IfErr result (λ e. ComesOfAsking e (λ _. ⊥)) }
+{
+    // No request is longer than a message by TCP may be, so that nothing but memory is refused.
+    let Ok(request) = secondary.request(heap) else {
+        return Err(FetchFault::OutOfMemory);
+    };
+    let mut outbox = Outbox::new(heap);
+    outbox.push(&request)?;
+    write_all(stream, &mut outbox)
+}
+
+/// Reads octets as they come, and waits where none are there. Answers how many.
+fn read_some<S: WaitingStream>(stream: &mut S, into: &mut [u8]) -> Result<usize, FetchFault>
+    ensures few { IfOk result (λ count. count ≤ length into.new) }
+    ensures came { IfOk result (λ count. HasCarried S.Stream stream.old [] (take count into.new) stream.new) }
+    ensures others { IfErr result (λ e. ComesOfAsking e (λ _. ⊥)) }
+{
+    'reads: for _ in 0..u64::MAX {
+        match stream.read(into) {
+            Moved::Octets(count) => return Ok(count),
+            Moved::Later => {
+                if !stream.wait() {
+                    return Err(FetchFault::TimedOut);
+                }
+            }
+            Moved::Ended => return Err(FetchFault::Closed),
+        }
+    }
+    Err(FetchFault::TimedOut)
+}
+
+/// Reads the messages of an answer in their order, until it is at its end, and answers whether it is.
+fn hear<I: ZoneIndex>(
+    heap: Heap,
+    secondary: &mut Secondary<I>,
+    messages: &[Octets],
+) -> Result<bool, FetchFault>
+    ensures told { IfOk result
+        (λ is_ended. Tells secondary.old (map (λ m. m.items) messages.now) is_ended secondary.new) }
+    ensures refused { IfErr result
+        (λ e. ComesOfAsking e (TellRefusal secondary.old (map (λ m. m.items) messages.now))) }
+{
+    for message in messages {
+        match secondary.feed(heap, message)? {
+            Progress::More => {}
+            Progress::Done => return Ok(true),
+            Progress::UpToDate => return Ok(true),
+            // By TCP this is never reported (RFC 1995 section 2).
+            Progress::RetryTcp => return Err(FetchFault::Closed),
+        }
+    }
+    Ok(false)
+}
+
+/// Reads the answer piece by piece, until it is at its end.
+fn hear_all<S: WaitingStream, I: ZoneIndex>(
+    heap: Heap,
+    stream: &mut S,
+    piece: &mut [u8],
+    secondary: &mut Secondary<I>,
+) -> Result<(), FetchFault>
+    ensures told { IfOk result
+        (λ _. HasHeardEnd S.Stream stream.old secondary.old stream.new secondary.new) }
+    ensures refused { IfErr result
+        (λ e. ComesOfAsking e (λ fault. HasHeardRefusal S.Stream stream.old secondary.old fault stream.new)) }
+{
+    framing_law();
+    let mut framing = Framing::new(heap);
+    'pieces: for _ in 0..u64::MAX {
+        let count = read_some(stream, piece)?;
+        let messages = framing.feed(heap, &piece[..count])?;
+        if hear(heap, secondary, &messages)? {
+            return Ok(());
+        }
+    }
+    Err(FetchFault::TimedOut)
+}
+
+/// Reads the answer until it is at its end, with room for one piece of it.
+fn listen<S: WaitingStream, I: ZoneIndex>(
+    heap: Heap,
+    stream: &mut S,
+    secondary: &mut Secondary<I>,
+) -> Result<(), FetchFault>
+    ensures told { IfOk result
+        (λ _. HasHeardEnd S.Stream stream.old secondary.old stream.new secondary.new) }
+    ensures refused { IfErr result
+        (λ e. ComesOfAsking e (λ fault. HasHeardRefusal S.Stream stream.old secondary.old fault stream.new)) }
+{
+    let mut piece = Vec::new(heap);
+    piece.resize(PIECE, 0)?;
+    hear_all(heap, stream, &mut piece, secondary)
+}
+
+/// Takes in the zone of that apex: asks for the changes of the version that is held, or for the whole zone
+/// where none is, and reads the answer up to its end. One who holds the zone is given back.
+pub(crate) fn take_in<S: WaitingStream, I: ZoneIndex>(
+    heap: Heap,
+    stream: &mut S,
+    apex: Name,
+    held: Option<Zone<I>>,
+) -> Result<Secondary<I>, FetchFault>
+    ensures taken { IfOk result
+        (λ s. (zone : Stated) × (s.held ≡ Some zone)
+        × IsTakenIn S.Stream apex held stream.old zone.records stream.new) }
+    ensures refused { IfErr result (λ e.
+        ComesOfAsking e (λ fault. IsAnswerRefused S.Stream apex held stream.old fault stream.new)) }
+{
+    taken_law();
+    let mut secondary = Secondary::new(heap, apex, held, REQUEST_NUMBER, Transport::Tcp)?;
+    ask(heap, stream, &secondary)?;
+    listen(heap, stream, &mut secondary)?;
+    Ok(secondary)
+}
