@@ -8,8 +8,8 @@ ghost use Rattle.dns_wire.specs.Puts.{RefusesUpTo, Wrote};
 ghost use Rattle.dns_wire.specs.Reply.{stated};
 ghost use Rattle.dns_wire.specs.Text.{text};
 
+use crate::compression_targets::Places;
 use crate::compressor::Compressor;
-use crate::known::Places;
 use crate::writer::header;
 use crate::{Reply, ReplyRecord, WriteError};
 use dns_memory::Heap;

@@ -6,8 +6,8 @@ ghost use Rattle.dns_wire.specs.Compress.{compressed_name, pointer as stated_poi
 ghost use Rattle.dns_wire.specs.Puts.{Wrote, RefusesUpTo, plain_octets};
 
 use crate::WriteError;
+use crate::compression_targets::Places;
 use crate::fields::two_octets;
-use crate::known::Places;
 use crate::name::POINTER_BITS;
 use dns_memory::Heap;
 

@@ -11,9 +11,9 @@ ghost use Rattle.dns_names.specs.Name.{Labels};
 ghost use Rattle.dns_wire.specs.Compress.{Place, compress_name, new_places};
 ghost use Rattle.dns_wire.specs.Compressed.{Used, OccursAt, IsWritten, AreThePlaces, IsCompressed, and_field};
 
+use crate::compression_targets::Places;
 use crate::compressor::Compressor;
 use crate::fields::two_octets;
-use crate::known::Places;
 use crate::{EchoedQuestion, Reply, ReplyRecord, WriteError};
 use dns_memory::Heap;
 

@@ -4,7 +4,7 @@ use Rattle.dns_names.specs.Name.{Labels, labels_of}
 use Rattle.dns_wire.specs.Compress.{Place, new_places}
 use Rattle.dns_wire.specs.Indexed.{offset_at}
 use Rattle.dns_wire.proofs.First.{among_first, behind_first}
-use Rattle.dns_wire.proofs.known.Places.find.Goals as goal
+use Rattle.dns_wire.proofs.compression_targets.Places.find.Goals as goal
 
 among : (found : Option ℕ) (front back all : List Place) (name : Labels) → found ≡ offset_at front name → front ++ back ≡ all → IfSome found (λ (offset : ℕ). Some offset ≡ offset_at all name)
 among None front back all name e is = tt

@@ -3,7 +3,7 @@ use Rattle.std.proofs.lemmas.List.{append-nil}
 use Rattle.dns_names.specs.Name.{labels_of}
 use Rattle.dns_wire.specs.Compress.{Place, new_places}
 use Rattle.dns_wire.proofs.First.{none_behind}
-use Rattle.dns_wire.proofs.known.Places.begin.Goals as goal
+use Rattle.dns_wire.proofs.compression_targets.Places.begin.Goals as goal
 
 pub returns : goal.returns
 returns c =

@@ -2,7 +2,7 @@ use Rattle.std.proofs.Common.{◌≤◌, ◌%◌, ℕ, List, length, ap, ◌∙�
 use Rattle.std.specs.List.{fold}
 use Rattle.std.proofs.lemmas.List.{take_all}
 use Rattle.dns_wire.specs.Indexed.{bucket_of, summed}
-use Rattle.dns_wire.proofs.known.bucket_of.Goals as goal
+use Rattle.dns_wire.proofs.compression_targets.bucket_of.Goals as goal
 
 pub returns : goal.returns
 unfolding bucket_of

@@ -3,7 +3,7 @@ use Rattle.dns_names.specs.Name.{labels_of}
 use Rattle.dns_names.specs.Plain.{IsPlain}
 use Rattle.dns_wire.specs.Compress.{new_places}
 use Rattle.dns_wire.specs.Indexed.{offset_at}
-use Rattle.dns_wire.proofs.known.place_within.Given as goal
+use Rattle.dns_wire.proofs.compression_targets.place_within.Given as goal
 
 abbrev pub invariant-labels : goal.invariant-labels
 invariant-labels l = record {

@@ -4,7 +4,7 @@ use Rattle.dns_lookup.specs.Lookup.{Found as Stated}
 use Rattle.dns_answer.specs.Sections.{records_of, authority_of}
 use Rattle.dns_answer.proofs.Shown.{last_represented, lent_last, none_represented}
 use Rattle.std.proofs.lemmas.Result.{IfOk-weaker}
-use Rattle.dns_answer.proofs.gather.last_authority.Goals as goal
+use Rattle.dns_answer.proofs.reply_sections.last_authority.Goals as goal
 
 pub authority_section-requires : goal.authority_section-requires
 authority_section-requires g c =

@@ -3,8 +3,8 @@ use Rattle.dns_names.specs.Name.{Labels, labels_of}
 use Rattle.dns_wire.specs.Compress.{Place}
 use Rattle.dns_wire.specs.Indexed.{offset_at}
 use Rattle.dns_wire.proofs.Indexed.{found_first, found_later}
-use Rattle.dns_wire.proofs.known.Listed.find_or_keep.Goals as goal
-use Rattle.dns_wire.proofs.known.Listed.find_or_keep.Goals.{After-place_of, After-place_of-2}
+use Rattle.dns_wire.proofs.compression_targets.Listed.find_or_keep.Goals as goal
+use Rattle.dns_wire.proofs.compression_targets.Listed.find_or_keep.Goals.{After-place_of, After-place_of-2}
 
 -- the positions that were looked through
 looked : (k count : ℕ) (all seen : List Place) (name : Labels) (found : Option ℕ) → found ≡ offset_at (take count seen) name → count ≡ min k (length seen) → seen ≡ all

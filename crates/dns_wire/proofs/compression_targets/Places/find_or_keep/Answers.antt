@@ -5,8 +5,8 @@ use Rattle.dns_names.specs.Name.{labels_of}
 use Rattle.dns_wire.specs.Compress.{Place, new_places}
 use Rattle.dns_wire.specs.Indexed.{offset_at}
 use Rattle.dns_wire.proofs.First.{among_first, behind_first}
-use Rattle.dns_wire.proofs.known.Places.find_or_keep.Goals as goal
-use Rattle.dns_wire.proofs.known.Places.find_or_keep.Goals.{After-place_of}
+use Rattle.dns_wire.proofs.compression_targets.Places.find_or_keep.Goals as goal
+use Rattle.dns_wire.proofs.compression_targets.Places.find_or_keep.Goals.{After-place_of}
 
 pub returns-in-Some-clause-place : goal.returns-in-Some-clause-place
 returns-in-Some-clause-place c =

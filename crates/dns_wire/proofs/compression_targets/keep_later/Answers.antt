@@ -5,7 +5,7 @@ use Rattle.dns_wire.specs.Compress.{Place}
 use Rattle.dns_wire.specs.Indexed.{IsIndexed}
 use Rattle.dns_wire.proofs.Exits.{on_ok}
 use Rattle.dns_wire.proofs.Indexed.{indexed_more}
-use Rattle.dns_wire.proofs.known.keep_later.Goals as goal
+use Rattle.dns_wire.proofs.compression_targets.keep_later.Goals as goal
 
 pub returns-clause-kept : goal.returns-clause-kept
 returns-clause-kept c =

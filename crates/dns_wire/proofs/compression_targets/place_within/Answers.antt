@@ -7,8 +7,8 @@ use Rattle.dns_wire.specs.NameLaws.{some_octet}
 use Rattle.dns_wire.proofs.Binds.{lt_true}
 use Rattle.dns_wire.proofs.Suffixes.{first_label}
 use Rattle.dns_wire.proofs.First.{looked_on, found_here, found_nowhere, found_none, plain_short}
-use Rattle.dns_wire.proofs.known.place_within.Goals as goal
-use Rattle.dns_wire.proofs.known.place_within.Goals.{else-rest-gt1-via-then-rest-gt1+else-eq, else-rest-gt1-via-else-rest-gt1}
+use Rattle.dns_wire.proofs.compression_targets.place_within.Goals as goal
+use Rattle.dns_wire.proofs.compression_targets.place_within.Goals.{else-rest-gt1-via-then-rest-gt1+else-eq, else-rest-gt1-via-else-rest-gt1}
 
 pub labels-preserved : goal.labels-preserved
 labels-preserved c =

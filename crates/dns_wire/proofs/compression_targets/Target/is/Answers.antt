@@ -2,7 +2,7 @@ use Rattle.std.proofs.Common.{ap, ◌∙◌}
 use Rattle.dns_names.specs.Name.{names_eq, labels_of}
 use Rattle.dns_wire.specs.Compress.{Place}
 use Rattle.dns_wire.proofs.Suffixes.{plain_eq}
-use Rattle.dns_wire.proofs.known.Target.is.Goals as goal
+use Rattle.dns_wire.proofs.compression_targets.Target.is.Goals as goal
 
 pub returns : goal.returns
 returns c =
