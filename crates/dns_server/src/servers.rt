@@ -1,8 +1,8 @@
 //! Other servers, by their addresses, and streams to them on which one may wait.
 ghost use Rattle.std.specs.Prelude.{◌≡◌, ◌↔◌, [], IfSome};
 ghost use Rattle.std.specs.declared.net.socket_addr.SocketAddr.{SocketAddr as StatedAddress};
-ghost use Rattle.dns_network.specs.Stream.{moved};
 
+use crate::sockets::after;
 use dns_memory::Heap;
 use dns_network::{Moved, Stream};
 use mio::net::TcpStream;
@@ -117,22 +117,14 @@ impl<R: Net> Servers<TcpSocket> for Tcp<'_, R> {
     }
 }
 
-/// What an error of a stream means for it: no octet moved.
-fn after(error: &io::Error) -> Moved
-    ensures { moved result ≡ 0 }
-{
-    match error.kind() {
-        ErrorKind::WouldBlock | ErrorKind::Interrupted => Moved::Later,
-        _ => Moved::Ended,
-    }
-}
-
 impl Stream for TcpSocket {
     ghost received = { λ _. [] };
 
     ghost sent = { λ _. [] };
 
     ghost is_faithful = { λ _. ⊥ };
+
+    ghost has_ended = { λ _. Unit {0} };
 
     fn read(&mut self, into: &mut [u8]) -> Moved {
         match self.stream.read(into) {

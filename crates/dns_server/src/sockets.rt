@@ -194,7 +194,7 @@ impl DatagramSocket for Udp {
 }
 
 /// What an error of a stream means for it: no octet moved.
-fn after(error: &io::Error) -> Moved
+pub(crate) fn after(error: &io::Error) -> Moved
     ensures none { moved result ≡ 0 }
     ensures still { IfOctets result ⊥ }
 {
