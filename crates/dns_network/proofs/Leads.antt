@@ -11,7 +11,7 @@ use Rattle.dns_network.specs.declared.stream.Moved.TheVariants.{Ended}
 use Rattle.dns_network.specs.declared.stream.Stream as stream
 use Rattle.dns_network.specs.Closing.{Cause, GivesCause, HasEnded, NoMemory}
 use Rattle.dns_network.specs.Connection.{HasLost, held_of, rest_of, stream_of, unhandled}
-use Rattle.dns_network.specs.Connections.{HasBecome, HasMovedAt, IsThere}
+use Rattle.dns_network.specs.Connections.{HasBecome, HasMovedAt, IsOpenWith}
 use Rattle.dns_zone.specs.declared.index.ZoneIndex as index
 use Rattle.dns_store.specs.declared.zone_store.ZoneStore as store
 use Rattle.dns_versions.specs.Each.{Each2}
@@ -74,13 +74,13 @@ module _ {S : Type 0} (s : stream.Ghosts S) where
   ends now number moved old new is (inr (c, d, there, on, set)) =
       let at : slice_get new number ≡ Some (Some d) =
       ap (λ (cs : List (Option (Connection S))). slice_get cs number) set ∙ set_there old number (Some c) (Some d) there in
-      subst (IsThere (λ c. s.has_ended (stream_of c))) (sym at) (on.ended is)
+      subst (IsOpenWith (λ c. s.has_ended (stream_of c))) (sym at) (on.ended is)
 
   -- a piece was lost of a connection that is there
   pub loses : (now number : ℕ) (old new : List (Option (Connection S))) → HasBecome (HasLost s) number old new
       → GivesCause s now NoMemory number old
   loses now number old new (c, d, there, lost, set) =
-      subst (IsThere (λ c. (e : Connection S) × HasLost s c e)) (sym there) (d, lost)
+      subst (IsOpenWith (λ c. (e : Connection S) × HasLost s c e)) (sym there) (d, lost)
 
   -- a connection that has changed was closed then
   pub closed_then : (became : Connection S → Connection S → Type 0) (number : ℕ) (old mid new : List (Option (Connection S)))

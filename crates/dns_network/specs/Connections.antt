@@ -14,10 +14,10 @@ module _ {S : Type 0} where
   places_of connections = connections.places.items
 
   -- A connection is there, and this is known of it.
-  abbrev pub IsThere : (Connection S → Type 0) → Option (Option (Connection S)) → Type 0
-  IsThere known None = ⊥
-  IsThere known (Some None) = ⊥
-  IsThere known (Some (Some c)) = known c
+  abbrev pub IsOpenWith : (Connection S → Type 0) → Option (Option (Connection S)) → Type 0
+  IsOpenWith known None = ⊥
+  IsOpenWith known (Some None) = ⊥
+  IsOpenWith known (Some (Some c)) = known c
 
   -- This has become of the connection with that number, and no other one has changed.
   abbrev pub HasBecome : (Connection S → Connection S → Type 0) → ℕ → List (Option (Connection S))

@@ -70,7 +70,7 @@ module _ {I D S N L : Type 0} {i : index.Ghosts I} {d : store.Ghosts D} where
 
   -- The connection to which a reply was to go was closed in its stead: the reply is longer than a message on
   -- a stream can be (RFC 1035 section 4.2.2), or it is open and memory was refused, which was noted first.
-  pub record IsCut (l : notes.Ghosts L) (number : ℕ) (reply : List ℕ) (old new : Served I D S N L i d)
+  pub record ClosedInstead (l : notes.Ghosts L) (number : ℕ) (reply : List ℕ) (old new : Served I D S N L i d)
       : Type 0 where
     pub told : Served I D S N L i d
     pub cause : ((65535 < length reply) × (told ≡ old))
@@ -87,7 +87,7 @@ module _ {I D S N L : Type 0} {i : index.Ghosts I} {d : store.Ghosts D} where
   IsSent n l (to.Connection number) reply false old new =
       (new ≡ record old { connections = new.connections })
       × IsReplyPushed number reply old.connections new.connections
-  IsSent n l (to.Connection number) reply true old new = IsCut l number reply old new
+  IsSent n l (to.Connection number) reply true old new = ClosedInstead l number reply old new
   IsSent n l to.Nowhere reply false old new = new ≡ old
   IsSent n l (to.Address peer) reply true old new = ⊥
   IsSent n l to.Nowhere reply true old new = ⊥

@@ -3,7 +3,7 @@ ghost use Rattle.std.specs.Prelude.{◌≡◌, ◌≤◌, ◌<◌, length, repli
 ghost use Rattle.std.specs.Prelude.{◌↔◌, None, Some, IsTrue, IfErr, IfOk, OnOk, OnErr};
 ghost use Rattle.std.specs.Option.{option_map};
 ghost use Rattle.dns_network.specs.Connection.{HasLost, IsSilent};
-ghost use Rattle.dns_network.specs.Connections.{HandsOver, HasBecome, HasMovedAt, IsReplyPushed, IsThere};
+ghost use Rattle.dns_network.specs.Connections.{HandsOver, HasBecome, HasMovedAt, IsReplyPushed, IsOpenWith};
 ghost use Rattle.dns_network.specs.Connections.{has_left_at, is_open, places_of};
 
 use crate::{Connection, Moved, Octets, Stream};
@@ -154,7 +154,7 @@ impl<S: Stream + Drop> Connections<S> {
     /// Whether there is a connection with that number, nothing is left to write to it or to handle, and for
     /// 30 seconds nothing came or went.
     pub fn is_silent(&self, number: usize, now: u64) -> bool
-        ensures { IsTrue result ↔ IsThere (IsSilent now) (slice_get (places_of self.now) number) }
+        ensures { IsTrue result ↔ IsOpenWith (IsSilent now) (slice_get (places_of self.now) number) }
     {
         match self.places.get(number) {
             Some(Some(connection)) => connection.is_silent(now),

@@ -3,7 +3,7 @@ use Rattle.dns_network.specs.declared.connection.Connection.{Connection}
 use Rattle.std.specs.Prelude.{slice_get}
 use Rattle.dns_network.specs.Closing.{HasEnded, NoMemory, Silent}
 use Rattle.dns_network.specs.Connection.{HasHandedOver, HasLost, IsSilent}
-use Rattle.dns_network.specs.Connections.{IsThere, places_of}
+use Rattle.dns_network.specs.Connections.{IsOpenWith, places_of}
 use Rattle.dns_primary.specs.Step.{Arrives}
 use Rattle.dns_network.specs.Delivery.{connections_of, served}
 use Rattle.dns_network.specs.Turn.{MomentsLead}
@@ -64,7 +64,7 @@ returns-then-is_silent g c =
     let still = c.in_default-next_message.ensures.0 in
     let new = connections_of c.close-then-is_silent.new.self in
     let gone = closed_still number there (places_of c.next_message.new.self) new still c.close-then-is_silent.ensures.gone in
-    let silent = subst (λ (cs : List (Option (Connection g.row.S.Denot))). IsThere (IsSilent now) (slice_get cs number)) still
+    let silent = subst (λ (cs : List (Option (Connection g.row.S.Denot))). IsOpenWith (IsSilent now) (slice_get cs number)) still
     (c.is_silent.ensures.0 c.if-is_silent.true) in
     and_on g.S.Stream g.N.Network g.L.Notes now (standing c.args.primary.now network c.args.notes.now here) (standing c.args.primary.now network c.args.notes.now there)
     (served c.close-then-is_silent.new.primary c.close-then-is_silent.new.self network c.close-then-is_silent.new.notes)
