@@ -8,7 +8,7 @@ use Rattle.dns_network.specs.declared.stream.Stream.{Ghosts}
 use Rattle.dns_secondary.specs.Receiving.{Receiving}
 use Rattle.dns_secondary.specs.Request.{request_octets}
 use Rattle.dns_secondary.specs.declared.fault.Fault.{Fault}
-use Rattle.dns_server.specs.TakingIn.{HasCarried, HasHeard, HasHeardEnd, HasHeardRefusal, IsAnswered, IsAnswerRefused, IsTakenIn, TellEnd, TellMore, TellRefusal, asking, request_number}
+use Rattle.dns_server.specs.TakingIn.{HasCarried, HasHeard, HasHeardEnd, HasHeardRefusal, IsRequestAnswered, IsAnswerRefused, IsTakenIn, TellEnd, TellMore, TellRefusal, asking, request_number}
 use Rattle.dns_server.proofs.Heard.{IsTakenLaw, end_on, more_on, refusal_on, refused_as, taken_as}
 
 module _ {S : Type 0} (g : Ghosts S) where
@@ -109,7 +109,7 @@ module _ {S : Type 0} (g : Ghosts S) where
       (h.messages ++ ns, rest', heard_on law old mid new h.messages ns rest rest' piece h.heard k framed, refusal_on s now h.messages ns fault h.more told)
 
   -- The request was sent before.
-  asked_heard : (apex : Labels) (held : Option Zone) (old mid new : S) (messages : List (List ℕ)) (rest : List ℕ) → HasCarried g old (pending_length (request_octets apex held request_number)) [] mid → HasHeard g mid messages rest new → IsAnswered g apex held old messages new
+  asked_heard : (apex : Labels) (held : Option Zone) (old mid new : S) (messages : List (List ℕ)) (rest : List ℕ) → HasCarried g old (pending_length (request_octets apex held request_number)) [] mid → HasHeard g mid messages rest new → IsRequestAnswered g apex held old messages new
   asked_heard apex held old mid new messages rest h k = record {
     octets = k.octets;
     rest = rest;

@@ -21,17 +21,17 @@ use Rattle.dns_configuration.specs.declared.files.Fault.TheVariants as files
 use Rattle.dns_configuration.specs.Faults.{IsTold, fault_text, is_memory, line, loaded}
 use Rattle.dns_server.specs.declared.fetch_faults.FetchFault.{FetchFault}
 use Rattle.dns_server.specs.declared.fetch_faults.FetchFault.TheVariants as fetch
-use Rattle.dns_server.specs.FetchFaults.{ComesOfAsking, IsFetchTold, fetch_text, is_memory_refused, status_of}
+use Rattle.dns_server.specs.FetchFaults.{ComesOfAsking, IsFetchTold, fetch_text, is_memory_refused, fetch_status}
 use Rattle.dns_server.specs.TakingIn.{IsRefusedFrom, IsTakenFrom}
 use Rattle.dns_server.specs.Fetch.{FetchEnds, IsAskedFor, IsFetched, IsFetchRefused, IsNotAsked}
 use Rattle.dns_server.proofs.Ended.{fault_told}
 
 -- The fault of a server was told: the status is 3, or it is 1 and the fault is one of those that are refusals.
-pub fetch_told : {E : Type 0} (P : ℕ → Type 0) (server : List ℕ) (fault : FetchFault) (explain : Bool) (err err_after : Option (List ℕ)) (r : Result ℕ E) → IfOk r (λ status. IsFetchTold server fault explain err err_after status) → P 3 → (status_of fault ≡ 1 → Appends err err_after (line (fetch_text server fault explain)) → P 1) → IfOk r P
+pub fetch_told : {E : Type 0} (P : ℕ → Type 0) (server : List ℕ) (fault : FetchFault) (explain : Bool) (err err_after : Option (List ℕ)) (r : Result ℕ E) → IfOk r (λ status. IsFetchTold server fault explain err err_after status) → P 3 → (fetch_status fault ≡ 1 → Appends err err_after (line (fetch_text server fault explain)) → P 1) → IfOk r P
 fetch_told P server fault explain err err_after (Err e) told failed refused = tt
 fetch_told P server fault explain err err_after (Ok status) told failed refused = go (is_memory_refused fault) told
   where
-    status_known : (f : FetchFault) → (status_of f ≡ 1) ⊎ (status_of f ≡ 3)
+    status_known : (f : FetchFault) → (fetch_status f ≡ 1) ⊎ (fetch_status f ≡ 3)
     status_known fetch.OutOfMemory = inr refl
     status_known fetch.BadAddress = inl refl
     status_known fetch.Unavailable = inr refl
@@ -39,11 +39,11 @@ fetch_told P server fault explain err err_after (Ok status) told failed refused 
     status_known fetch.TimedOut = inr refl
     status_known (fetch.Refused why) = inl refl
 
-    known : status ≡ status_of fault → Appends err err_after (line (fetch_text server fault explain)) → ((status_of fault ≡ 1) ⊎ (status_of fault ≡ 3)) → P status
+    known : status ≡ fetch_status fault → Appends err err_after (line (fetch_text server fault explain)) → ((fetch_status fault ≡ 1) ⊎ (fetch_status fault ≡ 3)) → P status
     known e said (inl one) = subst P (sym (e ∙ one)) (refused one said)
     known e said (inr three) = subst P (sym (e ∙ three)) failed
 
-    go : (b : Bool) → MatchBool b (status ≡ 3) ((status ≡ status_of fault) × Appends err err_after (line (fetch_text server fault explain))) → P status
+    go : (b : Bool) → MatchBool b (status ≡ 3) ((status ≡ fetch_status fault) × Appends err err_after (line (fetch_text server fault explain))) → P status
     go true e = subst P (sym e) failed
     go false e = known e.0 e.1 (status_known fault)
 
@@ -77,7 +77,7 @@ module _ {S : Type 0} (g : Ghosts S) (reached : SocketAddr → S → Type 0) (se
       inr (inr (file, apex, fault, from, named, subst (λ (f : File). loaded (option_copied f.octets) apex ≡ Err fault) one why, refl))
 
   -- The answer was refused, or nothing came of the request.
-  pub answer_told : (address : SocketAddr) (apex : Labels) (held : Option Zone) (fault : FetchFault) (out err err_after : Option (List ℕ)) → IsAskedFor server origin since address apex held → ComesOfAsking fault (λ f. IsRefusedFrom g (reached address) apex held f) → status_of fault ≡ 1 → Appends err err_after (line (fetch_text server fault explain)) → FetchEnds g reached server origin since explain out out err err_after 1
+  pub answer_told : (address : SocketAddr) (apex : Labels) (held : Option Zone) (fault : FetchFault) (out err err_after : Option (List ℕ)) → IsAskedFor server origin since address apex held → ComesOfAsking fault (λ f. IsRefusedFrom g (reached address) apex held f) → fetch_status fault ≡ 1 → Appends err err_after (line (fetch_text server fault explain)) → FetchEnds g reached server origin since explain out out err err_after 1
   answer_told address apex held fetch.OutOfMemory out err err_after asked why is said = absurd cc
   answer_told address apex held fetch.BadAddress out err err_after asked why is said = absurd why
   answer_told address apex held fetch.Unavailable out err err_after asked why is said = absurd cc

@@ -17,10 +17,10 @@ use Rattle.dns_secondary.specs.declared.fault.Fault.TheVariants.{OutOfMemory, Ba
 use Rattle.dns_secondary.specs.declared.fault.Progress.{Progress}
 use Rattle.dns_secondary.specs.declared.fault.Progress.TheVariants.{More, Done, UpToDate}
 use Rattle.dns_secondary.proofs.Runs.{reached_on, rest_of, rest_on}
-use Rattle.dns_server.specs.FetchFaults.{ComesOfAsking, fault_of}
+use Rattle.dns_server.specs.FetchFaults.{ComesOfAsking, fault_of_answer}
 use Rattle.dns_server.specs.declared.fetch_faults.FetchFault.{FetchFault}
 use Rattle.dns_server.specs.declared.fetch_faults.FetchFault.TheVariants as fetch
-use Rattle.dns_server.specs.TakingIn.{AreAnswers, IsRefusedIn, IsToldBy, TellEnd, TellMore, TellRefusal, Tells, asking, asking_at}
+use Rattle.dns_server.specs.TakingIn.{AreAnswersTo, IsRefusedIn, IsToldBy, TellEnd, TellMore, TellRefusal, Tells, asking, asking_at}
 
 -- More messages are fed.
 pub more_on : (s mid now : Receiving) (ms ns : List (List ℕ)) → TellMore s ms mid → TellMore mid ns now → TellMore s (ms ++ ns) now
@@ -50,8 +50,8 @@ refusal_on s mid ms ns fault h k = record {
 }
 
 -- The records of messages that are answers.
-answers_on : (apex : Labels) (held : Option Zone) (ms ns : List (List ℕ)) (xs ys : List ResourceRecord) → AreAnswers apex held ms xs → AreAnswers apex held ns ys → AreAnswers apex held (ms ++ ns) (xs ++ ys)
-answers_on apex held [] ns xs ys h k = subst (λ (zs : List ResourceRecord). AreAnswers apex held ns zs) (sym (ap (λ (z : List ResourceRecord). z ++ ys) h)) k
+answers_on : (apex : Labels) (held : Option Zone) (ms ns : List (List ℕ)) (xs ys : List ResourceRecord) → AreAnswersTo apex held ms xs → AreAnswersTo apex held ns ys → AreAnswersTo apex held (ms ++ ns) (xs ++ ys)
+answers_on apex held [] ns xs ys h k = subst (λ (zs : List ResourceRecord). AreAnswersTo apex held ns zs) (sym (ap (λ (z : List ResourceRecord). z ++ ys) h)) k
 answers_on apex held (m ∷ ms) ns xs ys h k =
     (h.0, h.1, h.2, h.3 ++ ys, ap (λ (z : List ResourceRecord). z ++ ys) h.4 ∙ append_assoc h.0.answers h.3 ys, answers_on apex held ms ns h.3 ys h.5 k)
 
@@ -62,7 +62,7 @@ some_is a b e = cc
 record HeardTo (apex : Labels) (held : Option Zone) (at : State) (messages : List (List ℕ)) (now : Receiving) : Type 0 where
   records : List ResourceRecord
   next : State
-  answers : AreAnswers apex held messages records
+  answers : AreAnswersTo apex held messages records
   reached : Reaches apex held at records next
   is : now ≡ asking_at apex held next
 
@@ -184,7 +184,7 @@ module _ (P : Fault → Type 0) where
   other_fault e none (inl memory) = absurd (none memory)
   other_fault e none (inr p) = p
 
-  pub if_refused : (e : Fault) → (e ≡ OutOfMemory) ⊎ P e → ComesOfAsking (fault_of e) P
+  pub if_refused : (e : Fault) → (e ≡ OutOfMemory) ⊎ P e → ComesOfAsking (fault_of_answer e) P
   if_refused OutOfMemory h = tt
   if_refused BadMessage h = other_fault BadMessage (λ e. absurd cc) h
   if_refused WrongId h = other_fault WrongId (λ e. absurd cc) h
@@ -195,7 +195,7 @@ module _ (P : Fault → Type 0) where
   if_refused InvalidZone h = other_fault InvalidZone (λ e. absurd cc) h
   if_refused AfterEnd h = other_fault AfterEnd (λ e. absurd cc) h
 
-pub refused_fed : (s now : Receiving) (whole first later : List (List ℕ)) (m octets : List ℕ) (e : Fault) → TellMore s first now → whole ≡ first ++ m ∷ later → octets ≡ m → (e ≡ OutOfMemory) ⊎ RefusesFeed now octets e → ComesOfAsking (fault_of e) (TellRefusal s whole)
+pub refused_fed : (s now : Receiving) (whole first later : List (List ℕ)) (m octets : List ℕ) (e : Fault) → TellMore s first now → whole ≡ first ++ m ∷ later → octets ≡ m → (e ≡ OutOfMemory) ⊎ RefusesFeed now octets e → ComesOfAsking (fault_of_answer e) (TellRefusal s whole)
 refused_fed s now whole first later m octets e h parts is why =
     if_refused (TellRefusal s whole) e
     (elim why [

@@ -11,9 +11,9 @@ use Rattle.dns_server.specs.declared.fetch_faults.FetchFault.TheVariants.{Unavai
 use Rattle.dns_server.specs.declared.fetch_faults.FetchFault.TheVariants.{Refused}
 
 -- The refusal of an answer, as a fault of its server.
-abbrev pub fault_of : Fault → FetchFault
-fault_of answer.OutOfMemory = OutOfMemory
-fault_of fault = Refused fault
+abbrev pub fault_of_answer : Fault → FetchFault
+fault_of_answer answer.OutOfMemory = OutOfMemory
+fault_of_answer fault = Refused fault
 
 -- A fault that comes of asking a server, so that it is no wrong word; and what holds where it is the refusal
 -- of the answer.
@@ -59,13 +59,13 @@ fetch_word Closed = codes "Closed"
 fetch_word TimedOut = codes "TimedOut"
 fetch_word (Refused fault) = answer_word fault
 
-abbrev pub advice : FetchFault → List ℕ
-advice OutOfMemory = codes "memory was refused"
-advice BadAddress = codes "an address and a port are expected, such as 192.0.2.1:53 or [2001:db8::1]:53"
-advice Unavailable = codes "no server takes connections by TCP there, or the way to it is closed"
-advice Closed = codes "the server ended the connection before its answer's end; its log tells why"
-advice TimedOut = codes "for 30 seconds nothing came from the server"
-advice (Refused fault) = answer_advice fault
+abbrev pub fetch_advice : FetchFault → List ℕ
+fetch_advice OutOfMemory = codes "memory was refused"
+fetch_advice BadAddress = codes "an address and a port are expected, such as 192.0.2.1:53 or [2001:db8::1]:53"
+fetch_advice Unavailable = codes "no server takes connections by TCP there, or the way to it is closed"
+fetch_advice Closed = codes "the server ended the connection before its answer's end; its log tells why"
+fetch_advice TimedOut = codes "for 30 seconds nothing came from the server"
+fetch_advice (Refused fault) = answer_advice fault
 
 -- Memory was refused, of which nothing is reported.
 abbrev pub is_memory_refused : FetchFault → Bool
@@ -73,17 +73,17 @@ is_memory_refused OutOfMemory = true
 is_memory_refused _ = false
 
 -- The exit status: 1 where a word or the answer is refused, and else 3.
-abbrev pub status_of : FetchFault → ℕ
-status_of BadAddress = 1
-status_of (Refused fault) = 1
-status_of _ = 3
+abbrev pub fetch_status : FetchFault → ℕ
+fetch_status BadAddress = 1
+fetch_status (Refused fault) = 1
+fetch_status _ = 3
 
 -- What is reported: the server and the fault, and in a second line, if it is wanted, what can be done.
 abbrev pub fetch_text : List ℕ → FetchFault → Bool → List ℕ
 fetch_text server fault explain =
     if explain
     then printed_word server ++ codes ": " ++ fetch_word fault ++ codes "\n" ++ printed_word server
-    ++ codes ": " ++ advice fault
+    ++ codes ": " ++ fetch_advice fault
     else printed_word server ++ codes ": " ++ fetch_word fault
 
 -- How a run that met a fault goes on: of refused memory nothing is reported; else the fault is, and the
@@ -91,4 +91,4 @@ fetch_text server fault explain =
 abbrev pub IsFetchTold : List ℕ → FetchFault → Bool → Option (List ℕ) → Option (List ℕ) → ℕ → Type 0
 IsFetchTold server fault explain err err_after status =
     MatchBool (is_memory_refused fault) (status ≡ 3)
-    ((status ≡ status_of fault) × Appends err err_after (line (fetch_text server fault explain)))
+    ((status ≡ fetch_status fault) × Appends err err_after (line (fetch_text server fault explain)))

@@ -33,11 +33,11 @@ asking apex held = asking_at apex held Begun
 
 -- Each of these octets is a message that answers the request, by its header and its question; and their
 -- records in order (RFC 5936 2.2.1).
-abbrev pub AreAnswers : Labels → Option Zone → List (List ℕ) → List ResourceRecord → Type 0
-AreAnswers apex held [] records = records ≡ []
-AreAnswers apex held (octets ∷ rest) records =
+abbrev pub AreAnswersTo : Labels → Option Zone → List (List ℕ) → List ResourceRecord → Type 0
+AreAnswersTo apex held [] records = records ≡ []
+AreAnswersTo apex held (octets ∷ rest) records =
     (message : Message) × Reads octets message × (header_fault (asking apex held) message ≡ None)
-    × (later : List ResourceRecord) × (records ≡ message.answers ++ later) × AreAnswers apex held rest later
+    × (later : List ResourceRecord) × (records ≡ message.answers ++ later) × AreAnswersTo apex held rest later
 
 -- The records of a first part of some messages, which are answers, mean the records of this zone: a whole
 -- zone, changes of the version that is held, or that it is current (RFC 5936 2.2, RFC 1995 2 and 4).
@@ -47,7 +47,7 @@ pub record IsToldBy (apex : Labels) (held : Option Zone) (messages : List (List 
   pub later : List (List ℕ)
   pub parts : messages ≡ first ++ later
   pub records : List ResourceRecord
-  pub answers : AreAnswers apex held first records
+  pub answers : AreAnswersTo apex held first records
   pub means : Taken apex held records zone
 
 -- One of some messages is refused for this fault, after those before it, which are answers.
@@ -58,7 +58,7 @@ pub record IsRefusedIn (apex : Labels) (held : Option Zone) (messages : List (Li
   pub later : List (List ℕ)
   pub parts : messages ≡ first ++ message ∷ later
   pub records : List ResourceRecord
-  pub answers : AreAnswers apex held first records
+  pub answers : AreAnswersTo apex held first records
   pub at : State
   pub reached : Reaches apex held Begun records at
   pub refused : RefusesFrom (asking_at apex held at) (Some at) message fault
@@ -72,7 +72,7 @@ module _ {S : Type 0} (g : Ghosts S) where
 
   -- The request was sent, after its length, and the messages that were received, each after its length, are
   -- these, and a rest that is no whole message (RFC 1035 4.2.2).
-  pub record IsAnswered (apex : Labels) (held : Option Zone) (old : S) (messages : List (List ℕ))
+  pub record IsRequestAnswered (apex : Labels) (held : Option Zone) (old : S) (messages : List (List ℕ))
       (new : S) : Type 0 where
     pub octets : List ℕ
     pub rest : List ℕ
@@ -82,12 +82,12 @@ module _ {S : Type 0} (g : Ghosts S) where
   -- A zone was taken in: the messages that were received tell it.
   abbrev pub IsTakenIn : Labels → Option Zone → S → List Record → S → Type 0
   IsTakenIn apex held old zone new =
-      (messages : List (List ℕ)) × IsAnswered apex held old messages new × IsToldBy apex held messages zone
+      (messages : List (List ℕ)) × IsRequestAnswered apex held old messages new × IsToldBy apex held messages zone
 
   -- The answer was refused: one of the messages that were received is.
   abbrev pub IsAnswerRefused : Labels → Option Zone → S → Fault → S → Type 0
   IsAnswerRefused apex held old fault new =
-      (messages : List (List ℕ)) × IsAnswered apex held old messages new
+      (messages : List (List ℕ)) × IsRequestAnswered apex held old messages new
       × IsRefusedIn apex held messages fault
 
   -- It was so on a stream that may have been had.

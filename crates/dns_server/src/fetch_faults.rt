@@ -1,7 +1,7 @@
 //! Why a zone is not taken in from another server, and what can be done about it.
 ghost use Rattle.std.specs.Prelude.{◌≡◌, Some, IfOk};
-ghost use Rattle.dns_server.specs.FetchFaults.{IsFetchTold, advice, answer_advice, answer_word, fault_of};
-ghost use Rattle.dns_server.specs.FetchFaults.{fetch_text, fetch_word, is_memory_refused, status_of};
+ghost use Rattle.dns_server.specs.FetchFaults.{IsFetchTold, fetch_advice, answer_advice, answer_word, fault_of_answer};
+ghost use Rattle.dns_server.specs.FetchFaults.{fetch_text, fetch_word, is_memory_refused, fetch_status};
 ghost use Rattle.dns_server.specs.declared.fetch_faults.FetchFault.TheVariants.{OutOfMemory};
 
 use dns_configuration::{FAILED, PrintedWord, REFUSED};
@@ -36,7 +36,7 @@ impl From<AllocError> for FetchFault {
 }
 
 impl From<Fault> for FetchFault {
-    ghost from_gives = { λ e f. f ≡ fault_of e };
+    ghost from_gives = { λ e f. f ≡ fault_of_answer e };
 
     fn from(fault: Fault) -> FetchFault {
         match fault {
@@ -107,8 +107,8 @@ fn answer_advice(fault: Fault) -> &'static str
 }
 
 /// What one who meets the fault can do about it.
-fn advice(fault: FetchFault) -> &'static str
-    ensures { result.now ≡ advice fault }
+fn fetch_advice(fault: FetchFault) -> &'static str
+    ensures { result.now ≡ fetch_advice fault }
 {
     match fault {
         FetchFault::OutOfMemory => "memory was refused",
@@ -138,7 +138,7 @@ impl fmt::Display for FetchText<'_> {
     fn fmt<W: fmt::Write>(&self, f: &mut fmt::Formatter<W>) -> fmt::Result {
         let (what, fault) = (PrintedWord(self.server.as_bytes()), self.fault);
         if self.explain {
-            write!(f, "{what}: {fault}\n{what}: {}", advice(fault))
+            write!(f, "{what}: {fault}\n{what}: {}", fetch_advice(fault))
         } else {
             write!(f, "{what}: {fault}")
         }
@@ -156,8 +156,8 @@ fn is_memory(fault: FetchFault) -> bool
 }
 
 /// The exit status for a fault.
-fn status_of(fault: FetchFault) -> u8
-    ensures { result ≡ status_of fault }
+fn fetch_status(fault: FetchFault) -> u8
+    ensures { result ≡ fetch_status fault }
 {
     match fault {
         FetchFault::BadAddress | FetchFault::Refused(_) => REFUSED,
@@ -185,5 +185,5 @@ pub(crate) fn tell_fetch<E: Write>(
         explain,
     };
     writeln!(err, "{text}")?;
-    Ok(status_of(fault))
+    Ok(fetch_status(fault))
 }
