@@ -4,4 +4,4 @@ use Rattle.dns_store.specs.Checkpoint.{newest_sectors}
 use Rattle.dns_store.proofs.checkpoint.most_kept.Given as goal
 
 abbrev pub invariant-loop-kept : goal.invariant-loop-kept
-invariant-loop-kept g l = l.left + newest_sectors sectors_for l.changes l.kept ≡ l.room
+invariant-loop-kept l = l.left + newest_sectors sectors_for l.changes l.kept ≡ l.room
