@@ -118,7 +118,7 @@ impl<'a> Compressor<'a> {
         ensures limit { self.new.limit ≡ self.old.limit }
     {
         let size = (self.octets.len() - start) as u16;
-        BigEndian::write_u16(&mut self.octets.as_mut_slice()[start - 2..start], size);
+        self.octets.set_two(start, size);
     }
 
     /// Writes the data of a record, by the form of its type: in one piece, where there is no name to
