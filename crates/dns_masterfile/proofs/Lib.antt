@@ -21,6 +21,7 @@ pub mod Numbers
 pub mod PrintedData
 pub mod PrintedZone
 pub mod Scanning
+pub mod Starts
 pub mod Strings
 pub mod FileRead
 mod Hexadecimal

@@ -9,7 +9,6 @@ use Rattle.dns_masterfile.specs.declared.FileError.TheVariants.{OutOfMemory, Bad
 use Rattle.dns_masterfile.specs.Pieces.{Word}
 use Rattle.dns_masterfile.specs.Text.{string_of_text}
 use Rattle.dns_masterfile.specs.Data.{octets_of_text}
-use Rattle.dns_masterfile.specs.Meaning.{is_class}
 use Rattle.dns_masterfile.specs.Reading.{ReadResult, TakenValue, ◌>>=◌, fault_of_value, fits_data, next_word}
 use Rattle.dns_masterfile.specs.Reading.{take_strings}
 use Rattle.dns_masterfile.specs.Left.{Left}
@@ -32,10 +31,6 @@ Puts taken Is old new before after =
 -- The words that stay are what a function leaves of them.
 abbrev pub Skips : (List Word → List Word) → Left → Left → Type 0
 Skips skip old new = new ≡ record old { words = skip old.words }
-
-abbrev pub starts_with_class : List Word → Bool
-starts_with_class [] = false
-starts_with_class (w ∷ rest) = is_class w
 
 -- The octets are so many.
 abbrev pub IsSized : List Value → List ℕ → Type 0

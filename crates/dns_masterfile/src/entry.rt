@@ -1,6 +1,7 @@
 //! One entry of a file.
 ghost use Rattle.std.specs.Prelude.{◌≡◌, true, false, Err, IfOk, MatchResult};
 ghost use Rattle.dns_records.specs.Types.{is_data_type};
+ghost use Rattle.dns_masterfile.specs.Left.{word_before};
 ghost use Rattle.dns_masterfile.specs.Reading.{directive_in, item_in, said_by, take_owner, take_type};
 ghost use Rattle.dns_masterfile.specs.Scan.{stated_word};
 ghost use Rattle.dns_masterfile.specs.Contexts.{Faults, SaysWhole, has_ended, stated_context};
@@ -28,14 +29,23 @@ impl<'a> Scanner<'a> {
         }
     }
 
-    /// Takes the owner, which is the last one where the line begins with a blank.
-    fn take_owner(&mut self, alloc: Heap, context: &Context, blank: bool) -> Result<Name, FileError>
+    /// Takes the owner, which is the last one where the line begins with a blank, and else the first word.
+    fn take_owner(
+        &mut self,
+        alloc: Heap,
+        context: &Context,
+        blank: bool,
+        first: Word<'a>,
+        behind: Scanner<'a>,
+    ) -> Result<Name, FileError>
+        requires { self.old ≡ word_before (stated_word first) behind }
         ensures { MatchResult result (TakesValue (take_owner
             (stated_context context.now) blank) self.old self.new)
             (RefusesFor (take_owner (stated_context context.now) blank self.old.words)) }
     {
         if !blank {
-            return self.take_name(alloc, &context.origin);
+            *self = behind;
+            return first.name(alloc, &context.origin);
         }
         match &context.owner {
             Some(owner) => Ok(owner.clone()?),
@@ -53,13 +63,21 @@ impl<'a> Scanner<'a> {
         word.rtype().ok_or(FileError::UnknownType)
     }
 
-    /// Takes a record.
-    fn take_item(&mut self, alloc: Heap, context: &Context, blank: bool) -> Result<Said, FileError>
+    /// Takes a record, of which the first word is known.
+    fn take_item(
+        &mut self,
+        alloc: Heap,
+        context: &Context,
+        blank: bool,
+        first: Word<'a>,
+        behind: Scanner<'a>,
+    ) -> Result<Said, FileError>
+        requires { self.old ≡ word_before (stated_word first) behind }
         ensures { MatchResult result
             (SaysWhole (λ e. item_in (stated_context context.now) e self.old.words) blank self.old self.new)
             (Faults (λ e. item_in (stated_context context.now) e self.old.words) blank self.old) }
     {
-        let owner = self.take_owner(alloc, context, blank)?;
+        let owner = self.take_owner(alloc, context, blank, first, behind)?;
         let written = self.take_middle()?;
         let rtype = self.take_type()?;
         let Some(ttl) = ttl_in(context, written) else {
@@ -114,7 +132,7 @@ impl<'a> Scanner<'a> {
             return Ok(Said::Nothing);
         };
         if !word.begins_with_dollar() {
-            return self.take_item(alloc, context, blank);
+            return self.take_item(alloc, context, blank, word, behind);
         }
         *self = behind;
         self.take_directive(alloc, context, word)

@@ -4,7 +4,7 @@ ghost use Rattle.dns_masterfile.specs.Left.{word_before};
 ghost use Rattle.dns_masterfile.specs.Reading.{next_word, skip_class, take_middle, take_name, take_number};
 ghost use Rattle.dns_masterfile.specs.Reading.{take_ttl};
 ghost use Rattle.dns_masterfile.specs.Scan.{stated_word};
-ghost use Rattle.dns_masterfile.specs.Taking.{RefusesFor, Skips, TakesValue, starts_with_class};
+ghost use Rattle.dns_masterfile.specs.Taking.{RefusesFor, Skips, TakesValue};
 
 use crate::FileError;
 use crate::pieces::Word;
@@ -75,31 +75,39 @@ impl<'a> Scanner<'a> {
         }
     }
 
-    /// Takes the class, if it comes next, and says whether it did.
-    fn skip_class(&mut self) -> bool
-        ensures class { result ≡ starts_with_class self.old.words }
-        ensures behind { Skips skip_class self.old self.new }
+    /// Passes over the class, if it comes next.
+    fn skip_class(&mut self)
+        ensures { Skips skip_class self.old self.new }
     {
         let Some((word, behind)) = self.first_word() else {
-            return false;
+            return;
         };
-        if !word.is_class() {
-            return false;
+        if word.is_class() {
+            *self = behind;
         }
-        *self = behind;
-        true
     }
 
-    /// Takes the TTL, if one is written: the class may come before or after it.
+    /// Takes the TTL, if one is written: the class may come before or after it. Where neither is written, as
+    /// of most records, one word is looked at once.
     pub(crate) fn take_middle(&mut self) -> Result<Option<u32>, FileError>
         ensures { MatchResult result (TakesValue take_middle self.old self.new)
             (λ e. take_middle self.old.words ≡ Err e) }
     {
-        if self.skip_class() {
+        let Some((word, behind)) = self.first_word() else {
+            return Ok(None);
+        };
+        if word.is_class() {
+            *self = behind;
             return self.take_ttl();
         }
-        let ttl = self.take_ttl()?;
+        let Some(digits) = word.as_digits() else {
+            return Ok(None);
+        };
+        *self = behind;
+        let Some(ttl) = number(digits) else {
+            return Err(FileError::BadNumber);
+        };
         self.skip_class();
-        Ok(ttl)
+        Ok(Some(ttl))
     }
 }

@@ -1,10 +1,13 @@
 //! A file from one position on.
-ghost use Rattle.std.specs.Prelude.{◌≡◌, ℕ, List, [], ◌∷◌, true};
-ghost use Rattle.dns_masterfile.specs.Pieces.{Piece as Stated, pieces_of};
+ghost use Rattle.std.specs.Prelude.{◌≡◌, ◌≢◌, [], ◌∷◌, true};
+ghost use Rattle.std.specs.Bool.{MatchBool};
+ghost use Rattle.dns_masterfile.specs.declared.kind.Kind.TheVariants.{Blank};
+ghost use Rattle.dns_masterfile.specs.Kinds.{kind};
+ghost use Rattle.dns_masterfile.specs.Pieces.{pieces_of};
 ghost use Rattle.dns_masterfile.specs.Entries.{begun, entries_of};
 ghost use Rattle.dns_masterfile.specs.Left.{entry_at};
-ghost use Rattle.dns_masterfile.specs.Scan.{stated_piece};
 
+use crate::kind::{Kind, kind_of};
 use crate::pieces::{Piece, Word, split_piece};
 use std::marker::Model;
 
@@ -51,31 +54,24 @@ pub(crate) enum Next<'a> {
     Fault,
 }
 
-/// Whether a line that begins with the piece begins with a blank.
-fn is_gap(piece: &Piece<'_>) -> bool
-    ensures { (line : ℕ) (rest : List Stated)
-        → begun line (stated_piece piece.now ∷ rest)
-        ≡ record { line = line; blank = result; words = []; whole = true } }
+/// Whether the octet is a blank or a tab.
+fn is_blank(octet: u8) -> bool
+    ensures { MatchBool result (kind octet ≡ Blank) (kind octet ≢ Blank) }
 {
-    match piece {
-        Piece::Gap => true,
-        Piece::Comment => false,
-        Piece::LineEnd => false,
-        Piece::Opening => false,
-        Piece::Closing => false,
-        Piece::Text(_) => false,
-        Piece::Fault => false,
+    match kind_of(octet) {
+        Kind::Blank => true,
+        _ => false,
     }
 }
 
-/// How the entry at the front begins.
+/// How the entry at the front begins: no more than its first octet is looked at.
 fn start_at(octets: &[u8], line: usize) -> Start
     ensures line { result.line ≡ line }
     ensures begun { begun line (pieces_of octets.now)
         ≡ record { line = line; blank = result.blank; words = []; whole = true } }
 {
-    let blank = match split_piece(octets) {
-        Some((piece, _)) => is_gap(&piece),
+    let blank = match octets.split_first() {
+        Some((first, _)) => is_blank(*first),
         None => false,
     };
     Start { line, blank }
