@@ -127,7 +127,7 @@ fn hear_all<S: WaitingStream, I: ZoneIndex, P: Watch>(
     'pieces: for _ in 0..u64::MAX {
         let count = read_some(stream, piece)?;
         let messages = framing.feed(heap, &piece[..count])?;
-        watch.heard(records_in(&messages));
+        watch.heard(records_in(messages.as_slice()));
         if hear(heap, secondary, &messages)? {
             return Ok(());
         }
