@@ -1,5 +1,7 @@
 //! Words of a master file.
-ghost use Rattle.std.specs.Prelude.{◌≡◌, ◌+◌, ◌<◌, ◌≤◌, [], ◌∷◌, length, take, drop, IfSome, MatchOption};
+ghost use Rattle.std.specs.Prelude.{◌≡◌, ◌+◌, ◌<◌, ◌≤◌, [], ◌∷◌, length, take, drop, true, IfSome, MatchOption};
+ghost use Rattle.dns_masterfile.specs.declared.kind.Kind.TheVariants.{Plain};
+ghost use Rattle.dns_masterfile.specs.Kinds.{kind};
 ghost use Rattle.dns_masterfile.specs.Pieces.{InWord, InQuotes, Fault, Text, Bare, Quoted, pieces_from};
 ghost use Rattle.dns_masterfile.specs.Pieces.{pieces_of};
 ghost use Rattle.dns_masterfile.specs.Steps.{IsEscape, IsQuotedStep, IsWordStep, escape_takes};
@@ -39,8 +41,16 @@ fn escaped_len(rest: &[u8]) -> Option<usize>
     }
 }
 
-/// What is next in a bare word.
-fn word_step(rest: &[u8]) -> Step
+/// Whether the octet is a digit, a letter in lower case or one of `-./:`, as most octets of words are. Each of
+/// these is plain.
+fn is_usual(octet: u8) -> bool
+    ensures { result ≡ true → kind octet ≡ Plain }
+{
+    matches!(octet, b'-'..=b':' | b'a'..=b'z')
+}
+
+/// What is next in a bare word, whatever it is.
+fn any_step(rest: &[u8]) -> Step
     ensures { IsWordStep rest.now result }
 {
     let Some((first, behind)) = rest.split_first() else {
@@ -64,6 +74,19 @@ fn word_step(rest: &[u8]) -> Step
         Kind::Opening => Step::End,
         Kind::Closing => Step::End,
     }
+}
+
+/// What is next in a bare word. Most often it is an octet of the word, which is told at once.
+fn word_step(rest: &[u8]) -> Step
+    ensures { IsWordStep rest.now result }
+{
+    let Some((first, _)) = rest.split_first() else {
+        return Step::End;
+    };
+    if is_usual(*first) {
+        return Step::Take(1);
+    }
+    any_step(rest)
 }
 
 /// How many octets the bare word at the front has, unless one in it or right after it may not occur there.

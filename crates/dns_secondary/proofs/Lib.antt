@@ -10,3 +10,5 @@ pub mod Applying
 pub mod Soas
 pub mod Beginnings
 pub mod Mores
+pub mod Behind
+pub mod Fed

@@ -83,6 +83,6 @@ impl<I: ZoneIndex> Reading<I> {
         'records: while let Some(item) = section.next() {
             reading = reading.take_item(alloc, apex, held, &item)?;
         }
-        Ok(reading)
+        Ok(reading.sealed()?)
     }
 }

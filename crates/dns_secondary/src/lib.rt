@@ -5,10 +5,12 @@
 mod fault;
 mod items;
 pub mod laws;
+mod reached;
 mod reading;
 mod request;
 mod secondary;
 mod steps;
+mod tail;
 
 pub use fault::{Fault, Progress};
 pub use secondary::Secondary;

@@ -3,6 +3,7 @@ ghost use Rattle.std.specs.Prelude.{◌≡◌, List, IfOk};
 ghost use Rattle.dns_records.specs.Record.{Record as Stated};
 ghost use Rattle.dns_secondary.specs.State.{Ended};
 
+use crate::reached::Reached;
 use dns_records::Record;
 use dns_zone::ZoneIndex;
 use std::alloc::AllocError;
@@ -30,7 +31,7 @@ pub(crate) enum Phase {
 #[derive(Drop)]
 pub(crate) struct Reading<I: ZoneIndex> {
     pub(crate) phase: Phase,
-    pub(crate) set: I,
+    pub(crate) set: Reached<I>,
 }
 
 impl<I: ZoneIndex> Model for Reading<I> {
@@ -39,7 +40,7 @@ impl<I: ZoneIndex> Model for Reading<I> {
 
     ghost Value = { State };
 
-    ghost view = { λ r. state_of r.phase (I.records r.set) };
+    ghost view = { λ r. state_of r.phase r.set };
 
     ghost invariant = { λ r. AreSoas r.phase };
 }
@@ -59,12 +60,27 @@ impl<I: ZoneIndex> Reading<I> {
         }
     }
 
+    /// The same, its records ready to be shared.
+    pub(crate) fn sealed(self) -> Result<Reading<I>, AllocError>
+        ensures { IfOk result (λ sealed. sealed ≡ self) }
+    {
+        let Reading { phase, set } = self;
+        match set.sealed() {
+            Ok(set) => Ok(Reading { phase, set }),
+            Err(error) => {
+                drop(phase);
+                Err(error)
+            }
+        }
+    }
+
     /// The set alone.
-    pub(crate) fn into_set(self) -> I
-        ensures { (set : List Stated) → self ≡ Ended set → I.records result ≡ set }
+    pub(crate) fn into_set(self) -> Result<I, AllocError>
+        ensures { IfOk result
+            (λ whole. (set : List Stated) → self ≡ Ended set → I.records whole ≡ set) }
     {
         let Reading { phase, set } = self;
         drop(phase);
-        set
+        set.into_set()
     }
 }

@@ -18,6 +18,7 @@ ghost use Rattle.dns_secondary.specs.Told.{progress_at_end, Concludes, Feeds, He
 ghost use Rattle.dns_secondary.specs.Told.{RefusesMessage};
 ghost use Rattle.dns_secondary.specs.Told.{RefusesFrom, RefusesFeed, EndsInNoZone, holding, after_fault};
 
+use crate::reached::Reached;
 use crate::reading::{Phase, Reading};
 use crate::request::{request, type_asked};
 use crate::{Fault, Progress};
@@ -126,7 +127,7 @@ impl<I: ZoneIndex> Secondary<I> {
                 transport,
                 reading: Some(Reading {
                     phase: Phase::Begun,
-                    set,
+                    set: Reached::of(alloc, set),
                 }),
             }),
             Err(error) => {
@@ -257,7 +258,8 @@ impl<I: ZoneIndex> Secondary<I> {
         ensures refused { IfErr result (λ e. (e ≡ Fault.OutOfMemory) ⊎ EndsInNoZone self.old reading e) }
         ensures stays { OnErr result (self.new ≡ self.old) }
     {
-        match self.hold(reading.into_set()) {
+        let set = reading.into_set()?;
+        match self.hold(set) {
             Ok(()) => Ok(Progress::Done),
             Err(fault) => Err(fault),
         }

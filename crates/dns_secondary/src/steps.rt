@@ -1,16 +1,17 @@
 //! One record of an answer applied to the set that was reached.
-ghost use Rattle.std.specs.Prelude.{◌≡◌, ◌⊎◌, ◌==◌, [], true, Ok, Err, IfOk, IfErr};
+ghost use Rattle.std.specs.Prelude.{◌≡◌, ◌⊎◌, ◌==◌, [], true, false, Ok, Err, IfOk, IfErr, OnOk};
 ghost use Rattle.dns_names.specs.Name.{names_eq};
-ghost use Rattle.dns_records.specs.Record.{serial_of};
+ghost use Rattle.dns_records.specs.Record.{Record as Stated, serial_of};
 ghost use Rattle.dns_zone.specs.Zone.{soas};
-ghost use Rattle.dns_zone.specs.Records.{put, same};
+ghost use Rattle.dns_zone.specs.Records.{has, put, same};
 ghost use Rattle.dns_changes.specs.Change.{is_soa};
+ghost use Rattle.dns_secondary.specs.State.{Whole};
 ghost use Rattle.dns_secondary.specs.Step.{begin, collect, last, within_whole, remove, removing, add, adding};
 ghost use Rattle.dns_secondary.specs.Step.{sequence_from, new_soa, first_sequence, second, step};
 
 use crate::Fault;
+use crate::reached::Reached;
 use crate::reading::{Phase, Reading};
-use dns_changes::{holds, holds_key, take_out};
 use dns_memory::Heap;
 use dns_names::Name;
 use dns_records::Record;
@@ -48,34 +49,58 @@ fn have_one_serial(a: &Record, b: &Record) -> bool
     a.serial() == b.serial()
 }
 
+/// A record of a whole zone that comes anywhere in the order of those before it.
+fn gather_among<I: ZoneIndex>(set: &mut Reached<I>, r: Record) -> Result<(), Fault>
+    ensures taken { OnOk result ((soa : Stated) → collect soa set.old r ≡ Ok (Whole soa set.new)) }
+    ensures refused { IfErr result
+        (λ e. (e ≡ Fault.OutOfMemory) ⊎ ((soa : Stated) → collect soa set.old r ≡ Err e)) }
+{
+    if !set.holds_key(&r)? {
+        set.insert(r)?;
+        return Ok(());
+    }
+    if !set.holds(&r)? {
+        return Err(Fault::InvalidZone);
+    }
+    Ok(())
+}
+
+/// A record of a whole zone. Most come after those before it in order, and cost no search.
+fn gather<I: ZoneIndex>(set: &mut Reached<I>, r: Record) -> Result<(), Fault>
+    ensures taken { OnOk result ((soa : Stated) → collect soa set.old r ≡ Ok (Whole soa set.new)) }
+    ensures refused { IfErr result
+        (λ e. (e ≡ Fault.OutOfMemory) ⊎ ((soa : Stated) → collect soa set.old r ≡ Err e)) }
+{
+    if set.ends_before(&r) {
+        set.push(r)?;
+        return Ok(());
+    }
+    gather_among(set, r)
+}
+
 /// A record of a whole zone.
-fn collect<I: ZoneIndex>(set: I, soa: Record, r: Record) -> Result<Reading<I>, Fault>
+fn collect<I: ZoneIndex>(set: Reached<I>, soa: Record, r: Record) -> Result<Reading<I>, Fault>
     requires { is_soa soa ≡ true }
-    ensures taken { IfOk result (λ next. collect soa (I.records set) r ≡ Ok next) }
-    ensures refused { IfErr result (λ e. (e ≡ Fault.OutOfMemory) ⊎ (collect soa (I.records set) r ≡ Err e)) }
+    ensures taken { IfOk result (λ next. collect soa set r ≡ Ok next) }
+    ensures refused { IfErr result (λ e. (e ≡ Fault.OutOfMemory) ⊎ (collect soa set r ≡ Err e)) }
 {
     let mut set = set;
-    if holds_key(&set, &r) {
-        let is_held = holds(&set, &r);
-        drop(r);
-        if !is_held {
+    match gather(&mut set, r) {
+        Ok(()) => Ok(Reading {
+            phase: Phase::Whole(soa),
+            set,
+        }),
+        Err(fault) => {
             drop((set, soa));
-            return Err(Fault::InvalidZone);
+            Err(fault)
         }
-    } else if set.insert(r).is_err() {
-        drop((set, soa));
-        return Err(Fault::OutOfMemory);
     }
-    Ok(Reading {
-        phase: Phase::Whole(soa),
-        set,
-    })
 }
 
 /// The SOA that is to be the last record.
-fn end<I: ZoneIndex>(set: I, soa: &Record, r: &Record) -> Result<Reading<I>, Fault>
-    ensures taken { IfOk result (λ next. last soa.now (I.records set) r.now ≡ Ok next) }
-    ensures refused { IfErr result (λ e. last soa.now (I.records set) r.now ≡ Err e) }
+fn end<I: ZoneIndex>(set: Reached<I>, soa: &Record, r: &Record) -> Result<Reading<I>, Fault>
+    ensures taken { IfOk result (λ next. last soa.now set r.now ≡ Ok next) }
+    ensures refused { IfErr result (λ e. last soa.now set r.now ≡ Err e) }
 {
     if !is_same(r, soa) {
         return Err(Fault::BadSequence);
@@ -87,11 +112,11 @@ fn end<I: ZoneIndex>(set: I, soa: &Record, r: &Record) -> Result<Reading<I>, Fau
 }
 
 /// A record after the first ones of a whole zone.
-fn go_on<I: ZoneIndex>(set: I, soa: Record, r: Record) -> Result<Reading<I>, Fault>
+fn go_on<I: ZoneIndex>(set: Reached<I>, soa: Record, r: Record) -> Result<Reading<I>, Fault>
     requires { is_soa soa ≡ true }
-    ensures taken { IfOk result (λ next. within_whole soa (I.records set) r ≡ Ok next) }
+    ensures taken { IfOk result (λ next. within_whole soa set r ≡ Ok next) }
     ensures refused { IfErr result
-        (λ e. (e ≡ Fault.OutOfMemory) ⊎ (within_whole soa (I.records set) r ≡ Err e)) }
+        (λ e. (e ≡ Fault.OutOfMemory) ⊎ (within_whole soa set r ≡ Err e)) }
 {
     if is_soa(&r) {
         return end(set, &soa, &r);
@@ -100,14 +125,14 @@ fn go_on<I: ZoneIndex>(set: I, soa: Record, r: Record) -> Result<Reading<I>, Fau
 }
 
 /// A record that goes.
-fn remove<I: ZoneIndex>(set: I, soa: Record, r: &Record) -> Result<Reading<I>, Fault>
+fn remove<I: ZoneIndex>(set: Reached<I>, soa: Record, r: &Record) -> Result<Reading<I>, Fault>
     requires { is_soa soa ≡ true }
-    ensures taken { IfOk result (λ next. remove soa (I.records set) r.now ≡ Ok next) }
+    ensures taken { IfOk result (λ next. remove soa set r.now ≡ Ok next) }
     ensures refused { IfErr result
-        (λ e. (e ≡ Fault.OutOfMemory) ⊎ (remove soa (I.records set) r.now ≡ Err e)) }
+        (λ e. (e ≡ Fault.OutOfMemory) ⊎ (remove soa set r.now ≡ Err e)) }
 {
     let mut set = set;
-    if !take_out(&mut set, r)? {
+    if !set.take_out(r)? {
         return Err(Fault::RemovesAbsent);
     }
     Ok(Reading {
@@ -116,42 +141,56 @@ fn remove<I: ZoneIndex>(set: I, soa: Record, r: &Record) -> Result<Reading<I>, F
     })
 }
 
-/// A record that comes, after the new SOA that was reached.
-fn add<I: ZoneIndex>(set: I, soa: Record, reached: Record, r: Record) -> Result<Reading<I>, Fault>
-    requires leading { is_soa soa ≡ true }
-    requires new { is_soa reached ≡ true }
-    ensures taken { IfOk result (λ next. add soa (I.records set) reached r ≡ Ok next) }
+/// Puts a record that comes among the others.
+fn bring<I: ZoneIndex>(set: &mut Reached<I>, r: Record) -> Result<(), Fault>
+    ensures new { OnOk result ((has r set.old ≡ false) × (set.new ≡ put r set.old)) }
     ensures refused { IfErr result
-        (λ e. (e ≡ Fault.OutOfMemory) ⊎ (add soa (I.records set) reached r ≡ Err e)) }
+        (λ e. (e ≡ Fault.OutOfMemory) ⊎ ((has r set.old ≡ true) × (e ≡ Fault.AddsPresent))) }
 {
-    let mut set = set;
-    if holds_key(&set, &r) {
-        drop((set, soa, reached, r));
+    if set.holds_key(&r)? {
         return Err(Fault::AddsPresent);
     }
-    match set.insert(r) {
+    set.insert(r)?;
+    Ok(())
+}
+
+/// A record that comes, after the new SOA that was reached.
+fn add<I: ZoneIndex>(
+    set: Reached<I>,
+    soa: Record,
+    reached: Record,
+    r: Record,
+) -> Result<Reading<I>, Fault>
+    requires leading { is_soa soa ≡ true }
+    requires new { is_soa reached ≡ true }
+    ensures taken { IfOk result (λ next. add soa set reached r ≡ Ok next) }
+    ensures refused { IfErr result
+        (λ e. (e ≡ Fault.OutOfMemory) ⊎ (add soa set reached r ≡ Err e)) }
+{
+    let mut set = set;
+    match bring(&mut set, r) {
         Ok(()) => Ok(Reading {
             phase: Phase::Adding(soa, reached),
             set,
         }),
-        Err(_) => {
+        Err(fault) => {
             drop((set, soa, reached));
-            Err(Fault::OutOfMemory)
+            Err(fault)
         }
     }
 }
 
 /// The SOA with which a sequence is to begin.
 fn begin_sequence<I: ZoneIndex>(
-    set: I,
+    set: Reached<I>,
     soa: Record,
     reached: &Record,
     r: &Record,
 ) -> Result<Reading<I>, Fault>
     requires { is_soa soa ≡ true }
-    ensures taken { IfOk result (λ next. sequence_from soa (I.records set) reached.now r.now ≡ Ok next) }
+    ensures taken { IfOk result (λ next. sequence_from soa set reached.now r.now ≡ Ok next) }
     ensures refused { IfErr result
-        (λ e. (e ≡ Fault.OutOfMemory) ⊎ (sequence_from soa (I.records set) reached.now r.now ≡ Err e)) }
+        (λ e. (e ≡ Fault.OutOfMemory) ⊎ (sequence_from soa set reached.now r.now ≡ Err e)) }
 {
     if !is_same(r, reached) {
         return Err(Fault::BadSequence);
@@ -160,11 +199,11 @@ fn begin_sequence<I: ZoneIndex>(
 }
 
 /// The new SOA of a sequence.
-fn renew<I: ZoneIndex>(set: I, soa: Record, r: Record) -> Result<Reading<I>, Fault>
+fn renew<I: ZoneIndex>(set: Reached<I>, soa: Record, r: Record) -> Result<Reading<I>, Fault>
     requires leading { is_soa soa ≡ true }
     requires new { is_soa r ≡ true }
-    ensures taken { IfOk result (λ next. new_soa soa (I.records set) r ≡ Ok next) }
-    ensures refused { IfErr result (λ e. (e ≡ Fault.OutOfMemory) ⊎ (new_soa soa (I.records set) r ≡ Err e)) }
+    ensures taken { IfOk result (λ next. new_soa soa set r ≡ Ok next) }
+    ensures refused { IfErr result (λ e. (e ≡ Fault.OutOfMemory) ⊎ (new_soa soa set r ≡ Err e)) }
 {
     if have_one_serial(&r, &soa) & !is_same(&r, &soa) {
         drop((set, soa, r));
@@ -180,7 +219,12 @@ fn renew<I: ZoneIndex>(set: I, soa: Record, r: Record) -> Result<Reading<I>, Fau
 }
 
 /// The SOA that marks changes of the version that is held: the first sequence begins with it.
-fn begin_changes<I: ZoneIndex>(zone: &Zone<I>, soa: Record, r: &Record) -> Result<Reading<I>, Fault>
+fn begin_changes<I: ZoneIndex>(
+    alloc: Heap,
+    zone: &Zone<I>,
+    soa: Record,
+    r: &Record,
+) -> Result<Reading<I>, Fault>
     requires { is_soa soa ≡ true }
     ensures taken { IfOk result
         (λ next. first_sequence soa zone.now.records (soas zone.now.records) r.now ≡ Ok next) }
@@ -192,16 +236,16 @@ fn begin_changes<I: ZoneIndex>(zone: &Zone<I>, soa: Record, r: &Record) -> Resul
     if have_one_serial(&soa, reached) {
         return Err(Fault::BadSequence);
     }
-    begin_sequence(zone.index().fork()?, soa, reached, r)
+    begin_sequence(Reached::of(alloc, zone.index().fork()?), soa, reached, r)
 }
 
 /// A set of one record.
-fn set_of<I: ZoneIndex>(alloc: Heap, r: &Record) -> Result<I, AllocError>
-    ensures { IfOk result (λ set. I.records set ≡ put r.now []) }
+fn set_of<I: ZoneIndex>(alloc: Heap, r: &Record) -> Result<Reached<I>, AllocError>
+    ensures { IfOk result (λ set. set ≡ put r.now []) }
 {
     let mut set = I::empty(alloc)?;
     set.insert(r.clone()?)?;
-    Ok(set)
+    Ok(Reached::of(alloc, set))
 }
 
 /// The record after the SOA that leads.
@@ -218,7 +262,7 @@ fn second<I: ZoneIndex>(
 {
     if let Some(zone) = held {
         if is_soa(&r) {
-            let begun = begin_changes(zone, soa, &r);
+            let begun = begin_changes(alloc, zone, soa, &r);
             drop(r);
             return begun;
         }
@@ -233,7 +277,7 @@ fn second<I: ZoneIndex>(
 }
 
 /// The first record, which is to be a SOA of the zone.
-fn begin<I: ZoneIndex>(set: I, apex: &Name, r: Record) -> Result<Reading<I>, Fault>
+fn begin<I: ZoneIndex>(set: Reached<I>, apex: &Name, r: Record) -> Result<Reading<I>, Fault>
     ensures taken { IfOk result (λ next. begin apex.now r ≡ Ok next) }
     ensures refused { IfErr result (λ e. begin apex.now r ≡ Err e) }
 {
@@ -247,10 +291,14 @@ fn begin<I: ZoneIndex>(set: I, apex: &Name, r: Record) -> Result<Reading<I>, Fau
 }
 
 /// A record after those that go of a sequence.
-fn go_on_removing<I: ZoneIndex>(set: I, soa: Record, r: Record) -> Result<Reading<I>, Fault>
+fn go_on_removing<I: ZoneIndex>(
+    set: Reached<I>,
+    soa: Record,
+    r: Record,
+) -> Result<Reading<I>, Fault>
     requires { is_soa soa ≡ true }
-    ensures taken { IfOk result (λ next. removing soa (I.records set) r ≡ Ok next) }
-    ensures refused { IfErr result (λ e. (e ≡ Fault.OutOfMemory) ⊎ (removing soa (I.records set) r ≡ Err e)) }
+    ensures taken { IfOk result (λ next. removing soa set r ≡ Ok next) }
+    ensures refused { IfErr result (λ e. (e ≡ Fault.OutOfMemory) ⊎ (removing soa set r ≡ Err e)) }
 {
     if is_soa(&r) {
         return renew(set, soa, r);
@@ -260,16 +308,16 @@ fn go_on_removing<I: ZoneIndex>(set: I, soa: Record, r: Record) -> Result<Readin
 
 /// A record after those that come of a sequence.
 fn go_on_adding<I: ZoneIndex>(
-    set: I,
+    set: Reached<I>,
     soa: Record,
     reached: Record,
     r: Record,
 ) -> Result<Reading<I>, Fault>
     requires leading { is_soa soa ≡ true }
     requires new { is_soa reached ≡ true }
-    ensures taken { IfOk result (λ next. adding soa (I.records set) reached r ≡ Ok next) }
+    ensures taken { IfOk result (λ next. adding soa set reached r ≡ Ok next) }
     ensures refused { IfErr result
-        (λ e. (e ≡ Fault.OutOfMemory) ⊎ (adding soa (I.records set) reached r ≡ Err e)) }
+        (λ e. (e ≡ Fault.OutOfMemory) ⊎ (adding soa set reached r ≡ Err e)) }
 {
     if !is_soa(&r) {
         return add(set, soa, reached, r);
