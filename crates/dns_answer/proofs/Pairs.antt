@@ -1,7 +1,8 @@
 -- One record and the address of its host, which are all of a reply.
 use Rattle.std.proofs.Common.{◌≡◌, ℕ, Bool, true, false, ◌||◌, ◌∷◌, [], ◌++◌, List, length, ◌<◌, refl, sym, ap, ◌∙◌, arith, cond}
-use Rattle.std.specs.Prelude.{Option, Some, None, ◌==◌}
-use Rattle.std.specs.List.{list_any}
+use Rattle.std.specs.Prelude.{Option, Some, None, ◌==◌, is_some}
+use Rattle.std.specs.List.{list_any, flat_map}
+use Rattle.dns_answer.proofs.Only.{hostless, no_authority}
 use Rattle.std.proofs.lemmas.Option.{slice_get_within}
 use Rattle.std.proofs.lemmas.List.{append-nil}
 use Rattle.std.proofs.lemmas.Bool.Decides.{nat_tests}
@@ -18,7 +19,7 @@ use Rattle.dns_lookup.specs.declared.outcome.Kind.TheVariants as kinds
 use Rattle.dns_answer.specs.WithAddress.{AreSectionsOf}
 use Rattle.dns_answer.specs.Known.{is_address}
 use Rattle.dns_answer.specs.Sections.{Shown, from_zone, as_owner, records_of, answers_of, answer_of, authority_at, authority_of, additional_of, addresses_for, unseen}
-use Rattle.dns_answer.proofs.Adding.{chosen, opened, at_host, shown_in}
+use Rattle.dns_answer.proofs.Adding.{chosen, opened, at_host, no_host, shown_in}
 use Rattle.dns_answer.proofs.UpTo.{no_address}
 use Rattle.dns_answer.proofs.Shown.{answers_at, authority_by}
 
@@ -85,3 +86,20 @@ server_pair t f at stored r a host kind is made has address all =
       authorities = ap records_of authority ∙ ap (λ x. x ∷ []) (sym made);
       additionals = (λ i. additional_of (answer i ++ authority i)) ∙ alone f.zone stored stored a host has (host_apart stored host has) address all;
     }
+
+-- a name that answers with one record without a host
+pub alone_at : (t : ℕ) (f : Found) (stored : Record) → answers_of t f ≡ from_zone f.zone (as_owner f.name (stored ∷ [])) → is_some (host_of stored) ≡ false → (flat_map addresses_for (from_zone f.zone (stored ∷ [])) ≡ []) × (authority_at f ≡ [])
+alone_at t f stored is none =
+    let some : answers_of t f ≡ [] → ⊥ = λ e. (let bad : length (from_zone f.zone (as_owner f.name (stored ∷ []))) ≡ length {A = Shown} [] = ap length (sym is ∙ e) in omega (arith, bad)) in
+    (append-nil (addresses_for (shown_in f.zone stored)) ∙ no_host f.zone stored (sym (hostless (host_of stored) none)), no_authority f.zone f.name t f.outcome some)
+
+-- such names alone
+pub alone_sections : (t : ℕ) (fs : List Found) (shown : List Record) → shown ≡ records_of (answer_of t fs) → flat_map addresses_for (answer_of t fs) ≡ [] → authority_of fs ≡ [] → AreSectionsOf t fs shown [] []
+alone_sections t fs shown answers none authority = record {
+  answers = sym answers;
+  authorities = ap records_of authority;
+  additionals =
+      ap (λ (xs : List Shown). additional_of (answer_of t fs ++ xs)) authority
+      ∙ ap additional_of (append-nil (answer_of t fs))
+      ∙ ap (unseen (records_of (answer_of t fs))) none;
+}
