@@ -1,17 +1,17 @@
 -- One record and the address of its host, which are all of a reply.
 use Rattle.std.proofs.Common.{◌≡◌, ℕ, Bool, true, false, ◌||◌, ◌∷◌, [], ◌++◌, List, length, ◌<◌, refl, sym, ap, ◌∙◌, arith, cond}
-use Rattle.std.specs.Prelude.{Option, Some, None, ◌==◌, is_some}
+use Rattle.std.specs.Prelude.{Some, None, ◌==◌, is_some}
 use Rattle.std.specs.List.{list_any, flat_map}
 use Rattle.dns_answer.proofs.Only.{hostless, no_authority}
 use Rattle.std.proofs.lemmas.Option.{slice_get_within}
 use Rattle.std.proofs.lemmas.List.{append-nil}
 use Rattle.std.proofs.lemmas.Bool.Decides.{nat_tests}
-use Rattle.dns_names.specs.Name.{Labels, labels_of}
+use Rattle.dns_names.specs.Name.{Labels}
 use Rattle.dns_zone.specs.Zone.{Zone}
 use Rattle.dns_zone.specs.Records.{same, rrset}
 use Rattle.dns_records.specs.Record.{Record, host_of}
-use Rattle.dns_records.specs.Types.{type_a, type_aaaa, type_ns}
-use Rattle.dns_lookup.specs.Lookup.{Found, Outcome}
+use Rattle.dns_records.specs.Types.{type_a, type_aaaa}
+use Rattle.dns_lookup.specs.Lookup.{Found}
 use Rattle.dns_lookup.specs.Represented.{RepresentAll}
 use Rattle.dns_lookup.specs.RepresentedLaws.{outcome_of}
 use Rattle.dns_lookup.specs.declared.chain.Found.{Found as Represented}

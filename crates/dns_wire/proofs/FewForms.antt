@@ -1,5 +1,5 @@
 -- The data of types that is one name, or two names and numbers.
-use Rattle.std.proofs.Common.{Option, Some, None, true, false, [], ◌≡◌, ℕ, ◌∷◌, ◌++◌, Bool, ◌||◌, List, length, drop, refl, sym, ap, subst, ◌∙◌, arith}
+use Rattle.std.proofs.Common.{Option, Some, true, false, [], ◌≡◌, ℕ, ◌∷◌, ◌++◌, Bool, ◌||◌, List, refl, sym, ap, subst, ◌∙◌, arith}
 use Rattle.std.specs.Prelude.{IfSome, ◌==◌}
 use Rattle.std.proofs.lemmas.Bool.Decides.{nat_tests}
 use Rattle.std.proofs.lemmas.List.{append-nil}
@@ -9,7 +9,7 @@ use Rattle.dns_records.specs.Types.{Field, Value, Values, U32, Name, form, type_
 use Rattle.dns_records.specs.Typed.{is_name_type}
 use Rattle.dns_records.specs.Record.{Record, AreFields, IsRecord}
 use Rattle.dns_wire.specs.Puts.{BeginsWithName}
-use Rattle.dns_wire.specs.Compress.{Place, Compressing, compressed_name, compressed_fields, compressed_rdata}
+use Rattle.dns_wire.specs.Compress.{Place, compressed_name, compressed_fields, compressed_rdata}
 use Rattle.dns_wire.proofs.FieldsPut.{name_behind, formed_rdata}
 use Rattle.dns_wire.proofs.FieldsBack.{name_split}
 

@@ -1,6 +1,6 @@
 //! The octets of a message while it is written: the first ones of a buffer, which has zeros after them, so
 //! that most are written by a copy and no call.
-ghost use Rattle.std.specs.Prelude.{◌≡◌, [], ◌∷◌, ◌++◌, ◌+◌, ◌-◌, ◌<◌, ◌≤◌, length, take, drop, vec_len, IfOk, OnOk};
+ghost use Rattle.std.specs.Prelude.{◌≡◌, [], ◌++◌, ◌+◌, ◌-◌, ◌≤◌, length, take, drop, IfOk, OnOk};
 ghost use Rattle.std.specs.Int.{w16, to_be_bytes as be_octets};
 
 use byteorder::{BigEndian, ByteOrder};

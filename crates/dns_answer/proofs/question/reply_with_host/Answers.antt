@@ -1,7 +1,7 @@
-use Rattle.std.proofs.Common.{◌≡◌, ◌∷◌, [], sym, ap, ◌∙◌}
+use Rattle.std.proofs.Common.{◌∷◌, [], sym, ap, ◌∙◌}
 use Rattle.std.proofs.lemmas.Result.{IfOk-weaker}
 use Rattle.dns_wire.specs.Reply.{stated}
-use Rattle.dns_answer.specs.Answer.{fitted, with_sections}
+use Rattle.dns_answer.specs.Answer.{fitted}
 use Rattle.dns_answer.specs.WithAddress.{AreSectionsOf}
 use Rattle.dns_answer.proofs.question.reply_with_host.Goals as goal
 

@@ -1,13 +1,11 @@
 use Rattle.std.proofs.Common.{◌≡◌, ◌<◌, ◌≤◌, false, ◌∷◌, ◌++◌, [], List, length, take, sym, ap, subst, ◌∙◌, arith}
 use Rattle.std.specs.Prelude.{is_some}
-use Rattle.std.specs.List.{flat_map}
 use Rattle.std.proofs.lemmas.List.{take_all}
-use Rattle.dns_names.specs.Name.{Labels}
 use Rattle.dns_records.specs.Record.{Record, host_of}
 use Rattle.dns_zone.proofs.Kept.{single}
 use Rattle.dns_lookup.specs.Lookup.{Found as Stated}
 use Rattle.dns_lookup.specs.RepresentedLaws.{represented_at, represented_length}
-use Rattle.dns_answer.specs.Sections.{records_of, answers_of, answer_of, authority_of, as_owner, from_zone, addresses_for}
+use Rattle.dns_answer.specs.Sections.{answers_of, authority_of, as_owner, from_zone}
 use Rattle.dns_answer.specs.WithAddress.{AreSectionsOf}
 use Rattle.dns_answer.proofs.Pairs.{alone_at, alone_sections}
 use Rattle.dns_answer.proofs.Shown.{lent_one, next_answers, next_hosts, authority_last}

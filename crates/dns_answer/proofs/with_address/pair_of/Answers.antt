@@ -1,4 +1,4 @@
-use Rattle.std.proofs.Common.{◌≡◌, ◌∷◌, ◌++◌, [], List, length, sym, ap, subst, ◌∙◌, arith}
+use Rattle.std.proofs.Common.{◌≡◌, ◌∷◌, ◌++◌, [], List, sym, ap, subst, ◌∙◌, arith}
 use Rattle.dns_records.specs.Types.{type_a, type_aaaa, type_ns}
 use Rattle.dns_zone.specs.Records.{rrset}
 use Rattle.dns_zone.specs.Zone.{Zone}

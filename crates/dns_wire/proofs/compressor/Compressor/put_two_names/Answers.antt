@@ -1,7 +1,7 @@
 use Rattle.std.proofs.Common.{◌≡◌, ◌+◌, ◌∷◌, ◌++◌, [], List, ℕ, length, take, drop, refl, sym, ap, subst, ◌∙◌}
 use Rattle.std.proofs.lemmas.List.{take-append-drop}
 use Rattle.std.proofs.lemmas.Result.{IfErr-weaker}
-use Rattle.dns_names.specs.Name.{Labels, wire, labels_of}
+use Rattle.dns_names.specs.Name.{Labels, labels_of}
 use Rattle.dns_records.specs.Types.{Value, Values, octet_count, Name}
 use Rattle.dns_wire.specs.Compress.{Compressing, compressed_name, compressed_fields}
 use Rattle.dns_wire.specs.Puts.{RefusesUpTo, plain_octets}
@@ -9,7 +9,6 @@ use Rattle.dns_wire.proofs.Exits.{on_ok, err_exit}
 use Rattle.dns_wire.proofs.Puts.{leaves_first, wrote_last, refuses_last}
 use Rattle.dns_wire.proofs.FieldsPut.{FieldsLeft, name_behind, names_next, names_refused}
 use Rattle.dns_wire.proofs.FewForms.{begins}
-use Rattle.dns_wire.specs.Puts.{BeginsWithName}
 use Rattle.dns_records.specs.Record.{AreFields}
 use Rattle.dns_wire.proofs.compressor.Compressor.put_two_names.Goals as goal
 use Rattle.dns_wire.proofs.compressor.Compressor.put_two_names.Goals.{In_ok-put_name, In_ok-put_name-2}
