@@ -1,5 +1,5 @@
 -- What a reader takes from the words of an entry.
-use Rattle.std.specs.Prelude.{◌≡◌, ◌⊎◌, ℕ, ◌+◌, ◌<◌, ◌≤◌, Bool, false, nat_lt, List, [], ◌∷◌, ◌++◌, length}
+use Rattle.std.specs.Prelude.{◌≡◌, ◌⊎◌, ℕ, ◌+◌, ◌<◌, ◌≤◌, nat_lt, List, [], ◌∷◌, ◌++◌, length}
 use Rattle.std.specs.Prelude.{Some, None, Ok, Err, ok_or}
 use Rattle.dns_records.specs.Types.{Field, Name, UncompressedName, Strings, Value, Values, octet_count}
 use Rattle.dns_records.specs.Types.{size_of}

@@ -1,5 +1,4 @@
-use Rattle.std.proofs.Common.{◌≡◌, List, [], ◌∷◌, ◌++◌, length, vec_len, sym, ◌∙◌, arith}
-use Rattle.dns_records.specs.Record.{Record}
+use Rattle.std.proofs.Common.{◌≡◌, ◌++◌, length, vec_len, sym, ◌∙◌, arith}
 use Rattle.dns_secondary.proofs.Behind.{all_of, last_newest, last_shared, no_items}
 use Rattle.dns_secondary.proofs.tail.Tail.last.Goals as goal
 
