@@ -16,12 +16,12 @@ use Rattle.dns_answer.specs.Added.{IsAll, IsAllAuthority}
 use Rattle.dns_answer.specs.Sections.{Shown, from_zone, as_owner, records_of, answers_of, answer_of, authority_at, additional_of, addresses_for, negative_soa, unseen}
 use Rattle.dns_answer.proofs.Shown.{answers_at, authority_by, negative_authority, no_servers}
 
-hostless : {A : Type 0} (o : Option A) → is_some o ≡ false → o ≡ None
+pub hostless : {A : Type 0} (o : Option A) → is_some o ≡ false → o ≡ None
 hostless None h = refl
 hostless (Some a) h = absurd cc
 
 -- what answers adds nothing to the authority section
-no_authority : (z : Zone) (name : Labels) (t : ℕ) (o : Outcome) → (answers_at z name t o ≡ [] → ⊥) → authority_by z o ≡ []
+pub no_authority : (z : Zone) (name : Labels) (t : ℕ) (o : Outcome) → (answers_at z name t o ≡ [] → ⊥) → authority_by z o ≡ []
 no_authority z name t (Referral c) h = absurd (h refl)
 no_authority z name t (Alias n) h = refl
 no_authority z name t (Answers n) h = refl

@@ -55,7 +55,7 @@ fn is_among(shown: &[ReplyRecord<'_>], stored: &Record, place: &mut usize) -> bo
 }
 
 /// Whether the record is an address.
-fn is_address(shown: &ReplyRecord<'_>) -> bool
+pub(crate) fn is_address(shown: &ReplyRecord<'_>) -> bool
     ensures { result ≡ is_address shown.now }
 {
     shown.rtype() == types::A || shown.rtype() == types::AAAA

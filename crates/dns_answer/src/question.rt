@@ -14,7 +14,8 @@ ghost use Rattle.dns_answer.specs.Echoes.{Echoes};
 use crate::additional::Sections;
 use crate::codes::{is_authoritative, rcode_of};
 use crate::fit::{fit, fit_first_sections, fit_question, most_records};
-use crate::sections::{answer_count, only_record, only_soa, server_count};
+use crate::sections::{answer_count, answers_alone, only_record, only_soa, server_count};
+use crate::with_address::{Pair, pair_of};
 use dns_lookup::{Found, resolve};
 use dns_memory::Heap;
 use dns_names::NameRef;
@@ -110,6 +111,78 @@ fn reply_of_all_sections<'a, I: ZoneIndex>(
     fit(alloc, &mut whole, transport)
 }
 
+/// The reply to what a question finds, which has its question already: a record of each of several names, or
+/// all sections.
+fn reply_of_names<'a, I: ZoneIndex>(
+    alloc: Heap,
+    zones: &'a [Zone<I>],
+    reply: Reply<'_, 'a>,
+    transport: Transport,
+    found: &[Found<'a>],
+) -> Result<Vec<u8, Heap>, AllocError>
+    requires question { length (question_octets (stated reply)) < 65524 }
+    requires found { (fs : List Stated) × RepresentAll zones.now fs found.now }
+    requires bare { HasNoRecord (stated reply) }
+    ensures { IfOk result
+        (λ octets. (t : ℕ) (fs : List Stated)
+        → RepresentAll zones.now fs found.now
+        → AllLend zones.now t found.now
+        → octets.items ≡ fitted transport (with_sections (stated reply.entry) t fs)) }
+{
+    if found.len() < 2 {
+        return reply_of_all_sections(alloc, zones, reply, transport, found);
+    }
+    let Some(alone) = answers_alone(alloc, found)? else {
+        return reply_of_all_sections(alloc, zones, reply, transport, found);
+    };
+    let mut whole = Reply {
+        answer: alone.as_slice(),
+        ..reply
+    };
+    fit(alloc, &mut whole, transport)
+}
+
+/// The reply to what a question finds, which has its question already: a record and the address of its host,
+/// which take no memory but for their octets, or all sections.
+fn reply_with_host<'a, I: ZoneIndex>(
+    alloc: Heap,
+    zones: &'a [Zone<I>],
+    reply: Reply<'_, 'a>,
+    transport: Transport,
+    found: &[Found<'a>],
+) -> Result<Vec<u8, Heap>, AllocError>
+    requires question { length (question_octets (stated reply)) < 65524 }
+    requires found { (fs : List Stated) × RepresentAll zones.now fs found.now }
+    requires bare { HasNoRecord (stated reply) }
+    ensures { IfOk result
+        (λ octets. (t : ℕ) (fs : List Stated)
+        → RepresentAll zones.now fs found.now
+        → AllLend zones.now t found.now
+        → octets.items ≡ fitted transport (with_sections (stated reply.entry) t fs)) }
+{
+    let Some(pair) = pair_of(zones, found) else {
+        return reply_of_names(alloc, zones, reply, transport, found);
+    };
+    match &pair {
+        Pair::Answer(one, address) => {
+            let mut reply = Reply {
+                answer: slice::from_ref(one),
+                additional: slice::from_ref(address),
+                ..reply
+            };
+            fit(alloc, &mut reply, transport)
+        }
+        Pair::Server(one, address) => {
+            let mut referral = Reply {
+                authority: slice::from_ref(one),
+                additional: slice::from_ref(address),
+                ..reply
+            };
+            fit(alloc, &mut referral, transport)
+        }
+    }
+}
+
 /// The reply to what a question finds, which has its question already: one SOA alone, which takes no memory
 /// but for its octets, or all sections.
 #[inline(never)]
@@ -137,7 +210,7 @@ fn reply_of_sections<'a, I: ZoneIndex>(
             };
             fit(alloc, &mut negative, transport)
         }
-        None => reply_of_all_sections(alloc, zones, reply, transport, found),
+        None => reply_with_host(alloc, zones, reply, transport, found),
     }
 }
 

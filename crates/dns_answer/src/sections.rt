@@ -7,6 +7,7 @@ ghost use Rattle.dns_lookup.specs.Lookup.{Found as Stated};
 ghost use Rattle.dns_lookup.specs.Represented.{Represents, RepresentAll};
 ghost use Rattle.dns_lookup.specs.Lent.{Lends, AllLend};
 ghost use Rattle.dns_answer.specs.Added.{IsAll, IsAllAuthority};
+ghost use Rattle.dns_answer.specs.WithAddress.{AreSectionsOf};
 ghost use Rattle.dns_answer.specs.Sections.{from_zone, as_owner, records_of, answers_of, answer_of};
 ghost use Rattle.dns_answer.specs.Sections.{negative_soa, authority_at, authority_of, addresses_for};
 
@@ -78,6 +79,32 @@ pub(crate) fn only_record<'a>(found: &[Found<'a>]) -> Option<ReplyRecord<'a>>
         return None;
     }
     Some(ReplyRecord::new(one.name.reborrow(), record.ttl(), record))
+}
+
+/// The answer section where nothing else goes out for what was found: one record of each name, with no host
+/// whose addresses would go with it. Most aliases lead to such.
+pub(crate) fn answers_alone<'a>(
+    alloc: Heap,
+    found: &[Found<'a>],
+) -> Result<Option<Vec<ReplyRecord<'a>, Heap>>, AllocError>
+    ensures { IfOk result
+        (λ alone. IfSome alone
+        (λ shown. (zones : List Lent) (t : ℕ) (fs : List Stated)
+        → RepresentAll zones fs found.now
+        → AllLend zones t found.now
+        → AreSectionsOf t fs shown.items [] [])) }
+{
+    let mut shown = Vec::with_capacity(alloc, found.len())?;
+    for one in found {
+        let [record] = answers(one) else {
+            return Ok(None);
+        };
+        if record.host().is_some() {
+            return Ok(None);
+        }
+        shown.push(ReplyRecord::new(one.name.reborrow(), record.ttl(), record))?;
+    }
+    Ok(Some(shown))
 }
 
 /// How many records the answer section has.

@@ -16,6 +16,15 @@ pub record Change : Type 0 where
   pub new_soa : Record
   pub added : List Record
 
+-- The change of these records.
+abbrev pub change_of : Record → List Record → Record → List Record → Change
+change_of old_soa removed new_soa added = record {
+  old_soa = old_soa;
+  removed = removed;
+  new_soa = new_soa;
+  added = added;
+}
+
 -- The numbers of records that go and come have 32 bits.
 pub record AreFew (removed added : List Record) : Type 0 where
   pub going : length removed < 2 ^ 32

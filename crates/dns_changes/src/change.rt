@@ -3,7 +3,7 @@
 ghost use Rattle.std.specs.Prelude.{◌≡◌, ◌⊎◌, true, false, not, ◌∷◌, Some, None, IfOk, IfErr, OnOk, OnErr};
 ghost use Rattle.std.specs.Prelude.{MatchResult};
 ghost use Rattle.dns_zone.specs.Records.{contains, has, is_ordered, put, united, without};
-ghost use Rattle.dns_changes.specs.Change.{AreFew, is_formed, applied, are_present, are_new, change_fault};
+ghost use Rattle.dns_changes.specs.Change.{AreFew, is_formed, change_of, applied, are_present, are_new, change_fault};
 ghost use Rattle.dns_changes.specs.Change.{removed_from};
 
 use crate::ChangeError;
@@ -72,16 +72,8 @@ impl Change {
         added: Vec<Record, Heap>,
     ) -> Change
         requires few { AreFew removed.items added.items }
-        requires formed { is_formed
-            (record { old_soa = old_soa; removed = removed.items; new_soa = new_soa; added = added.items })
-            ≡ true }
-        ensures { result
-            ≡ record {
-              old_soa = old_soa;
-              removed = removed.entry.items;
-              new_soa = new_soa;
-              added = added.entry.items;
-            } }
+        requires formed { is_formed (change_of old_soa removed.items new_soa added.items) ≡ true }
+        ensures { result ≡ change_of old_soa removed.entry.items new_soa added.entry.items }
     {
         Change {
             old_soa,

@@ -82,7 +82,7 @@ impl<D: Sectors> Journal<D> {
     ghost use Rattle.dns_layout.specs.Store.{Sizes, Stored, OpensBy, with_more, bank_end, journal_place};
     ghost use Rattle.dns_layout.specs.Store.{version_of};
     ghost use Rattle.dns_journal.specs.State.{Keeps, LeavesPart, JournalLeavesOnly, HasJournalFailed};
-    ghost use Rattle.dns_journal.specs.State.{is_closed};
+    ghost use Rattle.dns_journal.specs.State.{BeginsAt, is_closed};
     ghost use Rattle.dns_journal.specs.State.{device_of, free_sectors};
     ghost use Rattle.dns_journal.specs.State.{newest_number_of, opened_of};
     ghost use Rattle.dns_journal.specs.Bank.{snapshot_room_of, journal_room_of};
@@ -95,14 +95,7 @@ impl<D: Sectors> Journal<D> {
         requires banks_within { 1 + 2 * (root.snapshot_room + root.journal_room) ≤ D.count device }
         requires banks_small { 1 + 2 * (root.snapshot_room + root.journal_room) ≤ 2 ^ 20 }
         requires clear { root.is_clear ≡ true }
-        ensures keeps { (shape : Sizes) (k : Stored) (x : List ℕ) (parts : List (List ℕ)) → D.is_honest device
-            → Only (D.seen device) (D.may_leave device)
-            → OpensBy shape (D.seen device) x parts k → SaysRoot x root → bank_open x ≤ open_count x
-            → AllBehind (open_count x) (version_of k) (D.seen device)
-            → next.until ≡ bank_end shape (number x)
-            → next.at ≡ place_behind (journal_place shape (number x)) k.entries
-            → next.version ≡ version_of k → next.opened ≡ open_count x
-            → Keeps shape result k [] }
+        ensures keeps { BeginsAt device next root result }
         ensures newest { newest_number_of result ≡ next.version }
         ensures opened { opened_of result ≡ root.open_count }
         ensures device { device_of result ≡ device }

@@ -15,7 +15,7 @@ ghost use Rattle.dns_layout.specs.Store.{Sizes, Stored, OpensBy, OpensAs, IsTidy
 ghost use Rattle.dns_journal.specs.Bank.{part_of, piece, HoldsOctets, sectors_for, PushesParts, PushesEntry};
 ghost use Rattle.dns_journal.specs.Bank.{PushesEntries};
 ghost use Rattle.dns_journal.specs.Bank.{LaysBank, Turns, IsTurnedTo};
-ghost use Rattle.dns_journal.specs.State.{IsOpenedTimes};
+ghost use Rattle.dns_journal.specs.State.{OpensAsOneOf};
 
 use crate::journal::push_bodies;
 use crate::{Cursor, Journal};
@@ -277,16 +277,15 @@ pub(crate) fn turn_to<D: Sectors>(
     requires within { AllWithin (D.count device.old) writes.now }
     requires some { 0 < D.count device.old }
     ensures any_moment { (s : Sizes) (k new : Stored) (x : List ℕ) (parts : List (List ℕ))
-        → D.is_honest device.old
-        → Only (D.seen device.old) (D.may_leave device.old) → OpensBy s (D.seen device.old) x parts k
-        → bank_open x ≤ open_count x → AllBehind (open_count x) (version_of k) (D.seen device.old)
+        → D.is_honest device.old → Only (D.seen device.old) (D.may_leave device.old)
+        → OpensBy s (D.seen device.old) x parts k → bank_open x ≤ open_count x
+        → AllBehind (open_count x) (version_of k) (D.seen device.old)
         → Turns s k new x root.now (pairs writes.now)
-        → LeavesOnly D.moment D.left_since device.old device.new
-        (λ c. (OpensAs s c k ⊎ OpensAs s c new) × IsTidy s c × IsOpenedTimes (open_count x) c) }
+        → LeavesOnly D.moment D.left_since device.old device.new (OpensAsOneOf s k new (open_count x)) }
     ensures turned { (s : Sizes) (k new : Stored) (x : List ℕ) (parts : List (List ℕ))
-        → D.is_honest device.old
-        → Only (D.seen device.old) (D.may_leave device.old) → OpensBy s (D.seen device.old) x parts k
-        → bank_open x ≤ open_count x → AllBehind (open_count x) (version_of k) (D.seen device.old)
+        → D.is_honest device.old → Only (D.seen device.old) (D.may_leave device.old)
+        → OpensBy s (D.seen device.old) x parts k → bank_open x ≤ open_count x
+        → AllBehind (open_count x) (version_of k) (D.seen device.old)
         → Turns s k new x root.now (pairs writes.now)
         → OnOk result (IsTurnedTo s new root.now (open_count x) (D.seen device.new)) }
     ensures durable { D.is_honest device.old

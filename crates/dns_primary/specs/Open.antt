@@ -138,6 +138,18 @@ abbrev pub AreRecoverableAnew : {D : Type 0} → Ghosts D → ℕ → Machine �
     → List Labels → List ZoneSpec → List D → Type 0
 AreRecoverableAnew = AreRecoverableAs AnySettings
 
+-- These are the devices of the machine, which stopped within the event, so many tries ago.
+abbrev pub AreDevicesOf : {D : Type 0} → Ghosts D → ℕ → Machine → Event → List Labels → List ZoneSpec
+    → List D → Type 0
+AreDevicesOf g tries m event apexes settings devices =
+    AreRecoverable g tries m event 0 m.zones apexes settings devices
+
+-- ... whose zones had these settings or others.
+abbrev pub AreDevicesAnew : {D : Type 0} → Ghosts D → ℕ → Machine → Event → List Labels → List ZoneSpec
+    → List D → Type 0
+AreDevicesAnew g tries m event apexes settings devices =
+    AreRecoverableAnew g tries m event 0 m.zones apexes settings devices
+
 -- A crash at any moment between the two leaves each device so that it opens as a zone that this one may be
 -- recovered as.
 abbrev pub LeaveRecovered : {D : Type 0} → Ghosts D → ℕ → Machine → Event → ℕ → List ZoneState → List D

@@ -1,15 +1,17 @@
 -- Runs of the machine, and what holds of every one.
-use Rattle.std.specs.Prelude.{◌≡◌, ◌⊎◌, ◌<◌, ◌≤◌, ◌+◌, ◌-◌, ◌^◌, ℕ, suc, Bool, true, List, [], ◌∷◌, ◌++◌}
+use Rattle.std.specs.Prelude.{◌≡◌, ◌≢◌, ◌⊎◌, ◌<◌, ◌≤◌, ◌+◌, ◌-◌, ◌^◌, ℕ, suc, Bool, true, false, List}
+use Rattle.std.specs.Prelude.{[], ◌∷◌, ◌++◌}
 use Rattle.std.specs.Prelude.{length, slice_get, Some}
 use Rattle.std.specs.List.{AllByRecursion, Contains}
 use Rattle.dns_records.specs.Record.{Record}
 use Rattle.dns_names.specs.Name.{names_eq}
 use Rattle.dns_layout.specs.Sector.{snapshot_sectors}
-use Rattle.dns_wire.specs.Message.{Question, Message}
+use Rattle.dns_wire.specs.Message.{Header, Question, Message}
+use Rattle.dns_wire.specs.Text.{text}
 use Rattle.dns_request.specs.Codes.{rcode_servfail}
 use Rattle.dns_request.specs.declared.request.Transport.{Transport}
 use Rattle.dns_request.specs.declared.request.Transport.TheVariants.{Udp, Tcp}
-use Rattle.dns_answer.specs.Answer.{Update, handled}
+use Rattle.dns_answer.specs.Answer.{Update, bare_reply, handled}
 use Rattle.dns_update.specs.Verdict.{Leaves, verdict}
 use Rattle.dns_store.specs.Plain.{octets_of}
 use Rattle.dns_store.specs.Versions.{Shape}
@@ -20,7 +22,7 @@ use Rattle.dns_primary.specs.Machine.{Made, ZoneState, Waits, Machine, updates_o
 use Rattle.dns_primary.specs.Machine.{peer_at}
 use Rattle.dns_primary.specs.Flush.{Sent, Answered, Replied, is_closed_in}
 use Rattle.dns_primary.specs.Step.{Event, Datagram, Arrives, Connect, Flush, Checkpoint, Pump, Closed}
-use Rattle.dns_primary.specs.Step.{Effects, Step}
+use Rattle.dns_primary.specs.Step.{Effects, Step, arrived_update, is_update}
 use Rattle.dns_primary.specs.Stop.{IsStopped, IsConfigured}
 
 -- What happens in a run: a step, with the event, the devices that failed, what went out, and the machine
@@ -161,6 +163,22 @@ IsReleasedFrom old new (Answered w rcode) =
     × ((rcode ≡ w.rcode) ⊎ ((rcode ≡ rcode_servfail) × (is_closed_in (slice_get new.zones w.zone) ≡ true)))
     × (is_closed_in (slice_get old.zones w.zone) ≡ true → rcode ≡ rcode_servfail)
 IsReleasedFrom old new (Replied to octets) = Unit {0}
+
+-- What came in the event is an update.
+abbrev pub brings_update : Machine → Event → Bool
+brings_update m (Datagram peer octets) = is_update (handled (shown_zones m) octets Udp)
+brings_update m (Arrives number octets) = arrived_update m (peer_at number m.connections) octets
+brings_update m (Connect peer) = false
+brings_update m Flush = false
+brings_update m (Checkpoint place) = false
+brings_update m (Pump number) = false
+brings_update m (Closed number) = false
+
+-- What goes out at once is a header alone, with a code that isn't NOERROR.
+abbrev pub IsNoAcknowledgement : Sent → Type 0
+IsNoAcknowledgement (Answered w rcode) = Unit {0}
+IsNoAcknowledgement (Replied to octets) =
+    (header : Header) × (rcode : ℕ) × (rcode ≢ 0) × (octets ≡ text (bare_reply header rcode))
 
 -- How often the stores were opened in these moments.
 abbrev pub openings_in : List Moment → ℕ

@@ -1,13 +1,9 @@
 -- How the transfers that are open are stored, and what a message of one changes.
 use Rattle.std.specs.Prelude.{◌≡◌, ◌⊎◌, ℕ, Bool, List, [], Option, Some, None}
 use Rattle.dns_wire.specs.Message.{Header}
-use Rattle.dns_wire.specs.Text.{text}
-use Rattle.dns_request.specs.Codes.{rcode_servfail}
-use Rattle.dns_answer.specs.Answer.{bare_reply}
 use Rattle.dns_transfer.specs.Session.{Sending, SendsMessage}
 use Rattle.dns_primary.specs.declared.event.To.{To}
 use Rattle.dns_primary.specs.declared.event.Effects.{Effects}
-use Rattle.dns_primary.specs.declared.event.Noted.TheVariants.{OutOfMemory}
 use Rattle.dns_primary.specs.declared.transfers.OpenTransfer.{OpenTransfer}
 use Rattle.dns_primary.specs.Machine.{Machine}
 use Rattle.dns_primary.specs.Flush.{Replied}
@@ -15,7 +11,7 @@ use Rattle.dns_primary.specs.Transfer.{TransferBegins, open_still}
 use Rattle.dns_primary.specs.Step as machine
 use Rattle.dns_primary.specs.Step.{TellsFlush}
 use Rattle.dns_primary.specs.Keeps.{AreEffects, sending_on}
-use Rattle.dns_primary.specs.Steps.{LacksAlone, one_reply}
+use Rattle.dns_primary.specs.Steps.{LacksAlone, lack_reply, one_reply}
 
 -- This transfer, or none, is open on the connection with that number, and on the others those that were.
 pub record SetsOn {I : Type 0} (number : ℕ) (s : Option Sending)
@@ -41,9 +37,7 @@ abbrev pub IsAtOnce : To → Header → Sending → Effects → Type 0
 IsAtOnce to header s effects =
     ((message : List ℕ) × (rest : Sending) × SendsMessage s message rest
     × AreEffects (one_reply (Replied to message)) effects)
-    ⊎ AreEffects
-    (record (one_reply (Replied to (text (bare_reply header rcode_servfail)))) { noted = OutOfMemory })
-    effects
+    ⊎ AreEffects (lack_reply to header) effects
 
 -- What a transfer begins with, or memory was refused.
 abbrev pub TransferBeginsOrLacks : Machine → To → Header → Sending → List Bool → machine.Effects

@@ -136,6 +136,12 @@ nothing = record { sent = []; accepted = None; noted = Nothing }
 abbrev pub one_reply : Sent → machine.Effects
 one_reply reply = record { sent = reply ∷ []; accepted = None; noted = Nothing }
 
+-- SERVFAIL for want of memory, the header of a request alone.
+abbrev pub lack_reply : To → Header → machine.Effects
+lack_reply to header = record (one_reply (Replied to (text (bare_reply header rcode_servfail)))) {
+  noted = OutOfMemory;
+}
+
 -- What becomes of an update goes out after what went out before.
 abbrev pub answered_with : machine.Effects → Asked → Outcome → machine.Effects
 answered_with effects a (outcome.Waits rcode) = effects
@@ -198,8 +204,7 @@ pub record LacksAlone (fails : List Bool) (old : Machine) (to : To) (header : He
     (effects : machine.Effects) (new : Machine) : Type 0 where
   pub nothing : fails ≡ []
   pub stays : new ≡ old
-  pub is : effects
-      ≡ record (one_reply (Replied to (text (bare_reply header rcode_servfail)))) { noted = OutOfMemory }
+  pub is : effects ≡ lack_reply to header
 
 -- What becomes of a request for a transfer.
 abbrev pub IsTransferredOrLacks : Machine → Peer → To → List ℕ → Message → Question → List Bool

@@ -10,7 +10,7 @@ ghost use Rattle.dns_primary.specs.Flush.{Replied};
 ghost use Rattle.dns_primary.specs.Step.{Effects as Stated};
 ghost use Rattle.dns_primary.specs.Keeps.{AreEffects};
 ghost use Rattle.dns_primary.specs.Queue.{asked_of};
-ghost use Rattle.dns_primary.specs.Steps.{answered_with, nothing, one_reply};
+ghost use Rattle.dns_primary.specs.Steps.{answered_with, lack_reply, nothing, one_reply};
 ghost use Rattle.dns_primary.specs.declared.event.Noted.TheVariants.{OutOfMemory as StatedLack};
 
 use crate::queue::UpdateRequest;
@@ -62,10 +62,7 @@ impl Effects {
     /// SERVFAIL for want of memory, the header of a request alone.
     pub(crate) fn out_of_memory(alloc: Heap, to: To, header: &[u8; 12]) -> Effects
         requires { is_nowhere to ≡ false }
-        ensures { AreEffects
-            (record (one_reply
-            (Replied to (text (bare_reply (header_of header.now) rcode_servfail)))) { noted = StatedLack })
-            result }
+        ensures { AreEffects (lack_reply to (header_of header.now)) result }
     {
         let mut effects = Effects::refusal(alloc, to, header, Rcode::ServFail);
         effects.noted = Noted::OutOfMemory;
@@ -81,11 +78,7 @@ impl Effects {
     ) -> Effects
         requires { is_nowhere to ≡ false }
         ensures sent { IfOk reply.entry (λ octets. AreEffects (one_reply (Replied to octets.items)) result) }
-        ensures failed { IfErr reply.entry
-            (λ _. AreEffects
-            (record (one_reply
-            (Replied to (text (bare_reply (header_of header.now) rcode_servfail)))) { noted = StatedLack })
-            result) }
+        ensures failed { IfErr reply.entry (λ _. AreEffects (lack_reply to (header_of header.now)) result) }
     {
         match reply {
             Ok(octets) => Effects {

@@ -110,8 +110,7 @@ pub(crate) fn flush<I: ZoneIndex, S: ZoneStore>(
     requires as_many { length zones.old ≡ length pending.old }
     requires unused { headers.old.items ≡ [] }
     requires places { length waiting.old.items ≤ vec_capacity headers.old }
-    ensures flushed { (m : Machine)
-        → HaveVersions S.keeps zones.old pending.old m.zones
+    ensures flushed { (m : Machine) → HaveVersions S.keeps zones.old pending.old m.zones
         → Each2 IsWaiting waiting.old.items m.waiting
         → (fails : List Bool) × (length fails ≡ length m.zones)
         × FailedWhere (λ b. S.failed b.store) fails pending.old pending.new

@@ -1,5 +1,5 @@
 //! What holds of every run of the machine.
-ghost use Rattle.std.specs.Prelude.{◌≡◌, ◌≢◌, ℕ, Bool, List, None, Some, length};
+ghost use Rattle.std.specs.Prelude.{◌≡◌, ◌≢◌, ℕ, Bool, true, List, None, Some, length};
 ghost use Rattle.std.specs.List.{AllByRecursion};
 ghost use Rattle.dns_zone.specs.Zone.{Zone as StatedZone};
 ghost use Rattle.dns_store.specs.Versions.{Opened, OpensAsLeft, opened_again};
@@ -15,7 +15,8 @@ ghost use Rattle.dns_primary.specs.Open.{shape_of};
 ghost use Rattle.dns_primary.specs.Continues.{Continues, OpensOn};
 ghost use Rattle.dns_primary.specs.Causes.{HaveCauses};
 ghost use Rattle.dns_primary.specs.declared.event.Noted.TheVariants.{OutOfMemory};
-ghost use Rattle.dns_primary.specs.Runs.{IsReleasedFrom, Moment, Run, Promise, Continuation, last_of};
+ghost use Rattle.dns_primary.specs.Runs.{IsNoAcknowledgement, IsReleasedFrom, brings_update};
+ghost use Rattle.dns_primary.specs.Runs.{Moment, Run, Promise, Continuation, last_of};
 ghost use Rattle.dns_primary.specs.Bounds.{IsBounded};
 ghost use Rattle.dns_primary.specs.declared.primary.ZoneSpec.{ZoneSpec as StatedSettings};
 
@@ -65,12 +66,16 @@ pub fn stop_law()
 {}
 
 /// The reply to an update that was judged goes out at a later event than it was judged at, with the code of
-/// its judgement, or with SERVFAIL where its zone is closed then: nothing is acknowledged before it is
-/// durable.
+/// its judgement, or with SERVFAIL where its zone is closed then. What goes out at once where an update came is
+/// no acknowledgement. So nothing is acknowledged before it is durable.
 pub fn replies_wait_law()
-    ensures { (fails : List Bool) (old : Machine) (event : StatedEvent)
+    ensures released { (fails : List Bool) (old : Machine) (event : StatedEvent)
         (effects : StatedEffects) (new : Machine)
         → Step fails old event effects new → AllByRecursion (IsReleasedFrom old new) effects.sent }
+    ensures at_once { (fails : List Bool) (old : Machine) (event : StatedEvent)
+        (effects : StatedEffects) (new : Machine)
+        → Step fails old event effects new → brings_update old event ≡ true
+        → AllByRecursion IsNoAcknowledgement effects.sent }
 {}
 
 /// Where memory is not refused, SERVFAIL comes only for a closed zone, for want of room, or for a reply by

@@ -10,7 +10,7 @@ ghost use Rattle.dns_primary.specs.Steps.{SteppedBy};
 ghost use Rattle.dns_primary.specs.HandOut.{AreSetAs};
 ghost use Rattle.dns_primary.specs.Stop.{IsConfigured, IsStopped};
 ghost use Rattle.dns_primary.specs.Keeps.{IsKept};
-ghost use Rattle.dns_primary.specs.Open.{AreOpened, AreRecoverable, AreRecoverableAnew, AreRefused};
+ghost use Rattle.dns_primary.specs.Open.{AreDevicesOf, AreDevicesAnew, AreOpened, AreRefused};
 ghost use Rattle.dns_primary.specs.Open.{IsNotOpened, IsOpened};
 ghost use Rattle.dns_primary.specs.Open.{IsRecoveryStopped, LeaveRecovered, count_of};
 ghost use Rattle.dns_primary.specs.Open.{device_of_pending, devices_of};
@@ -171,30 +171,24 @@ impl<D: Sectors + Drop, I: ZoneIndex> Primary<I, KeptStore<D, I>> {
         // On the devices of a machine that stopped, with so many tries since, it is a machine that recovered
         // from that stop; refused, the devices are such devices still, and this was one try more.
         ensures recovered { (m : Machine) (event : StatedEvent) (tries : ℕ)
-            → AreRecoverable D.Sectors tries m event 0 m.zones apexes.now settings.entry.items
-            devices.entry.items
+            → AreDevicesOf D.Sectors tries m event apexes.now settings.entry.items devices.entry.items
             → MatchResult result (λ p. (new : Machine) × IsStopped tries m event new × IsKept p new)
-            (λ e. AreRecoverable D.Sectors (suc tries) m event 0 m.zones apexes.now
-            settings.entry.items e.devices.items
+            (λ e. AreDevicesOf D.Sectors (suc tries) m event apexes.now settings.entry.items e.devices.items
             × IsRecoveryStopped tries e.error e.place m.zones) }
         // Where it had other settings, it is that machine, which was then given these.
         ensures configured { (m : Machine) (event : StatedEvent) (tries : ℕ)
-            → AreRecoverableAnew D.Sectors tries m event 0 m.zones apexes.now settings.entry.items
-            devices.entry.items
+            → AreDevicesAnew D.Sectors tries m event apexes.now settings.entry.items devices.entry.items
             → MatchResult result
             (λ p. (old new : Machine) × IsStopped tries m event old × IsConfigured old new × IsKept p new)
-            (λ e. AreRecoverableAnew D.Sectors (suc tries) m event 0 m.zones apexes.now
-            settings.entry.items e.devices.items
+            (λ e. AreDevicesAnew D.Sectors (suc tries) m event apexes.now settings.entry.items e.devices.items
             × IsRecoveryStopped tries e.error e.place m.zones) }
         // A crash at any moment of it leaves each device as one that a crash might have left before.
         ensures any_moment { (m : Machine) (event : StatedEvent) (tries : ℕ)
-            → AreRecoverableAnew D.Sectors tries m event 0 m.zones apexes.now settings.entry.items
-            devices.entry.items
+            → AreDevicesAnew D.Sectors tries m event apexes.now settings.entry.items devices.entry.items
             → MatchResult result
             (λ p. LeaveRecovered D.Sectors (suc tries) m event 0 m.zones devices.entry.items
             (map (λ b. device_of_pending b) p.pending.items))
-            (λ e. LeaveRecovered D.Sectors (suc tries) m event 0 m.zones devices.entry.items
-            e.devices.items) }
+            (λ e. LeaveRecovered D.Sectors (suc tries) m event 0 m.zones devices.entry.items e.devices.items) }
         // Why it is refused, on any devices.
         ensures refused { IfErr result
             (λ e. AreRefused D.Sectors e.error e.place apexes.now settings.entry.items
@@ -235,12 +229,12 @@ impl<D: Sectors + Drop, I: ZoneIndex> Primary<I, KeptStore<D, I>> {
         ensures at_rest { (m : Machine) (event : StatedEvent) (apexes : List Labels)
             (settings : List StatedSettings)
             → IsKept self m → AreSetAs apexes settings m.zones
-            → AreRecoverable D.Sectors 0 m event 0 m.zones apexes settings (devices_of self) }
+            → AreDevicesOf D.Sectors 0 m event apexes settings (devices_of self) }
         // Within the event that led here: the machine from which it came.
         ensures within { (m : Machine) (event : StatedEvent) (before : _) (effects : StatedEffects)
             (apexes : List Labels) (settings : List StatedSettings)
             → SteppedBy m event before self effects → AreSetAs apexes settings m.zones
-            → AreRecoverable D.Sectors 0 m event 0 m.zones apexes settings (devices_of self) }
+            → AreDevicesOf D.Sectors 0 m event apexes settings (devices_of self) }
     {
         let Primary {
             zones: _,

@@ -16,7 +16,7 @@ ghost use Rattle.dns_primary.specs.Flush.{Replied};
 ghost use Rattle.dns_primary.specs.Transfer.{OpensFrom, is_free, refusal_of, transport_of, transfer_version};
 ghost use Rattle.dns_primary.specs.Step.{Step, Pump};
 ghost use Rattle.dns_primary.specs.Keeps.{AreEffects, IsKept, HasConnection, sending_on};
-ghost use Rattle.dns_primary.specs.Steps.{IsTransferredOrLacks, Stepped, nothing, one_reply};
+ghost use Rattle.dns_primary.specs.Steps.{IsTransferredOrLacks, Stepped, lack_reply, nothing, one_reply};
 ghost use Rattle.dns_primary.specs.Sending.{EndsOn, IsAtOnce, SendsOn, TransferBeginsOrLacks};
 
 use crate::admission::place_of;
@@ -198,11 +198,7 @@ fn refusal(alloc: Heap, to: To, request: &RequestMessage<'_>, rcode: Rcode) -> E
     ensures { AreEffects (one_reply (Replied to
         (refusal_of (transport_of to) request.now.message.octets request.now.message.message
         request.now.question rcode))) result
-        ⊎ AreEffects
-        (record (one_reply
-        (Replied to (text (bare_reply request.now.message.message.header rcode_servfail))))
-        { noted = StatedLack })
-        result }
+        ⊎ AreEffects (lack_reply to request.now.message.message.header) result }
 {
     let header = header_octets(request);
     match rcode {

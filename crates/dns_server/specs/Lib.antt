@@ -11,6 +11,7 @@ pub mod Init
 pub mod Migrate
 pub mod Dump
 pub mod Log
+pub mod Inputs
 pub mod FetchFaults
 pub mod TakingIn
 pub mod Fetch

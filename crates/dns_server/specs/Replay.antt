@@ -11,6 +11,7 @@ use Rattle.dns_names.specs.Name.{Labels}
 use Rattle.dns_policy.specs.Prefix.{IsAllowed}
 use Rattle.dns_versions.specs.Each.{Each3}
 use Rattle.dns_primary.specs.Machine.{Machine, ZoneState}
+use Rattle.dns_primary.specs.Fresh.{IsFresh}
 use Rattle.dns_primary.specs.Runs.{Run}
 use Rattle.dns_store.specs.declared.formatting.FormatError.{FormatError}
 use Rattle.dns_configuration.specs.declared.configuration.ZoneSettings.{ZoneSettings}
@@ -109,6 +110,17 @@ pub record ScriptEnds (origins : List Labels) (crash : Crash) (devices : List (L
       ⊎ (Ran origins crash m ending.Refused (option_copied script.octets) out out_after × Keeps err err_after)
       ⊎ (IsUnmadeTold devices err err_after × Keeps out out_after)
   pub others : status ≤ 1 ⊎ (status ≡ 3)
+
+-- From each machine of these zones to which nothing has happened the run of the script ends so.
+abbrev pub EndsFromFresh : {D : Type 0} → Ghosts D → (D → told.Keep → Content) → List Zone
+    → List primary.ZoneSpec → List ZoneSettings → File → Option (List ℕ) → Option (List ℕ) → Option (List ℕ)
+    → Option (List ℕ) → ℕ → Type 0
+EndsFromFresh g kept zones known own script out out_after err err_after status =
+    (m : Machine)
+    → IsFresh zones known m
+    → ScriptEnds (map (λ (z : Zone). z.apex) zones)
+    (IsCrash g kept (map (λ (z : Zone). z.apex) zones) known)
+    (device_paths own) m script out out_after err err_after status
 
 -- The zones of the configuration that a file holds, what a primary is told of each, and how a run of a script
 -- ends that begins with them: there is a machine of these zones to which nothing has happened, and from each

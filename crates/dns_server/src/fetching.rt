@@ -13,6 +13,7 @@ ghost use Rattle.dns_server.specs.TakingIn.{IsRefusedFrom, IsTakenFrom};
 use crate::fetch_faults::{FetchFault, tell_fetch};
 use crate::servers::{Servers, WaitingStream};
 use crate::taking_in::take_in;
+use crate::watching::Watch;
 use dns_configuration::{DONE, FAILED, Fault, File, apex, load, tell};
 use dns_masterfile::print_zone;
 use dns_memory::Heap;
@@ -46,12 +47,13 @@ fn held_version<I: ZoneIndex>(
 }
 
 /// Takes in the zone of that apex from the server at an address.
-fn take_from<S: WaitingStream + Drop, V: Servers<S>, I: ZoneIndex>(
+fn take_from<S: WaitingStream + Drop, V: Servers<S>, I: ZoneIndex, P: Watch>(
     heap: Heap,
     servers: &V,
     address: SocketAddr,
     apex: Name,
     held: Option<Zone<I>>,
+    watch: &mut P,
 ) -> Result<Secondary<I>, FetchFault>
     ensures taken { IfOk result (λ s. (zone : Stated) × (s.held ≡ Some zone)
         × IsTakenFrom S.Stream (V.reached servers.now address) apex held zone.records) }
@@ -62,7 +64,9 @@ fn take_from<S: WaitingStream + Drop, V: Servers<S>, I: ZoneIndex>(
         drop((apex, held));
         return Err(FetchFault::Unavailable);
     };
-    take_in(heap, &mut stream, apex, held)
+    let taken = take_in(heap, &mut stream, apex, held, watch);
+    watch.end();
+    taken
 }
 
 /// Prints the zone that was taken in, and gives the exit status.
@@ -93,13 +97,14 @@ fn tell_since<E: Write>(err: &mut E, since: Option<&File<'_>>, fault: Fault) -> 
 }
 
 /// Takes in a zone and prints it, and gives the exit status.
-fn fetched<S: WaitingStream + Drop, V: Servers<S>, I: ZoneIndex, W: Write, E: Write>(
+fn fetched<S: WaitingStream + Drop, V: Servers<S>, I: ZoneIndex, P: Watch, W: Write, E: Write>(
     heap: Heap,
     servers: &V,
     server: &str,
     origin: &str,
     since: Option<&File<'_>>,
     explain: bool,
+    watch: &mut P,
     out: &mut W,
     err: &mut E,
 ) -> io::Result<u8>
@@ -119,7 +124,7 @@ fn fetched<S: WaitingStream + Drop, V: Servers<S>, I: ZoneIndex, W: Write, E: Wr
         Ok(held) => held,
         Err(fault) => return tell_since(err, since, fault),
     };
-    match take_from::<S, V, I>(heap, servers, address, name, held) {
+    match take_from::<S, V, I, P>(heap, servers, address, name, held, watch) {
         Ok(secondary) => show_taken(&secondary, out),
         Err(fault) => tell_fetch(err, server, fault, explain),
     }
@@ -134,14 +139,15 @@ fn fetched<S: WaitingStream + Drop, V: Servers<S>, I: ZoneIndex, W: Write, E: Wr
 /// Unavailable`, `Closed`, `TimedOut`, or by its name the fault for which the answer was refused. For a fault
 /// of the server a second line, if it is wanted, says what can be done. Gives the exit status: `DONE`,
 /// `REFUSED`, or `FAILED` where the server can't be reached or doesn't answer to the end, a writer failed or
-/// memory was refused.
-pub fn fetch<S: WaitingStream + Drop, V: Servers<S>, I: ZoneIndex, W: Write, E: Write>(
+/// memory was refused. `watch` is told of the records as they come.
+pub fn fetch<S: WaitingStream + Drop, V: Servers<S>, I: ZoneIndex, P: Watch, W: Write, E: Write>(
     heap: Heap,
     servers: &V,
     server: &str,
     origin: &str,
     since: Option<&File<'_>>,
     explain: bool,
+    watch: &mut P,
     out: &mut W,
     err: &mut E,
 ) -> u8
@@ -149,7 +155,8 @@ pub fn fetch<S: WaitingStream + Drop, V: Servers<S>, I: ZoneIndex, W: Write, E: 
         (option_copied since.entry) explain (W.contents out.old) (W.contents out.new)
         (E.contents err.old) (E.contents err.new) result }
 {
-    fetched::<S, V, I, W, E>(heap, servers, server, origin, since, explain, out, err).unwrap_or(
-        FAILED,
+    fetched::<S, V, I, P, W, E>(
+        heap, servers, server, origin, since, explain, watch, out, err,
     )
+    .unwrap_or(FAILED)
 }

@@ -1,6 +1,10 @@
 //! The files that a run reads.
+ghost use Rattle.std.specs.Prelude.{◌≡◌, map, IfOk};
+ghost use Rattle.std.specs.Option.{option_copied};
+ghost use Rattle.std.specs.String.{string_bytes};
+ghost use Rattle.dns_server.specs.Inputs.{AreFilesOf, file_paths};
 
-use dns_configuration::{Configuration, ConfigurationError, File};
+use dns_configuration::{Fault, File, ZoneSettings, read_configuration};
 use dns_memory::Heap;
 use std::{fs, io};
 
@@ -34,27 +38,38 @@ pub fn octets_in(rt: &HostRuntime, folder: &str, name: &str) -> io::Result<Optio
     octets(rt, &path)
 }
 
+/// The paths of the master files of these zones, in their order, and the octets of each in the folder.
+fn files_of(
+    rt: &HostRuntime,
+    folder: &str,
+    zones: &[ZoneSettings],
+) -> io::Result<Vec<(String, Option<Vec<u8>>)>>
+    ensures { IfOk result
+        (λ files. map (λ file. string_bytes file.0) files.items ≡ file_paths zones.now) }
+{
+    let mut files = Vec::new(rt.alloc());
+    for zone in zones {
+        let octets = octets_in(rt, folder, &zone.file)?;
+        files.push((zone.file.clone()?, octets))?;
+    }
+    Ok(files)
+}
+
 /// The paths of the master files that a configuration names, and the octets of each, in the folder in which
-/// the paths begin; none where the configuration is refused. Refused memory is an error.
+/// the paths begin; none where the configuration can't be read or is refused. Refused memory is an error, and
+/// not a configuration without files.
 pub fn master_files(
     rt: &HostRuntime,
     heap: Heap,
     folder: &str,
     config: &File<'_>,
-) -> io::Result<Vec<(String, Option<Vec<u8>>)>> {
-    let mut files = Vec::new(rt.alloc());
-    let Some(text) = config.octets else {
-        return Ok(files);
-    };
-    match Configuration::read(rt.alloc(), heap, text) {
-        Ok(configuration) => {
-            for zone in configuration.zones {
-                let octets = octets_in(rt, folder, &zone.file)?;
-                files.push((zone.file, octets))?;
-            }
-            Ok(files)
-        }
-        Err(ConfigurationError::OutOfMemory) => Err(io::ErrorKind::OutOfMemory.into()),
-        Err(ConfigurationError::BadConfig) => Ok(files),
+) -> io::Result<Vec<(String, Option<Vec<u8>>)>>
+    ensures { IfOk result (λ files.
+        AreFilesOf (option_copied config.now.octets) (map (λ file. string_bytes file.0) files.items)) }
+{
+    match read_configuration(rt.alloc(), heap, config) {
+        Ok(configuration) => files_of(rt, folder, &configuration.zones),
+        Err(Fault::OutOfMemory) => Err(io::ErrorKind::OutOfMemory.into()),
+        Err(_) => Ok(Vec::new(rt.alloc())),
     }
 }

@@ -26,6 +26,7 @@ mod serving;
 mod sockets;
 mod stores;
 mod taking_in;
+mod watching;
 
 pub use change::change_to;
 pub use checking::{Index, check};
@@ -45,3 +46,4 @@ pub use next_version::{Loaded, load_zone};
 pub use replaying::replay;
 pub use servers::{Servers, Tcp, TcpSocket, WaitingStream};
 pub use serving::serve;
+pub use watching::Watch;

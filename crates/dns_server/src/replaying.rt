@@ -3,7 +3,7 @@ ghost use Rattle.std.specs.Prelude.{◌≡◌, ◌⊎◌, length, map, IfOk};
 ghost use Rattle.dns_primary.specs.Machine.{Machine};
 ghost use Rattle.dns_primary.specs.Fresh.{IsFresh};
 ghost use Rattle.dns_replay.specs.Crashes.{IsCrash};
-ghost use Rattle.dns_server.specs.Replay.{IsUnmadeTold, ReplayEnds, ScriptEnds, device_paths};
+ghost use Rattle.dns_server.specs.Replay.{EndsFromFresh, IsUnmadeTold, ReplayEnds, device_paths};
 
 use crate::checking::Index;
 use crate::{DeviceFault, tell_device};
@@ -43,13 +43,9 @@ fn run<W: Write, E: Write>(
 ) -> io::Result<u8>
     requires { length zones.items ≡ length known.items }
     ensures { IfOk result
-        (λ status. (m : Machine)
-        → IsFresh zones.entry.items known.entry.items m
-        → ScriptEnds (map (λ z. z.apex) zones.entry.items)
-        (IsCrash ⟦<MemorySectors as Sectors>⟧ ⟦<MemorySectors as ScriptDevice>⟧.left_by
-        (map (λ z. z.apex) zones.entry.items) known.entry.items)
-        (device_paths own.now) m script.now (W.contents out.old) (W.contents out.new) (E.contents err.old)
-        (E.contents err.new) status) }
+        (EndsFromFresh ⟦<MemorySectors as Sectors>⟧ ⟦<MemorySectors as ScriptDevice>⟧.left_by
+        zones.entry.items known.entry.items own.now script.now (W.contents out.old) (W.contents out.new)
+        (E.contents err.old) (E.contents err.new)) }
 {
     let Some(lines) = script.octets else {
         return tell(err, script.path, Fault::Unreadable);

@@ -9,6 +9,7 @@ ghost use Rattle.dns_server.specs.TakingIn.{IsTakenIn, Tells, TellRefusal};
 
 use crate::fetch_faults::FetchFault;
 use crate::servers::WaitingStream;
+use crate::watching::{Watch, records_in};
 use dns_memory::Heap;
 use dns_names::Name;
 use dns_network::{Framing, Moved, Octets, Outbox, framing_law};
@@ -109,11 +110,12 @@ fn hear<I: ZoneIndex>(
 }
 
 /// Reads the answer piece by piece, until it is at its end.
-fn hear_all<S: WaitingStream, I: ZoneIndex>(
+fn hear_all<S: WaitingStream, I: ZoneIndex, P: Watch>(
     heap: Heap,
     stream: &mut S,
     piece: &mut [u8],
     secondary: &mut Secondary<I>,
+    watch: &mut P,
 ) -> Result<(), FetchFault>
     ensures told { IfOk result
         (λ _. HasHeardEnd S.Stream stream.old secondary.old stream.new secondary.new) }
@@ -125,6 +127,7 @@ fn hear_all<S: WaitingStream, I: ZoneIndex>(
     'pieces: for _ in 0..u64::MAX {
         let count = read_some(stream, piece)?;
         let messages = framing.feed(heap, &piece[..count])?;
+        watch.heard(records_in(messages.as_slice()));
         if hear(heap, secondary, &messages)? {
             return Ok(());
         }
@@ -133,10 +136,11 @@ fn hear_all<S: WaitingStream, I: ZoneIndex>(
 }
 
 /// Reads the answer until it is at its end, with room for one piece of it.
-fn listen<S: WaitingStream, I: ZoneIndex>(
+fn listen<S: WaitingStream, I: ZoneIndex, P: Watch>(
     heap: Heap,
     stream: &mut S,
     secondary: &mut Secondary<I>,
+    watch: &mut P,
 ) -> Result<(), FetchFault>
     ensures told { IfOk result
         (λ _. HasHeardEnd S.Stream stream.old secondary.old stream.new secondary.new) }
@@ -145,16 +149,17 @@ fn listen<S: WaitingStream, I: ZoneIndex>(
 {
     let mut piece = Vec::new(heap);
     piece.resize(PIECE, 0)?;
-    hear_all(heap, stream, &mut piece, secondary)
+    hear_all(heap, stream, &mut piece, secondary, watch)
 }
 
 /// Takes in the zone of that apex: asks for the changes of the version that is held, or for the whole zone
 /// where none is, and reads the answer up to its end. One who holds the zone is given back.
-pub(crate) fn take_in<S: WaitingStream, I: ZoneIndex>(
+pub(crate) fn take_in<S: WaitingStream, I: ZoneIndex, P: Watch>(
     heap: Heap,
     stream: &mut S,
     apex: Name,
     held: Option<Zone<I>>,
+    watch: &mut P,
 ) -> Result<Secondary<I>, FetchFault>
     ensures taken { IfOk result
         (λ s. (zone : Stated) × (s.held ≡ Some zone)
@@ -165,6 +170,6 @@ pub(crate) fn take_in<S: WaitingStream, I: ZoneIndex>(
     taken_law();
     let mut secondary = Secondary::new(heap, apex, held, REQUEST_NUMBER, Transport::Tcp)?;
     ask(heap, stream, &secondary)?;
-    listen(heap, stream, &mut secondary)?;
+    listen(heap, stream, &mut secondary, watch)?;
     Ok(secondary)
 }

@@ -39,6 +39,10 @@ NamesSpoiltIn f d from until (Damaged place) = IsSpoilt f d from until place
 NamesSpoiltIn f d from until Geometry = ⊥
 NamesSpoiltIn f d from until OutOfMemory = ⊥
 
+-- So is such a sector; or the device failed, or memory was refused.
+abbrev pub RefusesSpoilt : Format → Content → ℕ → ℕ → OpenError → Type 0
+RefusesSpoilt f d from until e = (e ≡ Device) ⊎ (e ≡ OutOfMemory) ⊎ NamesSpoiltIn f d from until e
+
 -- The sector is neither zeros nor its own, and isn't the one that was there before.
 pub record IsAlteredAt (f : Format) (before now : Content) (place : ℕ) : Type 0 where
   pub spoilt : IsIntactIn f place (sector_at now place) → ⊥

@@ -47,7 +47,7 @@ impl<D: Sectors, I: ZoneIndex> KeptStore<D, I> {
     ghost use Rattle.dns_store.specs.Versions.{Shape, Kept, Opened, version_at};
     ghost use Rattle.dns_store.specs.Recovered.{AreLed};
     ghost use Rattle.dns_store.specs.Opens.{IsPartOf, base_of, sizes_of, fresh};
-    ghost use Rattle.dns_store.specs.Opening.{store_device, keeps};
+    ghost use Rattle.dns_store.specs.Opening.{KeepsFrom, store_device, keeps};
     ghost use Rattle.dns_journal.specs.State.{newest_number_of};
 
     // The store of a device whose root was raised: it keeps what the device opens as.
@@ -69,17 +69,7 @@ impl<D: Sectors, I: ZoneIndex> KeptStore<D, I> {
         ensures base { result.base ≡ base }
         ensures changes { result.changes ≡ changes.entry }
         ensures newest { newest_number_of result.journal ≡ next.version }
-        ensures keeps { (shape : Shape) (o : Opened) (s : Stored) (x : List ℕ) (parts : List (List ℕ))
-            → D.is_honest device → Only (D.seen device) (D.may_leave device)
-            → OpensBy (sizes_of shape) (D.seen device) x parts s → SaysRoot x root
-            → bank_open x ≤ open_count x
-            → AllBehind (open_count x) (version_of s) (D.seen device) → IsPartOf shape o s
-            → next.until ≡ bank_end (sizes_of shape) (number x)
-            → next.at ≡ place_behind (journal_place (sizes_of shape) (number x)) s.entries
-            → next.version ≡ version_of s → next.opened ≡ open_count x → open_count x ≡ o.openings
-            → base ≡ record { apex = shape.apex; records = base_of o }
-            → AreLed (base_of o) (drop o.base o.versions) changes.entry.items
-            → keeps result (fresh shape o) }
+        ensures keeps { KeepsFrom device next root base changes.entry.items result }
     {
         KeptStore {
             alloc,

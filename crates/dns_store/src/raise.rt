@@ -6,7 +6,7 @@ ghost use Rattle.dns_layout.specs.Sector.{open_count, bank_open};
 ghost use Rattle.dns_layout.specs.Forms.{SaysRoot};
 ghost use Rattle.dns_layout.specs.Journal.{AllBehind};
 ghost use Rattle.dns_layout.specs.Store.{Sizes, Stored, OpensBy, IsTidy};
-ghost use Rattle.dns_store.specs.Turn.{IsRaised, StaysStored, other_bank_of};
+ghost use Rattle.dns_store.specs.Turn.{OpensRaised, IsRaised, StaysStored, other_bank_of};
 
 use dns_journal::clear_bank;
 use dns_layout::{Bank, Root};
@@ -22,10 +22,7 @@ pub(crate) fn raise_root<D: Sectors>(device: &mut D, root: &mut Root) -> Result<
     ensures raised { (s : Sizes) (k : Stored) (x : List ℕ) (parts : List (List ℕ)) → D.is_honest device.old
         → Only (D.seen device.old) (D.may_leave device.old)
         → OpensBy s (D.seen device.old) x parts k → IsTidy s (D.seen device.old) → SaysRoot x root.old
-        → OnOk result
-        ((y : List ℕ) × SaysRoot y root.new × IsRaised x y × OpensBy s (D.seen device.new) y parts k
-        × (bank_open y ≤ open_count y)
-        × ((version : ℕ) → AllBehind (open_count y) version (D.seen device.new))) }
+        → OnOk result (OpensRaised s k x parts root.new (D.seen device.new)) }
     ensures durable { D.is_honest device.old
         → OnOk result (Only (D.seen device.new) (D.may_leave device.new)) }
     ensures root { root.new ≡ record root.old { open_count = root.old.open_count + 1; is_clear = true } }

@@ -15,6 +15,7 @@ ghost use Rattle.dns_store.specs.Opens.{AreChangesIn};
 ghost use Rattle.dns_store.specs.Recovered.{IsNewestRecovered};
 ghost use Rattle.dns_store.specs.Root.{IsOfBank};
 ghost use Rattle.dns_store.specs.Damage.{NamesSector, NamesSpoiltIn, NamesWrongEntryIn, IsReachedEntryIn};
+ghost use Rattle.dns_store.specs.Damage.{RefusesSpoilt};
 
 use crate::OpenError;
 use crate::incremental_check::next_zone;
@@ -110,9 +111,7 @@ pub(crate) fn read_versions<D: Sectors, I: ZoneIndex>(
         → (vs : Versions) (es : List Entry) → ReadsFrom format cursor.old c es
         → AreChangesIn format base.apex room base.records vs es
         → MatchResult result (λ r. IsNewestRecovered cursor.old cursor.new base.records vs es r.0.records
-        r.1.items)
-        (λ e. (e ≡ OpenError.Device) ⊎ (e ≡ OpenError.OutOfMemory)
-        ⊎ NamesSpoiltIn format (D.seen device.old) cursor.old.at cursor.old.until e) }
+        r.1.items) (RefusesSpoilt format (D.seen device.old) cursor.old.at cursor.old.until) }
     ensures until { cursor.new.until ≡ cursor.old.until }
     ensures refused { IfErr result IsOfBank }
     // `Damaged` names a sector that is neither zeros nor its own, or that of the first entry that is wrong.

@@ -9,10 +9,6 @@ ghost use Rattle.dns_transfer.specs.Progress.{IsShort, HasFewer};
 /// that any zone can have fits a message, and the question with it.
 pub fn progress_law()
     ensures { (heading : Heading) (question : Option EchoedQuestion) (left rest more : List Record)
-        (r : Record) (message : List ℕ)
-        → IsShort question
-        → left ≡ r ∷ more
-        → IsRecord r
-        → IsNextMessage heading question left message rest
-        → HasFewer rest left }
+        (r : Record) (message : List ℕ) → IsShort question → left ≡ r ∷ more → IsRecord r
+        → IsNextMessage heading question left message rest → HasFewer rest left }
 {}

@@ -95,3 +95,6 @@ formless_rdata places at r is = rdata_by_form (form r.rtype) places at r.rdata �
 
 pub nameless_rdata : (places : List Place) (at : ℕ) (r : Record) (parts : List Part) → form r.rtype ≡ Some (stated_fields parts) → list_any (λ f. is_name (stated_field f)) parts ≡ false → compressed_rdata places at r ≡ plain_octets places r.rdata
 nameless_rdata places at r parts is none = rdata_by_form (form r.rtype) places at r.rdata ∙ ap (λ f. by_form f places at r.rdata) is ∙ nameless places at parts r.rdata none
+
+pub formed_rdata : (places : List Place) (at : ℕ) (r : Record) (fields : List Field) → form r.rtype ≡ Some fields → compressed_rdata places at r ≡ compressed_fields places at fields r.rdata
+formed_rdata places at r fields is = rdata_by_form (form r.rtype) places at r.rdata ∙ ap (λ f. by_form f places at r.rdata) is

@@ -10,6 +10,7 @@ ghost use Rattle.dns_wire.specs.Text.{text};
 
 use crate::compression_targets::Places;
 use crate::compressor::Compressor;
+use crate::octets::Octets;
 use crate::writer::header;
 use crate::{Reply, ReplyRecord, WriteError};
 use dns_memory::Heap;
@@ -116,7 +117,7 @@ fn octets_of(contents: Contents<'_>) -> Vec<u8, Heap>
         answer: &answer,
         ..head
     };
-    finished(&reply, compressor.octets)
+    finished(&reply, compressor.octets.into_vec())
 }
 
 impl<'a> MessageBuilder<'a> {
@@ -146,7 +147,7 @@ impl<'a> MessageBuilder<'a> {
         ensures refused { IfErr result (RefusesUpTo limit (length (text (stated reply.entry)))) }
     {
         let mut compressor = Compressor {
-            octets: Vec::with_capacity(alloc, limit)?,
+            octets: Octets::with_room(alloc, limit)?,
             places: Places::new(alloc, FEW_PLACES),
             limit,
         };

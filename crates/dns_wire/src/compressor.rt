@@ -9,18 +9,19 @@ use crate::WriteError;
 use crate::compression_targets::Places;
 use crate::fields::two_octets;
 use crate::name::POINTER_BITS;
-use dns_memory::Heap;
+use crate::octets::Octets;
 
 /// A message while it is written: its octets so far, and the targets that pointers can name.
 #[derive(Drop)]
 pub(crate) struct Compressor<'a> {
-    pub(crate) octets: Vec<u8, Heap>,
+    pub(crate) octets: Octets,
     pub(crate) places: Places<'a>,
     pub(crate) limit: usize,
 }
 
 impl<'a> Compressor<'a> {
     /// Writes octets as they are.
+    #[inline(always)]
     pub(crate) fn put(&mut self, octets: &[u8]) -> Result<(), WriteError>
         requires { length self.old.octets.items ≤ self.old.limit }
         ensures written { OnOk result
@@ -32,7 +33,7 @@ impl<'a> Compressor<'a> {
         if self.limit - self.octets.len() < octets.len() {
             return Err(WriteError::DoesNotFit);
         }
-        self.octets.extend_from_slice(octets)?;
+        self.octets.put(octets)?;
         Ok(())
     }
 
@@ -52,7 +53,7 @@ impl<'a> Compressor<'a> {
         self.put(octets)
     }
 
-    /// Writes a pointer to an offset (RFC 1035 section 4.1.4), octet by octet, which costs no call.
+    /// Writes a pointer to an offset (RFC 1035 section 4.1.4).
     #[inline(always)]
     fn put_pointer(&mut self, offset: usize) -> Result<(), WriteError>
         requires low { offset < 16384 }
@@ -63,14 +64,8 @@ impl<'a> Compressor<'a> {
         ensures refused { IfErr result
             (RefusesUpTo self.old.limit (length self.old.octets.items + 2)) }
     {
-        if self.limit - self.octets.len() < 2 {
-            return Err(WriteError::DoesNotFit);
-        }
         let [high, low] = pointer(offset);
-        self.octets.reserve(2)?;
-        self.octets.push_reserved(high);
-        self.octets.push_reserved(low);
-        Ok(())
+        self.put(&[high, low])
     }
 
     /// Writes a name: the fewest labels, and a pointer to the rest where some rest occurs earlier (RFC 1035

@@ -1,9 +1,12 @@
 //! A record written after a message's octets, its names compressed.
-ghost use Rattle.std.specs.Prelude.{◌≡◌, ℕ, ◌+◌, ◌-◌, ◌<◌, ◌≤◌, ◌++◌, length, take, drop, IfErr, IfSome, OnOk};
+ghost use Rattle.std.specs.Prelude.{◌≡◌, ℕ, ◌+◌, ◌-◌, ◌<◌, ◌≤◌, List, [], ◌∷◌, ◌++◌, length, take, drop, IfErr};
+ghost use Rattle.std.specs.Prelude.{IfSome, OnOk};
 ghost use Rattle.std.specs.Int.{w16, to_be_bytes as be_octets};
 ghost use Rattle.dns_names.specs.Name.{labels_of, wire};
 ghost use Rattle.dns_names.specs.Plain.{IsPlain};
 ghost use Rattle.dns_records.specs.Record.{AreFields};
+ghost use Rattle.dns_records.specs.Types.{Value, Values, Name};
+ghost use Rattle.dns_records.specs.Typed.{is_name_type};
 ghost use Rattle.std.specs.List.{list_any};
 ghost use Rattle.dns_records.specs.Fields.{stated_field, stated_fields};
 ghost use Rattle.dns_wire.specs.Compress.{compressed_fields, compressed_rdata, compressed_record};
@@ -14,7 +17,7 @@ use crate::compressor::Compressor;
 use crate::name::POINTER_BITS;
 use crate::{ReplyRecord, WriteError};
 use byteorder::{BigEndian, ByteOrder};
-use dns_records::types::{A, CLASS_IN};
+use dns_records::types::{A, CLASS_IN, CNAME, NS, PTR, SOA};
 use dns_records::{Field, count_within, form};
 
 /// The name at the front of plain octets, and the octets after it.
@@ -65,6 +68,13 @@ fn have_name(fields: &[Field]) -> bool
     ensures { result ≡ list_any (λ f. is_name (stated_field f)) fields.now }
 {
     fields.iter().any(|field| matches!(field, Field::Name))
+}
+
+/// Whether the data of the type is one name, which a message may compress.
+fn is_one_name(rtype: u16) -> bool
+    ensures { result ≡ is_name_type rtype }
+{
+    (rtype == NS) | (rtype == CNAME) | (rtype == PTR)
 }
 
 impl<'a> Compressor<'a> {
@@ -118,12 +128,12 @@ impl<'a> Compressor<'a> {
         ensures limit { self.new.limit ≡ self.old.limit }
     {
         let size = (self.octets.len() - start) as u16;
-        BigEndian::write_u16(&mut self.octets.as_mut_slice()[start - 2..start], size);
+        self.octets.set_two(start, size);
     }
 
     /// Writes the data of a record, by the form of its type: in one piece, where there is no name to
     /// compress.
-    fn put_rdata(&mut self, one: &ReplyRecord<'a>) -> Result<(), WriteError>
+    fn put_by_form(&mut self, one: &ReplyRecord<'a>) -> Result<(), WriteError>
         requires room { length self.old.octets.items ≤ self.old.limit }
         ensures written { OnOk result
             (Wrote self.old.limit self.old.octets.items self.new.octets.items self.new.limit self.new.places
@@ -138,6 +148,49 @@ impl<'a> Compressor<'a> {
             Some(fields) if have_name(fields) => self.put_fields(fields, rdata),
             _ => self.put(rdata),
         }
+    }
+
+    /// Writes data that is two names and numbers after them, as that of a SOA (RFC 1035 section 3.3.13).
+    fn put_two_names(&mut self, rdata: &'a [u8]) -> Result<(), WriteError>
+        requires form { (vs : List Value) × AreFields (Name ∷ Name ∷ Values vs ∷ []) rdata.now }
+        requires room { length self.old.octets.items ≤ self.old.limit }
+        ensures written { (vs : List Value) → OnOk result
+            (Wrote self.old.limit self.old.octets.items self.new.octets.items self.new.limit self.new.places
+            (compressed_fields self.old.places (length self.old.octets.items)
+            (Name ∷ Name ∷ Values vs ∷ []) rdata.now)) }
+        ensures refused { (vs : List Value) → IfErr result
+            (RefusesUpTo self.old.limit
+            (length self.old.octets.items
+            + length (compressed_fields self.old.places (length self.old.octets.items)
+            (Name ∷ Name ∷ Values vs ∷ []) rdata.now).octets)) }
+    {
+        let (first, rest) = split_name(rdata);
+        self.put_name(first)?;
+        let (second, numbers) = split_name(rest);
+        self.put_name(second)?;
+        self.put(numbers)
+    }
+
+    /// Writes the data of a record. That of a type whose data is a name alone, and that of a SOA, is most of
+    /// what is written beside addresses, and is not taken apart by its form.
+    fn put_rdata(&mut self, one: &ReplyRecord<'a>) -> Result<(), WriteError>
+        requires room { length self.old.octets.items ≤ self.old.limit }
+        ensures written { OnOk result
+            (Wrote self.old.limit self.old.octets.items self.new.octets.items self.new.limit self.new.places
+            (compressed_rdata self.old.places (length self.old.octets.items) one.now)) }
+        ensures refused { IfErr result
+            (RefusesUpTo self.old.limit
+            (length self.old.octets.items
+            + length (compressed_rdata self.old.places (length self.old.octets.items) one.now).octets)) }
+    {
+        let rdata = one.rdata();
+        if is_one_name(one.rtype()) {
+            return self.put_name(rdata);
+        }
+        if one.rtype() == SOA {
+            return self.put_two_names(rdata);
+        }
+        self.put_by_form(one)
     }
 
     /// All octets of a record that is an address whose owner occurs earlier. Most records are such, and are

@@ -14,6 +14,7 @@ ghost use Rattle.dns_wire.specs.Compressed.{Used, OccursAt, IsWritten, AreThePla
 use crate::compression_targets::Places;
 use crate::compressor::Compressor;
 use crate::fields::two_octets;
+use crate::octets::Octets;
 use crate::{EchoedQuestion, Reply, ReplyRecord, WriteError};
 use dns_memory::Heap;
 
@@ -128,12 +129,12 @@ impl Writer {
         ensures refused { IfErr result (RefusesUpTo limit (length (text (stated reply.now)))) }
     {
         let mut compressor = Compressor {
-            octets: Vec::with_capacity(alloc, 512)?,
+            octets: Octets::with_room(alloc, 512)?,
             places: Places::new(alloc, FEW_PLACES),
             limit,
         };
         compressor.put_reply(reply)?;
-        Ok(compressor.octets)
+        Ok(compressor.octets.into_vec())
     }
 }
 

@@ -2,6 +2,8 @@
 //! into an exit status.
 #![tactic(auto)]
 
+mod terminal;
+
 use clap::error::ErrorKind;
 use dns_command::{Asked, Task, read_words};
 use dns_configuration::{FAILED, File, REFUSED, USAGE};
@@ -14,6 +16,7 @@ use dns_server::{
 use std::io::{self, Write};
 use std::process::ExitCode;
 use std::{env, fs};
+use terminal::Terminal;
 
 /// The device of a zone: a file of the system.
 type Device = FileSectors<DiskFile>;
@@ -275,13 +278,15 @@ fn run_fetch(
     let since = since.map(|_path| &held);
     let mut out = io::BufWriter::new(rt.alloc(), io::writer(rt))?;
     let mut err = rt.stderr();
-    let status = fetch::<TcpSocket, _, Index, _, _>(
+    let mut watch = Terminal::new(rt);
+    let status = fetch::<TcpSocket, _, Index, _, _, _>(
         heap,
         &Tcp { heap, rt },
         server,
         origin,
         since,
         explain,
+        &mut watch,
         &mut out,
         &mut err,
     );

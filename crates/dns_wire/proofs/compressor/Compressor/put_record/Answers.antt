@@ -22,7 +22,7 @@ returns-clause-written c =
     let e1 : one.octets.items ≡ s.octets.items ++ (compressed_name s.places at r.owner).octets = w1.octets ∙ ap (λ (p : Compressing). s.octets.items ++ p.octets) owner in
     let e2 : one.places ≡ (compressed_name s.places at r.owner).places = w1.places ∙ ap (λ (p : Compressing). p.places) owner in
     let e3 : two.octets.items ≡ one.octets.items ++ fixed_octets r.rtype r.ttl = w2.octets ∙ ap (λ (xs : List ℕ). one.octets.items ++ xs) (c.fixed.ensures ∙ ap (λ (t : ℕ). fixed_octets t c.ttl.result) c.rtype.ensures ∙ ap (λ (t : ℕ). fixed_octets r.rtype t) c.ttl.ensures) in
-    let e6 : c.len-start.result ≡ length two.octets.items = omega (arith, c.len-start.ensures, two.octets.ok.0) in
+    let e6 : c.len-start.result ≡ length two.octets.items = omega (arith, c.len-start.ensures) in
     let start = start_of one.octets.items two.octets.items three.octets.items (fixed_octets r.rtype r.ttl) (compressed_rdata two.places (length two.octets.items) r).octets c.len-start.result refl e3 w3.octets e6 in
     let size : length c.put_size.new.self.octets.items ≡ length three.octets.items = sized_length three.octets.items c.put_size.new.self.octets.items c.len-start.result (length three.octets.items - c.len-start.result) start.0 start.1 c.put_size.ensures.octets in
     record {
