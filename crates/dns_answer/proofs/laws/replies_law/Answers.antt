@@ -25,4 +25,4 @@ returns c = λ zones octets out transport known fits handles.
       | None ↦ λ e. unread (λ m reads. (let other = (grammar octets m fits).0 reads in absurd cc))
     ] refl in
     let r = sent.0 in
-    (r, sent.1, sent.2, subst (λ (t : List ℕ). IsCompressed t r) (sym sent.2) (texts.compressed r sent.1), subst (λ (t : List ℕ). Reads t (message_of_reply r)) (sym sent.2) (texts.reads_back r sent.1)))
+    (r, (sent.1, sent.2, subst (λ (t : List ℕ). IsCompressed t r) (sym sent.2) (texts.compressed r sent.1), subst (λ (t : List ℕ). Reads t (message_of_reply r)) (sym sent.2) (texts.reads_back r sent.1))))
