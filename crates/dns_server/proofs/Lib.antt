@@ -1,6 +1,7 @@
 pub mod ReplayEnded
 pub mod Replayed
 pub mod Soas
+pub mod Files
 pub mod Known
 pub mod Served
 pub mod Turned
