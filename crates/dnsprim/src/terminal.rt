@@ -4,6 +4,7 @@ use dns_server::Watch;
 use std::io::IsTerminal;
 
 /// Standard error, which shows how many records have come where it is a terminal, and nothing elsewhere.
+#[derive(Drop)]
 pub struct Terminal<'a> {
     rt: &'a HostRuntime,
     is_shown: bool,
