@@ -279,9 +279,10 @@ fn served(rt: &HostRuntime, heap: Heap, clients: &mut Clients<'_>, turns: u32) -
     let config = configuration(&text);
     let alloc = rt.alloc();
     let devices = InMemory { heap, root: None };
-    Ok(serve::<MemorySectors, _, RecordList, _, _>(
+    let ended = serve::<MemorySectors, _, RecordList, _, _>(
         alloc, heap, rt, &devices, &config, turns, false, clients,
-    ))
+    );
+    Ok(ended.status)
 }
 
 /// Whether the log is what a run says.
@@ -333,7 +334,7 @@ fn refuses(rt: &HostRuntime, heap: Heap, root: &'static [u8], told: &str) -> io:
     let root = Some(root);
     let devices = InMemory { heap, root };
     let mut err = Vec::new(rt.alloc());
-    let status = serve::<MemorySectors, _, RecordList, _, _>(
+    let ended = serve::<MemorySectors, _, RecordList, _, _>(
         rt.alloc(),
         heap,
         rt,
@@ -343,7 +344,7 @@ fn refuses(rt: &HostRuntime, heap: Heap, root: &'static [u8], told: &str) -> io:
         true,
         &mut err,
     );
-    Ok(status == REFUSED && err.as_slice() == told.as_bytes())
+    Ok(ended.status == REFUSED && ended.devices.is_empty() && err.as_slice() == told.as_bytes())
 }
 
 #[test]

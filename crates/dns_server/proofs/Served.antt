@@ -1,5 +1,5 @@
 -- How a server ends, by what its parts told.
-use Rattle.std.proofs.Common.{◌≡◌, ℕ, Bool, inl, inr, List, Option, Result, Ok, Err, IfOk, refl, arith}
+use Rattle.std.proofs.Common.{◌≡◌, ℕ, suc, Bool, inl, inr, List, [], ◌∷◌, Option, Result, Ok, Err, IfOk, refl, arith}
 use Rattle.std.specs.Prelude.{◌⊎◌, ◌≤◌}
 use Rattle.std.specs.Option.{option_copied}
 use Rattle.std.specs.Io.KnownBytes.{Appends}
@@ -12,29 +12,58 @@ use Rattle.dns_configuration.specs.Faults.{fault_text, line}
 use Rattle.dns_configuration.specs.Files.{HoldsConfiguration}
 use Rattle.dns_server.specs.declared.device_faults.DeviceFault.{DeviceFault}
 use Rattle.dns_server.specs.Dump.{Gives}
-use Rattle.dns_primary.specs.Machine.{Machine}
+use Rattle.dns_names.specs.Name.{Labels}
+use Rattle.dns_configuration.specs.Known.{origins_of}
+use Rattle.dns_versions.specs.Each.{Each2}
+use Rattle.dns_primary.specs.HandOut.{AreSetAs}
+use Rattle.dns_primary.specs.Machine.{Machine, ZoneState}
+use Rattle.dns_primary.specs.Open.{AreRecoverable}
+use Rattle.dns_primary.specs.Runs.{Moment, Took, Stopped, Configured, Run, last_of}
+use Rattle.dns_primary.specs.Step.{Event}
+use Rattle.dns_primary.specs.declared.primary.ZoneSpec.{ZoneSpec}
+use Rattle.dns_primary.proofs.Brought.{StaysSet, step_set, stopped_set, all_stay_set, stay_set_on}
+use Rattle.dns_network.specs.Runs.{IsStepOf, Told, told_by}
+use Rattle.dns_replay.proofs.Running.{set_lasts}
 use Rattle.dns_server.specs.Opening.{IsNotServed, IsServed}
 use Rattle.dns_server.specs.Serve.{IsRefusalTold, IsServedFor, ServingEnds}
 use Rattle.dns_server.specs.ServedTurns.{HasTurned}
 
-pub serving_failed : {D : Type 0} (g : Ghosts D) (opened : Gives D) (config : File) (count : ℕ) (explain : Bool) (err err_after : Option (List ℕ)) → ServingEnds g opened config count explain err err_after 3
-serving_failed g opened config count explain err err_after = record {
+pub serving_failed : {D : Type 0} (g : Ghosts D) (opened : Gives D) (config : File) (count : ℕ) (explain : Bool) (err err_after : Option (List ℕ)) (back : List D) → ServingEnds g opened config count explain err err_after 3 back
+serving_failed g opened config count explain err err_after back = record {
   done = λ e. absurd (omega (arith, e));
   refused = λ e. absurd (omega (arith, e));
   others = inr refl;
 }
 
 -- The configuration is refused.
-pub configuration_refused : {D : Type 0} (g : Ghosts D) (opened : Gives D) (config : File) (count : ℕ) (fault : Fault) (explain : Bool) (err err_after : Option (List ℕ)) → HoldsConfiguration (option_copied config.octets) (Err fault) → Appends err err_after (line (fault_text config.path.now fault)) → ServingEnds g opened config count explain err err_after 1
-configuration_refused g opened config count fault explain err err_after holds said = record {
+pub configuration_refused : {D : Type 0} (g : Ghosts D) (opened : Gives D) (config : File) (count : ℕ) (fault : Fault) (explain : Bool) (err err_after : Option (List ℕ)) (back : List D) → HoldsConfiguration (option_copied config.octets) (Err fault) → Appends err err_after (line (fault_text config.path.now fault)) → ServingEnds g opened config count explain err err_after 1 back
+configuration_refused g opened config count fault explain err err_after back holds said = record {
   done = λ e. absurd (omega (arith, e));
   refused = λ _. (fault_text config.path.now fault, said, inl (fault, holds, refl));
   others = inl (omega arith);
 }
 
--- What is kept has turned.
-pub served_for : {D : Type 0} (g : Ghosts D) (opened : Gives D) (zones : List ZoneSettings) (count : ℕ) (keeps : Machine → Type 0) → IsServed g opened zones keeps → HasTurned count keeps → IsServedFor g opened zones count
-served_for g opened zones count keeps is (turns, many, run) = (
+-- The zones of a machine whose devices may be opened again were opened for these names and settings.
+recoverable_set : {D : Type 0} (g : Ghosts D) (tries : ℕ) (m : Machine) (event : Event) (place : ℕ) (zones : List ZoneState) (names : List Labels) (known : List ZoneSpec) (devices : List D) → AreRecoverable g tries m event place zones names known devices → AreSetAs names known zones
+recoverable_set g tries m event place [] [] [] [] h = tt
+recoverable_set g tries m event place (z ∷ zones) (a ∷ names) (s ∷ known) (d ∷ devices) h =
+    (record { shape = h.0.shape; set = h.0.set; range = h.0.range }, recoverable_set g tries m event (suc place) zones names known devices h.1)
+recoverable_set g tries m event place _ _ _ _ h = absurd h
+
+-- In a run that turns make the zones keep their settings.
+run_set : (told : List Told) (start : Machine) (run : List Moment) → Run start run → Each2 IsStepOf told run → Each2 StaysSet start.zones (last_of start run).zones
+run_set [] start [] r each = all_stay_set start.zones
+run_set (t ∷ told) start [] r each = absurd each
+run_set [] start (one ∷ run) r each = absurd each
+run_set (t ∷ told) start (Took event fails effects new ∷ run) r each = stay_set_on start.zones new.zones (last_of new run).zones (step_set fails start event effects new r.0) (run_set told new run r.1 each.1)
+run_set (t ∷ told) start (Stopped event tries new ∷ run) r each = absurd each.0
+run_set (t ∷ told) start (Configured new ∷ run) r each = absurd each.0
+
+-- What is kept has turned, and its devices came back.
+pub served_for : {D : Type 0} (g : Ghosts D) (opened : Gives D) (zones : List ZoneSettings) (count : ℕ) (keeps after : Machine → Type 0) (back : List D) → IsServed g opened zones (λ known m. keeps m) → HasTurned count keeps after
+    → ((m : Machine) (event : Event) (names : List Labels) (known : List ZoneSpec) → after m → AreSetAs names known m.zones → AreRecoverable g 0 m event 0 m.zones names known back)
+    → IsServedFor g opened zones count back
+served_for g opened zones count keeps after back is (turns, many, run) left = (
   turns,
   many,
   record {
@@ -42,29 +71,35 @@ served_for g opened zones count keeps is (turns, many, run) = (
     given = is.given;
     known = is.known;
     settings = is.settings;
-    recovered = λ m event tries left. let to = is.recovered m event tries left in (to.0, to.1, run to.0 to.2);
+    recovered = λ m event tries may.
+        let names = origins_of zones in
+        let to = is.recovered m event tries may in
+        let ran = run to.0 to.2 in
+        let at = set_lasts names is.known m.zones to.0.zones (recoverable_set g tries m event 0 m.zones names is.known is.devices may) (stopped_set tries m event to.0 to.1) in
+        let end = set_lasts names is.known to.0.zones (last_of to.0 ran.0).zones at (run_set (told_by turns) to.0 ran.0 ran.1.runs ran.1.each) in
+        (to.0, to.1, (ran.0, ran.1, λ within. left (last_of to.0 ran.0) within names is.known ran.2 end));
   },
 )
 
 -- All turns were made, or the address could not be had.
-pub served : {D : Type 0} (g : Ghosts D) (opened : Gives D) (config : File) (c : Configuration) (count : ℕ) (explain : Bool) (err err_after : Option (List ℕ)) (status : ℕ) → HoldsConfiguration (option_copied config.octets) (Ok c) → (status ≡ 3) ⊎ ((status ≡ 0) × IsServedFor g opened c.zones.items count) → ServingEnds g opened config count explain err err_after status
-served g opened config c count explain err err_after status holds (inr (none, is)) = record {
+pub served : {D : Type 0} (g : Ghosts D) (opened : Gives D) (config : File) (c : Configuration) (count : ℕ) (explain : Bool) (err err_after : Option (List ℕ)) (status : ℕ) (back : List D) → HoldsConfiguration (option_copied config.octets) (Ok c) → (status ≡ 3) ⊎ ((status ≡ 0) × IsServedFor g opened c.zones.items count back) → ServingEnds g opened config count explain err err_after status back
+served g opened config c count explain err err_after status back holds (inr (none, is)) = record {
   done = λ _. (c, holds, is);
   refused = λ one. absurd (omega (arith, none, one));
   others = inl (omega (arith, none));
 }
-served g opened config c count explain err err_after status holds (inl three) = record {
+served g opened config c count explain err err_after status back holds (inl three) = record {
   done = λ none. absurd (omega (arith, none, three));
   refused = λ one. absurd (omega (arith, one, three));
   others = inr three;
 }
 
 -- A device is refused.
-pub device_refused : {D E : Type 0} (g : Ghosts D) (opened : Gives D) (config : File) (c : Configuration) (count : ℕ) (place : ℕ) (fault : DeviceFault) (explain : Bool) (err err_after : Option (List ℕ)) (r : Result ℕ E) → HoldsConfiguration (option_copied config.octets) (Ok c) → IsNotServed g opened c.zones.items place fault → IfOk r (IsRefusalTold c.zones.items place fault explain err err_after) → IfOk r (ServingEnds g opened config count explain err err_after)
-device_refused g opened config c count place fault explain err err_after (Err e) holds not h = tt
-device_refused {D = D} g opened config c count place fault explain err err_after (Ok status) holds not h = go h
+pub device_refused : {D E : Type 0} (g : Ghosts D) (opened : Gives D) (config : File) (c : Configuration) (count : ℕ) (place : ℕ) (fault : DeviceFault) (explain : Bool) (err err_after : Option (List ℕ)) (back : List D) (r : Result ℕ E) → HoldsConfiguration (option_copied config.octets) (Ok c) → IsNotServed g opened c.zones.items place fault → IfOk r (IsRefusalTold c.zones.items place fault explain err err_after) → IfOk r (λ status. ServingEnds g opened config count explain err err_after status back)
+device_refused g opened config c count place fault explain err err_after back (Err e) holds not h = tt
+device_refused {D = D} g opened config c count place fault explain err err_after back (Ok status) holds not h = go h
   where
-    go : IsRefusalTold c.zones.items place fault explain err err_after status → ServingEnds g opened config count explain err err_after status
+    go : IsRefusalTold c.zones.items place fault explain err err_after status → ServingEnds g opened config count explain err err_after status back
     go (inl e) = record { done = λ z. absurd (omega (arith, e, z)); refused = λ z. absurd (omega (arith, e, z)); others = inr e }
     go (inr told) = record {
       done = λ z. absurd (let one = told.0 in omega (arith, one, z));

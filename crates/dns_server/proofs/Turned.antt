@@ -36,18 +36,18 @@ module _ {I D S N L : Type 0} {i : index.Ghosts I} {d : store.Ghosts D} (s : str
   )
 
   pub has_turned : (count : ℕ) (old new : Primary I D i d) (network network' : N) (first last : L) → IsServedOn s n l count old network first new network' last
-      → HasTurned count (λ m. IsKept old m)
+      → HasTurned count (λ m. IsKept old m) (λ m. IsKept new m)
   has_turned count old new network network' first last is = (
     is.turns,
     is.many,
     λ m kept.
         let to = turns_run s n l is.turns (served_at_start old network first) (record { primary = new; connections = is.connections; network = network'; notes = last }) m is.made kept in
-        (to.0, to.1),
+        (to.0, to.1, to.2),
   )
 
 -- ... whatever the network is.
 pub has_been_turned : {I D S N L : Type 0} {i : index.Ghosts I} {d : store.Ghosts D} {s : stream.Ghosts S} {n : Ghosts N S} {l : notes.Ghosts L}
     {count : ℕ} {old new : Primary I D i d} {network network' : N} {first last : L} → IsServedOn s n l count old network first new network' last
-    → HasTurned count (λ m. IsKept old m)
+    → HasTurned count (λ m. IsKept old m) (λ m. IsKept new m)
 has_been_turned {s = s} {n = n} {l = l} {count = count} {old = old} {new = new} {network = network} {network' = network'} {first = first} {last = last} is =
     has_turned s n l count old new network network' first last is

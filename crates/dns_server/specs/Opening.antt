@@ -30,16 +30,16 @@ abbrev pub IsNotGiven : {D : Type 0} → Gives D → List ZoneSettings → ℕ �
 IsNotGiven opened zones place fault = (fault ≡ OutOfMemory) ⊎ CannotBeHad opened zones place fault
 
 -- A primary over the devices that were given: on those of a machine that stopped it keeps one that recovered
--- from that stop.
+-- from that stop, of zones with these settings.
 pub record IsServed {D : Type 0} (g : Ghosts D) (opened : Gives D) (zones : List ZoneSettings)
-    (keeps : Machine → Type 0) : Type 0 where
+    (keeps : List primary.ZoneSpec → Machine → Type 0) : Type 0 where
   pub devices : List D
   pub given : AreGiven opened zones devices
   pub known : List primary.ZoneSpec
   pub settings : AllZip IsSettingOf zones known
   pub recovered : (m : Machine) (event : Event) (tries : ℕ)
       → AreRecoverable g tries m event 0 m.zones (origins_of zones) known devices
-      → (new : Machine) × IsStopped tries m event new × keeps new
+      → (new : Machine) × IsStopped tries m event new × keeps known new
 
 -- The fault of the device there among those that were handed back, which it left so; where there is none,
 -- that of the refusal.

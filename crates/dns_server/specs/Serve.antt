@@ -14,6 +14,11 @@ use Rattle.dns_server.specs.declared.device_faults.DeviceFault.{DeviceFault}
 use Rattle.dns_server.specs.DeviceFaults.{device_text, status_of}
 use Rattle.dns_server.specs.Dump.{Gives}
 use Rattle.dns_network.specs.Turn.{TurnMoment}
+use Rattle.dns_primary.specs.Machine.{Machine}
+use Rattle.dns_primary.specs.Open.{AreRecoverable}
+use Rattle.dns_primary.specs.Step.{Event}
+use Rattle.dns_primary.specs.declared.primary.ZoneSpec.{ZoneSpec}
+use Rattle.dns_configuration.specs.Known.{origins_of}
 use Rattle.dns_server.specs.Opening.{IsNotServed, IsServed}
 use Rattle.dns_server.specs.ServedTurns.{HaveRun}
 
@@ -35,21 +40,29 @@ pub record IsDeviceRefused {D : Type 0} (g : Ghosts D) (opened : Gives D) (zones
   pub says : text ≡ device_text path fault explain
   pub status : status_of fault ≡ 1
 
--- So many turns were made of a primary over the devices of these zones: on those of a machine that stopped,
--- their events are those of a run from one that recovered from that stop.
-abbrev pub IsServedFor : {D : Type 0} → Ghosts D → Gives D → List ZoneSettings → ℕ → Type 0
-IsServedFor g opened zones count =
-    (turns : List (List TurnMoment)) × (length turns ≡ count) × IsServed g opened zones (HaveRun turns)
+-- Each crash of these devices leaves what the zones of this machine may be recovered as, whichever event it
+-- fell in.
+abbrev pub AreLeft : {D : Type 0} → Ghosts D → List ZoneSettings → List D → List ZoneSpec → Machine → Type 0
+AreLeft g zones devices known m =
+    (event : Event) → AreRecoverable g 0 m event 0 m.zones (origins_of zones) known devices
 
--- How a server ends: all its turns were made, over the devices of the zones of its configuration; or nothing
--- was served, and the fault of the configuration or of the first device that is refused is reported. With
--- status 3 a device or the address can't be had, a writer failed or memory was refused.
+-- So many turns were made of a primary over the devices of these zones, and it gave these back: on those of a
+-- machine that stopped, the events of the turns are those of a run from one that recovered from that stop, and
+-- each that came back holds what the machine at the run's end left of its zone.
+abbrev pub IsServedFor : {D : Type 0} → Ghosts D → Gives D → List ZoneSettings → ℕ → List D → Type 0
+IsServedFor g opened zones count back =
+    (turns : List (List TurnMoment)) × (length turns ≡ count)
+    × IsServed g opened zones (λ known. HaveRun turns (AreLeft g zones back known))
+
+-- How a server ends: all its turns were made, over the devices of the zones of its configuration, which are
+-- given back; or nothing was served, and the fault of the configuration or of the first device that is refused
+-- is reported. With status 3 a device or the address can't be had, a writer failed or memory was refused.
 pub record ServingEnds {D : Type 0} (g : Ghosts D) (opened : Gives D) (config : File) (count : ℕ)
-    (explain : Bool) (err err_after : Option (List ℕ)) (status : ℕ)
+    (explain : Bool) (err err_after : Option (List ℕ)) (status : ℕ) (back : List D)
     : Type 0 where
   pub done : status ≡ 0
       → (c : Configuration) × HoldsConfiguration (option_copied config.octets) (Ok c)
-      × IsServedFor g opened c.zones.items count
+      × IsServedFor g opened c.zones.items count back
   pub refused : status ≡ 1
       → (text : List ℕ) × Appends err err_after (line text)
       × (((fault : Fault) × HoldsConfiguration (option_copied config.octets) (Err fault)

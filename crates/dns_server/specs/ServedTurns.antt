@@ -6,7 +6,7 @@ use Rattle.dns_zone.specs.declared.index.ZoneIndex as index
 use Rattle.dns_store.specs.declared.zone_store.ZoneStore as store
 use Rattle.dns_primary.specs.declared.primary.Primary.{Primary}
 use Rattle.dns_primary.specs.Machine.{Machine}
-use Rattle.dns_primary.specs.Runs.{Moment}
+use Rattle.dns_primary.specs.Runs.{Moment, last_of}
 use Rattle.dns_network.specs.declared.network.Network.{Ghosts}
 use Rattle.dns_network.specs.declared.network.Notes as notes
 use Rattle.dns_network.specs.Delivery.{Served}
@@ -34,12 +34,13 @@ module _ {I D S N L : Type 0} {i : index.Ghosts I} {d : store.Ghosts D} where
     pub made : AreTurns s n l turns (served_at_start old network notes)
         (record { primary = new; connections = connections; network = network'; notes = notes' })
 
--- The events of these turns are those of a run from this machine.
-abbrev pub HaveRun : List (List TurnMoment) → Machine → Type 0
-HaveRun turns m = (run : List Moment) × IsRunOf (told_by turns) m run
+-- The events of these turns are those of a run from this machine, and this holds of the machine at its end.
+abbrev pub HaveRun : List (List TurnMoment) → (Machine → Type 0) → Machine → Type 0
+HaveRun turns after m = (run : List Moment) × IsRunOf (told_by turns) m run × after (last_of m run)
 
 -- So many turns were made, and whichever machine was kept before them, their events are those of a run from
--- it.
-abbrev pub HasTurned : ℕ → (Machine → Type 0) → Type 0
-HasTurned count keeps =
-    (turns : List (List TurnMoment)) × (length turns ≡ count) × ((m : Machine) → keeps m → HaveRun turns m)
+-- it to one that is kept after them.
+abbrev pub HasTurned : ℕ → (Machine → Type 0) → (Machine → Type 0) → Type 0
+HasTurned count keeps after =
+    (turns : List (List TurnMoment)) × (length turns ≡ count)
+    × ((m : Machine) → keeps m → HaveRun turns after m)

@@ -45,5 +45,5 @@ pub use migrating::migrate;
 pub use next_version::{Loaded, load_zone};
 pub use replaying::replay;
 pub use servers::{Servers, Tcp, TcpSocket, WaitingStream};
-pub use serving::serve;
+pub use serving::{ServiceEnd, serve};
 pub use watching::Watch;

@@ -72,7 +72,8 @@ pub(crate) fn open_primary<D: Sectors + Drop, F: Devices<D>, I: ZoneIndex>(
     origins: &[Name],
 ) -> Result<Primary<I, KeptStore<D, I>>, Refusal>
     requires { origins.now ≡ origins_of zones.now }
-    ensures { MatchResult result (λ p. IsServed D.Sectors (F.opened devices.now) zones.now (λ m. IsKept p m))
+    ensures { MatchResult result
+        (λ p. IsServed D.Sectors (F.opened devices.now) zones.now (λ known m. IsKept p m))
         (λ r. IsNotServed D.Sectors (F.opened devices.now) zones.now r.place r.fault) }
 {
     let Ok(settings) = settings_of(heap, zones) else {

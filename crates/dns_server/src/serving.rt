@@ -1,8 +1,14 @@
 //! A server over devices and sockets.
-ghost use Rattle.std.specs.Prelude.{◌≡◌, ◌⊎◌, IfOk};
+ghost use Rattle.std.specs.Prelude.{◌≡◌, ◌⊎◌, [], List, IfOk};
 ghost use Rattle.dns_server.specs.Serve.{IsRefusalTold, ServingEnds};
 ghost use Rattle.dns_server.specs.ServedTurns.{HasPaused, HasTurned, IsServedOn};
 ghost use Rattle.dns_primary.specs.Keeps.{IsKept};
+ghost use Rattle.dns_names.specs.Name.{Labels};
+ghost use Rattle.dns_primary.specs.HandOut.{AreSetAs};
+ghost use Rattle.dns_primary.specs.Machine.{Machine};
+ghost use Rattle.dns_primary.specs.Open.{AreRecoverable};
+ghost use Rattle.dns_primary.specs.Step.{Event as StatedEvent};
+ghost use Rattle.dns_primary.specs.declared.primary.ZoneSpec.{ZoneSpec as StatedSettings};
 
 use crate::log::Log;
 use crate::opening::{Refusal, open_primary};
@@ -14,9 +20,9 @@ use dns_names::Name;
 use dns_network::{Edge, Network, Notes, Stream};
 use dns_primary::Primary;
 use dns_sectors::Sectors;
-use dns_store::ZoneStore;
+use dns_store::{KeptStore, ZoneStore};
 use dns_zone::{Zone, ZoneIndex};
-use std::alloc::Global;
+use std::alloc::{AllocError, Global};
 use std::io::{self, Write};
 use std::net::{Net, SocketAddr};
 use std::time::{Clock, Instant};
@@ -127,7 +133,8 @@ fn listen<R: Net + Clock, I: ZoneIndex, S: ZoneStore, E: Write>(
     err: &mut E,
 ) -> io::Result<u8>
     ensures { IfOk result (λ status. (status ≡ FAILED)
-        ⊎ ((status ≡ DONE) × HasTurned turns (λ m. IsKept primary.old m))) }
+        ⊎ ((status ≡ DONE)
+        × HasTurned turns (λ m. IsKept primary.old m) (λ m. IsKept primary.new m))) }
 {
     let Ok(mut sockets) = Sockets::bind(heap, rt, address) else {
         writeln!(err, "{address}: Unavailable")?;
@@ -150,18 +157,18 @@ fn listen<R: Net + Clock, I: ZoneIndex, S: ZoneStore, E: Write>(
 fn serve_primary<R: Net + Clock, I: ZoneIndex, S: ZoneStore, E: Write>(
     heap: Heap,
     rt: &R,
-    primary: Primary<I, S>,
+    primary: &mut Primary<I, S>,
     origins: &[Name],
     address: SocketAddr,
     turns: u32,
     err: &mut E,
 ) -> io::Result<u8>
     ensures { IfOk result (λ status. (status ≡ FAILED)
-        ⊎ ((status ≡ DONE) × HasTurned turns (λ m. IsKept primary m))) }
+        ⊎ ((status ≡ DONE)
+        × HasTurned turns (λ m. IsKept primary.old m) (λ m. IsKept primary.new m))) }
 {
-    let mut primary = primary;
-    tell_zones(err, &primary, origins)?;
-    listen(heap, rt, &mut primary, origins, address, turns, err)
+    tell_zones(err, primary, origins)?;
+    listen(heap, rt, primary, origins, address, turns, err)
 }
 
 /// What a server has besides a primary: the names of its zones, the address on which it listens, how many
@@ -179,19 +186,20 @@ struct Service<'a, R, E> {
 /// What can be served so. (A call that names both a store over a device and the memory of every collection
 /// has no proof, so that the service is a type parameter.)
 trait Servable<S> {
-    /// All turns of a service were made of it.
-    ghost is_served: { Self → S → Type 0 };
+    /// All turns of a service were made of it, and it is this after them.
+    ghost is_served: { Self → S → Self → Type 0 };
 
     /// Serves it, and gives the exit status.
-    fn serve_as(self, service: &mut S) -> u8
-        ensures { (result ≡ FAILED) ⊎ ((result ≡ DONE) × is_served self service.old) };
+    fn serve_as(&mut self, service: &mut S) -> u8
+        ensures { (result ≡ FAILED) ⊎ ((result ≡ DONE) × is_served self.old service.old self.new) };
 }
 
 impl<R: Net + Clock, I: ZoneIndex, S: ZoneStore, E: Write> Servable<Service<'_, R, E>>
     for Primary<I, S> {
-    ghost is_served = { λ primary service. HasTurned service.turns (λ m. IsKept primary m) };
+    ghost is_served = { λ primary service after.
+        HasTurned service.turns (λ m. IsKept primary m) (λ m. IsKept after m) };
 
-    fn serve_as(self, service: &mut Service<'_, R, E>) -> u8 {
+    fn serve_as(&mut self, service: &mut Service<'_, R, E>) -> u8 {
         serve_primary(
             service.heap,
             service.rt,
@@ -206,8 +214,9 @@ impl<R: Net + Clock, I: ZoneIndex, S: ZoneStore, E: Write> Servable<Service<'_, 
 }
 
 /// Serves a primary, and gives the exit status.
-fn serve_as<S, P: Servable<S>>(primary: P, service: &mut S) -> u8
-    ensures { (result ≡ FAILED) ⊎ ((result ≡ DONE) × P.is_served primary service.old) }
+fn serve_as<S, P: Servable<S>>(primary: &mut P, service: &mut S) -> u8
+    ensures { (result ≡ FAILED)
+        ⊎ ((result ≡ DONE) × P.is_served primary.old service.old primary.new) }
 {
     primary.serve_as(service)
 }
@@ -229,7 +238,23 @@ fn tell_refusal<E: Write>(
     }
 }
 
-/// Opens the stores of all zones and serves them, and gives the exit status.
+/// Takes a primary apart into the devices of its zones. Where there is room for them this takes no memory.
+fn give_back<D: Sectors + Drop, I: ZoneIndex>(
+    primary: Primary<I, KeptStore<D, I>>,
+    back: &mut Vec<D, Heap>,
+) -> Result<(), AllocError>
+    requires { back.old.items ≡ [] }
+    ensures { IfOk result (λ _. (m : Machine) (event : StatedEvent) (names : List Labels)
+        (known : List StatedSettings) → IsKept primary m → AreSetAs names known m.zones
+        → AreRecoverable D.Sectors 0 m event 0 m.zones names known back.new.items) }
+{
+    back.reserve_exact(primary.zone_count())?;
+    primary.into_devices(back);
+    Ok(())
+}
+
+/// Opens the stores of all zones, serves them and gives their devices back, for which it makes room first.
+/// Gives the exit status.
 fn serve_all<D: Sectors + Drop, F: Devices<D>, I: ZoneIndex, R: Net + Clock, E: Write>(
     alloc: Global,
     heap: Heap,
@@ -238,11 +263,13 @@ fn serve_all<D: Sectors + Drop, F: Devices<D>, I: ZoneIndex, R: Net + Clock, E: 
     config: &File<'_>,
     turns: u32,
     explain: bool,
+    back: &mut Vec<D, Heap>,
     err: &mut E,
 ) -> io::Result<u8>
+    requires { back.old.items ≡ [] }
     ensures { IfOk result
         (λ status. ServingEnds D.Sectors (F.opened devices.now) config.now turns explain (E.contents err.old)
-        (E.contents err.new) status) }
+        (E.contents err.new) status back.new.items) }
 {
     let configuration = match read_configuration(alloc, heap, config) {
         Ok(configuration) => configuration,
@@ -250,7 +277,8 @@ fn serve_all<D: Sectors + Drop, F: Devices<D>, I: ZoneIndex, R: Net + Clock, E: 
     };
     let origins = origins_of(heap, &configuration.zones)?;
     match open_primary::<D, F, I>(heap, devices, &configuration.zones, &origins) {
-        Ok(primary) => {
+        Ok(mut primary) => {
+            back.reserve_exact(primary.zone_count())?;
             let mut service = Service {
                 heap,
                 rt,
@@ -259,10 +287,21 @@ fn serve_all<D: Sectors + Drop, F: Devices<D>, I: ZoneIndex, R: Net + Clock, E: 
                 turns,
                 err,
             };
-            Ok(serve_as(primary, &mut service))
+            let status = serve_as(&mut primary, &mut service);
+            give_back(primary, back)?;
+            Ok(status)
         }
         Err(refusal) => tell_refusal(err, &configuration.zones, refusal, explain),
     }
+}
+
+/// What a server ends with.
+#[derive(Drop)]
+pub struct ServiceEnd<D> {
+    /// The exit status.
+    pub status: u8,
+    /// The devices that it served, in the order of their zones.
+    pub devices: Vec<D, Heap>,
 }
 
 /// Opens the stores of a configuration's zones, each in its device, and serves them on its address by UDP and
@@ -273,7 +312,7 @@ fn serve_all<D: Sectors + Drop, F: Devices<D>, I: ZoneIndex, R: Net + Clock, E: 
 /// Faults are reported in one line, the first in this order: the configuration, the devices (of which, if it
 /// is wanted, a second line says what can be done), the address (`ADDRESS: Unavailable`). Gives the exit
 /// status: `DONE`, `REFUSED`, or `FAILED` where a device or the address can't be had, a writer failed or
-/// memory was refused.
+/// memory was refused. The devices are given back as the last turn left them.
 pub fn serve<D: Sectors + Drop, F: Devices<D>, I: ZoneIndex, R: Net + Clock, E: Write>(
     alloc: Global,
     heap: Heap,
@@ -283,11 +322,17 @@ pub fn serve<D: Sectors + Drop, F: Devices<D>, I: ZoneIndex, R: Net + Clock, E: 
     turns: u32,
     explain: bool,
     err: &mut E,
-) -> u8
+) -> ServiceEnd<D>
     ensures { ServingEnds D.Sectors (F.opened devices.now) config.now turns explain (E.contents err.old)
-        (E.contents err.new) result }
+        (E.contents err.new) result.status result.devices.items }
 {
-    serve_all::<D, F, I, R, E>(alloc, heap, rt, devices, config, turns, explain, err).unwrap_or(
-        FAILED,
+    let mut back = Vec::new(heap);
+    let status = serve_all::<D, F, I, R, E>(
+        alloc, heap, rt, devices, config, turns, explain, &mut back, err,
     )
+    .unwrap_or(FAILED);
+    ServiceEnd {
+        status,
+        devices: back,
+    }
 }

@@ -96,13 +96,13 @@ pub fn sectors_lacked<I: ZoneIndex, S: ZoneStore>(
     ensures { (k : Kept) → HasVersions S.keeps zone.now pending.now k
         → result ≡ sectors_lacked k (I.records records.now) }
 {
-    let _valid = newest(zone, pending).apex();
-    let octets = octets_after(pending.octets, change);
     let sectors = entry_sectors(change.encoded_len());
-    if !has_room(pending, records, octets, sectors) {
+    if pending.store.left() >= sectors {
         return None;
     }
-    if pending.store.left() >= sectors {
+    let _valid = newest(zone, pending).apex();
+    let octets = octets_after(pending.octets, change);
+    if !has_room(pending, records, octets, sectors) {
         return None;
     }
     Some(sectors)

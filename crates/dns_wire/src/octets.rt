@@ -35,8 +35,8 @@ fn grow(buffer: &mut Vec<u8, Heap>, len: usize, more: usize) -> Result<(), Alloc
     ensures inside { len ≤ length buffer.new.items }
     ensures room { OnOk result (len + more ≤ length buffer.new.items) }
 {
-    let doubled = buffer.len().saturating_mul(2);
-    buffer.resize(doubled.max(len.saturating_add(more)), 0)
+    let raised = buffer.len().saturating_mul(4);
+    buffer.resize(raised.max(len.saturating_add(more)), 0)
 }
 
 /// Writes a number into the two octets before an offset.

@@ -21,6 +21,9 @@ use dns_memory::Heap;
 /// Few replies have more targets that pointers can name, after those of the question.
 const FEW_PLACES: usize = 12;
 
+/// Most replies have at most so many octets.
+const FEW_OCTETS: usize = 128;
+
 /// Writes messages.
 pub struct Writer;
 
@@ -129,7 +132,7 @@ impl Writer {
         ensures refused { IfErr result (RefusesUpTo limit (length (text (stated reply.now)))) }
     {
         let mut compressor = Compressor {
-            octets: Octets::with_room(alloc, 512)?,
+            octets: Octets::with_room(alloc, FEW_OCTETS)?,
             places: Places::new(alloc, FEW_PLACES),
             limit,
         };

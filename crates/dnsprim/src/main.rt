@@ -245,7 +245,7 @@ fn run_serve(
 ) -> io::Result<u8> {
     let text = octets(rt, config)?;
     let config = file(config, &text);
-    let status = serve::<Device, _, Index, _, _>(
+    let ended = serve::<Device, _, Index, _, _>(
         rt.alloc(),
         heap,
         rt,
@@ -255,10 +255,10 @@ fn run_serve(
         explain,
         &mut rt.stderr(),
     );
-    if explain && status == REFUSED {
+    if explain && ended.status == REFUSED {
         explain_files(rt, heap, &config, &[])?;
     }
-    Ok(status)
+    Ok(ended.status)
 }
 
 /// Takes in a zone from another server, and gives the exit status.

@@ -13,20 +13,23 @@ returns-in-Err g c =
     let fault = c.in-Err.fault in
     let err = g.E.Write.contents c.args.err.now in
     let err_after = g.E.Write.contents c.tell.new.err in
-    fault_told (λ (status : ℕ). ServingEnds g.D.Sectors opened config c.args.turns c.args.explain err err_after status) config.path.now fault err err_after c.tell.result c.tell.ensures
-    (serving_failed g.D.Sectors opened config c.args.turns c.args.explain err err_after)
-    (λ _ said. configuration_refused g.D.Sectors opened config c.args.turns fault c.args.explain err err_after c.in-Err.ensures.held said)
+    let back = c.args.back.now.items in
+    fault_told (λ (status : ℕ). ServingEnds g.D.Sectors opened config c.args.turns c.args.explain err err_after status back) config.path.now fault err err_after c.tell.result c.tell.ensures
+    (serving_failed g.D.Sectors opened config c.args.turns c.args.explain err err_after back)
+    (λ _ said. configuration_refused g.D.Sectors opened config c.args.turns fault c.args.explain err err_after back c.in-Err.ensures.held said)
 
 pub returns-in-Ok-open_primary : goal.returns-in-Ok-open_primary
 returns-in-Ok-open_primary g c =
     let opened = g.F.Devices.opened c.args.devices.now in
     let configuration = c.in-Ok.configuration in
     let primary = c.in-Ok-open_primary.primary in
-    let is : IsServed g.D.Sectors opened configuration.zones.items (λ m. IsKept primary m) = rw c.deref-2.ensures.value at c.in-Ok-open_primary.ensures in
-    served g.D.Sectors opened c.args.config.now configuration c.args.turns c.args.explain _ _ c.serve_as.result c.in-Ok.ensures.held
-    (elim c.serve_as.ensures [
+    let after = c.serve_as-status.new.primary in
+    let back = c.give_back.new.back.items in
+    let is : IsServed g.D.Sectors opened configuration.zones.items (λ known m. IsKept primary m) = rw c.deref-2.ensures.value at c.in-Ok-open_primary.ensures in
+    served g.D.Sectors opened c.args.config.now configuration c.args.turns c.args.explain _ _ c.serve_as-status.result back c.in-Ok.ensures.held
+    (elim c.serve_as-status.ensures [
       | inl failed ↦ inl failed
-      | inr (done, turned) ↦ inr (done, served_for g.D.Sectors opened configuration.zones.items c.args.turns (λ m. IsKept primary m) is turned)
+      | inr (done, turned) ↦ inr (done, served_for g.D.Sectors opened configuration.zones.items c.args.turns (λ m. IsKept primary m) (λ m. IsKept after m) back is turned c.in_ok-give_back.ensures)
     ])
 
 pub returns : goal.returns
@@ -39,5 +42,5 @@ returns g c =
     let err = g.E.Write.contents c.args.err.now in
     let err_after = g.E.Write.contents c.tell_refusal.new.err in
     let why : IsNotServed g.D.Sectors opened zones place fault = rw c.deref-2.ensures.value at c.in-Err-open_primary.ensures in
-    device_refused g.D.Sectors opened c.args.config.now configuration c.args.turns place fault c.args.explain err err_after c.tell_refusal.result c.in-Ok.ensures.held why
+    device_refused g.D.Sectors opened c.args.config.now configuration c.args.turns place fault c.args.explain err err_after c.args.back.now.items c.tell_refusal.result c.in-Ok.ensures.held why
     (rw c.deref-in-Err-open_primary.ensures.value at c.tell_refusal.ensures)
