@@ -1,5 +1,5 @@
 //! A connection: its stream, what came on it and what is to go out.
-ghost use Rattle.std.specs.Prelude.{◌≡◌, ◌≢◌, ◌<◌, ◌==◌, ◌++◌, ◌∷◌, ℕ, List, [], not, false, length, drop};
+ghost use Rattle.std.specs.Prelude.{◌≡◌, ◌≢◌, ◌<◌, ◌==◌, ◌++◌, ◌∷◌, ℕ, List, [], not, length, drop};
 ghost use Rattle.std.specs.Prelude.{◌↔◌, IsTrue, IfOk, OnOk, OnErr, IfNone, MatchOption};
 ghost use Rattle.dns_network.specs.Framed.{IsFramed};
 ghost use Rattle.dns_network.specs.Stream.{IfOctets, moved};

@@ -1,6 +1,5 @@
 //! A network in memory, for tests.
-ghost use Rattle.std.specs.Prelude.{◌≡◌, ◌≤◌, ◌++◌, ◌∷◌, [], length, map, IfSome, OnOk, OnErr};
-ghost use Rattle.std.specs.Option.{option_map};
+ghost use Rattle.std.specs.Prelude.{◌≡◌, ◌++◌, ◌∷◌, [], map, OnOk, OnErr};
 ghost use Rattle.dns_network.specs.MemoryNetwork.{Accepts, Receives, SendsDatagram, SendsNothing, TakesNote};
 ghost use Rattle.dns_network.specs.MemoryNetwork.{datagrams_from};
 

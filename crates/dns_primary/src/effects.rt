@@ -3,7 +3,6 @@ ghost use Rattle.std.specs.Prelude.{◌≡◌, ◌∷◌, ◌++◌, [], None, fa
 ghost use Rattle.dns_wire.specs.Message.{header_of};
 ghost use Rattle.dns_wire.specs.Codes.{number_of_rcode};
 ghost use Rattle.dns_wire.specs.Text.{text};
-ghost use Rattle.dns_request.specs.Codes.{rcode_servfail};
 ghost use Rattle.dns_answer.specs.Answer.{bare_reply};
 ghost use Rattle.dns_primary.specs.To.{is_nowhere};
 ghost use Rattle.dns_primary.specs.Flush.{Replied};
@@ -11,7 +10,6 @@ ghost use Rattle.dns_primary.specs.Step.{Effects as Stated};
 ghost use Rattle.dns_primary.specs.Keeps.{AreEffects};
 ghost use Rattle.dns_primary.specs.Queue.{asked_of};
 ghost use Rattle.dns_primary.specs.Steps.{answered_with, lack_reply, nothing, one_reply};
-ghost use Rattle.dns_primary.specs.declared.event.Noted.TheVariants.{OutOfMemory as StatedLack};
 
 use crate::queue::UpdateRequest;
 use crate::update::Outcome;

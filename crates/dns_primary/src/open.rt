@@ -1,6 +1,6 @@
 //! Primaries over devices: the store of each zone is opened, and at the end all devices are handed out again.
 ghost use Rattle.std.specs.Prelude.{◌≡◌, ◌≤◌, ◌+◌, ◌++◌, ℕ, suc, List, length, map, vec_capacity, IfErr};
-ghost use Rattle.std.specs.Prelude.{IfOk, MatchResult};
+ghost use Rattle.std.specs.Prelude.{MatchResult};
 ghost use Rattle.dns_primary.specs.Machine.{Machine};
 ghost use Rattle.dns_names.specs.Name.{Labels};
 ghost use Rattle.dns_primary.specs.declared.event.Effects.{Effects as StatedEffects};

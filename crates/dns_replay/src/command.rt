@@ -1,7 +1,7 @@
 //! The commands of a script, one a line.
-ghost use Rattle.std.specs.Prelude.{◌≡◌, ℕ, List, [], ◌∷◌, length, MatchOption, IfOk, Some, codes};
+ghost use Rattle.std.specs.Prelude.{◌≡◌, ℕ, List, ◌∷◌, MatchOption, IfOk, Some, codes};
 ghost use Rattle.dns_names.specs.Name.{Labels};
-ghost use Rattle.dns_replay.specs.Commands.{AreWordsOf, Command as Stated, HasOctets, IsCount, IsNumber};
+ghost use Rattle.dns_replay.specs.Commands.{AreWordsOf, Command as Stated, HasOctets, IsCount};
 ghost use Rattle.dns_replay.specs.Commands.{SaysCommand, is_comment, said_command};
 ghost use Rattle.dns_replay.specs.Lines.{words};
 

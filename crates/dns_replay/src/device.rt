@@ -1,5 +1,5 @@
 //! Devices that a script runs over.
-ghost use Rattle.std.specs.Prelude.{◌≡◌, List, ℕ, IfOk};
+ghost use Rattle.std.specs.Prelude.{List, ℕ, IfOk};
 ghost use Rattle.dns_sectors.specs.Crash.{after_writes};
 ghost use Rattle.dns_sectors.specs.Device.{Only};
 ghost use Rattle.dns_sectors.specs.Kept.{kept};

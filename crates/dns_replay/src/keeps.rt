@@ -1,6 +1,6 @@
 //! What a crash keeps of the writes that are pending on the devices of zones: the words after `crash` and
 //! `reopen`.
-ghost use Rattle.std.specs.Prelude.{◌≡◌, ◌==◌, ◌∷◌, [], map, option_map, position, IfOk};
+ghost use Rattle.std.specs.Prelude.{◌≡◌, ◌==◌, [], map, option_map, position, IfOk};
 ghost use Rattle.std.specs.List.{slice_split};
 ghost use Rattle.dns_names.specs.Name.{names_eq};
 ghost use Rattle.dns_replay.specs.Commands.{said_keep, said_zone_keep};

@@ -1,5 +1,5 @@
 //! The effects of an event in print, a line each.
-ghost use Rattle.std.specs.Prelude.{◌≡◌, flat_map, length, map, slice_get, OnOk, Some};
+ghost use Rattle.std.specs.Prelude.{flat_map, length, map, slice_get, OnOk, Some};
 ghost use Rattle.std.specs.Io.KnownBytes.{Appends};
 ghost use Rattle.dns_primary.specs.Keeps.{AreEffects, header_out};
 ghost use Rattle.dns_primary.specs.Step.{Effects as Stated};

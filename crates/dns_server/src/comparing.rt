@@ -1,5 +1,5 @@
 //! What loading a zone's master file would change, in print, without loading it: `load --dry-run`.
-ghost use Rattle.std.specs.Prelude.{◌≡◌, ◌∷◌, [], IfOk, OnOk, MatchResult};
+ghost use Rattle.std.specs.Prelude.{◌∷◌, [], IfOk, OnOk, MatchResult};
 ghost use Rattle.std.specs.Io.KnownBytes.{Appends};
 ghost use Rattle.dns_server.specs.Compare.{ComparingEnds, ComparisonEnds, HasNoDifference, IsDifference};
 ghost use Rattle.dns_server.specs.Compare.{change_lines, difference_text, signed_lines};

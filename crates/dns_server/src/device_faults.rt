@@ -7,9 +7,8 @@ ghost use Rattle.dns_server.specs.DeviceFaults.{fault_of_migrate, fault_of_open}
 ghost use Rattle.dns_journal.specs.Reads.{OnlyReads};
 
 use dns_configuration::{FAILED, PrintedWord, REFUSED};
-use dns_sectors::{DeviceError, OpenDeviceError, Sectors};
+use dns_sectors::{OpenDeviceError, Sectors};
 use dns_store::{DeviceFormat, FormatError, MigrateError, OpenError, format_of};
-use std::alloc::AllocError;
 use std::fmt;
 use std::io::{self, Write};
 

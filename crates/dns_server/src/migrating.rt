@@ -9,7 +9,7 @@ use crate::devices::Devices;
 use dns_configuration::{DONE, FAILED, File, ZoneSettings, read_configuration, tell};
 use dns_memory::Heap;
 use dns_sectors::Sectors;
-use dns_store::{MigrateError, Migration, migrate as migrate_store};
+use dns_store::{Migration, migrate as migrate_store};
 use dns_zone::ZoneIndex;
 use std::alloc::Global;
 use std::io::{self, Write};

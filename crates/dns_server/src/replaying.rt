@@ -1,8 +1,5 @@
 //! A script over the zones of a configuration.
-ghost use Rattle.std.specs.Prelude.{◌≡◌, ◌⊎◌, length, map, IfOk};
-ghost use Rattle.dns_primary.specs.Machine.{Machine};
-ghost use Rattle.dns_primary.specs.Fresh.{IsFresh};
-ghost use Rattle.dns_replay.specs.Crashes.{IsCrash};
+ghost use Rattle.std.specs.Prelude.{◌≡◌, ◌⊎◌, length, IfOk};
 ghost use Rattle.dns_server.specs.Replay.{EndsFromFresh, IsUnmadeTold, ReplayEnds, device_paths};
 
 use crate::checking::Index;

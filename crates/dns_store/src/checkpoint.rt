@@ -1,6 +1,6 @@
 //! A checkpoint: the base moves to a later version, and of the changes the newest alone are kept.
 ghost use Rattle.std.specs.Prelude.{◌≡◌, ◌⊎◌, ◌≤◌, ◌<◌, ◌-◌, ◌↔◌, [], ℕ, true, false, length, drop, min};
-ghost use Rattle.std.specs.Prelude.{sum_by, IfOk, IfErr};
+ghost use Rattle.std.specs.Prelude.{sum_by, IfOk};
 ghost use Rattle.std.specs.Prelude.{OnOk, OnErr, MatchResult};
 ghost use Rattle.dns_names.specs.Name.{Labels};
 ghost use Rattle.dns_zone.specs.Records.{is_ordered};
@@ -9,7 +9,7 @@ ghost use Rattle.dns_sectors.specs.Device.{LeavesOnly};
 ghost use Rattle.dns_journal.specs.State.{device_of, is_closed, newest_number_of};
 ghost use Rattle.dns_journal.specs.Reads.{HasRisen};
 ghost use Rattle.dns_journal.specs.Bank.{sectors_for, snapshot_room_of, journal_room_of};
-ghost use Rattle.dns_store.specs.Versions.{Versions, Kept, newest_after, version_at, OpensAsEither, moved_to};
+ghost use Rattle.dns_store.specs.Versions.{Versions, Kept, newest_after, OpensAsEither, moved_to};
 ghost use Rattle.dns_store.specs.Versions.{closed_between};
 ghost use Rattle.dns_store.specs.Recovered.{AreLed};
 ghost use Rattle.dns_store.specs.Opens.{IsClosedBy, opens, journal_keeps as keeps_versions};

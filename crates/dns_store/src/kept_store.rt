@@ -1,7 +1,7 @@
 //! The store of a zone on a device, as the layer above sees it: a journal in versions, the zone at its base,
 //! and the changes from there.
-ghost use Rattle.std.specs.Prelude.{◌≡◌, ◌⊎◌, ◌≤◌, ◌+◌, ◌++◌, ◌*◌, ◌^◌, ◌↔◌, [], true, false, ℕ, List};
-ghost use Rattle.std.specs.Prelude.{length, drop, OnOk, OnErr};
+ghost use Rattle.std.specs.Prelude.{◌≡◌, ◌≤◌, ◌+◌, ◌*◌, ◌^◌, true};
+ghost use Rattle.std.specs.Prelude.{drop};
 
 use crate::{CheckpointError, ZoneStore};
 use dns_changes::Change;
@@ -38,15 +38,7 @@ impl<D: Sectors + Drop, I: ZoneIndex> Drop for KeptStore<D, I> {
 }
 
 impl<D: Sectors, I: ZoneIndex> KeptStore<D, I> {
-    ghost use Rattle.dns_sectors.specs.Device.{Only};
-    ghost use Rattle.dns_zone.specs.Zone.{Zone as Stated};
-    ghost use Rattle.dns_layout.specs.Sector.{open_count, bank_open, number};
-    ghost use Rattle.dns_layout.specs.Forms.{SaysRoot};
-    ghost use Rattle.dns_layout.specs.Journal.{AllBehind, place_behind};
-    ghost use Rattle.dns_layout.specs.Store.{Stored, OpensBy, bank_end, journal_place, version_of};
-    ghost use Rattle.dns_store.specs.Versions.{Shape, Kept, Opened, version_at};
-    ghost use Rattle.dns_store.specs.Recovered.{AreLed};
-    ghost use Rattle.dns_store.specs.Opens.{IsPartOf, base_of, sizes_of, fresh};
+    ghost use Rattle.dns_store.specs.Versions.{Kept, version_at};
     ghost use Rattle.dns_store.specs.Opening.{KeepsFrom, store_device, keeps};
     ghost use Rattle.dns_journal.specs.State.{newest_number_of};
 

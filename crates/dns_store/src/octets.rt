@@ -1,6 +1,5 @@
 //! How many octets the snapshot of a version has, counted beside it.
 ghost use Rattle.std.specs.Prelude.{◌≡◌, ◌≤◌, ◌<◌, ◌+◌, ◌*◌, ◌-◌, ◌^◌, ℕ, ◌∷◌, length};
-ghost use Rattle.std.specs.List.{flat_map};
 ghost use Rattle.dns_store.specs.Plain.{octets_of};
 
 use dns_changes::{Change, plain_len};

@@ -2,11 +2,10 @@
 //! cleared where the root says that it isn't.
 ghost use Rattle.std.specs.Prelude.{◌≡◌, ◌≤◌, ◌<◌, ◌+◌, ◌-◌, ◌*◌, ◌^◌, ◌↔◌, true, List, ℕ, OnOk};
 ghost use Rattle.dns_sectors.specs.Device.{Only, LeavesOnly, CountsFailure};
-ghost use Rattle.dns_layout.specs.Sector.{open_count, bank_open};
+ghost use Rattle.dns_layout.specs.Sector.{open_count};
 ghost use Rattle.dns_layout.specs.Forms.{SaysRoot};
-ghost use Rattle.dns_layout.specs.Journal.{AllBehind};
 ghost use Rattle.dns_layout.specs.Store.{Sizes, Stored, OpensBy, IsTidy};
-ghost use Rattle.dns_store.specs.Turn.{OpensRaised, IsRaised, StaysStored, other_bank_of};
+ghost use Rattle.dns_store.specs.Turn.{OpensRaised, StaysStored, other_bank_of};
 
 use dns_journal::clear_bank;
 use dns_layout::{Bank, Root};

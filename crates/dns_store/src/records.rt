@@ -1,8 +1,7 @@
 //! The zone that a snapshot's octets are: its records in plain form, in order.
-ghost use Rattle.std.specs.Prelude.{◌≡◌, ◌⊎◌, List, true, IfOk, IfErr};
-ghost use Rattle.std.specs.List.{AllByRecursion, flat_map};
-ghost use Rattle.dns_records.specs.Record.{Record as Stated, IsRecord, plain};
-ghost use Rattle.dns_zone.specs.Records.{is_ordered};
+ghost use Rattle.std.specs.Prelude.{◌≡◌, ◌⊎◌, List, IfOk, IfErr};
+ghost use Rattle.std.specs.List.{flat_map};
+ghost use Rattle.dns_records.specs.Record.{Record as Stated, plain};
 ghost use Rattle.dns_zone.specs.Zone.{IsZone};
 ghost use Rattle.dns_store.specs.Snapshot.{AreStored, IsNoSnapshot};
 
@@ -10,7 +9,7 @@ use dns_changes::{ChangeError, split_record};
 use dns_memory::Heap;
 use dns_names::Name;
 use dns_records::Record;
-use dns_zone::{Zone, ZoneError, ZoneIndex, rises, set_of};
+use dns_zone::{Zone, ZoneIndex, rises, set_of};
 use std::alloc::AllocError;
 
 // The zone of this apex whose snapshot the octets are; `BadBytes` where they are none's.

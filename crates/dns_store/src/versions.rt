@@ -1,8 +1,7 @@
 //! The versions after the base, read from the journal.
-ghost use Rattle.std.specs.Prelude.{◌≡◌, ◌⊎◌, ◌≤◌, ◌<◌, List, ℕ, None, true, IfOk, IfErr, OnOk, MatchResult};
-ghost use Rattle.std.specs.List.{AllByRecursion, flat_map};
+ghost use Rattle.std.specs.Prelude.{◌≡◌, ◌⊎◌, ◌≤◌, ◌<◌, List, ℕ, None, IfOk, IfErr, OnOk, MatchResult};
 ghost use Rattle.dns_records.specs.Record.{Record as Stated};
-ghost use Rattle.dns_zone.specs.Zone.{Zone as StatedZone, IsZone};
+ghost use Rattle.dns_zone.specs.Zone.{IsZone};
 ghost use Rattle.dns_layout.specs.Sector.{sector_at};
 ghost use Rattle.dns_layout.specs.Own.{IsIntactIn, IsAltered};
 ghost use Rattle.dns_layout.specs.Journal.{Entry};
@@ -21,7 +20,7 @@ use crate::OpenError;
 use crate::incremental_check::next_zone;
 use crate::octets::{octets_after, snapshot_len};
 use dns_changes::{Change, ChangeError};
-use dns_journal::{Cursor, ReadError, next_entry};
+use dns_journal::{Cursor, next_entry};
 use dns_layout::{Format, snapshot_sectors_in};
 use dns_memory::Heap;
 use dns_sectors::Sectors;

@@ -1,6 +1,6 @@
 //! Changes that are staged after a zone's newest version, where there is room, and what room they lack.
 ghost use Rattle.std.specs.Prelude.{◌≡◌, ◌≤◌, true, length, Some, None, IfOk, OnOk, OnErr};
-ghost use Rattle.dns_zone.specs.Zone.{Zone as Stated, IsZone, zone_fault};
+ghost use Rattle.dns_zone.specs.Zone.{Zone as Stated, zone_fault};
 ghost use Rattle.dns_changes.specs.Change.{IsChange};
 ghost use Rattle.dns_changes.specs.Version.{IsVersionAfter};
 ghost use Rattle.dns_store.specs.Versions.{Kept, StandsStill, newest_of, staged_with};
