@@ -49,7 +49,7 @@ pub struct ZoneSettings {
     pub snapshot_sectors: u32,
     /// How many sectors a journal has, 8 to 65,536.
     pub journal_sectors: u32,
-    /// How many versions are kept, at most 65,536.
+    /// How many changes a checkpoint keeps at most, 0 to 65,536.
     pub keep: u32,
     /// Who may update the zone (RFC 2136).
     pub update: Vec<Prefix>,

@@ -1,4 +1,4 @@
-//! Stores of format 1, by the tables of that format: no program writes one any longer.
+//! Stores of format 1, by the tables of that format: no program of this repository writes one.
 use crate::example::{ENTRY, EXAMPLE, TEXTS, fill, has_sum};
 use crate::stores::{Device, Shape, push_text, write};
 use dns_givens::{blank, name, plan};

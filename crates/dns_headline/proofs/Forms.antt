@@ -37,7 +37,7 @@ all_fit (r ∷ rs) h =
 abbrev pub Means : Labels → Option Zone → List Record → List Record → Type 0
 Means apex held answer set = IsCurrent apex held answer set ⊎ IsWholeZone apex answer set ⊎ IsChanged apex held answer set
 
--- an answer longer than its SOA is of one who is pending
+-- an answer longer than its SOA is of one who has an older version
 abbrev pub IsNewer : Option Zone → List Record → Type 0
 IsNewer held [] = Unit {0}
 IsNewer held (soa ∷ []) = Unit {0}

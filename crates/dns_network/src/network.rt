@@ -35,7 +35,8 @@ pub trait Network<S> {
     fn send(&mut self, to: Peer, octets: &[u8])
         ensures { sends self.old to octets.now self.new };
 
-    /// Looks at what came meanwhile. It is called before a flush and after it, since that takes long.
+    /// Looks at what came meanwhile. It is called before a flush and after it, since that takes long, and by a
+    /// server in every 32nd turn.
     fn look(&mut self)
         ensures { looks self.old self.new };
 
@@ -59,7 +60,7 @@ pub enum Note {
     Closed(usize),
     /// Memory was refused.
     OutOfMemory,
-    /// The device of the zone at this position failed.
+    /// The device of the zone at this position was the first that failed in an event.
     Device(usize),
 }
 

@@ -27,7 +27,7 @@ use dns_store::ZoneStore;
 use dns_transfer::{Session, Version};
 use dns_versions::shown_changes;
 use dns_wire::Rcode;
-use dns_zone::ZoneIndex;
+use dns_zone::{Zone, ZoneIndex};
 use std::alloc::AllocError;
 
 /// A transfer that is open on a connection.
@@ -207,6 +207,29 @@ fn refusal(alloc: Heap, to: To, request: &RequestMessage<'_>, rcode: Rcode) -> E
     }
 }
 
+/// No version of any of these zones. (A call that is given `None` as it is has no proof: nothing says how long
+/// the version that isn't there is lent.)
+fn no_version<I: ZoneIndex>(_zones: &[Zone<I>]) -> Option<Version<'_, I>>
+    ensures { result ≡ None }
+{
+    None
+}
+
+/// The response code of the refusal of a transfer of a zone that is none of these.
+fn open_unheld<I: ZoneIndex>(
+    alloc: Heap,
+    zones: &[Zone<I>],
+    request: &RequestMessage<'_>,
+    transport: Transport,
+) -> Result<Result<Session<I>, Rcode>, AllocError>
+    ensures opens { IfOk result
+        (λ opened. Opens transport request.now.message.octets request.now.message.message
+        request.now.question None false opened) }
+    ensures some { IfOk result (λ opened. IfOk opened (λ s. s.left ≡ [] → ⊥)) }
+{
+    Session::open(alloc, no_version(zones), false, request, transport)
+}
+
 impl<I: ZoneIndex, S: ZoneStore> Primary<I, S> {
     /// Whether no transfer is open where a reply goes.
     fn is_free(&self, to: To) -> bool
@@ -264,7 +287,7 @@ impl<I: ZoneIndex, S: ZoneStore> Primary<I, S> {
     {
         let name = request.question.name().to_name(alloc)?;
         match place_of(&self.zones, &name.lend()) {
-            None => Session::open(alloc, None, false, request, transport_of(to)),
+            None => open_unheld(alloc, &self.zones, request, transport_of(to)),
             Some(place) => self.open_shown(alloc, place, peer, to, request),
         }
     }

@@ -8,5 +8,5 @@ use Rattle.dns_replay.specs.Keeps.{is_among}
 pub keep_here : (keeps : List ZoneKeep) (zone i : ℕ) (k : ZoneKeep) → i < length keeps → ((get_or keeps i k).zone == zone) ≡ true → is_among zone (map said_zone_keep (drop i keeps)) ≡ true
 keep_here keeps zone i k inside e = ap (λ (ks : List ZoneKeep). is_among zone (map said_zone_keep ks)) (drop_more keeps i k inside) ∙ ap (λ (b : Bool). b || is_among zone (map said_zone_keep (drop (i + 1) keeps))) e
 
-pub keep_pending : (keeps : List ZoneKeep) (zone i : ℕ) (k : ZoneKeep) → i < length keeps → ((get_or keeps i k).zone == zone) ≡ false → is_among zone (map said_zone_keep (drop i keeps)) ≡ is_among zone (map said_zone_keep (drop (i + 1) keeps))
-keep_pending keeps zone i k inside e = ap (λ (ks : List ZoneKeep). is_among zone (map said_zone_keep ks)) (drop_more keeps i k inside) ∙ ap (λ (b : Bool). b || is_among zone (map said_zone_keep (drop (i + 1) keeps))) e
+pub keep_after : (keeps : List ZoneKeep) (zone i : ℕ) (k : ZoneKeep) → i < length keeps → ((get_or keeps i k).zone == zone) ≡ false → is_among zone (map said_zone_keep (drop i keeps)) ≡ is_among zone (map said_zone_keep (drop (i + 1) keeps))
+keep_after keeps zone i k inside e = ap (λ (ks : List ZoneKeep). is_among zone (map said_zone_keep ks)) (drop_more keeps i k inside) ∙ ap (λ (b : Bool). b || is_among zone (map said_zone_keep (drop (i + 1) keeps))) e

@@ -28,18 +28,18 @@ if_greater last None = None
 if_greater last (Some n) = if nat_lt last n then Some n else None
 
 -- Numbers after others, in decimal digits, each greater than the one before it.
-abbrev pub numbers_pending : List ℕ → ℕ → List (List ℕ) → Option (List ℕ)
-numbers_pending before last [] = Some before
-numbers_pending before last (text ∷ rest) = elim (if_greater last (number_of_text (2 ^ 32) text)) [
+abbrev pub numbers_after : List ℕ → ℕ → List (List ℕ) → Option (List ℕ)
+numbers_after before last [] = Some before
+numbers_after before last (text ∷ rest) = elim (if_greater last (number_of_text (2 ^ 32) text)) [
   | None ↦ None
-  | Some n ↦ numbers_pending (before ++ n ∷ []) n rest
+  | Some n ↦ numbers_after (before ++ n ∷ []) n rest
 ]
 
 -- `all`, or numbers from 1, rising, with commas between.
 abbrev pub keep_of : List ℕ → Option Keep
 keep_of text =
     if bytes_eq text (codes "all") then Some All
-    else option_map These (numbers_pending [] 0 (slice_split is_comma text))
+    else option_map These (numbers_after [] 0 (slice_split is_comma text))
 
 -- The index of the first zone of that name.
 abbrev pub place_under : List Labels → Result Labels NameError → Option ℕ
@@ -72,12 +72,12 @@ unless_among before None = None
 unless_among before (Some k) = if is_among k.zone before then None else Some k
 
 -- What words say of one zone each, after others; no zone twice.
-abbrev pub keeps_pending : List Labels → List ZoneKeep → List (List ℕ) → Option (List ZoneKeep)
-keeps_pending origins before [] = Some before
-keeps_pending origins before (word ∷ rest) = elim (unless_among before (zone_keep_of origins word)) [
+abbrev pub keeps_after : List Labels → List ZoneKeep → List (List ℕ) → Option (List ZoneKeep)
+keeps_after origins before [] = Some before
+keeps_after origins before (word ∷ rest) = elim (unless_among before (zone_keep_of origins word)) [
   | None ↦ None
-  | Some k ↦ keeps_pending origins (before ++ k ∷ []) rest
+  | Some k ↦ keeps_after origins (before ++ k ∷ []) rest
 ]
 
 abbrev pub keeps_of : List Labels → List (List ℕ) → Option (List ZoneKeep)
-keeps_of origins words = keeps_pending origins [] words
+keeps_of origins words = keeps_after origins [] words

@@ -205,13 +205,13 @@ fn reopen(alloc: Heap, origins: &[Name], rest: &[u8]) -> Result<Option<Command>,
         ((c : Stated) → ¬ (AreWordsOf origins.now (codes "reopen" ∷ words rest.now) c))
         (λ c. AreWordsOf origins.now (codes "reopen" ∷ words rest.now) (said_command c))) }
 {
-    let Some((digits, pending)) = first_word(rest) else {
+    let Some((digits, after)) = first_word(rest) else {
         return Ok(None);
     };
     let Some(n) = count(digits) else {
         return Ok(None);
     };
-    match keeps(alloc, origins, pending)? {
+    match keeps(alloc, origins, after)? {
         Some(keeps) => Ok(Some(Command::Reopen(n, keeps))),
         None => Ok(None),
     }

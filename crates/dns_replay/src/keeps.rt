@@ -4,7 +4,7 @@ ghost use Rattle.std.specs.Prelude.{◌≡◌, ◌==◌, [], map, option_map, po
 ghost use Rattle.std.specs.List.{slice_split};
 ghost use Rattle.dns_names.specs.Name.{names_eq};
 ghost use Rattle.dns_replay.specs.Commands.{said_keep, said_zone_keep};
-ghost use Rattle.dns_replay.specs.Keeps.{is_among, is_comma, keep_of, keeps_of, numbers_pending, place_named};
+ghost use Rattle.dns_replay.specs.Keeps.{is_among, is_comma, keep_of, keeps_of, numbers_after, place_named};
 ghost use Rattle.dns_replay.specs.Keeps.{zone_keep_of};
 ghost use Rattle.dns_replay.specs.Lines.{words};
 
@@ -36,13 +36,13 @@ pub struct ZoneKeep {
 fn numbers(alloc: Heap, text: &[u8]) -> Result<Option<Vec<u64, Heap>>, AllocError>
     ensures { IfOk result
         (λ read. option_map (λ numbers. numbers.items) read
-        ≡ numbers_pending [] 0 (slice_split is_comma text.now)) }
+        ≡ numbers_after [] 0 (slice_split is_comma text.now)) }
 {
     let mut numbers = Vec::new(alloc);
     let mut last = 0;
     let mut rest = Some(text);
     'pieces: while let Some(piece) = rest {
-        let (digits, pending) = cut_at(piece, b',');
+        let (digits, after) = cut_at(piece, b',');
         match number(digits) {
             Some(next) if next > last => {
                 numbers.push(u64::from(next))?;
@@ -50,7 +50,7 @@ fn numbers(alloc: Heap, text: &[u8]) -> Result<Option<Vec<u64, Heap>>, AllocErro
             }
             _ => return Ok(None),
         }
-        rest = pending;
+        rest = after;
     }
     Ok(Some(numbers))
 }
@@ -131,12 +131,12 @@ pub(crate) fn keeps(
 {
     let mut keeps = Vec::new(alloc);
     let mut rest = text;
-    'words: while let Some((word, pending)) = first_word(rest) {
+    'words: while let Some((word, after)) = first_word(rest) {
         match zone_keep(alloc, origins, word)? {
             Some(keep) if !is_among(keep.zone, &keeps) => keeps.push(keep)?,
             _ => return Ok(None),
         }
-        rest = pending;
+        rest = after;
     }
     Ok(Some(keeps))
 }

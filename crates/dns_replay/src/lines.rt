@@ -39,11 +39,11 @@ pub(crate) fn first_word(text: &[u8]) -> Option<(&[u8], &[u8])>
 {
     let mut rest = text;
     'blanks: while !rest.is_empty() {
-        let (word, pending) = cut_at_blank(rest);
+        let (word, after) = cut_at_blank(rest);
         if !word.is_empty() {
-            return Some((word, pending));
+            return Some((word, after));
         }
-        rest = pending;
+        rest = after;
     }
     None
 }
@@ -52,8 +52,8 @@ pub(crate) fn first_word(text: &[u8]) -> Option<(&[u8], &[u8])>
 pub(crate) fn only_word(text: &[u8]) -> Option<&[u8]>
     ensures { MatchOption result ((w : List ℕ) → words text.now ≢ w ∷ []) (λ w. words text.now ≡ w.now ∷ []) }
 {
-    let (word, pending) = first_word(text)?;
-    if first_word(pending).is_some() {
+    let (word, after) = first_word(text)?;
+    if first_word(after).is_some() {
         return None;
     }
     Some(word)
@@ -64,8 +64,8 @@ pub(crate) fn two_words(text: &[u8]) -> Option<(&[u8], &[u8])>
     ensures { MatchOption result ((v w : List ℕ) → words text.now ≢ v ∷ w ∷ [])
         (λ r. words text.now ≡ r.0.now ∷ r.1.now ∷ []) }
 {
-    let (first, pending) = first_word(text)?;
-    let second = only_word(pending)?;
+    let (first, after) = first_word(text)?;
+    let second = only_word(after)?;
     Some((first, second))
 }
 
@@ -99,8 +99,8 @@ pub(crate) fn cut_at(text: &[u8], octet: u8) -> (&[u8], Option<&[u8]>)
         ≡ result.0.now ∷ pieces_left (λ c. c == octet) (option_copied result.1) }
     ensures less { room (option_copied result.1) ≤ length text.now }
 {
-    let (front, pending) = parted_at(text, octet);
-    (front, pending)
+    let (front, after) = parted_at(text, octet);
+    (front, after)
 }
 
 /// A line without the carriage return at its end, if it has one.
@@ -119,6 +119,6 @@ pub fn split_line(script: &[u8]) -> (&[u8], Option<&[u8]>)
     ensures line { lines script.now ≡ result.0.now ∷ lines_left (option_copied result.1) }
     ensures less { room (option_copied result.1) ≤ length script.now }
 {
-    let (line, pending) = cut_at(script, b'\n');
-    (without_return(line), pending)
+    let (line, after) = cut_at(script, b'\n');
+    (without_return(line), after)
 }

@@ -172,7 +172,7 @@ pub fn run_script<D: ScriptDevice, I: ZoneIndex, W: Write>(
     let mut number: u64 = 1;
     let mut rest = Some(script);
     'lines: while let Some(text) = rest {
-        let (line, pending) = split_line(text);
+        let (line, after) = split_line(text);
         match run_line(world, &mut running, &mut devices, line, out) {
             Ok(After::GoesOn) => {}
             Ok(After::NoCommand) => return Ending::Syntax(number),
@@ -180,7 +180,7 @@ pub fn run_script<D: ScriptDevice, I: ZoneIndex, W: Write>(
             Err(_) => return Ending::Failed,
         }
         number += 1;
-        rest = pending;
+        rest = after;
     }
     Ending::Done
 }

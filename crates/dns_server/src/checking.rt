@@ -49,7 +49,7 @@ fn checked<W: Write, E: Write>(
 
 /// Reads the master file of a zone whose apex is the text `origin`. Prints `ok N records serial M`, or tells
 /// in one line what is wrong:
-/// `ORIGIN: BadOrigin`, `FILE: Unreadable`, `FILE:LINE: Refusal` of an entry, or `FILE: Refusal` of the zone.
+/// `ORIGIN: BadOrigin`, `FILE: Unreadable`, `FILE:LINE: Fault` of an entry, or `FILE: Fault` of the zone.
 /// Gives the exit status:
 /// `DONE`, `REFUSED`, or `FAILED` where a writer failed or memory was refused.
 pub fn check<W: Write, E: Write>(

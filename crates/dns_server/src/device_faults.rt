@@ -93,7 +93,7 @@ impl From<MigrateError> for DeviceFault {
 }
 
 /// Why a device was refused whose store was not opened, for this reason; it was handed back. A root of
-/// format 1, which is no root of today's format, is reported as what it is. It is only read, and only where
+/// format 1, which is no root of format 2, is reported as what it is. It is only read, and only where
 /// sector 0 is said to be wrong. `Device` where it fails then.
 pub fn refusal<D: Sectors>(device: &mut D, error: OpenError) -> DeviceFault
     ensures fault { IsFaultOf D.Sectors error device.old device.new result }

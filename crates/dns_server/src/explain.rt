@@ -86,11 +86,11 @@ fn first_wildcard_ns(records: &[Record]) -> Option<Clash> {
 /// The second SOA, and the first.
 fn second_soa(records: &[Record]) -> Option<Clash> {
     let earlier = records.iter().position(|r| r.rtype() == SOA)?;
-    let pending = records[earlier + 1..]
+    let later = records[earlier + 1..]
         .iter()
         .position(|r| r.rtype() == SOA)?;
     Some(Clash {
-        place: earlier + 1 + pending,
+        place: earlier + 1 + later,
         earlier: Some(earlier),
     })
 }

@@ -27,9 +27,9 @@ fn explain_script<E: Write>(
         let Some(text) = rest else {
             return Ok(());
         };
-        let (line, pending) = split_line(text);
+        let (line, after) = split_line(text);
         number = number.saturating_add(1);
-        rest = pending;
+        rest = after;
         if read_command(heap, origins, line)?.is_none() {
             let met = PrintedWord(line);
             return writeln!(err, "{what}:{number}: '{met}': {COMMANDS} is expected");

@@ -129,7 +129,7 @@ fn load_named<D: Sectors + Drop, F: Devices<D>, I: ZoneIndex, W: Write, E: Write
 /// Makes the records of the master file of a configuration's zone the next version of the store that the
 /// zone's device keeps, durable where it is printed: `loaded ORIGIN version V serial M, A added, R removed`,
 /// or `ORIGIN already` where the newest version has these records. How many came and went is without the SOA.
-/// Where the journal is too full for one more change, the zone's newest `keep` changes stay.
+/// Where the journal is too full for one more change, at most the zone's newest `keep` changes stay.
 ///
 /// Faults are reported in one line, the first in this order: the configuration, the origin
 /// (`ORIGIN: BadOrigin`), the master file (as `check` reports them), the device,

@@ -5,7 +5,7 @@ use dns_memory::Heap;
 use std::cell::Cell;
 use std::rc::Rc;
 
-/// A set of numbers below 128, each a bit. Its contents change pending a `&`.
+/// A set of numbers below 128, each a bit. Its contents change through a `&`.
 #[derive(Drop)]
 struct Bits(Cell<u128>);
 
@@ -61,9 +61,8 @@ impl Readiness {
         }
     }
 
-    /// Whether on each connection both the last read and the last write said that it would wait. One that has
-    /// octets to write isn't read, and one that has none isn't written to: so one that is ready for either is
-    /// counted as ready until an event or a call tells more.
+    /// Whether on each connection the last read or the last write said that it would wait. One that has octets
+    /// to write isn't read, and one that has none isn't written to.
     pub(crate) fn is_still(&self) -> bool {
         self.taken.0.get() & self.may_read.0.get() & self.may_write.0.get() == 0
     }

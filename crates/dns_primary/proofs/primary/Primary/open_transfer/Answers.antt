@@ -13,7 +13,7 @@ use Rattle.dns_primary.specs.Update.{zone_position}
 use Rattle.dns_primary.specs.Transfer.{is_free, may_have, transport_of, transfer_version, zone_at, zone_named}
 use Rattle.dns_primary.proofs.Admitted.{same_place}
 use Rattle.dns_primary.proofs.Places.{long3_first, some_at}
-use Rattle.dns_primary.proofs.Transferred.{opened_some, opens_as}
+use Rattle.dns_primary.proofs.Transferred.{opens_as}
 use Rattle.dns_primary.proofs.primary.Primary.open_transfer.Goals as goal
 
 pub open_shown-requires : goal.open_shown-requires
@@ -28,13 +28,8 @@ returns-in-None-clause-opens g c m kept =
     ∙ ap (λ (zs : List Zone). position (λ (z : Zone). names_eq z.apex c.lend.result) zs) (sym c.deref.ensures.value) ∙ sym c.place_of.ensures.place ∙ c.in-None.is in
     let zone : zone_named q.question.name m.zones ≡ None = ap (zone_at m.zones) at in
     opens_as c.transport_of.result (transport_of c.args.to) q.message.octets q.message.message q.question None (option_map transfer_version (zone_named q.question.name m.zones)) false
-    (may_have c.args.peer.address (zone_named q.question.name m.zones) && is_free c.args.to m.connections) c.open.result c.transport_of.ensures (ap (option_map transfer_version) (sym zone))
-    (ap (λ o. may_have c.args.peer.address o && is_free c.args.to m.connections) (sym zone)) c.open.ensures
-
-pub returns-in-None-clause-some : goal.returns-in-None-clause-some
-returns-in-None-clause-some g c =
-    let q = c.args.request.now in
-    opened_some c.transport_of.result q.message.octets q.message.message q.question None false c.open.result c.open.ensures
+    (may_have c.args.peer.address (zone_named q.question.name m.zones) && is_free c.args.to m.connections) c.open_unheld.result c.transport_of.ensures (ap (option_map transfer_version) (sym zone))
+    (ap (λ o. may_have c.args.peer.address o && is_free c.args.to m.connections) (sym zone)) c.open_unheld.ensures.opens
 
 pub returns-clause-opens : goal.returns-clause-opens
 returns-clause-opens g c m kept =
