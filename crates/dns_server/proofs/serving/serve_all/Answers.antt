@@ -29,7 +29,7 @@ returns-in-Ok-open_primary g c =
     served g.D.Sectors opened c.args.config.now configuration c.args.turns c.args.explain _ _ c.serve_as-status.result back c.in-Ok.ensures.held
     (elim c.serve_as-status.ensures [
       | inl failed ↦ inl failed
-      | inr (done, turned) ↦ inr (done, served_for g.D.Sectors opened configuration.zones.items c.args.turns (λ m. IsKept primary m) (λ m. IsKept after m) back is turned c.in_ok-give_back.ensures)
+      | inr (done, turned) ↦ inr (done, served_for g.D.Sectors opened configuration.zones.items c.args.turns (λ m. IsKept primary m) (λ m. IsKept after m) back is turned c.in_ok-give_back-in-Ok-open_primary.ensures)
     ])
 
 pub returns : goal.returns
