@@ -20,6 +20,9 @@ use std::marker::Model;
 /// The octets that a message and one record more have room in, whatever the record.
 const ROOM: usize = 65535;
 
+/// How many octets there are for the record that no longer fits: few have more.
+const SPARE: usize = 512;
+
 /// How many targets are searched one by one, after those of the apex, under which most names of a transfer
 /// are.
 const FEW_PLACES: usize = 2;
@@ -147,7 +150,7 @@ impl<'a> MessageBuilder<'a> {
         ensures refused { IfErr result (RefusesUpTo limit (length (text (stated reply.entry)))) }
     {
         let mut compressor = Compressor {
-            octets: Octets::with_room(alloc, limit)?,
+            octets: Octets::with_room(alloc, limit + SPARE)?,
             places: Places::new(alloc, FEW_PLACES),
             limit,
         };

@@ -26,6 +26,15 @@ impl Model for Octets {
     ghost invariant = { λ o. o.len ≤ length o.buffer.items };
 }
 
+/// Writes octets in place of the first ones of a buffer.
+#[inline(always)]
+fn copy_front(buffer: &mut Vec<u8, Heap>, octets: &[u8])
+    requires { length octets.now ≤ length buffer.old.items }
+    ensures { buffer.new.items ≡ octets.now ++ drop (length octets.now) buffer.old.items }
+{
+    buffer.as_mut_slice()[0..octets.len()].copy_from_slice(octets);
+}
+
 /// Makes room in a buffer for so many octets after the first ones.
 #[cold]
 #[inline(never)]
@@ -36,7 +45,11 @@ fn grow(buffer: &mut Vec<u8, Heap>, len: usize, more: usize) -> Result<(), Alloc
     ensures room { OnOk result (len + more ≤ length buffer.new.items) }
 {
     let raised = buffer.len().saturating_mul(4);
-    buffer.resize(raised.max(len.saturating_add(more)), 0)
+    let room = raised.max(len.saturating_add(more));
+    let mut wider = vec![in *buffer.allocator(); 0; room]?;
+    copy_front(&mut wider, &buffer.as_slice()[..len]);
+    *buffer = wider;
+    Ok(())
 }
 
 /// Writes a number into the two octets before an offset.
