@@ -9,6 +9,7 @@ ghost use Rattle.dns_answer.specs.Known.{is_address, none_stands, stood, AreAmon
 ghost use Rattle.dns_answer.specs.Known.{HasNoAddressOf};
 ghost use Rattle.dns_answer.specs.Added.{AddsUnseen, AddsUpTo, record_count};
 
+use crate::hosts::Hosts;
 use crate::names::Names;
 use crate::section::Section;
 use dns_memory::Heap;
@@ -186,7 +187,7 @@ impl<'a> Sections<'a> {
         zone: &'a Zone<I>,
         stored: &'b Record,
         owners: &Names<'a>,
-        known: &mut Names<'b>,
+        known: &mut Hosts<'b>,
         most: u16,
     ) -> Result<(), AllocError>
         requires { AreHosts most zone.now owners.now known.old self.old }
@@ -265,7 +266,7 @@ impl<'a> Sections<'a> {
         ensures { OnOk result
             (AddsUpTo most self.old self.new (flat_map addresses_for (from_zone zone.now records.now))) }
     {
-        let mut known = Names::new(alloc);
+        let mut known = Hosts::new(alloc);
         for stored in records {
             if self.has_more(most) {
                 return Ok(());

@@ -1,5 +1,5 @@
 //! Sets of names, lent.
-ghost use Rattle.std.specs.Prelude.{◌≡◌, ◌||◌, [], not, IfOk, OnOk};
+ghost use Rattle.std.specs.Prelude.{◌≡◌, ◌||◌, [], true, not, IfOk, OnOk};
 ghost use Rattle.std.specs.List.{list_any};
 ghost use Rattle.std.specs.Option.{option_to_list};
 ghost use Rattle.dns_names.specs.Name.{Labels, names_eq};
@@ -52,6 +52,13 @@ impl<'a> Names<'a> {
         }
     }
 
+    /// Whether there is none.
+    pub(crate) fn is_empty(&self) -> bool
+        ensures { result ≡ true → self.now ≡ [] }
+    {
+        self.first.is_none() & self.octets.is_empty()
+    }
+
     /// Whether the name is one of them.
     pub(crate) fn has(&self, name: &NameRef<'_>) -> bool
         ensures { result ≡ list_any (names_eq name.now) self.now }
@@ -67,7 +74,7 @@ impl<'a> Names<'a> {
             → list_any (names_eq other) self.new
             ≡ (names_eq other name.entry || list_any (names_eq other) self.old)) }
     {
-        if self.first.is_none() & self.octets.is_empty() {
+        if self.is_empty() {
             self.first = Some(name);
             return Ok(true);
         }

@@ -4,7 +4,7 @@ ghost use Rattle.std.specs.Prelude.{◌≡◌, ◌≢◌, ◌≤◌, ◌<◌, �
 ghost use Rattle.std.specs.Prelude.{IfErr, OnOk};
 ghost use Rattle.dns_sectors.specs.Device.{Only, LeavesOnly, CountsFailure};
 ghost use Rattle.dns_sectors.specs.Crash.{after_writes, CrashOf};
-ghost use Rattle.dns_sectors.specs.Phase.{pairs, AllWithin};
+ghost use Rattle.dns_sectors.specs.Phase.{AllWithin};
 ghost use Rattle.dns_layout.specs.Sector.{snapshot_sectors as sectors_of_snapshot};
 ghost use Rattle.dns_layout.specs.Forms.{SaysRootIn, bank_number};
 ghost use Rattle.dns_layout.specs.Store.{Sizes, Stored, OpensByIn, version_of};

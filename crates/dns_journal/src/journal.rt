@@ -1,6 +1,6 @@
 //! A journal that is written: staged entries become durable in two phases, first their bodies and then their
 //! heads. Its entries are `stage` and `flush`.
-ghost use Rattle.std.specs.Prelude.{length, take, drop, replicate, ◌≤◌, ◌+◌, ◌-◌, ◌^◌, ◌++◌, ◌∷◌, ◌≡◌, ◌≢◌};
+ghost use Rattle.std.specs.Prelude.{length, ◌≤◌, ◌+◌, ◌-◌, ◌^◌, ◌++◌, ◌∷◌, ◌≡◌};
 ghost use Rattle.std.specs.Prelude.{◌<◌, ◌↔◌, [], ℕ, List};
 ghost use Rattle.std.specs.Prelude.{true, false, ◌*◌, IsOk, OnOk, OnErr};
 ghost use Rattle.dns_sectors.specs.Device.{Only, LeavesOnly, CountsFailure};
@@ -76,11 +76,9 @@ pub struct Journal<D: Sectors> {
 }
 
 impl<D: Sectors> Journal<D> {
-    ghost use Rattle.dns_layout.specs.Sector.{open_count, bank_open, number};
-    ghost use Rattle.dns_layout.specs.Forms.{SaysRoot};
-    ghost use Rattle.dns_layout.specs.Journal.{Entry, entry_size, entry_octets, AllBehind, place_behind};
-    ghost use Rattle.dns_layout.specs.Store.{Sizes, Stored, OpensBy, with_more, bank_end, journal_place};
-    ghost use Rattle.dns_layout.specs.Store.{version_of};
+    ghost use Rattle.dns_layout.specs.Sector.{open_count, number};
+    ghost use Rattle.dns_layout.specs.Journal.{Entry, entry_size, entry_octets, place_behind};
+    ghost use Rattle.dns_layout.specs.Store.{Sizes, Stored, with_more, bank_end, journal_place};
     ghost use Rattle.dns_journal.specs.State.{Keeps, LeavesPart, JournalLeavesOnly, HasJournalFailed};
     ghost use Rattle.dns_journal.specs.State.{BeginsAt, is_closed};
     ghost use Rattle.dns_journal.specs.State.{device_of, free_sectors};

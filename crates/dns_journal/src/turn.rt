@@ -11,7 +11,7 @@ ghost use Rattle.dns_layout.specs.Sector.{blank, payload_room, open_count, bank_
 ghost use Rattle.dns_layout.specs.Forms.{SaysPart, bank_number};
 ghost use Rattle.dns_layout.specs.Own.{Own};
 ghost use Rattle.dns_layout.specs.Journal.{AllBehind};
-ghost use Rattle.dns_layout.specs.Store.{Sizes, Stored, OpensBy, OpensAs, IsTidy, version_of, other_of};
+ghost use Rattle.dns_layout.specs.Store.{Sizes, Stored, OpensBy, version_of, other_of};
 ghost use Rattle.dns_journal.specs.Bank.{part_of, piece, HoldsOctets, sectors_for, PushesParts, PushesEntry};
 ghost use Rattle.dns_journal.specs.Bank.{PushesEntries};
 ghost use Rattle.dns_journal.specs.Bank.{LaysBank, Turns, IsTurnedTo};

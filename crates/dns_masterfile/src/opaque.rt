@@ -1,10 +1,9 @@
 //! Types without a form, and their data, in the words of an entry (RFC 3597 section 5).
-ghost use Rattle.std.specs.Prelude.{◌≡◌, ◌⊎◌, ◌^◌, ◌≤◌, [], Ok, Err, Some, None, true, length, MatchOption};
+ghost use Rattle.std.specs.Prelude.{◌≡◌, ◌⊎◌, ◌≤◌, [], Ok, Err, Some, None, true, length};
 ghost use Rattle.std.specs.Prelude.{MatchResult};
 ghost use Rattle.std.specs.List.{list_all};
 ghost use Rattle.hex.specs.Hex.{decode_of, is_hex_digit};
 ghost use Rattle.dns_records.specs.Types.{form as form_of, is_data_type, is_opaque};
-ghost use Rattle.dns_masterfile.specs.Text.{number_of_text};
 ghost use Rattle.dns_masterfile.specs.Opaque.{is_numbered, is_opaque_mark, opaque_only, type_of_number};
 ghost use Rattle.dns_masterfile.specs.Reading.{digits_in, sized, take_mark, take_opaque, take_size};
 ghost use Rattle.dns_masterfile.specs.Scan.{stated_word};

@@ -1,8 +1,8 @@
 //! The piece at the front of octets.
 ghost use Rattle.std.specs.Prelude.{◌≡◌, ◌<◌, ◌≤◌, [], ◌∷◌, length, MatchOption};
-ghost use Rattle.dns_masterfile.specs.Pieces.{AfterReturn, InQuotes, InWord, Word as Stated, pieces_from};
-ghost use Rattle.dns_masterfile.specs.Pieces.{pieces_of, text_of};
-ghost use Rattle.dns_masterfile.specs.Scan.{stated_piece, stated_word};
+ghost use Rattle.dns_masterfile.specs.Pieces.{AfterReturn, InQuotes, InWord, pieces_from};
+ghost use Rattle.dns_masterfile.specs.Pieces.{pieces_of};
+ghost use Rattle.dns_masterfile.specs.Scan.{stated_piece};
 
 use crate::comments::comment_len;
 use crate::kind::{Kind, kind_of};

@@ -1,5 +1,5 @@
 //! A name that is lent: octets that are stored elsewhere, as a message or a zone holds them.
-ghost use Rattle.std.specs.Prelude.{◌≡◌, ℕ, List, ◌∷◌, ◌++◌, ◌↔◌, Some, None, IfOk, IfSome, IfNone, IsTrue};
+ghost use Rattle.std.specs.Prelude.{◌≡◌, ℕ, List, ◌++◌, ◌↔◌, Some, None, IfOk, IfSome, IfNone, IsTrue};
 ghost use Rattle.std.specs.Prelude.{length, map};
 ghost use Rattle.std.specs.Char.{to_ascii_lowercase};
 ghost use Rattle.dns_names.specs.Name.{Labels, IsName, IsUnder, wire, parent, is_wildcard, name_cmp};

@@ -188,7 +188,8 @@ impl<D: Sectors + Drop, I: ZoneIndex> Primary<I, KeptStore<D, I>> {
             → MatchResult result
             (λ p. LeaveRecovered D.Sectors (suc tries) m event 0 m.zones devices.entry.items
             (map (λ b. device_of_pending b) p.pending.items))
-            (λ e. LeaveRecovered D.Sectors (suc tries) m event 0 m.zones devices.entry.items e.devices.items) }
+            (λ e. LeaveRecovered D.Sectors (suc tries) m event 0 m.zones devices.entry.items
+            e.devices.items) }
         // Why it is refused, on any devices.
         ensures refused { IfErr result
             (λ e. AreRefused D.Sectors e.error e.place apexes.now settings.entry.items

@@ -1,5 +1,5 @@
 //! Whether octets have the form of a type.
-ghost use Rattle.std.specs.Prelude.{◌≡◌, ◌↔◌, IsTrue};
+ghost use Rattle.std.specs.Prelude.{◌↔◌, IsTrue};
 ghost use Rattle.dns_records.specs.Record.{IsField, AreFields};
 ghost use Rattle.dns_records.specs.Types.{Strings};
 ghost use Rattle.dns_records.specs.Fields.{stated_fields, StringsLast};

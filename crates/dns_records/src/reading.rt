@@ -1,5 +1,5 @@
 //! Reading of data and of plain records.
-ghost use Rattle.std.specs.Prelude.{◌≡◌, ◌↔◌, IsTrue, ℕ, List, ◌++◌, ◌≤◌, length, take, IfOk, IfErr, IfSome};
+ghost use Rattle.std.specs.Prelude.{◌≡◌, ◌↔◌, IsTrue, ℕ, List, ◌≤◌, length, take, IfOk, IfErr, IfSome};
 ghost use Rattle.std.specs.Prelude.{IfNone};
 ghost use Rattle.dns_records.specs.Record.{Record as Stated, IsRData, IsRecord, plain};
 ghost use Rattle.dns_records.specs.Refusals.{RefusesData, IsRecordFrame, RefusesPlain};
@@ -52,7 +52,7 @@ fn have_form(rtype: u16, octets: &[u8]) -> bool
 }
 
 impl RData {
-    ghost use Rattle.dns_records.specs.Record.{Data, IsData};
+    ghost use Rattle.dns_records.specs.Record.{IsData};
 
     /// The data of a type, whose plain form the octets are. Refused are, in this order, a type of which a
     /// zone can have no records, octets beyond 4,096, and octets that have not the form of the type. Data of

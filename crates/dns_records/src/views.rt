@@ -1,5 +1,5 @@
 //! The data of each type, read as its parts.
-ghost use Rattle.std.specs.Prelude.{◌≡◌, ◌≢◌, ◌^◌, ◌<◌, List, ℕ, Some, IfOk, MatchOption};
+ghost use Rattle.std.specs.Prelude.{◌≡◌, ◌≢◌, ◌<◌, List, ℕ, Some, IfOk, MatchOption};
 ghost use Rattle.dns_names.specs.Name.{IsName, Labels};
 ghost use Rattle.dns_records.specs.declared.typed.Mx.{Mx as MxParts};
 ghost use Rattle.dns_records.specs.declared.typed.Srv.{Srv as SrvParts};

@@ -1,5 +1,5 @@
 //! The tests of a request, in their order.
-ghost use Rattle.std.specs.Prelude.{◌≡◌, ◌==◌, ◌<◌, ◌≤◌, length};
+ghost use Rattle.std.specs.Prelude.{◌≡◌, ◌==◌, ◌<◌};
 ghost use Rattle.dns_wire.specs.Message.{header_of};
 ghost use Rattle.dns_request.specs.Request.{has_counts, message_as, question_as, request_of, too_long};
 ghost use Rattle.dns_request.specs.Shown.{IsOf, request_shown};

@@ -2,7 +2,6 @@
 //! section 2.1, RFC 1995 section 3).
 ghost use Rattle.std.specs.Prelude.{◌≡◌, ◌<◌, ◌≤◌, ◌^◌, length, IfOk, IfErr};
 ghost use Rattle.std.specs.List.{AllByRecursion};
-ghost use Rattle.dns_names.specs.Name.{IsName};
 ghost use Rattle.dns_records.specs.Types.{class_in, type_soa};
 ghost use Rattle.dns_records.specs.Record.{IsRecord};
 ghost use Rattle.dns_wire.specs.Message.{Question};

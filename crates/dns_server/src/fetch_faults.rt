@@ -119,7 +119,7 @@ fn fetch_advice(fault: FetchFault) -> &'static str
             "no server takes connections by TCP there, or the way to it is closed",
         FetchFault::Closed =>
             "the server ended the connection before its answer's end; its log tells why",
-        FetchFault::TimedOut => "for 30 seconds nothing came from the server",
+        FetchFault::TimedOut => "for 30 seconds the server sent nothing, or took nothing",
         FetchFault::Refused(fault) => answer_advice(fault),
     }
 }

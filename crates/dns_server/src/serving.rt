@@ -312,7 +312,8 @@ pub struct ServiceEnd<D> {
 /// Faults are reported in one line, the first in this order: the configuration, the devices (of which, if it
 /// is wanted, a second line says what can be done), the address (`ADDRESS: Unavailable`). Gives the exit
 /// status: `DONE`, `REFUSED`, or `FAILED` where a device or the address can't be had, a writer failed or
-/// memory was refused. The devices are given back as the last turn left them.
+/// memory was refused. The devices are given back as the last turn left them, and none of them where one of
+/// them could not be opened.
 pub fn serve<D: Sectors + Drop, F: Devices<D>, I: ZoneIndex, R: Net + Clock, E: Write>(
     alloc: Global,
     heap: Heap,

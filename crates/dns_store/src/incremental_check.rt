@@ -1,5 +1,5 @@
 //! A zone's set with a change made of it: what came is looked at, and not the whole set.
-ghost use Rattle.std.specs.Prelude.{◌≡◌, not, ◌&&◌, ◌==◌, List, None, IfOk, IfErr};
+ghost use Rattle.std.specs.Prelude.{◌≡◌, ◌&&◌, ◌==◌, List, None, IfOk, IfErr};
 ghost use Rattle.std.specs.List.{list_all};
 ghost use Rattle.dns_names.specs.Name.{under};
 ghost use Rattle.dns_records.specs.Record.{Record as Stated};

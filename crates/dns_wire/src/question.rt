@@ -1,6 +1,5 @@
 //! A question of a message (RFC 1035 section 4.1.2).
-ghost use Rattle.std.specs.Prelude.{◌≡◌, ◌≤◌, ◌+◌, length};
-ghost use Rattle.dns_wire.specs.NameAt.{FullNameAt};
+ghost use Rattle.std.specs.Prelude.{◌≡◌, ◌+◌};
 
 use crate::NameView;
 use crate::fields::number;

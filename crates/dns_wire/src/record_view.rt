@@ -1,5 +1,5 @@
 //! A record of a message: its fields, and the record that it is.
-ghost use Rattle.std.specs.Prelude.{◌≡◌, ◌+◌, ◌≤◌, [], ◌∷◌, ◌++◌, ◌⊎◌, length, IfOk, IfErr, IfSome, IfNone};
+ghost use Rattle.std.specs.Prelude.{◌≡◌, ◌+◌, [], ◌∷◌, ◌⊎◌, length, IfOk, IfErr, IfSome, IfNone};
 ghost use Rattle.dns_records.specs.Refusals.{RefusesData};
 ghost use Rattle.dns_wire.specs.Message.{record_of_item, data_of_item};
 
@@ -113,7 +113,7 @@ impl<'a> Model for Section<'a> {
 }
 
 impl<'a> Section<'a> {
-    ghost use Rattle.std.specs.Prelude.{◌≡◌, [], ◌∷◌, length, IfSome, OnSome, IfNone};
+    ghost use Rattle.std.specs.Prelude.{◌≡◌, [], ◌∷◌, length, IfSome, IfNone};
     ghost use Rattle.dns_wire.specs.Viewed.{items_left, AreResourceRecordsLeft};
 
     /// So many records from an offset on.

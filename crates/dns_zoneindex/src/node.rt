@@ -101,7 +101,7 @@ impl Model for Node {
 }
 
 impl Model for Branch {
-    ghost use Rattle.std.specs.Prelude.{ℕ, List};
+    ghost use Rattle.std.specs.Prelude.{List};
     ghost use Rattle.dns_zoneindex.specs.Entries.{Child};
 
     ghost Value = { Child };

@@ -1,5 +1,5 @@
 //! Records by their indices in order, a run of them in one piece.
-ghost use Rattle.std.specs.Prelude.{◌≡◌, IfSome, IfNone};
+ghost use Rattle.std.specs.Prelude.{IfSome, IfNone};
 ghost use Rattle.dns_zoneindex.specs.Children.{items};
 ghost use Rattle.dns_zoneindex.specs.Entries.{flat};
 ghost use Rattle.dns_zoneindex.specs.Lent.{IsLent, IsThere, IsBeyond};
