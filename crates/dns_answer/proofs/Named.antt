@@ -1,7 +1,6 @@
 -- Names held by their octets.
 use Rattle.std.proofs.Common.{◌≡◌, ℕ, Bool, true, false, ◌||◌, List, [], ◌∷◌, map, Bor, refl, sym, ap, ◌∙◌}
 use Rattle.std.specs.List.{AllByRecursion, list_any}
-use Rattle.std.specs.Prelude.{Option, Some, None, is_some, length}
 use Rattle.std.specs.Ordering.{is_eq, nat_cmp, match_ordering}
 use Rattle.std.specs.Cmp.Lexicographic.{slice_cmp, texts_ties}
 use Rattle.std.specs.FinMap.{nat_cmp-IsAntisymmetric, slice_cmp-IsAntisymmetric}
@@ -70,12 +69,3 @@ absorbed names name other among = by_test (names_eq other name) refl
     by_test : (b : Bool) → names_eq other name ≡ b → list_any (names_eq other) names ≡ (b || list_any (names_eq other) names)
     by_test true e = ap (λ (n : Labels). list_any (names_eq n) names) (names_same other name e) ∙ among
     by_test false e = refl
-
--- no name, and no octets
-pub no_name : (o : Option Labels) → is_some o ≡ false → o ≡ None
-no_name None h = refl
-no_name (Some a) h = absurd cc
-
-pub no_octets : (keys : List (Bor (List ℕ))) → length keys ≡ 0 → keys ≡ []
-no_octets [] h = refl
-no_octets (k ∷ keys) h = absurd cc

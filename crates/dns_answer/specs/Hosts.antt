@@ -10,9 +10,9 @@ use Rattle.dns_names.specs.Name.{Labels, names_eq, wire}
 abbrev pub IsAfter : Labels → Labels → Type 0
 IsAfter name other = slice_cmp nat_cmp (wire other) (wire name) ≡ Less
 
--- A name that comes after the last of them is none of them.
-abbrev pub HaveLast : List Labels → Type 0
-HaveLast names =
+-- The last of them is the greatest: a name that comes after it is none of them.
+abbrev pub EndWithGreatest : List Labels → Type 0
+EndWithGreatest names =
     (front : List Labels) (last next : Labels)
     → names ≡ front ++ last ∷ []
     → IsAfter next last

@@ -2,7 +2,7 @@
 ghost use Rattle.std.specs.Prelude.{◌≡◌, ◌||◌, List, [], ◌∷◌, ◌++◌, true, false, not, IfOk, OnOk};
 ghost use Rattle.std.specs.List.{list_any};
 ghost use Rattle.dns_names.specs.Name.{Labels, names_eq};
-ghost use Rattle.dns_answer.specs.Hosts.{HaveLast};
+ghost use Rattle.dns_answer.specs.Hosts.{EndWithGreatest};
 
 use crate::names::Names;
 use dns_memory::Heap;
@@ -12,9 +12,9 @@ use std::marker::Model;
 
 /// Whether a name comes after the last of those that are given, or none is given.
 fn ends_before(names: &[NameRef<'_>], next: &NameRef<'_>) -> bool
-    requires { HaveLast names.now }
+    requires { EndWithGreatest names.now }
     ensures { result ≡ true
-        → (list_any (names_eq next.now) names.now ≡ false) × HaveLast (names.now ++ next.now ∷ []) }
+        → (list_any (names_eq next.now) names.now ≡ false) × EndWithGreatest (names.now ++ next.now ∷ []) }
 {
     match names.split_last() {
         Some((last, _)) => last.as_wire().cmp(next.as_wire()).is_lt(),
@@ -46,13 +46,13 @@ pub(crate) struct Hosts<'a> {
 impl<'a> Model for Hosts<'a> {
     ghost use Rattle.std.specs.Prelude.{List, ◌++◌};
     ghost use Rattle.dns_names.specs.Name.{Labels};
-    ghost use Rattle.dns_answer.specs.Hosts.{HaveLast};
+    ghost use Rattle.dns_answer.specs.Hosts.{EndWithGreatest};
 
     ghost Value = { List Labels };
 
     ghost view = { λ h. h.rising.items ++ h.others };
 
-    ghost invariant = { λ h. HaveLast h.rising.items };
+    ghost invariant = { λ h. EndWithGreatest h.rising.items };
 }
 
 impl<'a> Hosts<'a> {

@@ -35,7 +35,7 @@ pub use device_faults::{DeviceFault, refusal, tell_device};
 pub use devices::{Devices, Disk};
 pub use dumping::dump;
 pub use explain::{explain_check, explain_unreadable};
-pub use explain_settings::explain_replay;
+pub use explain_settings::{explain_replay, is_file_of};
 pub use fetch_faults::FetchFault;
 pub use fetching::fetch;
 pub use inputs::{file, master_files, octets, octets_in};

@@ -11,7 +11,8 @@ use dns_memory::{Heap, heap};
 use dns_sectors::{DiskFile, FileSectors};
 use dns_server::{
     Disk, Index, Tcp, TcpSocket, check, compare, dump, explain_check, explain_replay,
-    explain_unreadable, fetch, file, init, load, master_files, migrate, octets, replay, serve,
+    explain_unreadable, fetch, file, init, is_file_of, load, master_files, migrate, octets, replay,
+    serve,
 };
 use std::io::{self, Write};
 use std::process::ExitCode;
@@ -108,6 +109,24 @@ fn explain_files(
         explain_missing(rt, file, &mut err)?;
     }
     explain_replay(rt.alloc(), heap, config, files, &none, &mut err)
+}
+
+/// Explains why the configuration was refused, or the master file of its zone of that name.
+fn explain_load(
+    rt: &HostRuntime,
+    heap: Heap,
+    config: &File<'_>,
+    files: &[File<'_>],
+    origin: &str,
+) -> io::Result<()> {
+    for file in files {
+        if is_file_of(rt.alloc(), heap, config, origin, file.path) {
+            let mut err = rt.stderr();
+            explain_missing(rt, file, &mut err)?;
+            return explain_check(heap, file, origin, &mut err);
+        }
+    }
+    explain_files(rt, heap, config, &[])
 }
 
 /// Makes devices, and gives the exit status.
@@ -210,7 +229,7 @@ fn run_load(
     };
     out.flush()?;
     if explain && status == REFUSED {
-        explain_files(rt, heap, &config, &files)?;
+        explain_load(rt, heap, &config, &files, origin)?;
     }
     Ok(status)
 }

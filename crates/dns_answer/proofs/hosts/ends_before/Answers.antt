@@ -1,9 +1,10 @@
 use Rattle.std.proofs.Common.{sym, ap, ◌∙◌}
 use Rattle.std.specs.Ordering.{is_lt, nat_cmp}
 use Rattle.std.specs.Cmp.Lexicographic.{slice_cmp}
+use Rattle.std.proofs.lemmas.List.{nil_from_length}
 use Rattle.dns_zone.specs.Sets.{less_is}
 use Rattle.dns_answer.specs.Hosts.{IsAfter}
-use Rattle.dns_answer.proofs.Rising.{first_rising, next_rising, none_of}
+use Rattle.dns_answer.proofs.Rising.{first_rising, next_rising}
 use Rattle.dns_answer.proofs.hosts.ends_before.Goals as goal
 
 pub returns-in-Some : goal.returns-in-Some
@@ -14,4 +15,4 @@ returns-in-Some c lt =
     next_rising c.args.names.now c.in-Some.field-0-1.now c.in-Some.last.now c.args.next.now c.in-Some.ensures.cases.0 c.requires after
 
 pub returns-in-None : goal.returns-in-None
-returns-in-None c is = first_rising c.args.names.now c.args.next.now (none_of c.args.names.now c.in-None.ensures.cases)
+returns-in-None c is = first_rising c.args.names.now c.args.next.now (nil_from_length c.args.names.now c.in-None.ensures.cases)
