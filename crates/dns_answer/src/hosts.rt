@@ -14,7 +14,8 @@ use std::marker::Model;
 fn ends_before(names: &[NameRef<'_>], next: &NameRef<'_>) -> bool
     requires { EndWithGreatest names.now }
     ensures { result ≡ true
-        → (list_any (names_eq next.now) names.now ≡ false) × EndWithGreatest (names.now ++ next.now ∷ []) }
+        → (list_any (names_eq next.now) names.now ≡ false)
+        × EndWithGreatest (names.now ++ next.now ∷ []) }
 {
     match names.split_last() {
         Some((last, _)) => last.as_wire().cmp(next.as_wire()).is_lt(),
