@@ -1,6 +1,7 @@
 pub mod Framed
 pub mod Pushed
 mod Leads
+pub mod Noted
 mod ReadAhead
 pub mod Running
 pub mod Steps

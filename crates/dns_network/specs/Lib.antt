@@ -8,6 +8,7 @@ pub mod Datagrams
 pub mod Delivery
 pub mod MemoryNetwork
 pub mod Notes
+pub mod NotesOfTurns
 pub mod Runs
 pub mod Steps
 pub mod Turn

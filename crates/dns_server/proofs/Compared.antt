@@ -1,7 +1,6 @@
 -- How a run ends that compares a zone's master file with its device.
-use Rattle.std.proofs.Common.{◌≡◌, ℕ, Bool, true, false, inl, inr, List, [], ◌∷◌, ◌++◌, Option, Result, Ok, Err, IfOk, OnOk, refl, sym, ap, subst, ◌∙◌, arith}
+use Rattle.std.proofs.Common.{◌≡◌, ℕ, Bool, true, false, inl, inr, List, ◌++◌, Option, Result, Ok, Err, IfOk, OnOk, refl, sym, ap, ◌∙◌, arith}
 use Rattle.std.specs.Prelude.{◌⊎◌}
-use Rattle.std.specs.List.{AllZip}
 use Rattle.std.specs.String.{string_bytes}
 use Rattle.std.specs.Io.KnownBytes.{Appends}
 use Rattle.std.proofs.KnownBytes.{Keeps-refl}
@@ -18,7 +17,7 @@ use Rattle.dns_changes.specs.Change.{Change}
 use Rattle.dns_server.specs.DeviceFaults.{device_text, status_of}
 use Rattle.dns_server.specs.Dump.{Gives, IsNamed, IsNoZoneName}
 use Rattle.dns_server.specs.LoadRun.{path_blamed}
-use Rattle.dns_server.specs.Compare.{ComparingEnds, ComparisonEnds, HasNoDifference, IsDifference, IsFileCompared, IsFileNotCompared, difference_text}
+use Rattle.dns_server.specs.Compare.{ComparingEnds, ComparisonEnds, HasNoDifference, IsDifference, difference_text}
 
 -- A writer failed or memory was refused.
 pub comparing_failed : {D : Type 0} (g : Ghosts D) (opened : Gives D) (own : ZoneSettings) (files : List File) (explain : Bool) (out out_after err err_after : Option (List ℕ)) → ComparingEnds g opened own files explain out out_after err err_after 3

@@ -1,20 +1,17 @@
 -- How a run that takes a zone in ends.
-use Rattle.std.proofs.Common.{◌≡◌, ℕ, Bool, true, false, inl, inr, List, [], Option, Some, None, Result, Ok, Err, IfOk, refl, sym, ap, subst, ◌∙◌, arith}
+use Rattle.std.proofs.Common.{◌≡◌, ℕ, Bool, true, false, inl, inr, List, [], Option, Some, Result, Ok, Err, IfOk, refl, sym, ap, subst, ◌∙◌, arith}
 use Rattle.std.specs.Prelude.{◌⊎◌}
 use Rattle.std.specs.Bool.{MatchBool}
 use Rattle.std.specs.Option.{option_copied}
-use Rattle.std.specs.Io.KnownBytes.{Appends, Keeps}
-use Rattle.std.specs.Net.Grammar.{IsSocketText}
+use Rattle.std.specs.Io.KnownBytes.{Appends}
 use Rattle.std.specs.declared.net.socket_addr.SocketAddr.{SocketAddr}
 use Rattle.std.proofs.KnownBytes.{Keeps-refl}
 use Rattle.dns_names.specs.Name.{Labels}
 use Rattle.dns_names.specs.Text.{name_of_text}
 use Rattle.dns_names.specs.declared.NameError.{NameError}
-use Rattle.dns_records.specs.Record.{Record}
 use Rattle.dns_zone.specs.Zone.{Zone}
 use Rattle.dns_masterfile.specs.Printed.{printed_zone}
 use Rattle.dns_network.specs.declared.stream.Stream.{Ghosts}
-use Rattle.dns_secondary.specs.declared.fault.Fault as answer
 use Rattle.dns_configuration.specs.declared.files.File.{File}
 use Rattle.dns_configuration.specs.declared.files.Fault.{Fault}
 use Rattle.dns_configuration.specs.declared.files.Fault.TheVariants as files
@@ -23,7 +20,7 @@ use Rattle.dns_server.specs.declared.fetch_faults.FetchFault.{FetchFault}
 use Rattle.dns_server.specs.declared.fetch_faults.FetchFault.TheVariants as fetch
 use Rattle.dns_server.specs.FetchFaults.{ComesOfAsking, IsFetchTold, fetch_text, is_memory_refused, fetch_status}
 use Rattle.dns_server.specs.TakingIn.{IsRefusedFrom, IsTakenFrom}
-use Rattle.dns_server.specs.Fetch.{FetchEnds, IsAskedFor, IsFetched, IsFetchRefused, IsNotAsked}
+use Rattle.dns_server.specs.Fetch.{FetchEnds, IsAskedFor, IsNotAsked}
 use Rattle.dns_server.proofs.Ended.{fault_told}
 
 -- The fault of a server was told: the status is 3, or it is 1 and the fault is one of those that are refusals.

@@ -11,7 +11,7 @@ use Rattle.dns_secondary.specs.Receiving.{Receiving, header_fault}
 use Rattle.dns_secondary.specs.Rest.{Reaches, Rest, is_current}
 use Rattle.dns_secondary.specs.State.{State, Begun, Led}
 use Rattle.dns_secondary.specs.Taken.{Taken}
-use Rattle.dns_secondary.specs.Told.{Feeds, RefusesFeed, RefusesFrom, over}
+use Rattle.dns_secondary.specs.Told.{Feeds, RefusesFeed}
 use Rattle.dns_secondary.specs.declared.fault.Fault.{Fault}
 use Rattle.dns_secondary.specs.declared.fault.Fault.TheVariants.{OutOfMemory, BadMessage, WrongId, Refused, BadSequence, RemovesAbsent, AddsPresent, InvalidZone, AfterEnd}
 use Rattle.dns_secondary.specs.declared.fault.Progress.{Progress}

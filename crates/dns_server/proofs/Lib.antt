@@ -5,6 +5,7 @@ pub mod Files
 pub mod Known
 pub mod Served
 pub mod Turned
+pub mod Logged
 pub mod Changed
 pub mod Ended
 pub mod LoadEnded

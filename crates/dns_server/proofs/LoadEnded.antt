@@ -1,7 +1,6 @@
 -- How a run that loads a zone's master file ends.
-use Rattle.std.proofs.Common.{◌≡◌, ℕ, Bool, true, false, inl, inr, List, [], ◌∷◌, Option, Result, Ok, Err, IfOk, refl, sym, ap, subst, ◌∙◌, arith}
+use Rattle.std.proofs.Common.{◌≡◌, ℕ, Bool, true, false, inl, inr, List, Option, Result, Ok, Err, IfOk, refl, sym, ap, ◌∙◌, arith}
 use Rattle.std.specs.Prelude.{◌⊎◌}
-use Rattle.std.specs.List.{AllZip}
 use Rattle.std.specs.String.{string_bytes}
 use Rattle.std.specs.Io.KnownBytes.{Appends}
 use Rattle.std.proofs.KnownBytes.{Keeps-refl}
@@ -17,7 +16,7 @@ use Rattle.dns_server.specs.declared.next_version.Loaded.{Loaded}
 use Rattle.dns_server.specs.DeviceFaults.{device_text, status_of}
 use Rattle.dns_server.specs.Dump.{Gives, IsNamed, IsNoZoneName}
 use Rattle.dns_server.specs.Load.{IsLoadedAs, IsNotLoaded}
-use Rattle.dns_server.specs.LoadRun.{IsFileLoaded, LoadEnds, LoadingEnds, loaded_line, path_blamed}
+use Rattle.dns_server.specs.LoadRun.{LoadEnds, LoadingEnds, loaded_line, path_blamed}
 
 -- A writer failed or memory was refused.
 pub loading_failed : {D : Type 0} (g : Ghosts D) (opened : Gives D) (own : ZoneSettings) (files : List File) (explain : Bool) (out out_after err err_after : Option (List ℕ)) → LoadingEnds g opened own files explain out out_after err err_after 3

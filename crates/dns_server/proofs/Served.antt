@@ -1,11 +1,10 @@
 -- How a server ends, by what its parts told.
-use Rattle.std.proofs.Common.{◌≡◌, ℕ, suc, Bool, inl, inr, List, [], ◌∷◌, Option, Result, Ok, Err, IfOk, refl, arith}
-use Rattle.std.specs.Prelude.{◌⊎◌, ◌≤◌}
+use Rattle.std.proofs.Common.{◌≡◌, ℕ, suc, Bool, inl, inr, List, [], ◌∷◌, Option, Result, Ok, Err, IfOk, refl, arith, subst}
+use Rattle.std.specs.Prelude.{◌⊎◌}
 use Rattle.std.specs.Option.{option_copied}
 use Rattle.std.specs.Io.KnownBytes.{Appends}
 use Rattle.dns_sectors.specs.declared.device.Sectors.{Ghosts}
 use Rattle.dns_configuration.specs.declared.configuration.Configuration.{Configuration}
-use Rattle.dns_configuration.specs.declared.configuration.ZoneSettings.{ZoneSettings}
 use Rattle.dns_configuration.specs.declared.files.File.{File}
 use Rattle.dns_configuration.specs.declared.files.Fault.{Fault}
 use Rattle.dns_configuration.specs.Faults.{fault_text, line}
@@ -24,9 +23,13 @@ use Rattle.dns_primary.specs.declared.primary.ZoneSpec.{ZoneSpec}
 use Rattle.dns_primary.proofs.Brought.{StaysSet, step_set, stopped_set, all_stay_set, stay_set_on}
 use Rattle.dns_network.specs.Runs.{IsStepOf, Told, told_by}
 use Rattle.dns_replay.proofs.Running.{set_lasts}
+use Rattle.dns_server.specs.Log.{IsLogOf, zone_lines}
 use Rattle.dns_server.specs.Opening.{IsNotServed, IsServed}
 use Rattle.dns_server.specs.Serve.{IsRefusalTold, IsServedFor, ServingEnds}
 use Rattle.dns_server.specs.ServedTurns.{HasTurned}
+
+pub at_ok : {A E : Type 0} (r : Result A E) (P : A → Type 0) (x : A) → r ≡ Ok x → IfOk r P → P x
+at_ok {A = A} {E = E} r P x e h = subst (λ (s : Result A E). IfOk s P) e h
 
 pub serving_failed : {D : Type 0} (g : Ghosts D) (opened : Gives D) (config : File) (count : ℕ) (explain : Bool) (err err_after : Option (List ℕ)) (back : List D) → ServingEnds g opened config count explain err err_after 3 back
 serving_failed g opened config count explain err err_after back = record {
@@ -60,10 +63,11 @@ run_set (t ∷ told) start (Stopped event tries new ∷ run) r each = absurd eac
 run_set (t ∷ told) start (Configured new ∷ run) r each = absurd each.0
 
 -- What is kept has turned, and its devices came back.
-pub served_for : {D : Type 0} (g : Ghosts D) (opened : Gives D) (zones : List ZoneSettings) (count : ℕ) (keeps after : Machine → Type 0) (back : List D) → IsServed g opened zones (λ known m. keeps m) → HasTurned count keeps after
+pub served_for : {D : Type 0} (g : Ghosts D) (opened : Gives D) (c : Configuration) (count : ℕ) (err err_after : Option (List ℕ)) (keeps after : Machine → Type 0) (back : List D) → IsServed g opened c.zones.items (λ known m. keeps m)
+    → HasTurned count (λ turns m. IsLogOf (zone_lines (origins_of c.zones.items) m.zones) (origins_of c.zones.items) c.listen err err_after turns) keeps after
     → ((m : Machine) (event : Event) (names : List Labels) (known : List ZoneSpec) → after m → AreSetAs names known m.zones → AreRecoverable g 0 m event 0 m.zones names known back)
-    → IsServedFor g opened zones count back
-served_for g opened zones count keeps after back is (turns, many, run) left = (
+    → IsServedFor g opened c count err err_after back
+served_for g opened c count err err_after keeps after back is (turns, many, run) left = (
   turns,
   many,
   record {
@@ -72,17 +76,18 @@ served_for g opened zones count keeps after back is (turns, many, run) left = (
     known = is.known;
     settings = is.settings;
     recovered = λ m event tries may.
-        let names = origins_of zones in
+        let names = origins_of c.zones.items in
         let to = is.recovered m event tries may in
-        let ran = run to.0 to.2 in
+        let turned = run to.0 to.2 in
+        let ran = turned.1 in
         let at = set_lasts names is.known m.zones to.0.zones (recoverable_set g tries m event 0 m.zones names is.known is.devices may) (stopped_set tries m event to.0 to.1) in
         let end = set_lasts names is.known to.0.zones (last_of to.0 ran.0).zones at (run_set (told_by turns) to.0 ran.0 ran.1.runs ran.1.each) in
-        (to.0, to.1, (ran.0, ran.1, λ within. left (last_of to.0 ran.0) within names is.known ran.2 end));
+        (to.0, to.1, (turned.0, (ran.0, ran.1, λ within. left (last_of to.0 ran.0) within names is.known ran.2 end)));
   },
 )
 
 -- All turns were made, or the address could not be had.
-pub served : {D : Type 0} (g : Ghosts D) (opened : Gives D) (config : File) (c : Configuration) (count : ℕ) (explain : Bool) (err err_after : Option (List ℕ)) (status : ℕ) (back : List D) → HoldsConfiguration (option_copied config.octets) (Ok c) → (status ≡ 3) ⊎ ((status ≡ 0) × IsServedFor g opened c.zones.items count back) → ServingEnds g opened config count explain err err_after status back
+pub served : {D : Type 0} (g : Ghosts D) (opened : Gives D) (config : File) (c : Configuration) (count : ℕ) (explain : Bool) (err err_after : Option (List ℕ)) (status : ℕ) (back : List D) → HoldsConfiguration (option_copied config.octets) (Ok c) → (status ≡ 3) ⊎ ((status ≡ 0) × IsServedFor g opened c count err err_after back) → ServingEnds g opened config count explain err err_after status back
 served g opened config c count explain err err_after status back holds (inr (none, is)) = record {
   done = λ _. (c, holds, is);
   refused = λ one. absurd (omega (arith, none, one));

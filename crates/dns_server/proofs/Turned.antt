@@ -11,6 +11,8 @@ use Rattle.dns_network.specs.declared.network.Network.{Ghosts}
 use Rattle.dns_network.specs.declared.network.Notes as notes
 use Rattle.dns_network.specs.Delivery.{Served}
 use Rattle.dns_network.specs.Turn.{TurnMoment, AreTurns, HasAsked, IsRound, IsTurn}
+use Rattle.dns_network.specs.NotesOfTurns.{AreNotesOfTurns}
+use Rattle.dns_network.proofs.Noted.{Took, turns_noted}
 use Rattle.dns_network.proofs.Running.{turns_run}
 use Rattle.dns_network.proofs.Steps.{step_more}
 use Rattle.dns_server.specs.ServedTurns.{HasPaused, HasTurned, IsServedOn, served_at_start}
@@ -35,19 +37,24 @@ module _ {I D S N L : Type 0} {i : index.Ghosts I} {d : store.Ghosts D} (s : str
         (record { now = now; begun = start; ended = end; before = before; turn = turn; after = after }),
   )
 
-  pub has_turned : (count : ℕ) (old new : Primary I D i d) (network network' : N) (first last : L) → IsServedOn s n l count old network first new network' last
-      → HasTurned count (λ m. IsKept old m) (λ m. IsKept new m)
-  has_turned count old new network network' first last is = (
+  -- What its notes say of turns, and that they are a run.
+  pub has_turned : (said : List (List TurnMoment) → Type 0) (count : ℕ) (old new : Primary I D i d) (network network' : N) (first last : L) → IsServedOn s n l count old network first new network' last
+      → ((turns : List (List TurnMoment)) → Took l (AreNotesOfTurns turns) first last → said turns)
+      → HasTurned count (λ turns _. said turns) (λ m. IsKept old m) (λ m. IsKept new m)
+  has_turned said count old new network network' first last is log = (
     is.turns,
     is.many,
     λ m kept.
-        let to = turns_run s n l is.turns (served_at_start old network first) (record { primary = new; connections = is.connections; network = network'; notes = last }) m is.made kept in
-        (to.0, to.1, to.2),
+        let start : Served I D S N L i d = served_at_start old network first in
+        let end : Served I D S N L i d = record { primary = new; connections = is.connections; network = network'; notes = last } in
+        let to = turns_run s n l is.turns start end m is.made kept in
+        (log is.turns (turns_noted s n l is.turns start end is.made), (to.0, to.1, to.2)),
   )
 
 -- ... whatever the network is.
 pub has_been_turned : {I D S N L : Type 0} {i : index.Ghosts I} {d : store.Ghosts D} {s : stream.Ghosts S} {n : Ghosts N S} {l : notes.Ghosts L}
-    {count : ℕ} {old new : Primary I D i d} {network network' : N} {first last : L} → IsServedOn s n l count old network first new network' last
-    → HasTurned count (λ m. IsKept old m) (λ m. IsKept new m)
-has_been_turned {s = s} {n = n} {l = l} {count = count} {old = old} {new = new} {network = network} {network' = network'} {first = first} {last = last} is =
-    has_turned s n l count old new network network' first last is
+    {count : ℕ} {old new : Primary I D i d} {network network' : N} {first last : L} (said : List (List TurnMoment) → Type 0) → IsServedOn s n l count old network first new network' last
+    → ((turns : List (List TurnMoment)) → Took l (AreNotesOfTurns turns) first last → said turns)
+    → HasTurned count (λ turns _. said turns) (λ m. IsKept old m) (λ m. IsKept new m)
+has_been_turned {s = s} {n = n} {l = l} {count = count} {old = old} {new = new} {network = network} {network' = network'} {first = first} {last = last} said is log =
+    has_turned s n l said count old new network network' first last is log

@@ -19,6 +19,7 @@ use Rattle.dns_primary.specs.Open.{AreRecoverable}
 use Rattle.dns_primary.specs.Step.{Event}
 use Rattle.dns_primary.specs.declared.primary.ZoneSpec.{ZoneSpec}
 use Rattle.dns_configuration.specs.Known.{origins_of}
+use Rattle.dns_server.specs.Log.{IsLogOf, zone_lines}
 use Rattle.dns_server.specs.Opening.{IsNotServed, IsServed}
 use Rattle.dns_server.specs.ServedTurns.{HaveRun}
 
@@ -46,23 +47,28 @@ abbrev pub AreLeft : {D : Type 0} → Ghosts D → List ZoneSettings → List D 
 AreLeft g zones devices known m =
     (event : Event) → AreRecoverable g 0 m event 0 m.zones (origins_of zones) known devices
 
--- So many turns were made of a primary over the devices of these zones, and it gave these back: on those of a
--- machine that stopped, the events of the turns are those of a run from one that recovered from that stop, and
--- each that came back holds what the machine at the run's end left of its zone.
-abbrev pub IsServedFor : {D : Type 0} → Ghosts D → Gives D → List ZoneSettings → ℕ → List D → Type 0
-IsServedFor g opened zones count back =
+-- So many turns were made of a primary over the devices of a configuration's zones, and it gave these back:
+-- on those of a machine that stopped, the events of the turns are those of a run from one that recovered from
+-- that stop, each that came back holds what the machine at the run's end left of its zone, and the log tells
+-- of the versions that are shown at the run's start, of the address, and of all that was noted.
+abbrev pub IsServedFor : {D : Type 0} → Ghosts D → Gives D → Configuration → ℕ → Option (List ℕ)
+    → Option (List ℕ) → List D → Type 0
+IsServedFor g opened c count err err_after back =
+    let zones = c.zones.items in
+    let names = origins_of zones in
     (turns : List (List TurnMoment)) × (length turns ≡ count)
-    × IsServed g opened zones (λ known. HaveRun turns (AreLeft g zones back known))
+    × IsServed g opened zones (λ known m. IsLogOf (zone_lines names m.zones) names c.listen err err_after turns
+    × HaveRun turns (AreLeft g zones back known) m)
 
 -- How a server ends: all its turns were made, over the devices of the zones of its configuration, which are
--- given back; or nothing was served, and the fault of the configuration or of the first device that is refused
+-- given back, and its log was written; or nothing was served, and the fault of the configuration or of the first device that is refused
 -- is reported. With status 3 a device or the address can't be had, a writer failed or memory was refused.
 pub record ServingEnds {D : Type 0} (g : Ghosts D) (opened : Gives D) (config : File) (count : ℕ)
     (explain : Bool) (err err_after : Option (List ℕ)) (status : ℕ) (back : List D)
     : Type 0 where
   pub done : status ≡ 0
       → (c : Configuration) × HoldsConfiguration (option_copied config.octets) (Ok c)
-      × IsServedFor g opened c.zones.items count back
+      × IsServedFor g opened c count err err_after back
   pub refused : status ≡ 1
       → (text : List ℕ) × Appends err err_after (line text)
       × (((fault : Fault) × HoldsConfiguration (option_copied config.octets) (Err fault)

@@ -38,9 +38,10 @@ module _ {I D S N L : Type 0} {i : index.Ghosts I} {d : store.Ghosts D} where
 abbrev pub HaveRun : List (List TurnMoment) → (Machine → Type 0) → Machine → Type 0
 HaveRun turns after m = (run : List Moment) × IsRunOf (told_by turns) m run × after (last_of m run)
 
--- So many turns were made, and whichever machine was kept before them, their events are those of a run from
--- it to one that is kept after them.
-abbrev pub HasTurned : ℕ → (Machine → Type 0) → (Machine → Type 0) → Type 0
-HasTurned count keeps after =
+-- So many turns were made, and whichever machine was kept before them: this is said of it and the turns, and
+-- their events are those of a run from it to one that is kept after them.
+abbrev pub HasTurned : ℕ → (List (List TurnMoment) → Machine → Type 0) → (Machine → Type 0)
+    → (Machine → Type 0) → Type 0
+HasTurned count said keeps after =
     (turns : List (List TurnMoment)) × (length turns ≡ count)
-    × ((m : Machine) → keeps m → HaveRun turns after m)
+    × ((m : Machine) → keeps m → said turns m × HaveRun turns after m)

@@ -1,10 +1,7 @@
 //! What one who mends a refused file of a run is told beside its fault. It serves `--explain` alone, and no
 //! clause says more of it than that it ends.
-use crate::dumping::zone_of;
 use crate::explain::explain_file;
-use dns_configuration::{
-    Configuration, File, PrintedWord, apex, explain_configuration, origins_of, read_configuration,
-};
+use dns_configuration::{Configuration, File, PrintedWord, explain_configuration, origins_of};
 use dns_memory::Heap;
 use dns_names::Name;
 use dns_replay::{read_command, split_line};
@@ -66,18 +63,4 @@ pub fn explain_replay<E: Write>(
     }
     let origins = origins_of(heap, &configuration.zones)?;
     explain_script(heap, &origins, script, err)
-}
-
-/// Whether the master file of the configuration's zone of that name is the one at this path.
-pub fn is_file_of(alloc: Global, heap: Heap, config: &File<'_>, origin: &str, path: &str) -> bool {
-    let Ok(configuration) = read_configuration(alloc, heap, config) else {
-        return false;
-    };
-    let Ok(name) = apex(heap, origin) else {
-        return false;
-    };
-    match zone_of(&configuration.zones, &name) {
-        Some(own) => own.file.as_str() == path,
-        None => false,
-    }
 }

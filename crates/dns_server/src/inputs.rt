@@ -1,11 +1,13 @@
 //! The files that a run reads.
-ghost use Rattle.std.specs.Prelude.{◌≡◌, map, IfOk};
+ghost use Rattle.std.specs.Prelude.{◌≡◌, map, find, bytes_eq, IfOk, MatchResult};
 ghost use Rattle.std.specs.Option.{option_copied};
 ghost use Rattle.std.specs.String.{string_bytes};
-ghost use Rattle.dns_server.specs.Inputs.{AreFilesOf, file_paths};
+ghost use Rattle.dns_server.specs.Inputs.{AreFilesOf, IsNoZoneFile, IsZoneFile, file_paths};
 
-use dns_configuration::{Fault, File, ZoneSettings, read_configuration};
+use crate::dumping::zone_of;
+use dns_configuration::{Fault, File, ZoneSettings, apex, read_configuration};
 use dns_memory::Heap;
+use std::alloc::Global;
 use std::{fs, io};
 
 /// The octets of the file at a path, none where it can't be read. Refused memory is an error, and does not
@@ -72,4 +74,33 @@ pub fn master_files(
         Err(Fault::OutOfMemory) => Err(io::ErrorKind::OutOfMemory.into()),
         Err(_) => Ok(Vec::new(rt.alloc())),
     }
+}
+
+/// The first of these files that has that path.
+fn file_at<'f, 'a>(files: &'f [File<'a>], path: &str) -> Option<&'f File<'a>>
+    ensures { option_copied result ≡ find (λ f. bytes_eq f.path.now path.now) files.now }
+{
+    files.iter().find(|file| file.path == path)
+}
+
+/// The master file of the configuration's zone of that name, which is the first of these files that has its
+/// path; none where there is no such zone or no such file. `Fault::BadOrigin` where the text is no name, and
+/// the faults of the configuration where that is refused.
+pub fn zone_file<'f, 'a>(
+    alloc: Global,
+    heap: Heap,
+    config: &File<'_>,
+    files: &'f [File<'a>],
+    origin: &str,
+) -> Result<Option<&'f File<'a>>, Fault>
+    ensures { MatchResult result
+        (λ found. IsZoneFile config.now files.now origin.now (option_copied found))
+        (λ fault. IsNoZoneFile config.now origin.now fault) }
+{
+    let configuration = read_configuration(alloc, heap, config)?;
+    let name = apex(heap, origin)?;
+    let Some(own) = zone_of(&configuration.zones, &name) else {
+        return Ok(None);
+    };
+    Ok(file_at(files, &own.file))
 }

@@ -21,6 +21,7 @@ pub(crate) struct Log<'a, E: Write> {
 impl<E: Write> Log<'_, E> {
     /// Writes the line of a note.
     fn line(&mut self, note: Note) -> io::Result<()>
+        ensures same_reference { self.new.err.ghost_name ≡ self.old.err.ghost_name }
         ensures origins { self.new.origins.now ≡ self.old.origins.now }
         ensures still { self.new.has_failed ≡ self.old.has_failed }
         ensures written { OnOk result
@@ -46,7 +47,8 @@ impl<E: Write> Log<'_, E> {
 }
 
 impl<E: Write> Notes for Log<'_, E> {
-    ghost takes = { λ old note new. (new.origins.now ≡ old.origins.now)
+    ghost takes = { λ old note new. (new.err.ghost_name ≡ old.err.ghost_name)
+        × (new.origins.now ≡ old.origins.now)
         × IsLogged old.origins.now note old.has_failed new.has_failed (E.contents old.err.now)
         (E.contents new.err.now) };
 

@@ -1,5 +1,7 @@
 //! A server over devices and sockets.
-ghost use Rattle.std.specs.Prelude.{◌≡◌, ◌⊎◌, [], List, IfOk};
+ghost use Rattle.std.specs.Prelude.{◌≡◌, ◌⊎◌, [], List, IfOk, OnOk};
+ghost use Rattle.std.specs.Io.KnownBytes.{Appends};
+ghost use Rattle.dns_server.specs.Log.{IsLogOf, listening_line, zone_line, zone_lines};
 ghost use Rattle.dns_server.specs.Serve.{IsRefusalTold, ServingEnds};
 ghost use Rattle.dns_server.specs.ServedTurns.{HasPaused, HasTurned, IsServedOn};
 ghost use Rattle.dns_primary.specs.Keeps.{IsKept};
@@ -37,7 +39,10 @@ fn tell_zone<I: ZoneIndex, E: Write>(
     origin: &Name,
     version: u64,
     zone: &Zone<I>,
-) -> io::Result<()> {
+) -> io::Result<()>
+    ensures { OnOk result
+        (Appends (E.contents err.old) (E.contents err.new) (zone_line origin.now version zone.now)) }
+{
     let serial = zone.soa().serial();
     writeln!(err, "zone {origin} version {version} serial {serial}")
 }
@@ -47,13 +52,24 @@ fn tell_zones<I: ZoneIndex, S: ZoneStore, E: Write>(
     err: &mut E,
     primary: &Primary<I, S>,
     origins: &[Name],
-) -> io::Result<()> {
+) -> io::Result<()>
+    ensures { OnOk result ((m : Machine) → IsKept primary.now m
+        → Appends (E.contents err.old) (E.contents err.new) (zone_lines origins.now m.zones)) }
+{
     for place in 0..origins.len() {
         if let Some((version, zone)) = primary.shown(place) {
             tell_zone(err, &origins[place], version, zone)?;
         }
     }
     Ok(())
+}
+
+/// Tells on which address a server listens.
+fn tell_listening<E: Write>(err: &mut E, address: SocketAddr) -> io::Result<()>
+    ensures { OnOk result
+        (Appends (E.contents err.old) (E.contents err.new) (listening_line address)) }
+{
+    writeln!(err, "listening on {address}")
 }
 
 /// The seconds since the start, or those before where the clock fails.
@@ -134,13 +150,15 @@ fn listen<R: Net + Clock, I: ZoneIndex, S: ZoneStore, E: Write>(
 ) -> io::Result<u8>
     ensures { IfOk result (λ status. (status ≡ FAILED)
         ⊎ ((status ≡ DONE)
-        × HasTurned turns (λ m. IsKept primary.old m) (λ m. IsKept primary.new m))) }
+        × HasTurned turns
+        (λ told _. IsLogOf [] origins.now address (E.contents err.old) (E.contents err.new) told)
+        (λ m. IsKept primary.old m) (λ m. IsKept primary.new m))) }
 {
     let Ok(mut sockets) = Sockets::bind(heap, rt, address) else {
         writeln!(err, "{address}: Unavailable")?;
         return Ok(FAILED);
     };
-    writeln!(err, "listening on {address}")?;
+    tell_listening(err, address)?;
     let mut log = Log {
         err,
         origins,
@@ -165,41 +183,47 @@ fn serve_primary<R: Net + Clock, I: ZoneIndex, S: ZoneStore, E: Write>(
 ) -> io::Result<u8>
     ensures { IfOk result (λ status. (status ≡ FAILED)
         ⊎ ((status ≡ DONE)
-        × HasTurned turns (λ m. IsKept primary.old m) (λ m. IsKept primary.new m))) }
+        × HasTurned turns
+        (λ told m. IsLogOf (zone_lines origins.now m.zones) origins.now address
+        (E.contents err.old) (E.contents err.new) told)
+        (λ m. IsKept primary.old m) (λ m. IsKept primary.new m))) }
 {
     tell_zones(err, primary, origins)?;
     listen(heap, rt, primary, origins, address, turns, err)
 }
 
-/// What a server has besides a primary: the names of its zones, the address on which it listens, how many
-/// turns it makes, and where its log goes.
+/// What a server has besides a primary and its log: the names of its zones, the address on which it listens
+/// and how many turns it makes.
 #[derive(Drop)]
-struct Service<'a, R, E> {
+struct Service<'a, R> {
     heap: Heap,
     rt: &'a R,
     origins: &'a [Name],
     address: SocketAddr,
     turns: u32,
-    err: &'a mut E,
 }
 
 /// What can be served so. (A call that names both a store over a device and the memory of every collection
 /// has no proof, so that the service is a type parameter.)
-trait Servable<S> {
-    /// All turns of a service were made of it, and it is this after them.
-    ghost is_served: { Self → S → Self → Type 0 };
+trait Servable<S, E> {
+    /// All turns of a service were made of it, and it and the log are these after them.
+    ghost is_served: { Self → S → E → Self → E → Type 0 };
 
     /// Serves it, and gives the exit status.
-    fn serve_as(&mut self, service: &mut S) -> u8
-        ensures { (result ≡ FAILED) ⊎ ((result ≡ DONE) × is_served self.old service.old self.new) };
+    fn serve_as(&mut self, service: &S, err: &mut E) -> u8
+        ensures { (result ≡ FAILED)
+            ⊎ ((result ≡ DONE) × is_served self.old service.now err.old self.new err.new) };
 }
 
-impl<R: Net + Clock, I: ZoneIndex, S: ZoneStore, E: Write> Servable<Service<'_, R, E>>
+impl<R: Net + Clock, I: ZoneIndex, S: ZoneStore, E: Write> Servable<Service<'_, R>, E>
     for Primary<I, S> {
-    ghost is_served = { λ primary service after.
-        HasTurned service.turns (λ m. IsKept primary m) (λ m. IsKept after m) };
+    ghost is_served = { λ primary service err after err_after.
+        HasTurned service.turns
+        (λ told m. IsLogOf (zone_lines service.origins.now m.zones) service.origins.now service.address
+        (E.contents err) (E.contents err_after) told)
+        (λ m. IsKept primary m) (λ m. IsKept after m) };
 
-    fn serve_as(&mut self, service: &mut Service<'_, R, E>) -> u8 {
+    fn serve_as(&mut self, service: &Service<'_, R>, err: &mut E) -> u8 {
         serve_primary(
             service.heap,
             service.rt,
@@ -207,18 +231,18 @@ impl<R: Net + Clock, I: ZoneIndex, S: ZoneStore, E: Write> Servable<Service<'_, 
             service.origins,
             service.address,
             service.turns,
-            service.err,
+            err,
         )
         .unwrap_or(FAILED)
     }
 }
 
 /// Serves a primary, and gives the exit status.
-fn serve_as<S, P: Servable<S>>(primary: &mut P, service: &mut S) -> u8
+fn serve_as<S, E, P: Servable<S, E>>(primary: &mut P, service: &S, err: &mut E) -> u8
     ensures { (result ≡ FAILED)
-        ⊎ ((result ≡ DONE) × P.is_served primary.old service.old primary.new) }
+        ⊎ ((result ≡ DONE) × P.is_served primary.old service.now err.old primary.new err.new) }
 {
-    primary.serve_as(service)
+    primary.serve_as(service, err)
 }
 
 /// Tells which device is refused, and gives the exit status.
@@ -279,15 +303,14 @@ fn serve_all<D: Sectors + Drop, F: Devices<D>, I: ZoneIndex, R: Net + Clock, E: 
     match open_primary::<D, F, I>(heap, devices, &configuration.zones, &origins) {
         Ok(mut primary) => {
             back.reserve_exact(primary.zone_count())?;
-            let mut service = Service {
+            let service = Service {
                 heap,
                 rt,
                 origins: &origins,
                 address: configuration.listen,
                 turns,
-                err,
             };
-            let status = serve_as(&mut primary, &mut service);
+            let status = serve_as(&mut primary, &service, err);
             give_back(primary, back)?;
             Ok(status)
         }

@@ -11,8 +11,8 @@ use dns_memory::{Heap, heap};
 use dns_sectors::{DiskFile, FileSectors};
 use dns_server::{
     Disk, Index, Tcp, TcpSocket, check, compare, dump, explain_check, explain_replay,
-    explain_unreadable, fetch, file, init, is_file_of, load, master_files, migrate, octets, replay,
-    serve,
+    explain_unreadable, fetch, file, init, load, master_files, migrate, octets, replay, serve,
+    zone_file,
 };
 use std::io::{self, Write};
 use std::process::ExitCode;
@@ -119,14 +119,12 @@ fn explain_load(
     files: &[File<'_>],
     origin: &str,
 ) -> io::Result<()> {
-    for file in files {
-        if is_file_of(rt.alloc(), heap, config, origin, file.path) {
-            let mut err = rt.stderr();
-            explain_missing(rt, file, &mut err)?;
-            return explain_check(heap, file, origin, &mut err);
-        }
-    }
-    explain_files(rt, heap, config, &[])
+    let Ok(Some(file)) = zone_file(rt.alloc(), heap, config, files, origin) else {
+        return explain_files(rt, heap, config, &[]);
+    };
+    let mut err = rt.stderr();
+    explain_missing(rt, file, &mut err)?;
+    explain_check(heap, file, origin, &mut err)
 }
 
 /// Makes devices, and gives the exit status.

@@ -1,9 +1,13 @@
-use Rattle.std.proofs.Common.{ℕ, inl, inr}
+use Rattle.std.proofs.Common.{◌≡◌, ℕ, inl, inr, List, ap, subst, ◌∙◌}
+use Rattle.dns_names.specs.Name.{Labels}
+use Rattle.dns_configuration.specs.Known.{origins_of}
+use Rattle.dns_server.specs.Log.{IsLogOf, zone_lines}
+use Rattle.dns_server.specs.ServedTurns.{HasTurned}
 use Rattle.dns_server.proofs.Ended.{fault_told}
 use Rattle.dns_primary.specs.Keeps.{IsKept}
 use Rattle.dns_server.specs.Opening.{IsNotServed, IsServed}
-use Rattle.dns_server.specs.Serve.{IsRefusalTold, ServingEnds}
-use Rattle.dns_server.proofs.Served.{configuration_refused, device_refused, served, served_for, serving_failed}
+use Rattle.dns_server.specs.Serve.{ServingEnds}
+use Rattle.dns_server.proofs.Served.{at_ok, configuration_refused, device_refused, served, served_for, serving_failed}
 use Rattle.dns_server.proofs.serving.serve_all.Goals as goal
 
 pub returns-in-Err : goal.returns-in-Err
@@ -25,11 +29,21 @@ returns-in-Ok-open_primary g c =
     let primary = c.in-Ok-open_primary.primary in
     let after = c.serve_as-status.new.primary in
     let back = c.give_back.new.back.items in
+    let text = g.E.Write.contents in
+    let err = text c.args.err.now in
+    let err_after = text c.serve_as-status.new.err in
+    let origins = c.deref-in-Ok-open_primary.result.now in
+    let names : origins ≡ origins_of configuration.zones.items = c.deref-in-Ok-open_primary.ensures.value ∙ at_ok c.origins_of.result (λ made. made.items ≡ origins_of c.deref.result.now) c.in_ok-origins.origins c.in_ok-origins.was c.origins_of.ensures ∙ ap origins_of c.deref.ensures.value in
     let is : IsServed g.D.Sectors opened configuration.zones.items (λ known m. IsKept primary m) = rw c.deref-2.ensures.value at c.in-Ok-open_primary.ensures in
-    served g.D.Sectors opened c.args.config.now configuration c.args.turns c.args.explain _ _ c.serve_as-status.result back c.in-Ok.ensures.held
+    served g.D.Sectors opened c.args.config.now configuration c.args.turns c.args.explain err err_after c.serve_as-status.result back c.in-Ok.ensures.held
     (elim c.serve_as-status.ensures [
       | inl failed ↦ inl failed
-      | inr (done, turned) ↦ inr (done, served_for g.D.Sectors opened configuration.zones.items c.args.turns (λ m. IsKept primary m) (λ m. IsKept after m) back is turned c.in_ok-give_back-in-Ok-open_primary.ensures)
+      | inr (done, turned) ↦ inr (
+        done,
+        served_for g.D.Sectors opened configuration c.args.turns err err_after (λ m. IsKept primary m) (λ m. IsKept after m) back is
+            (subst (λ (x : List Labels). HasTurned c.args.turns (λ told m. IsLogOf (zone_lines x m.zones) x configuration.listen err err_after told) (λ m. IsKept primary m) (λ m. IsKept after m)) names turned)
+            c.in_ok-give_back-in-Ok-open_primary.ensures,
+      )
     ])
 
 pub returns : goal.returns

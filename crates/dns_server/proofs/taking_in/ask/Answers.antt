@@ -1,4 +1,4 @@
-use Rattle.std.proofs.Common.{◌≡◌, ℕ, List, [], ◌++◌, IfOk, ap, subst, ◌∙◌}
+use Rattle.std.proofs.Common.{ℕ, List, [], ◌++◌, IfOk, ap, subst, ◌∙◌}
 use Rattle.dns_network.specs.Framed.{pending_length}
 use Rattle.dns_server.specs.TakingIn.{HasCarried}
 use Rattle.dns_server.proofs.taking_in.ask.Goals as goal

@@ -1,6 +1,5 @@
-use Rattle.std.proofs.Common.{inl, inr, arith, map, take}
-use Rattle.dns_secondary.specs.declared.fault.Fault.{Fault}
-use Rattle.dns_server.specs.FetchFaults.{ComesOfAsking, fault_of_answer}
+use Rattle.std.proofs.Common.{inl, inr, arith, map}
+use Rattle.dns_server.specs.FetchFaults.{ComesOfAsking}
 use Rattle.dns_server.specs.TakingIn.{TellRefusal}
 use Rattle.dns_server.proofs.Heard.{ended_fed, err_goes, more_fed, next_at, refused_fed, split_at}
 use Rattle.dns_server.proofs.taking_in.hear.Goals as goal
