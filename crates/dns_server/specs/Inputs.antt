@@ -26,15 +26,15 @@ AreFilesOf config paths =
     ⊎ ((fault : Fault) × HoldsConfiguration config (Err fault) × (is_memory fault ≡ false) × (paths ≡ []))
 
 -- The first of these files that has the path of a zone's master file; none of no zone.
-abbrev pub file_of : List File → Option ZoneSettings → Option File
-file_of files None = None
-file_of files (Some own) = find (λ (f : File). bytes_eq f.path.now (string_bytes own.file)) files
+abbrev pub file_of_zone : List File → Option ZoneSettings → Option File
+file_of_zone files None = None
+file_of_zone files (Some own) = find (λ (f : File). bytes_eq f.path.now (string_bytes own.file)) files
 
 -- The one that is found for the configuration's zone of that name.
 abbrev pub IsZoneFile : File → List File → List ℕ → Option File → Type 0
 IsZoneFile config files origin found =
     (c : Configuration) × (name : Labels) × HoldsConfiguration (option_copied config.octets) (Ok c)
-    × (name_of_text [] origin ≡ Ok name) × (found ≡ file_of files (zone_configured name c.zones.items))
+    × (name_of_text [] origin ≡ Ok name) × (found ≡ file_of_zone files (zone_configured name c.zones.items))
 
 -- Why none can be looked for: the configuration is refused, or the text is no name.
 abbrev pub IsNoZoneFile : File → List ℕ → Fault → Type 0
