@@ -61,8 +61,9 @@ IsServedFor g opened c count err err_after back =
     × HaveRun turns (AreLeft g zones back known) m)
 
 -- How a server ends: all its turns were made, over the devices of the zones of its configuration, which are
--- given back, and its log was written; or nothing was served, and the fault of the configuration or of the first device that is refused
--- is reported. With status 3 a device or the address can't be had, a writer failed or memory was refused.
+-- given back, and its log was written; or nothing was served, and the fault of the configuration or of the
+-- first device that is refused is reported. With status 3 a device or the address can't be had, a writer
+-- failed or memory was refused.
 pub record ServingEnds {D : Type 0} (g : Ghosts D) (opened : Gives D) (config : File) (count : ℕ)
     (explain : Bool) (err err_after : Option (List ℕ)) (status : ℕ) (back : List D)
     : Type 0 where
