@@ -2,9 +2,13 @@
 ghost use Rattle.std.specs.Prelude.{◌≡◌, ◌≤◌, ◌^◌, ◌*◌, [], Err, IfOk};
 
 use crate::{DeviceError, File, FileError, FileSectors, OpenDeviceError, Sector};
-use std::fs::{self, Files, OpenOptions};
-use std::os::unix::fs::FileExt;
+use std::fs::{self, Files, OpenOptions, Permissions};
+use std::os::unix::fs::{FileExt, OpenOptionsExt, PermissionsExt};
 use std::path::Path;
+
+/// Who may read and write a file that is made: its owner alone. Whoever may open a file can lock it, and keep
+/// others from it.
+const OWNER_ALONE: u32 = 0o600;
 
 /// A file of the operating system, which no other process that asks for the lock has open.
 ///
@@ -32,29 +36,39 @@ fn sync_folder<R: Files<File = fs::File>>(files: &R, path: &str) -> Result<(), F
 }
 
 impl DiskFile {
-    /// Makes a file at this path, which is empty and locked, and makes its name durable. Refused where there
-    /// is one, and where the system refuses a step; the file is then there or not.
+    /// Makes a file at this path, which is empty and locked, and which its owner alone may read and write,
+    /// whatever the umask; and makes its name durable. Refused where there is one, and where the system
+    /// refuses a step; no file that was made is then left.
     pub fn create<R: Files<File = fs::File>>(files: &R, path: &str) -> Result<DiskFile, FileError> {
         let mut how = OpenOptions::new();
         how.read(true).write(true).create_new(true);
-        let file = DiskFile::locked(files, path, &how)?;
-        sync_folder(files, path)?;
-        Ok(file)
+        how.mode(OWNER_ALONE);
+        let Ok(file) = how.open(files, path) else {
+            return Err(FileError::Failed);
+        };
+        let made = DiskFile { file };
+        match made.settle(files, path) {
+            Ok(()) => Ok(made),
+            Err(error) => {
+                let _removed = fs::remove_file(files, path);
+                Err(error)
+            }
+        }
+    }
+
+    // Locks a file that was made at this path, gives it to its owner alone, and makes its name durable.
+    fn settle<R: Files<File = fs::File>>(&self, files: &R, path: &str) -> Result<(), FileError> {
+        let owner_alone = Permissions::from_mode(OWNER_ALONE);
+        match (self.file.try_lock(), self.file.set_permissions(owner_alone)) {
+            (Ok(()), Ok(())) => sync_folder(files, path),
+            _ => Err(FileError::Failed),
+        }
     }
 
     /// Opens and locks the file at this path. Refused where another process holds it, and where the system
     /// refuses.
     pub fn open<R: Files<File = fs::File>>(files: &R, path: &str) -> Result<DiskFile, FileError> {
-        DiskFile::locked(files, path, OpenOptions::new().read(true).write(true))
-    }
-
-    // Opens the file at this path, and takes its lock.
-    fn locked<R: Files<File = fs::File>>(
-        files: &R,
-        path: &str,
-        how: &OpenOptions,
-    ) -> Result<DiskFile, FileError> {
-        match how.open(files, path) {
+        match OpenOptions::new().read(true).write(true).open(files, path) {
             Ok(file) => match file.try_lock() {
                 Ok(()) => Ok(DiskFile { file }),
                 Err(_) => Err(FileError::Failed),
@@ -123,8 +137,8 @@ impl FileSectors<DiskFile> {
     ghost use Rattle.dns_sectors.specs.FileDevice.{sector_count, failures_of};
 
     /// Makes a file at this path that is a device of so many sectors of zeros. `Device` where there is a
-    /// file, where the system refuses one or a call on it, and where a file can't be so long; a file may then
-    /// be left that isn't so long.
+    /// file, where the system refuses one or a call on it, and where a file can't be so long; no file that was
+    /// made is then left.
     pub fn make<R: Files<File = fs::File>>(
         files: &R,
         path: &str,
@@ -134,9 +148,15 @@ impl FileSectors<DiskFile> {
         ensures failures { IfOk result (λ device. failures_of device ≡ 0) }
         ensures too_long { 2 ^ 64 ≤ 512 * len → result ≡ Err DeviceError.Device }
     {
-        match DiskFile::create(files, path) {
-            Ok(file) => FileSectors::zeroed(file, len),
-            Err(_) => Err(DeviceError::Device),
+        let Ok(file) = DiskFile::create(files, path) else {
+            return Err(DeviceError::Device);
+        };
+        match FileSectors::zeroed(file, len) {
+            Ok(device) => Ok(device),
+            Err(error) => {
+                let _removed = fs::remove_file(files, path);
+                Err(error)
+            }
         }
     }
 
