@@ -11,18 +11,38 @@ pub enum Task<'a> {
     Check(&'a str, &'a str),
     /// `replay CONFIG SCRIPT`
     Replay(&'a str, &'a str),
-    /// `init CONFIG`
-    Init(&'a str),
+    /// `init CONFIG [ORIGIN]`
+    Init(&'a str, Option<&'a str>),
     /// `dump CONFIG ORIGIN`
     Dump(&'a str, &'a str),
     /// `load CONFIG ORIGIN`, and whether what it would change is printed alone (`--dry-run`)
     Load(&'a str, &'a str, bool),
     /// `migrate CONFIG`
     Migrate(&'a str),
-    /// `serve CONFIG --turns N`
-    Serve(&'a str, u32),
-    /// `fetch ADDRESS:PORT ORIGIN [--since FILE]`
-    Fetch(&'a str, &'a str, Option<&'a str>),
+    /// `serve CONFIG --turns N [--quiet]`
+    Serve(Serving<'a>),
+    /// `fetch ADDRESS:PORT ORIGIN [--since FILE] [--seconds N]`
+    Fetch(Fetching<'a>),
+}
+
+/// The words of `serve`.
+#[derive(Clone, Copy)]
+pub struct Serving<'a> {
+    pub config: &'a str,
+    /// How many turns are made: those of `unlimited` are more than any server makes.
+    pub turns: u64,
+    /// Whether the lines of connections are left out of the log.
+    pub quiet: bool,
+}
+
+/// The words of `fetch`.
+#[derive(Clone, Copy)]
+pub struct Fetching<'a> {
+    pub server: &'a str,
+    pub origin: &'a str,
+    pub since: Option<&'a str>,
+    /// How many seconds it may take in all.
+    pub seconds: u64,
 }
 
 /// What the words ask for, and whether a fault is to be explained in a second line.
@@ -32,10 +52,13 @@ pub struct Asked<'a> {
     pub explain: bool,
 }
 
+/// How many seconds `fetch` may take unless it is told another number.
+const FETCH_SECONDS: u64 = 300;
+
 /// What a help text says first.
 const ABOUT: &str =
     "An authoritative DNS primary. A first zone: write zone.db and dnsprim.toml, then `dnsprim check zone.db \
-ORIGIN`, `dnsprim init dnsprim.toml`, and `dnsprim serve dnsprim.toml --turns 4294967295`";
+ORIGIN`, `dnsprim init dnsprim.toml`, and `dnsprim serve dnsprim.toml --turns unlimited`";
 
 /// What `--version` prints after the program's name: the version of CHANGELOG.md, and the sector formats of
 /// docs/FORMAT.md. One of format 1 is read by `migrate` alone.
@@ -99,7 +122,11 @@ fn replay_command<'a>(alloc: Global) -> Result<Command<'a>, Error> {
 fn init_command<'a>(alloc: Global) -> Result<Command<'a>, Error> {
     let about =
         "Makes the device of each zone from its master file; from then on the device is the zone";
-    of_one_word(alloc, "init", about, config(alloc))
+    let command = of_one_word(alloc, "init", about, config(alloc))?;
+    let origin = Arg::new(alloc, "ORIGIN").action(ArgAction::Set).help(
+        "The name of one zone's apex, as example.: its device alone is made",
+    );
+    Ok(command.arg(origin)?)
 }
 
 fn dump_command<'a>(alloc: Global) -> Result<Command<'a>, Error> {
@@ -134,9 +161,13 @@ fn serve_command<'a>(alloc: Global) -> Result<Command<'a>, Error> {
         .required(true)
         .action(ArgAction::Set)
         .help(
-            "The server ends after so many turns, at most 4294967295; waiting takes one a second",
+            "The server ends after so many turns, at most 4294967295, or by a signal alone: unlimited",
         );
-    Ok(command.arg(turns)?)
+    let quiet = Arg::new(alloc, "quiet")
+        .long("quiet")
+        .action(ArgAction::SetTrue)
+        .help("Leaves the lines of connections out of the log");
+    Ok(command.arg(turns)?.arg(quiet)?)
 }
 
 fn fetch_command<'a>(alloc: Global) -> Result<Command<'a>, Error> {
@@ -155,7 +186,12 @@ fn fetch_command<'a>(alloc: Global) -> Result<Command<'a>, Error> {
         .help(
             "A master file with an older version of the zone, of which the changes are asked for",
         );
-    Ok(command.arg(since)?)
+    let seconds = Arg::new(alloc, "seconds")
+        .long("seconds")
+        .value_name("N")
+        .action(ArgAction::Set)
+        .help("It gives up after so many seconds, 300 unless another number is given");
+    Ok(command.arg(since)?.arg(seconds)?)
 }
 
 /// The command with one more subcommand, if that was made.
@@ -185,26 +221,60 @@ fn whole_command<'a>(alloc: Global) -> Result<Command<'a>, Error> {
     with(command, fetch_command(alloc))
 }
 
+/// The number of a text of decimal digits alone, at most 4294967295.
+fn number_of(text: &str) -> Option<u64> {
+    if !text.bytes().all(|octet| octet.is_ascii_digit()) {
+        return None;
+    }
+    let number: u32 = text.parse().ok()?;
+    Some(u64::from(number))
+}
+
+/// The number of turns that a text says: a number, or `unlimited`.
+fn turns_of(text: &str) -> Option<u64> {
+    match text {
+        "unlimited" => Some(u64::MAX),
+        _ => number_of(text),
+    }
+}
+
+/// The words of `serve`, if its number of turns is one.
+fn serve_words<'a>(inner: &ArgMatches<'a>) -> Option<Serving<'a>> {
+    Some(Serving {
+        config: inner.get_str("CONFIG")?,
+        turns: turns_of(inner.get_str("turns")?)?,
+        quiet: inner.get_flag("quiet"),
+    })
+}
+
+/// The words of `fetch`, if its number of seconds, where there is one, is a number.
+fn fetch_words<'a>(inner: &ArgMatches<'a>) -> Option<Fetching<'a>> {
+    let seconds = match inner.get_str("seconds") {
+        Some(text) => number_of(text)?,
+        None => FETCH_SECONDS,
+    };
+    Some(Fetching {
+        server: inner.get_str("ADDRESS:PORT")?,
+        origin: inner.get_str("ORIGIN")?,
+        since: inner.get_str("since"),
+        seconds,
+    })
+}
+
 /// The task of a subcommand and its words. None where one is missing, or where a number is none.
 fn task_of<'a>(name: &str, inner: &ArgMatches<'a>) -> Option<Task<'a>> {
     match name {
         "check" => Some(Task::Check(inner.get_str("FILE")?, inner.get_str("ORIGIN")?)),
         "replay" => Some(Task::Replay(inner.get_str("CONFIG")?, inner.get_str("SCRIPT")?)),
-        "init" => Some(Task::Init(inner.get_str("CONFIG")?)),
+        "init" => Some(Task::Init(inner.get_str("CONFIG")?, inner.get_str("ORIGIN"))),
         "dump" => Some(Task::Dump(inner.get_str("CONFIG")?, inner.get_str("ORIGIN")?)),
         "load" => {
             let dry_run = inner.get_flag("dry-run");
             Some(Task::Load(inner.get_str("CONFIG")?, inner.get_str("ORIGIN")?, dry_run))
         }
         "migrate" => Some(Task::Migrate(inner.get_str("CONFIG")?)),
-        "serve" => {
-            let turns = inner.get_str("turns")?.parse().ok()?;
-            Some(Task::Serve(inner.get_str("CONFIG")?, turns))
-        }
-        "fetch" => {
-            let (server, origin) = (inner.get_str("ADDRESS:PORT")?, inner.get_str("ORIGIN")?);
-            Some(Task::Fetch(server, origin, inner.get_str("since")))
-        }
+        "serve" => Some(Task::Serve(serve_words(inner)?)),
+        "fetch" => Some(Task::Fetch(fetch_words(inner)?)),
         _ => None,
     }
 }
