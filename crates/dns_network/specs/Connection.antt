@@ -7,11 +7,11 @@ use Rattle.dns_network.specs.declared.stream.Stream.{Ghosts}
 use Rattle.dns_network.specs.declared.stream.Moved.{Moved}
 use Rattle.dns_network.specs.declared.stream.Moved.TheVariants.{Octets, Later, Ended}
 
--- The second in which octets last moved, after a read or a write in the second `now`.
-abbrev pub heard_after : Moved → ℕ → ℕ → ℕ
-heard_after (Octets count) now before = now
-heard_after Later now before = before
-heard_after Ended now before = before
+-- The second in which a connection was last used, after a write in the second `now`.
+abbrev pub used_after : Moved → ℕ → ℕ → ℕ
+used_after (Octets count) now before = now
+used_after Later now before = before
+used_after Ended now before = before
 
 module _ {S : Type 0} where
   abbrev pub stream_of : Connection S → S
@@ -28,9 +28,10 @@ module _ {S : Type 0} where
   abbrev pub rest_of : Connection S → List ℕ
   rest_of connection = connection.framing
 
-  -- the second in which octets last moved
-  abbrev pub heard_of : Connection S → ℕ
-  heard_of connection = connection.heard
+  -- the second in which it was last used: it came, a whole message was handed over to be handled, or its
+  -- stream took an octet
+  abbrev pub used_of : Connection S → ℕ
+  used_of connection = connection.used
 
   -- nothing was read, written or handled
   pub record IsQueued (reply : List ℕ) (old new : Connection S) : Type 0 where
@@ -38,17 +39,22 @@ module _ {S : Type 0} where
     pub stream : stream_of new ≡ stream_of old
     pub held : held_of new ≡ held_of old
     pub rest : rest_of new ≡ rest_of old
-    pub heard : heard_of new ≡ heard_of old
+    pub used : used_of new ≡ used_of old
 
   -- what came and was not handled yet
   abbrev pub unhandled : Connection S → List ℕ
   unhandled connection = concat (map pending_length (held_of connection)) ++ rest_of connection
 
-  -- no octet has moved
-  pub record HasStayed (s : Ghosts S) (old new : Connection S) : Type 0 where
-    pub sent : s.is_faithful (stream_of old) → s.sent (stream_of new) ≡ s.sent (stream_of old)
-    pub received : s.is_faithful (stream_of old) → s.received (stream_of new) ≡ s.received (stream_of old)
-    pub heard : heard_of new ≡ heard_of old
+  -- In the second `now` some of what was left to write was taken; or none was, and it was not used.
+  pub record HasTaken (now : ℕ) (old new : Connection S) : Type 0 where
+    pub piece : List ℕ
+    pub some : piece ≢ []
+    pub taken : unwritten_of old ≡ piece ++ unwritten_of new
+    pub used : used_of new ≡ now
+
+  pub record HasTakenNone (old new : Connection S) : Type 0 where
+    pub left : unwritten_of new ≡ unwritten_of old
+    pub used : used_of new ≡ used_of old
 
   -- Octets may have moved in the second `now`: what the stream took and what is left to write are what they
   -- were, in order, and what was read from it follows what was not handled yet.
@@ -59,7 +65,7 @@ module _ {S : Type 0} where
     pub came : s.is_faithful (stream_of old)
         → (piece : List ℕ) × (s.received (stream_of new) ≡ s.received (stream_of old) ++ piece)
         × (unhandled new ≡ unhandled old ++ piece)
-    pub heard : (heard_of new ≡ now) ⊎ HasStayed s old new
+    pub used : HasTaken now old new ⊎ HasTakenNone old new
 
   -- So it is after a read or a write, and where that says that the stream ended, it has.
   pub record MovesOn (s : Ghosts S) (now : ℕ) (result : Moved) (old new : Connection S) : Type 0 where
@@ -76,18 +82,23 @@ module _ {S : Type 0} where
     pub left : unwritten_of new ≡ unwritten_of old
     pub held : held_of new ≡ held_of old
     pub rest : rest_of new ≡ rest_of old
-    pub heard : heard_of new ≡ heard_of old
+    pub used : used_of new ≡ used_of old
 
-  -- The first message that came and was not handled yet was handed over, and nothing moved.
-  pub record HasHandedOver (message : List ℕ) (old new : Connection S) : Type 0 where
+  -- In the second `now` the first message that came and was not handled yet was handed over, and nothing
+  -- moved.
+  pub record HasHandedOver (now : ℕ) (message : List ℕ) (old new : Connection S) : Type 0 where
     pub came : unhandled old ≡ pending_length message ++ unhandled new
     pub left : unwritten_of new ≡ unwritten_of old
     pub stream : stream_of new ≡ stream_of old
-    pub heard : heard_of new ≡ heard_of old
+    pub used : used_of new ≡ now
 
-  -- In the second `now` nothing is left to write or to handle, and octets last moved 30 seconds before, or
-  -- more.
+  -- In the second `now` nothing is left to write or to handle, and it was last used 30 seconds before, or more.
   pub record IsSilent (now : ℕ) (c : Connection S) : Type 0 where
     pub left : unwritten_of c ≡ []
     pub held : held_of c ≡ []
-    pub heard : 30 ≤ now - heard_of c
+    pub used : 30 ≤ now - used_of c
+
+  -- In the second `now` octets are left to write, and it was last used 30 seconds before, or more.
+  pub record IsStalled (now : ℕ) (c : Connection S) : Type 0 where
+    pub left : unwritten_of c ≢ []
+    pub used : 30 ≤ now - used_of c

@@ -1,6 +1,6 @@
 -- All connections, as their contracts see them.
 use Rattle.std.specs.Prelude.{◌≡◌, ◌≢◌, ◌⊎◌, ◌==◌, ℕ, Bool, true, false, not, List, [], length, Option, Some, None}
-use Rattle.std.specs.Prelude.{slice_get, slice_set}
+use Rattle.std.specs.Prelude.{filter, is_some, slice_get, slice_set}
 use Rattle.dns_network.specs.declared.connection.Connection.{Connection}
 use Rattle.dns_network.specs.declared.connections.Connections.{Connections}
 use Rattle.dns_network.specs.declared.stream.Stream.{Ghosts}
@@ -18,6 +18,16 @@ module _ {S : Type 0} where
   IsOpenWith known None = ⊥
   IsOpenWith known (Some None) = ⊥
   IsOpenWith known (Some (Some c)) = known c
+
+  -- No connection is there, or this is known of it.
+  abbrev pub IsGoneOr : (Connection S → Type 0) → Option (Option (Connection S)) → Type 0
+  IsGoneOr known None = Unit {0}
+  IsGoneOr known (Some None) = Unit {0}
+  IsGoneOr known (Some (Some c)) = known c
+
+  -- how many connections there are
+  abbrev pub open_count : List (Option (Connection S)) → ℕ
+  open_count places = length (filter is_some places)
 
   -- This has become of the connection with that number, and no other one has changed.
   abbrev pub HasBecome : (Connection S → Connection S → Type 0) → ℕ → List (Option (Connection S))
@@ -60,11 +70,18 @@ module _ {S : Type 0} where
   HasMovedAt s now number moved old new =
       ((moved ≢ Ended) × (new ≡ old)) ⊎ HasBecome (MovesOn s now moved) number old new
 
-  -- The connection with that number handed over its first message, and no other one has changed; or it had
-  -- none.
-  abbrev pub HandsOver : ℕ → Option (List ℕ) → List (Option (Connection S))
+  -- The connection with that number handed over its first message in the second `now`, and no other one has
+  -- changed; or it had none.
+  abbrev pub HandsOver : ℕ → ℕ → Option (List ℕ) → List (Option (Connection S))
       → List (Option (Connection S)) → Type 0
-  HandsOver number None old new =
+  HandsOver now number None old new =
       (new ≡ old) × ((c : Connection S) → slice_get old number ≡ Some (Some c) → held_of c ≡ [])
-  HandsOver number (Some message) old new =
-      HasBecome (HasHandedOver message) number old new
+  HandsOver now number (Some message) old new =
+      HasBecome (HasHandedOver now message) number old new
+
+  -- A message was queued on the connection with that number, or the connection was closed in its stead; or
+  -- there was none, and nothing has changed.
+  abbrev pub IsPumped : ℕ → Bool → List (Option (Connection S)) → List (Option (Connection S)) → Type 0
+  IsPumped number false old new = new ≡ old
+  IsPumped number true old new =
+      (new ≡ slice_set old number None) ⊎ ((message : List ℕ) × IsReplyPushed number message old new)

@@ -4,7 +4,7 @@ use Rattle.dns_primary.specs.declared.event.Peer.{Peer}
 use Rattle.dns_primary.specs.declared.event.Noted.{Noted}
 use Rattle.dns_primary.specs.declared.event.Noted.TheVariants as noted
 use Rattle.dns_network.specs.declared.network.Note.{Note}
-use Rattle.dns_network.specs.declared.network.Note.TheVariants.{Opened, OutOfMemory, Device}
+use Rattle.dns_network.specs.declared.network.Note.TheVariants.{Opened, Refused, OutOfMemory, Device}
 use Rattle.dns_network.specs.declared.network.Notes.{Ghosts}
 use Rattle.dns_network.specs.Steps.{AreSteps}
 
@@ -14,9 +14,9 @@ notes_of noted.Nothing = []
 notes_of noted.OutOfMemory = OutOfMemory ∷ []
 notes_of (noted.Device place) = Device place ∷ []
 
--- of a peer that gets this number, or none
+-- of a peer that gets this number, or none, so that its connection is closed at once
 abbrev pub notes_of_opened : Option ℕ → Peer → List Note
-notes_of_opened None peer = []
+notes_of_opened None peer = Refused ∷ []
 notes_of_opened (Some number) peer = Opened number peer ∷ []
 
 -- These were taken, one after the other.

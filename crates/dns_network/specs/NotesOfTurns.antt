@@ -3,10 +3,10 @@ use Rattle.std.specs.Prelude.{◌≡◌, ◌⊎◌, ◌<◌, ℕ, Bool, true, fa
 use Rattle.dns_primary.specs.declared.event.To.{To}
 use Rattle.dns_primary.specs.declared.event.To.TheVariants as to
 use Rattle.dns_network.specs.declared.network.Note.{Note}
-use Rattle.dns_network.specs.declared.network.Note.TheVariants.{Closed, OutOfMemory}
-use Rattle.dns_network.specs.Closing.{Cause, HasEnded, Silent, NoMemory, NoPlace}
+use Rattle.dns_network.specs.declared.network.Note.TheVariants.{Begins, Closed, Ends, OutOfMemory, Refused}
+use Rattle.dns_network.specs.Closing.{Cause, HasEnded, Silent, Stalled, NoMemory, NoPlace}
 use Rattle.dns_network.specs.Notes.{notes_of, notes_of_opened}
-use Rattle.dns_network.specs.Turn.{TurnMoment, Asks, Moves, Connects, Happens, Closes}
+use Rattle.dns_network.specs.Turn.{TurnMoment, Asks, Moves, Connects, Refuses, Happens, Closes}
 
 -- These are the notes of all of them, one after the other.
 abbrev pub AreNotesOfEach : {T : Type 0} → (T → List Note → Type 0) → List T → List Note → Type 0
@@ -29,6 +29,7 @@ AreNotesOfReply to.Nowhere reply cut notes = notes ≡ []
 abbrev pub notes_of_cause : Cause → List Note
 notes_of_cause HasEnded = []
 notes_of_cause Silent = []
+notes_of_cause Stalled = []
 notes_of_cause NoMemory = OutOfMemory ∷ []
 notes_of_cause NoPlace = []
 
@@ -37,11 +38,18 @@ AreNotesOfMoment Asks notes = notes ≡ []
 AreNotesOfMoment (Moves number) notes = notes ≡ []
 AreNotesOfMoment (Connects peer effects) notes =
     notes ≡ notes_of effects.noted ++ notes_of_opened effects.accepted peer
+AreNotesOfMoment (Refuses peer) notes = notes ≡ Refused ∷ []
 AreNotesOfMoment (Happens event effects goings) notes =
     (closings : List Note) × AreNotesOfEach (λ g. AreNotesOfReply g.to g.octets g.cut) goings closings
     × (notes ≡ closings ++ notes_of effects.noted)
 AreNotesOfMoment (Closes number cause) notes = notes ≡ notes_of_cause cause ++ Closed number ∷ []
 
--- Of turns, each of which is told by its moments.
+-- Of a turn, which is told by its moments: that it begins, in some second of the clock; what is noted in it;
+-- that it ends.
+abbrev pub AreNotesOfTurn : List TurnMoment → List Note → Type 0
+AreNotesOfTurn moments notes =
+    (now : ℕ) × (within : List Note) × AreNotesOfEach AreNotesOfMoment moments within
+    × (notes ≡ Begins now ∷ within ++ Ends ∷ [])
+
 abbrev pub AreNotesOfTurns : List (List TurnMoment) → List Note → Type 0
-AreNotesOfTurns = AreNotesOfEach (AreNotesOfEach AreNotesOfMoment)
+AreNotesOfTurns = AreNotesOfEach AreNotesOfTurn

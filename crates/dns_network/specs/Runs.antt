@@ -18,7 +18,7 @@ use Rattle.dns_primary.specs.Runs.{Moment, Took, Stopped, Configured, Run, last_
 use Rattle.dns_network.specs.declared.network.Network.{Ghosts}
 use Rattle.dns_network.specs.declared.network.Notes as notes
 use Rattle.dns_network.specs.Delivery.{Served, out_of}
-use Rattle.dns_network.specs.Turn.{TurnMoment, Asks, Moves, Connects, Happens, Closes, AreTurns}
+use Rattle.dns_network.specs.Turn.{TurnMoment, Asks, Moves, Connects, Refuses, Happens, Closes, AreTurns}
 
 -- An event that a primary is told, and what it reports of it: the replies that go out, in order, the number
 -- of a connection that is taken up, and what is noted.
@@ -52,6 +52,7 @@ abbrev pub told_in : TurnMoment → List Told
 told_in Asks = []
 told_in (Moves number) = []
 told_in (Connects peer effects) = told_of (Connect peer) effects ∷ []
+told_in (Refuses peer) = []
 told_in (Happens event effects goings) =
     told_of event effects ∷ flat_map (λ going. closed_for going.to going.cut) goings
 told_in (Closes number cause) = closing number ∷ []

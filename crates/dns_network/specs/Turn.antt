@@ -3,14 +3,15 @@ use Rattle.std.specs.Prelude.{◌≡◌, ◌⊎◌, ◌≤◌, ◌<◌, ℕ, Lis
 use Rattle.std.specs.Prelude.{Option, Some, None, slice_get, slice_set}
 use Rattle.dns_network.specs.declared.connection.Connection.{Connection}
 use Rattle.dns_network.specs.declared.stream.Stream as stream
-use Rattle.dns_network.specs.Closing.{Cause, GivesCause, HasEnded, Silent, NoMemory, NoPlace}
-use Rattle.dns_network.specs.Connection.{HasMoved, HasHandedOver, heard_of, stream_of, unwritten_of, unhandled}
+use Rattle.dns_network.specs.Closing.{Cause, GivesCause, HasEnded, Silent, Stalled, NoMemory, NoPlace}
+use Rattle.dns_network.specs.Connection.{HasMoved, HasHandedOver, stream_of, unhandled, unwritten_of, used_of}
+use Rattle.dns_network.specs.Connections.{open_count}
 use Rattle.dns_zone.specs.declared.index.ZoneIndex as index
 use Rattle.dns_store.specs.declared.zone_store.ZoneStore as store
 use Rattle.dns_primary.specs.declared.event.Peer.{Peer}
 use Rattle.dns_primary.specs.declared.event.Effects.{Effects}
 use Rattle.dns_primary.specs.declared.primary.Primary.{Primary}
-use Rattle.dns_primary.specs.Machine.{Machine}
+use Rattle.dns_primary.specs.Machine.{Machine, IsListed}
 use Rattle.dns_primary.specs.Keeps.{IsKept}
 use Rattle.dns_primary.specs.Step.{Event, Datagram, Connect, Arrives, Flush, Checkpoint, Pump, Closed}
 use Rattle.dns_network.specs.declared.network.Network.{Ghosts}
@@ -21,14 +22,20 @@ use Rattle.dns_network.specs.Delivery.{Served, Going, TakesEvent, HasEffects, Ha
 use Rattle.dns_network.specs.Steps.{AreSteps}
 
 -- One thing that is done: the network is asked, and nothing came; octets move on the connection with a
--- number; a peer connects; an event happens, and its replies go out; the connection with a number is closed,
--- for a cause. What the primary does is in the effects.
+-- number; a peer connects, or its connection is refused; an event happens, and its replies go out; the
+-- connection with a number is closed, for a cause. What the primary does is in the effects.
 pub data TurnMoment : Type 0 where
   Asks : TurnMoment
   Moves : ℕ → TurnMoment
   Connects : Peer → Effects → TurnMoment
+  Refuses : Peer → TurnMoment
   Happens : Event → Effects → List Going → TurnMoment
   Closes : ℕ → Cause → TurnMoment
+
+-- How many places there are for peers of any address: where so many connections are open, the places left are
+-- for those whose address some zone lists.
+abbrev pub places_for_all : ℕ
+places_for_all = 48
 
 -- A flush, before and after which the network looks.
 abbrev pub IsFlush : List TurnMoment → Type 0
@@ -46,7 +53,7 @@ module _ {S : Type 0} where
       ((length old ≤ number) × (new ≡ old))
       ⊎ ((number < length old)
       × ((c : Connection S) × (stream_of c ≡ stream) × (unwritten_of c ≡ []) × (unhandled c ≡ [])
-      × (heard_of c ≡ now) × (new ≡ slice_set old number (Some c))))
+      × (used_of c ≡ now) × (new ≡ slice_set old number (Some c))))
 
 -- Whichever machine a primary kept, no reply waits for a flush.
 abbrev pub NoneWaits : {I D : Type 0} {i : index.Ghosts I} {d : store.Ghosts D} → Primary I D i d → Type 0
@@ -85,32 +92,46 @@ module _ {I D S N L : Type 0} {i : index.Ghosts I} {d : store.Ghosts D} where
     pub moved : HasMoved s now before after
     pub rest : new ≡ record old { connections = slice_set old.connections number (Some after) }
 
+  -- The connection of a peer came, and is taken up: fewer than 48 were open, or its address is listed.
   pub record HasConnected (n : Ghosts N S) (l : notes.Ghosts L) (now : ℕ) (peer : Peer)
       (effects : Effects) (old new : Served I D S N L i d) : Type 0 where
     pub stream : S
     pub came : n.accepts old.network (Some (stream, peer)) new.network
+    pub allowed : (m : Machine) → IsKept old.primary m
+        → (open_count old.connections < places_for_all) ⊎ IsListed m peer.address
     pub taken : IsTakenUp l now stream peer effects old.primary new.primary old.connections
         new.connections old.notes new.notes
 
-  -- How an event comes: a datagram from the network, a message from the connection with its number; a pump
-  -- and a flush come of themselves, and no others do.
-  abbrev pub EventComes : Ghosts N S → Event → Served I D S N L i d → Served I D S N L i d → Type 0
-  EventComes n (Datagram peer octets) old new =
-      (new ≡ record old { network = new.network }) × n.receives old.network (Some (octets, peer)) new.network
-  EventComes n (Arrives number message) old new =
-      (c : Connection S) × (e : Connection S) × (slice_get old.connections number ≡ Some (Some c))
-      × HasHandedOver message c e
-      × (new ≡ record old { connections = slice_set old.connections number (Some e) })
-  EventComes n (Pump number) old new = new ≡ old
-  EventComes n Flush old new = new ≡ old
-  EventComes n (Connect peer) old new = ⊥
-  EventComes n (Checkpoint place) old new = ⊥
-  EventComes n (Closed number) old new = ⊥
+  -- The connection of a peer came, and its stream was let go: 48 were open, or more, and its address is not
+  -- listed. The primary is told nothing of it.
+  pub record HasRefused (n : Ghosts N S) (l : notes.Ghosts L) (peer : Peer)
+      (old new : Served I D S N L i d) : Type 0 where
+    pub stream : S
+    pub came : n.accepts old.network (Some (stream, peer)) new.network
+    pub full : places_for_all ≤ open_count old.connections
+    pub unlisted : (m : Machine) → IsKept old.primary m → IsListed m peer.address → ⊥
+    pub rest : new ≡ record old { network = new.network; notes = new.notes }
+    pub noted : l.takes old.notes note.Refused new.notes
 
-  pub record HasHappened (n : Ghosts N S) (l : notes.Ghosts L) (event : Event) (effects : Effects)
+  -- How an event comes in the second `now`: a datagram from the network, a message from the connection with
+  -- its number; a pump and a flush come of themselves, and no others do.
+  abbrev pub EventComes : Ghosts N S → ℕ → Event → Served I D S N L i d → Served I D S N L i d → Type 0
+  EventComes n now (Datagram peer octets) old new =
+      (new ≡ record old { network = new.network }) × n.receives old.network (Some (octets, peer)) new.network
+  EventComes n now (Arrives number message) old new =
+      (c : Connection S) × (e : Connection S) × (slice_get old.connections number ≡ Some (Some c))
+      × HasHandedOver now message c e
+      × (new ≡ record old { connections = slice_set old.connections number (Some e) })
+  EventComes n now (Pump number) old new = new ≡ old
+  EventComes n now Flush old new = new ≡ old
+  EventComes n now (Connect peer) old new = ⊥
+  EventComes n now (Checkpoint place) old new = ⊥
+  EventComes n now (Closed number) old new = ⊥
+
+  pub record HasHappened (n : Ghosts N S) (l : notes.Ghosts L) (now : ℕ) (event : Event) (effects : Effects)
       (goings : List Going) (old new : Served I D S N L i d) : Type 0 where
     pub given : Served I D S N L i d
-    pub is_given : EventComes n event old given
+    pub is_given : EventComes n now event old given
     pub told : Served I D S N L i d
     pub takes : TakesEvent given.primary event told.primary effects
     pub rest : told ≡ record given { primary = told.primary }
@@ -120,6 +141,7 @@ module _ {I D S N L : Type 0} {i : index.Ghosts I} {d : store.Ghosts D} where
   abbrev pub IsCauseNoted : notes.Ghosts L → Cause → Served I D S N L i d → Served I D S N L i d → Type 0
   IsCauseNoted l HasEnded old new = new ≡ old
   IsCauseNoted l Silent old new = new ≡ old
+  IsCauseNoted l Stalled old new = new ≡ old
   IsCauseNoted l NoMemory old new = HasNoted l note.OutOfMemory old new
   IsCauseNoted l NoPlace old new = new ≡ old
 
@@ -137,7 +159,9 @@ module _ {I D S N L : Type 0} {i : index.Ghosts I} {d : store.Ghosts D} where
   IsMoment s n l now Asks old new = HasAsked n old new
   IsMoment s n l now (Moves number) old new = MovedOn s now number old new
   IsMoment s n l now (Connects peer effects) old new = HasConnected n l now peer effects old new
-  IsMoment s n l now (Happens event effects goings) old new = HasHappened n l event effects goings old new
+  IsMoment s n l now (Refuses peer) old new = HasRefused n l peer old new
+  IsMoment s n l now (Happens event effects goings) old new =
+      HasHappened n l now event effects goings old new
   IsMoment s n l now (Closes number cause) old new = ClosedFor s l now number cause old new
 
   abbrev pub AreMoments : stream.Ghosts S → Ghosts N S → notes.Ghosts L → ℕ → List TurnMoment
@@ -149,16 +173,21 @@ module _ {I D S N L : Type 0} {i : index.Ghosts I} {d : store.Ghosts D} where
       → Served I D S N L i d → Type 0
   MomentsLead s n l now old new = (moments : List TurnMoment) × AreMoments s n l now moments old new
 
-  -- A turn, in the second `now`: what is done first in it, and then, where a reply waits, a flush.
+  -- A turn, in the second `now`: it is noted that it begins; then comes what is done first in it, and, where a
+  -- reply waits, a flush; and it is noted that it ends.
   pub record IsTurn (s : stream.Ghosts S) (n : Ghosts N S) (l : notes.Ghosts L) (now : ℕ)
       (moments : List TurnMoment) (old new : Served I D S N L i d) : Type 0 where
     pub first : List TurnMoment
     pub last : List TurnMoment
     pub are : moments ≡ first ++ last
+    pub begun : Served I D S N L i d
     pub between : Served I D S N L i d
-    pub done : AreMoments s n l now first old between
-    pub flushed : AreMoments s n l now last between new
+    pub ended : Served I D S N L i d
+    pub begins : HasNoted l (note.Begins now) old begun
+    pub done : AreMoments s n l now first begun between
+    pub flushed : AreMoments s n l now last between ended
     pub flush : ((last ≡ []) × NoneWaits between.primary) ⊎ IsFlush last
+    pub ends : HasNoted l note.Ends ended new
 
   -- A turn, and before and after it the network may be asked, or wait.
   pub record IsRound (s : stream.Ghosts S) (n : Ghosts N S) (l : notes.Ghosts L) (moments : List TurnMoment)

@@ -1,10 +1,10 @@
 //! All connections, by their numbers.
-ghost use Rattle.std.specs.Prelude.{◌≡◌, ◌≤◌, ◌<◌, length, replicate, slice_get, slice_set, true, false};
+ghost use Rattle.std.specs.Prelude.{◌≡◌, ◌≤◌, ◌<◌, ℕ, length, replicate, slice_get, slice_set, true};
 ghost use Rattle.std.specs.Prelude.{◌↔◌, None, Some, IsTrue, IfErr, IfOk, OnOk, OnErr};
 ghost use Rattle.std.specs.Option.{option_map};
-ghost use Rattle.dns_network.specs.Connection.{HasLost, IsSilent};
+ghost use Rattle.dns_network.specs.Connection.{HasLost, IsSilent, IsStalled};
 ghost use Rattle.dns_network.specs.Connections.{HandsOver, HasBecome, HasMovedAt, IsReplyPushed, IsOpenWith};
-ghost use Rattle.dns_network.specs.Connections.{has_left_at, is_open, places_of};
+ghost use Rattle.dns_network.specs.Connections.{has_left_at, is_open, open_count, places_of};
 
 use crate::{Connection, Moved, Octets, Stream};
 use dns_memory::Heap;
@@ -64,6 +64,13 @@ impl<S: Stream + Drop> Connections<S> {
         }
     }
 
+    /// How many connections there are.
+    pub fn open_count(&self) -> usize
+        ensures { result ≡ open_count (places_of self.now) }
+    {
+        self.places.iter().filter(|place| place.is_some()).count()
+    }
+
     /// Lets go the connection with that number, and its stream.
     pub fn remove(&mut self, number: usize)
         ensures { places_of self.new ≡ slice_set (places_of self.old) number None }
@@ -120,9 +127,8 @@ impl<S: Stream + Drop> Connections<S> {
         alloc: Heap,
         number: usize,
         buffer: &mut [u8],
-        now: u64,
     ) -> Result<Moved, AllocError>
-        ensures moved { IfOk result
+        ensures moved { (now : ℕ) → IfOk result
             (λ moved. HasMovedAt S.Stream now number moved (places_of self.old) (places_of self.new)) }
         ensures lost { OnErr result
             (HasBecome (HasLost S.Stream) number (places_of self.old) (places_of self.new)) }
@@ -131,33 +137,44 @@ impl<S: Stream + Drop> Connections<S> {
             return Ok(Moved::Later);
         }
         match &mut self.places[number] {
-            Some(connection) => connection.read(alloc, buffer, now),
+            Some(connection) => connection.read(alloc, buffer),
             None => Ok(Moved::Later),
         }
     }
 
     /// The first of the messages that came on the connection with that number and weren't handled yet, which
-    /// is handed over.
-    pub fn next_message(&mut self, number: usize) -> Option<Octets>
-        ensures { HandsOver number (option_map (λ m. m.items) result) (places_of self.old)
+    /// is handed over in the second `now`.
+    pub fn next_message(&mut self, number: usize, now: u64) -> Option<Octets>
+        ensures { HandsOver now number (option_map (λ m. m.items) result) (places_of self.old)
             (places_of self.new) }
     {
         if number >= self.places.len() {
             return None;
         }
         match &mut self.places[number] {
-            Some(connection) => connection.next_message(),
+            Some(connection) => connection.next_message(now),
             None => None,
         }
     }
 
-    /// Whether there is a connection with that number, nothing is left to write to it or to handle, and for
-    /// 30 seconds nothing came or went.
+    /// Whether there is a connection with that number, nothing is left to write to it or to handle, and it
+    /// wasn't used for 30 seconds.
     pub fn is_silent(&self, number: usize, now: u64) -> bool
         ensures { IsTrue result ↔ IsOpenWith (IsSilent now) (slice_get (places_of self.now) number) }
     {
         match self.places.get(number) {
             Some(Some(connection)) => connection.is_silent(now),
+            _ => false,
+        }
+    }
+
+    /// Whether there is a connection with that number, octets are left to write to it, and it wasn't used for
+    /// 30 seconds.
+    pub fn is_stalled(&self, number: usize, now: u64) -> bool
+        ensures { IsTrue result ↔ IsOpenWith (IsStalled now) (slice_get (places_of self.now) number) }
+    {
+        match self.places.get(number) {
+            Some(Some(connection)) => connection.is_stalled(now),
             _ => false,
         }
     }

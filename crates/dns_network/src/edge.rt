@@ -1,13 +1,18 @@
 //! Turns: what is done with the network, one turn after the other.
-ghost use Rattle.std.specs.Prelude.{◌≡◌, ℕ, Bool, List, map, replicate, false, None, slice_set, IfOk};
+ghost use Rattle.std.specs.Prelude.{◌≡◌, ◌≢◌, ◌⊎◌, ◌↔◌, ◌≤◌, ◌<◌, ℕ, Bool, List, [], map, replicate, false};
+ghost use Rattle.std.specs.Prelude.{None, slice_get, slice_set, IfOk, IsTrue};
 ghost use Rattle.dns_primary.specs.declared.event.Effects.{Effects as StatedEffects};
-ghost use Rattle.dns_primary.specs.Keeps.{header_out, reply_out};
+ghost use Rattle.dns_primary.specs.Keeps.{IsKept, header_out, reply_out};
+ghost use Rattle.dns_primary.specs.Machine.{IsListed, Machine};
 ghost use Rattle.dns_primary.specs.Step.{Closed};
 ghost use Rattle.dns_network.specs.declared.network.Note.TheVariants as note;
+ghost use Rattle.dns_network.specs.Connection.{IsSilent, IsStalled, unwritten_of, used_of};
+ghost use Rattle.dns_network.specs.Connections.{IsGoneOr, IsOpenWith, IsPumped, open_count};
 ghost use Rattle.dns_network.specs.Notes.{AreNoted, notes_of};
 ghost use Rattle.dns_network.specs.Delivery.{AreSent, Going, HasEffects, IsSent, TakesEvent, connections_of};
 ghost use Rattle.dns_network.specs.Delivery.{served};
 ghost use Rattle.dns_network.specs.Turn.{IsTurn, IsWelcomed, MomentsLead, NoneWaits, TurnMoment};
+ghost use Rattle.dns_network.specs.Turn.{places_for_all};
 
 use crate::{Connection, Connections, Moved, Network, Note, Notes, Stream};
 use dns_memory::Heap;
@@ -15,6 +20,7 @@ use dns_primary::{Effects, Event, HeaderTo, Noted, Peer, Primary, Reply, To};
 use dns_store::ZoneStore;
 use dns_zone::ZoneIndex;
 use std::alloc::AllocError;
+use std::net::IpAddr;
 
 /// How many octets are read at once. A datagram of over 512 octets is distinguished from shorter ones by its
 /// length.
@@ -22,6 +28,9 @@ const PIECE: usize = 4096;
 
 /// The longest message on a stream (RFC 1035 section 4.2.2).
 const LONGEST: usize = 65535;
+
+/// Where so many connections are open, the places left are for peers whose address some zone lists.
+const PLACES_FOR_ALL: usize = 48;
 
 /// The connections of a server, and a buffer for what is read.
 pub struct Edge<S: Stream> {
@@ -204,6 +213,7 @@ impl<S: Stream + Drop> Edge<S> {
         let effects = primary.step(alloc, Event::Connect(peer));
         tell(notes, effects.noted);
         let Some(number) = effects.accepted else {
+            notes.note(Note::Refused);
             return;
         };
         notes.note(Note::Opened(number, peer));
@@ -216,7 +226,21 @@ impl<S: Stream + Drop> Edge<S> {
         self.rested = None;
     }
 
-    /// Accepts one connection, if a peer made one.
+    /// Whether there is no place for a connection from the address: the places left are for those that some
+    /// zone lists, and none lists it.
+    #[inline(never)]
+    fn is_full_for<I: ZoneIndex, D: ZoneStore>(
+        &self,
+        primary: &Primary<I, D>,
+        address: IpAddr,
+    ) -> bool
+        ensures { (m : Machine) → IsKept primary.now m → IsTrue result
+            ↔ (places_for_all ≤ open_count (connections_of self.now)) × (IsListed m address → ⊥) }
+    {
+        self.connections.open_count() >= PLACES_FOR_ALL && !primary.lists(address)
+    }
+
+    /// Accepts one connection, if a peer made one. One for which there is no place is let go at once.
     fn accept<I: ZoneIndex, D: ZoneStore, N: Network<S>, L: Notes>(
         &mut self,
         alloc: Heap,
@@ -232,6 +256,10 @@ impl<S: Stream + Drop> Edge<S> {
         let Some((stream, peer)) = network.accept() else {
             return false;
         };
+        if self.is_full_for(primary, peer.address) {
+            notes.note(Note::Refused);
+            return true;
+        }
         self.welcome(alloc, primary, notes, stream, peer, now);
         true
     }
@@ -266,9 +294,11 @@ impl<S: Stream + Drop> Edge<S> {
         notes: &mut L,
         number: usize,
     ) -> bool
-        ensures { (now : ℕ) → MomentsLead S.Stream N.Network L.Notes now
+        ensures moments { (now : ℕ) → MomentsLead S.Stream N.Network L.Notes now
             (served primary.old self.old network.old notes.old)
             (served primary.new self.new network.new notes.new) }
+        ensures pumped { (m : Machine) → IsKept primary.old m
+            → IsPumped number result (connections_of self.old) (connections_of self.new) }
     {
         let effects = primary.step(alloc, Event::Pump(number));
         let is_sent = effects.message.is_some();
@@ -276,7 +306,8 @@ impl<S: Stream + Drop> Edge<S> {
         is_sent
     }
 
-    /// Reads one piece of a connection where there is none to handle, and handles one message.
+    /// Reads one piece of a connection where there is none to handle, and handles one message. A connection
+    /// that is silent then is closed.
     fn hear<I: ZoneIndex, D: ZoneStore, N: Network<S>, L: Notes>(
         &mut self,
         alloc: Heap,
@@ -286,11 +317,13 @@ impl<S: Stream + Drop> Edge<S> {
         number: usize,
         now: u64,
     ) -> bool
-        ensures { MomentsLead S.Stream N.Network L.Notes now
+        ensures moments { MomentsLead S.Stream N.Network L.Notes now
             (served primary.old self.old network.old notes.old)
             (served primary.new self.new network.new notes.new) }
+        ensures silent { IsOpenWith (IsSilent now) (slice_get (connections_of self.old) number)
+            → IsGoneOr (λ c. used_of c ≡ now) (slice_get (connections_of self.new) number) }
     {
-        let Ok(moved) = self.connections.read(alloc, number, &mut self.buffer, now) else {
+        let Ok(moved) = self.connections.read(alloc, number, &mut self.buffer) else {
             notes.note(Note::OutOfMemory);
             self.close(alloc, primary, notes, number);
             return true;
@@ -299,7 +332,7 @@ impl<S: Stream + Drop> Edge<S> {
             self.close(alloc, primary, notes, number);
             return true;
         }
-        if let Some(message) = self.connections.next_message(number) {
+        if let Some(message) = self.connections.next_message(number, now) {
             let effects = primary.step(alloc, Event::Message(number, &message));
             self.deliver(alloc, network, primary, notes, effects);
             return true;
@@ -312,7 +345,8 @@ impl<S: Stream + Drop> Edge<S> {
     }
 
     /// Gives a connection its part of a turn: what is left to write is written; else the next message of a
-    /// transfer is queued; else a piece is read, and a message handled.
+    /// transfer is queued; else a piece is read, and a message handled. One that is stalled or silent then is
+    /// closed.
     fn visit<I: ZoneIndex, D: ZoneStore, N: Network<S>, L: Notes>(
         &mut self,
         alloc: Heap,
@@ -322,9 +356,17 @@ impl<S: Stream + Drop> Edge<S> {
         number: usize,
         now: u64,
     ) -> bool
-        ensures { MomentsLead S.Stream N.Network L.Notes now
+        ensures moments { MomentsLead S.Stream N.Network L.Notes now
             (served primary.old self.old network.old notes.old)
             (served primary.new self.new network.new notes.new) }
+        // A connection that was stalled before is gone then, or it was used in this second;
+        ensures stalled { IsOpenWith (IsStalled now) (slice_get (connections_of self.old) number)
+            → IsGoneOr (λ c. used_of c ≡ now) (slice_get (connections_of self.new) number) }
+        // so is one that was silent before, or a message of a transfer is left to write on it.
+        ensures silent { (m : Machine) → IsKept primary.old m
+            → IsOpenWith (IsSilent now) (slice_get (connections_of self.old) number)
+            → IsGoneOr (λ c. (used_of c ≡ now) ⊎ (unwritten_of c ≢ []))
+            (slice_get (connections_of self.new) number) }
     {
         if !self.connections.is_open(number) {
             return false;
@@ -332,6 +374,10 @@ impl<S: Stream + Drop> Edge<S> {
         if self.connections.has_left(number) {
             let moved = self.connections.write(number, now);
             if let Moved::Ended = moved {
+                self.close(alloc, primary, notes, number);
+                return true;
+            }
+            if self.connections.is_stalled(number, now) {
                 self.close(alloc, primary, notes, number);
                 return true;
             }
@@ -372,7 +418,10 @@ impl<S: Stream + Drop> Edge<S> {
 
     /// Makes one turn, in the second `now`, and answers whether anything was done in it: at most one
     /// connection is accepted and at most one datagram read; each connection has its part, by rising number;
-    /// then there is a flush if a reply waits for one.
+    /// then there is a flush if a reply waits for one. It is noted that the turn begins, and that it ends.
+    ///
+    /// Of the 64 places 16 are for peers whose address some zone lists. A connection that is silent or stalled
+    /// for 30 seconds is closed.
     ///
     /// A read or a write that would wait does nothing, and one that fails closes its connection. So does
     /// refused memory.
@@ -389,6 +438,7 @@ impl<S: Stream + Drop> Edge<S> {
             (served primary.new self.new network.new notes.new) }
         ensures idle { result ≡ false → NoneWaits primary.new }
     {
+        notes.note(Note::Begins(now));
         let accepted = self.accept(alloc, network, primary, notes, now);
         let received = self.receive(alloc, network, primary, notes);
         let visited = self.visit_each(alloc, network, primary, notes, now);
@@ -400,6 +450,7 @@ impl<S: Stream + Drop> Edge<S> {
             network.look();
             is_done = true;
         }
+        notes.note(Note::Ends);
         is_done
     }
 }

@@ -58,10 +58,16 @@ pub enum Note {
     Opened(usize, Peer),
     /// The connection with this number is closed.
     Closed(usize),
+    /// A connection that a peer made was closed at once, for want of a place.
+    Refused,
     /// Memory was refused.
     OutOfMemory,
     /// The device of the zone at this position was the first that failed in an event.
     Device(usize),
+    /// A turn begins, in this second of the clock. It is the first note of each turn.
+    Begins(u64),
+    /// A turn ends. It is the last note of each turn.
+    Ends,
 }
 
 /// To whom turns report.

@@ -1,5 +1,5 @@
 -- What a primary keeps of the machine, and how it reports effects.
-use Rattle.std.specs.Prelude.{◌≡◌, ◌++◌, ◌↔◌, ℕ, List, [], ◌∷◌, map, length, Option, Some, None, Result, Ok}
+use Rattle.std.specs.Prelude.{◌≡◌, ◌⊎◌, ◌++◌, ◌↔◌, ℕ, List, [], ◌∷◌, map, length, Option, Some, None, Result, Ok}
 use Rattle.std.specs.Prelude.{Err, IsTrue, slice_get, ◌==◌, if◌then◌else◌}
 use Rattle.slab.specs.Slab.{Slab, get, slab_len}
 use Rattle.std.specs.declared.net.ip_addr.IpAddr.{IpAddr}
@@ -51,6 +51,10 @@ pub record IsSet (s : ZoneSpec) (z : ZoneState) : Type 0 where
   pub keep : s.keep ≡ z.setting.keep
   pub update : (a : IpAddr) → IsTrue (z.setting.may_update a) ↔ IsAllowed s.update.items a
   pub transfer : (a : IpAddr) → IsTrue (z.setting.may_transfer a) ↔ IsAllowed s.transfer.items a
+
+-- One of the lists that are configured of a zone allows the address.
+abbrev pub IsInList : ZoneSpec → IpAddr → Type 0
+IsInList s address = IsAllowed s.update.items address ⊎ IsAllowed s.transfer.items address
 
 -- The transfer that is open on the connection with that number, as they are stored.
 abbrev pub sending_on : {I : Type 0} → ℕ → List (OpenTransfer I) → Option Sending

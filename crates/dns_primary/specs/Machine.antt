@@ -1,6 +1,7 @@
 -- The state of a primary, as a machine: of each zone its versions, and for all the replies that wait and the
 -- connections.
-use Rattle.std.specs.Prelude.{ℕ, Bool, ◌==◌, List, [], ◌∷◌, ◌++◌, map, Option, Some, None, if◌then◌else◌}
+use Rattle.std.specs.Prelude.{◌⊎◌, ℕ, Bool, ◌==◌, IsTrue, List, [], ◌∷◌, ◌++◌, Any, map, Option, Some, None}
+use Rattle.std.specs.Prelude.{if◌then◌else◌}
 use Rattle.std.specs.declared.net.ip_addr.IpAddr.{IpAddr}
 use Rattle.dns_records.specs.Record.{Record}
 use Rattle.dns_zone.specs.Zone.{Zone}
@@ -75,6 +76,11 @@ pub record Machine : Type 0 where
   pub zones : List ZoneState
   pub waiting : List Waits
   pub connections : List Connection
+
+-- Some zone may be updated or transferred from the address.
+abbrev pub IsListed : Machine → IpAddr → Type 0
+IsListed m address =
+    Any (λ z. IsTrue (z.setting.may_update address) ⊎ IsTrue (z.setting.may_transfer address)) m.zones
 
 -- The zones as they are shown.
 abbrev pub shown_zones : Machine → List Zone

@@ -1,15 +1,16 @@
 //! What is tested of an update before it is judged (RFC 2136 sections 3.1 and 3.3).
-ghost use Rattle.std.specs.Prelude.{◌≡◌, ◌<◌, ℕ, List, length, Some, IfOk, IfSome};
+ghost use Rattle.std.specs.Prelude.{◌≡◌, ◌↔◌, ◌<◌, ℕ, List, length, Any, Some, IfOk, IfSome, IsTrue};
 ghost use Rattle.std.specs.List.{position};
 ghost use Rattle.dns_names.specs.Name.{names_eq};
 ghost use Rattle.dns_zone.specs.Zone.{Zone as Stated};
 ghost use Rattle.dns_versions.specs.Each.{Each2};
 ghost use Rattle.dns_versions.specs.Held.{HasVersions};
-ghost use Rattle.dns_primary.specs.Machine.{ZoneState, kept_of};
+ghost use Rattle.dns_primary.specs.Machine.{IsListed, Machine, ZoneState, kept_of};
 ghost use Rattle.dns_primary.specs.Update.{Asked, admission, admission_in};
-ghost use Rattle.dns_primary.specs.Keeps.{HaveVersions, IsSet, admission_shown, admission_of_test};
+ghost use Rattle.dns_primary.specs.Keeps.{HaveVersions, IsInList, IsKept, IsSet, admission_shown};
+ghost use Rattle.dns_primary.specs.Keeps.{admission_of_test};
 
-use crate::ZoneSpec;
+use crate::{Primary, ZoneSpec};
 use dns_names::{Name, NameRef};
 use dns_policy::allows;
 use dns_records::types::{CLASS_IN, SOA};
@@ -93,5 +94,28 @@ pub(crate) fn admit<I: ZoneIndex, S: ZoneStore>(
             Ok(()) => Ok(place),
             Err(rcode) => Err(rcode),
         },
+    }
+}
+
+/// Whether one of the lists that are configured of a zone allows the address.
+fn is_in_list(settings: &ZoneSpec, address: IpAddr) -> bool
+    ensures { IsTrue result ↔ IsInList settings.now address }
+{
+    allows(&settings.update, address) || allows(&settings.transfer, address)
+}
+
+/// Whether one of the lists that are configured of these zones does.
+fn are_listing(settings: &[ZoneSpec], address: IpAddr) -> bool
+    ensures { IsTrue result ↔ Any (λ s. IsInList s address) settings.now }
+{
+    settings.iter().any(|one| is_in_list(one, address))
+}
+
+impl<I: ZoneIndex, S: ZoneStore> Primary<I, S> {
+    /// Whether some zone may be updated or transferred from the address.
+    pub fn lists(&self, address: IpAddr) -> bool
+        ensures { (m : Machine) → IsKept self.now m → IsTrue result ↔ IsListed m address }
+    {
+        are_listing(&self.settings, address)
     }
 }
