@@ -70,9 +70,9 @@ def ask(message, patience=5.0):
                 return reply, time.monotonic() - begun
 
 
-def connect(patience=5.0):
-    """A connection by TCP."""
-    sock = socket.create_connection(PLACE, patience)
+def connect(patience=5.0, source="127.0.0.1"):
+    """A connection by TCP, from an address of this machine."""
+    sock = socket.create_connection(PLACE, patience, (source, 0))
     sock.setsockopt(socket.IPPROTO_TCP, socket.TCP_NODELAY, 1)
     return sock
 
@@ -105,7 +105,7 @@ def write_zone(path, hosts):
 class Server:
     """A server of one zone, `example.`, in a temporary folder."""
 
-    def __init__(self, hosts, journal, keep):
+    def __init__(self, hosts, journal, keep, allowed="127.0.0.0/8"):
         self.room = tempfile.mkdtemp(prefix="dnsprim-")
         self.process = None
         write_zone(f"{self.room}/example.zone", hosts)
@@ -113,7 +113,7 @@ class Server:
             file.write(
                 f'listen = "127.0.0.1:{PORT}"\n[[zone]]\norigin = "example."\nfile = "example.zone"\ndevice = "example.dev"\n'
                 f"snapshot_sectors = 16384\njournal_sectors = {journal}\nkeep = {keep}\n"
-                'update = ["127.0.0.0/8"]\ntransfer = ["127.0.0.0/8"]\n'
+                f'update = ["{allowed}"]\ntransfer = ["{allowed}"]\n'
             )
         self.run("init")
 
@@ -126,7 +126,7 @@ class Server:
         """Starts it, and gives the seconds until the first query is answered."""
         begun = time.monotonic()
         with open(f"{self.room}/log", "wb") as log:
-            command = [PROGRAM, "serve", "dnsprim.toml", "--turns", "4294967295"]
+            command = [PROGRAM, "serve", "dnsprim.toml", "--turns", "unlimited"]
             self.process = subprocess.Popen(command, cwd=self.room, stderr=log)
         while self.process.poll() is None:
             try:
@@ -140,6 +140,14 @@ class Server:
         """The number of the version that was shown when it started."""
         line = pathlib.Path(f"{self.room}/log").read_text().splitlines()[0]
         return int(line.split(" version ")[1].split()[0])
+
+    def lines(self):
+        """How many lines of the log there are of each kind."""
+        counts = {}
+        for line in pathlib.Path(f"{self.room}/log").read_text().splitlines():
+            words = " ".join(word for word in line.split() if word.isalpha())
+            counts[words] = counts.get(words, 0) + 1
+        return counts
 
     def memory(self):
         """The kilobytes of memory that are in use."""

@@ -9,7 +9,7 @@ use Rattle.std.specs.Str.Pattern.{RFindsChar, SplitsAroundMatch}
 use Rattle.std.proofs.lemmas.Str.Pattern.{NoCharPasses-char, drop_at_char}
 use Rattle.std.specs.Net.Socket.{socket_ip, socket_port}
 use Rattle.std.specs.declared.net.socket_addr.SocketAddr.{SocketAddr}
-use Rattle.dns_configuration.specs.Settings.{FindsIfAny, HasNone, IsLastParted, IsListener, IsHost, IsPort}
+use Rattle.dns_configuration.specs.Settings.{FindsIfAny, HasNone, IsLastParted, IsSocketAddress, IsHost, IsPort}
 
 own : IsNumeralModel (AllDigits 10) (digits_value 10)
 own = numerals_by_value (AllDigits 10) tells_digits
@@ -75,11 +75,11 @@ parted_once (x ∷ a) b [] d e none other = absurd (here a (tail_same e))
     here a same = (let at = get_or-append-add a (58 ∷ b) 0 0 in other (length a) (omega (arith, ap length same, length-append a (58 ∷ b))) (ap (λ (t : List ℕ). get_or t (length a) 0) (sym same) ∙ ap (λ (i : ℕ). get_or (a ++ 58 ∷ b) i 0) {x = length a} {y = length a + 0} (omega arith) ∙ at))
 parted_once (x ∷ a) b (y ∷ c) d e none other = (let more = parted_once a b c d (tail_same e) none other in ((λ i. head_same e i ∷ more.0 i), more.1))
 
-pub no_parts : (text : List ℕ) → HasNone 58 text → (a : SocketAddr) → IsListener text a → ⊥
+pub no_parts : (text : List ℕ) → HasNone 58 text → (a : SocketAddr) → IsSocketAddress text a → ⊥
 no_parts text none a h = (let at = get_or-append-add h.host (58 ∷ h.port) 0 0 in none (length h.host) (omega (arith, ap length h.spelled, length-append h.host (58 ∷ h.port))) (ap (λ (t : List ℕ). get_or t (length h.host) 0) h.spelled ∙ ap (λ (i : ℕ). get_or (h.host ++ 58 ∷ h.port) i 0) {x = length h.host} {y = length h.host + 0} (omega arith) ∙ at))
 
 -- What is around the last colon is the host and the port of each listener that the text is.
-pub parts_of : (text : List ℕ) (front digits : List ℕ) → IsLastParted 58 text (front, digits) → (a : SocketAddr) → IsListener text a → IsHost front (socket_ip a) × IsPort digits (socket_port a)
+pub parts_of : (text : List ℕ) (front digits : List ℕ) → IsLastParted 58 text (front, digits) → (a : SocketAddr) → IsSocketAddress text a → IsHost front (socket_ip a) × IsPort digits (socket_port a)
 parts_of text front digits h a l =
     let same = parted_once front digits l.host l.port (sym h.0 ∙ l.spelled) h.1 (no_colon l.port (socket_port a) l.port_is) in
     (subst (λ (t : List ℕ). IsHost t (socket_ip a)) (sym same.0) l.host_is, subst (λ (t : List ℕ). IsPort t (socket_port a)) (sym same.1) l.port_is)

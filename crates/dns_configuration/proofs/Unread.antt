@@ -21,7 +21,7 @@ use Rattle.toml.specs.Data.{Data, Items, Members, as_str, as_table, item, string
 use Rattle.toml.specs.View.{items_of, items_view, members_of, members_view, view}
 use Rattle.toml.specs.declared.value.Value.{Value}
 use Rattle.dns_configuration.specs.declared.configuration.ZoneSettings.{ZoneSettings}
-use Rattle.dns_configuration.specs.Settings.{ArePrefixes, AreSettings, Describes, IsListener, HasPrefix, HasPrefixes, IsDescribedBy, IsSettings, ReadsOrFails, are_alike, has_keys, key_count, list_at, text_at}
+use Rattle.dns_configuration.specs.Settings.{ArePrefixes, AreSettings, Describes, IsSocketAddress, HasPrefix, HasPrefixes, IsDescribedBy, IsSettings, ReadsOrFails, are_alike, has_keys, key_count, list_at, text_at}
 use Rattle.dns_configuration.specs.declared.configuration.Configuration.{Configuration}
 use Rattle.dns_configuration.specs.declared.configuration.ConfigurationError.{ConfigurationError}
 use Rattle.dns_configuration.specs.declared.configuration.ConfigurationError.TheVariants.{OutOfMemory, BadConfig}
@@ -115,8 +115,8 @@ zones_there d vs slice c e same h = subst (λ (t : List Data). AreSettings t c.z
     all : (texts : List Data) → list_at (codes "zone") d ≡ Some (items_of texts) → items_of texts ≡ items_of (map view slice)
     all texts stand = (let there : items_of (map view slice) ≡ items_of (map view vs) = ap (λ (v : List Value). items_of (map view v)) same in cc)
 
-pub no_listener : (d : Data) (text : List ℕ) (c : Configuration) → Some text ≡ text_at (codes "listen") d → ((a : SocketAddr) → IsListener text a → ⊥) → Describes d c → ⊥
-no_listener d text c e none h = none c.listen (subst (λ (t : List ℕ). IsListener t c.listen) (same h.listen.0 h.listen.1) h.listen.2)
+pub no_listener : (d : Data) (text : List ℕ) (c : Configuration) → Some text ≡ text_at (codes "listen") d → ((a : SocketAddr) → IsSocketAddress text a → ⊥) → Describes d c → ⊥
+no_listener d text c e none h = none c.listen (subst (λ (t : List ℕ). IsSocketAddress t c.listen) (same h.listen.0 h.listen.1) h.listen.2)
   where
     same : (t : List ℕ) → text_at (codes "listen") d ≡ Some t → t ≡ text
     same t there = cc

@@ -35,7 +35,7 @@ IsHost text (V4 a) = IsAddress text (V4 a)
 IsHost text (V6 a) = (inner : List ℕ) × (text ≡ 91 ∷ inner ++ 93 ∷ []) × IsAddress inner (V6 a)
 
 -- An address, a colon, a port.
-pub record IsListener (text : List ℕ) (a : SocketAddr) : Type 0 where
+pub record IsSocketAddress (text : List ℕ) (a : SocketAddr) : Type 0 where
   pub host : List ℕ
   pub port : List ℕ
   pub spelled : text ≡ host ++ 58 ∷ port
@@ -151,7 +151,7 @@ pub record AreSettings (tables : List Data) (zs : List ZoneSettings) : Type 0 wh
 -- The document describes the configuration, and has no other key.
 pub record Describes (d : Data) (c : Configuration) : Type 0 where
   pub keys : has_keys 2 d ≡ true
-  pub listen : (text : List ℕ) × (text_at (codes "listen") d ≡ Some text) × IsListener text c.listen
+  pub listen : (text : List ℕ) × (text_at (codes "listen") d ≡ Some text) × IsSocketAddress text c.listen
   pub zones : (tables : List Data) × (list_at (codes "zone") d ≡ Some (items_of tables))
       × AreSettings tables c.zones.items
   pub some : 0 < length c.zones.items

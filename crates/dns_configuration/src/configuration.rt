@@ -10,7 +10,7 @@ ghost use Rattle.std.specs.declared.net.ip_addr.IpAddr.TheVariants.{V4, V6};
 ghost use Rattle.dns_configuration.specs.declared.configuration.ConfigurationError.TheVariants as told;
 ghost use Rattle.dns_configuration.specs.Settings.{ArePrefixes, AreSettings, Describes, FindsIfAny, HasCount};
 ghost use Rattle.dns_configuration.specs.Settings.{HasName, HasNone, HasPath, HasPrefixes, IsConfiguration};
-ghost use Rattle.dns_configuration.specs.Settings.{IsDescribedBy, IsHost, IsLastParted, IsListener, IsPort};
+ghost use Rattle.dns_configuration.specs.Settings.{IsDescribedBy, IsHost, IsLastParted, IsSocketAddress, IsPort};
 ghost use Rattle.dns_configuration.specs.Settings.{IsSettings, ReadsOrFails, are_alike, has_keys, list_at};
 ghost use Rattle.dns_configuration.specs.Settings.{number_at, text_at};
 
@@ -164,9 +164,10 @@ fn split_at_last_colon(text: &str) -> Option<(&str, &str)>
     text.rsplit_once(':')
 }
 
-/// An address, and after a colon a port.
-pub(crate) fn listener(text: &str) -> Option<SocketAddr>
-    ensures { FindsIfAny (IsListener text.now) result }
+/// The address and the port of a text such as `192.0.2.53:53` or `[2001:db8::53]:53`: a port of 1 to 65,535
+/// without leading zeros. None for every other text.
+pub fn socket_address(text: &str) -> Option<SocketAddr>
+    ensures { FindsIfAny (IsSocketAddress text.now) result }
 {
     let (front, digits) = split_at_last_colon(text)?;
     let ip = host(front.as_bytes())?;
@@ -360,7 +361,7 @@ fn configuration_of(
     let Some(text) = text_at(document, "listen") else {
         return Err(ConfigurationError::BadConfig);
     };
-    let Some(listen) = listener(text) else {
+    let Some(listen) = socket_address(text) else {
         return Err(ConfigurationError::BadConfig);
     };
     let Some(tables) = list_at(document, "zone") else {

@@ -8,7 +8,7 @@ mod files;
 mod loading;
 mod zone_specs;
 
-pub use configuration::{Configuration, ConfigurationError, ZoneSettings};
+pub use configuration::{Configuration, ConfigurationError, ZoneSettings, socket_address};
 pub use explain::explain_configuration;
 pub use files::{
     DONE, FAILED, Fault, File, PrintedWord, REFUSED, USAGE, apex, read_configuration, tell,

@@ -7,6 +7,7 @@ use Rattle.dns_records.specs.Record.{Record}
 use Rattle.dns_zone.specs.Zone.{Zone}
 use Rattle.dns_wire.specs.Message.{Message, ResourceRecord}
 use Rattle.dns_wire.specs.Reads.{Reads}
+use Rattle.dns_secondary.specs.Received.{received_count}
 use Rattle.dns_secondary.specs.Receiving.{Receiving, header_fault}
 use Rattle.dns_secondary.specs.Rest.{Reaches, Rest, is_current}
 use Rattle.dns_secondary.specs.State.{State, Begun, Led}
@@ -20,7 +21,7 @@ use Rattle.dns_secondary.proofs.Runs.{reached_on, rest_of, rest_on}
 use Rattle.dns_server.specs.FetchFaults.{ComesOfAsking, fault_of_answer}
 use Rattle.dns_server.specs.declared.fetch_faults.FetchFault.{FetchFault}
 use Rattle.dns_server.specs.declared.fetch_faults.FetchFault.TheVariants as fetch
-use Rattle.dns_server.specs.TakingIn.{AreAnswersTo, IsRefusedIn, IsToldBy, TellEnd, TellMore, TellRefusal, Tells, asking, asking_at}
+use Rattle.dns_server.specs.TakingIn.{AreAnswersTo, IsGivenUp, IsRefusedIn, IsToldBy, TellEnd, TellMore, TellRefusal, Tells, asking, asking_at, most_records}
 
 -- More messages are fed.
 pub more_on : (s mid now : Receiving) (ms ns : List (List ℕ)) → TellMore s ms mid → TellMore mid ns now → TellMore s (ms ++ ns) now
@@ -155,7 +156,7 @@ refused_as apex held ms fault k =
       answers = heard.answers;
       at = heard.next;
       reached = heard.reached;
-      refused = subst (λ (x : Receiving). RefusesFeed x k.message fault) heard.is k.refused;
+      refused = subst (λ (x : Receiving). IsGivenUp x k.message fault) heard.is k.refused;
     }
 
 -- One message more is fed.
@@ -207,9 +208,21 @@ refused_fed s now whole first later m octets e h parts is why =
         parts = parts;
         now = now;
         more = h;
-        refused = subst (λ (x : List ℕ). RefusesFeed now x e) is refuses;
+        refused = inl (subst (λ (x : List ℕ). RefusesFeed now x e) is refuses);
       })
     ])
+
+-- With a message more records are held than a zone may have.
+pub beyond_fed : (s now new : Receiving) (whole first later : List (List ℕ)) (m octets : List ℕ) (p : Progress) (count : ℕ) → TellMore s first now → whole ≡ first ++ m ∷ later → octets ≡ m → Feeds now octets p new → p ≡ More → count ≡ min (received_count new.state) (2 ^ 64 - 1) → most_records < count → TellRefusal s whole InvalidZone
+beyond_fed s now new whole first later m octets p count h parts is fed more counted many = record {
+  first = first;
+  message = m;
+  later = later;
+  parts = parts;
+  now = now;
+  more = h;
+  refused = inr (refl, new, subst (λ (x : List ℕ). Feeds now x More new) is (subst (λ (q : Progress). Feeds now octets q new) more fed), omega (arith, counted, many, min-le-left (received_count new.state) (2 ^ 64 - 1)));
+}
 
 -- What holds of a refusal holds where it is passed on.
 pub if_other : (P Q : Fault → Type 0) (e : FetchFault) → ((fault : Fault) → P fault → Q fault) → ComesOfAsking e P → ComesOfAsking e Q

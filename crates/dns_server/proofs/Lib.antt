@@ -13,6 +13,7 @@ pub mod Compared
 pub mod Made
 pub mod Migrated
 pub mod Refused
+pub mod Said
 pub mod Shown
 pub mod Stored
 pub mod Taken

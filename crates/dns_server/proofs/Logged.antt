@@ -1,7 +1,7 @@
 -- The log of turns.
 use Rattle.std.proofs.Common.{◌≡◌, ◌⊎◌, inl, inr, ℕ, ◌+◌, ◌<◌, Bool, false, List, [], ◌∷◌, ◌++◌, length, Option, Some, None, Result, Ok, Err, IfOk, refl, arith, sym, ap, subst, ◌∙◌, append_assoc, append-nil}
-use Rattle.std.specs.Prelude.{flat_map, get_or, slice_get, take}
-use Rattle.std.specs.Io.KnownBytes.{Appends}
+use Rattle.std.specs.Prelude.{get_or, slice_get, take}
+use Rattle.std.specs.Io.KnownBytes.{Appends, append_known}
 use Rattle.std.specs.declared.net.socket_addr.SocketAddr.{SocketAddr}
 use Rattle.std.proofs.KnownBytes.{Appends-nil, Appends-trans}
 use Rattle.std.proofs.lemmas.List.{length-take-le, take_more}
@@ -22,54 +22,79 @@ use Rattle.dns_network.specs.Notes.{AreNoted}
 use Rattle.dns_network.specs.NotesOfTurns.{AreNotesOfTurns}
 use Rattle.dns_network.specs.Turn.{TurnMoment}
 use Rattle.dns_network.proofs.Noted.{Took}
-use Rattle.dns_server.specs.Log.{IsLogged, IsLogOf, listening_line, note_line, zone_line, zone_lines}
+use Rattle.dns_server.specs.declared.log.Counts.{Counts}
+use Rattle.dns_server.specs.Log.{IsLogged, IsLogOf, IsSaid, Logged, listening_line, log_of, none_in, said_of, says, zone_line, zone_lines}
 use Rattle.dns_server.specs.ServedTurns.{HasTurned, IsServedOn}
 use Rattle.dns_server.proofs.Turned.{has_been_turned}
 
--- The lines of notes, in a log that stays the same one, and of which no line failed.
-module _ {L M : Type 0} (l : notes.Ghosts L) (mark : L → M) (names : L → List Labels) (failed : L → Bool) (text : L → Option (List ℕ))
-    (logged : (old : L) (one : Note) (new : L) → l.takes old one new → (mark new ≡ mark old) × (names new ≡ names old) × IsLogged (names old) one (failed old) (failed new) (text old) (text new)) where
-  lines_logged : (origins : List Labels) (taken : List Note) (old new : L) → names old ≡ origins → AreNoted l taken old new → failed new ≡ false
-      → (failed old ≡ false) × Appends (text old) (text new) (flat_map (note_line origins) taken)
-  lines_logged origins [] old new known same whole = (
+-- What is written out comes after what was said.
+pub says_written : (before written after : Option (List ℕ)) (lines text : List ℕ) → Appends before (append_known written lines) text → Appends written after lines → Appends before after text
+says_written None written after lines text said out = tt
+says_written (Some xs) None after lines text said out = absurd said
+says_written (Some xs) (Some ys) None lines text said out = absurd out
+says_written (Some xs) (Some ys) (Some zs) lines text said out = out ∙ said
+
+-- A log says what was written where no line is left.
+pub says_all : (written after : Option (List ℕ)) (text : List ℕ) → Appends (append_known written []) after text → Appends written after text
+says_all None after text said = tt
+says_all (Some xs) None text said = said
+says_all (Some xs) (Some ys) text said = said ∙ ap (λ (x : List ℕ). x ++ text) (append-nil xs)
+
+-- What is said of notes, in a log that stays the same one, and of which no line failed.
+module _ {L M : Type 0} (l : notes.Ghosts L) (mark : L → M) (names : L → List Labels) (hushed : L → Bool) (failed : L → Bool) (state : L → Logged)
+    (taken_so : (old : L) (one : Note) (new : L) → l.takes old one new → (mark new ≡ mark old) × (names new ≡ names old) × (hushed new ≡ hushed old) × IsLogged (hushed old) (names old) one (failed old) (failed new) (state old) (state new)) where
+  notes_logged : (origins : List Labels) (quiet : Bool) (taken : List Note) (old new : L) → names old ≡ origins → hushed old ≡ quiet → AreNoted l taken old new → failed new ≡ false
+      → (failed old ≡ false) × Appends (says (state old)) (says (state new)) (log_of quiet origins (state old).counts taken)
+  notes_logged origins quiet [] old new known is same whole = (
     subst (λ (x : L). failed x ≡ false) same whole,
-    subst (λ (x : L). Appends (text old) (text x) []) (sym same) (Appends-nil (text old)),
+    subst (λ (x : L). Appends (says (state old)) (says (state x)) []) (sym same) (Appends-nil (says (state old))),
   )
-  lines_logged origins (one ∷ rest) old new known (between, here, pending) whole =
-      let step = logged old one between here in
-      let later = lines_logged origins rest between new (step.1 ∙ known) pending whole in
-      let now = step.2 later.0 in (
+  notes_logged origins quiet (one ∷ rest) old new known is (between, here, pending) whole =
+      let step = taken_so old one between here in
+      let later = notes_logged origins quiet rest between new (step.1 ∙ known) (step.2 ∙ is) pending whole in
+      let now = step.3.said later.0 in
+      let named : IsSaid (said_of (hushed old) origins (state old).counts one) (state old) (state between) =
+      subst (λ (x : List Labels). IsSaid (said_of (hushed old) x (state old).counts one) (state old) (state between)) known now.1 in
+      let said : IsSaid (said_of quiet origins (state old).counts one) (state old) (state between) =
+      subst (λ (x : Bool). IsSaid (said_of x origins (state old).counts one) (state old) (state between)) is named in
+      let first = said_of quiet origins (state old).counts one in (
         now.0,
-        Appends-trans (text old) (text between) (text new) (note_line origins one) (flat_map (note_line origins) rest)
-            (subst (λ (x : List Labels). Appends (text old) (text between) (note_line x one)) known now.1) later.1,
+        Appends-trans (says (state old)) (says (state between)) (says (state new)) first.0 (log_of quiet origins first.1 rest) said.text
+            (subst (λ (x : Counts). Appends (says (state between)) (says (state new)) (log_of quiet origins x rest)) said.counts later.1),
       )
 
   stays : (taken : List Note) (old new : L) → AreNoted l taken old new → mark old ≡ mark new
   stays [] old new same = ap mark (sym same)
-  stays (one ∷ rest) old new (between, here, pending) = sym (logged old one between here).0 ∙ stays rest between new pending
+  stays (one ∷ rest) old new (between, here, pending) = sym (taken_so old one between here).0 ∙ stays rest between new pending
 
-  -- The log of turns, after the line of the address.
-  turns_logged : (address : SocketAddr) (err err_after : Option (List ℕ)) (old new : L) (turns : List (List TurnMoment)) → Appends err (text old) (listening_line address) → failed new ≡ false
-      → (mark old ≡ mark new → err_after ≡ text new) → Took l (AreNotesOfTurns turns) old new → IsLogOf [] (names old) address err err_after turns
-  turns_logged address err err_after old new turns said whole at took =
-      let lines = lines_logged (names old) took.0 old new refl took.2 whole in
-      let more = flat_map (note_line (names old)) took.0 in (
+  -- The log of turns, after the line of the address, once all of it is written out.
+  turns_logged : (address : SocketAddr) (err out err_after : Option (List ℕ)) (old new : L) (turns : List (List TurnMoment)) → Appends err (state old).written (listening_line address)
+      → (state old).lines ≡ [] → (state old).counts ≡ none_in 0 → failed new ≡ false → Appends (state new).written out (state new).lines
+      → (mark old ≡ mark new → err_after ≡ out) → Took l (AreNotesOfTurns turns) old new → IsLogOf [] (hushed old) (names old) address err err_after turns
+  turns_logged address err out err_after old new turns said none fresh whole written at took =
+      let noted = notes_logged (names old) (hushed old) took.0 old new refl refl took.2 whole in
+      let more = log_of (hushed old) (names old) (none_in 0) took.0 in
+      let begun : Appends (append_known (state old).written []) (says (state new)) more =
+      subst (λ (x : List ℕ). Appends (append_known (state old).written x) (says (state new)) more) none
+      (subst (λ (x : Counts). Appends (says (state old)) (says (state new)) (log_of (hushed old) (names old) x took.0)) fresh noted.1) in
+      let all : Appends (state old).written out more = says_written (state old).written (state new).written out (state new).lines more (says_all (state old).written (says (state new)) more begun) written in (
         took.0,
         took.1,
         subst (λ (x : Option (List ℕ)). Appends err x (listening_line address ++ more)) (sym (at (stays took.0 old new took.2)))
-            (Appends-trans err (text old) (text new) (listening_line address) more said lines.1),
+            (Appends-trans err (state old).written out (listening_line address) more said all),
       )
 
--- A server listened and made its turns, and no line failed.
+-- A server listened and made its turns, no line failed, and all lines are written out.
 pub has_listened : {I D S N L M : Type 0} {i : index.Ghosts I} {d : store.Ghosts D} {s : stream.Ghosts S} {n : Ghosts N S} {l : notes.Ghosts L}
     {count : ℕ} {old new : Primary I D i d} {network network' : N} {first last : L} {err_after : Option (List ℕ)} → IsServedOn s n l count old network first new network' last
-    → (mark : L → M) (names : L → List Labels) (failed : L → Bool) (text : L → Option (List ℕ))
-    → ((old : L) (one : Note) (new : L) → l.takes old one new → (mark new ≡ mark old) × (names new ≡ names old) × IsLogged (names old) one (failed old) (failed new) (text old) (text new))
-    → (address : SocketAddr) (err : Option (List ℕ)) → Appends err (text first) (listening_line address) → failed last ≡ false → (mark first ≡ mark last → err_after ≡ text last)
-    → HasTurned count (λ turns _. IsLogOf [] (names first) address err err_after turns) (λ m. IsKept old m) (λ m. IsKept new m)
-has_listened {l = l} {first = first} {last = last} {err_after = err_after} is mark names failed text logged address err said whole at =
-    has_been_turned (λ (turns : List (List TurnMoment)). IsLogOf [] (names first) address err err_after turns) is
-    (λ turns took. turns_logged l mark names failed text logged address err err_after first last turns said whole at took)
+    → (mark : L → M) (names : L → List Labels) (hushed : L → Bool) (failed : L → Bool) (state : L → Logged)
+    → ((old : L) (one : Note) (new : L) → l.takes old one new → (mark new ≡ mark old) × (names new ≡ names old) × (hushed new ≡ hushed old) × IsLogged (hushed old) (names old) one (failed old) (failed new) (state old) (state new))
+    → (address : SocketAddr) (err out : Option (List ℕ)) → Appends err (state first).written (listening_line address) → (state first).lines ≡ [] → (state first).counts ≡ none_in 0
+    → failed last ≡ false → Appends (state last).written out (state last).lines → (mark first ≡ mark last → err_after ≡ out)
+    → HasTurned count (λ turns _. IsLogOf [] (hushed first) (names first) address err err_after turns) (λ m. IsKept old m) (λ m. IsKept new m)
+has_listened {l = l} {first = first} {last = last} {err_after = err_after} is mark names hushed failed state taken_so address err out said none fresh whole written at =
+    has_been_turned (λ (turns : List (List TurnMoment)). IsLogOf [] (hushed first) (names first) address err err_after turns) is
+    (λ turns took. turns_logged l mark names hushed failed state taken_so address err out err_after first last turns said none fresh whole written at took)
 
 -- The line of one zone more.
 abbrev pub line_at : Labels → Option ZoneState → List ℕ
@@ -92,20 +117,20 @@ lines_more origins other zones place lt =
     ∙ ap (λ (x : ℕ). zone_lines (take place origins) zones ++ line_at here (slice_get zones x)) (length-take-le place origins (omega (arith, lt)))
 
 -- The log of turns, after the lines of the zones.
-pub after_zones : {E : Type 0} (r : Result ℕ E) (origins : List Labels) (address : SocketAddr) (count : ℕ) (err between err_after : Option (List ℕ)) (keeps after : Machine → Type 0)
+pub after_zones : {E : Type 0} (r : Result ℕ E) (quiet : Bool) (origins : List Labels) (address : SocketAddr) (count : ℕ) (err between err_after : Option (List ℕ)) (keeps after : Machine → Type 0)
     → ((m : Machine) → keeps m → Appends err between (zone_lines origins m.zones))
-    → IfOk r (λ status. (status ≡ 3) ⊎ ((status ≡ 0) × HasTurned count (λ turns _. IsLogOf [] origins address between err_after turns) keeps after))
-    → IfOk r (λ status. (status ≡ 3) ⊎ ((status ≡ 0) × HasTurned count (λ turns m. IsLogOf (zone_lines origins m.zones) origins address err err_after turns) keeps after))
-after_zones (Err e) origins address count err between err_after keeps after said h = tt
-after_zones (Ok status) origins address count err between err_after keeps after said (inl failed) = inl failed
-after_zones (Ok status) origins address count err between err_after keeps after said (inr (done, turned)) = inr (
+    → IfOk r (λ status. (status ≡ 3) ⊎ ((status ≡ 0) × HasTurned count (λ turns _. IsLogOf [] quiet origins address between err_after turns) keeps after))
+    → IfOk r (λ status. (status ≡ 3) ⊎ ((status ≡ 0) × HasTurned count (λ turns m. IsLogOf (zone_lines origins m.zones) quiet origins address err err_after turns) keeps after))
+after_zones (Err e) quiet origins address count err between err_after keeps after said h = tt
+after_zones (Ok status) quiet origins address count err between err_after keeps after said (inl failed) = inl failed
+after_zones (Ok status) quiet origins address count err between err_after keeps after said (inr (done, turned)) = inr (
   done,
   (
     turned.0,
     turned.1,
     λ m kept.
         let is = turned.2 m kept in
-        ((is.0.0, is.0.1, Appends-trans err between err_after (zone_lines origins m.zones) (listening_line address ++ flat_map (note_line origins) is.0.0) (said m kept) is.0.2), is.1),
+        ((is.0.0, is.0.1, Appends-trans err between err_after (zone_lines origins m.zones) (listening_line address ++ log_of quiet origins (none_in 0) is.0.0) (said m kept) is.0.2), is.1),
   ),
 )
 

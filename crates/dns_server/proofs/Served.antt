@@ -24,6 +24,7 @@ use Rattle.dns_primary.proofs.Brought.{StaysSet, step_set, stopped_set, all_stay
 use Rattle.dns_network.specs.Runs.{IsStepOf, Told, told_by}
 use Rattle.dns_replay.proofs.Running.{set_lasts}
 use Rattle.dns_server.specs.Log.{IsLogOf, zone_lines}
+use Rattle.dns_server.specs.declared.serving.ServeOptions.{ServeOptions}
 use Rattle.dns_server.specs.Opening.{IsNotServed, IsServed}
 use Rattle.dns_server.specs.Serve.{IsRefusalTold, IsServedFor, ServingEnds}
 use Rattle.dns_server.specs.ServedTurns.{HasTurned}
@@ -31,16 +32,16 @@ use Rattle.dns_server.specs.ServedTurns.{HasTurned}
 pub at_ok : {A E : Type 0} (r : Result A E) (P : A → Type 0) (x : A) → r ≡ Ok x → IfOk r P → P x
 at_ok {A = A} {E = E} r P x e h = subst (λ (s : Result A E). IfOk s P) e h
 
-pub serving_failed : {D : Type 0} (g : Ghosts D) (opened : Gives D) (config : File) (count : ℕ) (explain : Bool) (err err_after : Option (List ℕ)) (back : List D) → ServingEnds g opened config count explain err err_after 3 back
-serving_failed g opened config count explain err err_after back = record {
+pub serving_failed : {D : Type 0} (g : Ghosts D) (opened : Gives D) (config : File) (options : ServeOptions) (err err_after : Option (List ℕ)) (back : List D) → ServingEnds g opened config options err err_after 3 back
+serving_failed g opened config options err err_after back = record {
   done = λ e. absurd (omega (arith, e));
   refused = λ e. absurd (omega (arith, e));
   others = inr refl;
 }
 
 -- The configuration is refused.
-pub configuration_refused : {D : Type 0} (g : Ghosts D) (opened : Gives D) (config : File) (count : ℕ) (fault : Fault) (explain : Bool) (err err_after : Option (List ℕ)) (back : List D) → HoldsConfiguration (option_copied config.octets) (Err fault) → Appends err err_after (line (fault_text config.path.now fault)) → ServingEnds g opened config count explain err err_after 1 back
-configuration_refused g opened config count fault explain err err_after back holds said = record {
+pub configuration_refused : {D : Type 0} (g : Ghosts D) (opened : Gives D) (config : File) (options : ServeOptions) (fault : Fault) (err err_after : Option (List ℕ)) (back : List D) → HoldsConfiguration (option_copied config.octets) (Err fault) → Appends err err_after (line (fault_text config.path.now fault)) → ServingEnds g opened config options err err_after 1 back
+configuration_refused g opened config options fault err err_after back holds said = record {
   done = λ e. absurd (omega (arith, e));
   refused = λ _. (fault_text config.path.now fault, said, inl (fault, holds, refl));
   others = inl (omega arith);
@@ -63,11 +64,11 @@ run_set (t ∷ told) start (Stopped event tries new ∷ run) r each = absurd eac
 run_set (t ∷ told) start (Configured new ∷ run) r each = absurd each.0
 
 -- What is kept has turned, and its devices came back.
-pub served_for : {D : Type 0} (g : Ghosts D) (opened : Gives D) (c : Configuration) (count : ℕ) (err err_after : Option (List ℕ)) (keeps after : Machine → Type 0) (back : List D) → IsServed g opened c.zones.items (λ known m. keeps m)
-    → HasTurned count (λ turns m. IsLogOf (zone_lines (origins_of c.zones.items) m.zones) (origins_of c.zones.items) c.listen err err_after turns) keeps after
+pub served_for : {D : Type 0} (g : Ghosts D) (opened : Gives D) (c : Configuration) (options : ServeOptions) (err err_after : Option (List ℕ)) (keeps after : Machine → Type 0) (back : List D) → IsServed g opened c.zones.items (λ known m. keeps m)
+    → HasTurned options.turns (λ turns m. IsLogOf (zone_lines (origins_of c.zones.items) m.zones) options.is_quiet (origins_of c.zones.items) c.listen err err_after turns) keeps after
     → ((m : Machine) (event : Event) (names : List Labels) (known : List ZoneSpec) → after m → AreSetAs names known m.zones → AreRecoverable g 0 m event 0 m.zones names known back)
-    → IsServedFor g opened c count err err_after back
-served_for g opened c count err err_after keeps after back is (turns, many, run) left = (
+    → IsServedFor g opened c options err err_after back
+served_for g opened c options err err_after keeps after back is (turns, many, run) left = (
   turns,
   many,
   record {
@@ -87,24 +88,24 @@ served_for g opened c count err err_after keeps after back is (turns, many, run)
 )
 
 -- All turns were made, or the address could not be had.
-pub served : {D : Type 0} (g : Ghosts D) (opened : Gives D) (config : File) (c : Configuration) (count : ℕ) (explain : Bool) (err err_after : Option (List ℕ)) (status : ℕ) (back : List D) → HoldsConfiguration (option_copied config.octets) (Ok c) → (status ≡ 3) ⊎ ((status ≡ 0) × IsServedFor g opened c count err err_after back) → ServingEnds g opened config count explain err err_after status back
-served g opened config c count explain err err_after status back holds (inr (none, is)) = record {
+pub served : {D : Type 0} (g : Ghosts D) (opened : Gives D) (config : File) (c : Configuration) (options : ServeOptions) (err err_after : Option (List ℕ)) (status : ℕ) (back : List D) → HoldsConfiguration (option_copied config.octets) (Ok c) → (status ≡ 3) ⊎ ((status ≡ 0) × IsServedFor g opened c options err err_after back) → ServingEnds g opened config options err err_after status back
+served g opened config c options err err_after status back holds (inr (none, is)) = record {
   done = λ _. (c, holds, is);
   refused = λ one. absurd (omega (arith, none, one));
   others = inl (omega (arith, none));
 }
-served g opened config c count explain err err_after status back holds (inl three) = record {
+served g opened config c options err err_after status back holds (inl three) = record {
   done = λ none. absurd (omega (arith, none, three));
   refused = λ one. absurd (omega (arith, one, three));
   others = inr three;
 }
 
 -- A device is refused.
-pub device_refused : {D E : Type 0} (g : Ghosts D) (opened : Gives D) (config : File) (c : Configuration) (count : ℕ) (place : ℕ) (fault : DeviceFault) (explain : Bool) (err err_after : Option (List ℕ)) (back : List D) (r : Result ℕ E) → HoldsConfiguration (option_copied config.octets) (Ok c) → IsNotServed g opened c.zones.items place fault → IfOk r (IsRefusalTold c.zones.items place fault explain err err_after) → IfOk r (λ status. ServingEnds g opened config count explain err err_after status back)
-device_refused g opened config c count place fault explain err err_after back (Err e) holds not h = tt
-device_refused {D = D} g opened config c count place fault explain err err_after back (Ok status) holds not h = go h
+pub device_refused : {D E : Type 0} (g : Ghosts D) (opened : Gives D) (config : File) (c : Configuration) (options : ServeOptions) (place : ℕ) (fault : DeviceFault) (err err_after : Option (List ℕ)) (back : List D) (r : Result ℕ E) → HoldsConfiguration (option_copied config.octets) (Ok c) → IsNotServed g opened c.zones.items place fault → IfOk r (IsRefusalTold c.zones.items place fault options.explain err err_after) → IfOk r (λ status. ServingEnds g opened config options err err_after status back)
+device_refused g opened config c options place fault err err_after back (Err e) holds not h = tt
+device_refused {D = D} g opened config c options place fault err err_after back (Ok status) holds not h = go h
   where
-    go : IsRefusalTold c.zones.items place fault explain err err_after status → ServingEnds g opened config count explain err err_after status back
+    go : IsRefusalTold c.zones.items place fault options.explain err err_after status → ServingEnds g opened config options err err_after status back
     go (inl e) = record { done = λ z. absurd (omega (arith, e, z)); refused = λ z. absurd (omega (arith, e, z)); others = inr e }
     go (inr told) = record {
       done = λ z. absurd (let one = told.0 in omega (arith, one, z));

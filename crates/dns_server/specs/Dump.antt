@@ -129,11 +129,15 @@ pub record IsNamed (config : File) (origin : List ℕ) (own : ZoneSettings) : Ty
   pub named : name_of_text [] origin ≡ Ok name
   pub found : zone_configured name configuration.zones.items ≡ Some own
 
+-- The text is no name, or that of none of these zones.
+abbrev pub IsNoZone : List ℕ → List ZoneSettings → Type 0
+IsNoZone origin zones =
+    ((e : NameError) × (name_of_text [] origin ≡ Err e))
+    ⊎ ((name : Labels) × (name_of_text [] origin ≡ Ok name) × (zone_configured name zones ≡ None))
+
 -- The configuration is refused, for that; or the origin is: it is no name, or that of no zone.
 abbrev pub IsNoName : List ℕ → Configuration → Type 0
-IsNoName origin c =
-    ((e : NameError) × (name_of_text [] origin ≡ Err e))
-    ⊎ ((name : Labels) × (name_of_text [] origin ≡ Ok name) × (zone_configured name c.zones.items ≡ None))
+IsNoName origin c = IsNoZone origin c.zones.items
 
 abbrev pub IsNoZoneName : File → List ℕ → List ℕ → Type 0
 IsNoZoneName config origin text =

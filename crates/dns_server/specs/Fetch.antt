@@ -2,7 +2,7 @@
 use Rattle.std.specs.Prelude.{◌≡◌, ◌⊎◌, ◌≤◌, ℕ, Bool, List, [], Option, Some, None, Ok, Err}
 use Rattle.std.specs.Option.{option_copied}
 use Rattle.std.specs.Io.KnownBytes.{Appends, Keeps}
-use Rattle.std.specs.Net.Grammar.{IsSocketText}
+use Rattle.dns_configuration.specs.Settings.{IsSocketAddress}
 use Rattle.std.specs.declared.net.socket_addr.SocketAddr.{SocketAddr}
 use Rattle.dns_names.specs.Name.{Labels}
 use Rattle.dns_names.specs.Text.{name_of_text}
@@ -33,7 +33,7 @@ IsHeldIn (Some file) apex held =
 -- the other word is.
 pub record IsAskedFor (server origin : List ℕ) (since : Option File) (address : SocketAddr) (apex : Labels)
     (held : Option Zone) : Type 0 where
-  pub address_is : IsSocketText server address
+  pub address_is : IsSocketAddress server address
   pub named : name_of_text [] origin ≡ Ok apex
   pub from : IsHeldIn since apex held
 
@@ -41,7 +41,7 @@ pub record IsAskedFor (server origin : List ℕ) (since : Option File) (address 
 -- the file holds no zone of it.
 abbrev pub IsNotAsked : List ℕ → List ℕ → Option File → Bool → List ℕ → Type 0
 IsNotAsked server origin since explain text =
-    (((address : SocketAddr) → IsSocketText server address → ⊥)
+    (((address : SocketAddr) → IsSocketAddress server address → ⊥)
     × (text ≡ fetch_text server BadAddress explain))
     ⊎ ((e : NameError) × (name_of_text [] origin ≡ Err e) × (text ≡ fault_text origin BadOrigin))
     ⊎ ((file : File) × (apex : Labels) × (fault : Fault) × (since ≡ Some file)

@@ -64,7 +64,8 @@ fetch_advice OutOfMemory = codes "memory was refused"
 fetch_advice BadAddress = codes "an address and a port are expected, such as 192.0.2.1:53 or [2001:db8::1]:53"
 fetch_advice Unavailable = codes "no server takes connections by TCP there, or the way to it is closed"
 fetch_advice Closed = codes "the server ended the connection before its answer's end; its log tells why"
-fetch_advice TimedOut = codes "for 30 seconds the server sent nothing, or took nothing"
+fetch_advice TimedOut =
+    codes "for 30 seconds the server sent or took nothing, or it took more than --seconds in all"
 fetch_advice (Refused fault) = answer_advice fault
 
 -- Memory was refused, of which nothing is reported.

@@ -1,11 +1,13 @@
 -- How the devices of zones are made, and how a run that makes them ends.
 use Rattle.std.specs.Prelude.{◌≡◌, ◌⊎◌, ◌↔◌, ◌≤◌, ◌<◌, ◌+◌, ◌*◌, ℕ, Bool, true, false, List, [], ◌∷◌, ◌++◌}
-use Rattle.std.specs.Prelude.{length, flat_map, All, Option, Result, Ok, Err, codes, decimal}
+use Rattle.std.specs.Prelude.{length, flat_map, All, Option, Some, None, Result, Ok, Err}
+use Rattle.std.specs.Prelude.{codes, decimal}
 use Rattle.std.specs.List.{AllZip}
 use Rattle.std.specs.Option.{option_copied}
 use Rattle.std.specs.String.{string_bytes}
 use Rattle.std.specs.Io.KnownBytes.{Appends, Keeps}
-use Rattle.dns_names.specs.Text.{printed_name}
+use Rattle.dns_names.specs.Name.{Labels}
+use Rattle.dns_names.specs.Text.{name_of_text, printed_name}
 use Rattle.dns_records.specs.Record.{Record, plain, serial_of}
 use Rattle.dns_zone.specs.Zone.{Zone, soas}
 use Rattle.dns_sectors.specs.Device.{Content, LeavesOnly}
@@ -20,6 +22,7 @@ use Rattle.dns_configuration.specs.declared.configuration.ZoneSettings.{ZoneSett
 use Rattle.dns_configuration.specs.declared.configuration.Configuration.{Configuration}
 use Rattle.dns_configuration.specs.declared.files.File.{File}
 use Rattle.dns_configuration.specs.declared.files.Fault.{Fault}
+use Rattle.dns_configuration.specs.declared.files.Fault.TheVariants.{BadOrigin}
 use Rattle.dns_configuration.specs.Faults.{line, fault_text}
 use Rattle.dns_configuration.specs.Files.{HoldsConfiguration, IsFirstFault, IsLoadedFrom}
 use Rattle.dns_server.specs.declared.device_faults.DeviceFault.{DeviceFault}
@@ -28,6 +31,7 @@ use Rattle.dns_server.specs.declared.device_faults.DeviceFault.TheVariants.{OldF
 use Rattle.dns_server.specs.declared.device_faults.DeviceFault.TheVariants.{SerialNotRaised, NoRoom}
 use Rattle.dns_server.specs.declared.device_faults.DeviceFault.TheVariants.{OutOfMemory}
 use Rattle.dns_server.specs.DeviceFaults.{device_text, status_of}
+use Rattle.dns_server.specs.Dump.{IsNoZone, zone_configured}
 
 -- What may be answered for a device that is to be made, of so many sectors; and where it is asked whether
 -- there is one.
@@ -112,16 +116,13 @@ formatted zone = flat_map (λ soa. line (formatted_text zone soa)) (soas zone.re
 abbrev pub HasDevice : {D : Type 0} → Ghosts D → Makes D → ZoneSettings → Zone → Type 0
 HasDevice {D} g made own zone = (device : D) × IsDeviceMade g made own zone device
 
--- The devices of the first zones were made, and that of the next one was not, for this: its path, and what
--- was printed of those before it.
+-- The devices of the first zones were made, and that of the next one, which has that path, was not, for this.
 abbrev pub MakingStopsAt : {D : Type 0} → Ghosts D → Makes D → List ZoneSettings → List Zone → List ℕ
-    → DeviceFault
-    → List ℕ → Type 0
-MakingStopsAt g made (own ∷ settings) (zone ∷ zones) path fault printed =
-    ((path ≡ string_bytes own.device) × IsNotMade g made own zone fault × (printed ≡ []))
-    ⊎ ((rest : List ℕ) × (printed ≡ formatted zone ++ rest) × HasDevice g made own zone
-    × MakingStopsAt g made settings zones path fault rest)
-MakingStopsAt g made _ _ path fault printed = ⊥
+    → DeviceFault → Type 0
+MakingStopsAt g made (own ∷ settings) (zone ∷ zones) path fault =
+    ((path ≡ string_bytes own.device) × IsNotMade g made own zone fault)
+    ⊎ (HasDevice g made own zone × MakingStopsAt g made settings zones path fault)
+MakingStopsAt g made _ _ path fault = ⊥
 
 -- How the making of all devices ends. With status 3 a device can't be had, a writer failed or memory was
 -- refused.
@@ -132,49 +133,64 @@ pub record MakingEnds {D : Type 0} (g : Ghosts D) (made : Makes D) (settings : L
       → AllZip (HasDevice g made) settings zones × Appends out out_after (flat_map formatted zones)
       × Keeps err err_after
   pub refused : status ≡ 1
-      → (path : List ℕ) × (fault : DeviceFault) × (printed : List ℕ)
-      × MakingStopsAt g made settings zones path fault printed
-      × (status_of fault ≡ 1) × Appends out out_after printed
+      → (path : List ℕ) × (fault : DeviceFault) × MakingStopsAt g made settings zones path fault
+      × (status_of fault ≡ 1) × Keeps out out_after
       × Appends err err_after (line (device_text path fault explain))
   pub others : status ≤ 1 ⊎ (status ≡ 3)
 
--- The zones that the configuration names, as their master files hold them.
-pub record IsGiven (config : File) (files : List File) (settings : List ZoneSettings)
-    (zones : List Zone) : Type 0 where
+-- The zones whose devices are made: all that are configured, or the one that the word names.
+abbrev pub IsChosen : Option (List ℕ) → List ZoneSettings → List ZoneSettings → Type 0
+IsChosen None zones chosen = chosen ≡ zones
+IsChosen (Some origin) zones chosen =
+    (name : Labels) × (own : ZoneSettings) × (name_of_text [] origin ≡ Ok name)
+    × (zone_configured name zones ≡ Some own) × (chosen ≡ own ∷ [])
+
+-- The word is no name, or that of no zone that is configured.
+abbrev pub IsNotChosen : Option (List ℕ) → List ZoneSettings → List ℕ → Type 0
+IsNotChosen None zones word = ⊥
+IsNotChosen (Some origin) zones word = (word ≡ origin) × IsNoZone origin zones
+
+-- The zones that are chosen of the configuration, as their master files hold them.
+pub record IsGiven (config : File) (origin : Option (List ℕ)) (files : List File)
+    (settings : List ZoneSettings) (zones : List Zone) : Type 0 where
   pub configuration : Configuration
   pub holds : HoldsConfiguration (option_copied config.octets) (Ok configuration)
-  pub zones_are : settings ≡ configuration.zones.items
+  pub chosen : IsChosen origin configuration.zones.items settings
   pub loaded : AllZip (IsLoadedFrom files) settings zones
 
--- The first fault of the configuration or of a master file, in the order of the zones, and its path.
-abbrev pub IsInitFault : File → List File → List ℕ → Fault → Type 0
-IsInitFault config files path fault =
+-- The first fault, in this order, of the configuration, of the word, or of a master file in the order of the
+-- zones: its path or word.
+abbrev pub IsInitFault : File → Option (List ℕ) → List File → List ℕ → Fault → Type 0
+IsInitFault config origin files path fault =
     ((path ≡ config.path.now) × HoldsConfiguration (option_copied config.octets) (Err fault))
     ⊎ ((c : Configuration) × HoldsConfiguration (option_copied config.octets) (Ok c)
-    × IsFirstFault files c.zones.items path fault)
+    × (((fault ≡ BadOrigin) × IsNotChosen origin c.zones.items path)
+    ⊎ ((settings : List ZoneSettings) × IsChosen origin c.zones.items settings
+    × IsFirstFault files settings path fault)))
 
--- How a run of `init` is refused: the first fault of a file is reported, and nothing was printed or made; or
--- else that of the first device where there is something already; or else devices were made, up to one that
--- was not.
-abbrev pub IsInitRefused : {D : Type 0} → Ghosts D → Finds → Makes D → File → List File → List ℕ
+-- How a run of `init` is refused: the first fault of a file or of the word is reported, and nothing was made;
+-- or else that of the first device where there is something already; or else devices were made, up to one
+-- that was not.
+abbrev pub IsInitRefused : {D : Type 0} → Ghosts D → Finds → Makes D → File → Option (List ℕ) → List File
     → List ℕ → Bool → Type 0
-IsInitRefused g found made config files printed text explain =
-    ((path : List ℕ) × (fault : Fault) × IsInitFault config files path fault × (printed ≡ [])
+IsInitRefused g found made config origin files text explain =
+    ((path : List ℕ) × (fault : Fault) × IsInitFault config origin files path fault
     × (text ≡ fault_text path fault))
-    ⊎ ((settings : List ZoneSettings) × (zones : List Zone) × IsGiven config files settings zones
+    ⊎ ((settings : List ZoneSettings) × (zones : List Zone) × IsGiven config origin files settings zones
     × (path : List ℕ) × (fault : DeviceFault) × (text ≡ device_text path fault explain)
-    × ((IsFirstFound found settings path fault × (printed ≡ []))
-    ⊎ (All (is_absent found) settings × MakingStopsAt g made settings zones path fault printed)))
+    × (IsFirstFound found settings path fault
+    ⊎ (All (is_absent found) settings × MakingStopsAt g made settings zones path fault)))
 
--- How a run of `init` ends. With status 3 a device can't be had, a writer failed or memory was refused.
+-- How a run of `init` ends, for all zones or for the one that the word names. With status 3 a device can't be
+-- had, a writer failed or memory was refused.
 pub record InitEnds {D : Type 0} (g : Ghosts D) (found : Finds) (made : Makes D) (config : File)
-    (files : List File) (explain : Bool) (out out_after err err_after : Option (List ℕ)) (status : ℕ)
-    : Type 0 where
+    (origin : Option (List ℕ)) (files : List File) (explain : Bool)
+    (out out_after err err_after : Option (List ℕ)) (status : ℕ) : Type 0 where
   pub done : status ≡ 0
-      → (settings : List ZoneSettings) × (zones : List Zone) × IsGiven config files settings zones
+      → (settings : List ZoneSettings) × (zones : List Zone) × IsGiven config origin files settings zones
       × All (is_absent found) settings × AllZip (HasDevice g made) settings zones
       × Appends out out_after (flat_map formatted zones) × Keeps err err_after
   pub refused : status ≡ 1
-      → (printed : List ℕ) × (text : List ℕ) × IsInitRefused g found made config files printed text explain
-      × Appends out out_after printed × Appends err err_after (line text)
+      → (text : List ℕ) × IsInitRefused g found made config origin files text explain
+      × Keeps out out_after × Appends err err_after (line text)
   pub others : status ≤ 1 ⊎ (status ≡ 3)

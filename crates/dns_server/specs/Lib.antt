@@ -1,6 +1,7 @@
 pub mod Check
 pub mod Replay
 pub mod Opening
+pub mod Peers
 pub mod Serve
 pub mod ServedTurns
 pub mod DeviceFaults

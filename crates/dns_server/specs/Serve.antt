@@ -20,6 +20,7 @@ use Rattle.dns_primary.specs.Step.{Event}
 use Rattle.dns_primary.specs.declared.primary.ZoneSpec.{ZoneSpec}
 use Rattle.dns_configuration.specs.Known.{origins_of}
 use Rattle.dns_server.specs.Log.{IsLogOf, zone_lines}
+use Rattle.dns_server.specs.declared.serving.ServeOptions.{ServeOptions}
 use Rattle.dns_server.specs.Opening.{IsNotServed, IsServed}
 use Rattle.dns_server.specs.ServedTurns.{HaveRun}
 
@@ -51,31 +52,32 @@ AreLeft g zones devices known m =
 -- on those of a machine that stopped, the events of the turns are those of a run from one that recovered from
 -- that stop, each that came back holds what the machine at the run's end left of its zone, and the log tells
 -- of the versions that are shown at the run's start, of the address, and of all that was noted.
-abbrev pub IsServedFor : {D : Type 0} → Ghosts D → Gives D → Configuration → ℕ → Option (List ℕ)
+abbrev pub IsServedFor : {D : Type 0} → Ghosts D → Gives D → Configuration → ServeOptions → Option (List ℕ)
     → Option (List ℕ) → List D → Type 0
-IsServedFor g opened c count err err_after back =
+IsServedFor g opened c options err err_after back =
     let zones = c.zones.items in
     let names = origins_of zones in
-    (turns : List (List TurnMoment)) × (length turns ≡ count)
-    × IsServed g opened zones (λ known m. IsLogOf (zone_lines names m.zones) names c.listen err err_after turns
+    (turns : List (List TurnMoment)) × (length turns ≡ options.turns)
+    × IsServed g opened zones (λ known m.
+    IsLogOf (zone_lines names m.zones) options.is_quiet names c.listen err err_after turns
     × HaveRun turns (AreLeft g zones back known) m)
 
 -- How a server ends: all its turns were made, over the devices of the zones of its configuration, which are
 -- given back, and its log was written; or nothing was served, and the fault of the configuration or of the
 -- first device that is refused is reported. With status 3 a device or the address can't be had, a writer
 -- failed or memory was refused.
-pub record ServingEnds {D : Type 0} (g : Ghosts D) (opened : Gives D) (config : File) (count : ℕ)
-    (explain : Bool) (err err_after : Option (List ℕ)) (status : ℕ) (back : List D)
+pub record ServingEnds {D : Type 0} (g : Ghosts D) (opened : Gives D) (config : File)
+    (options : ServeOptions) (err err_after : Option (List ℕ)) (status : ℕ) (back : List D)
     : Type 0 where
   pub done : status ≡ 0
       → (c : Configuration) × HoldsConfiguration (option_copied config.octets) (Ok c)
-      × IsServedFor g opened c count err err_after back
+      × IsServedFor g opened c options err err_after back
   pub refused : status ≡ 1
       → (text : List ℕ) × Appends err err_after (line text)
       × (((fault : Fault) × HoldsConfiguration (option_copied config.octets) (Err fault)
       × (text ≡ fault_text config.path.now fault))
       ⊎ ((c : Configuration) × HoldsConfiguration (option_copied config.octets) (Ok c)
-      × IsDeviceRefused g opened c.zones.items explain text))
+      × IsDeviceRefused g opened c.zones.items options.explain text))
   pub others : status ≤ 1 ⊎ (status ≡ 3)
 
 -- What is reported of a device that is refused: nothing where memory was, and nothing where there is no such

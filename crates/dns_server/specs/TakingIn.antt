@@ -1,5 +1,5 @@
 -- The messages of a stream by which a zone is taken in.
-use Rattle.std.specs.Prelude.{◌≡◌, ◌⊎◌, ℕ, Bool, true, false, List, [], ◌∷◌, ◌++◌, Option, Some, None}
+use Rattle.std.specs.Prelude.{◌≡◌, ◌⊎◌, ◌<◌, ℕ, Bool, true, false, List, [], ◌∷◌, ◌++◌, Option, Some, None}
 use Rattle.dns_names.specs.Name.{Labels}
 use Rattle.dns_records.specs.Record.{Record}
 use Rattle.dns_zone.specs.Zone.{Zone}
@@ -11,8 +11,10 @@ use Rattle.dns_secondary.specs.Request.{request_octets}
 use Rattle.dns_secondary.specs.Rest.{Reaches}
 use Rattle.dns_secondary.specs.State.{State, Begun}
 use Rattle.dns_secondary.specs.Taken.{Taken}
-use Rattle.dns_secondary.specs.Told.{Feeds, RefusesFeed, RefusesFrom}
+use Rattle.dns_secondary.specs.Received.{received_count}
+use Rattle.dns_secondary.specs.Told.{Feeds, RefusesFeed}
 use Rattle.dns_secondary.specs.declared.fault.Fault.{Fault}
+use Rattle.dns_secondary.specs.declared.fault.Fault.TheVariants.{InvalidZone}
 use Rattle.dns_secondary.specs.declared.fault.Progress.TheVariants.{More, Done, UpToDate}
 use Rattle.dns_network.specs.Framed.{pending_length, IsFramed}
 use Rattle.dns_network.specs.declared.stream.Stream.{Ghosts}
@@ -50,7 +52,20 @@ pub record IsToldBy (apex : Labels) (held : Option Zone) (messages : List (List 
   pub answers : AreAnswersTo apex held first records
   pub means : Taken apex held records zone
 
--- One of some messages is refused for this fault, after those before it, which are answers.
+-- The most records that a zone has.
+abbrev pub most_records : ℕ
+most_records = 65536
+
+-- A message is refused for this fault; or with it more records are held than a zone may have, so that the
+-- answer is given up.
+abbrev pub IsGivenUp : Receiving → List ℕ → Fault → Type 0
+IsGivenUp s message fault =
+    RefusesFeed s message fault
+    ⊎ ((fault ≡ InvalidZone) × (next : Receiving) × Feeds s message More next
+    × (most_records < received_count next.state))
+
+-- One of some messages is refused for this fault, or the answer is given up with it, after those before it,
+-- which are answers.
 pub record IsRefusedIn (apex : Labels) (held : Option Zone) (messages : List (List ℕ))
     (fault : Fault) : Type 0 where
   pub first : List (List ℕ)
@@ -61,7 +76,7 @@ pub record IsRefusedIn (apex : Labels) (held : Option Zone) (messages : List (Li
   pub answers : AreAnswersTo apex held first records
   pub at : State
   pub reached : Reaches apex held Begun records at
-  pub refused : RefusesFrom (asking_at apex held at) (Some at) message fault
+  pub refused : IsGivenUp (asking_at apex held at) message fault
 
 module _ {S : Type 0} (g : Ghosts S) where
   -- Octets were sent on a stream, and octets were received, if it is faithful.
@@ -113,7 +128,7 @@ pub record TellEnd (s : Receiving) (messages : List (List ℕ)) (new : Receiving
   pub more : TellMore s first now
   pub last : Feeds now message Done new ⊎ Feeds now message UpToDate new
 
--- ... or up to one that is refused.
+-- ... or up to one that is refused, or with which the answer is given up.
 pub record TellRefusal (s : Receiving) (messages : List (List ℕ)) (fault : Fault) : Type 0 where
   pub first : List (List ℕ)
   pub message : List ℕ
@@ -121,7 +136,7 @@ pub record TellRefusal (s : Receiving) (messages : List (List ℕ)) (fault : Fau
   pub parts : messages ≡ first ++ message ∷ later
   pub now : Receiving
   pub more : TellMore s first now
-  pub refused : RefusesFeed now message fault
+  pub refused : IsGivenUp now message fault
 
 -- What these tell.
 abbrev pub Tells : Receiving → List (List ℕ) → Bool → Receiving → Type 0

@@ -175,11 +175,6 @@ fn explain_clash<E: Write>(
     }
 }
 
-/// Tells why the system does not give a file.
-pub fn explain_unreadable<E: Write>(path: &str, reason: &io::Error, err: &mut E) -> io::Result<()> {
-    writeln!(err, "{}: {reason}", PrintedWord(path.as_bytes()))
-}
-
 /// Tells what keeps the records of a file from being a zone. Answers whether something was reported.
 fn explain_zone<E: Write>(
     heap: Heap,

@@ -21,7 +21,7 @@ pub enum FetchFault {
     Unavailable,
     /// The server ended the stream before its answer was at its end.
     Closed,
-    /// For too long nothing came from the server, or it took nothing.
+    /// For too long nothing came from the server, or it took nothing; or it took too long in all.
     TimedOut,
     /// The server's answer is refused.
     Refused(Fault),
@@ -119,7 +119,9 @@ fn fetch_advice(fault: FetchFault) -> &'static str
             "no server takes connections by TCP there, or the way to it is closed",
         FetchFault::Closed =>
             "the server ended the connection before its answer's end; its log tells why",
-        FetchFault::TimedOut => "for 30 seconds the server sent nothing, or took nothing",
+        FetchFault::TimedOut => {
+            "for 30 seconds the server sent or took nothing, or it took more than --seconds in all"
+        }
         FetchFault::Refused(fault) => answer_advice(fault),
     }
 }

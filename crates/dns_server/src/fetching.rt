@@ -14,7 +14,7 @@ use crate::fetch_faults::{FetchFault, tell_fetch};
 use crate::servers::{Servers, WaitingStream};
 use crate::taking_in::take_in;
 use crate::watching::Watch;
-use dns_configuration::{DONE, FAILED, Fault, File, apex, load, tell};
+use dns_configuration::{DONE, FAILED, Fault, File, apex, load, socket_address, tell};
 use dns_masterfile::print_zone;
 use dns_memory::Heap;
 use dns_names::Name;
@@ -113,7 +113,7 @@ fn fetched<S: WaitingStream + Drop, V: Servers<S>, I: ZoneIndex, P: Watch, W: Wr
         (option_copied since.entry) explain (W.contents out.old) (W.contents out.new)
         (E.contents err.old) (E.contents err.new) status) }
 {
-    let Ok(address) = SocketAddr::parse_ascii(server.as_bytes()) else {
+    let Some(address) = socket_address(server) else {
         return tell_fetch(err, server, FetchFault::BadAddress, explain);
     };
     let name = match apex(heap, origin) {

@@ -10,9 +10,18 @@ use dns_memory::Heap;
 use std::alloc::Global;
 use std::{fs, io};
 
-/// The octets of the file at a path, none where it can't be read. Refused memory is an error, and does not
-/// make a file unreadable.
+/// Whether there is a file at a path, and no folder, pipe, socket or device, of which a read might never end.
+pub fn is_file(rt: &HostRuntime, path: &str) -> io::Result<bool> {
+    let metadata = fs::metadata(rt, path)?;
+    Ok(metadata.is_file())
+}
+
+/// The octets of the file at a path, none where there is no file or it can't be read. Refused memory is an
+/// error, and does not make a file unreadable.
 pub fn octets(rt: &HostRuntime, path: &str) -> io::Result<Option<Vec<u8>>> {
+    if !is_file(rt, path).unwrap_or(false) {
+        return Ok(None);
+    }
     match fs::read(rt, path) {
         Ok(octets) => Ok(Some(octets)),
         Err(error) if error.kind() == io::ErrorKind::OutOfMemory => Err(error),

@@ -1,19 +1,27 @@
 //! Devices that are made: the store of each zone, from its master file.
-ghost use Rattle.std.specs.Prelude.{◌≡◌, ◌+◌, ◌*◌, length, All, IfOk, OnOk, MatchOption, MatchResult, Ok};
+ghost use Rattle.std.specs.Prelude.{◌≡◌, ◌⊎◌, length, flat_map, true, All, IfOk, OnOk, MatchOption};
+ghost use Rattle.std.specs.Prelude.{MatchResult};
+ghost use Rattle.std.specs.List.{AllZip};
+ghost use Rattle.std.specs.Option.{option_copied};
 ghost use Rattle.std.specs.Io.KnownBytes.{Appends};
-ghost use Rattle.dns_server.specs.Init.{InitEnds, IsFirstFound, IsFound, IsDeviceMade, IsNotMade};
-ghost use Rattle.dns_server.specs.Init.{MakingEnds};
+ghost use Rattle.dns_configuration.specs.Faults.{is_memory};
+ghost use Rattle.dns_server.specs.Init.{HasDevice, InitEnds, IsChosen, IsFirstFound, IsFound, IsDeviceMade};
+ghost use Rattle.dns_server.specs.Init.{IsNotChosen, IsNotMade, MakingEnds, MakingStopsAt};
 ghost use Rattle.dns_server.specs.Init.{formatted, is_absent, sectors_of};
 
 use crate::device_faults::{DeviceFault, tell_device};
 use crate::devices::Devices;
-use dns_configuration::{DONE, FAILED, File, ZoneSettings, load_all, read_configuration, tell};
+use crate::dumping::zone_of;
+use dns_configuration::{
+    DONE, FAILED, Fault, File, ZoneSettings, apex, load_all, read_configuration, tell,
+};
 use dns_memory::Heap;
 use dns_sectors::Sectors;
-use dns_store::{FormatError, format};
+use dns_store::format;
 use dns_zone::{Zone, ZoneIndex};
 use std::alloc::Global;
 use std::io::{self, Write};
+use std::slice;
 
 /// How many sectors the device of a zone has: a root, and two banks.
 fn sectors_of(own: &ZoneSettings) -> usize
@@ -23,8 +31,7 @@ fn sectors_of(own: &ZoneSettings) -> usize
     (1 + 2 * bank) as usize
 }
 
-/// Makes the store of a zone on a new device. One that is made for a zone that it can't hold is taken away
-/// again.
+/// Makes the store of a zone on a new device. One on which the store can't be made is taken away again.
 fn make_store<D: Sectors + Drop, F: Devices<D>, I: ZoneIndex>(
     heap: Heap,
     devices: &F,
@@ -40,11 +47,10 @@ fn make_store<D: Sectors + Drop, F: Devices<D>, I: ZoneIndex>(
     let (snapshot, journal) = (own.snapshot_sectors, own.journal_sectors);
     match format(heap, &mut device, zone, snapshot, journal) {
         Ok(()) => Ok(device),
-        Err(FormatError::ZoneTooLarge) => {
+        Err(error) => {
             devices.remove(&own.device);
-            Err(DeviceFault::ZoneTooLarge)
+            Err(DeviceFault::from(error))
         }
-        Err(error) => Err(DeviceFault::from(error)),
     }
 }
 
@@ -82,6 +88,60 @@ fn first_found<'s, D, F: Devices<D>>(
     None
 }
 
+/// The zones whose devices are to be made: all that are configured, or the one that the word names. Where it
+/// names none the word is handed back with the fault.
+fn chosen<'s, 'o>(
+    heap: Heap,
+    zones: &'s [ZoneSettings],
+    origin: Option<&'o str>,
+) -> Result<&'s [ZoneSettings], (&'o str, Fault)>
+    ensures { MatchResult result
+        (λ chosen. IsChosen (option_copied origin.entry) zones.now chosen.now)
+        (λ r. (is_memory r.1 ≡ true)
+        ⊎ ((r.1 ≡ Fault.BadOrigin) × IsNotChosen (option_copied origin.entry) zones.now r.0.now)) }
+{
+    let Some(origin) = origin else {
+        return Ok(zones);
+    };
+    let name = match apex(heap, origin) {
+        Ok(name) => name,
+        Err(fault) => return Err((origin, fault)),
+    };
+    match zone_of(zones, &name) {
+        Some(own) => Ok(slice::from_ref(own)),
+        None => Err((origin, Fault::BadOrigin)),
+    }
+}
+
+/// Takes away the devices of these zones, which were made in this run.
+fn take_away<D, F: Devices<D>>(devices: &F, settings: &[ZoneSettings]) {
+    for own in settings {
+        devices.remove(&own.device);
+    }
+}
+
+/// Makes the devices of zones, in their order. Where one is refused those before it are taken away again.
+fn make_devices<'s, D: Sectors + Drop, F: Devices<D>, I: ZoneIndex>(
+    heap: Heap,
+    devices: &F,
+    settings: &'s [ZoneSettings],
+    zones: &[Zone<I>],
+) -> Result<(), (&'s str, DeviceFault)>
+    requires { length settings.now ≡ length zones.now }
+    ensures { MatchResult result
+        (λ _. AllZip (HasDevice D.Sectors (F.made devices.now)) settings.now zones.now)
+        (λ r. MakingStopsAt D.Sectors (F.made devices.now) settings.now zones.now r.0.now r.1) }
+{
+    for place in 0..settings.len() {
+        let own = &settings[place];
+        if let Err(fault) = make_store(heap, devices, own, &zones[place]) {
+            take_away::<D, F>(devices, &settings[..place]);
+            return Err((&own.device, fault));
+        }
+    }
+    Ok(())
+}
+
 /// Prints that the device of a zone was made, and the serial of the zone.
 fn print_formatted<I: ZoneIndex, W: Write>(out: &mut W, zone: &Zone<I>) -> io::Result<()>
     ensures { OnOk result (Appends (W.contents out.old) (W.contents out.new) (formatted zone.now)) }
@@ -94,7 +154,19 @@ fn print_formatted<I: ZoneIndex, W: Write>(out: &mut W, zone: &Zone<I>) -> io::R
     )
 }
 
-/// Makes the devices of zones, in their order, and prints each. Stops where one is refused.
+/// Prints that the devices of zones were made.
+fn print_all<I: ZoneIndex, W: Write>(out: &mut W, zones: &[Zone<I>]) -> io::Result<()>
+    ensures { OnOk result
+        (Appends (W.contents out.old) (W.contents out.new) (flat_map formatted zones.now)) }
+{
+    for zone in zones {
+        print_formatted(out, zone)?;
+    }
+    Ok(())
+}
+
+/// Makes the devices of zones, in their order, and prints each. Where one is refused, or what was made can't
+/// be printed, none that was made stays.
 fn make_all<D: Sectors + Drop, F: Devices<D>, I: ZoneIndex, W: Write, E: Write>(
     heap: Heap,
     devices: &F,
@@ -108,64 +180,77 @@ fn make_all<D: Sectors + Drop, F: Devices<D>, I: ZoneIndex, W: Write, E: Write>(
     ensures { IfOk result (λ status. MakingEnds D.Sectors (F.made devices.now) settings.now zones.now explain
         (W.contents out.old) (W.contents out.new) (E.contents err.old) (E.contents err.new) status) }
 {
-    for place in 0..settings.len() {
-        let (own, zone) = (&settings[place], &zones[place]);
-        match make_store(heap, devices, own, zone) {
-            Ok(_device) => print_formatted(out, zone)?,
-            Err(fault) => return tell_device(err, &own.device, fault, explain),
+    if let Err((path, fault)) = make_devices::<D, F, I>(heap, devices, settings, zones) {
+        return tell_device(err, path, fault, explain);
+    }
+    match print_all(out, zones) {
+        Ok(()) => Ok(DONE),
+        Err(error) => {
+            take_away::<D, F>(devices, settings);
+            Err(error)
         }
     }
-    Ok(DONE)
 }
 
-/// Makes all devices, and gives the exit status.
+/// Makes the devices that are asked for, and gives the exit status.
 fn init_all<D: Sectors + Drop, F: Devices<D>, I: ZoneIndex, W: Write, E: Write>(
     alloc: Global,
     heap: Heap,
     devices: &F,
     config: &File<'_>,
+    origin: Option<&str>,
     files: &[File<'_>],
     explain: bool,
     out: &mut W,
     err: &mut E,
 ) -> io::Result<u8>
     ensures { IfOk result
-        (λ status. InitEnds D.Sectors (F.found devices.now) (F.made devices.now) config.now files.now explain
+        (λ status. InitEnds D.Sectors (F.found devices.now) (F.made devices.now) config.now
+        (option_copied origin.entry) files.now explain
         (W.contents out.old) (W.contents out.new) (E.contents err.old) (E.contents err.new) status) }
 {
-    let settings = match read_configuration(alloc, heap, config) {
+    let configured = match read_configuration(alloc, heap, config) {
         Ok(configuration) => configuration.zones,
         Err(fault) => return tell(err, config.path, fault),
     };
-    let zones: Vec<Zone<I>, Heap> = match load_all(heap, files, &settings) {
+    let settings = match chosen(heap, &configured, origin) {
+        Ok(settings) => settings,
+        Err((word, fault)) => return tell(err, word, fault),
+    };
+    let zones: Vec<Zone<I>, Heap> = match load_all(heap, files, settings) {
         Ok(zones) => zones,
         Err((path, fault)) => return tell(err, path, fault),
     };
-    if let Some((path, fault)) = first_found(devices, &settings) {
+    if let Some((path, fault)) = first_found(devices, settings) {
         return tell_device(err, path, fault, explain);
     }
-    make_all(heap, devices, &settings, &zones, explain, out, err)
+    make_all(heap, devices, settings, &zones, explain, out, err)
 }
 
-/// Makes the device of each zone of a configuration from its master file, and prints
-/// `formatted ORIGIN serial M` for each. Faults are reported in one line, the first in this order: the
-/// configuration, the master files in the order of the zones, the devices (`DEVICE: Exists` before any is
-/// made); of a device, if it is wanted, a second line says what can be done. Gives the exit status: `DONE`,
-/// `REFUSED`, or `FAILED` where a device can't be had, a writer failed or memory was refused.
+/// Makes the device of each zone of a configuration from its master file, or that of the zone which `origin`
+/// names alone, and then prints `formatted ORIGIN serial M` for each. Where that ends with another status than
+/// `DONE`, no device that this run made stays. Faults are reported in one line, the first in this order: the
+/// configuration, the origin (`ORIGIN: BadOrigin`), the master files in the order of the zones, the devices
+/// (`DEVICE: Exists` before any is made); of a device, if it is wanted, a second line says what can be done.
+/// Gives the exit status: `DONE`, `REFUSED`, or `FAILED` where a device can't be had, a writer failed or
+/// memory was refused.
 pub fn init<D: Sectors + Drop, F: Devices<D>, I: ZoneIndex, W: Write, E: Write>(
     alloc: Global,
     heap: Heap,
     devices: &F,
     config: &File<'_>,
+    origin: Option<&str>,
     files: &[File<'_>],
     explain: bool,
     out: &mut W,
     err: &mut E,
 ) -> u8
-    ensures { InitEnds D.Sectors (F.found devices.now) (F.made devices.now) config.now files.now explain
-        (W.contents out.old) (W.contents out.new) (E.contents err.old) (E.contents err.new) result }
+    ensures { InitEnds D.Sectors (F.found devices.now) (F.made devices.now) config.now
+        (option_copied origin.entry) files.now explain (W.contents out.old) (W.contents out.new)
+        (E.contents err.old) (E.contents err.new) result }
 {
-    init_all::<D, F, I, W, E>(alloc, heap, devices, config, files, explain, out, err).unwrap_or(
-        FAILED,
+    init_all::<D, F, I, W, E>(
+        alloc, heap, devices, config, origin, files, explain, out, err,
     )
+    .unwrap_or(FAILED)
 }

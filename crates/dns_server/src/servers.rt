@@ -9,7 +9,7 @@ use mio::net::TcpStream;
 use mio::{Events, Interest, Poll, Token};
 use std::io::{self, ErrorKind, Read, Write};
 use std::net::{Net, SocketAddr};
-use std::time::Duration;
+use std::time::{Clock, Duration, Instant};
 
 /// How many seconds a wait for a server lasts at most.
 const PATIENCE: u64 = 30;
@@ -44,41 +44,63 @@ pub trait Servers<S> {
         ensures { IfSome result (λ stream. reached self.now address stream) };
 }
 
-/// Servers by TCP. Nothing that is proved says what the system answers.
+/// Servers by TCP, each of which is given so many seconds in all. Nothing that is proved says what the system
+/// answers.
 #[derive(Clone, Copy)]
 pub struct Tcp<'a, R> {
     pub heap: Heap,
     pub rt: &'a R,
+    pub seconds: u64,
 }
 
 /// A stream by TCP.
 ///
 /// Nothing that is proved says what the system does with a socket, so this one is never taken to be faithful.
 #[derive(Drop)]
-pub struct TcpSocket {
+pub struct TcpSocket<'a, R> {
     stream: TcpStream,
     poll: Poll,
     events: Events<Heap>,
+    rt: &'a R,
+    start: Instant,
+    /// How many seconds from the start on it is used.
+    seconds: u64,
 }
 
-impl TcpSocket {
+impl<'a, R: Net + Clock> TcpSocket<'a, R> {
     /// A stream to an address, of which it is not known yet whether it can be reached.
-    fn begin<R: Net>(heap: Heap, rt: &R, address: SocketAddr) -> io::Result<TcpSocket> {
+    fn begin(servers: &Tcp<'a, R>, address: SocketAddr) -> io::Result<TcpSocket<'a, R>> {
+        let rt = servers.rt;
         let mut stream = TcpStream::connect(rt, address)?;
         let poll = Poll::new(rt)?;
         let both = Interest::READABLE | Interest::WRITABLE;
         poll.registry().register(&mut stream, SOCKET, both)?;
-        let events = Events::with_capacity(heap, EVENTS)?;
         Ok(TcpSocket {
             stream,
             poll,
-            events,
+            events: Events::with_capacity(servers.heap, EVENTS)?,
+            rt,
+            start: Instant::now(rt)?,
+            seconds: servers.seconds,
         })
     }
 
-    /// Waits for an event of the socket, and answers whether there was one, or a signal.
+    /// How many seconds are left.
+    fn seconds_left(&self) -> u64 {
+        match self.start.elapsed(self.rt) {
+            Ok(passed) => self.seconds.saturating_sub(passed.as_secs()),
+            Err(_) => 0,
+        }
+    }
+
+    /// Waits for an event of the socket, and answers whether there was one, or a signal, while seconds are
+    /// left.
     fn has_event(&mut self) -> bool {
-        let most = Duration::from_secs(PATIENCE);
+        let left = self.seconds_left();
+        if left == 0 {
+            return false;
+        }
+        let most = Duration::from_secs(left.min(PATIENCE));
         match self.poll.poll(&mut self.events, Some(most)) {
             Ok(()) => !self.events.is_empty(),
             Err(error) => error.kind() == ErrorKind::Interrupted,
@@ -105,11 +127,11 @@ impl TcpSocket {
     }
 }
 
-impl<R: Net> Servers<TcpSocket> for Tcp<'_, R> {
+impl<'a, R: Net + Clock> Servers<TcpSocket<'a, R>> for Tcp<'a, R> {
     ghost reached = { λ _ _ _. Unit {0} };
 
-    fn connect(&self, address: SocketAddr) -> Option<TcpSocket> {
-        let mut socket = TcpSocket::begin(self.heap, self.rt, address).ok()?;
+    fn connect(&self, address: SocketAddr) -> Option<TcpSocket<'a, R>> {
+        let mut socket = TcpSocket::begin(self, address).ok()?;
         if !socket.is_reached() {
             return None;
         }
@@ -117,7 +139,7 @@ impl<R: Net> Servers<TcpSocket> for Tcp<'_, R> {
     }
 }
 
-impl Stream for TcpSocket {
+impl<R: Net + Clock> Stream for TcpSocket<'_, R> {
     ghost received = { λ _. [] };
 
     ghost sent = { λ _. [] };
@@ -126,7 +148,12 @@ impl Stream for TcpSocket {
 
     ghost has_ended = { λ _. Unit {0} };
 
+    /// Where no second is left nothing is read, so that a server that never pauses is given up like one that
+    /// sends too slowly.
     fn read(&mut self, into: &mut [u8]) -> Moved {
+        if self.seconds_left() == 0 {
+            return Moved::Later;
+        }
         match self.stream.read(into) {
             Ok(0) => Moved::Ended,
             Ok(count) => Moved::Octets(count),
@@ -145,7 +172,7 @@ impl Stream for TcpSocket {
 
 /// The system reports each change once. A wait comes only after a call that would have waited, so that
 /// nothing is there that was reported already.
-impl WaitingStream for TcpSocket {
+impl<R: Net + Clock> WaitingStream for TcpSocket<'_, R> {
     fn wait(&mut self) -> bool {
         self.has_event()
     }

@@ -12,7 +12,7 @@ ghost use Rattle.dns_primary.specs.Open.{AreRecoverable};
 ghost use Rattle.dns_primary.specs.Step.{Event as StatedEvent};
 ghost use Rattle.dns_primary.specs.declared.primary.ZoneSpec.{ZoneSpec as StatedSettings};
 
-use crate::log::Log;
+use crate::log::{Counts, Log};
 use crate::opening::{Refusal, open_primary};
 use crate::sockets::Sockets;
 use crate::{Devices, tell_device};
@@ -31,7 +31,7 @@ use std::time::{Clock, Instant};
 
 /// In which turns the clock and the events of sockets are looked at, besides those after a wait: each one of
 /// so many.
-const GLANCE: u32 = 32;
+const GLANCE: u64 = 32;
 
 /// Tells which version of a zone is shown.
 fn tell_zone<I: ZoneIndex, E: Write>(
@@ -85,7 +85,7 @@ fn glance<R: Clock, S, N: Network<S>>(
     rt: &R,
     start: &Instant,
     network: &mut N,
-    turn: u32,
+    turn: u64,
     now: u64,
 ) -> u64
     ensures { HasPaused N.Network network.old network.new }
@@ -121,7 +121,7 @@ fn run<R: Clock, I: ZoneIndex, D: ZoneStore, S: Stream + Drop, N: Network<S>, L:
     primary: &mut Primary<I, D>,
     network: &mut N,
     notes: &mut L,
-    turns: u32,
+    turns: u64,
 ) -> io::Result<()>
     ensures { IfOk result
         (λ _. IsServedOn S.Stream N.Network L.Notes turns primary.old network.old notes.old primary.new
@@ -145,13 +145,14 @@ fn listen<R: Net + Clock, I: ZoneIndex, S: ZoneStore, E: Write>(
     primary: &mut Primary<I, S>,
     origins: &[Name],
     address: SocketAddr,
-    turns: u32,
+    turns: u64,
+    is_quiet: bool,
     err: &mut E,
 ) -> io::Result<u8>
     ensures { IfOk result (λ status. (status ≡ FAILED)
         ⊎ ((status ≡ DONE)
         × HasTurned turns
-        (λ told _. IsLogOf [] origins.now address (E.contents err.old) (E.contents err.new) told)
+        (λ told _. IsLogOf [] is_quiet origins.now address (E.contents err.old) (E.contents err.new) told)
         (λ m. IsKept primary.old m) (λ m. IsKept primary.new m))) }
 {
     let Ok(mut sockets) = Sockets::bind(heap, rt, address) else {
@@ -162,9 +163,13 @@ fn listen<R: Net + Clock, I: ZoneIndex, S: ZoneStore, E: Write>(
     let mut log = Log {
         err,
         origins,
+        is_quiet,
+        lines: Vec::new(heap),
+        counts: Counts::new(0),
         has_failed: false,
     };
     run(heap, rt, primary, &mut sockets, &mut log, turns)?;
+    log.write_out()?;
     if log.has_failed {
         return Ok(FAILED);
     }
@@ -178,29 +183,31 @@ fn serve_primary<R: Net + Clock, I: ZoneIndex, S: ZoneStore, E: Write>(
     primary: &mut Primary<I, S>,
     origins: &[Name],
     address: SocketAddr,
-    turns: u32,
+    turns: u64,
+    is_quiet: bool,
     err: &mut E,
 ) -> io::Result<u8>
     ensures { IfOk result (λ status. (status ≡ FAILED)
         ⊎ ((status ≡ DONE)
         × HasTurned turns
-        (λ told m. IsLogOf (zone_lines origins.now m.zones) origins.now address
+        (λ told m. IsLogOf (zone_lines origins.now m.zones) is_quiet origins.now address
         (E.contents err.old) (E.contents err.new) told)
         (λ m. IsKept primary.old m) (λ m. IsKept primary.new m))) }
 {
     tell_zones(err, primary, origins)?;
-    listen(heap, rt, primary, origins, address, turns, err)
+    listen(heap, rt, primary, origins, address, turns, is_quiet, err)
 }
 
-/// What a server has besides a primary and its log: the names of its zones, the address on which it listens
-/// and how many turns it makes.
+/// What a server has besides a primary and its log: the names of its zones, the address on which it listens,
+/// how many turns it makes, and whether lines of connections are left out of its log.
 #[derive(Drop)]
 struct Service<'a, R> {
     heap: Heap,
     rt: &'a R,
     origins: &'a [Name],
     address: SocketAddr,
-    turns: u32,
+    turns: u64,
+    is_quiet: bool,
 }
 
 /// What can be served so. (A call that names both a store over a device and the memory of every collection
@@ -219,8 +226,8 @@ impl<R: Net + Clock, I: ZoneIndex, S: ZoneStore, E: Write> Servable<Service<'_, 
     for Primary<I, S> {
     ghost is_served = { λ primary service err after err_after.
         HasTurned service.turns
-        (λ told m. IsLogOf (zone_lines service.origins.now m.zones) service.origins.now service.address
-        (E.contents err) (E.contents err_after) told)
+        (λ told m. IsLogOf (zone_lines service.origins.now m.zones) service.is_quiet service.origins.now
+        service.address (E.contents err) (E.contents err_after) told)
         (λ m. IsKept primary m) (λ m. IsKept after m) };
 
     fn serve_as(&mut self, service: &Service<'_, R>, err: &mut E) -> u8 {
@@ -231,6 +238,7 @@ impl<R: Net + Clock, I: ZoneIndex, S: ZoneStore, E: Write> Servable<Service<'_, 
             service.origins,
             service.address,
             service.turns,
+            service.is_quiet,
             err,
         )
         .unwrap_or(FAILED)
@@ -285,14 +293,13 @@ fn serve_all<D: Sectors + Drop, F: Devices<D>, I: ZoneIndex, R: Net + Clock, E: 
     rt: &R,
     devices: &F,
     config: &File<'_>,
-    turns: u32,
-    explain: bool,
+    options: ServeOptions,
     back: &mut Vec<D, Heap>,
     err: &mut E,
 ) -> io::Result<u8>
     requires { back.old.items ≡ [] }
     ensures { IfOk result
-        (λ status. ServingEnds D.Sectors (F.opened devices.now) config.now turns explain (E.contents err.old)
+        (λ status. ServingEnds D.Sectors (F.opened devices.now) config.now options (E.contents err.old)
         (E.contents err.new) status back.new.items) }
 {
     let configuration = match read_configuration(alloc, heap, config) {
@@ -308,13 +315,14 @@ fn serve_all<D: Sectors + Drop, F: Devices<D>, I: ZoneIndex, R: Net + Clock, E: 
                 rt,
                 origins: &origins,
                 address: configuration.listen,
-                turns,
+                turns: options.turns,
+                is_quiet: options.is_quiet,
             };
             let status = serve_as(&mut primary, &service, err);
             give_back(primary, back)?;
             Ok(status)
         }
-        Err(refusal) => tell_refusal(err, &configuration.zones, refusal, explain),
+        Err(refusal) => { tell_refusal(err, &configuration.zones, refusal, options.explain) }
     }
 }
 
@@ -327,10 +335,23 @@ pub struct ServiceEnd<D> {
     pub devices: Vec<D, Heap>,
 }
 
+/// How a server is to be run.
+#[derive(Clone, Copy)]
+pub struct ServeOptions {
+    /// How many turns it makes.
+    pub turns: u64,
+    /// Whether lines of connections are left out of its log.
+    pub is_quiet: bool,
+    /// Whether a second line says what can be done about a device that is refused.
+    pub explain: bool,
+}
+
 /// Opens the stores of a configuration's zones, each in its device, and serves them on its address by UDP and
 /// TCP for so many turns. A log goes to `err`: `zone ORIGIN version V serial M` for each zone,
 /// `listening on ADDRESS`, and then `conn N open ADDRESS`, `conn N closed`, `out of memory` and
-/// `device ORIGIN` as they come.
+/// `device ORIGIN` as they come. The lines of a turn are written when it ends. Of lines of connections at most
+/// 20 are written in a second; when it is over `N lines left out` is, and `N connections refused` for those
+/// that were closed for want of a place.
 ///
 /// Faults are reported in one line, the first in this order: the configuration, the devices (of which, if it
 /// is wanted, a second line says what can be done), the address (`ADDRESS: Unavailable`). Gives the exit
@@ -343,18 +364,16 @@ pub fn serve<D: Sectors + Drop, F: Devices<D>, I: ZoneIndex, R: Net + Clock, E: 
     rt: &R,
     devices: &F,
     config: &File<'_>,
-    turns: u32,
-    explain: bool,
+    options: ServeOptions,
     err: &mut E,
 ) -> ServiceEnd<D>
-    ensures { ServingEnds D.Sectors (F.opened devices.now) config.now turns explain (E.contents err.old)
+    ensures { ServingEnds D.Sectors (F.opened devices.now) config.now options (E.contents err.old)
         (E.contents err.new) result.status result.devices.items }
 {
     let mut back = Vec::new(heap);
     let status = serve_all::<D, F, I, R, E>(
-        alloc, heap, rt, devices, config, turns, explain, &mut back, err,
-    )
-    .unwrap_or(FAILED);
+        alloc, heap, rt, devices, config, options, &mut back, err,
+    ).unwrap_or(FAILED);
     ServiceEnd {
         status,
         devices: back,

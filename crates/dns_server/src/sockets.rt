@@ -2,6 +2,7 @@
 ghost use Rattle.std.specs.Prelude.{◌≡◌, []};
 ghost use Rattle.dns_network.specs.Stream.{IfOctets, moved};
 
+use crate::peers::{address_of, peer_of};
 use crate::readiness::{Place, Readiness};
 use dns_memory::Heap;
 use dns_network::{DatagramSocket, Datagrams, Moved, Network, Stream};
@@ -45,7 +46,11 @@ pub(crate) struct Sockets {
 
 /// The socket of datagrams.
 #[derive(Drop)]
-struct Udp(UdpSocket);
+struct Udp {
+    socket: UdpSocket,
+    /// Whether it is a socket of IPv6.
+    is_ipv6: bool,
+}
 
 /// The connection of a peer.
 ///
@@ -57,26 +62,19 @@ pub(crate) struct Socket {
     place: Place,
 }
 
-/// The peer of an address.
-fn peer_of(address: SocketAddr) -> Peer {
-    Peer {
-        address: address.ip(),
-        port: address.port(),
-    }
-}
-
 impl Sockets {
     /// Sockets on an address. Refused where the system refuses one.
     pub(crate) fn bind<R: Net>(heap: Heap, rt: &R, address: SocketAddr) -> io::Result<Sockets> {
         let mut listener = TcpListener::bind(rt, address)?;
-        let mut datagrams = UdpSocket::bind(rt, address)?;
+        let mut socket = UdpSocket::bind(rt, address)?;
         let poll = Poll::new(rt)?;
         let registry = poll.registry();
         registry.register(&mut listener, LISTENER, Interest::READABLE)?;
-        registry.register(&mut datagrams, DATAGRAMS, Interest::READABLE)?;
+        registry.register(&mut socket, DATAGRAMS, Interest::READABLE)?;
+        let is_ipv6 = address.is_ipv6();
         Ok(Sockets {
             listener,
-            datagrams: Datagrams::new(heap, Udp(datagrams))?,
+            datagrams: Datagrams::new(heap, Udp { socket, is_ipv6 })?,
             poll,
             events: Events::with_capacity(heap, EVENTS)?,
             may_accept: true,
@@ -178,7 +176,7 @@ impl DatagramSocket for Udp {
 
     fn receive(&mut self, into: &mut [u8]) -> Option<(usize, Peer)> {
         for _try in 0..TRIES {
-            match self.0.recv_from(into) {
+            match self.socket.recv_from(into) {
                 Ok((count, address)) => return Some((count, peer_of(address))),
                 Err(error) if error.kind() == ErrorKind::WouldBlock => return None,
                 Err(_) => {}
@@ -188,8 +186,7 @@ impl DatagramSocket for Udp {
     }
 
     fn send(&mut self, to: Peer, octets: &[u8]) {
-        let address = SocketAddr::new(to.address, to.port);
-        let _sent = self.0.send_to(octets, address);
+        let _sent = self.socket.send_to(octets, address_of(to, self.is_ipv6));
     }
 }
 

@@ -15,7 +15,7 @@ use dns_names::Name;
 use dns_network::{Framing, Moved, Octets, Outbox, framing_law};
 use dns_request::Transport;
 use dns_secondary::laws::taken_law;
-use dns_secondary::{Progress, Secondary};
+use dns_secondary::{Fault, Progress, Secondary};
 use dns_zone::{Zone, ZoneIndex};
 
 /// The number of the request. One request is made on a connection, so that each may have the same.
@@ -23,6 +23,9 @@ const REQUEST_NUMBER: u16 = 1;
 
 /// How many octets are read at once, at most: those of the longest message (RFC 1035 section 4.2.2).
 const PIECE: usize = 65536;
+
+/// The most records that a zone has.
+const MOST_RECORDS: usize = 65536;
 
 /// Writes all that is left to write, and waits where it must.
 fn write_all<S: WaitingStream>(stream: &mut S, outbox: &mut Outbox) -> Result<(), FetchFault>
@@ -86,7 +89,8 @@ fn read_some<S: WaitingStream>(stream: &mut S, into: &mut [u8]) -> Result<usize,
     Err(FetchFault::TimedOut)
 }
 
-/// Reads the messages of an answer in their order, until it is at its end, and answers whether it is.
+/// Reads the messages of an answer in their order, until it is at its end, and answers whether it is. One that
+/// leads to more records than a zone may have is given up with the record that is one too many.
 fn hear<I: ZoneIndex>(
     heap: Heap,
     secondary: &mut Secondary<I>,
@@ -99,7 +103,11 @@ fn hear<I: ZoneIndex>(
 {
     for message in messages {
         match secondary.feed(heap, message)? {
-            Progress::More => {}
+            Progress::More => {
+                if secondary.received_count() > MOST_RECORDS {
+                    return Err(FetchFault::Refused(Fault::InvalidZone));
+                }
+            }
             Progress::Done => return Ok(true),
             Progress::UpToDate => return Ok(true),
             // By TCP this is never reported (RFC 1995 section 2).

@@ -2,18 +2,20 @@
 //! into an exit status.
 #![tactic(auto)]
 
+mod lines;
 mod terminal;
 
 use clap::error::ErrorKind;
-use dns_command::{Asked, Task, read_words};
+use dns_command::{Asked, Fetching, Serving, Task, read_words};
 use dns_configuration::{FAILED, File, REFUSED, USAGE};
 use dns_memory::{Heap, heap};
 use dns_sectors::{DiskFile, FileSectors};
 use dns_server::{
-    Disk, Index, Tcp, TcpSocket, check, compare, dump, explain_check, explain_replay,
-    explain_unreadable, fetch, file, init, load, master_files, migrate, octets, replay, serve,
-    zone_file,
+    Disk, Index, ServeOptions, Tcp, TcpSocket, check, compare, dump, explain_check,
+    explain_devices, explain_other, explain_replay, explain_unreadable, explain_unserved, fetch,
+    file, init, is_file, load, master_files, migrate, octets, replay, serve, zone_file,
 };
+use lines::Lines;
 use std::io::{self, Write};
 use std::process::ExitCode;
 use std::{env, fs};
@@ -26,6 +28,11 @@ type Device = FileSectors<DiskFile>;
 fn explain_missing<E: Write>(rt: &HostRuntime, file: &File<'_>, err: &mut E) -> io::Result<()> {
     if file.octets.is_some() {
         return Ok(());
+    }
+    match is_file(rt, file.path) {
+        Ok(true) => {}
+        Ok(false) => return explain_other(file.path, err),
+        Err(reason) => return explain_unreadable(file.path, &reason, err),
     }
     match fs::read(rt, file.path) {
         Ok(_) => Ok(()),
@@ -127,8 +134,29 @@ fn explain_load(
     explain_check(heap, file, origin, &mut err)
 }
 
+/// Explains, if it is wanted, why a device can't be had, if one can't; and gives the exit status.
+fn explain_failed(
+    rt: &HostRuntime,
+    heap: Heap,
+    config: &File<'_>,
+    origin: Option<&str>,
+    explain: bool,
+    status: u8,
+) -> io::Result<u8> {
+    if explain && status == FAILED {
+        explain_devices(rt, heap, config, origin, &mut rt.stderr())?;
+    }
+    Ok(status)
+}
+
 /// Makes devices, and gives the exit status.
-fn run_init(rt: &HostRuntime, heap: Heap, config: &str, explain: bool) -> io::Result<u8> {
+fn run_init(
+    rt: &HostRuntime,
+    heap: Heap,
+    config: &str,
+    origin: Option<&str>,
+    explain: bool,
+) -> io::Result<u8> {
     let text = octets(rt, config)?;
     let config = file(config, &text);
     let texts = master_files(rt, heap, "", &config)?;
@@ -142,13 +170,17 @@ fn run_init(rt: &HostRuntime, heap: Heap, config: &str, explain: bool) -> io::Re
         heap,
         &Disk(rt),
         &config,
+        origin,
         &files,
         explain,
         &mut out,
         &mut err,
     );
     if explain && status == REFUSED {
-        explain_files(rt, heap, &config, &files)?;
+        match origin {
+            Some(origin) => explain_load(rt, heap, &config, &files, origin)?,
+            None => explain_files(rt, heap, &config, &files)?,
+        }
     }
     Ok(status)
 }
@@ -179,7 +211,7 @@ fn run_dump(
     if explain && status == REFUSED {
         explain_files(rt, heap, &config, &[])?;
     }
-    Ok(status)
+    explain_failed(rt, heap, &config, Some(origin), explain, status)
 }
 
 /// Loads a zone's master file, or prints what that would change, and gives the exit status.
@@ -229,7 +261,7 @@ fn run_load(
     if explain && status == REFUSED {
         explain_load(rt, heap, &config, &files, origin)?;
     }
-    Ok(status)
+    explain_failed(rt, heap, &config, Some(origin), explain, status)
 }
 
 /// Migrates devices, and gives the exit status.
@@ -249,58 +281,53 @@ fn run_migrate(rt: &HostRuntime, heap: Heap, config: &str, explain: bool) -> io:
     if explain && status == REFUSED {
         explain_files(rt, heap, &config, &[])?;
     }
-    Ok(status)
+    explain_failed(rt, heap, &config, None, explain, status)
 }
 
 /// Serves, and gives the exit status.
-fn run_serve(
-    rt: &HostRuntime,
-    heap: Heap,
-    config: &str,
-    turns: u32,
-    explain: bool,
-) -> io::Result<u8> {
-    let text = octets(rt, config)?;
-    let config = file(config, &text);
+fn run_serve(rt: &HostRuntime, heap: Heap, words: Serving<'_>, explain: bool) -> io::Result<u8> {
+    let text = octets(rt, words.config)?;
+    let config = file(words.config, &text);
+    let options = ServeOptions {
+        turns: words.turns,
+        is_quiet: words.quiet,
+        explain,
+    };
     let ended = serve::<Device, _, Index, _, _>(
         rt.alloc(),
         heap,
         rt,
         &Disk(rt),
         &config,
-        turns,
-        explain,
-        &mut rt.stderr(),
+        options,
+        &mut Lines::new(rt),
     );
     if explain && ended.status == REFUSED {
         explain_files(rt, heap, &config, &[])?;
+    }
+    if explain && ended.status == FAILED {
+        explain_unserved(rt, heap, &config, &mut rt.stderr())?;
     }
     Ok(ended.status)
 }
 
 /// Takes in a zone from another server, and gives the exit status.
-fn run_fetch(
-    rt: &HostRuntime,
-    heap: Heap,
-    server: &str,
-    origin: &str,
-    since: Option<&str>,
-    explain: bool,
-) -> io::Result<u8> {
-    let text = match since {
+fn run_fetch(rt: &HostRuntime, heap: Heap, words: Fetching<'_>, explain: bool) -> io::Result<u8> {
+    let text = match words.since {
         Some(path) => octets(rt, path)?,
         None => None,
     };
-    let held = file(since.unwrap_or(""), &text);
-    let since = since.map(|_path| &held);
+    let held = file(words.since.unwrap_or(""), &text);
+    let since = words.since.map(|_path| &held);
     let mut out = io::BufWriter::new(rt.alloc(), io::writer(rt))?;
     let mut err = rt.stderr();
     let mut watch = Terminal::new(rt);
-    let status = fetch::<TcpSocket, _, Index, _, _, _>(
+    let seconds = words.seconds;
+    let status = fetch::<TcpSocket<'_, HostRuntime>, _, Index, _, _, _>(
         heap,
-        &Tcp { heap, rt },
-        server,
-        origin,
+        &Tcp { heap, rt, seconds },
+        words.server,
+        words.origin,
         since,
         explain,
         &mut watch,
@@ -312,7 +339,7 @@ fn run_fetch(
         if let Some(file) = since {
             explain_missing(rt, file, &mut err)?;
         }
-        explain_check(heap, &held, origin, &mut err)?;
+        explain_check(heap, &held, words.origin, &mut err)?;
     }
     Ok(status)
 }
@@ -323,21 +350,14 @@ fn run(rt: &HostRuntime, asked: Asked<'_>) -> io::Result<u8> {
     match asked.task {
         Task::Check(path, origin) => run_check(rt, heap, path, origin, asked.explain),
         Task::Replay(config, script) => run_replay(rt, heap, config, script, asked.explain),
-        Task::Init(config) => run_init(rt, heap, config, asked.explain),
+        Task::Init(config, origin) => run_init(rt, heap, config, origin, asked.explain),
         Task::Dump(config, origin) => run_dump(rt, heap, config, origin, asked.explain),
         Task::Load(config, origin, dry_run) => {
             run_load(rt, heap, config, origin, dry_run, asked.explain)
         }
         Task::Migrate(config) => run_migrate(rt, heap, config, asked.explain),
-        Task::Serve(config, turns) => run_serve(rt, heap, config, turns, asked.explain),
-        Task::Fetch(server, origin, since) => run_fetch(
-            rt,
-            heap,
-            server,
-            origin,
-            since,
-            asked.explain,
-        ),
+        Task::Serve(words) => run_serve(rt, heap, words, asked.explain),
+        Task::Fetch(words) => run_fetch(rt, heap, words, asked.explain),
     }
 }
 
@@ -356,9 +376,10 @@ fn start(rt: &HostRuntime) -> io::Result<u8> {
         Ok(Some(asked)) => run(rt, asked),
         Ok(None) => {
             eprintln!(rt;
-                "usage: dnsprim check FILE ORIGIN | replay CONFIG SCRIPT | init CONFIG | \
-dump CONFIG ORIGIN | load CONFIG ORIGIN [--dry-run] | migrate CONFIG | serve CONFIG --turns N | \
-fetch ADDRESS:PORT ORIGIN [--since FILE] [--explain]"
+                "usage: dnsprim check FILE ORIGIN | replay CONFIG SCRIPT | init CONFIG [ORIGIN] | \
+dump CONFIG ORIGIN | load CONFIG ORIGIN [--dry-run] | migrate CONFIG | \
+serve CONFIG --turns N|unlimited [--quiet] | \
+fetch ADDRESS:PORT ORIGIN [--since FILE] [--seconds N] [--explain]"
             )?;
             Ok(USAGE)
         }

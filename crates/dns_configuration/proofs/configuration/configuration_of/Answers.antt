@@ -7,8 +7,8 @@ use Rattle.dns_configuration.specs.Settings.{AreSettings, Describes}
 use Rattle.dns_configuration.proofs.Unread.{as_many, no_listener, passed_on, zones_there}
 use Rattle.dns_configuration.proofs.configuration.configuration_of.Goals as goal
 
-pub returns-in_default-listener : goal.returns-in_default-listener
-returns-in_default-listener c = λ x h. no_listener (view c.args.document.now) c.in-Some.text.now x c.in-Some.ensures c.in_default-listener.ensures h
+pub returns-in_default-socket_address : goal.returns-in_default-socket_address
+returns-in_default-socket_address c = λ x h. no_listener (view c.args.document.now) c.in-Some.text.now x c.in-Some.ensures c.in_default-socket_address.ensures h
 
 pub returns-in_err-zones : goal.returns-in_err-zones
 returns-in_err-zones c =

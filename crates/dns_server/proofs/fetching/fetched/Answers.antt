@@ -1,6 +1,6 @@
 use Rattle.std.proofs.Common.{ℕ, List, subst}
 use Rattle.std.specs.Option.{option_copied}
-use Rattle.std.specs.Net.Grammar.{IsSocketText}
+use Rattle.dns_configuration.specs.Settings.{IsSocketAddress}
 use Rattle.dns_server.specs.Fetch.{FetchEnds, IsAskedFor}
 use Rattle.dns_server.proofs.Fetched.{answer_told, fetch_failed, fetch_told, shown, since_told}
 use Rattle.dns_server.proofs.fetching.fetched.Goals as goal
@@ -14,7 +14,7 @@ pub returns-in-Ok-take_from : goal.returns-in-Ok-take_from
 returns-in-Ok-take_from g c =
     let since = option_copied c.args.since in
     let asked : IsAskedFor c.args.server.now c.args.origin.now since c.in-Ok.address c.in-Ok-apex.name c.in-Ok-held_version.held = record {
-      address_is = subst (λ (t : List ℕ). IsSocketText t c.in-Ok.address) c.as_bytes.ensures.value c.in-Ok.ensures;
+      address_is = c.in_default.ensures;
       named = c.in-Ok-apex.ensures;
       from = c.in-Ok-held_version.ensures.held;
     } in
@@ -33,7 +33,7 @@ returns-in-Err-take_from g c =
     let err = g.E.Write.contents c.args.err.now in
     let err_after = g.E.Write.contents c.tell_fetch-in-Err-take_from.new.err in
     let asked : IsAskedFor server origin since c.in-Ok.address c.in-Ok-apex.name c.in-Ok-held_version.held = record {
-      address_is = subst (λ (t : List ℕ). IsSocketText t c.in-Ok.address) c.as_bytes.ensures.value c.in-Ok.ensures;
+      address_is = c.in_default.ensures;
       named = c.in-Ok-apex.ensures;
       from = c.in-Ok-held_version.ensures.held;
     } in

@@ -1,4 +1,5 @@
 use Rattle.std.proofs.Common.{inr, refl, ap}
+use Rattle.dns_server.specs.Log.{logged}
 use Rattle.dns_server.proofs.Logged.{has_listened}
 use Rattle.dns_server.proofs.serving.listen.Goals as goal
 
@@ -7,6 +8,6 @@ returns g c =
     let text = g.E.Write.contents in
     inr (
       refl,
-      has_listened c.in_ok-run.ensures (λ log. log.err.ghost_name) (λ log. log.origins.now) (λ log. log.has_failed) (λ log. text log.err.now) (λ old one new h. h) c.args.address (text c.args.err.now)
-          c.in_ok-tell_listening.ensures c.if-log.false (λ same. ap text (c.err-2-1.given.1 same)),
+      has_listened c.in_ok-run.ensures (λ log. log.err.ghost_name) (λ log. log.origins.now) (λ log. log.is_quiet) (λ log. log.has_failed) (λ log. logged (text log.err.now) log.lines.items log.counts) (λ old one new h. h)
+          c.args.address (text c.args.err.now) (text c.in_ok-write_out.new.self.err.now) c.in_ok-tell_listening.ensures refl c.new.ensures c.if-log.false c.in_ok-write_out.ensures.written (λ same. ap text (c.err-2-1.given.1 same)),
     )

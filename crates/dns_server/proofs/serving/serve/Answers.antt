@@ -11,5 +11,5 @@ returns g c =
     let err = g.E.Write.contents c.args.err.now in
     let err_after = g.E.Write.contents c.serve_all.new.err in
     let back = c.serve_all.new.back.items in
-    unwrapped (λ (status : ℕ). ServingEnds g.D.Sectors opened config c.args.turns c.args.explain err err_after status back) c.serve_all.result c.unwrap_or-status.result c.unwrap_or-status.ensures c.serve_all.ensures
-    (serving_failed g.D.Sectors opened config c.args.turns c.args.explain err err_after back)
+    unwrapped (λ (status : ℕ). ServingEnds g.D.Sectors opened config c.args.options err err_after status back) c.serve_all.result c.unwrap_or-status.result c.unwrap_or-status.ensures c.serve_all.ensures
+    (serving_failed g.D.Sectors opened config c.args.options err err_after back)

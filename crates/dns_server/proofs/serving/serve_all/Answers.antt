@@ -18,9 +18,9 @@ returns-in-Err g c =
     let err = g.E.Write.contents c.args.err.now in
     let err_after = g.E.Write.contents c.tell.new.err in
     let back = c.args.back.now.items in
-    fault_told (λ (status : ℕ). ServingEnds g.D.Sectors opened config c.args.turns c.args.explain err err_after status back) config.path.now fault err err_after c.tell.result c.tell.ensures
-    (serving_failed g.D.Sectors opened config c.args.turns c.args.explain err err_after back)
-    (λ _ said. configuration_refused g.D.Sectors opened config c.args.turns fault c.args.explain err err_after back c.in-Err.ensures.held said)
+    fault_told (λ (status : ℕ). ServingEnds g.D.Sectors opened config c.args.options err err_after status back) config.path.now fault err err_after c.tell.result c.tell.ensures
+    (serving_failed g.D.Sectors opened config c.args.options err err_after back)
+    (λ _ said. configuration_refused g.D.Sectors opened config c.args.options fault err err_after back c.in-Err.ensures.held said)
 
 pub returns-in-Ok-open_primary : goal.returns-in-Ok-open_primary
 returns-in-Ok-open_primary g c =
@@ -35,13 +35,13 @@ returns-in-Ok-open_primary g c =
     let origins = c.deref-in-Ok-open_primary.result.now in
     let names : origins ≡ origins_of configuration.zones.items = c.deref-in-Ok-open_primary.ensures.value ∙ at_ok c.origins_of.result (λ made. made.items ≡ origins_of c.deref.result.now) c.in_ok-origins.origins c.in_ok-origins.was c.origins_of.ensures ∙ ap origins_of c.deref.ensures.value in
     let is : IsServed g.D.Sectors opened configuration.zones.items (λ known m. IsKept primary m) = rw c.deref-2.ensures.value at c.in-Ok-open_primary.ensures in
-    served g.D.Sectors opened c.args.config.now configuration c.args.turns c.args.explain err err_after c.serve_as-status.result back c.in-Ok.ensures.held
+    served g.D.Sectors opened c.args.config.now configuration c.args.options err err_after c.serve_as-status.result back c.in-Ok.ensures.held
     (elim c.serve_as-status.ensures [
       | inl failed ↦ inl failed
       | inr (done, turned) ↦ inr (
         done,
-        served_for g.D.Sectors opened configuration c.args.turns err err_after (λ m. IsKept primary m) (λ m. IsKept after m) back is
-            (subst (λ (x : List Labels). HasTurned c.args.turns (λ told m. IsLogOf (zone_lines x m.zones) x configuration.listen err err_after told) (λ m. IsKept primary m) (λ m. IsKept after m)) names turned)
+        served_for g.D.Sectors opened configuration c.args.options err err_after (λ m. IsKept primary m) (λ m. IsKept after m) back is
+            (subst (λ (x : List Labels). HasTurned c.args.options.turns (λ told m. IsLogOf (zone_lines x m.zones) c.args.options.is_quiet x configuration.listen err err_after told) (λ m. IsKept primary m) (λ m. IsKept after m)) names turned)
             c.in_ok-give_back-in-Ok-open_primary.ensures,
       )
     ])
@@ -56,5 +56,5 @@ returns g c =
     let err = g.E.Write.contents c.args.err.now in
     let err_after = g.E.Write.contents c.tell_refusal.new.err in
     let why : IsNotServed g.D.Sectors opened zones place fault = rw c.deref-2.ensures.value at c.in-Err-open_primary.ensures in
-    device_refused g.D.Sectors opened c.args.config.now configuration c.args.turns place fault c.args.explain err err_after c.args.back.now.items c.tell_refusal.result c.in-Ok.ensures.held why
+    device_refused g.D.Sectors opened c.args.config.now configuration c.args.options place fault err err_after c.args.back.now.items c.tell_refusal.result c.in-Ok.ensures.held why
     (rw c.deref-in-Err-open_primary.ensures.value at c.tell_refusal.ensures)

@@ -12,5 +12,5 @@ returns g c =
     let service = c.args.service.now in
     let origins = service.origins.now in
     unwrapped (λ (status : ℕ). (status ≡ 3)
-    ⊎ ((status ≡ 0) × HasTurned service.turns (λ told m. IsLogOf (zone_lines origins m.zones) origins service.address (text c.args.err.now) (text c.serve_primary.new.err) told) (λ m. IsKept c.args.self.now m) (λ m. IsKept c.serve_primary.new.primary m)))
+    ⊎ ((status ≡ 0) × HasTurned service.turns (λ told m. IsLogOf (zone_lines origins m.zones) service.is_quiet origins service.address (text c.args.err.now) (text c.serve_primary.new.err) told) (λ m. IsKept c.args.self.now m) (λ m. IsKept c.serve_primary.new.primary m)))
     c.serve_primary.result c.unwrap_or.result c.unwrap_or.ensures c.serve_primary.ensures (inl refl)
