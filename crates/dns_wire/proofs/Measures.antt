@@ -120,6 +120,15 @@ none_before m at labels stop target h p none name end k =
     let short : length (wire name) ≤ 255 = k.valid.short in
     none left.rest left.end left.stands (omega (arith, sized, short))
 
+-- the field of a name ends behind its first pointer
+pub full_kept : (m : List ℕ) (at : ℕ) (labels : Labels) (stop target : ℕ) (name : Labels) (end : ℕ) → AreOctets m → LabelsAt m at labels stop → IsPointer m stop target → 12 ≤ target → target < at → stop ≤ at + 254 → FullNameAt m at name end → (whole : Labels) × FullNameAt m at whole (stop + 2)
+full_kept m at labels stop target name end fits h p far back room k =
+    let up : at ≤ stop = run_up m at labels stop h in
+    let left = leaves_next m at at 0 labels stop target h p up (leaves_first m at) name end k.stands in
+    let sized : length (wire name) ≡ (0 + (stop - at)) + length (wire left.rest) = left.sized in
+    let short : length (wire name) ≤ 255 = k.valid.short in
+    (labels ++ left.rest, full_behind m at labels left.rest stop target left.end fits h p far back room left.stands (omega (arith, sized, short, up, room)))
+
 -- where each number is zero no length is kept
 zeros : (n i : ℕ) → ◌≡◌ {A = ℕ} (get_or (replicate n 0) i 0) 0
 zeros zero i = refl

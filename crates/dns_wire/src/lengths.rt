@@ -120,13 +120,15 @@ fn keep_lengths(message: &[u8], first: usize, last: usize, size: usize, lengths:
     }
 }
 
-/// Tests the name that a pointer leads to. It is no part of `end_over`, which most names leave before it. Where lengths are kept, they tell of each name that is walked.
+/// Tests the name that a pointer leads to. Where lengths are kept, they tell of each name that is walked.
+/// It is not compiled into `end_over`, which is quicker without it where no pointer is.
 #[inline(never)]
 fn target_end(message: &[u8], target: usize, room: usize, lengths: &mut [u8]) -> Result<(), Fault>
     requires inside { target ≤ length message.now }
     requires room { room ≤ 254 }
     requires known { AreLengths message.now lengths.old }
-    ensures found { IfOk result (λ _. (name : Labels) × (end : ℕ) × NameAt message.now target name end × (length (wire name) ≤ room + 1)) }
+    ensures found { IfOk result (λ _. (name : Labels) × (end : ℕ) × NameAt message.now target name end
+        × (length (wire name) ≤ room + 1)) }
     ensures refused { IfErr result (IfRefused (λ _.
         (name : Labels) (end : ℕ) → NameAt message.now target name end → length (wire name) ≤ room + 1 → ⊥)) }
     ensures cause { IfErr result (IfRefused (λ e. NameRefused message.now e target room)) }
