@@ -1,1 +1,2 @@
 mod Passing
+pub mod Counts

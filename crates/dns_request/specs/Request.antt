@@ -36,6 +36,13 @@ question_as m q =
     else if not (q.qclass == class_in) then NotServed m q rcode_refused
     else Query m q
 
+-- What the header alone tells of it: one question, no additional records, and answers in an update alone.
+abbrev pub counts_as_request : Message → Bool
+counts_as_request m =
+    length m.questions == 1
+    && length m.additionals == 0
+    && (m.header.opcode == opcode_update || length m.answers == 0)
+
 -- It has no additional records, and as a query no others but those of an IXFR (RFC 1035 4.1.1, RFC 1995 3).
 abbrev pub has_counts : Message → Question → Bool
 has_counts m q =

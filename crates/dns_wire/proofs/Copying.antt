@@ -1,10 +1,10 @@
 -- The plain form of a name that is there, copied run by run.
-use Rattle.std.proofs.Common.{◌≡◌, ℕ, suc, ◌+◌, ◌-◌, ◌<◌, ◌≤◌, List, [], ◌∷◌, ◌++◌, length, map, get_or, take, drop, Some, refl, sym, ap, subst, ◌∙◌, arith, append_assoc, take-add, drop-drop}
+use Rattle.std.proofs.Common.{◌≡◌, ℕ, suc, ◌+◌, ◌-◌, ◌<◌, ◌≤◌, inr, List, [], ◌∷◌, ◌++◌, length, map, get_or, take, drop, Some, refl, sym, ap, subst, ◌∙◌, arith, append_assoc, take-add, drop-drop}
 use Rattle.std.specs.Prelude.{slice_get, slice_range}
 use Rattle.std.specs.Char.{to_ascii_lowercase}
 use Rattle.std.proofs.Math.Seq.{drop-cons}
 use Rattle.std.proofs.lemmas.List.{length-append, length-take-le, map-append, append-nil, take_at}
-use Rattle.std.proofs.lemmas.Option.{slice_get_within, get_or_from_slice_get}
+use Rattle.std.proofs.lemmas.Option.{slice_get_within, slice_get-get_or, get_or_from_slice_get}
 use Rattle.dns_names.specs.Name.{Labels, wire}
 use Rattle.dns_names.specs.Octets.{LabelsAt}
 use Rattle.dns_names.specs.Lower.{lower_low}
@@ -142,3 +142,40 @@ copied_small m out run size name short h = omega (arith, copied_size m out run s
 pub record Within (m : List ℕ) (run stop : ℕ) : Type 0 where
   pub up : run ≤ stop
   pub inside : stop < length m
+
+-- a name that begins with a pointer
+pub record Pointed (m : List ℕ) (at high : ℕ) (name : Labels) : Type 0 where
+  pub target : ℕ
+  pub after : ℕ
+  pub pointer : IsPointer m at target
+  pub back : target < at
+  pub stands : NameAt m target name after
+
+pub pointed : (m : List ℕ) (at high : ℕ) (name : Labels) (end : ℕ) → slice_get m at ≡ Some high → 192 ≤ high → NameAt m at name end → Pointed m at high name
+pointed m at high name end first marked h = go (closing m at [] at high name refl (record { stands = first; other = inr (omega (arith, marked)) }) (opening h))
+  where
+    go : Closing m at [] at high name → Pointed m at high name
+    go (by_root z is) = absurd (omega (arith, z, marked))
+    go (by_pointer rest target after p _ far back inner is) =
+        record { target = target; after = after; pointer = p; back = back; stands = subst (λ (x : Labels). NameAt m target x after) (sym is) inner }
+
+-- the name at an offset is also at another
+abbrev pub Leads : List ℕ → ℕ → ℕ → Type 0
+Leads m at run = (name : Labels) (end : ℕ) → NameAt m at name end → (after : ℕ) × NameAt m run name after
+
+pub leads_next : (m : List ℕ) (at run high target : ℕ) → slice_get m run ≡ Some high → 192 ≤ high → IsPointer m run target → Leads m at run → Leads m at target
+leads_next m at run high target first marked p so_far name end h =
+    let here = so_far name end h in
+    let k = pointed m run high name here.0 first marked here.1 in
+    (k.after, subst (λ (x : ℕ). NameAt m x name k.after) (pointer_unique m run k.target target k.pointer p) k.stands)
+
+pub copied_far : (m out : List ℕ) (target run size : ℕ) (name : Labels) → Leads m target run → Copied m out target size name → Copied m out run size name
+copied_far m out target run size name leads h =
+    let there = leads h.rest h.end h.stands in
+    record { rest = h.rest; end = there.0; stands = there.1; inside = h.inside; whole = h.whole }
+
+-- a pointer that leads on from an offset which a name leads to
+pub pointed_here : (m : List ℕ) (at run : ℕ) (name : Labels) (end : ℕ) → Leads m at run → NameAt m at name end → run < length m → 192 ≤ get_or m run 0 → Pointed m run (get_or m run 0) name
+pointed_here m at run name end leads h inside marked =
+    let k = leads name end h in
+    pointed m run (get_or m run 0) name k.0 (slice_get-get_or m run 0 inside) marked k.1

@@ -1,6 +1,7 @@
 //! The header of a message, its first 12 octets (RFC 1035 section 4.1.1).
 ghost use Rattle.std.specs.Prelude.{◌≡◌, ◌≤◌, length};
 ghost use Rattle.dns_wire.specs.Message.{header_of};
+ghost use Rattle.dns_wire.specs.Reads.{NumberAt};
 
 use crate::fields::number;
 
@@ -59,4 +60,31 @@ pub fn rcode(octets: &[u8]) -> u8
     ensures { result ≡ (header_of octets.now).rcode }
 {
     octets[3] % 16
+}
+
+/// How many questions the header counts, QDCOUNT.
+#[inline(always)]
+pub fn question_count(octets: &[u8]) -> u16
+    requires { 12 ≤ length octets.now }
+    ensures { NumberAt octets.now 4 2 result }
+{
+    number(octets, 4)
+}
+
+/// How many records the header counts in the answer section, ANCOUNT.
+#[inline(always)]
+pub fn answer_count(octets: &[u8]) -> u16
+    requires { 12 ≤ length octets.now }
+    ensures { NumberAt octets.now 6 2 result }
+{
+    number(octets, 6)
+}
+
+/// How many records the header counts in the additional section, ARCOUNT.
+#[inline(always)]
+pub fn additional_count(octets: &[u8]) -> u16
+    requires { 12 ≤ length octets.now }
+    ensures { NumberAt octets.now 10 2 result }
+{
+    number(octets, 10)
 }

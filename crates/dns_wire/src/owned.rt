@@ -6,7 +6,7 @@ ghost use Rattle.dns_wire.specs.NameAt.{FullNameAt};
 ghost use Rattle.dns_wire.specs.Reads.{FieldsAt, RDataAt};
 ghost use Rattle.dns_wire.specs.Fields.{SomeField, SomeFields};
 
-use crate::name::name_end;
+use crate::name::behind_name;
 use crate::plain::copy_plain;
 use dns_memory::Heap;
 use dns_records::{Field, count_within, form};
@@ -22,11 +22,7 @@ fn append_name(message: &[u8], at: usize, out: &mut Vec<u8, Heap>) -> Result<usi
     let mut octets = [0; 255];
     let size = copy_plain(message, at, &mut octets);
     out.extend_from_slice(&octets[..size])?;
-    match name_end(message, at) {
-        Ok(end) => Ok(end),
-        // There is a name at the offset.
-        Err(_) => unreachable!(),
-    }
+    Ok(behind_name(message, at))
 }
 
 /// Appends one part of the data, and gives where it ends.

@@ -1,10 +1,12 @@
 //! A name of a message copied as one run of labels in lower case.
-ghost use Rattle.std.specs.Prelude.{◌≡◌, ◌+◌, ◌≤◌, ◌++◌, length, map, take, drop};
+ghost use Rattle.std.specs.Prelude.{◌≡◌, ℕ, ◌+◌, ◌≤◌, ◌++◌, length, map, take, drop};
 ghost use Rattle.std.specs.Char.{to_ascii_lowercase};
-ghost use Rattle.dns_names.specs.Name.{wire};
+ghost use Rattle.dns_names.specs.Name.{Labels, wire};
+ghost use Rattle.dns_wire.specs.NameAt.{NameAt};
 ghost use Rattle.dns_wire.specs.Viewed.{labels_at, IsViewed};
 
-use crate::name::{RunEnd, step};
+use crate::fields::number;
+use crate::name::{POINTER_BITS, RunEnd, step};
 
 /// Writes octets in lower case over those from an offset on.
 fn copy_lower(text: &[u8], out: &mut [u8], at: usize)
@@ -15,6 +17,20 @@ fn copy_lower(text: &[u8], out: &mut [u8], at: usize)
     let field = &mut out[at..at + text.len()];
     field.copy_from_slice(text);
     field.make_ascii_lowercase();
+}
+
+/// The offset of the labels or the root that the pointers from an offset on lead to, one after the other.
+fn behind_pointers(message: &[u8], at: usize) -> usize
+    requires { (name : Labels) × (end : ℕ) × NameAt message.now at name end }
+    ensures leads { (name : Labels) (end : ℕ) → NameAt message.now at name end
+        → (after : ℕ) × NameAt message.now result name after }
+    ensures back { result ≤ at }
+{
+    let mut run = at;
+    'pointers: while message[run] >= 192 {
+        run = (number(message, run) - POINTER_BITS) as usize;
+    }
+    run
 }
 
 /// Writes the plain form of the name at an offset, in lower case, and gives its length.
@@ -38,7 +54,7 @@ pub(crate) fn copy_plain(message: &[u8], at: usize, out: &mut [u8]) -> usize
             RunEnd::Pointer { stop, target } => {
                 copy_lower(&message[run..stop], out, size);
                 size += stop - run;
-                run = target;
+                run = behind_pointers(message, target);
             }
         }
     }

@@ -5,7 +5,7 @@ ghost use Rattle.dns_wire.specs.Message.{record_of_item, data_of_item};
 
 use crate::NameView;
 use crate::fields::{long_number, number};
-use crate::name::name_end;
+use crate::name::behind_name;
 use crate::owned::append_data;
 use dns_memory::Heap;
 use dns_records::{RData, Record, RecordError};
@@ -144,9 +144,7 @@ impl<'a> Section<'a> {
             return None;
         }
         let at = self.next;
-        let Ok(behind_owner) = name_end(self.message, at) else {
-            return None;
-        };
+        let behind_owner = behind_name(self.message, at);
         let size = number(self.message, behind_owner + 8) as usize;
         self.next = behind_owner + 10 + size;
         self.left -= 1;

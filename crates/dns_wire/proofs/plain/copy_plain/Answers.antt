@@ -4,7 +4,7 @@ use Rattle.std.specs.Char.{to_ascii_lowercase}
 use Rattle.std.proofs.lemmas.Option.{slice_get_within}
 use Rattle.dns_names.specs.Runs.{run_up}
 use Rattle.dns_wire.specs.Viewed.{labels_at}
-use Rattle.dns_wire.proofs.Copying.{copied_first, copied_room, copied_small, copied_next, copied_root, Within}
+use Rattle.dns_wire.proofs.Copying.{copied_first, copied_room, copied_small, copied_next, copied_far, copied_root, Within}
 use Rattle.dns_wire.proofs.Shown.{name_viewed}
 use Rattle.dns_wire.proofs.plain.copy_plain.Goals as goal
 use Rattle.dns_wire.proofs.plain.copy_plain.Goals.{In-Root, In-Pointer}
@@ -78,9 +78,21 @@ runs-preserved c =
     let text = map to_ascii_lowercase (slice_range m c.runs.run stop) in
     let new = c.copy_lower-in-Pointer.new.out in
     let next = copied_next m out c.runs.run c.runs.size name f.0 stop c.in-Pointer.target new (drop (c.runs.size + length (slice_range m c.runs.run stop)) out) text f.1 f.2 refl c.copy_lower-in-Pointer.ensures c.runs.invariant.copied in
+    let far = copied_far m new c.in-Pointer.target c.behind_pointers-run.result (c.runs.size + (stop - c.runs.run)) name c.behind_pointers-run.ensures.leads next in
     record {
-      inside = omega arith;
-      small = copied_small m new c.in-Pointer.target (c.runs.size + (stop - c.runs.run)) name h.stands.valid.short next;
+      inside = omega (arith, c.behind_pointers-run.ensures.back, f.4, c.runs.invariant.inside);
+      small = copied_small m new c.behind_pointers-run.result (c.runs.size + (stop - c.runs.run)) name h.stands.valid.short far;
       room = omega arith;
-      copied = next;
+      copied = far;
     }
+
+pub behind_pointers-run-requires : goal.behind_pointers-run-requires
+behind_pointers-run-requires c =
+    let m = c.args.message.now in
+    let out = c.runs.out in
+    let stop = c.in-Pointer.stop in
+    let f = rw c.in-Pointer.is at c.in-Ok.ensures.found in
+    let text = map to_ascii_lowercase (slice_range m c.runs.run stop) in
+    let new = c.copy_lower-in-Pointer.new.out in
+    let next = copied_next m out c.runs.run c.runs.size (labels_at m c.args.at) f.0 stop c.in-Pointer.target new (drop (c.runs.size + length (slice_range m c.runs.run stop)) out) text f.1 f.2 refl c.copy_lower-in-Pointer.ensures c.runs.invariant.copied in
+    (next.rest, next.end, next.stands)

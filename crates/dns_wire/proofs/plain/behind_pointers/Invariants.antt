@@ -1,0 +1,12 @@
+use Rattle.std.proofs.Common.{◌≤◌}
+use Rattle.dns_wire.proofs.Copying.{Leads}
+use Rattle.dns_wire.proofs.plain.behind_pointers.Given as goal
+
+abbrev pub invariant-pointers : goal.invariant-pointers
+invariant-pointers l = record {
+  back : l.run ≤ l.at;
+  leads : Leads l.message l.at l.run;
+}
+
+abbrev pub decreases-pointers : goal.decreases-pointers
+decreases-pointers l = l.run
