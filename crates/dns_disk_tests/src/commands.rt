@@ -113,7 +113,7 @@ fn run(rt: &HostRuntime, heap: Heap, command: Command, out: &mut Vec<u8>, err: &
         Init(other, explain) => {
             let files = [file("example.zone", EXAMPLE), file("other.zone", other)];
             init::<Device, _, RecordList, _, _>(
-                alloc, heap, &devices, &config, &files, explain, out, err,
+                alloc, heap, &devices, &config, None, &files, explain, out, err,
             )
         }
         Dump(origin, explain) => dump::<Device, _, RecordList, _, _>(

@@ -136,10 +136,12 @@ impl<'a> Clients<'a> {
 impl Write for Clients<'_> {
     fn write(&mut self, octets: &[u8]) -> io::Result<usize> {
         self.log.extend_from_slice(octets)?;
-        self.line.extend_from_slice(octets)?;
-        if octets.ends_with(b"\n") {
-            self.act()?;
-            self.line.clear();
+        for octet in octets {
+            self.line.push(*octet)?;
+            if *octet == b'\n' {
+                self.act()?;
+                self.line.clear();
+            }
         }
         Ok(octets.len())
     }

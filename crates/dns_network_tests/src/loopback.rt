@@ -5,7 +5,7 @@ use crate::given::device;
 use dns_configuration::{DONE, File, REFUSED};
 use dns_memory::{Heap, heap};
 use dns_sectors::{DeviceError, MemorySectors, OpenDeviceError, Sector, Sectors};
-use dns_server::{Devices, serve};
+use dns_server::{Devices, ServeOptions, serve};
 use dns_zone::RecordList;
 use std::io;
 use std::test::Fail;
@@ -279,8 +279,13 @@ fn served(rt: &HostRuntime, heap: Heap, clients: &mut Clients<'_>, turns: u32) -
     let config = configuration(&text);
     let alloc = rt.alloc();
     let devices = InMemory { heap, root: None };
+    let options = ServeOptions {
+        turns: u64::from(turns),
+        is_quiet: false,
+        explain: false,
+    };
     let ended = serve::<MemorySectors, _, RecordList, _, _>(
-        alloc, heap, rt, &devices, &config, turns, false, clients,
+        alloc, heap, rt, &devices, &config, options, clients,
     );
     Ok(ended.status)
 }
@@ -334,14 +339,18 @@ fn refuses(rt: &HostRuntime, heap: Heap, root: &'static [u8], told: &str) -> io:
     let root = Some(root);
     let devices = InMemory { heap, root };
     let mut err = Vec::new(rt.alloc());
+    let options = ServeOptions {
+        turns: 1,
+        is_quiet: false,
+        explain: true,
+    };
     let ended = serve::<MemorySectors, _, RecordList, _, _>(
         rt.alloc(),
         heap,
         rt,
         &devices,
         &config,
-        1,
-        true,
+        options,
         &mut err,
     );
     Ok(ended.status == REFUSED && ended.devices.is_empty() && err.as_slice() == told.as_bytes())

@@ -1,13 +1,14 @@
 -- The messages of an answer, fed one after the other.
 use Rattle.std.proofs.Common.{◌≡◌, ℕ, ◌+◌, ◌<◌, suc, inl, inr, Bool, true, false, List, [], ◌∷◌, ◌++◌, length, map, take, drop, get_or, drop-cons, Option, Some, None, Result, Ok, Err, IfErr, refl, sym, ap, subst, ◌∙◌, append_assoc}
-use Rattle.std.specs.Prelude.{◌↔◌, ◌⊎◌, IsErrAnd}
+use Rattle.std.specs.Prelude.{◌↔◌, ◌⊎◌, ◌-◌, ◌^◌, IsErrAnd, min}
+use Rattle.std.proofs.Math.Nat.{min-le_left}
 use Rattle.std.proofs.lemmas.List.{append-nil, map-append, take-append-drop, take_more}
 use Rattle.dns_names.specs.Name.{Labels}
 use Rattle.dns_records.specs.Record.{Record}
 use Rattle.dns_zone.specs.Zone.{Zone}
 use Rattle.dns_wire.specs.Message.{Message, ResourceRecord}
 use Rattle.dns_wire.specs.Reads.{Reads}
-use Rattle.dns_secondary.specs.Received.{received_count}
+use Rattle.dns_secondary.specs.Received.{is_incremental, received_count}
 use Rattle.dns_secondary.specs.Receiving.{Receiving, header_fault}
 use Rattle.dns_secondary.specs.Rest.{Reaches, Rest, is_current}
 use Rattle.dns_secondary.specs.State.{State, Begun, Led}
@@ -21,7 +22,7 @@ use Rattle.dns_secondary.proofs.Runs.{reached_on, rest_of, rest_on}
 use Rattle.dns_server.specs.FetchFaults.{ComesOfAsking, fault_of_answer}
 use Rattle.dns_server.specs.declared.fetch_faults.FetchFault.{FetchFault}
 use Rattle.dns_server.specs.declared.fetch_faults.FetchFault.TheVariants as fetch
-use Rattle.dns_server.specs.TakingIn.{AreAnswersTo, IsGivenUp, IsRefusedIn, IsToldBy, TellEnd, TellMore, TellRefusal, Tells, asking, asking_at, most_records}
+use Rattle.dns_server.specs.TakingIn.{AreAnswersTo, IsGivenUp, IsTooMuch, IsRefusedIn, IsToldBy, TellEnd, TellMore, TellRefusal, Tells, asking, asking_at}
 
 -- More messages are fed.
 pub more_on : (s mid now : Receiving) (ms ns : List (List ℕ)) → TellMore s ms mid → TellMore mid ns now → TellMore s (ms ++ ns) now
@@ -212,17 +213,23 @@ refused_fed s now whole first later m octets e h parts is why =
       })
     ])
 
--- With a message more records are held than a zone may have.
-pub beyond_fed : (s now new : Receiving) (whole first later : List (List ℕ)) (m octets : List ℕ) (p : Progress) (count : ℕ) → TellMore s first now → whole ≡ first ++ m ∷ later → octets ≡ m → Feeds now octets p new → p ≡ More → count ≡ min (received_count new.state) (2 ^ 64 - 1) → most_records < count → TellRefusal s whole InvalidZone
-beyond_fed s now new whole first later m octets p count h parts is fed more counted many = record {
+-- With a message more records of a whole zone have come than one may have.
+pub beyond_fed : (s now new : Receiving) (whole first later : List (List ℕ)) (m octets : List ℕ) (p : Progress) → TellMore s first now → whole ≡ first ++ m ∷ later → octets ≡ m → Feeds now octets p new → p ≡ More → IsTooMuch new → TellRefusal s whole InvalidZone
+beyond_fed s now new whole first later m octets p h parts is fed more many = record {
   first = first;
   message = m;
   later = later;
   parts = parts;
   now = now;
   more = h;
-  refused = inr (refl, new, subst (λ (x : List ℕ). Feeds now x More new) is (subst (λ (q : Progress). Feeds now octets q new) more fed), omega (arith, counted, many, min-le-left (received_count new.state) (2 ^ 64 - 1)));
+  refused = inr (refl, new, subst (λ (x : List ℕ). Feeds now x More new) is (subst (λ (q : Progress). Feeds now octets q new) more fed), many);
 }
+
+-- One who holds more than can be counted holds too much.
+pub too_much : (s : Receiving) (count : ℕ) → is_incremental s.state ≡ false → count ≡ min (received_count s.state) (2 ^ 64 - 1) → 65536 < count → IsTooMuch s
+too_much s count whole counted many =
+    let few = min-le_left (received_count s.state) (2 ^ 64 - 1) in
+    record { whole = whole; many = omega (arith, counted, many, few) }
 
 -- What holds of a refusal holds where it is passed on.
 pub if_other : (P Q : Fault → Type 0) (e : FetchFault) → ((fault : Fault) → P fault → Q fault) → ComesOfAsking e P → ComesOfAsking e Q

@@ -11,7 +11,7 @@ use Rattle.dns_secondary.specs.Request.{request_octets}
 use Rattle.dns_secondary.specs.Rest.{Reaches}
 use Rattle.dns_secondary.specs.State.{State, Begun}
 use Rattle.dns_secondary.specs.Taken.{Taken}
-use Rattle.dns_secondary.specs.Received.{received_count}
+use Rattle.dns_secondary.specs.Received.{is_incremental, received_count}
 use Rattle.dns_secondary.specs.Told.{Feeds, RefusesFeed}
 use Rattle.dns_secondary.specs.declared.fault.Fault.{Fault}
 use Rattle.dns_secondary.specs.declared.fault.Fault.TheVariants.{InvalidZone}
@@ -56,13 +56,17 @@ pub record IsToldBy (apex : Labels) (held : Option Zone) (messages : List (List 
 abbrev pub most_records : ℕ
 most_records = 65536
 
--- A message is refused for this fault; or with it more records are held than a zone may have, so that the
--- answer is given up.
+-- More records of a whole zone have come than one may have.
+pub record IsTooMuch (s : Receiving) : Type 0 where
+  pub whole : is_incremental s.state ≡ false
+  pub many : most_records < received_count s.state
+
+-- A message is refused for this fault; or with it more records of a whole zone have come than one may have, so
+-- that the answer is given up.
 abbrev pub IsGivenUp : Receiving → List ℕ → Fault → Type 0
 IsGivenUp s message fault =
     RefusesFeed s message fault
-    ⊎ ((fault ≡ InvalidZone) × (next : Receiving) × Feeds s message More next
-    × (most_records < received_count next.state))
+    ⊎ ((fault ≡ InvalidZone) × (next : Receiving) × Feeds s message More next × IsTooMuch next)
 
 -- One of some messages is refused for this fault, or the answer is given up with it, after those before it,
 -- which are answers.

@@ -1,11 +1,11 @@
 //! A zone that is taken in over a stream: the request, and the answer as it comes (RFC 5936, RFC 1995).
-ghost use Rattle.std.specs.Prelude.{◌≡◌, ◌≤◌, [], length, map, take, Some, IfOk, IfErr};
+ghost use Rattle.std.specs.Prelude.{◌≡◌, ◌≤◌, true, [], length, map, take, Some, IfOk, IfErr};
 ghost use Rattle.dns_zone.specs.Zone.{Zone as Stated};
 ghost use Rattle.dns_network.specs.Framed.{pending_length};
 ghost use Rattle.dns_secondary.specs.Request.{request_octets};
 ghost use Rattle.dns_server.specs.FetchFaults.{ComesOfAsking};
 ghost use Rattle.dns_server.specs.TakingIn.{HasCarried, HasHeardEnd, HasHeardRefusal, IsAnswerRefused};
-ghost use Rattle.dns_server.specs.TakingIn.{IsTakenIn, Tells, TellRefusal};
+ghost use Rattle.dns_server.specs.TakingIn.{IsTakenIn, IsTooMuch, Tells, TellRefusal};
 
 use crate::fetch_faults::FetchFault;
 use crate::servers::WaitingStream;
@@ -89,8 +89,15 @@ fn read_some<S: WaitingStream>(stream: &mut S, into: &mut [u8]) -> Result<usize,
     Err(FetchFault::TimedOut)
 }
 
+/// Whether more records of a whole zone have come than one may have.
+fn is_too_much<I: ZoneIndex>(secondary: &Secondary<I>) -> bool
+    ensures { result ≡ true → IsTooMuch secondary.now }
+{
+    !secondary.is_incremental() && secondary.received_count() > MOST_RECORDS
+}
+
 /// Reads the messages of an answer in their order, until it is at its end, and answers whether it is. One that
-/// leads to more records than a zone may have is given up with the record that is one too many.
+/// brings more records of a whole zone than one may have is given up: no zone comes of it, whatever follows.
 fn hear<I: ZoneIndex>(
     heap: Heap,
     secondary: &mut Secondary<I>,
@@ -104,7 +111,7 @@ fn hear<I: ZoneIndex>(
     for message in messages {
         match secondary.feed(heap, message)? {
             Progress::More => {
-                if secondary.received_count() > MOST_RECORDS {
+                if is_too_much(secondary) {
                     return Err(FetchFault::Refused(Fault::InvalidZone));
                 }
             }

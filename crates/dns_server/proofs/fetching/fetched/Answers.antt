@@ -7,19 +7,19 @@ use Rattle.dns_server.proofs.fetching.fetched.Goals as goal
 
 pub returns-in-Err-held_version : goal.returns-in-Err-held_version
 returns-in-Err-held_version g c =
-    since_told g.S.Stream (g.V.Servers.reached c.args.servers.now) c.args.server.now c.args.origin.now (option_copied c.args.since) c.args.explain c.in-Err-held_version.fault c.in-Ok-apex.name (g.W.Write.contents c.args.out.now) (g.E.Write.contents c.args.err.now) (g.E.Write.contents c.tell_since.new.err) c.tell_since.result
-    c.in-Ok-apex.ensures c.in-Err-held_version.ensures.refused c.tell_since.ensures
+    since_told g.S.Stream (g.V.Servers.reached c.args.servers.now) c.args.server.now c.args.origin.now (option_copied c.args.since) c.args.explain c.in-Err-held_version.fault c.in-Ok.name (g.W.Write.contents c.args.out.now) (g.E.Write.contents c.args.err.now) (g.E.Write.contents c.tell_since.new.err) c.tell_since.result
+    c.in-Ok.ensures c.in-Err-held_version.ensures.refused c.tell_since.ensures
 
 pub returns-in-Ok-take_from : goal.returns-in-Ok-take_from
 returns-in-Ok-take_from g c =
     let since = option_copied c.args.since in
-    let asked : IsAskedFor c.args.server.now c.args.origin.now since c.in-Ok.address c.in-Ok-apex.name c.in-Ok-held_version.held = record {
-      address_is = c.in_default.ensures;
-      named = c.in-Ok-apex.ensures;
+    let asked : IsAskedFor c.args.server.now c.args.origin.now since c.in-Some.address c.in-Ok.name c.in-Ok-held_version.held = record {
+      address_is = c.in-Some.ensures;
+      named = c.in-Ok.ensures;
       from = c.in-Ok-held_version.ensures.held;
     } in
     let taken = c.in-Ok-take_from.ensures.taken in
-    shown g.S.Stream (g.V.Servers.reached c.args.servers.now) c.args.server.now c.args.origin.now since c.args.explain c.in-Ok.address c.in-Ok-apex.name c.in-Ok-held_version.held c.in-Ok-take_from.secondary.held taken.0 (g.W.Write.contents c.args.out.now) (g.W.Write.contents c.show_taken.new.out) (g.E.Write.contents c.args.err.now) c.show_taken.result
+    shown g.S.Stream (g.V.Servers.reached c.args.servers.now) c.args.server.now c.args.origin.now since c.args.explain c.in-Some.address c.in-Ok.name c.in-Ok-held_version.held c.in-Ok-take_from.secondary.held taken.0 (g.W.Write.contents c.args.out.now) (g.W.Write.contents c.show_taken.new.out) (g.E.Write.contents c.args.err.now) c.show_taken.result
     asked taken.1 taken.2 c.show_taken.ensures
 
 pub returns-in-Err-take_from : goal.returns-in-Err-take_from
@@ -32,11 +32,11 @@ returns-in-Err-take_from g c =
     let out = g.W.Write.contents c.args.out.now in
     let err = g.E.Write.contents c.args.err.now in
     let err_after = g.E.Write.contents c.tell_fetch-in-Err-take_from.new.err in
-    let asked : IsAskedFor server origin since c.in-Ok.address c.in-Ok-apex.name c.in-Ok-held_version.held = record {
-      address_is = c.in_default.ensures;
-      named = c.in-Ok-apex.ensures;
+    let asked : IsAskedFor server origin since c.in-Some.address c.in-Ok.name c.in-Ok-held_version.held = record {
+      address_is = c.in-Some.ensures;
+      named = c.in-Ok.ensures;
       from = c.in-Ok-held_version.ensures.held;
     } in
     fetch_told (λ (status : ℕ). FetchEnds g.S.Stream reached server origin since c.args.explain out out err err_after status) server fault c.args.explain err err_after c.tell_fetch-in-Err-take_from.result c.tell_fetch-in-Err-take_from.ensures
     (fetch_failed g.S.Stream reached server origin since c.args.explain out out err err_after)
-    (λ is said. answer_told g.S.Stream reached server origin since c.args.explain c.in-Ok.address c.in-Ok-apex.name c.in-Ok-held_version.held fault out err err_after asked c.in-Err-take_from.ensures.refused is said)
+    (λ is said. answer_told g.S.Stream reached server origin since c.args.explain c.in-Some.address c.in-Ok.name c.in-Ok-held_version.held fault out err err_after asked c.in-Err-take_from.ensures.refused is said)

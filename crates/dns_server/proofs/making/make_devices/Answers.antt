@@ -16,7 +16,7 @@ loop-place-preserved g c =
     let zone = c.index-zones-place.result in
     let n = c.loop-place.place in
     let zones = c.args.zones.now in
-    let has = subst (λ (z : ZoneSettings). HasDevice g.D.Sectors made z (get_or zones n zone)) c.index-settings-place.is (subst (λ (z : Zone). HasDevice g.D.Sectors made own z) c.index-zones-place.is (c.in_default._device, c.in_default.ensures)) in
+    let has = subst (λ (z : ZoneSettings). HasDevice g.D.Sectors made z (get_or zones n zone)) c.index-settings-place.is (subst (λ (z : Zone). HasDevice g.D.Sectors made own z) c.index-zones-place.is (c.in_default.field-0, c.in_default.ensures)) in
     rw add-one (pairs_more (HasDevice g.D.Sectors made) c.args.settings.now zones n own zone (omega arith) (omega (arith, c.requires)) c.loop-place.invariant has)
 
 pub returns-in-Err : goal.returns-in-Err

@@ -1,7 +1,7 @@
 use Rattle.std.proofs.Common.{inl, inr, arith, map}
 use Rattle.dns_server.specs.FetchFaults.{ComesOfAsking}
 use Rattle.dns_server.specs.TakingIn.{TellRefusal}
-use Rattle.dns_server.proofs.Heard.{ended_fed, err_goes, more_fed, next_at, refused_fed, split_at}
+use Rattle.dns_server.proofs.Heard.{beyond_fed, ended_fed, err_goes, more_fed, next_at, refused_fed, split_at}
 use Rattle.dns_server.proofs.taking_in.hear.Goals as goal
 
 pub returns-in_err-feed-clause-refused : goal.returns-in_err-feed-clause-refused
@@ -34,3 +34,10 @@ loop-message-preserved g c =
     let i = c.loop-message.message-index in
     let m = c.message-item.result in
     more_fed c.args.secondary.now c.loop-message.secondary c.feed.new.self _ _ m.items c.deref.result.now c.in_ok-feed.field-0 c.loop-message.invariant (next_at (λ m. m.items) c.args.messages.now i m (omega arith) c.message-item.is) c.deref.ensures.value c.in_ok-feed.ensures.fed c.in-More.is
+
+pub returns-then-branch-clause-refused : goal.returns-then-branch-clause-refused
+returns-then-branch-clause-refused g c =
+    let i = c.loop-message.message-index in
+    let m = c.message-item.result in
+    let parts = split_at (λ m. m.items) c.args.messages.now i m (omega arith) c.message-item.is in
+    beyond_fed c.args.secondary.now c.loop-message.secondary c.feed.new.self _ _ _ m.items c.deref.result.now c.in_ok-feed.field-0 c.loop-message.invariant parts c.deref.ensures.value c.in_ok-feed.ensures.fed c.in-More.is (c.is_too_much.ensures c.if-branch.true)
