@@ -21,16 +21,20 @@ fn copy_lower(text: &[u8], out: &mut [u8], at: usize)
 
 /// The offset of the labels or the root that the pointers from an offset on lead to, one after the other.
 fn behind_pointers(message: &[u8], at: usize) -> usize
-    requires { (name : Labels) × (end : ℕ) × NameAt message.now at name end }
+    requires name { (name : Labels) × (end : ℕ) × NameAt message.now at name end }
+    requires inside { at + 2 ≤ length message.now }
     ensures leads { (name : Labels) (end : ℕ) → NameAt message.now at name end
         → (after : ℕ) × NameAt message.now result name after }
     ensures back { result ≤ at }
 {
     let mut run = at;
-    'pointers: while message[run] >= 192 {
-        run = (number(message, run) - POINTER_BITS) as usize;
+    'pointers: loop {
+        let pointer = number(message, run);
+        if pointer < POINTER_BITS {
+            return run;
+        }
+        run = (pointer - POINTER_BITS) as usize;
     }
-    run
 }
 
 /// Writes the plain form of the name at an offset, in lower case, and gives its length.
