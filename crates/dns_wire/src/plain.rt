@@ -8,6 +8,9 @@ ghost use Rattle.dns_wire.specs.Viewed.{labels_at, IsViewed};
 use crate::fields::number;
 use crate::name::{POINTER_BITS, RunEnd, step};
 
+/// A pointer's other 14 bits are less than this (RFC 1035 section 4.1.4).
+const TARGETS: u16 = 16384;
+
 /// Writes octets in lower case over those from an offset on.
 fn copy_lower(text: &[u8], out: &mut [u8], at: usize)
     requires { at + length text.now ≤ length out.old }
@@ -33,7 +36,7 @@ fn behind_pointers(message: &[u8], at: usize) -> usize
         if pointer < POINTER_BITS {
             return run;
         }
-        run = (pointer - POINTER_BITS) as usize;
+        run = (pointer % TARGETS) as usize;
     }
 }
 

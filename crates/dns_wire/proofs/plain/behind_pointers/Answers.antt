@@ -1,4 +1,4 @@
-use Rattle.std.proofs.Common.{◌≡◌, ◌<◌, ◌+◌, ◌*◌, ◌≤◌, ◌-◌, ◌∙◌, length, get_or, subst, ℕ, arith}
+use Rattle.std.proofs.Common.{◌≡◌, ◌<◌, ◌+◌, ◌*◌, ◌≤◌, ◌-◌, ◌%◌, ◌∙◌, length, get_or, subst, ℕ, arith}
 use Rattle.std.proofs.lemmas.Option.{slice_get-get_or}
 use Rattle.dns_wire.specs.NameAt.{IsPointer}
 use Rattle.dns_wire.specs.NameLaws.{pointer_unique}
@@ -16,8 +16,9 @@ pointers-smaller c =
     let octets : n ≡ get_or m run 0 * 256 + get_or m (run + 1) 0 = c.number-pointer.ensures.read ∙ two_octets_of m run c.number-pointer.ensures.inside in
     let marked : 192 ≤ get_or m run 0 = omega (arith, octets, c.type_inv.message (run + 1), c.if-pointer-lt-POINTER_BITS.false) in
     let k = pointed_here m c.args.at run c.requires.name.0 c.requires.name.1 c.pointers.invariant.leads c.requires.name.2 low marked in
-    let made : IsPointer m run (n - 49152) = pointer_made m run n marked c.number-pointer.ensures in
-    subst (λ (x : ℕ). x < run) (pointer_unique m run k.target (n - 49152) k.pointer made) k.back
+    let same : n - 49152 ≡ n % 16384 = omega (arith, c.if-pointer-lt-POINTER_BITS.false, c.number-pointer.type_inv) in
+    let made : IsPointer m run (n % 16384) = subst (λ (x : ℕ). IsPointer m run x) same (pointer_made m run n marked c.number-pointer.ensures) in
+    subst (λ (x : ℕ). x < run) (pointer_unique m run k.target (n % 16384) k.pointer made) k.back
 
 pub pointers-preserved : goal.pointers-preserved
 pointers-preserved c =
@@ -28,9 +29,10 @@ pointers-preserved c =
     let octets : n ≡ get_or m run 0 * 256 + get_or m (run + 1) 0 = c.number-pointer.ensures.read ∙ two_octets_of m run c.number-pointer.ensures.inside in
     let marked : 192 ≤ get_or m run 0 = omega (arith, octets, c.type_inv.message (run + 1), c.if-pointer-lt-POINTER_BITS.false) in
     let k = pointed_here m c.args.at run c.requires.name.0 c.requires.name.1 c.pointers.invariant.leads c.requires.name.2 low marked in
-    let made : IsPointer m run (n - 49152) = pointer_made m run n marked c.number-pointer.ensures in
-    let less : n - 49152 < run = subst (λ (x : ℕ). x < run) (pointer_unique m run k.target (n - 49152) k.pointer made) k.back in
+    let same : n - 49152 ≡ n % 16384 = omega (arith, c.if-pointer-lt-POINTER_BITS.false, c.number-pointer.type_inv) in
+    let made : IsPointer m run (n % 16384) = subst (λ (x : ℕ). IsPointer m run x) same (pointer_made m run n marked c.number-pointer.ensures) in
+    let less : n % 16384 < run = subst (λ (x : ℕ). x < run) (pointer_unique m run k.target (n % 16384) k.pointer made) k.back in
     record {
       back = omega (arith, less, c.pointers.invariant.back);
-      leads = leads_next m c.args.at run (get_or m run 0) (n - 49152) (slice_get-get_or m run 0 low) marked made c.pointers.invariant.leads;
+      leads = leads_next m c.args.at run (get_or m run 0) (n % 16384) (slice_get-get_or m run 0 low) marked made c.pointers.invariant.leads;
     }
