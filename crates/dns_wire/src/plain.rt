@@ -8,6 +8,9 @@ ghost use Rattle.dns_wire.specs.Viewed.{labels_at, IsViewed};
 use crate::fields::number;
 use crate::name::{POINTER_BITS, RunEnd, step};
 
+/// A pointer's other 14 bits are less than this (RFC 1035 section 4.1.4).
+const TARGETS: u16 = 16384;
+
 /// Writes octets in lower case over those from an offset on.
 fn copy_lower(text: &[u8], out: &mut [u8], at: usize)
     requires { at + length text.now ≤ length out.old }
@@ -21,16 +24,20 @@ fn copy_lower(text: &[u8], out: &mut [u8], at: usize)
 
 /// The offset of the labels or the root that the pointers from an offset on lead to, one after the other.
 fn behind_pointers(message: &[u8], at: usize) -> usize
-    requires { (name : Labels) × (end : ℕ) × NameAt message.now at name end }
+    requires name { (name : Labels) × (end : ℕ) × NameAt message.now at name end }
+    requires inside { at + 2 ≤ length message.now }
     ensures leads { (name : Labels) (end : ℕ) → NameAt message.now at name end
         → (after : ℕ) × NameAt message.now result name after }
     ensures back { result ≤ at }
 {
     let mut run = at;
-    'pointers: while message[run] >= 192 {
-        run = (number(message, run) - POINTER_BITS) as usize;
+    'pointers: loop {
+        let pointer = number(message, run);
+        if pointer < POINTER_BITS {
+            return run;
+        }
+        run = (pointer % TARGETS) as usize;
     }
-    run
 }
 
 /// Writes the plain form of the name at an offset, in lower case, and gives its length.

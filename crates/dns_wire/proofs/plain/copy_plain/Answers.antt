@@ -86,8 +86,8 @@ runs-preserved c =
       copied = far;
     }
 
-pub behind_pointers-run-requires : goal.behind_pointers-run-requires
-behind_pointers-run-requires c =
+pub behind_pointers-run-requires-clause-name : goal.behind_pointers-run-requires-clause-name
+behind_pointers-run-requires-clause-name c =
     let m = c.args.message.now in
     let out = c.runs.out in
     let stop = c.in-Pointer.stop in
@@ -96,3 +96,9 @@ behind_pointers-run-requires c =
     let new = c.copy_lower-in-Pointer.new.out in
     let next = copied_next m out c.runs.run c.runs.size (labels_at m c.args.at) f.0 stop c.in-Pointer.target new (drop (c.runs.size + length (slice_range m c.runs.run stop)) out) text f.1 f.2 refl c.copy_lower-in-Pointer.ensures c.runs.invariant.copied in
     (next.rest, next.end, next.stands)
+
+pub behind_pointers-run-requires-clause-inside : goal.behind_pointers-run-requires-clause-inside
+behind_pointers-run-requires-clause-inside c =
+    let m = c.args.message.now in
+    let f = rw c.in-Pointer.is at c.in-Ok.ensures.found in
+    omega (arith, f.4, run_up m c.runs.run f.0 c.in-Pointer.stop f.1, slice_get_within m (c.in-Pointer.stop + 1) f.2.low f.2.second)
