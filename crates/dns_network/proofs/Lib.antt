@@ -6,3 +6,4 @@ mod ReadAhead
 pub mod Running
 pub mod Steps
 mod Taken
+mod Used
