@@ -7,3 +7,4 @@ pub mod Running
 pub mod Steps
 mod Taken
 mod Used
+mod Visited

@@ -1,5 +1,5 @@
 //! Turns: what is done with the network, one turn after the other.
-ghost use Rattle.std.specs.Prelude.{◌≡◌, ◌⊎◌, ◌↔◌, ◌≤◌, ◌<◌, ℕ, Bool, List, [], map, replicate, false};
+ghost use Rattle.std.specs.Prelude.{◌≡◌, ◌⊎◌, ◌≤◌, ◌<◌, ℕ, Bool, List, [], map, replicate, false};
 ghost use Rattle.std.specs.Prelude.{None, slice_get, slice_set, IfOk, IsTrue};
 ghost use Rattle.dns_primary.specs.declared.event.Effects.{Effects as StatedEffects};
 ghost use Rattle.dns_primary.specs.Keeps.{IsKept, header_out, reply_out};
@@ -213,8 +213,7 @@ impl<S: Stream + Drop> Edge<S> {
         let effects = primary.step(alloc, Event::Connect(peer));
         tell(notes, effects.noted);
         let Some(number) = effects.accepted else {
-            notes.note(Note::Refused);
-            return;
+            return notes.note(Note::Refused);
         };
         notes.note(Note::Opened(number, peer));
         let connection = Connection::new(alloc, stream, now);
@@ -234,8 +233,10 @@ impl<S: Stream + Drop> Edge<S> {
         primary: &Primary<I, D>,
         address: IpAddr,
     ) -> bool
-        ensures { (m : Machine) → IsKept primary.now m → IsTrue result
-            ↔ (places_for_all ≤ open_count (connections_of self.now)) × (IsListed m address → ⊥) }
+        ensures full { IsTrue result → places_for_all ≤ open_count (connections_of self.now) }
+        ensures unlisted { IsTrue result → (m : Machine) → IsKept primary.now m → IsListed m address → ⊥ }
+        ensures allowed { result ≡ false → (m : Machine) → IsKept primary.now m
+            → (open_count (connections_of self.now) < places_for_all) ⊎ IsListed m address }
     {
         self.connections.open_count() >= PLACES_FOR_ALL && !primary.lists(address)
     }
@@ -320,8 +321,7 @@ impl<S: Stream + Drop> Edge<S> {
         ensures moments { MomentsLead S.Stream N.Network L.Notes now
             (served primary.old self.old network.old notes.old)
             (served primary.new self.new network.new notes.new) }
-        ensures silent {
-            IsGoneOr (λ c. IsSilent now c ⊎ IsInUse now c) (slice_get (connections_of self.old) number)
+        ensures silent { IsGoneOr (λ c. IsSilent now c ⊎ IsInUse now c) (slice_get (connections_of self.old) number)
             → IsGoneOr (IsInUse now) (slice_get (connections_of self.new) number) }
     {
         let Ok(moved) = self.connections.read(alloc, number, &mut self.buffer) else {
