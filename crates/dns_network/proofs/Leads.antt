@@ -29,7 +29,7 @@ use Rattle.dns_network.specs.declared.network.Network.{Ghosts}
 use Rattle.dns_network.specs.declared.network.Note.TheVariants as note
 use Rattle.dns_network.specs.declared.network.Notes as notes
 use Rattle.dns_network.specs.Delivery.{Served, Going, TakesEvent, AreGoing, AreSent, HasEffects, IsSent, reply_to_send}
-use Rattle.dns_network.specs.Turn.{TurnMoment, Asks, Moves, Happens, Closes, HasAsked, HasHappened, EventComes, IsCauseNoted, IsMoment, IsTurn, MomentsLead, NoneWaits}
+use Rattle.dns_network.specs.Turn.{TurnMoment, Asks, Moves, Happens, Closes, HasAsked, HasHappened, EventComes, IsCauseNoted, IsMoment, AreDone, MomentsLead, NoneWaits}
 use Rattle.dns_network.proofs.Pushed.{set_there}
 use Rattle.dns_network.proofs.Steps.{steps_on}
 
@@ -96,13 +96,13 @@ module _ {I D S N L : Type 0} {i : index.Ghosts I} {d : store.Ghosts D} (s : str
   and_on a b c (first, is) (later, more) = (first ++ later, steps_on (λ old one new. IsMoment s n l now one old new) first later a b c is more)
 
   -- an event happens, and so do its effects
-  pub happened : (event : Event) (effects : Effects) (goings : List Going) (old given told new : Served I D S N L i d) → EventComes n event old given
+  pub happened : (event : Event) (effects : Effects) (goings : List Going) (old given told new : Served I D S N L i d) → EventComes n now event old given
       → TakesEvent given.primary event told.primary effects → told ≡ record given { primary = told.primary }
-      → HasEffects n l effects goings told new → HasHappened n l event effects goings old new
+      → HasEffects n l effects goings told new → HasHappened n l now event effects goings old new
   happened event effects goings old given told new is_given takes rest is =
       record { given = given; is_given = is_given; told = told; takes = takes; rest = rest; happened = is }
 
-  pub happens : (event : Event) (effects : Effects) (old given told new : Served I D S N L i d) → EventComes n event old given
+  pub happens : (event : Event) (effects : Effects) (old given told new : Served I D S N L i d) → EventComes n now event old given
       → TakesEvent given.primary event told.primary effects → told ≡ record given { primary = told.primary }
       → (goings : List Going) × HasEffects n l effects goings told new → MomentsLead s n l now old new
   happens event effects old given told new is_given takes rest (goings, is) =
@@ -110,13 +110,13 @@ module _ {I D S N L : Type 0} {i : index.Ghosts I} {d : store.Ghosts D} (s : str
 
   -- a turn after which no reply waits, and one after which one does
   pub not_flushed : (old new : Served I D S N L i d) → MomentsLead s n l now old new → NoneWaits new.primary
-      → (moments : List TurnMoment) × IsTurn s n l now moments old new
+      → (moments : List TurnMoment) × AreDone s n l now moments old new
   not_flushed old new (moments, done) none =
       (moments ++ [], record { first = moments; last = []; are = refl; between = new; done = done; flushed = refl; flush = inl (refl, none) })
 
   pub flush_after : (old done looked flushed new : Served I D S N L i d) (effects : Effects) (goings : List Going) → MomentsLead s n l now old done
-      → HasAsked n done looked → HasHappened n l Flush effects goings looked flushed → HasAsked n flushed new
-      → (moments : List TurnMoment) × IsTurn s n l now moments old new
+      → HasAsked n done looked → HasHappened n l now Flush effects goings looked flushed → HasAsked n flushed new
+      → (moments : List TurnMoment) × AreDone s n l now moments old new
   flush_after old done looked flushed new effects goings (moments, first) before flush pending =
       let last = Asks ∷ Happens Flush effects goings ∷ Asks ∷ [] in (
         moments ++ last,

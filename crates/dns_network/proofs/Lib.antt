@@ -6,3 +6,5 @@ mod ReadAhead
 pub mod Running
 pub mod Steps
 mod Taken
+mod Used
+mod Visited

@@ -10,14 +10,14 @@ use Rattle.dns_network.specs.declared.network.Network.{Ghosts}
 use Rattle.dns_network.specs.declared.network.Note.{Note}
 use Rattle.dns_network.specs.declared.network.Note.TheVariants as note
 use Rattle.dns_network.specs.declared.network.Notes as notes
-use Rattle.dns_network.specs.Closing.{Cause, HasEnded, Silent, NoMemory, NoPlace}
+use Rattle.dns_network.specs.Closing.{Cause, HasEnded, Silent, Stalled, NoMemory, NoPlace}
 use Rattle.dns_network.specs.Connections.{is_open}
 use Rattle.dns_network.specs.Delivery.{ClosedInstead, HasNoted, IsSent, Served}
 use Rattle.dns_network.specs.Notes.{AreNoted, notes_of, notes_of_opened}
-use Rattle.dns_network.specs.NotesOfTurns.{AreNotesOfEach, AreNotesOfMoment, AreNotesOfReply, AreNotesOfTurns}
+use Rattle.dns_network.specs.NotesOfTurns.{AreNotesOfEach, AreNotesOfMoment, AreNotesOfReply, AreNotesOfTurn, AreNotesOfTurns}
 use Rattle.dns_network.specs.Steps.{AreSteps}
-use Rattle.dns_network.specs.Turn.{AreTurns, ClosedFor, EventComes, HasAsked, IsCauseNoted, IsMoment, IsRound, IsTurn}
-use Rattle.dns_network.specs.Turn.{TurnMoment, Asks, Moves, Connects, Happens, Closes}
+use Rattle.dns_network.specs.Turn.{AreTurns, ClosedFor, EventComes, HasAsked, IsCauseNoted, IsMoment, IsRound, AreDone, IsTurn}
+use Rattle.dns_network.specs.Turn.{TurnMoment, Asks, Moves, Connects, Refuses, Happens, Closes}
 use Rattle.dns_network.proofs.Steps.{steps_on}
 
 module _ {L : Type 0} (l : notes.Ghosts L) where
@@ -56,14 +56,14 @@ module _ {I D S N L : Type 0} {i : index.Ghosts I} {d : store.Ghosts D} (s : str
   sent_noted to.Nowhere reply true old new h = absurd h
 
   -- Nothing is noted where an event comes.
-  come_noted : (event : Event) (old given : Served I D S N L i d) → EventComes n event old given → given.notes ≡ old.notes
-  come_noted (Datagram peer octets) old given h = ap log_of h.0
-  come_noted (Arrives number message) old given h = ap log_of h.4
-  come_noted (Pump number) old given h = ap log_of h
-  come_noted Flush old given h = ap log_of h
-  come_noted (Connect peer) old given h = absurd h
-  come_noted (Checkpoint place) old given h = absurd h
-  come_noted (Closed number) old given h = absurd h
+  come_noted : (now : ℕ) (event : Event) (old given : Served I D S N L i d) → EventComes n now event old given → given.notes ≡ old.notes
+  come_noted now (Datagram peer octets) old given h = ap log_of h.0
+  come_noted now (Arrives number message) old given h = ap log_of h.4
+  come_noted now (Pump number) old given h = ap log_of h
+  come_noted now Flush old given h = ap log_of h
+  come_noted now (Connect peer) old given h = absurd h
+  come_noted now (Checkpoint place) old given h = absurd h
+  come_noted now (Closed number) old given h = absurd h
 
   closed_noted : (now number : ℕ) (cause : Cause) (old new : Served I D S N L i d) → ClosedFor s l now number cause old new → Took l (AreNotesOfMoment (Closes number cause)) old.notes new.notes
   closed_noted now number cause old new is = go cause is.noted
@@ -74,6 +74,7 @@ module _ {I D S N L : Type 0} {i : index.Ghosts I} {d : store.Ghosts D} (s : str
       go : (cause : Cause) → IsCauseNoted l cause old is.told → Took l (AreNotesOfMoment (Closes number cause)) old.notes new.notes
       go HasEnded same = (note.Closed number ∷ [], refl, alone same)
       go Silent same = (note.Closed number ∷ [], refl, alone same)
+      go Stalled same = (note.Closed number ∷ [], refl, alone same)
       go NoMemory first = (note.OutOfMemory ∷ note.Closed number ∷ [], refl, (is.told.notes, first.noted, (new.notes, is.closed.noted, refl)))
       go NoPlace same = (note.Closed number ∷ [], refl, alone same)
 
@@ -81,8 +82,9 @@ module _ {I D S N L : Type 0} {i : index.Ghosts I} {d : store.Ghosts D} (s : str
   moment_noted now Asks old new h = ([], refl, ap log_of h.rest)
   moment_noted now (Moves number) old new h = ([], refl, ap log_of h.rest)
   moment_noted now (Connects peer effects) old new h = (notes_of effects.noted ++ notes_of_opened effects.accepted peer, refl, h.taken.noted)
+  moment_noted now (Refuses peer) old new h = (note.Refused ∷ [], refl, (new.notes, h.noted, refl))
   moment_noted now (Happens event effects goings) old new h =
-      let told : h.told.notes ≡ old.notes = ap log_of h.rest ∙ come_noted event old h.given h.is_given in
+      let told : h.told.notes ≡ old.notes = ap log_of h.rest ∙ come_noted now event old h.given h.is_given in
       let closings = steps_noted l log_of (λ x one y. IsSent n l one.to one.octets one.cut x y) (λ one. AreNotesOfReply one.to one.octets one.cut) (λ x one y sent. sent_noted one.to one.octets one.cut x y sent) goings h.told h.happened.between h.happened.sent in (
         closings.0 ++ notes_of effects.noted,
         (closings.0, closings.1, refl),
@@ -91,22 +93,34 @@ module _ {I D S N L : Type 0} {i : index.Ghosts I} {d : store.Ghosts D} (s : str
       )
   moment_noted now (Closes number cause) old new h = closed_noted now number cause old new h
 
-  turn_noted : (now : ℕ) (moments : List TurnMoment) (old new : Served I D S N L i d) → IsTurn s n l now moments old new → Took l (AreNotesOfEach AreNotesOfMoment moments) old.notes new.notes
-  turn_noted now moments old new is =
+  done_noted : (now : ℕ) (moments : List TurnMoment) (old new : Served I D S N L i d) → AreDone s n l now moments old new → Took l (AreNotesOfEach AreNotesOfMoment moments) old.notes new.notes
+  done_noted now moments old new is =
       let step = λ (x : Served I D S N L i d) (one : TurnMoment) (y : Served I D S N L i d). IsMoment s n l now one x y in
       subst (λ (all : List TurnMoment). Took l (AreNotesOfEach AreNotesOfMoment all) old.notes new.notes) (sym is.are)
       (steps_noted l log_of step AreNotesOfMoment (λ x one y h. moment_noted now one x y h) (is.first ++ is.last) old new (steps_on step is.first is.last old is.between new is.done is.flushed))
+
+  turn_noted : (now : ℕ) (moments : List TurnMoment) (old new : Served I D S N L i d) → IsTurn s n l now moments old new → Took l (AreNotesOfTurn moments) old.notes new.notes
+  turn_noted now moments old new is =
+      let within = done_noted now moments is.begun is.ended is.done in (
+        note.Begins now ∷ within.0 ++ note.Ends ∷ [],
+        (now, within.0, within.1, refl),
+        (
+          is.begun.notes,
+          is.begins.noted,
+          steps_on (λ x a y. l.takes x a y) within.0 (note.Ends ∷ []) is.begun.notes is.ended.notes new.notes within.2 (new.notes, is.ends.noted, refl),
+        ),
+      )
 
   -- Nothing is noted where the network is asked, or waits.
   rest_noted : (old new : Served I D S N L i d) → (new ≡ old) ⊎ HasAsked n old new → new.notes ≡ old.notes
   rest_noted old new (inl same) = ap log_of same
   rest_noted old new (inr asked) = ap log_of asked.rest
 
-  round_noted : (moments : List TurnMoment) (old new : Served I D S N L i d) → IsRound s n l moments old new → Took l (AreNotesOfEach AreNotesOfMoment moments) old.notes new.notes
+  round_noted : (moments : List TurnMoment) (old new : Served I D S N L i d) → IsRound s n l moments old new → Took l (AreNotesOfTurn moments) old.notes new.notes
   round_noted moments old new is =
-      let told = AreNotesOfEach AreNotesOfMoment moments in
+      let told = AreNotesOfTurn moments in
       subst (λ (x : L). Took l told x new.notes) (rest_noted old is.begun is.before)
       (subst (λ (x : L). Took l told is.begun.notes x) (sym (rest_noted is.ended new is.after)) (turn_noted is.now moments is.begun is.ended is.turn))
 
   pub turns_noted : (turns : List (List TurnMoment)) (old new : Served I D S N L i d) → AreTurns s n l turns old new → Took l (AreNotesOfTurns turns) old.notes new.notes
-  turns_noted = steps_noted l log_of (λ x moments y. IsRound s n l moments x y) (AreNotesOfEach AreNotesOfMoment) (λ x moments y h. round_noted moments x y h)
+  turns_noted = steps_noted l log_of (λ x moments y. IsRound s n l moments x y) AreNotesOfTurn (λ x moments y h. round_noted moments x y h)

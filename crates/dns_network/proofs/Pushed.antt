@@ -1,6 +1,6 @@
 -- What is done with what is at a position.
 use Rattle.std.proofs.Common.{◌≡◌, inl, inr, ℕ, zero, suc, ◌<◌, List, [], ◌∷◌, ◌++◌, length, Option, Some, None, Result, Ok, Err, refl, sym, ap, ◌∙◌, subst, slice_set, get_or}
-use Rattle.std.specs.Prelude.{slice_get, OnOk, OnErr, IfOk, IfNone, MatchOption}
+use Rattle.std.specs.Prelude.{slice_get, OnOk, OnErr, IfOk, IfNone, OnSome, MatchOption}
 use Rattle.std.specs.Option.{option_map}
 use Rattle.std.proofs.lemmas.List.{set-get_or}
 use Rattle.std.proofs.lemmas.Option.{slice_get_read}
@@ -9,7 +9,7 @@ use Rattle.dns_network.specs.declared.stream.Stream.{Ghosts}
 use Rattle.dns_network.specs.declared.stream.Moved.{Moved}
 use Rattle.dns_network.specs.declared.stream.Moved.TheVariants.{Later}
 use Rattle.dns_network.specs.Framed.{pending_length}
-use Rattle.dns_network.specs.Connection.{IsQueued, MovesOn, heard_of, held_of, rest_of, unwritten_of, stream_of, unhandled}
+use Rattle.dns_network.specs.Connection.{IsQueued, MovesOn, held_of, rest_of, unwritten_of, stream_of, unhandled, used_of}
 use Rattle.dns_network.specs.Connections.{IsPushedTo, IsReplyPushed, HasBecome, HasMovedAt, HandsOver}
 use Rattle.dns_network.proofs.Framed.{joined, apart}
 
@@ -78,13 +78,13 @@ module _ {S : Type 0} (number : ℕ) (old : List (Option (Connection S))) (size 
       → HasMovedAt s now number moved old (slice_set old number (Some d))
   moved_one s now moved c d is on = inr (become_one (MovesOn s now moved) c d is on)
 
-  pub handed_one : {M : Type 0} (octets : M → List ℕ) (handed : Option M) (c d : Connection S) → here ≡ Some c
+  pub handed_one : {M : Type 0} (octets : M → List ℕ) (handed : Option M) (now : ℕ) (c d : Connection S) → here ≡ Some c
       → MatchOption handed (held_of c ≡ []) (λ m. held_of c ≡ octets m ∷ held_of d)
-      → unwritten_of d ≡ unwritten_of c → stream_of d ≡ stream_of c → rest_of d ≡ rest_of c → heard_of d ≡ heard_of c → IfNone handed (d ≡ c)
-      → HandsOver number (option_map octets handed) old (slice_set old number (Some d))
-  handed_one octets None c d is first left stream rest heard none = (
+      → unwritten_of d ≡ unwritten_of c → stream_of d ≡ stream_of c → rest_of d ≡ rest_of c → OnSome handed (used_of d ≡ now) → IfNone handed (d ≡ c)
+      → HandsOver now number (option_map octets handed) old (slice_set old number (Some d))
+  handed_one octets None now c d is first left stream rest used none = (
     ap (slice_set old number) (ap Some none ∙ sym is) ∙ nothing_there,
     λ c' there. ap held_at (sym there ∙ at ∙ ap Some is) ∙ first,
   )
-  handed_one octets (Some m) c d is first left stream rest heard none =
-      (c, d, at ∙ ap Some is, record { came = one_less (octets m) c d first rest; left = left; stream = stream; heard = heard }, refl)
+  handed_one octets (Some m) now c d is first left stream rest used none =
+      (c, d, at ∙ ap Some is, record { came = one_less (octets m) c d first rest; left = left; stream = stream; used = used }, refl)

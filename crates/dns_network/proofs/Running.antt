@@ -20,9 +20,9 @@ use Rattle.dns_network.specs.declared.network.Network.{Ghosts}
 use Rattle.dns_network.specs.declared.network.Note.{Note}
 use Rattle.dns_network.specs.declared.network.Note.TheVariants as note
 use Rattle.dns_network.specs.declared.network.Notes as notes
-use Rattle.dns_network.specs.Closing.{Cause, HasEnded, Silent, NoMemory, NoPlace}
+use Rattle.dns_network.specs.Closing.{Cause, HasEnded, Silent, Stalled, NoMemory, NoPlace}
 use Rattle.dns_network.specs.Delivery.{Served, Going, AreGoing, HasEffects, HasNoted, IsSent, TakesEvent}
-use Rattle.dns_network.specs.Turn.{TurnMoment, Asks, Moves, Connects, Happens, Closes, AreMoments, AreTurns, HasAsked, EventComes, IsCauseNoted, IsMoment, IsTurn}
+use Rattle.dns_network.specs.Turn.{TurnMoment, Asks, Moves, Connects, Refuses, Happens, Closes, AreMoments, AreTurns, HasAsked, EventComes, IsCauseNoted, IsMoment, AreDone, IsTurn}
 use Rattle.dns_network.specs.Runs.{IsRunOf, IsStepOf, Told, closed_for, closing, told_by, told_in, told_of}
 
 run_on : (first later : List Moment) (m : Machine) → Run m first → Run (last_of m first) later → Run m (first ++ later)
@@ -109,6 +109,7 @@ module _ {I D S N L : Type 0} {i : index.Ghosts I} {d : store.Ghosts D} (n : Gho
   cause_stays : (cause : Cause) (old new : Served I D S N L i d) → IsCauseNoted l cause old new → new.primary ≡ old.primary
   cause_stays HasEnded old new same = ap (λ (x : Served I D S N L i d). x.primary) same
   cause_stays Silent old new same = ap (λ (x : Served I D S N L i d). x.primary) same
+  cause_stays Stalled old new same = ap (λ (x : Served I D S N L i d). x.primary) same
   cause_stays NoMemory old new noted = noted_stays note.OutOfMemory old new noted
   cause_stays NoPlace old new same = ap (λ (x : Served I D S N L i d). x.primary) same
 
@@ -144,14 +145,14 @@ module _ {I D S N L : Type 0} {i : index.Ghosts I} {d : store.Ghosts D} (n : Gho
         kept = stays is.between new (last_of m run.run) (ap (λ (x : Served I D S N L i d). x.primary) is.rest) run.kept;
       }
 
-  given_stays : (event : Event) (old given : Served I D S N L i d) → EventComes n event old given → given.primary ≡ old.primary
-  given_stays (Datagram peer octets) old given is = ap (λ (x : Served I D S N L i d). x.primary) is.0
-  given_stays (Arrives number message) old given is = ap (λ (x : Served I D S N L i d). x.primary) is.4
-  given_stays (Pump number) old given is = ap (λ (x : Served I D S N L i d). x.primary) is
-  given_stays Flush old given is = ap (λ (x : Served I D S N L i d). x.primary) is
-  given_stays (Connect peer) old given is = absurd is
-  given_stays (Checkpoint place) old given is = absurd is
-  given_stays (Closed number) old given is = absurd is
+  given_stays : (now : ℕ) (event : Event) (old given : Served I D S N L i d) → EventComes n now event old given → given.primary ≡ old.primary
+  given_stays now (Datagram peer octets) old given is = ap (λ (x : Served I D S N L i d). x.primary) is.0
+  given_stays now (Arrives number message) old given is = ap (λ (x : Served I D S N L i d). x.primary) is.4
+  given_stays now (Pump number) old given is = ap (λ (x : Served I D S N L i d). x.primary) is
+  given_stays now Flush old given is = ap (λ (x : Served I D S N L i d). x.primary) is
+  given_stays now (Connect peer) old given is = absurd is
+  given_stays now (Checkpoint place) old given is = absurd is
+  given_stays now (Closed number) old given is = absurd is
 
   asked_stays : (old new : Served I D S N L i d) → HasAsked n old new → new.primary ≡ old.primary
   asked_stays old new is = ap (λ (x : Served I D S N L i d). x.primary) is.rest
@@ -163,9 +164,11 @@ module _ {I D S N L : Type 0} {i : index.Ghosts I} {d : store.Ghosts D} (s : str
   moment_told now (Moves number) old new m is kept =
       none_told (λ e. IsKept new.primary e) m (stays n l old new m (ap (λ (x : Served I D S N L i d). x.primary) is.rest) kept)
   moment_told now (Connects peer effects) old new m is kept = event_told (Connect peer) effects old.primary new.primary m is.taken.told kept
+  moment_told now (Refuses peer) old new m is kept =
+      none_told (λ e. IsKept new.primary e) m (stays n l old new m (ap (λ (x : Served I D S N L i d). x.primary) is.rest) kept)
   moment_told now (Happens event effects goings) old new m is kept =
       told_on (told_of event effects ∷ []) (flat_map (λ going. closed_for going.to going.cut) goings) (λ e. IsKept is.told.primary e) (λ e. IsKept new.primary e) m
-      (event_told event effects is.given.primary is.told.primary m is.takes (stays n l old is.given m (given_stays n l event old is.given is.is_given) kept))
+      (event_told event effects is.given.primary is.told.primary m is.takes (stays n l old is.given m (given_stays n l now event old is.given is.is_given) kept))
       (λ e kept'. effects_told n l effects goings is.told new e is.happened kept')
   moment_told now (Closes number cause) old new m is kept =
       closing_told number is.closed.effects is.told.primary new.primary m is.closed.told (stays n l old is.told m (cause_stays n l cause old is.told is.noted) kept)
@@ -182,13 +185,25 @@ module _ {I D S N L : Type 0} {i : index.Ghosts I} {d : store.Ghosts D} (s : str
   paused old new m (inl same) kept = stays n l old new m (ap (λ (x : Served I D S N L i d). x.primary) same) kept
   paused old new m (inr asked) kept = stays n l old new m (asked_stays n l old new asked) kept
 
-  turn_told : (now : ℕ) (moments : List TurnMoment) (old new : Served I D S N L i d) (m : Machine) → IsTurn s n l now moments old new → IsKept old.primary m
+  done_told : (now : ℕ) (moments : List TurnMoment) (old new : Served I D S N L i d) (m : Machine) → AreDone s n l now moments old new → IsKept old.primary m
       → RunsTo (flat_map told_in moments) m (λ e. IsKept new.primary e)
-  turn_told now moments old new m is kept =
+  done_told now moments old new m is kept =
       subst (λ (l : List Told). RunsTo l m (λ e. IsKept new.primary e))
       (told_append is.first is.last ∙ ap (flat_map told_in) (sym is.are))
       (told_on (flat_map told_in is.first) (flat_map told_in is.last) (λ e. IsKept is.between.primary e) (λ e. IsKept new.primary e) m
       (moments_told now is.first old is.between m is.done kept) (λ e kept'. moments_told now is.last is.between new e is.flushed kept'))
+
+  -- what is noted changes nothing of it
+  turn_told : (now : ℕ) (moments : List TurnMoment) (old new : Served I D S N L i d) (m : Machine) → IsTurn s n l now moments old new → IsKept old.primary m
+      → RunsTo (flat_map told_in moments) m (λ e. IsKept new.primary e)
+  turn_told now moments old new m is kept =
+      let run = done_told now moments is.begun is.ended m is.done (stays n l old is.begun m (noted_stays n l (note.Begins now) old is.begun is.begins) kept) in
+      record {
+        run = run.run;
+        runs = run.runs;
+        each = run.each;
+        kept = stays n l is.ended new (last_of m run.run) (noted_stays n l note.Ends is.ended new is.ends) run.kept;
+      }
 
   after_round : (old new : Served I D S N L i d) (told : List Told) (m : Machine) → (new ≡ old) ⊎ HasAsked n old new
       → RunsTo told m (λ e. IsKept old.primary e) → RunsTo told m (λ e. IsKept new.primary e)

@@ -92,6 +92,10 @@ module _ {S : Type 0} where
     pub stream : stream_of new ≡ stream_of old
     pub used : used_of new ≡ now
 
+  -- It was used in the second `now`, or octets are left to write.
+  abbrev pub IsInUse : ℕ → Connection S → Type 0
+  IsInUse now c = (used_of c ≡ now) ⊎ (unwritten_of c ≢ [])
+
   -- In the second `now` nothing is left to write or to handle, and it was last used 30 seconds before, or more.
   pub record IsSilent (now : ℕ) (c : Connection S) : Type 0 where
     pub left : unwritten_of c ≡ []

@@ -79,9 +79,12 @@ module _ {S : Type 0} where
   HandsOver now number (Some message) old new =
       HasBecome (HasHandedOver now message) number old new
 
-  -- A message was queued on the connection with that number, or the connection was closed in its stead; or
-  -- there was none, and nothing has changed.
-  abbrev pub IsPumped : ℕ → Bool → List (Option (Connection S)) → List (Option (Connection S)) → Type 0
-  IsPumped number false old new = new ≡ old
-  IsPumped number true old new =
+  -- The next message of a transfer was queued on the connection with that number, or the connection was closed
+  -- in its stead; where it is not told that there was one, it may be that nothing has changed.
+  abbrev pub IsNextQueued : ℕ → List (Option (Connection S)) → List (Option (Connection S)) → Type 0
+  IsNextQueued number old new =
       (new ≡ slice_set old number None) ⊎ ((message : List ℕ) × IsReplyPushed number message old new)
+
+  abbrev pub IsPumped : ℕ → Bool → List (Option (Connection S)) → List (Option (Connection S)) → Type 0
+  IsPumped number true old new = IsNextQueued number old new
+  IsPumped number false old new = (new ≡ old) ⊎ IsNextQueued number old new

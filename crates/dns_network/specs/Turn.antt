@@ -173,20 +173,24 @@ module _ {I D S N L : Type 0} {i : index.Ghosts I} {d : store.Ghosts D} where
       → Served I D S N L i d → Type 0
   MomentsLead s n l now old new = (moments : List TurnMoment) × AreMoments s n l now moments old new
 
-  -- A turn, in the second `now`: it is noted that it begins; then comes what is done first in it, and, where a
-  -- reply waits, a flush; and it is noted that it ends.
-  pub record IsTurn (s : stream.Ghosts S) (n : Ghosts N S) (l : notes.Ghosts L) (now : ℕ)
+  -- These are done in a turn, in the second `now`: what is done first, and then, where a reply waits, a flush.
+  pub record AreDone (s : stream.Ghosts S) (n : Ghosts N S) (l : notes.Ghosts L) (now : ℕ)
       (moments : List TurnMoment) (old new : Served I D S N L i d) : Type 0 where
     pub first : List TurnMoment
     pub last : List TurnMoment
     pub are : moments ≡ first ++ last
-    pub begun : Served I D S N L i d
     pub between : Served I D S N L i d
+    pub done : AreMoments s n l now first old between
+    pub flushed : AreMoments s n l now last between new
+    pub flush : ((last ≡ []) × NoneWaits between.primary) ⊎ IsFlush last
+
+  -- A turn: it is noted that it begins, in the second `now`; these are done; and it is noted that it ends.
+  pub record IsTurn (s : stream.Ghosts S) (n : Ghosts N S) (l : notes.Ghosts L) (now : ℕ)
+      (moments : List TurnMoment) (old new : Served I D S N L i d) : Type 0 where
+    pub begun : Served I D S N L i d
     pub ended : Served I D S N L i d
     pub begins : HasNoted l (note.Begins now) old begun
-    pub done : AreMoments s n l now first begun between
-    pub flushed : AreMoments s n l now last between ended
-    pub flush : ((last ≡ []) × NoneWaits between.primary) ⊎ IsFlush last
+    pub done : AreDone s n l now moments begun ended
     pub ends : HasNoted l note.Ends ended new
 
   -- A turn, and before and after it the network may be asked, or wait.

@@ -23,6 +23,16 @@ pub struct Connection<S: Stream> {
     used: u64,
 }
 
+/// The second in which a connection was last used, after a write in the second `now`.
+fn used_after(moved: Moved, now: u64, before: u64) -> u64
+    ensures { result ≡ used_after moved now before }
+{
+    match moved {
+        Moved::Octets(_) => now,
+        Moved::Later | Moved::Ended => before,
+    }
+}
+
 // Written out, so that a proof lets one go by one call (docs/GATE.md).
 impl<S: Stream + Drop> Drop for Connection<S> {
     fn drop(self) {
@@ -90,9 +100,7 @@ impl<S: Stream + Drop> Connection<S> {
         ensures rest { rest_of self.new ≡ rest_of self.old }
     {
         let moved = self.outbox.write(&mut self.stream);
-        if let Moved::Octets(_) = moved {
-            self.used = now;
-        }
+        self.used = used_after(moved, now, self.used);
         moved
     }
 

@@ -1,17 +1,17 @@
 //! Turns: what is done with the network, one turn after the other.
-ghost use Rattle.std.specs.Prelude.{◌≡◌, ◌≢◌, ◌⊎◌, ◌↔◌, ◌≤◌, ◌<◌, ℕ, Bool, List, [], map, replicate, false};
+ghost use Rattle.std.specs.Prelude.{◌≡◌, ◌⊎◌, ◌≤◌, ◌<◌, ℕ, Bool, List, [], map, replicate, false};
 ghost use Rattle.std.specs.Prelude.{None, slice_get, slice_set, IfOk, IsTrue};
 ghost use Rattle.dns_primary.specs.declared.event.Effects.{Effects as StatedEffects};
 ghost use Rattle.dns_primary.specs.Keeps.{IsKept, header_out, reply_out};
 ghost use Rattle.dns_primary.specs.Machine.{IsListed, Machine};
 ghost use Rattle.dns_primary.specs.Step.{Closed};
 ghost use Rattle.dns_network.specs.declared.network.Note.TheVariants as note;
-ghost use Rattle.dns_network.specs.Connection.{IsSilent, IsStalled, unwritten_of, used_of};
+ghost use Rattle.dns_network.specs.Connection.{IsInUse, IsSilent, IsStalled, used_of};
 ghost use Rattle.dns_network.specs.Connections.{IsGoneOr, IsOpenWith, IsPumped, open_count};
 ghost use Rattle.dns_network.specs.Notes.{AreNoted, notes_of};
 ghost use Rattle.dns_network.specs.Delivery.{AreSent, Going, HasEffects, IsSent, TakesEvent, connections_of};
 ghost use Rattle.dns_network.specs.Delivery.{served};
-ghost use Rattle.dns_network.specs.Turn.{IsTurn, IsWelcomed, MomentsLead, NoneWaits, TurnMoment};
+ghost use Rattle.dns_network.specs.Turn.{AreDone, IsTurn, IsWelcomed, MomentsLead, NoneWaits, TurnMoment};
 ghost use Rattle.dns_network.specs.Turn.{places_for_all};
 
 use crate::{Connection, Connections, Moved, Network, Note, Notes, Stream};
@@ -213,8 +213,7 @@ impl<S: Stream + Drop> Edge<S> {
         let effects = primary.step(alloc, Event::Connect(peer));
         tell(notes, effects.noted);
         let Some(number) = effects.accepted else {
-            notes.note(Note::Refused);
-            return;
+            return notes.note(Note::Refused);
         };
         notes.note(Note::Opened(number, peer));
         let connection = Connection::new(alloc, stream, now);
@@ -234,8 +233,10 @@ impl<S: Stream + Drop> Edge<S> {
         primary: &Primary<I, D>,
         address: IpAddr,
     ) -> bool
-        ensures { (m : Machine) → IsKept primary.now m → IsTrue result
-            ↔ (places_for_all ≤ open_count (connections_of self.now)) × (IsListed m address → ⊥) }
+        ensures full { IsTrue result → places_for_all ≤ open_count (connections_of self.now) }
+        ensures unlisted { IsTrue result → (m : Machine) → IsKept primary.now m → IsListed m address → ⊥ }
+        ensures allowed { result ≡ false → (m : Machine) → IsKept primary.now m
+            → (open_count (connections_of self.now) < places_for_all) ⊎ IsListed m address }
     {
         self.connections.open_count() >= PLACES_FOR_ALL && !primary.lists(address)
     }
@@ -320,8 +321,8 @@ impl<S: Stream + Drop> Edge<S> {
         ensures moments { MomentsLead S.Stream N.Network L.Notes now
             (served primary.old self.old network.old notes.old)
             (served primary.new self.new network.new notes.new) }
-        ensures silent { IsOpenWith (IsSilent now) (slice_get (connections_of self.old) number)
-            → IsGoneOr (λ c. used_of c ≡ now) (slice_get (connections_of self.new) number) }
+        ensures silent { IsGoneOr (λ c. IsSilent now c ⊎ IsInUse now c) (slice_get (connections_of self.old) number)
+            → IsGoneOr (IsInUse now) (slice_get (connections_of self.new) number) }
     {
         let Ok(moved) = self.connections.read(alloc, number, &mut self.buffer) else {
             notes.note(Note::OutOfMemory);
@@ -359,14 +360,14 @@ impl<S: Stream + Drop> Edge<S> {
         ensures moments { MomentsLead S.Stream N.Network L.Notes now
             (served primary.old self.old network.old notes.old)
             (served primary.new self.new network.new notes.new) }
-        // A connection that was stalled before is gone then, or it was used in this second;
+        // A connection that was stalled before is gone then, or it was used in this second.
         ensures stalled { IsOpenWith (IsStalled now) (slice_get (connections_of self.old) number)
             → IsGoneOr (λ c. used_of c ≡ now) (slice_get (connections_of self.new) number) }
-        // so is one that was silent before, or a message of a transfer is left to write on it.
+        // One that was silent before is gone then, or it was used in this second, or a message of a transfer
+        // is left to write.
         ensures silent { (m : Machine) → IsKept primary.old m
             → IsOpenWith (IsSilent now) (slice_get (connections_of self.old) number)
-            → IsGoneOr (λ c. (used_of c ≡ now) ⊎ (unwritten_of c ≢ []))
-            (slice_get (connections_of self.new) number) }
+            → IsGoneOr (IsInUse now) (slice_get (connections_of self.new) number) }
     {
         if !self.connections.is_open(number) {
             return false;
@@ -416,6 +417,35 @@ impl<S: Stream + Drop> Edge<S> {
         is_done
     }
 
+    /// Does what is to be done in a turn, and answers whether there was something.
+    #[inline(always)]
+    fn work<I: ZoneIndex, D: ZoneStore, N: Network<S>, L: Notes>(
+        &mut self,
+        alloc: Heap,
+        network: &mut N,
+        primary: &mut Primary<I, D>,
+        notes: &mut L,
+        now: u64,
+    ) -> bool
+        ensures done { (moments : List TurnMoment) × AreDone S.Stream N.Network L.Notes now moments
+            (served primary.old self.old network.old notes.old)
+            (served primary.new self.new network.new notes.new) }
+        ensures idle { result ≡ false → NoneWaits primary.new }
+    {
+        let accepted = self.accept(alloc, network, primary, notes, now);
+        let received = self.receive(alloc, network, primary, notes);
+        let visited = self.visit_each(alloc, network, primary, notes, now);
+        let mut is_done = accepted || received || visited;
+        if primary.has_waiting() {
+            network.look();
+            let effects = primary.step(alloc, Event::Flush);
+            self.deliver(alloc, network, primary, notes, effects);
+            network.look();
+            is_done = true;
+        }
+        is_done
+    }
+
     /// Makes one turn, in the second `now`, and answers whether anything was done in it: at most one
     /// connection is accepted and at most one datagram read; each connection has its part, by rising number;
     /// then there is a flush if a reply waits for one. It is noted that the turn begins, and that it ends.
@@ -439,17 +469,7 @@ impl<S: Stream + Drop> Edge<S> {
         ensures idle { result ≡ false → NoneWaits primary.new }
     {
         notes.note(Note::Begins(now));
-        let accepted = self.accept(alloc, network, primary, notes, now);
-        let received = self.receive(alloc, network, primary, notes);
-        let visited = self.visit_each(alloc, network, primary, notes, now);
-        let mut is_done = accepted || received || visited;
-        if primary.has_waiting() {
-            network.look();
-            let effects = primary.step(alloc, Event::Flush);
-            self.deliver(alloc, network, primary, notes, effects);
-            network.look();
-            is_done = true;
-        }
+        let is_done = self.work(alloc, network, primary, notes, now);
         notes.note(Note::Ends);
         is_done
     }

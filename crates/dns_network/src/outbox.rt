@@ -1,7 +1,7 @@
 //! What is left to write to a stream: `Outbox`.
-ghost use Rattle.std.specs.Prelude.{◌≡◌, ◌<◌, ◌==◌, ◌↔◌, ◌++◌, [], length, take, drop, OnOk, OnErr};
+ghost use Rattle.std.specs.Prelude.{◌≡◌, ◌<◌, ◌≤◌, ◌==◌, ◌↔◌, ◌++◌, [], length, take, drop, OnOk, OnErr};
 ghost use Rattle.dns_network.specs.Framed.{pending_length};
-ghost use Rattle.dns_network.specs.Stream.{moved};
+ghost use Rattle.dns_network.specs.Stream.{IfOctets, moved};
 
 use crate::{Moved, Octets, Stream, length_octets};
 use dns_memory::Heap;
@@ -59,6 +59,8 @@ impl Outbox {
 
     /// Hands to the stream what is left to write, and keeps what it doesn't take.
     pub fn write<S: Stream>(&mut self, stream: &mut S) -> Moved
+        ensures few { moved result ≤ length self.old }
+        ensures some { IfOctets result (0 < moved result) }
         ensures rest { self.new ≡ drop (moved result) self.old }
         // What was taken by the stream and what is left are what they were, in order.
         ensures went { S.is_faithful stream.old

@@ -53,7 +53,7 @@ pub record IsSet (s : ZoneSpec) (z : ZoneState) : Type 0 where
   pub transfer : (a : IpAddr) → IsTrue (z.setting.may_transfer a) ↔ IsAllowed s.transfer.items a
 
 -- One of the lists that are configured of a zone allows the address.
-abbrev pub IsInList : ZoneSpec → IpAddr → Type 0
+unfoldable pub IsInList : ZoneSpec → IpAddr → Type 0
 IsInList s address = IsAllowed s.update.items address ⊎ IsAllowed s.transfer.items address
 
 -- The transfer that is open on the connection with that number, as they are stored.

@@ -98,6 +98,7 @@ pub(crate) fn admit<I: ZoneIndex, S: ZoneStore>(
 }
 
 /// Whether one of the lists that are configured of a zone allows the address.
+#[tactic(auto, unfolding(crate::specs::Keeps::IsInList))]
 fn is_in_list(settings: &ZoneSpec, address: IpAddr) -> bool
     ensures { IsTrue result ↔ IsInList settings.now address }
 {

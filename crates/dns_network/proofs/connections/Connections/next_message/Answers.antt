@@ -8,7 +8,7 @@ returns-in-Some g c =
     let within : c.args.number < vec_len places = omega arith in
     let handed = c.next_message.ensures in
     handed_one c.args.number places.items (vec_len places) c.index_mut.result.now (omega (arith, places.ok)) within c.index_mut.ensures.value
-    (λ m. m.items) c.next_message.result c.in-Some.connection c.next_message.new.self c.in-Some.is handed.first handed.left handed.stream handed.rest handed.heard handed.none
+    (λ m. m.items) c.next_message.result c.args.now c.in-Some.connection c.next_message.new.self c.in-Some.is handed.first handed.left handed.stream handed.rest handed.used handed.none
 
 pub returns-in-None : goal.returns-in-None
 returns-in-None g c =

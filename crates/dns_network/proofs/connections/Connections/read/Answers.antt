@@ -5,15 +5,15 @@ use Rattle.dns_network.proofs.Pushed.{become_one, if_ok, moved_one, on_err}
 use Rattle.dns_network.proofs.connections.Connections.read.Goals as goal
 
 pub returns-in-Some-clause-moved : goal.returns-in-Some-clause-moved
-returns-in-Some-clause-moved g c =
+returns-in-Some-clause-moved g c = λ now.
     let places = c.args.self.now.places in
     let within : c.args.number < vec_len places = omega arith in
     let d = c.read.new.self in
-    if_ok (λ moved. MovesOn g.S.Stream c.args.now moved c.in-Some.connection d)
-    (λ moved. HasMovedAt g.S.Stream c.args.now c.args.number moved places.items (slice_set places.items c.args.number (Some d)))
+    if_ok (λ moved. MovesOn g.S.Stream now moved c.in-Some.connection d)
+    (λ moved. HasMovedAt g.S.Stream now c.args.number moved places.items (slice_set places.items c.args.number (Some d)))
     c.read.result
-    (λ moved on. moved_one c.args.number places.items (vec_len places) c.index_mut.result.now (omega (arith, places.ok)) within c.index_mut.ensures.value g.S.Stream c.args.now moved c.in-Some.connection d c.in-Some.is on)
-    c.read.ensures.moved
+    (λ moved on. moved_one c.args.number places.items (vec_len places) c.index_mut.result.now (omega (arith, places.ok)) within c.index_mut.ensures.value g.S.Stream now moved c.in-Some.connection d c.in-Some.is on)
+    (c.read.ensures.moved now)
 
 pub returns-in-Some-clause-lost : goal.returns-in-Some-clause-lost
 returns-in-Some-clause-lost g c =

@@ -1,7 +1,9 @@
 use Rattle.std.proofs.Common.{refl, inl, inr}
+use Rattle.dns_primary.specs.Keeps.{IsKept}
+use Rattle.dns_primary.specs.Machine.{Machine}
 use Rattle.dns_network.specs.Closing.{NoPlace}
 use Rattle.dns_network.specs.Delivery.{connections_of, served}
-use Rattle.dns_network.specs.Turn.{Asks, Connects}
+use Rattle.dns_network.specs.Turn.{Asks, Connects, Refuses}
 use Rattle.dns_network.proofs.Leads.{by_one, and_on, closes, standing}
 use Rattle.dns_network.proofs.edge.Edge.accept.Goals as goal
 
@@ -11,18 +13,33 @@ returns-in_default g c =
     let new = served c.args.primary.now c.args.self.now c.accept.new.self c.args.notes.now in
     by_one g.S.Stream g.N.Network g.L.Notes c.args.now Asks old new (record { rest = refl; nothing = inl c.in_default.ensures })
 
+pub returns-then-is_full_for : goal.returns-then-is_full_for
+returns-then-is_full_for g c =
+    let old = served c.args.primary.now c.args.self.now c.args.network.now c.args.notes.now in
+    let new = served c.args.primary.now c.args.self.now c.accept.new.self c.note.new.self in
+    by_one g.S.Stream g.N.Network g.L.Notes c.args.now (Refuses c.in-Some.peer) old new
+    (record {
+      stream = c.in-Some.stream;
+      came = c.in-Some.ensures;
+      full = c.is_full_for.ensures.full c.if-is_full_for.true;
+      unlisted = λ m kept. c.is_full_for.ensures.unlisted c.if-is_full_for.true m kept;
+      rest = refl;
+      noted = c.note.ensures;
+    })
+
 pub returns : goal.returns
 returns g c =
+    let allowed = λ (m : Machine) (kept : IsKept c.args.primary.now m). c.is_full_for.ensures.allowed c.if-is_full_for.false m kept in
     let old = served c.args.primary.now c.args.self.now c.args.network.now c.args.notes.now in
     let new = served c.welcome.new.primary c.welcome.new.self c.accept.new.self c.welcome.new.notes in
     elim c.welcome.ensures [
       | inl (effects, taken) ↦ by_one g.S.Stream g.N.Network g.L.Notes c.args.now (Connects c.in-Some.peer effects) old new
-          (record { stream = c.in-Some.stream; came = c.in-Some.ensures; taken = taken })
+          (record { stream = c.in-Some.stream; came = c.in-Some.ensures; allowed = allowed; taken = taken })
       | inr (between, place, noted, number, effects, none, taken, lacks, told, gone, closed) ↦
           (let mid = standing between c.accept.new.self noted place in
           and_on g.S.Stream g.N.Network g.L.Notes c.args.now old mid new
           (by_one g.S.Stream g.N.Network g.L.Notes c.args.now (Connects c.in-Some.peer effects) old mid
-          (record { stream = c.in-Some.stream; came = c.in-Some.ensures; taken = taken }))
+          (record { stream = c.in-Some.stream; came = c.in-Some.ensures; allowed = allowed; taken = taken }))
           (closes g.S.Stream g.N.Network g.L.Notes c.args.now number NoPlace between c.welcome.new.primary c.accept.new.self noted noted c.welcome.new.notes place (connections_of c.welcome.new.self)
           lacks refl (none, told) gone closed))
     ]

@@ -11,4 +11,4 @@ loop-number-preserved g c =
     and_on g.S.Stream g.N.Network g.L.Notes c.args.now (served c.args.primary.now c.args.self.now c.args.network.now c.args.notes.now)
     (served c.loop-number.primary c.loop-number.self c.loop-number.network c.loop-number.notes)
     (served c.visit.new.primary c.visit.new.self c.visit.new.network c.visit.new.notes)
-    c.loop-number.invariant c.visit.ensures
+    c.loop-number.invariant c.visit.ensures.moments

@@ -14,8 +14,9 @@ returns-in_default g c =
       record {
         told = λ m kept. c.step-effects.ensures.step m kept;
         placed = subst (λ (accepted : Option ℕ). IsPlaced c.args.now c.args.stream accepted here here) (sym c.in_default.is) refl;
-        noted = noted_then g.L.Notes c.step-effects.result.noted c.step-effects.result.accepted c.args.peer c.args.notes.now c.tell.new.notes c.tell.new.notes c.tell.ensures
-            (subst (λ (accepted : Option ℕ). AreNoted g.L.Notes (notes_of_opened accepted c.args.peer) c.tell.new.notes c.tell.new.notes) (sym c.in_default.is) refl);
+        noted = noted_then g.L.Notes c.step-effects.result.noted c.step-effects.result.accepted c.args.peer c.args.notes.now c.tell.new.notes c.note.new.self c.tell.ensures
+            (subst (λ (accepted : Option ℕ). AreNoted g.L.Notes (notes_of_opened accepted c.args.peer) c.tell.new.notes c.note.new.self) (sym c.in_default.is)
+            (c.note.new.self, c.note.ensures, refl));
       },
     )
 
@@ -60,7 +61,7 @@ returns g c =
                 c.new-connection.ensures.stream,
                 c.new-connection.ensures.left,
                 nothing_came made c.new-connection.ensures.held c.new-connection.ensures.rest,
-                c.new-connection.ensures.heard,
+                c.new-connection.ensures.used,
                 c.in_default-insert.ensures.put,
               ),
             ));
