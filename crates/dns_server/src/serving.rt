@@ -160,12 +160,14 @@ fn listen<R: Net + Clock, I: ZoneIndex, S: ZoneStore, E: Write>(
         return Ok(FAILED);
     };
     tell_listening(err, address)?;
+    let lines = Vec::new(heap);
+    let counts = Counts::new(0);
     let mut log = Log {
         err,
         origins,
         is_quiet,
-        lines: Vec::new(heap),
-        counts: Counts::new(0),
+        lines,
+        counts,
         has_failed: false,
     };
     run(heap, rt, primary, &mut sockets, &mut log, turns)?;

@@ -90,10 +90,14 @@ fn read_some<S: WaitingStream>(stream: &mut S, into: &mut [u8]) -> Result<usize,
 }
 
 /// Whether more records of a whole zone have come than one may have.
+#[tactic(auto, using(crate::proofs::Heard::too_much))]
 fn is_too_much<I: ZoneIndex>(secondary: &Secondary<I>) -> bool
     ensures { result ≡ true → IsTooMuch secondary.now }
 {
-    !secondary.is_incremental() && secondary.received_count() > MOST_RECORDS
+    if secondary.is_incremental() {
+        return false;
+    }
+    secondary.received_count() > MOST_RECORDS
 }
 
 /// Reads the messages of an answer in their order, until it is at its end, and answers whether it is. One that
