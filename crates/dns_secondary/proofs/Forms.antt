@@ -39,7 +39,7 @@ and_false false = refl
 serials_same : (m n : ℕ) → m ≡ n → (m == n) ≡ true
 serials_same m n e = grind (arith, nat_tests)
 
-passed : (b : Bool) (e : ZoneError) (x : Option ZoneError) → (if b then Some e else x) ≡ None → (b ≡ false) × (x ≡ None)
+pub passed : (b : Bool) (e : ZoneError) (x : Option ZoneError) → (if b then Some e else x) ≡ None → (b ≡ false) × (x ≡ None)
 passed true e x h = absurd cc
 passed false e x h = (refl, h)
 

@@ -12,3 +12,4 @@ pub mod Beginnings
 pub mod Mores
 pub mod Behind
 pub mod Fed
+pub mod Growing

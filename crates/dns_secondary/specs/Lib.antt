@@ -6,3 +6,4 @@ pub mod Receiving
 pub mod Told
 pub mod Request
 pub mod Taken
+pub mod Received

@@ -1,5 +1,5 @@
 //! What holds of every answer to a transfer.
-ghost use Rattle.std.specs.Prelude.{◌≡◌, ◌↔◌, true, List, ◌++◌, Option, IfSome};
+ghost use Rattle.std.specs.Prelude.{◌≡◌, ◌↔◌, ◌<◌, ℕ, true, false, List, ◌++◌, Option, Some, IfSome};
 ghost use Rattle.dns_names.specs.Name.{Labels};
 ghost use Rattle.dns_records.specs.Record.{Record};
 ghost use Rattle.dns_zone.specs.Records.{is_ordered};
@@ -11,7 +11,8 @@ ghost use Rattle.dns_secondary.specs.State.{State, Begun};
 ghost use Rattle.dns_secondary.specs.Rest.{Rest, Reaches};
 ghost use Rattle.dns_secondary.specs.Taken.{Applies, Taken};
 ghost use Rattle.dns_secondary.specs.Receiving.{Receiving};
-ghost use Rattle.dns_secondary.specs.Told.{IsMore, TellsProgress};
+ghost use Rattle.dns_secondary.specs.Received.{received_count, is_incremental};
+ghost use Rattle.dns_secondary.specs.Told.{Feeds, IsMore, TellsProgress};
 ghost use Rattle.dns_secondary.specs.declared.fault.Progress.TheVariants.{More};
 
 /// What a whole answer means when it is read record by record is what it means by its form alone: the SOA of
@@ -39,4 +40,26 @@ pub fn applies_law()
         → is_formed c ≡ true
         → LeadsTo c set result
         → Applies c set result }
+{}
+
+/// An answer that is no changes, and in which more records have come than a zone has, means no zone, whatever
+/// follows: to give it up loses none.
+pub fn room_law()
+    ensures { (apex : Labels) (held : Option Zone) (at : State) (more : List ResourceRecord)
+        → (set : List Record)
+        → is_incremental (Some at) ≡ false
+        → 65536 < received_count (Some at)
+        → Rest apex held at more set → ⊥ }
+{}
+
+/// A message of an answer that is no changes, after which as many records have come as before, and more is to
+/// come, changes nothing: each of its records was there already.
+pub fn idle_law()
+    ensures { (s new : Receiving) (before : List ResourceRecord) (at : State) (octets : List ℕ)
+        → s.state ≡ Some at
+        → Reaches s.apex s.held Begun before at
+        → Feeds s octets More new
+        → is_incremental new.state ≡ false
+        → received_count new.state ≡ received_count s.state
+        → new ≡ s }
 {}

@@ -1,5 +1,6 @@
 //! The set that an answer has led to so far.
-ghost use Rattle.std.specs.Prelude.{◌≡◌, List, [], ◌∷◌, ◌++◌, true, false, IfOk, IfSome, OnErr, OnOk};
+ghost use Rattle.std.specs.Prelude.{◌≡◌, ◌-◌, ◌^◌, min, length, List, [], ◌∷◌, ◌++◌, true, false};
+ghost use Rattle.std.specs.Prelude.{IfOk, IfSome, OnErr, OnOk};
 ghost use Rattle.dns_records.specs.Record.{Record as Stated};
 ghost use Rattle.dns_zone.specs.Records.{contains, has, is_ordered, put, without};
 
@@ -31,7 +32,7 @@ impl<I: ZoneIndex> Drop for Reached<I> {
 }
 
 impl<I: ZoneIndex> Model for Reached<I> {
-    ghost use Rattle.std.specs.Prelude.{◌≡◌, List, ◌++◌, true};
+    ghost use Rattle.std.specs.Prelude.{◌≡◌, ◌-◌, ◌^◌, min, length, List, ◌++◌, true};
     ghost use Rattle.dns_records.specs.Record.{Record as Stated};
     ghost use Rattle.dns_zone.specs.Records.{is_ordered};
 
@@ -175,6 +176,13 @@ impl<I: ZoneIndex> Reached<I> {
                 Err(error)
             }
         }
+    }
+
+    /// How many records there are, at most as many as can be counted.
+    pub(crate) fn count(&self) -> usize
+        ensures { result ≡ min (length self.now) (2 ^ 64 - 1) }
+    {
+        self.set.len().saturating_add(self.tail.count())
     }
 
     /// Whether it has the record, with its TTL.

@@ -1,7 +1,8 @@
 //! How far an answer was read.
-ghost use Rattle.std.specs.Prelude.{◌≡◌, List, IfOk};
+ghost use Rattle.std.specs.Prelude.{◌≡◌, ◌-◌, ◌^◌, min, List, Some, IfOk};
 ghost use Rattle.dns_records.specs.Record.{Record as Stated};
 ghost use Rattle.dns_secondary.specs.State.{Ended};
+ghost use Rattle.dns_secondary.specs.Received.{received_count, is_incremental};
 
 use crate::reached::Reached;
 use dns_records::Record;
@@ -72,6 +73,24 @@ impl<I: ZoneIndex> Reading<I> {
                 Err(error)
             }
         }
+    }
+
+    /// How many records the set has that was reached, at most as many as can be counted.
+    pub(crate) fn received_count(&self) -> usize
+        ensures { result ≡ min (received_count (Some self.now)) (2 ^ 64 - 1) }
+    {
+        match self.phase {
+            Phase::Begun => 0,
+            Phase::Led(_) => 1,
+            _ => self.set.count(),
+        }
+    }
+
+    /// Whether it is within changes of the version that is held.
+    pub(crate) fn is_incremental(&self) -> bool
+        ensures { result ≡ is_incremental (Some self.now) }
+    {
+        matches!(self.phase, Phase::Removing(_) | Phase::Adding(_, _))
     }
 
     /// The set alone.

@@ -1,7 +1,7 @@
 //! One who holds a version of a zone, or nothing, and reads the answer to a request for a newer one
 //! (RFC 1995, RFC 5936).
-ghost use Rattle.std.specs.Prelude.{◌≡◌, ◌≢◌, ◌≤◌, ◌⊎◌, length, ◌==◌, ◌&&◌, true, Some, None, IfOk, IfErr};
-ghost use Rattle.std.specs.Prelude.{OnOk, OnErr};
+ghost use Rattle.std.specs.Prelude.{◌≡◌, ◌≢◌, ◌≤◌, ◌⊎◌, ◌-◌, ◌^◌, min, length, ◌==◌, ◌&&◌, true, Some, None};
+ghost use Rattle.std.specs.Prelude.{IfOk, IfErr, OnOk, OnErr};
 ghost use Rattle.std.specs.Option.{option_copied};
 ghost use Rattle.dns_names.specs.Name.{names_eq};
 ghost use Rattle.dns_records.specs.Types.{class_in};
@@ -12,6 +12,7 @@ ghost use Rattle.dns_wire.specs.Reads.{Reads};
 ghost use Rattle.dns_request.specs.Request.{IsRequest, Transfer};
 ghost use Rattle.dns_secondary.specs.State.{Begun, Led};
 ghost use Rattle.dns_secondary.specs.Rest.{is_current, Reaches, FailsBy};
+ghost use Rattle.dns_secondary.specs.Received.{received_count, is_incremental};
 ghost use Rattle.dns_secondary.specs.Receiving.{header_fault, is_answer, repeats_question, type_asked};
 ghost use Rattle.dns_secondary.specs.Request.{question_asked, request_octets, request_message, most_by};
 ghost use Rattle.dns_secondary.specs.Told.{progress_at_end, Concludes, Feeds, Hears, TellsProgress, Fails};
@@ -142,6 +143,31 @@ impl<I: ZoneIndex> Secondary<I> {
         ensures { option_copied result ≡ self.now.held }
     {
         self.held.as_ref()
+    }
+
+    /// How many records the set has that the answer has led to so far, at most as many as can be counted. It
+    /// grows with each record of a whole zone that had not come (RFC 5936 section 2.2). In changes it begins
+    /// with those of the version that is held, shrinks with each record that goes, and grows with each that
+    /// comes (RFC 1995 section 4). It is none before the first record, one after the SOA that leads alone,
+    /// and none where the answer is over.
+    pub fn received_count(&self) -> usize
+        ensures { result ≡ min (received_count self.now.state) (2 ^ 64 - 1) }
+    {
+        match &self.reading {
+            Some(reading) => reading.received_count(),
+            None => 0,
+        }
+    }
+
+    /// Whether the answer is within changes of the version that is held, so that each further record changes
+    /// the set (RFC 1995 section 4).
+    pub fn is_incremental(&self) -> bool
+        ensures { result ≡ is_incremental self.now.state }
+    {
+        match &self.reading {
+            Some(reading) => reading.is_incremental(),
+            None => false,
+        }
     }
 
     /// The octets of the request: a query for the changes of the version that is held, whose SOA is in its

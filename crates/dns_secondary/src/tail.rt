@@ -1,5 +1,7 @@
 //! Records that came in order, one after the other.
-ghost use Rattle.std.specs.Prelude.{◌≡◌, List, [], ◌∷◌, ◌++◌, true, IfOk, IfSome, OnErr, OnOk};
+ghost use Rattle.std.specs.Prelude.{◌≡◌, ◌-◌, ◌^◌, min, length, List, [], ◌∷◌, ◌++◌, true, None};
+ghost use Rattle.std.specs.Prelude.{IfOk, IfSome, OnErr, OnOk};
+ghost use Rattle.std.specs.List.{flat_map};
 ghost use Rattle.dns_records.specs.Record.{Record as Stated};
 
 use dns_memory::Heap;
@@ -8,7 +10,7 @@ use std::alloc::AllocError;
 use std::marker::Model;
 use std::rc::Rc;
 
-/// Records of one message, which copies share.
+/// Records of one message, or of successive ones, which copies share.
 struct Run {
     records: Rc<Vec<Record, Heap>, Heap>,
 }
@@ -57,8 +59,8 @@ fn last_of(records: &[Record]) -> Option<&Record>
     Some(last)
 }
 
-/// Records one after the other. Those of the messages before the last are shared by all copies, so that a
-/// copy costs a pointer for each message.
+/// Records one after the other. Those of the messages before the last are shared by all copies, in runs each
+/// of which is at least twice as long as the next, so that a copy of 65,536 records costs 17 pointers at most.
 pub(crate) struct Tail {
     runs: Vec<Run, Heap>,
     newest: Vec<Record, Heap>,
@@ -137,6 +139,17 @@ impl Tail {
         })
     }
 
+    /// How many records there are, at most as many as can be counted.
+    pub(crate) fn count(&self) -> usize
+        ensures { result ≡ min (length self.now) (2 ^ 64 - 1) }
+    {
+        let mut count = self.newest.len();
+        'runs: for run in self.runs.iter() {
+            count = count.saturating_add(run.records().len());
+        }
+        count
+    }
+
     /// The same, its records ready to be shared.
     pub(crate) fn sealed(self) -> Result<Tail, AllocError>
         ensures { IfOk result (λ sealed. sealed ≡ self) }
@@ -146,8 +159,9 @@ impl Tail {
             return Ok(Tail { runs, newest });
         }
         let alloc = *newest.allocator();
+        let merged = merge(&mut runs, newest)?;
         runs.push(Run {
-            records: Rc::new(alloc, newest)?,
+            records: Rc::new(alloc, merged)?,
         })?;
         Ok(Tail {
             runs,
@@ -164,6 +178,46 @@ impl Tail {
         }
         push_copies(out, &self.newest)
     }
+}
+
+/// Takes the last run out, where it is shorter than twice so many records.
+fn take_short(runs: &mut Vec<Run, Heap>, count: usize) -> Option<Run>
+    ensures taken { IfSome result (λ run. runs.old.items ≡ runs.new.items ++ run ∷ []) }
+    ensures stays { result ≡ None → runs.new ≡ runs.old }
+{
+    let (last, _) = runs.as_slice().split_last()?;
+    if last.records().len() / 2 >= count {
+        return None;
+    }
+    runs.pop()
+}
+
+/// The records of a run, and those after it.
+fn joined(run: &Run, after: Vec<Record, Heap>) -> Result<Vec<Record, Heap>, AllocError>
+    ensures { IfOk result (λ both. both.items ≡ run.now ++ after.entry.items) }
+{
+    let mut after = after;
+    let mut both = Vec::new(*after.allocator());
+    push_copies(&mut both, run.records())?;
+    both.append(&mut after)?;
+    Ok(both)
+}
+
+/// Takes the last runs out, as long as each is shorter than twice the records after it, and puts their
+/// records before those.
+fn merge(
+    runs: &mut Vec<Run, Heap>,
+    newest: Vec<Record, Heap>,
+) -> Result<Vec<Record, Heap>, AllocError>
+    ensures { IfOk result
+        (λ merged. flat_map (λ run. run) runs.new.items ++ merged.items
+        ≡ flat_map (λ run. run) runs.old.items ++ newest.entry.items) }
+{
+    let mut merged = newest;
+    while let Some(run) = take_short(runs, merged.len()) {
+        merged = joined(&run, merged)?;
+    }
+    Ok(merged)
 }
 
 /// Puts copies of records after others.
