@@ -18,7 +18,7 @@ use Rattle.dns_secondary.specs.State.{State, Begun, Led, Whole, Removing, Adding
 use Rattle.dns_secondary.specs.Step.{step, second, within_whole, last, collect, first_sequence, sequence_from, remove, new_soa, add}
 use Rattle.dns_secondary.specs.Rest.{Means, Rest, Reaches}
 use Rattle.dns_secondary.specs.Receiving.{Receiving}
-use Rattle.dns_secondary.specs.Received.{set_reached, received_count, is_incremental}
+use Rattle.dns_secondary.specs.Received.{received_count, is_incremental}
 use Rattle.dns_secondary.specs.Told.{Feeds}
 use Rattle.dns_secondary.specs.declared.fault.Fault.{Fault}
 use Rattle.dns_secondary.specs.declared.fault.Fault.TheVariants.{BadSequence, RemovesAbsent, AddsPresent, InvalidZone}
@@ -207,6 +207,19 @@ not_other (Removing soa set) h on e = absurd cc
 not_other (Adding soa set reached) h on e = absurd cc
 not_other (Ended set) h on e = on
 
+module _ (s new : Receiving) (at next : State) (is : s.state ≡ Some at) (new_is : new ≡ record s { state = Some next }) where
+  state_new : new.state ≡ Some next
+  state_new = ap (λ (u : Receiving). u.state) new_is
+
+  unchanged : next ≡ at → new ≡ s
+  unchanged same = new_is ∙ ap (λ (u : Option State). record s { state = u }) (ap (λ (u : State). Some u) same ∙ sym is)
+
+  decided : IsUnfinished next → is_incremental new.state ≡ false → received_count new.state ≡ received_count s.state → Grown at next → new ≡ s
+  decided on whole count (inl other) = absurd (not_other next other on (sym (ap is_incremental state_new) ∙ whole))
+  decided on whole count (inr (inl same)) = unchanged same
+  decided on whole count (inr (inr more)) =
+      absurd (omega (arith, more, count, ap received_count state_new, ap received_count is))
+
 -- as many records as before: nothing has changed
 pub idle : (s new : Receiving) (before : List ResourceRecord) (at : State) (octets : List ℕ)
     → s.state ≡ Some at
@@ -215,24 +228,12 @@ pub idle : (s new : Receiving) (before : List ResourceRecord) (at : State) (octe
     → is_incremental new.state ≡ false
     → received_count new.state ≡ received_count s.state
     → new ≡ s
-idle s new before at octets is so_far fed whole count = decided (grown s.apex s.held fed.0 told.0 message.answers led told.1).1
-  where
-    message = (fed.2).message
-    told = (fed.2).tells
-
-    led : IsLedBySoa fed.0
-    led =
-        subst IsLedBySoa (state_is at fed.0 (sym is ∙ fed.1)) (grown s.apex s.held Begun at before tt so_far).0
-
-    state_new : new.state ≡ Some told.0
-    state_new = ap (λ (u : Receiving). u.state) told.3
-
-    decided : Grown fed.0 told.0 → new ≡ s
-    decided (inl other) =
-        absurd (not_other told.0 other told.2 (sym (ap is_incremental state_new) ∙ whole))
-    decided (inr (inl same)) = told.3 ∙ (λ i. record s { state = (ap (λ (u : State). Some u) same ∙ sym fed.1) i })
-    decided (inr (inr more)) =
-        absurd (omega (arith, more, count, ap received_count state_new, ap received_count fed.1))
+idle s new before at octets is so_far fed whole count =
+    let told = (fed.2).tells in
+    let led : IsLedBySoa fed.0 =
+    subst IsLedBySoa (state_is at fed.0 (sym is ∙ fed.1)) (grown s.apex s.held Begun at before tt so_far).0 in
+    decided s new fed.0 told.0 fed.1 told.3 told.2 whole count
+    (grown s.apex s.held fed.0 told.0 ((fed.2).message).answers led told.1).1
 
 -- a whole zone of so many records or more, or its end
 abbrev IsNoLess : ℕ → State → Type 0
