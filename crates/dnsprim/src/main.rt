@@ -11,7 +11,7 @@ use dns_configuration::{FAILED, File, REFUSED, USAGE};
 use dns_memory::{Heap, heap};
 use dns_sectors::{DiskFile, FileSectors};
 use dns_server::{
-    Disk, Index, ServeOptions, Tcp, TcpSocket, check, compare, dump, explain_check,
+    Disk, Index, ServeOptions, ServiceEnd, Tcp, TcpSocket, check, compare, dump, explain_check,
     explain_devices, explain_other, explain_replay, explain_unreadable, explain_unserved, fetch,
     file, init, is_file, load, master_files, migrate, octets, replay, serve, zone_file,
 };
@@ -293,7 +293,7 @@ fn run_serve(rt: &HostRuntime, heap: Heap, words: Serving<'_>, explain: bool) ->
         is_quiet: words.quiet,
         explain,
     };
-    let ended = serve::<Device, _, Index, _, _>(
+    let ServiceEnd { status, devices } = serve::<Device, _, Index, _, _>(
         rt.alloc(),
         heap,
         rt,
@@ -302,13 +302,15 @@ fn run_serve(rt: &HostRuntime, heap: Heap, words: Serving<'_>, explain: bool) ->
         options,
         &mut Lines::new(rt),
     );
-    if explain && ended.status == REFUSED {
+    // They are let go before the system is asked for them again.
+    drop(devices);
+    if explain && status == REFUSED {
         explain_files(rt, heap, &config, &[])?;
     }
-    if explain && ended.status == FAILED {
+    if explain && status == FAILED {
         explain_unserved(rt, heap, &config, &mut rt.stderr())?;
     }
-    Ok(ended.status)
+    Ok(status)
 }
 
 /// Takes in a zone from another server, and gives the exit status.
