@@ -2,8 +2,8 @@
 //! wrong, and what is expected there. It serves `--explain` alone, and no clause says more of it than that it
 //! ends.
 use crate::configuration::{
-    LEAST_JOURNAL, LEAST_SNAPSHOT, MOST, ZONE_KEYS, count_at, has_keys, list_at, name_at,
-    path_at, prefixes_at, socket_address, text_at,
+    LEAST_JOURNAL, LEAST_SNAPSHOT, MOST, ZONE_KEYS, count_at, has_keys, list_at, name_at, path_at,
+    prefixes_at, socket_address, text_at,
 };
 use crate::files::{File, PrintedWord};
 use dns_memory::Heap;
@@ -85,7 +85,10 @@ fn explain_document<E: Write>(
     err: &mut E,
 ) -> io::Result<()> {
     let what = PrintedWord(path.as_bytes());
-    if text_at(document, "listen").and_then(socket_address).is_none() {
+    if text_at(document, "listen")
+        .and_then(socket_address)
+        .is_none()
+    {
         return writeln!(
             err,
             "{what}: listen: an address and a port such as \"127.0.0.1:53\" are expected"
