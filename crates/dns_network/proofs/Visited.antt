@@ -44,8 +44,8 @@ step_out : (m : Machine) (number : ℕ) (fails : List Bool) (stated : machine.Ef
 step_out m number fails stated next (inl (none, is, tells)) = pumped_out m number (sending_at number m.connections) stated.sent next is
 step_out m number fails stated next (inr lacks) = elim lacks.stays [
   | inl (none, same, sent) ↦ inl (ap (λ (o : List Sent). all_out o) sent)
-  | inr (inl (first, rest)) ↦ absurd (let clash : false ≡ true = first in cc)
-  | inr (inr (lacked, first, none, rest)) ↦ absurd (let clash : ◌≡◌ {A = Option (ℕ × ℕ)} None (Some lacked) = none in cc)
+  | inr (inl h) ↦ absurd (let clash : false ≡ true = h.0 in cc)
+  | inr (inr h) ↦ absurd (let clash : ◌≡◌ {A = Option (ℕ × ℕ)} None (Some h.0) = h.2 in cc)
 ]
 
 -- where no message goes out, there is none

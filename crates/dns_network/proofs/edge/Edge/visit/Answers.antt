@@ -48,11 +48,11 @@ pub returns-then-pump-clause-moments : goal.returns-then-pump-clause-moments
 returns-then-pump-clause-moments g c = c.pump.ensures.moments c.args.now
 
 -- where there is no connection
-pub returns-then-is_open-clause-stalled : goal.returns-then-is_open-clause-stalled
-returns-then-is_open-clause-stalled g c = λ stalled. not_open (λ d. used_of d ≡ c.args.now) (slice_get (connections_of c.args.self.now) c.args.number) (sym c.is_open.ensures ∙ c.if-is_open.false)
+pub returns-then-not-is_open-clause-stalled : goal.returns-then-not-is_open-clause-stalled
+returns-then-not-is_open-clause-stalled g c = λ stalled. not_open (λ d. used_of d ≡ c.args.now) (slice_get (connections_of c.args.self.now) c.args.number) (sym c.is_open.ensures ∙ c.if-not-is_open.true)
 
-pub returns-then-is_open-clause-silent : goal.returns-then-is_open-clause-silent
-returns-then-is_open-clause-silent g c = λ m kept silent. not_open (IsInUse c.args.now) (slice_get (connections_of c.args.self.now) c.args.number) (sym c.is_open.ensures ∙ c.if-is_open.false)
+pub returns-then-not-is_open-clause-silent : goal.returns-then-not-is_open-clause-silent
+returns-then-not-is_open-clause-silent g c = λ m kept silent. not_open (IsInUse c.args.now) (slice_get (connections_of c.args.self.now) c.args.number) (sym c.is_open.ensures ∙ c.if-not-is_open.true)
 
 pub returns-in-Ended-clause-stalled : goal.returns-in-Ended-clause-stalled
 returns-in-Ended-clause-stalled g c = λ stalled. is_gone (λ d. used_of d ≡ c.args.now) c.args.number (places_of c.write-moved.new.self) (connections_of c.close.new.self) c.close.ensures.gone

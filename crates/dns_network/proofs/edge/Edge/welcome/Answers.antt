@@ -27,7 +27,7 @@ returns-in-Err g c =
     inr (
       c.step-effects.new.self,
       places_of c.insert.new.self,
-      c.note.new.self,
+      c.note-2.new.self,
       c.in-Some.number,
       c.step-effects.result,
       told.0,
@@ -35,9 +35,9 @@ returns-in-Err g c =
         told = λ m kept. c.step-effects.ensures.step m kept;
         placed = subst (λ (accepted : Option ℕ). IsPlaced c.args.now c.args.stream accepted here (places_of c.insert.new.self)) (sym c.in-Some.is)
             (inl (c.in-Err.ensures.back.1, c.in-Err.ensures.still));
-        noted = noted_then g.L.Notes c.step-effects.result.noted c.step-effects.result.accepted c.args.peer c.args.notes.now c.tell.new.notes c.note.new.self c.tell.ensures
-            (subst (λ (accepted : Option ℕ). AreNoted g.L.Notes (notes_of_opened accepted c.args.peer) c.tell.new.notes c.note.new.self) (sym c.in-Some.is)
-            (c.note.new.self, c.note.ensures, refl));
+        noted = noted_then g.L.Notes c.step-effects.result.noted c.step-effects.result.accepted c.args.peer c.args.notes.now c.tell.new.notes c.note-2.new.self c.tell.ensures
+            (subst (λ (accepted : Option ℕ). AreNoted g.L.Notes (notes_of_opened accepted c.args.peer) c.tell.new.notes c.note-2.new.self) (sym c.in-Some.is)
+            (c.note-2.new.self, c.note-2.ensures, refl));
       },
       still_past c.in-Some.number here (places_of c.insert.new.self) c.in-Err.ensures.still c.in-Err.ensures.back.1,
       told.1,
@@ -65,8 +65,8 @@ returns g c =
                 c.in_default-insert.ensures.put,
               ),
             ));
-        noted = noted_then g.L.Notes c.step-effects.result.noted c.step-effects.result.accepted c.args.peer c.args.notes.now c.tell.new.notes c.note.new.self c.tell.ensures
-            (subst (λ (accepted : Option ℕ). AreNoted g.L.Notes (notes_of_opened accepted c.args.peer) c.tell.new.notes c.note.new.self) (sym c.in-Some.is)
-            (c.note.new.self, c.note.ensures, refl));
+        noted = noted_then g.L.Notes c.step-effects.result.noted c.step-effects.result.accepted c.args.peer c.args.notes.now c.tell.new.notes c.note-2.new.self c.tell.ensures
+            (subst (λ (accepted : Option ℕ). AreNoted g.L.Notes (notes_of_opened accepted c.args.peer) c.tell.new.notes c.note-2.new.self) (sym c.in-Some.is)
+            (c.note-2.new.self, c.note-2.ensures, refl));
       },
     )
