@@ -35,9 +35,9 @@ loop-message-preserved g c =
     let m = c.message-item.result in
     more_fed c.args.secondary.now c.loop-message.secondary c.feed.new.self _ _ m.items c.deref.result.now c.in_ok-feed.field-0 c.loop-message.invariant (next_at (λ m. m.items) c.args.messages.now i m (omega arith) c.message-item.is) c.deref.ensures.value c.in_ok-feed.ensures.fed c.in-More.is
 
-pub returns-then-branch-clause-refused : goal.returns-then-branch-clause-refused
-returns-then-branch-clause-refused g c =
+pub returns-then-is_too_much-clause-refused : goal.returns-then-is_too_much-clause-refused
+returns-then-is_too_much-clause-refused g c =
     let i = c.loop-message.message-index in
     let m = c.message-item.result in
     let parts = split_at (λ m. m.items) c.args.messages.now i m (omega arith) c.message-item.is in
-    beyond_fed c.args.secondary.now c.loop-message.secondary c.feed.new.self _ _ _ m.items c.deref.result.now c.in_ok-feed.field-0 c.loop-message.invariant parts c.deref.ensures.value c.in_ok-feed.ensures.fed c.in-More.is (c.is_too_much.ensures c.if-branch.true)
+    beyond_fed c.args.secondary.now c.loop-message.secondary c.feed.new.self _ _ _ m.items c.deref.result.now c.in_ok-feed.field-0 c.loop-message.invariant parts c.deref.ensures.value c.in_ok-feed.ensures.fed c.in-More.is (c.is_too_much.ensures c.if-is_too_much.true)
