@@ -161,25 +161,36 @@ pub(crate) struct Log<'a, E: Write> {
     /// Whether lines of connections are left out.
     pub(crate) is_quiet: bool,
     /// The lines of the turn, which are written when it ends.
-    pub(crate) lines: Vec<u8, Heap>,
+    pub(crate) lines: &'a mut Vec<u8, Heap>,
     pub(crate) counts: Counts,
     /// Whether a line couldn't be written.
     pub(crate) has_failed: bool,
 }
 
 impl<E: Write> Log<'_, E> {
+    /// Whether all that was to be written is.
+    pub(crate) fn is_written(&self) -> bool
+        ensures whole { result ≡ true → self.now.has_failed ≡ false }
+        ensures lines { result ≡ true → self.now.lines.now.items ≡ [] }
+    {
+        if self.has_failed {
+            return false;
+        }
+        self.lines.is_empty()
+    }
+
     /// Writes what is still to be written.
-    pub(crate) fn write_out(&mut self) -> io::Result<()>
+    fn write_out(&mut self) -> io::Result<()>
         ensures same_reference { self.new.err.ghost_name ≡ self.old.err.ghost_name }
         ensures origins { self.new.origins.now ≡ self.old.origins.now }
         ensures quiet { self.new.is_quiet ≡ self.old.is_quiet }
         ensures counts { self.new.counts ≡ self.old.counts }
         ensures still { self.new.has_failed ≡ self.old.has_failed }
-        ensures none { self.new.lines.items ≡ [] }
+        ensures none { self.new.lines.now.items ≡ [] }
         ensures written { OnOk result
-            (Appends (E.contents self.old.err.now) (E.contents self.new.err.now) self.old.lines.items) }
+            (Appends (E.contents self.old.err.now) (E.contents self.new.err.now) self.old.lines.now.items) }
     {
-        let written = self.err.write_all(&self.lines);
+        let written = self.err.write_all(self.lines.as_slice());
         self.lines.clear();
         written
     }
@@ -192,10 +203,10 @@ impl<E: Write> Log<'_, E> {
         ensures quiet { self.new.is_quiet ≡ self.old.is_quiet }
         ensures said { self.new.has_failed ≡ false → (self.old.has_failed ≡ false)
             × IsAdded (said_of self.old.is_quiet self.old.origins.now self.old.counts note)
-            self.old.lines.items self.new.lines.items self.new.counts }
+            self.old.lines.now.items self.new.lines.now.items self.new.counts }
     {
         let (origins, is_quiet, counts) = (self.origins, self.is_quiet, self.counts);
-        match add(&mut self.lines, origins, is_quiet, counts, note) {
+        match add(self.lines, origins, is_quiet, counts, note) {
             Ok(after) => self.counts = after,
             Err(_) => self.has_failed = true,
         }
@@ -219,8 +230,8 @@ impl<E: Write> Notes for Log<'_, E> {
         × (new.origins.now ≡ old.origins.now)
         × (new.is_quiet ≡ old.is_quiet)
         × IsLogged old.is_quiet old.origins.now note old.has_failed new.has_failed
-        (logged (E.contents old.err.now) old.lines.items old.counts)
-        (logged (E.contents new.err.now) new.lines.items new.counts) };
+        (logged (E.contents old.err.now) old.lines.now.items old.counts)
+        (logged (E.contents new.err.now) new.lines.now.items new.counts) };
 
     /// A turn in which nothing is said costs two comparisons.
     #[inline]

@@ -160,19 +160,18 @@ fn listen<R: Net + Clock, I: ZoneIndex, S: ZoneStore, E: Write>(
         return Ok(FAILED);
     };
     tell_listening(err, address)?;
-    let lines = Vec::new(heap);
+    let mut lines = Vec::new(heap);
     let counts = Counts::new(0);
     let mut log = Log {
         err,
         origins,
         is_quiet,
-        lines,
+        lines: &mut lines,
         counts,
         has_failed: false,
     };
     run(heap, rt, primary, &mut sockets, &mut log, turns)?;
-    log.write_out()?;
-    if log.has_failed {
+    if !log.is_written() {
         return Ok(FAILED);
     }
     Ok(DONE)

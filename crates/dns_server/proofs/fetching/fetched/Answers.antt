@@ -1,8 +1,11 @@
-use Rattle.std.proofs.Common.{ℕ, List, subst}
+use Rattle.std.proofs.Common.{ℕ, inl, refl}
 use Rattle.std.specs.Option.{option_copied}
-use Rattle.dns_configuration.specs.Settings.{IsSocketAddress}
 use Rattle.dns_server.specs.Fetch.{FetchEnds, IsAskedFor}
-use Rattle.dns_server.proofs.Fetched.{answer_told, fetch_failed, fetch_told, shown, since_told}
+use Rattle.dns_configuration.specs.Faults.{fault_text}
+use Rattle.dns_server.specs.FetchFaults.{fetch_text}
+use Rattle.dns_server.specs.declared.fetch_faults.FetchFault.TheVariants.{BadAddress}
+use Rattle.dns_server.proofs.Ended.{fault_told}
+use Rattle.dns_server.proofs.Fetched.{answer_told, fetch_failed, fetch_told, no_origin, not_asked, shown, since_told}
 use Rattle.dns_server.proofs.fetching.fetched.Goals as goal
 
 pub returns-in-Err-held_version : goal.returns-in-Err-held_version
@@ -40,3 +43,30 @@ returns-in-Err-take_from g c =
     fetch_told (λ (status : ℕ). FetchEnds g.S.Stream reached server origin since c.args.explain out out err err_after status) server fault c.args.explain err err_after c.tell_fetch-in-Err-take_from.result c.tell_fetch-in-Err-take_from.ensures
     (fetch_failed g.S.Stream reached server origin since c.args.explain out out err err_after)
     (λ is said. answer_told g.S.Stream reached server origin since c.args.explain c.in-Some.address c.in-Ok.name c.in-Ok-held_version.held fault out err err_after asked c.in-Err-take_from.ensures.refused is said)
+
+pub returns-in_default : goal.returns-in_default
+returns-in_default g c =
+    let reached = g.V.Servers.reached c.args.servers.now in
+    let server = c.args.server.now in
+    let origin = c.args.origin.now in
+    let since = option_copied c.args.since in
+    let out = g.W.Write.contents c.args.out.now in
+    let err = g.E.Write.contents c.args.err.now in
+    let err_after = g.E.Write.contents c.tell_fetch.new.err in
+    fetch_told (λ (status : ℕ). FetchEnds g.S.Stream reached server origin since c.args.explain out out err err_after status) server BadAddress c.args.explain err err_after c.tell_fetch.result c.tell_fetch.ensures
+    (fetch_failed g.S.Stream reached server origin since c.args.explain out out err err_after)
+    (λ _ said. not_asked g.S.Stream reached server origin since c.args.explain out err err_after (fetch_text server BadAddress c.args.explain) (inl (c.in_default.ensures, refl)) said)
+
+pub returns-in-Err : goal.returns-in-Err
+returns-in-Err g c =
+    let reached = g.V.Servers.reached c.args.servers.now in
+    let server = c.args.server.now in
+    let origin = c.args.origin.now in
+    let since = option_copied c.args.since in
+    let fault = c.in-Err.fault in
+    let out = g.W.Write.contents c.args.out.now in
+    let err = g.E.Write.contents c.args.err.now in
+    let err_after = g.E.Write.contents c.tell.new.err in
+    fault_told (λ (status : ℕ). FetchEnds g.S.Stream reached server origin since c.args.explain out out err err_after status) origin fault err err_after c.tell.result c.tell.ensures
+    (fetch_failed g.S.Stream reached server origin since c.args.explain out out err err_after)
+    (λ is said. not_asked g.S.Stream reached server origin since c.args.explain out err err_after (fault_text origin fault) (no_origin g.S.Stream reached server origin since c.args.explain fault c.in-Err.ensures is) said)

@@ -18,8 +18,8 @@ returns g c =
             let took = c.take.ensures.said whole in (
               took.0,
               record {
-                text = subst (λ (x : Option (List ℕ)). Appends (append_known (text old.err.now) old.lines.items) (append_known x new.lines.items) said.0) (sym c.take.ensures.text)
-                    (said_more (text old.err.now) old.lines.items said.0 new.lines.items took.1.lines_are);
+                text = subst (λ (x : Option (List ℕ)). Appends (append_known (text old.err.now) old.lines.now.items) (append_known x new.lines.now.items) said.0) (sym c.take.ensures.text)
+                    (said_more (text old.err.now) old.lines.now.items said.0 new.lines.now.items took.1.lines_are);
                 counts = took.1.counts_are;
               },
             );
