@@ -186,9 +186,8 @@ const ROOT: &[u8] = b"DPR1\0\0\0\0\0\0\0\0\0\0\0\0\0\0\0\0\0\0\0\0\0\0\0\0\0\0\0
 
 const FORMATTED: &str = "formatted example. serial 7\nformatted other. serial 4294967295\n";
 
-/// What is printed and told where the device of the first zone is made, and the one of the second is taken
-/// away again.
-const TOO_LARGE: &str = "formatted example. serial 7\nother.device: ZoneTooLarge\n";
+/// What is told if the second zone doesn't fit: nothing is printed, and both devices are removed.
+const TOO_LARGE: &str = "other.device: ZoneTooLarge\n";
 
 const EXISTS: &str =
     "other.device: Exists\nother.device: init makes new files alone; move the file away, or serve it\n";
