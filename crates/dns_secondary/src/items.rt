@@ -1,5 +1,6 @@
 //! The records of a message, one after another.
 ghost use Rattle.std.specs.Prelude.{◌≡◌, ◌⊎◌, IfOk, IfErr};
+ghost use Rattle.dns_wire.specs.Copied.{record_copied};
 ghost use Rattle.dns_wire.specs.Message.{record_of_item};
 ghost use Rattle.dns_secondary.specs.Step.{IsFit, TakesRecord, RefusesRecord};
 ghost use Rattle.dns_secondary.specs.Rest.{Reaches, FailsBy};
@@ -11,7 +12,7 @@ use dns_memory::Heap;
 use dns_names::Name;
 use dns_records::types::CLASS_IN;
 use dns_records::{Record, RecordError};
-use dns_wire::{RecordView, Section};
+use dns_wire::{CopiedRecord, Section};
 use dns_zone::{Zone, ZoneIndex};
 
 /// The fault that a record is whose data is refused.
@@ -27,15 +28,16 @@ fn fault_of(error: RecordError) -> Fault
 }
 
 /// A record of a message as a record of a zone.
-fn fit_record(alloc: Heap, item: &RecordView<'_>) -> Result<Record, Fault>
-    ensures fit { IfOk result (λ r. IsFit item.now × (r ≡ record_of_item item.now)) }
+fn fit_record(alloc: Heap, item: CopiedRecord) -> Result<Record, Fault>
+    ensures fit { IfOk result
+        (λ r. IsFit (record_copied item) × (r ≡ record_of_item (record_copied item))) }
     ensures refused { IfErr result
-        (λ e. (e ≡ Fault.OutOfMemory) ⊎ ((IsFit item.now → ⊥) × (e ≡ Fault.BadSequence))) }
+        (λ e. (e ≡ Fault.OutOfMemory) ⊎ ((IsFit (record_copied item) → ⊥) × (e ≡ Fault.BadSequence))) }
 {
-    if item.class() != CLASS_IN {
+    if item.class != CLASS_IN {
         return Err(Fault::BadSequence);
     }
-    match item.to_record(alloc) {
+    match item.into_record(alloc) {
         Ok(r) => {
             let _valid = r.rdata();
             Ok(r)
@@ -51,11 +53,12 @@ impl<I: ZoneIndex> Reading<I> {
         alloc: Heap,
         apex: &Name,
         held: &Option<Zone<I>>,
-        item: &RecordView<'_>,
+        item: CopiedRecord,
     ) -> Result<Reading<I>, Fault>
-        ensures taken { IfOk result (λ next. TakesRecord apex.now held.now self item.now next) }
+        ensures taken { IfOk result
+            (λ next. TakesRecord apex.now held.now self (record_copied item) next) }
         ensures refused { IfErr result
-            (λ e. (e ≡ Fault.OutOfMemory) ⊎ RefusesRecord apex.now held.now self item.now e) }
+            (λ e. (e ≡ Fault.OutOfMemory) ⊎ RefusesRecord apex.now held.now self (record_copied item) e) }
     {
         match fit_record(alloc, item) {
             Ok(r) => self.take(alloc, apex, held, r),
@@ -79,9 +82,9 @@ impl<I: ZoneIndex> Reading<I> {
             (λ e. (e ≡ Fault.OutOfMemory) ⊎ FailsBy apex.now held.now self section.entry e) }
     {
         let mut reading = self;
-        let mut section = section;
-        'records: while let Some(item) = section.next() {
-            reading = reading.take_item(alloc, apex, held, &item)?;
+        let mut copied = section.copied(alloc)?;
+        'records: while let Some(item) = copied.next()? {
+            reading = reading.take_item(alloc, apex, held, item)?;
         }
         Ok(reading.sealed()?)
     }

@@ -6,6 +6,7 @@ ghost use Rattle.dns_names.specs.Name.{names_eq, under};
 ghost use Rattle.dns_records.specs.Record.{IsRData, data_of};
 ghost use Rattle.dns_records.specs.Refusals.{RefusesData};
 ghost use Rattle.dns_records.specs.Types.{is_data_type, is_known};
+ghost use Rattle.dns_wire.specs.Copied.{record_copied};
 ghost use Rattle.dns_zone.specs.Records.{alike};
 ghost use Rattle.dns_update.specs.ResourceRecord.{as_record, is_empty, is_meta};
 
@@ -13,7 +14,7 @@ use dns_memory::Heap;
 use dns_names::{Name, NameRef};
 use dns_records::types::{AXFR, IXFR, MAILA, MAILB};
 use dns_records::{RData, Record, RecordError, form};
-use dns_wire::{RecordView, Section};
+use dns_wire::{CopiedRecord, Section};
 use dns_zone::{ZoneIndex, find_parts};
 use std::alloc::AllocError;
 use std::marker::Model;
@@ -53,16 +54,23 @@ impl Model for ResourceRecord {
 
 impl ResourceRecord {
     /// The record of a message.
-    fn of(alloc: Heap, view: &RecordView<'_>) -> Result<ResourceRecord, AllocError>
-        ensures { IfOk result (λ item. item ≡ view.now) }
+    fn of(copied: CopiedRecord) -> ResourceRecord
+        ensures { result ≡ record_copied copied }
     {
-        Ok(ResourceRecord {
-            owner: view.owner().to_name(alloc)?,
-            rtype: view.rtype(),
-            class: view.class(),
-            ttl: view.ttl(),
-            rdata: view.rdata(alloc)?,
-        })
+        let CopiedRecord {
+            owner,
+            rtype,
+            class,
+            ttl,
+            rdata,
+        } = copied;
+        ResourceRecord {
+            owner,
+            rtype,
+            class,
+            ttl,
+            rdata,
+        }
     }
 
     /// Whose record it is.
@@ -193,11 +201,11 @@ pub(crate) fn items_of(
     ensures all { IfOk result (λ items. items.items ≡ section.entry) }
     ensures few { length section.entry < 2 ^ 16 }
 {
-    let mut section = section;
     let _count = section.len();
+    let mut copied = section.copied(alloc)?;
     let mut items = Vec::new(alloc);
-    'items: while let Some(view) = section.next() {
-        items.push(ResourceRecord::of(alloc, &view)?)?;
+    'items: while let Some(record) = copied.next()? {
+        items.push(ResourceRecord::of(record))?;
     }
     Ok(items)
 }

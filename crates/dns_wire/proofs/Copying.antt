@@ -12,6 +12,7 @@ use Rattle.dns_names.specs.PlainLaws.{wire_read}
 use Rattle.dns_wire.specs.NameAt.{IsPointer, NameAt}
 use Rattle.dns_wire.specs.NameLaws.{length-wire, opening, Closing, closing, by_root, by_pointer, zero_ends, pointer_ends, pointer_unique, some_octet}
 use Rattle.dns_wire.specs.Compressed.{run_octets}
+use Rattle.dns_wire.specs.Pointers.{Leads}
 
 -- the octets of labels that are there, in lower case
 pub run_read : (m : List ℕ) (at : ℕ) (labels : Labels) (stop : ℕ) → LabelsAt m at labels stop → map to_ascii_lowercase (take (length (run_octets labels)) (drop at m)) ≡ run_octets labels
@@ -148,6 +149,7 @@ pub record Pointed (m : List ℕ) (at high : ℕ) (name : Labels) : Type 0 where
   pub target : ℕ
   pub after : ℕ
   pub pointer : IsPointer m at target
+  pub far : 12 ≤ target
   pub back : target < at
   pub stands : NameAt m target name after
 
@@ -157,25 +159,9 @@ pointed m at high name end first marked h = go (closing m at [] at high name ref
     go : Closing m at [] at high name → Pointed m at high name
     go (by_root z is) = absurd (omega (arith, z, marked))
     go (by_pointer rest target after p _ far back inner is) =
-        record { target = target; after = after; pointer = p; back = back; stands = subst (λ (x : Labels). NameAt m target x after) (sym is) inner }
-
--- the name at an offset is also at another
-abbrev pub Leads : List ℕ → ℕ → ℕ → Type 0
-Leads m at run = (name : Labels) (end : ℕ) → NameAt m at name end → (after : ℕ) × NameAt m run name after
-
-pub leads_next : (m : List ℕ) (at run high target : ℕ) → slice_get m run ≡ Some high → 192 ≤ high → IsPointer m run target → Leads m at run → Leads m at target
-leads_next m at run high target first marked p so_far name end h =
-    let here = so_far name end h in
-    let k = pointed m run high name here.0 first marked here.1 in
-    (k.after, subst (λ (x : ℕ). NameAt m x name k.after) (pointer_unique m run k.target target k.pointer p) k.stands)
+        record { target = target; after = after; pointer = p; far = far; back = back; stands = subst (λ (x : Labels). NameAt m target x after) (sym is) inner }
 
 pub copied_far : (m out : List ℕ) (target run size : ℕ) (name : Labels) → Leads m target run → Copied m out target size name → Copied m out run size name
 copied_far m out target run size name leads h =
     let there = leads h.rest h.end h.stands in
     record { rest = h.rest; end = there.0; stands = there.1; inside = h.inside; whole = h.whole }
-
--- a pointer that leads on from an offset which a name leads to
-pub pointed_here : (m : List ℕ) (at run : ℕ) (name : Labels) (end : ℕ) → Leads m at run → NameAt m at name end → run < length m → 192 ≤ get_or m run 0 → Pointed m run (get_or m run 0) name
-pointed_here m at run name end leads h inside marked =
-    let k = leads name end h in
-    pointed m run (get_or m run 0) name k.0 (slice_get-get_or m run 0 inside) marked k.1

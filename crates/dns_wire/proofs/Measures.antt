@@ -80,15 +80,15 @@ length_once m at size name end fits k low h short =
     (record { stands = k.stands; valid = record { labels = name_valid fits k.stands; short = omega (arith, sized) } }) in
     ap (λ (x : Labels). length (wire x)) one.0 ∙ sized
 
--- the length of a name is kept at its offset
-pub kept : (m lengths : List ℕ) (at size : ℕ) → AreLengths m lengths → at < length lengths → IsMeasured m at size → AreLengths m (set lengths at size)
-kept m lengths at size known low h i some = go (nat_same i at)
+-- a number is kept at its index
+pub kept : (P : ℕ → ℕ → Type 0) (xs : List ℕ) (at x : ℕ) → ((i : ℕ) → get_or xs i 0 ≢ 0 → P i (get_or xs i 0)) → at < length xs → P at x → (i : ℕ) → get_or (set xs at x) i 0 ≢ 0 → P i (get_or (set xs at x) i 0)
+kept P xs at x known low h i some = go (nat_same i at)
   where
-    go : (i ≡ at) ⊎ (i ≢ at) → IsMeasured m i (get_or (set lengths at size) i 0)
-    go (inl e) = subst (λ (n : ℕ). IsMeasured m i n) (sym (get_or-set_at lengths at i size 0 e low)) (subst (λ (k : ℕ). IsMeasured m k size) (sym e) h)
+    go : (i ≡ at) ⊎ (i ≢ at) → P i (get_or (set xs at x) i 0)
+    go (inl e) = subst (λ (n : ℕ). P i n) (sym (get_or-set_at xs at i x 0 e low)) (subst (λ (k : ℕ). P k x) (sym e) h)
     go (inr other) =
-        let same : get_or (set lengths at size) i 0 ≡ get_or lengths i 0 = get_or-set_other lengths at i size 0 other in
-        subst (λ (n : ℕ). IsMeasured m i n) (sym same) (known i (subst (λ (n : ℕ). n ≢ 0) same some))
+        let same : get_or (set xs at x) i 0 ≡ get_or xs i 0 = get_or-set_other xs at i x 0 other in
+        subst (λ (n : ℕ). P i n) (sym same) (known i (subst (λ (n : ℕ). n ≢ 0) same some))
 
 -- behind a pointer the name is shorter by the labels before it
 pub measured_behind : (m : List ℕ) (run size : ℕ) (labels : Labels) (stop target : ℕ) → LabelsAt m run labels stop → IsPointer m stop target → run ≤ stop → IsMeasured m run size → (stop - run ≤ size) × IsMeasured m target (size - (stop - run))
@@ -135,5 +135,5 @@ zeros zero i = refl
 zeros (suc n) zero = refl
 zeros (suc n) (suc i) = zeros n i
 
-pub none_kept : (m : List ℕ) (n : ℕ) → AreLengths m (replicate n 0)
-none_kept m n i some = absurd (some (zeros n i))
+pub none_kept : (P : ℕ → ℕ → Type 0) (n i : ℕ) → ◌≢◌ {A = ℕ} (get_or (replicate n 0) i 0) 0 → P i (get_or (replicate n 0) i 0)
+none_kept P n i some = absurd (some (zeros n i))

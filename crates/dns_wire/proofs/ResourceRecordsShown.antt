@@ -8,7 +8,7 @@ use Rattle.dns_wire.specs.NameAt.{FullNameAt}
 use Rattle.dns_wire.specs.Reads.{NumberAt, RDataAt, ResourceRecordAt, ResourceRecordsAt}
 use Rattle.dns_wire.specs.Reading.{rdata_at, items_at}
 use Rattle.dns_wire.specs.Received.{received}
-use Rattle.dns_wire.specs.Viewed.{data_shown, item_shown, items_left, AreResourceRecordsLeft}
+use Rattle.dns_wire.specs.Viewed.{labels_at, data_shown, item_shown, items_left, AreResourceRecordsLeft}
 use Rattle.dns_wire.proofs.Ends.{number_once, data_inside}
 use Rattle.dns_wire.proofs.ResourceRecords.{rdata_is}
 use Rattle.dns_wire.proofs.Lists.{items_are}
@@ -24,19 +24,29 @@ data_read m mid rtype size plain typed counted h =
 data_is : (m : List ℕ) (at : ℕ) (r : ResourceRecord) (stop : ℕ) (h : ResourceRecordAt m at r stop) → data_shown m h.mid ≡ r.rdata
 data_is m at r stop h = data_read m h.mid r.rtype h.rdlength r.rdata h.rtype.read h.counted.read h.rdata
 
+-- the parts of what a view shows
+pub shown_parts : (m : List ℕ) (at mid : ℕ) (owner : Labels) (rtype class ttl : ℕ) (rdata : List ℕ)
+    → owner ≡ labels_at m at → rtype ≡ number_of (slice_range m mid (mid + 2)) → class ≡ number_of (slice_range m (mid + 2) (mid + 2 + 2)) → ttl ≡ number_of (slice_range m (mid + 4) (mid + 4 + 4)) → rdata ≡ data_shown m mid
+    → item_shown m at mid ≡ record { owner = owner; rtype = rtype; class = class; ttl = ttl; rdata = rdata }
+shown_parts m at mid owner rtype class ttl rdata named typed classed lived held =
+    ap (λ (n : Labels). record { owner = n; rtype = number_of (slice_range m mid (mid + 2)); class = number_of (slice_range m (mid + 2) (mid + 2 + 2)); ttl = number_of (slice_range m (mid + 4) (mid + 4 + 4)); rdata = data_shown m mid }) (sym named)
+    ∙ ap (λ (t : ℕ). record { owner = owner; rtype = t; class = number_of (slice_range m (mid + 2) (mid + 2 + 2)); ttl = number_of (slice_range m (mid + 4) (mid + 4 + 4)); rdata = data_shown m mid }) (sym typed)
+    ∙ ap (λ (c : ℕ). record { owner = owner; rtype = rtype; class = c; ttl = number_of (slice_range m (mid + 4) (mid + 4 + 4)); rdata = data_shown m mid }) (sym classed)
+    ∙ ap (λ (t : ℕ). record { owner = owner; rtype = rtype; class = class; ttl = t; rdata = data_shown m mid }) (sym lived)
+    ∙ ap (λ (d : List ℕ). record { owner = owner; rtype = rtype; class = class; ttl = ttl; rdata = d }) (sym held)
+
 pub item_is_shown : (m : List ℕ) (at : ℕ) (r : ResourceRecord) (stop : ℕ) (h : ResourceRecordAt m at r stop) → item_shown m at h.mid ≡ r
 item_is_shown m at r stop h =
-    let mid = h.mid in
-    ap (λ (n : Labels). record { owner = n; rtype = number_of (slice_range m mid (mid + 2)); class = number_of (slice_range m (mid + 2) (mid + 2 + 2)); ttl = number_of (slice_range m (mid + 4) (mid + 4 + 4)); rdata = data_shown m mid }) (viewed m at r.owner mid h.owner)
-    ∙ ap (λ (t : ℕ). record { owner = r.owner; rtype = t; class = number_of (slice_range m (mid + 2) (mid + 2 + 2)); ttl = number_of (slice_range m (mid + 4) (mid + 4 + 4)); rdata = data_shown m mid }) (sym h.rtype.read)
-    ∙ ap (λ (c : ℕ). record { owner = r.owner; rtype = r.rtype; class = c; ttl = number_of (slice_range m (mid + 4) (mid + 4 + 4)); rdata = data_shown m mid }) (sym h.class.read)
-    ∙ ap (λ (t : ℕ). record { owner = r.owner; rtype = r.rtype; class = r.class; ttl = t; rdata = data_shown m mid }) (sym h.ttl.read)
-    ∙ ap (λ (d : List ℕ). record { owner = r.owner; rtype = r.rtype; class = r.class; ttl = r.ttl; rdata = d }) (data_is m at r stop h)
+    shown_parts m at h.mid r.owner r.rtype r.class r.ttl r.rdata (sym (viewed m at r.owner h.mid h.owner)) h.rtype.read h.class.read h.ttl.read (sym (data_is m at r stop h))
 
 pub left_is : (m : List ℕ) (at n : ℕ) (h : AreResourceRecordsLeft m at n) → items_left m at n ≡ h.items
 unfolding items_left
 left_is m at n h =
     ap (λ (o : Option _). elim o [ None ↦ [] | Some found ↦ found.0 ]) (ap (λ (k : ℕ). items_at k m at) (sym h.count) ∙ items_are m at h.items h.stop h.stand)
+
+pub none_left : (rs : List ResourceRecord) → length rs ≡ 0 → rs ≡ []
+none_left [] e = refl
+none_left (r ∷ rs) e = absurd (omega (arith, e))
 
 -- the next record and those after it
 pub record NextItem (m : List ℕ) (at n : ℕ) (items : List ResourceRecord) : Type 0 where

@@ -1,15 +1,15 @@
 //! A name of a message copied as one run of labels in lower case.
-ghost use Rattle.std.specs.Prelude.{◌≡◌, ℕ, ◌+◌, ◌≤◌, ◌++◌, length, map, take, drop};
+ghost use Rattle.std.specs.Prelude.{◌≡◌, ◌+◌, ◌≤◌, ◌++◌, length, map, take, drop, IfOk};
 ghost use Rattle.std.specs.Char.{to_ascii_lowercase};
-ghost use Rattle.dns_names.specs.Name.{Labels, wire};
-ghost use Rattle.dns_wire.specs.NameAt.{NameAt};
+ghost use Rattle.dns_names.specs.Name.{wire};
+ghost use Rattle.dns_wire.specs.Pointers.{AreEnds};
 ghost use Rattle.dns_wire.specs.Viewed.{labels_at, IsViewed};
 
-use crate::fields::number;
-use crate::name::{POINTER_BITS, RunEnd, step};
-
-/// A pointer's other 14 bits are less than this (RFC 1035 section 4.1.4).
-const TARGETS: u16 = 16384;
+use crate::name::{RunEnd, step};
+use crate::pointers::behind_pointers;
+use dns_memory::Heap;
+use dns_names::{Name, NameRef};
+use std::alloc::AllocError;
 
 /// Writes octets in lower case over those from an offset on.
 fn copy_lower(text: &[u8], out: &mut [u8], at: usize)
@@ -22,30 +22,17 @@ fn copy_lower(text: &[u8], out: &mut [u8], at: usize)
     field.make_ascii_lowercase();
 }
 
-/// The offset of the labels or the root that the pointers from an offset on lead to, one after the other.
-fn behind_pointers(message: &[u8], at: usize) -> usize
-    requires name { (name : Labels) × (end : ℕ) × NameAt message.now at name end }
-    requires inside { at + 2 ≤ length message.now }
-    ensures leads { (name : Labels) (end : ℕ) → NameAt message.now at name end
-        → (after : ℕ) × NameAt message.now result name after }
-    ensures back { result ≤ at }
-{
-    let mut run = at;
-    'pointers: loop {
-        let pointer = number(message, run);
-        if pointer < POINTER_BITS {
-            return run;
-        }
-        run = (pointer % TARGETS) as usize;
-    }
-}
-
-/// Writes the plain form of the name at an offset, in lower case, and gives its length.
-pub(crate) fn copy_plain(message: &[u8], at: usize, out: &mut [u8]) -> usize
+/// Writes the plain form of the name at an offset, in lower case, and returns its length. It goes over the
+/// ends of pointers that are kept.
+pub(crate) fn copy_plain(message: &[u8], at: usize, ends: &mut [u16], out: &mut [u8]) -> usize
     requires there { IsViewed message.now at }
     requires room { 255 ≤ length out.old }
+    requires few { length ends.old ≤ 16384 }
+    requires known { AreEnds message.now ends.old }
     ensures plain { take result out.new ≡ wire (labels_at message.now at) }
     ensures inside { result ≤ length out.new }
+    ensures known { AreEnds message.now ends.new }
+    ensures size { length ends.new ≡ length ends.old }
 {
     let mut run = at;
     let mut size = 0;
@@ -61,8 +48,27 @@ pub(crate) fn copy_plain(message: &[u8], at: usize, out: &mut [u8]) -> usize
             RunEnd::Pointer { stop, target } => {
                 copy_lower(&message[run..stop], out, size);
                 size += stop - run;
-                run = behind_pointers(message, target);
+                run = behind_pointers(message, target, ends);
             }
         }
     }
+}
+
+/// The name at an offset, in lower case. It goes over the ends of pointers that are kept.
+pub(crate) fn copy_name(
+    message: &[u8],
+    at: usize,
+    ends: &mut [u16],
+    alloc: Heap,
+) -> Result<Name, AllocError>
+    requires there { IsViewed message.now at }
+    requires few { length ends.old ≤ 16384 }
+    requires known { AreEnds message.now ends.old }
+    ensures name { IfOk result (λ name. name ≡ labels_at message.now at) }
+    ensures known { AreEnds message.now ends.new }
+    ensures size { length ends.new ≡ length ends.old }
+{
+    let mut octets = [0; 255];
+    let size = copy_plain(message, at, ends, &mut octets);
+    NameRef::over(&octets[..size]).to_name(alloc)
 }

@@ -4,9 +4,10 @@ ghost use Rattle.dns_records.specs.Refusals.{RefusesData};
 ghost use Rattle.dns_wire.specs.Message.{record_of_item, data_of_item};
 
 use crate::NameView;
+use crate::copied::CopiedSection;
 use crate::fields::{long_number, number};
 use crate::name::behind_name;
-use crate::owned::append_data;
+use crate::owned::copy_data;
 use dns_memory::Heap;
 use dns_records::{RData, Record, RecordError};
 use std::alloc::AllocError;
@@ -66,16 +67,13 @@ impl<'a> RecordView<'a> {
     pub fn rdata(&self, alloc: Heap) -> Result<Vec<u8, Heap>, AllocError>
         ensures { IfOk result (λ octets. octets.items ≡ self.now.rdata) }
     {
-        let size = number(self.message, self.behind_owner + 8) as usize;
-        let mut octets = Vec::new(alloc);
-        append_data(
+        copy_data(
             self.message,
-            self.behind_owner + 10,
-            self.rtype(),
-            size,
-            &mut octets,
-        )?;
-        Ok(octets)
+            self.at,
+            self.behind_owner,
+            &mut [],
+            alloc,
+        )
     }
 
     /// The record of class IN with this owner, TTL, type and data, whatever the class here. It is refused as
@@ -133,6 +131,13 @@ impl<'a> Section<'a> {
         ensures { result ≡ length self.now }
     {
         self.left
+    }
+
+    /// The same records, to be copied one after the other.
+    pub fn copied(self, alloc: Heap) -> Result<CopiedSection<'a>, AllocError>
+        ensures { IfOk result (λ copied. copied ≡ self.entry) }
+    {
+        CopiedSection::over(alloc, self.message, self.next, self.left)
     }
 
     /// The next record, if there is one.

@@ -1,6 +1,6 @@
 use Rattle.std.proofs.Common.{◌≤◌, List, ℕ, sym, subst, arith}
 use Rattle.dns_names.specs.Runs.{run_up}
-use Rattle.dns_wire.specs.Lengths.{AreLengths}
+use Rattle.dns_wire.specs.Lengths.{IsMeasured, AreLengths}
 use Rattle.dns_wire.proofs.Measures.{kept, measured_behind}
 use Rattle.dns_wire.proofs.lengths.keep_lengths.Goals as goal
 use Rattle.dns_wire.proofs.lengths.keep_lengths.Goals.{then-run-lengths, else-run-lengths}
@@ -29,7 +29,7 @@ targets-preserved c =
       short = omega (arith, short);
       name = (measured_behind m c.targets.run c.targets.left f.0 c.in-Ok-Pointer.stop c.in-Ok-Pointer.target f.1 f.2 up c.targets.invariant.name).1;
       known = elim c.if-run-lengths.branch [
-        | then-run-lengths w ↦ subst (λ (xs : List ℕ). AreLengths m xs) (sym w.lengths-is) (kept m c.targets.lengths c.targets.run c.targets.left c.targets.invariant.known w.if-run-lengths.true c.targets.invariant.name)
+        | then-run-lengths w ↦ subst (λ (xs : List ℕ). AreLengths m xs) (sym w.lengths-is) (kept (IsMeasured m) c.targets.lengths c.targets.run c.targets.left c.targets.invariant.known w.if-run-lengths.true c.targets.invariant.name)
         | else-run-lengths w ↦ subst (λ (xs : List ℕ). AreLengths m xs) (sym w.lengths-is) c.targets.invariant.known
       ];
     }

@@ -30,10 +30,12 @@ loop-field-preserved c =
     let rest : List Field = stated_fields (drop (i + 1) parts) in
     let left : stated_fields (drop i parts) ≡ first ∷ rest = parts_left parts i no_field (omega arith) in
     let last : StringsLast (first ∷ rest) = subst StringsLast left c.loop-field.invariant.last in
-    let found = c.in_ok-next.ensures in
+    let found = c.in_ok-next.ensures.part in
     record {
       up = field_low m at first next stop found.0;
       last = last_behind first rest last;
       left = fields_less m at first rest next stop last found.0 (subst (λ (fs : List Field). SomeFields m at fs stop) left c.loop-field.invariant.left);
+      few = omega (arith, c.append_field.ensures.size, c.loop-field.invariant.few);
+      known = c.append_field.ensures.known;
       joins = joined_next m c.args.at (stated_fields parts) stop at first rest next c.args.out.now.items c.loop-field.out.items c.append_field.new.out.items (subst (λ (fs : List Field). Joins m c.args.at (stated_fields parts) stop at fs c.args.out.now.items c.loop-field.out.items) left c.loop-field.invariant.joins) found.0 found.1;
     }

@@ -14,7 +14,7 @@ runs-init c =
     let m = c.args.message.now in
     let at = c.args.at in
     let h = name_viewed m at c.requires.there in
-    record { inside = h.inside; small = omega arith; room = c.requires.room; copied = copied_first m c.args.out.now at (labels_at m at) h.end h.stands.stands }
+    record { inside = h.inside; small = omega arith; room = c.requires.room; few = c.requires.few; known = c.requires.known; copied = copied_first m c.args.out.now at (labels_at m at) h.end h.stands.stands }
 
 pub returns-in_default-clause-plain : goal.returns-in_default-clause-plain
 returns-in_default-clause-plain c =
@@ -78,11 +78,13 @@ runs-preserved c =
     let text = map to_ascii_lowercase (slice_range m c.runs.run stop) in
     let new = c.copy_lower-in-Pointer.new.out in
     let next = copied_next m out c.runs.run c.runs.size name f.0 stop c.in-Pointer.target new (drop (c.runs.size + length (slice_range m c.runs.run stop)) out) text f.1 f.2 refl c.copy_lower-in-Pointer.ensures c.runs.invariant.copied in
-    let far = copied_far m new c.in-Pointer.target c.behind_pointers-run.result (c.runs.size + (stop - c.runs.run)) name c.behind_pointers-run.ensures.leads next in
+    let far = copied_far m new c.in-Pointer.target c.behind_pointers-run.result (c.runs.size + (stop - c.runs.run)) name c.behind_pointers-run.ensures.leads.leads next in
     record {
-      inside = omega (arith, c.behind_pointers-run.ensures.back, f.4, c.runs.invariant.inside);
+      inside = omega (arith, c.behind_pointers-run.ensures.leads.back, f.4, c.runs.invariant.inside);
       small = copied_small m new c.behind_pointers-run.result (c.runs.size + (stop - c.runs.run)) name h.stands.valid.short far;
       room = omega arith;
+      few = omega (arith, c.behind_pointers-run.ensures.size, c.runs.invariant.few);
+      known = c.behind_pointers-run.ensures.known;
       copied = far;
     }
 

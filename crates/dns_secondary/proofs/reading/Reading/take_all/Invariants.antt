@@ -6,9 +6,9 @@ use Rattle.dns_secondary.proofs.reading.Reading.take_all.Given as goal
 
 abbrev pub invariant-records : goal.invariant-records
 invariant-records g l = record {
-  ahead : (next : State) → Reaches l.fn.apex l.fn.held l.reading l.section next → Reaches l.fn.apex l.fn.held l.fn.self l.initial.section next;
-  fails : (fault : Fault) → FailsBy l.fn.apex l.fn.held l.reading l.section fault → FailsBy l.fn.apex l.fn.held l.fn.self l.initial.section fault;
+  ahead : (next : State) → Reaches l.fn.apex l.fn.held l.reading l.copied next → Reaches l.fn.apex l.fn.held l.fn.self l.initial.copied next;
+  fails : (fault : Fault) → FailsBy l.fn.apex l.fn.held l.reading l.copied fault → FailsBy l.fn.apex l.fn.held l.fn.self l.initial.copied fault;
 }
 
 abbrev pub decreases-records : goal.decreases-records
-decreases-records g l = length l.section
+decreases-records g l = length l.copied

@@ -1,17 +1,13 @@
-use Rattle.std.proofs.Common.{◌≡◌, ◌≤◌, ◌+◌, ◌-◌, ◌∷◌, [], ℕ, List, length, refl, sym, ap, subst, ◌∙◌, arith}
+use Rattle.std.proofs.Common.{◌≡◌, ◌≤◌, ◌+◌, ◌-◌, ◌∷◌, ℕ, List, length, sym, ap, subst, ◌∙◌, arith}
 use Rattle.dns_wire.specs.Message.{ResourceRecord}
 use Rattle.dns_wire.specs.Viewed.{AreResourceRecordsLeft, item_shown, items_left}
-use Rattle.dns_wire.proofs.ResourceRecordsShown.{left_is, next_item, owner_place, next_end, item_is_shown}
+use Rattle.dns_wire.proofs.ResourceRecordsShown.{left_is, none_left, next_item, owner_place, next_end, item_is_shown}
 use Rattle.dns_wire.proofs.record_view.Section.next.Goals as goal
-
-none : (xs : List ResourceRecord) → length xs ≡ 0 → xs ≡ []
-none [] e = refl
-none (x ∷ xs) e = absurd (omega (arith, e))
 
 pub returns-then-self-eq0-clause-none : goal.returns-then-self-eq0-clause-none
 returns-then-self-eq0-clause-none c =
     let s = c.self.inside in
-    sym c.self.view_is ∙ left_is s.message.now s.next s.left c.self.invariant ∙ none c.self.invariant.items (c.self.invariant.count ∙ c.if-self-eq0.true)
+    sym c.self.view_is ∙ left_is s.message.now s.next s.left c.self.invariant ∙ none_left c.self.invariant.items (c.self.invariant.count ∙ c.if-self-eq0.true)
 
 pub behind_name-behind_owner-requires : goal.behind_name-behind_owner-requires
 behind_name-behind_owner-requires c =

@@ -1,6 +1,6 @@
 use Rattle.std.proofs.Common.{◌≤◌}
-use Rattle.dns_wire.proofs.Copying.{Leads}
-use Rattle.dns_wire.proofs.plain.behind_pointers.Given as goal
+use Rattle.dns_wire.specs.Pointers.{Leads}
+use Rattle.dns_wire.proofs.pointers.pointers_end.Given as goal
 
 abbrev pub invariant-pointers : goal.invariant-pointers
 invariant-pointers l = record {
