@@ -67,13 +67,7 @@ impl<'a> RecordView<'a> {
     pub fn rdata(&self, alloc: Heap) -> Result<Vec<u8, Heap>, AllocError>
         ensures { IfOk result (λ octets. octets.items ≡ self.now.rdata) }
     {
-        copy_data(
-            self.message,
-            self.at,
-            self.behind_owner,
-            &mut [],
-            alloc,
-        )
+        copy_data(self.message, self.at, self.behind_owner, &mut [], alloc)
     }
 
     /// The record of class IN with this owner, TTL, type and data, whatever the class here. It is refused as
