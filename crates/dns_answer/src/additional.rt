@@ -220,8 +220,8 @@ impl<'a> Sections<'a> {
             || have_address(self.additional.as_slice())
     }
 
-    /// Puts in the addresses that go with a record of the zone, until there are more than so many, where it is
-    /// the only one: no host is looked up before it.
+    /// Puts in the addresses that go with a record of the zone, until there are more than so many, where it
+    /// is the only one: no host is looked up before it.
     fn push_for_one<I: ZoneIndex>(
         &mut self,
         zone: &'a Zone<I>,

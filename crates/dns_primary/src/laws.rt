@@ -66,8 +66,8 @@ pub fn stop_law()
 {}
 
 /// The reply to an update that was judged goes out at a later event than it was judged at, with the code of
-/// its judgement, or with SERVFAIL where its zone is closed then. What goes out at once where an update came is
-/// no acknowledgement. So nothing is acknowledged before it is durable.
+/// its judgement, or with SERVFAIL where its zone is closed then. What goes out at once where an update came
+/// is no acknowledgement. So nothing is acknowledged before it is durable.
 pub fn replies_wait_law()
     ensures released { (fails : List Bool) (old : Machine) (event : StatedEvent)
         (effects : StatedEffects) (new : Machine)

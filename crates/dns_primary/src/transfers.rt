@@ -207,8 +207,8 @@ fn refusal(alloc: Heap, to: To, request: &RequestMessage<'_>, rcode: Rcode) -> E
     }
 }
 
-/// No version of any of these zones. (A call that is given `None` as it is has no proof: nothing says how long
-/// the version that isn't there is lent.)
+/// No version of any of these zones. (A call that is given `None` as it is has no proof: nothing says how
+/// long the version that isn't there is lent.)
 fn no_version<I: ZoneIndex>(_zones: &[Zone<I>]) -> Option<Version<'_, I>>
     ensures { result ≡ None }
 {

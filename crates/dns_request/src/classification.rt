@@ -88,8 +88,8 @@ fn by_message<'a>(message: Message<'a>, header: &'a [u8; 12]) -> Request<'a>
 ///
 /// - Fewer than 12 octets, or a response: ignored.
 /// - An OPCODE other than QUERY and UPDATE: NOTIMP.
-/// - More than 512 octets by UDP; a number of questions other than one; additional records; in a query records
-///   in the answer section: FORMERR. These are counts of the header, so nothing is read for them.
+/// - More than 512 octets by UDP; a number of questions other than one; additional records; in a query
+///   records in the answer section: FORMERR. These are counts of the header, so nothing is read for them.
 /// - No message; in a query records in the authority section unless the type is IXFR: FORMERR.
 /// - An update; a question of type IXFR or AXFR: as they are called.
 /// - A question of type MAILB or MAILA: NOTIMP. In a class other than IN: REFUSED.
