@@ -10,7 +10,8 @@ ghost use Rattle.std.specs.declared.net.ip_addr.IpAddr.TheVariants.{V4, V6};
 ghost use Rattle.dns_configuration.specs.declared.configuration.ConfigurationError.TheVariants as told;
 ghost use Rattle.dns_configuration.specs.Settings.{ArePrefixes, AreSettings, Describes, FindsIfAny, HasCount};
 ghost use Rattle.dns_configuration.specs.Settings.{HasName, HasNone, HasPath, HasPrefixes, IsConfiguration};
-ghost use Rattle.dns_configuration.specs.Settings.{IsDescribedBy, IsHost, IsLastParted, IsSocketAddress, IsPort};
+ghost use Rattle.dns_configuration.specs.Settings.{IsDescribedBy, IsHost, IsLastParted};
+ghost use Rattle.dns_configuration.specs.Settings.{IsSocketAddress, IsPort};
 ghost use Rattle.dns_configuration.specs.Settings.{IsSettings, ReadsOrFails, are_alike, has_keys, list_at};
 ghost use Rattle.dns_configuration.specs.Settings.{number_at, text_at};
 

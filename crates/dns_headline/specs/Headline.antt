@@ -110,7 +110,8 @@ IsGivenOut number (Some s) (Configured new ∷ rest) = ⊥
 -- A machine of valid zones to which nothing has happened.
 abbrev pub BeginsLoaded : Machine → Type 0
 BeginsLoaded m =
-    (zones : List Zone) × (settings : List ZoneSpec) × AllByRecursion IsSoundZone zones × IsFresh zones settings m
+    (zones : List Zone) × (settings : List ZoneSpec)
+    × AllByRecursion IsSoundZone zones × IsFresh zones settings m
 
 -- The update was read from octets.
 abbrev pub WasRead : Message → Type 0

@@ -78,7 +78,8 @@ impl<I: ZoneIndex, S: ZoneStore> Primary<I, S> {
     ///   of the zone's journal, a flush and a checkpoint that leaves its sectors. Where that fails, its zone
     ///   is closed, and it is answered with SERVFAIL at once. One for which the zone has no room waits with
     ///   SERVFAIL. A request for a transfer is answered at once by UDP, and opens one on its connection by
-    /// TCP. - `Pump`: the transfer that is open on the connection gives its next message, and the last one ends
+    ///   TCP.
+    /// - `Pump`: the transfer that is open on the connection gives its next message, and the last one ends
     ///   it. Where memory is refused nothing goes out, and the next pump gives the same message.
     /// - `Connect`: the connection gets a number that no other has, or none where there are 64.
     /// - `Flush`: what was staged is made durable and shown, and what waits goes out. `Closed`: what waits to

@@ -2,7 +2,8 @@
 ghost use Rattle.std.specs.Prelude.{◌≡◌, ◌==◌, ◌<◌, ◌≤◌, true, [], ◌∷◌, length};
 ghost use Rattle.dns_wire.specs.Message.{Message as Stated, header_of};
 ghost use Rattle.dns_wire.specs.Reads.{Reads};
-ghost use Rattle.dns_request.specs.Request.{counts_as_request, has_counts, message_as, question_as, request_of, too_long};
+ghost use Rattle.dns_request.specs.Request.{counts_as_request, has_counts, message_as, question_as};
+ghost use Rattle.dns_request.specs.Request.{request_of, too_long};
 ghost use Rattle.dns_request.specs.Shown.{IsOf, request_shown};
 
 use crate::{Request, RequestMessage, Transport};

@@ -60,7 +60,8 @@ fn last_of(records: &[Record]) -> Option<&Record>
 }
 
 /// Records one after the other. Those of the messages before the last are shared by all copies, in runs each
-/// of which is at least twice as long as the next, so that a copy of 65,536 records costs 17 pointers at most.
+/// of which is at least twice as long as the next, so that a copy of 65,536 records costs at most 17
+/// pointers.
 pub(crate) struct Tail {
     runs: Vec<Run, Heap>,
     newest: Vec<Record, Heap>,

@@ -7,7 +7,8 @@ use Rattle.dns_wire.specs.declared.copied.CopiedRecord.{CopiedRecord}
 
 -- The record that a copy is.
 abbrev pub record_copied : CopiedRecord → ResourceRecord
-record_copied r = record { owner = r.owner; rtype = r.rtype; class = r.class; ttl = r.ttl; rdata = r.rdata.items }
+record_copied r =
+    record { owner = r.owner; rtype = r.rtype; class = r.class; ttl = r.ttl; rdata = r.rdata.items }
 
 -- So many records from an offset on, and ends of chains of pointers.
 pub record AreCopiesLeft (message : List ℕ) (at n : ℕ) (ends : List ℕ) : Type 0 where

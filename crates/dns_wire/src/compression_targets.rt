@@ -320,8 +320,8 @@ impl<'a> Places<'a> {
         self.first = name;
     }
 
-    /// An offset at which a suffix with a label occurs, where it is found without a search of the targets that
-    /// take memory.
+    /// An offset at which a suffix with a label occurs, where it is found without a search of the targets
+    /// that take memory.
     pub(crate) fn find(&self, suffix: &[u8]) -> Option<usize>
         requires { IsPlain suffix.now }
         ensures place { IfSome result (λ found. Some found ≡ offset_at self.now (labels_of suffix.now)) }

@@ -66,8 +66,8 @@ fn keep_end(message: &[u8], at: usize, end: usize, ends: &mut [u16])
     }
 }
 
-/// The offset of the labels or the root that the pointers from an offset on lead to, one after the other. It is
-/// kept where there is room.
+/// The offset of the labels or the root that the pointers from an offset on lead to, one after the other. It
+/// is kept where there is room.
 pub(crate) fn behind_pointers(message: &[u8], at: usize, ends: &mut [u16]) -> usize
     requires name { (name : Labels) × (stop : ℕ) × NameAt message.now at name stop }
     requires inside { at + 2 ≤ length message.now }
