@@ -8,8 +8,9 @@ use Rattle.dns_network.specs.declared.stream.Stream.{Ghosts}
 use Rattle.dns_secondary.specs.Receiving.{Receiving}
 use Rattle.dns_secondary.specs.Request.{request_octets}
 use Rattle.dns_secondary.specs.declared.fault.Fault.{Fault}
-use Rattle.dns_server.specs.TakingIn.{HasCarried, HasHeard, HasHeardEnd, HasHeardRefusal, IsRequestAnswered, IsAnswerRefused, IsTakenIn, TellEnd, TellMore, TellRefusal, asking, request_number}
-use Rattle.dns_server.proofs.Heard.{IsTakenLaw, end_on, more_on, refusal_on, refused_as, taken_as}
+use Rattle.dns_server.specs.TakingIn.{HasCarried, HasHeard, HasHeardEnd, HasHeardRefusal, IsRequestAnswered, IsAnswerRefused, IsTakenIn, GoesOn, TellEnd, TellRefusal, asking, request_number}
+use Rattle.dns_server.proofs.Heard.{IsTakenLaw, end_on, refusal_on, refused_as, taken_as}
+use Rattle.dns_server.proofs.Idle.{IsReadOnce, goes_on}
 
 module _ {S : Type 0} (g : Ghosts S) where
   pub none_carried : (old : S) → HasCarried g old [] [] old
@@ -78,35 +79,35 @@ module _ {S : Type 0} (g : Ghosts S) where
   }
 
   -- How far an answer was heard and read.
-  pub record IsHearing (old : S) (s : Receiving) (rest : List ℕ) (new : S) (now : Receiving) : Type 0 where
+  pub record IsHearing (old : S) (s : Receiving) (rest : List ℕ) (new : S) (idle : ℕ) (now : Receiving) : Type 0 where
     pub messages : List (List ℕ)
     pub heard : HasHeard g old messages rest new
-    pub more : TellMore s messages now
+    pub more : GoesOn 0 s messages idle now
 
   none_framed : IsFramed [] [] []
   none_framed = record { short = search rules; whole = refl; none = λ message rest short e. absurd cc }
 
-  pub hearing_begun : (old : S) (s : Receiving) (rest : List ℕ) → rest ≡ [] → IsHearing old s rest old s
+  pub hearing_begun : (old : S) (s : Receiving) (rest : List ℕ) → rest ≡ [] → IsHearing old s rest old 0 s
   hearing_begun old s rest e = record {
     messages = [];
     heard = record { octets = []; framed = subst (λ (x : List ℕ). IsFramed [] [] x) (sym e) none_framed; carried = none_carried g old };
-    more = refl;
+    more = (refl, refl);
   }
 
-  pub hearing_on : IsCutLaw → (old mid new : S) (s now next : Receiving) (ns : List (List ℕ)) (rest rest' piece : List ℕ) → IsHearing old s rest mid now → HasCarried g mid [] piece new → IsFramed (rest ++ piece) ns rest' → TellMore now ns next → IsHearing old s rest' new next
-  hearing_on law old mid new s now next ns rest rest' piece h k framed told = record {
+  pub hearing_on : IsCutLaw → (old mid new : S) (a b : ℕ) (s now next : Receiving) (ns : List (List ℕ)) (rest rest' piece : List ℕ) → IsHearing old s rest mid a now → HasCarried g mid [] piece new → IsFramed (rest ++ piece) ns rest' → GoesOn a now ns b next → IsHearing old s rest' new b next
+  hearing_on law old mid new a b s now next ns rest rest' piece h k framed told = record {
     messages = h.messages ++ ns;
     heard = heard_on law old mid new h.messages ns rest rest' piece h.heard k framed;
-    more = more_on s now next h.messages ns h.more told;
+    more = goes_on 0 a b s now next h.messages ns h.more told;
   }
 
-  pub hearing_ends : IsCutLaw → (old mid new : S) (s now next : Receiving) (ns : List (List ℕ)) (rest rest' piece : List ℕ) → IsHearing old s rest mid now → HasCarried g mid [] piece new → IsFramed (rest ++ piece) ns rest' → TellEnd now ns next → HasHeardEnd g old s new next
-  hearing_ends law old mid new s now next ns rest rest' piece h k framed told =
-      (h.messages ++ ns, rest', heard_on law old mid new h.messages ns rest rest' piece h.heard k framed, end_on s now next h.messages ns h.more told)
+  pub hearing_ends : IsCutLaw → (old mid new : S) (a : ℕ) (s now next : Receiving) (ns : List (List ℕ)) (rest rest' piece : List ℕ) → IsHearing old s rest mid a now → HasCarried g mid [] piece new → IsFramed (rest ++ piece) ns rest' → TellEnd a now ns next → HasHeardEnd g old s new next
+  hearing_ends law old mid new a s now next ns rest rest' piece h k framed told =
+      (h.messages ++ ns, rest', heard_on law old mid new h.messages ns rest rest' piece h.heard k framed, end_on 0 a s now next h.messages ns h.more told)
 
-  pub hearing_refuses : IsCutLaw → (old mid new : S) (s now : Receiving) (ns : List (List ℕ)) (rest rest' piece : List ℕ) (fault : Fault) → IsHearing old s rest mid now → HasCarried g mid [] piece new → IsFramed (rest ++ piece) ns rest' → TellRefusal now ns fault → HasHeardRefusal g old s fault new
-  hearing_refuses law old mid new s now ns rest rest' piece fault h k framed told =
-      (h.messages ++ ns, rest', heard_on law old mid new h.messages ns rest rest' piece h.heard k framed, refusal_on s now h.messages ns fault h.more told)
+  pub hearing_refuses : IsCutLaw → (old mid new : S) (a : ℕ) (s now : Receiving) (ns : List (List ℕ)) (rest rest' piece : List ℕ) (fault : Fault) → IsHearing old s rest mid a now → HasCarried g mid [] piece new → IsFramed (rest ++ piece) ns rest' → TellRefusal a now ns fault → HasHeardRefusal g old s fault new
+  hearing_refuses law old mid new a s now ns rest rest' piece fault h k framed told =
+      (h.messages ++ ns, rest', heard_on law old mid new h.messages ns rest rest' piece h.heard k framed, refusal_on 0 a s now h.messages ns fault h.more told)
 
   -- The request was sent before.
   asked_heard : (apex : Labels) (held : Option Zone) (old mid new : S) (messages : List (List ℕ)) (rest : List ℕ) → HasCarried g old (pending_length (request_octets apex held request_number)) [] mid → HasHeard g mid messages rest new → IsRequestAnswered g apex held old messages new
@@ -122,13 +123,13 @@ module _ {S : Type 0} (g : Ghosts S) where
   }
 
   -- A zone was taken in by one who asked for it.
-  pub taken_in : IsTakenLaw → (apex : Labels) (held : Option Zone) (s new_s : Receiving) (old mid new : S) → s ≡ asking apex held → HasCarried g old (pending_length (request_octets s.apex s.held s.id)) [] mid → HasHeardEnd g mid s new new_s → (zone : Zone) × (new_s.held ≡ Some zone) × IsTakenIn g apex held old zone.records new
-  taken_in law apex held s new_s old mid new is h k =
+  pub taken_in : IsTakenLaw → IsReadOnce → (apex : Labels) (held : Option Zone) (s new_s : Receiving) (old mid new : S) → s ≡ asking apex held → HasCarried g old (pending_length (request_octets s.apex s.held s.id)) [] mid → HasHeardEnd g mid s new new_s → (zone : Zone) × (new_s.held ≡ Some zone) × IsTakenIn g apex held old zone.records new
+  taken_in law once apex held s new_s old mid new is h k =
       let sent = subst (λ (x : Receiving). HasCarried g old (pending_length (request_octets x.apex x.held x.id)) [] mid) is h in
-      let told = taken_as law apex held k.0 new_s (subst (λ (x : Receiving). TellEnd x k.0 new_s) is k.3) in
+      let told = taken_as law once apex held k.0 new_s (subst (λ (x : Receiving). TellEnd 0 x k.0 new_s) is k.3) in
       (told.zone, told.is, (k.0, asked_heard apex held old mid new k.0 k.1 sent k.2, told.told))
 
   pub refused_in : (apex : Labels) (held : Option Zone) (s : Receiving) (old mid new : S) (fault : Fault) → s ≡ asking apex held → HasCarried g old (pending_length (request_octets s.apex s.held s.id)) [] mid → HasHeardRefusal g mid s fault new → IsAnswerRefused g apex held old fault new
   refused_in apex held s old mid new fault is h k =
       let sent = subst (λ (x : Receiving). HasCarried g old (pending_length (request_octets x.apex x.held x.id)) [] mid) is h in
-      (k.0, asked_heard apex held old mid new k.0 k.1 sent k.2, refused_as apex held k.0 fault (subst (λ (x : Receiving). TellRefusal x k.0 fault) is k.3))
+      (k.0, asked_heard apex held old mid new k.0 k.1 sent k.2, refused_as apex held k.0 fault (subst (λ (x : Receiving). TellRefusal 0 x k.0 fault) is k.3))

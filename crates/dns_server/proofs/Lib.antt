@@ -17,6 +17,7 @@ pub mod Said
 pub mod Shown
 pub mod Stored
 pub mod Taken
+pub mod Idle
 pub mod Heard
 pub mod Carried
 pub mod Fetched

@@ -18,8 +18,8 @@ use Rattle.dns_server.specs.Dump.{zone_configured}
 abbrev pub file_paths : List ZoneSettings → List (List ℕ)
 file_paths zones = map (λ (z : ZoneSettings). string_bytes z.file) zones
 
--- These are the paths of the master files of the configuration that a file holds; none where it holds none, for
--- a fault that is no refused memory.
+-- These are the paths of the master files of the configuration that a file holds; none where it holds none,
+-- for a fault that is no refused memory.
 abbrev pub AreFilesOf : Option (List ℕ) → List (List ℕ) → Type 0
 AreFilesOf config paths =
     ((c : Configuration) × HoldsConfiguration config (Ok c) × (paths ≡ file_paths c.zones.items))

@@ -1,5 +1,6 @@
 -- The messages of a stream by which a zone is taken in.
-use Rattle.std.specs.Prelude.{◌≡◌, ◌⊎◌, ◌<◌, ℕ, Bool, true, false, List, [], ◌∷◌, ◌++◌, Option, Some, None}
+use Rattle.std.specs.Prelude.{◌≡◌, ◌⊎◌, ◌+◌, ◌<◌, ℕ, Bool, true, false, List, [], ◌∷◌, ◌++◌, length}
+use Rattle.std.specs.Prelude.{Option, Some, None}
 use Rattle.dns_names.specs.Name.{Labels}
 use Rattle.dns_records.specs.Record.{Record}
 use Rattle.dns_zone.specs.Zone.{Zone}
@@ -14,7 +15,7 @@ use Rattle.dns_secondary.specs.Taken.{Taken}
 use Rattle.dns_secondary.specs.Received.{is_incremental, received_count}
 use Rattle.dns_secondary.specs.Told.{Feeds, RefusesFeed}
 use Rattle.dns_secondary.specs.declared.fault.Fault.{Fault}
-use Rattle.dns_secondary.specs.declared.fault.Fault.TheVariants.{InvalidZone}
+use Rattle.dns_secondary.specs.declared.fault.Fault.TheVariants.{BadSequence, InvalidZone}
 use Rattle.dns_secondary.specs.declared.fault.Progress.TheVariants.{More, Done, UpToDate}
 use Rattle.dns_network.specs.Framed.{pending_length, IsFramed}
 use Rattle.dns_network.specs.declared.stream.Stream.{Ghosts}
@@ -41,8 +42,54 @@ AreAnswersTo apex held (octets ∷ rest) records =
     (message : Message) × Reads octets message × (header_fault (asking apex held) message ≡ None)
     × (later : List ResourceRecord) × (records ≡ message.answers ++ later) × AreAnswersTo apex held rest later
 
+-- Messages are fed, of each of which it is reported that more is to come.
+abbrev pub TellMore : Receiving → List (List ℕ) → Receiving → Type 0
+TellMore s [] now = now ≡ s
+TellMore s (message ∷ rest) now = (next : Receiving) × Feeds s message More next × TellMore next rest now
+
+-- A message that was fed brings no record: it has none in its answer section; or no changes are told, and as
+-- many records have come as before it, so that each of its records had come (RFC 5936 2.2).
+abbrev pub IsIdle : Receiving → List ℕ → Receiving → Type 0
+IsIdle s octets next =
+    ((message : Message) × Reads octets message × (message.answers ≡ []))
+    ⊎ ((is_incremental next.state ≡ false) × (received_count next.state ≡ received_count s.state))
+
+-- Messages are fed, none of which brings a record, and of each of which it is reported that more is to come.
+abbrev pub AreIdle : Receiving → List (List ℕ) → Receiving → Type 0
+AreIdle s [] now = now ≡ s
+AreIdle s (message ∷ rest) now =
+    (next : Receiving) × Feeds s message More next × IsIdle s message next × AreIdle next rest now
+
+-- Messages are fed, of each of which it is reported that more is to come, and the last `count` of them bring
+-- no record.
+pub record HasIdled (s : Receiving) (messages : List (List ℕ)) (count : ℕ) (now : Receiving) : Type 0 where
+  pub before : List (List ℕ)
+  pub idle : List (List ℕ)
+  pub parts : messages ≡ before ++ idle
+  pub many : length idle ≡ count
+  pub from : Receiving
+  pub more : TellMore s before from
+  pub idles : AreIdle from idle now
+
+-- How many messages in a row that bring no record end an answer.
+abbrev pub idle_limit : ℕ
+idle_limit = 4096
+
+-- The last of some messages bring no record, so many in a row that the answer is given up.
+abbrev pub IsStalled : Receiving → List (List ℕ) → Fault → Type 0
+IsStalled s messages fault =
+    (fault ≡ BadSequence) × (now : Receiving) × HasIdled s messages idle_limit now
+
+-- No first part of some messages ends in so many that bring no record.
+abbrev pub NeverStalls : Receiving → List (List ℕ) → Type 0
+NeverStalls s messages =
+    (first later : List (List ℕ)) (now : Receiving)
+    → messages ≡ first ++ later
+    → HasIdled s first idle_limit now → ⊥
+
 -- The records of a first part of some messages, which are answers, mean the records of this zone: a whole
--- zone, changes of the version that is held, or that it is current (RFC 5936 2.2, RFC 1995 2 and 4).
+-- zone, changes of the version that is held, or that it is current (RFC 5936 2.2, RFC 1995 2 and 4). Never
+-- did so many in a row bring no record that the answer is given up.
 pub record IsToldBy (apex : Labels) (held : Option Zone) (messages : List (List ℕ))
     (zone : List Record) : Type 0 where
   pub first : List (List ℕ)
@@ -51,6 +98,7 @@ pub record IsToldBy (apex : Labels) (held : Option Zone) (messages : List (List 
   pub records : List ResourceRecord
   pub answers : AreAnswersTo apex held first records
   pub means : Taken apex held records zone
+  pub steady : NeverStalls (asking apex held) first
 
 -- The most records that a zone has.
 abbrev pub most_records : ℕ
@@ -61,8 +109,8 @@ pub record IsTooMuch (s : Receiving) : Type 0 where
   pub whole : is_incremental s.state ≡ false
   pub many : most_records < received_count s.state
 
--- A message is refused for this fault; or with it more records of a whole zone have come than one may have, so
--- that the answer is given up.
+-- A message is refused for this fault; or with it more records of a whole zone have come than one may have,
+-- so that the answer is given up.
 abbrev pub IsGivenUp : Receiving → List ℕ → Fault → Type 0
 IsGivenUp s message fault =
     RefusesFeed s message fault
@@ -81,6 +129,7 @@ pub record IsRefusedIn (apex : Labels) (held : Option Zone) (messages : List (Li
   pub at : State
   pub reached : Reaches apex held Begun records at
   pub refused : IsGivenUp (asking_at apex held at) message fault
+      ⊎ IsStalled (asking apex held) (first ++ message ∷ []) fault
 
 module _ {S : Type 0} (g : Ghosts S) where
   -- Octets were sent on a stream, and octets were received, if it is faithful.
@@ -101,7 +150,8 @@ module _ {S : Type 0} (g : Ghosts S) where
   -- A zone was taken in: the messages that were received tell it.
   abbrev pub IsTakenIn : Labels → Option Zone → S → List Record → S → Type 0
   IsTakenIn apex held old zone new =
-      (messages : List (List ℕ)) × IsRequestAnswered apex held old messages new × IsToldBy apex held messages zone
+      (messages : List (List ℕ)) × IsRequestAnswered apex held old messages new
+      × IsToldBy apex held messages zone
 
   -- The answer was refused: one of the messages that were received is.
   abbrev pub IsAnswerRefused : Labels → Option Zone → S → Fault → S → Type 0
@@ -117,35 +167,51 @@ module _ {S : Type 0} (g : Ghosts S) where
   IsRefusedFrom reached apex held fault =
       (old new : S) × reached old × IsAnswerRefused apex held old fault new
 
--- Messages are fed, of each of which it is reported that more is to come.
-abbrev pub TellMore : Receiving → List (List ℕ) → Receiving → Type 0
-TellMore s [] now = now ≡ s
-TellMore s (message ∷ rest) now = (next : Receiving) × Feeds s message More next × TellMore next rest now
+-- How many messages in a row have brought no record, where `count` had and one more is fed.
+abbrev pub IsCounted : Receiving → List ℕ → Receiving → ℕ → ℕ → Type 0
+IsCounted s message next count after =
+    (IsIdle s message next × (after ≡ count + 1)) ⊎ ((IsIdle s message next → ⊥) × (after ≡ 0))
+
+-- Messages are fed, of each of which it is reported that more is to come, after `count` in a row that brought
+-- no record: with them it is `after`, and never so many that the answer is given up.
+abbrev pub GoesOn : ℕ → Receiving → List (List ℕ) → ℕ → Receiving → Type 0
+GoesOn count s [] after now = (after ≡ count) × (now ≡ s)
+GoesOn count s (message ∷ rest) after now =
+    (next : Receiving)
+    × Feeds s message More next
+    × (mid : ℕ)
+    × IsCounted s message next count mid
+    × (mid < idle_limit)
+    × GoesOn mid next rest after now
 
 -- Messages are fed up to one of which it is reported that the answer is at its end.
-pub record TellEnd (s : Receiving) (messages : List (List ℕ)) (new : Receiving) : Type 0 where
+pub record TellEnd (count : ℕ) (s : Receiving) (messages : List (List ℕ)) (new : Receiving) : Type 0 where
   pub first : List (List ℕ)
   pub message : List ℕ
   pub later : List (List ℕ)
   pub parts : messages ≡ first ++ message ∷ later
+  pub idle : ℕ
   pub now : Receiving
-  pub more : TellMore s first now
+  pub more : GoesOn count s first idle now
   pub last : Feeds now message Done new ⊎ Feeds now message UpToDate new
 
 -- ... or up to one that is refused, or with which the answer is given up.
-pub record TellRefusal (s : Receiving) (messages : List (List ℕ)) (fault : Fault) : Type 0 where
+pub record TellRefusal (count : ℕ) (s : Receiving) (messages : List (List ℕ)) (fault : Fault) : Type 0 where
   pub first : List (List ℕ)
   pub message : List ℕ
   pub later : List (List ℕ)
   pub parts : messages ≡ first ++ message ∷ later
+  pub idle : ℕ
   pub now : Receiving
-  pub more : TellMore s first now
+  pub more : GoesOn count s first idle now
   pub refused : IsGivenUp now message fault
+      ⊎ ((fault ≡ BadSequence) × (next : Receiving) × Feeds now message More next × IsIdle now message next
+      × (idle + 1 ≡ idle_limit))
 
 -- What these tell.
-abbrev pub Tells : Receiving → List (List ℕ) → Bool → Receiving → Type 0
-Tells s messages true new = TellEnd s messages new
-Tells s messages false new = TellMore s messages new
+abbrev pub Tells : ℕ → Receiving → List (List ℕ) → Bool → ℕ → Receiving → Type 0
+Tells count s messages true after new = TellEnd count s messages new
+Tells count s messages false after new = GoesOn count s messages after new
 
 module _ {S : Type 0} (g : Ghosts S) where
   -- Nothing was sent on a stream, and octets that were received are messages and a rest.
@@ -157,10 +223,10 @@ module _ {S : Type 0} (g : Ghosts S) where
   -- The messages lead to the answer's end.
   abbrev pub HasHeardEnd : S → Receiving → S → Receiving → Type 0
   HasHeardEnd old s new now =
-      (messages : List (List ℕ)) × (rest : List ℕ) × HasHeard old messages rest new × TellEnd s messages now
+      (messages : List (List ℕ)) × (rest : List ℕ) × HasHeard old messages rest new × TellEnd 0 s messages now
 
   -- One of the messages is refused.
   abbrev pub HasHeardRefusal : S → Receiving → Fault → S → Type 0
   HasHeardRefusal old s fault new =
       (messages : List (List ℕ)) × (rest : List ℕ) × HasHeard old messages rest new
-      × TellRefusal s messages fault
+      × TellRefusal 0 s messages fault

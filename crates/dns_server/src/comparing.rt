@@ -147,12 +147,12 @@ fn compare_named<D: Sectors + Drop, F: Devices<D>, I: ZoneIndex, W: Write, E: Wr
     }
 }
 
-/// Prints what `load` would change of a configuration's zone, and makes no version: each record that would go
-/// as a line of a master file after `- `, and then each that would come after `+ `, both with their SOA first;
-/// or `ORIGIN already`. Whether the next version would have room is not looked at.
+/// Prints what `load` would change of a configuration's zone, and makes no version: each record that would
+/// go as a line of a master file after `- `, and then each that would come after `+ `, both with their SOA
+/// first; or `ORIGIN already`. Whether the next version would have room is not looked at.
 ///
-/// Faults are reported as `load` does, but for `NoRoom`. Gives the exit status: `DONE`, `REFUSED`, or `FAILED`
-/// where the device can't be had, a writer failed or memory was refused.
+/// Faults are reported as `load` does, but for `NoRoom`. Gives the exit status: `DONE`, `REFUSED`, or
+/// `FAILED` where the device can't be had, a writer failed or memory was refused.
 pub fn compare<D: Sectors + Drop, F: Devices<D>, I: ZoneIndex, W: Write, E: Write>(
     alloc: Global,
     heap: Heap,

@@ -1,5 +1,5 @@
-//! What the system answered where a file, a device or an address can't be had. It serves `--explain` alone, and
-//! asks the system once more; no clause says more of it than that it ends.
+//! What the system answered where a file, a device or an address can't be had. It serves `--explain` alone,
+//! and asks the system once more; no clause says more of it than that it ends.
 use crate::dumping::zone_of;
 use dns_configuration::{File, PrintedWord, ZoneSettings, apex, read_configuration};
 use dns_memory::Heap;

@@ -1,7 +1,8 @@
 //! Why a zone is not taken in from another server, and what can be done about it.
 ghost use Rattle.std.specs.Prelude.{◌≡◌, Some, IfOk};
-ghost use Rattle.dns_server.specs.FetchFaults.{IsFetchTold, fetch_advice, answer_advice, answer_word, fault_of_answer};
-ghost use Rattle.dns_server.specs.FetchFaults.{fetch_text, fetch_word, is_memory_refused, fetch_status};
+ghost use Rattle.dns_server.specs.FetchFaults.{IsFetchTold, fetch_advice, answer_advice, answer_word};
+ghost use Rattle.dns_server.specs.FetchFaults.{fault_of_answer, fetch_text, fetch_word, is_memory_refused};
+ghost use Rattle.dns_server.specs.FetchFaults.{fetch_status};
 ghost use Rattle.dns_server.specs.declared.fetch_faults.FetchFault.TheVariants.{OutOfMemory};
 
 use dns_configuration::{FAILED, PrintedWord, REFUSED};

@@ -228,10 +228,11 @@ fn init_all<D: Sectors + Drop, F: Devices<D>, I: ZoneIndex, W: Write, E: Write>(
 }
 
 /// Makes the device of each zone of a configuration from its master file, or that of the zone which `origin`
-/// names alone, and then prints `formatted ORIGIN serial M` for each. Where that ends with another status than
-/// `DONE`, no device that this run made stays. Faults are reported in one line, the first in this order: the
-/// configuration, the origin (`ORIGIN: BadOrigin`), the master files in the order of the zones, the devices
-/// (`DEVICE: Exists` before any is made); of a device, if it is wanted, a second line says what can be done.
+/// names alone, and then prints `formatted ORIGIN serial M` for each. Where that ends with another status
+/// than `DONE`, no device that this run made stays. Faults are reported in one line, the first in this order:
+/// the configuration, the origin (`ORIGIN: BadOrigin`), the master files in the order of the zones, the
+/// devices (`DEVICE: Exists` before any is made); of a device, if it is wanted, a second line says what can
+/// be done.
 /// Gives the exit status: `DONE`, `REFUSED`, or `FAILED` where a device can't be had, a writer failed or
 /// memory was refused.
 pub fn init<D: Sectors + Drop, F: Devices<D>, I: ZoneIndex, W: Write, E: Write>(

@@ -61,8 +61,8 @@ impl Readiness {
         }
     }
 
-    /// Whether on each connection the last read or the last write said that it would wait. One that has octets
-    /// to write isn't read, and one that has none isn't written to.
+    /// Whether on each connection the last read or the last write said that it would wait. One that has
+    /// octets to write isn't read, and one that has none isn't written to.
     pub(crate) fn is_still(&self) -> bool {
         self.taken.0.get() & self.may_read.0.get() & self.may_write.0.get() == 0
     }

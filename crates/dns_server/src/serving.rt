@@ -350,9 +350,9 @@ pub struct ServeOptions {
 /// Opens the stores of a configuration's zones, each in its device, and serves them on its address by UDP and
 /// TCP for so many turns. A log goes to `err`: `zone ORIGIN version V serial M` for each zone,
 /// `listening on ADDRESS`, and then `conn N open ADDRESS`, `conn N closed`, `out of memory` and
-/// `device ORIGIN` as they come. The lines of a turn are written when it ends. Of lines of connections at most
-/// 20 are written in a second; when it is over `N lines left out` is, and `N connections refused` for those
-/// that were closed for want of a place.
+/// `device ORIGIN` as they come. The lines of a turn are written when it ends. Of lines of connections at
+/// most 20 are written in a second; when it is over `N lines left out` is, and `N connections refused` for
+/// those that were closed for want of a place.
 ///
 /// Faults are reported in one line, the first in this order: the configuration, the devices (of which, if it
 /// is wanted, a second line says what can be done), the address (`ADDRESS: Unavailable`). Gives the exit

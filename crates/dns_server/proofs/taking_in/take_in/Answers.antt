@@ -16,4 +16,4 @@ returns-in_err-listen-clause-refused g c =
 
 pub returns-clause-taken : goal.returns-clause-taken
 returns-clause-taken g c =
-    taken_in g.S.Stream c.taken_law.ensures c.args.apex c.args.held c.in_ok-secondary.secondary c.listen.new.secondary c.args.stream.now c.ask.new.stream c.listen.new.stream c.in_ok-secondary.ensures c.in_ok-ask.ensures.asked c.in_ok-listen.ensures.told
+    taken_in g.S.Stream c.taken_law.ensures c.at_most_one.ensures.once c.args.apex c.args.held c.in_ok-secondary.secondary c.listen.new.secondary c.args.stream.now c.ask.new.stream c.listen.new.stream c.in_ok-secondary.ensures c.in_ok-ask.ensures.asked c.in_ok-listen.ensures.told
