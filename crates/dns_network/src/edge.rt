@@ -6,7 +6,7 @@ ghost use Rattle.dns_primary.specs.Keeps.{IsKept, header_out, reply_out};
 ghost use Rattle.dns_primary.specs.Machine.{IsListed, Machine};
 ghost use Rattle.dns_primary.specs.Step.{Closed};
 ghost use Rattle.dns_network.specs.declared.network.Note.TheVariants as note;
-ghost use Rattle.dns_network.specs.Connection.{IsInUse, IsSilent, IsStalled, used_of};
+ghost use Rattle.dns_network.specs.Connection.{IsInUse, IsSilent, IsSilentOrInUse, IsStalled, used_of};
 ghost use Rattle.dns_network.specs.Connections.{IsGoneOr, IsOpenWith, IsPumped, open_count};
 ghost use Rattle.dns_network.specs.Notes.{AreNoted, notes_of};
 ghost use Rattle.dns_network.specs.Delivery.{AreSent, Going, HasEffects, IsSent, TakesEvent, connections_of};
@@ -321,7 +321,7 @@ impl<S: Stream + Drop> Edge<S> {
         ensures moments { MomentsLead S.Stream N.Network L.Notes now
             (served primary.old self.old network.old notes.old)
             (served primary.new self.new network.new notes.new) }
-        ensures silent { IsGoneOr (λ c. IsSilent now c ⊎ IsInUse now c) (slice_get (connections_of self.old) number)
+        ensures silent { IsGoneOr (IsSilentOrInUse now) (slice_get (connections_of self.old) number)
             → IsGoneOr (IsInUse now) (slice_get (connections_of self.new) number) }
     {
         let Ok(moved) = self.connections.read(alloc, number, &mut self.buffer) else {
@@ -450,8 +450,8 @@ impl<S: Stream + Drop> Edge<S> {
     /// connection is accepted and at most one datagram read; each connection has its part, by rising number;
     /// then there is a flush if a reply waits for one. It is noted that the turn begins, and that it ends.
     ///
-    /// Of the 64 places 16 are for peers whose address some zone lists. A connection that is silent or stalled
-    /// for 30 seconds is closed.
+    /// Of the 64 places 16 are for peers whose address some zone lists. A connection that is silent or
+    /// stalled for 30 seconds is closed.
     ///
     /// A read or a write that would wait does nothing, and one that fails closes its connection. So does
     /// refused memory.
