@@ -6,7 +6,7 @@ ghost use Rattle.dns_primary.specs.Keeps.{IsKept, header_out, reply_out};
 ghost use Rattle.dns_primary.specs.Machine.{IsListed, Machine};
 ghost use Rattle.dns_primary.specs.Step.{Closed};
 ghost use Rattle.dns_network.specs.declared.network.Note.TheVariants as note;
-ghost use Rattle.dns_network.specs.Connection.{IsInUse, IsSilent, IsSilentOrInUse, IsStalled, used_of};
+ghost use Rattle.dns_network.specs.Connection.{IsInUse, IsStalled, IsUnused, IsUnusedOrInUse, used_of};
 ghost use Rattle.dns_network.specs.Connections.{IsGoneOr, IsOpenWith, IsPumped, open_count};
 ghost use Rattle.dns_network.specs.Notes.{AreNoted, notes_of};
 ghost use Rattle.dns_network.specs.Delivery.{AreSent, Going, HasEffects, IsSent, TakesEvent, connections_of};
@@ -321,7 +321,7 @@ impl<S: Stream + Drop> Edge<S> {
         ensures moments { MomentsLead S.Stream N.Network L.Notes now
             (served primary.old self.old network.old notes.old)
             (served primary.new self.new network.new notes.new) }
-        ensures silent { IsGoneOr (IsSilentOrInUse now) (slice_get (connections_of self.old) number)
+        ensures silent { IsGoneOr (IsUnusedOrInUse now) (slice_get (connections_of self.old) number)
             → IsGoneOr (IsInUse now) (slice_get (connections_of self.new) number) }
     {
         let Ok(moved) = self.connections.read(alloc, number, &mut self.buffer) else {
@@ -363,10 +363,9 @@ impl<S: Stream + Drop> Edge<S> {
         // A connection that was stalled before is gone then, or it was used in this second.
         ensures stalled { IsOpenWith (IsStalled now) (slice_get (connections_of self.old) number)
             → IsGoneOr (λ c. used_of c ≡ now) (slice_get (connections_of self.new) number) }
-        // One that was silent before is gone then, or it was used in this second, or a message of a transfer
-        // is left to write.
+        // One that was unused before is gone then, or it was used in this second, or octets are left to write.
         ensures silent { (m : Machine) → IsKept primary.old m
-            → IsOpenWith (IsSilent now) (slice_get (connections_of self.old) number)
+            → IsOpenWith (IsUnused now) (slice_get (connections_of self.old) number)
             → IsGoneOr (IsInUse now) (slice_get (connections_of self.new) number) }
     {
         if !self.connections.is_open(number) {
