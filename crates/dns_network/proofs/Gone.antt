@@ -1,5 +1,5 @@
 -- Connections that are unused or stalled are gone after they were visited.
-use Rattle.std.proofs.Common.{◌≡◌, ◌⊎◌, inl, inr, ℕ, ◌+◌, ◌<◌, ◌≤◌, Bool, true, false, List, [], ◌∷◌, Option, Some, None, refl, ap, sym, subst, ◌∙◌, slice_set, arith}
+use Rattle.std.proofs.Common.{◌≡◌, ◌⊎◌, inl, inr, ℕ, zero, suc, ◌+◌, ◌<◌, ◌≤◌, Bool, true, false, List, [], ◌∷◌, length, Option, Some, None, refl, ap, sym, subst, ◌∙◌, slice_set, arith}
 use Rattle.std.specs.Prelude.{slice_get}
 use Rattle.dns_zone.specs.declared.index.ZoneIndex as index
 use Rattle.dns_store.specs.declared.zone_store.ZoneStore as store
@@ -16,15 +16,26 @@ use Rattle.dns_network.specs.Connection.{IsInUse, IsStalled, IsUnused, IsUnusedO
 use Rattle.dns_network.specs.Connections.{IsGoneOr, IsOpenWith}
 use Rattle.dns_network.specs.Delivery.{HasNoted, Served}
 use Rattle.dns_network.specs.Turn.{TurnMoment, Asks, Moves, Connects, Refuses, Happens, Closes, AreMoments, EventComes, IsCauseNoted, IsMoment, IsPlaced, MomentsLead}
+use Rattle.dns_network.proofs.Leads.{and_on}
 use Rattle.dns_network.proofs.Running.{moments_kept}
 use Rattle.dns_network.proofs.Used.{Is, IsStalledOrUsed, Lasts, either, gone_stays, in_use_lasts, inside, open_gone, put_stays, set_stays, stalled_lasts, unused_lasts, used_lasts, weaker}
 use Rattle.dns_network.proofs.Visited.{effects_stay}
+
+-- a number below the next one
+split : (number at : ℕ) → number < at + 1 → (number < at) ⊎ (number ≡ at)
+split zero zero less = inr refl
+split zero (suc at) less = inl (omega arith)
+split (suc number) zero less = absurd (omega (arith, less))
+split (suc number) (suc at) less = elim (split number at (omega (arith, less))) [
+  | inl below ↦ inl (omega (arith, below))
+  | inr same ↦ inr (ap suc same)
+]
 
 placed_stays : {S : Type 0} (s : stream.Ghosts S) (now : ℕ) (known : Connection S → Type 0) (lasts : Lasts s now known) (number : ℕ) (new : S) (accepted : Option ℕ)
     (before after : List (Option (Connection S))) → IsPlaced now new accepted before after → Is known number before → Is known number after
 placed_stays s now known lasts number new None before after same is = subst (Is known number) (sym same) is
 placed_stays s now known lasts number new (Some target) before after (inl (past, same)) is = subst (Is known number) (sym same) is
-placed_stays s now known lasts number new (Some target) before after (inr (inside, (c, from, left, held, used, set))) is =
+placed_stays s now known lasts number new (Some target) before after (inr (less, (c, from, left, held, used, set))) is =
     subst (Is known number) (sym set) (put_stays known number target before c (lasts.used c used) is)
 
 module _ {I D S N L : Type 0} {i : index.Ghosts I} {d : store.Ghosts D} (s : stream.Ghosts S) (n : Ghosts N S) (l : notes.Ghosts L) (now : ℕ) where
@@ -100,9 +111,9 @@ module _ {I D S N L : Type 0} {i : index.Ghosts I} {d : store.Ghosts D} (s : str
       → (IsOpenWith (IsStalled now) (slice_get mid.connections number) → Is (λ c. used_of c ≡ now) number new.connections)
       → IsOpenWith (IsStalled now) (slice_get old.connections number) → Is (λ c. used_of c ≡ now) number new.connections
   stalled_gone number old mid new before visit gone stalled =
-      let first : Is (IsStalledOrUsed s now) number old.connections =
-      weaker (IsStalled now) (IsStalledOrUsed s now) (slice_get old.connections number) (λ c is. inl is) (open_gone (IsStalled now) (slice_get old.connections number) stalled) in
-      let there = lead_is (IsStalledOrUsed s now) (stalled_lasts s now) number old mid before first in
+      let first : Is (IsStalledOrUsed now) number old.connections =
+      weaker (IsStalled now) (IsStalledOrUsed now) (slice_get old.connections number) (λ c is. inl is) (open_gone (IsStalled now) (slice_get old.connections number) stalled) in
+      let there = lead_is (IsStalledOrUsed now) (stalled_lasts s now) number old mid before first in
       elim (either (IsStalled now) (λ c. used_of c ≡ now) (slice_get mid.connections number) there) [
         | inl still ↦ gone still
         | inr used ↦ lead_is (λ c. used_of c ≡ now) (used_lasts s now) number mid new visit used
@@ -115,3 +126,77 @@ module _ {I D S N L : Type 0} {i : index.Ghosts I} {d : store.Ghosts D} (s : str
         → Is (IsInUse now) number new.connections
     pub stalled : (number : ℕ) → number < below → IsOpenWith (IsStalled now) (slice_get old.connections number)
         → Is (λ c. used_of c ≡ now) number new.connections
+
+  visited_unused : (at : ℕ) (old mid new : Served I D S N L i d) → AreVisited at old mid → MomentsLead s n l now mid new
+      → ((e : Machine) → IsKept mid.primary e → IsOpenWith (IsUnused now) (slice_get mid.connections at) → Is (IsInUse now) at new.connections)
+      → (m : Machine) → IsKept old.primary m → (number : ℕ) → (number < at) ⊎ (number ≡ at) → IsOpenWith (IsUnused now) (slice_get old.connections number)
+      → Is (IsInUse now) number new.connections
+  visited_unused at old mid new before visit gone m kept number (inl below) is =
+      lead_is (IsInUse now) (in_use_lasts s now) number mid new visit (before.unused m kept number below is)
+  visited_unused at old mid new before visit gone m kept number (inr same) is =
+      subst (λ (k : ℕ). Is (IsInUse now) k new.connections) (sym same)
+      (unused_gone at old mid new m before.leads visit gone kept
+      (subst (λ (k : ℕ). IsOpenWith (IsUnused now) (slice_get old.connections k)) same is))
+
+  visited_stalled : (at : ℕ) (old mid new : Served I D S N L i d) → AreVisited at old mid → MomentsLead s n l now mid new
+      → (IsOpenWith (IsStalled now) (slice_get mid.connections at) → Is (λ c. used_of c ≡ now) at new.connections)
+      → (number : ℕ) → (number < at) ⊎ (number ≡ at) → IsOpenWith (IsStalled now) (slice_get old.connections number)
+      → Is (λ c. used_of c ≡ now) number new.connections
+  visited_stalled at old mid new before visit gone number (inl below) is =
+      lead_is (λ c. used_of c ≡ now) (used_lasts s now) number mid new visit (before.stalled number below is)
+  visited_stalled at old mid new before visit gone number (inr same) is =
+      subst (λ (k : ℕ). Is (λ c. used_of c ≡ now) k new.connections) (sym same)
+      (stalled_gone at old mid new before.leads visit gone
+      (subst (λ (k : ℕ). IsOpenWith (IsStalled now) (slice_get old.connections k)) same is))
+
+  pub none_visited : (old : Served I D S N L i d) → AreVisited 0 old old
+  none_visited old = record {
+    leads = ([], refl);
+    unused = λ m kept number below is. absurd (omega (arith, below));
+    stalled = λ number below is. absurd (omega (arith, below));
+  }
+
+  -- the next one is visited
+  pub one_visited : (at : ℕ) (old mid new : Served I D S N L i d) → AreVisited at old mid → MomentsLead s n l now mid new
+      → ((e : Machine) → IsKept mid.primary e → IsOpenWith (IsUnused now) (slice_get mid.connections at) → Is (IsInUse now) at new.connections)
+      → (IsOpenWith (IsStalled now) (slice_get mid.connections at) → Is (λ c. used_of c ≡ now) at new.connections)
+      → AreVisited (at + 1) old new
+  one_visited at old mid new before visit unused stalled = record {
+    leads = and_on s n l now old mid new before.leads visit;
+    unused = λ m kept number below is. visited_unused at old mid new before visit unused m kept number (split number at below) is;
+    stalled = λ number below is. visited_stalled at old mid new before visit stalled number (split number at below) is;
+  }
+
+  -- all of them are
+  pub all_unused : (below : ℕ) (old new : Served I D S N L i d) → length old.connections ≤ below → AreVisited below old new → (m : Machine) → IsKept old.primary m
+      → UnusedAreGone now old.connections new.connections
+  all_unused below old new all visited m kept = λ number is.
+      let less = inside (IsUnused now) number old.connections is in
+      visited.unused m kept number (omega (arith, less, all)) is
+
+  pub all_stalled : (below : ℕ) (old new : Served I D S N L i d) → length old.connections ≤ below → AreVisited below old new
+      → StalledAreGone now old.connections new.connections
+  all_stalled below old new all visited = λ number is.
+      let less = inside (IsStalled now) number old.connections is in
+      visited.stalled number (omega (arith, less, all)) is
+
+  -- so it is where something is done before the visits
+  pub unused_between : (old mid done : Served I D S N L i d) → MomentsLead s n l now old mid → MomentsLead s n l now mid done
+      → ((e : Machine) → IsKept mid.primary e → UnusedAreGone now mid.connections done.connections)
+      → (m : Machine) → IsKept old.primary m → UnusedAreGone now old.connections done.connections
+  unused_between old mid done before visits gone m kept = λ number is.
+      unused_gone number old mid done m before visits (λ e kept' is'. gone e kept' number is') kept is
+
+  pub stalled_between : (old mid done : Served I D S N L i d) → MomentsLead s n l now old mid → MomentsLead s n l now mid done
+      → StalledAreGone now mid.connections done.connections → StalledAreGone now old.connections done.connections
+  stalled_between old mid done before visits gone = λ number is.
+      stalled_gone number old mid done before visits (λ is'. gone number is') is
+
+  -- and after them
+  pub unused_after : (old : List (Option (Connection S))) (done new : Served I D S N L i d) → UnusedAreGone now old done.connections
+      → MomentsLead s n l now done new → UnusedAreGone now old new.connections
+  unused_after old done new gone after = λ number is. lead_is (IsInUse now) (in_use_lasts s now) number done new after (gone number is)
+
+  pub stalled_after : (old : List (Option (Connection S))) (done new : Served I D S N L i d) → StalledAreGone now old done.connections
+      → MomentsLead s n l now done new → StalledAreGone now old new.connections
+  stalled_after old done new gone after = λ number is. lead_is (λ c. used_of c ≡ now) (used_lasts s now) number done new after (gone number is)

@@ -162,6 +162,33 @@ module _ {S : Type 0} where
   after_pump now number old new unused (inr queued) =
       weaker (IsInUse now) (IsUnusedOrInUse now) (slice_get new number) (λ c is. inr is) (pumped_in_use now number old new unused queued)
 
+  -- It is stalled, or was used in this second.
+  abbrev pub IsStalledOrUsed : ℕ → Connection S → Type 0
+  IsStalledOrUsed now c = IsStalled now c ⊎ (used_of c ≡ now)
+
+  -- one of two is known of a connection that is not gone
+  pub either : (P Q : Connection S → Type 0) (place : Option (Option (Connection S))) → IsGoneOr (λ c. P c ⊎ Q c) place
+      → IsOpenWith P place ⊎ IsGoneOr Q place
+  either P Q None is = inr tt
+  either P Q (Some None) is = inr tt
+  either P Q (Some (Some c)) (inl p) = inl p
+  either P Q (Some (Some c)) (inr q) = inr q
+
+  pub put_stays : (known : Connection S → Type 0) (number target : ℕ) (old : List (Option (Connection S))) (c : Connection S) → known c
+      → Is known number old → Is known number (slice_set old target (Some c))
+  put_stays known number target [] c on is = is
+  put_stays known zero zero (x ∷ xs) c on is = on
+  put_stays known zero (suc target) (x ∷ xs) c on is = is
+  put_stays known (suc number) zero (x ∷ xs) c on is = is
+  put_stays known (suc number) (suc target) (x ∷ xs) c on is = put_stays known number target xs c on is
+
+  -- there is no connection past the last place
+  pub inside : (known : Connection S → Type 0) (number : ℕ) (places : List (Option (Connection S))) → IsOpenWith known (slice_get places number)
+      → number < length places
+  inside known number [] is = absurd is
+  inside known zero (x ∷ xs) is = omega arith
+  inside known (suc number) (x ∷ xs) is = let less = inside known number xs is in omega (arith, less)
+
 module _ {S : Type 0} (s : stream.Ghosts S) where
   -- A stalled connection of which octets were written then is used, or it is stalled still.
   wrote : (now : ℕ) (c d : Connection S) → IsStalled now c → HasMoved s now c d → (used_of d ≡ now) ⊎ IsStalled now d
@@ -274,11 +301,7 @@ module _ {S : Type 0} (s : stream.Ghosts S) where
     used = λ c is. inr (inl is);
   }
 
-  -- It is stalled, or was used in this second.
-  abbrev pub IsStalledOrUsed : ℕ → Connection S → Type 0
-  IsStalledOrUsed now c = IsStalled now c ⊎ (used_of c ≡ now)
-
-  stalled_lasts_queued : (now : ℕ) → StaysQueued (IsStalledOrUsed now)
+  stalled_lasts_queued : (now : ℕ) → StaysQueued {S = S} (IsStalledOrUsed now)
   stalled_lasts_queued now reply c d queued (inr used) = inr (queued.used ∙ used)
   stalled_lasts_queued now reply c d queued (inl stalled) =
       inl (record { left = left_queued reply c d queued; used = subst (λ (used : ℕ). 30 ≤ now - used) (sym queued.used) stalled.used })
@@ -296,26 +319,3 @@ module _ {S : Type 0} (s : stream.Ghosts S) where
     moved = λ c d moved is. stalled_lasts_moved now c d moved is;
     used = λ c is. inr is;
   }
-
-  -- one of two is known of a connection that is not gone
-  pub either : (P Q : Connection S → Type 0) (place : Option (Option (Connection S))) → IsGoneOr (λ c. P c ⊎ Q c) place
-      → IsOpenWith P place ⊎ IsGoneOr Q place
-  either P Q None is = inr tt
-  either P Q (Some None) is = inr tt
-  either P Q (Some (Some c)) (inl p) = inl p
-  either P Q (Some (Some c)) (inr q) = inr q
-
-  pub put_stays : (known : Connection S → Type 0) (number target : ℕ) (old : List (Option (Connection S))) (c : Connection S) → known c
-      → Is known number old → Is known number (slice_set old target (Some c))
-  put_stays known number target [] c on is = is
-  put_stays known zero zero (x ∷ xs) c on is = on
-  put_stays known zero (suc target) (x ∷ xs) c on is = is
-  put_stays known (suc number) zero (x ∷ xs) c on is = is
-  put_stays known (suc number) (suc target) (x ∷ xs) c on is = put_stays known number target xs c on is
-
-  -- there is no connection past the last place
-  pub inside : (known : Connection S → Type 0) (number : ℕ) (places : List (Option (Connection S))) → IsOpenWith known (slice_get places number)
-      → number < length places
-  inside known number [] is = absurd is
-  inside known zero (x ∷ xs) is = omega arith
-  inside known (suc number) (x ∷ xs) is = let less = inside known number xs is in omega (arith, less)
