@@ -13,3 +13,6 @@ returns-clause-happened g c =
     let first = subst (λ (hs : List HeaderTo). AreSent g.N.Network g.L.Notes (map (λ h. header_out h) hs) old between) c.as_slice.ensures.value c.send_headers.ensures.sent in
     let are = sent_on g.N.Network g.L.Notes (map (λ h. header_out h) c.args.effects.headers.items) (reply_out c.args.effects.message) old between sent first c.send_reply.ensures.sent in
     (are.0, record { between = sent; out = are.1; sent = are.2; rest = refl; noted = c.tell.ensures })
+
+pub returns-clause-rested : goal.returns-clause-rested
+returns-clause-rested g c = λ second rested. c.send_headers.ensures.rested second (c.send_reply.ensures.rested second rested)

@@ -25,3 +25,6 @@ returns-clause-moments g c = λ now.
           (sym (c.deref.ensures.value ∙ with_items_is c.args.self.now.buffer c.receive.new.into same)) c.in-Some.ensures.came,
     )
     (λ m kept. c.step-effects.ensures.step m kept) refl c.deliver.ensures.happened
+
+pub returns-clause-rested : goal.returns-clause-rested
+returns-clause-rested g c = λ second rested. c.deliver.ensures.rested second rested
