@@ -48,7 +48,7 @@ connections_of edge = places_of edge.connections
 abbrev pub rested_of : {S : Type 0} → Edge S → Option ℕ
 rested_of edge = edge.rested
 
--- It rests after in no other second than before.
+-- If it rests in a second after, it rested in that second before.
 abbrev pub RestsAsBefore : {S : Type 0} → Edge S → Edge S → Type 0
 RestsAsBefore old new = (second : ℕ) → rested_of new ≡ Some second → rested_of old ≡ Some second
 
