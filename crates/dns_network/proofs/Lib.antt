@@ -1,5 +1,6 @@
 pub mod Framed
 pub mod Pushed
+mod Gone
 mod Leads
 pub mod Noted
 mod ReadAhead

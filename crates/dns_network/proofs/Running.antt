@@ -181,6 +181,12 @@ module _ {I D S N L : Type 0} {i : index.Ghosts I} {d : store.Ghosts D} (s : str
       told_on (told_in one) (flat_map told_in rest) (λ e. IsKept between.primary e) (λ e. IsKept new.primary e) m
       (moment_told now one old between m here kept) (λ e kept'. moments_told now rest between new e is kept')
 
+  pub moments_kept : (now : ℕ) (moments : List TurnMoment) (old new : Served I D S N L i d) (m : Machine) → AreMoments s n l now moments old new
+      → IsKept old.primary m → (e : Machine) × IsKept new.primary e
+  moments_kept now moments old new m is kept =
+      let run = moments_told now moments old new m is kept in
+      (last_of m run.run, run.kept)
+
   paused : (old new : Served I D S N L i d) (m : Machine) → (new ≡ old) ⊎ HasAsked n old new → IsKept old.primary m → IsKept new.primary m
   paused old new m (inl same) kept = stays n l old new m (ap (λ (x : Served I D S N L i d). x.primary) same) kept
   paused old new m (inr asked) kept = stays n l old new m (asked_stays n l old new asked) kept

@@ -7,7 +7,7 @@ use Rattle.dns_network.specs.declared.connection.Connection.{Connection}
 use Rattle.dns_network.specs.declared.stream.Moved.{Moved}
 use Rattle.dns_network.specs.declared.stream.Moved.TheVariants.{Octets, Later, Ended}
 use Rattle.dns_network.specs.declared.stream.Stream as stream
-use Rattle.dns_network.specs.Connection.{HasHandedOver, HasMoved, HasTaken, HasTakenNone, IsInUse, IsQueued, IsSilent, IsStalled, MovesOn, held_of, unwritten_of, used_after, used_of}
+use Rattle.dns_network.specs.Connection.{HasHandedOver, HasMoved, HasTaken, HasTakenNone, IsInUse, IsQueued, IsSilent, IsStalled, IsUnused, IsUnusedOrInUse, MovesOn, held_of, unwritten_of, used_after, used_of}
 use Rattle.dns_network.specs.Connections.{HandsOver, HasBecome, HasMovedAt, IsGoneOr, IsNextQueued, IsOpenWith, IsPumped, IsPushedTo, IsReplyPushed, has_left_at, is_open_at}
 use Rattle.dns_network.specs.Framed.{pending_length}
 use Rattle.dns_network.specs.Stream.{IfOctets, moved}
@@ -73,16 +73,16 @@ module _ {S : Type 0} where
   weaker P Q (Some None) on is = tt
   weaker P Q (Some (Some c)) on is = on c is
 
-  -- Octets are left on a stalled connection, and none on a silent one.
+  -- Octets are left on a stalled connection, and none on an unused one.
   pub stalled_left : (now : ℕ) (place : Option (Option (Connection S))) → has_left_at place ≡ false → IsOpenWith (IsStalled now) place → ⊥
   stalled_left now None none is = is
   stalled_left now (Some None) none is = is
   stalled_left now (Some (Some c)) none is = is.left (empty (unwritten_of c) (grind (arith, nat_tests, none)))
 
-  pub silent_left : (now : ℕ) (place : Option (Option (Connection S))) → has_left_at place ≡ true → IsOpenWith (IsSilent now) place → ⊥
-  silent_left now None some is = is
-  silent_left now (Some None) some is = is
-  silent_left now (Some (Some c)) some is =
+  pub unused_left : (now : ℕ) (place : Option (Option (Connection S))) → has_left_at place ≡ true → IsOpenWith (IsUnused now) place → ⊥
+  unused_left now None some is = is
+  unused_left now (Some None) some is = is
+  unused_left now (Some (Some c)) some is =
       let none : length (unwritten_of c) ≡ 0 = ap length is.left in
       absurd (grind (arith, nat_tests, some, none))
 
@@ -139,13 +139,13 @@ module _ {S : Type 0} where
       ap (λ (cs : List (Option (Connection S))). slice_get cs number) set ∙ set_there old number (Some c) (Some d) there in
       subst (λ (place : Option (Option (Connection S))). IsGoneOr (IsInUse now) place) (sym at) (inl on.used)
 
-  -- a silent one, to which the next message of a transfer was queued
-  pub pumped_in_use : (now number : ℕ) (old new : List (Option (Connection S))) → IsOpenWith (IsSilent now) (slice_get old number)
+  -- an unused one, to which the next message of a transfer was queued
+  pub pumped_in_use : (now number : ℕ) (old new : List (Option (Connection S))) → IsOpenWith (IsUnused now) (slice_get old number)
       → IsNextQueued number old new → Is (IsInUse now) number new
-  pumped_in_use now number old new silent (inl gone) = is_gone (IsInUse now) number old new gone
-  pumped_in_use now number old new silent (inr (message, pushed)) = go (known_of (IsSilent now) (slice_get old number) silent)
+  pumped_in_use now number old new unused (inl gone) = is_gone (IsInUse now) number old new gone
+  pumped_in_use now number old new unused (inr (message, pushed)) = go (known_of (IsUnused now) (slice_get old number) unused)
     where
-      go : (c : Connection S) × (slice_get old number ≡ Some (Some c)) × IsSilent now c → Is (IsInUse now) number new
+      go : (c : Connection S) × (slice_get old number ≡ Some (Some c)) × IsUnused now c → Is (IsInUse now) number new
       go (c, there, is) =
           let queued = subst (λ (place : Option (Option (Connection S))). IsPushedTo number message place old new) there pushed in
           let d = queued.0 in
@@ -153,14 +153,41 @@ module _ {S : Type 0} where
           ap (λ (cs : List (Option (Connection S))). slice_get cs number) queued.2 ∙ set_there old number (Some c) (Some d) there in
           subst (λ (place : Option (Option (Connection S))). IsGoneOr (IsInUse now) place) (sym at) (inr (left_queued message c d queued.1))
 
-  -- what a pump leaves of a silent one
-  pub after_pump : (now number : ℕ) (old new : List (Option (Connection S))) → IsOpenWith (IsSilent now) (slice_get old number) → IsPumped number false old new
-      → Is (λ c. IsSilent now c ⊎ IsInUse now c) number new
-  after_pump now number old new silent (inl same) =
-      subst (Is (λ c. IsSilent now c ⊎ IsInUse now c) number) (sym same)
-      (weaker (IsSilent now) (λ c. IsSilent now c ⊎ IsInUse now c) (slice_get old number) (λ c is. inl is) (open_gone (IsSilent now) (slice_get old number) silent))
-  after_pump now number old new silent (inr queued) =
-      weaker (IsInUse now) (λ c. IsSilent now c ⊎ IsInUse now c) (slice_get new number) (λ c is. inr is) (pumped_in_use now number old new silent queued)
+  -- what a pump leaves of an unused one
+  pub after_pump : (now number : ℕ) (old new : List (Option (Connection S))) → IsOpenWith (IsUnused now) (slice_get old number) → IsPumped number false old new
+      → Is (IsUnusedOrInUse now) number new
+  after_pump now number old new unused (inl same) =
+      subst (Is (IsUnusedOrInUse now) number) (sym same)
+      (weaker (IsUnused now) (IsUnusedOrInUse now) (slice_get old number) (λ c is. inl is) (open_gone (IsUnused now) (slice_get old number) unused))
+  after_pump now number old new unused (inr queued) =
+      weaker (IsInUse now) (IsUnusedOrInUse now) (slice_get new number) (λ c is. inr is) (pumped_in_use now number old new unused queued)
+
+  -- It is stalled, or was used in this second.
+  abbrev pub IsStalledOrUsed : ℕ → Connection S → Type 0
+  IsStalledOrUsed now c = IsStalled now c ⊎ (used_of c ≡ now)
+
+  -- one of two is known of a connection that is not gone
+  pub either : (P Q : Connection S → Type 0) (place : Option (Option (Connection S))) → IsGoneOr (λ c. P c ⊎ Q c) place
+      → IsOpenWith P place ⊎ IsGoneOr Q place
+  either P Q None is = inr tt
+  either P Q (Some None) is = inr tt
+  either P Q (Some (Some c)) (inl p) = inl p
+  either P Q (Some (Some c)) (inr q) = inr q
+
+  pub put_stays : (known : Connection S → Type 0) (number target : ℕ) (old : List (Option (Connection S))) (c : Connection S) → known c
+      → Is known number old → Is known number (slice_set old target (Some c))
+  put_stays known number target [] c on is = is
+  put_stays known zero zero (x ∷ xs) c on is = on
+  put_stays known zero (suc target) (x ∷ xs) c on is = is
+  put_stays known (suc number) zero (x ∷ xs) c on is = is
+  put_stays known (suc number) (suc target) (x ∷ xs) c on is = put_stays known number target xs c on is
+
+  -- there is no connection past the last place
+  pub inside : (known : Connection S → Type 0) (number : ℕ) (places : List (Option (Connection S))) → IsOpenWith known (slice_get places number)
+      → number < length places
+  inside known number [] is = absurd is
+  inside known zero (x ∷ xs) is = omega arith
+  inside known (suc number) (x ∷ xs) is = let less = inside known number xs is in omega (arith, less)
 
 module _ {S : Type 0} (s : stream.Ghosts S) where
   -- A stalled connection of which octets were written then is used, or it is stalled still.
@@ -186,25 +213,33 @@ module _ {S : Type 0} (s : stream.Ghosts S) where
       ] in
       subst (λ (place : Option (Option (Connection S))). IsGoneOr (λ c. used_of c ≡ now) place) (sym at) used
 
-  -- A silent connection of which a piece was read, and no message, is silent still.
-  read_silent : (now : ℕ) (c d : Connection S) → HasMoved s now c d → held_of d ≡ [] → IsSilent now c ⊎ IsInUse now c → IsSilent now d ⊎ IsInUse now d
+  -- An unused connection of which a piece was read, and that holds no message, is silent.
+  read_silent : (now : ℕ) (c d : Connection S) → HasMoved s now c d → held_of d ≡ [] → IsUnusedOrInUse now c → IsSilent now d ⊎ IsInUse now d
   read_silent now c d moved none is = go moved.used is
     where
-      go : HasTaken now c d ⊎ HasTakenNone c d → IsSilent now c ⊎ IsInUse now c → IsSilent now d ⊎ IsInUse now d
+      go : HasTaken now c d ⊎ HasTakenNone c d → IsUnusedOrInUse now c → IsSilent now d ⊎ IsInUse now d
       go (inl some) is = inr (inl some.used)
-      go (inr still) (inl silent) =
-          inl (record { left = still.left ∙ silent.left; held = none; used = subst (λ (used : ℕ). 30 ≤ now - used) (sym still.used) silent.used })
+      go (inr still) (inl unused) =
+          inl (record { left = still.left ∙ unused.left; held = none; used = subst (λ (used : ℕ). 30 ≤ now - used) (sym still.used) unused.used })
       go (inr still) (inr (inl used)) = inr (inl (still.used ∙ used))
       go (inr still) (inr (inr left)) = inr (inr (λ e. left (sym still.left ∙ e)))
 
+  still_silent : (now : ℕ) (place : Option (Option (Connection S))) → ((c : Connection S) → place ≡ Some (Some c) → held_of c ≡ [])
+      → IsGoneOr (IsUnusedOrInUse now) place → IsGoneOr (λ c. IsSilent now c ⊎ IsInUse now c) place
+  still_silent now None none is = tt
+  still_silent now (Some None) none is = tt
+  still_silent now (Some (Some c)) none (inl unused) = inl (record { left = unused.left; held = none c refl; used = unused.used })
+  still_silent now (Some (Some c)) none (inr used) = inr used
+
   none_handed : (now number : ℕ) (moved : Moved) (old mid : List (Option (Connection S))) → HasMovedAt s now number moved old mid
       → ((c : Connection S) → slice_get mid number ≡ Some (Some c) → held_of c ≡ [])
-      → Is (λ c. IsSilent now c ⊎ IsInUse now c) number old → Is (λ c. IsSilent now c ⊎ IsInUse now c) number mid
-  none_handed now number moved old mid (inl (lasts, same)) none is = subst (Is (λ c. IsSilent now c ⊎ IsInUse now c) number) (sym same) is
+      → Is (IsUnusedOrInUse now) number old → Is (λ c. IsSilent now c ⊎ IsInUse now c) number mid
+  none_handed now number moved old mid (inl (lasts, same)) none is =
+      still_silent now (slice_get mid number) none (subst (Is (IsUnusedOrInUse now) number) (sym same) is)
   none_handed now number moved old mid (inr (c, d, there, on, set)) none is =
       let at : slice_get mid number ≡ Some (Some d) =
       ap (λ (cs : List (Option (Connection S))). slice_get cs number) set ∙ set_there old number (Some c) (Some d) there in
-      let was : IsSilent now c ⊎ IsInUse now c = subst (λ (place : Option (Option (Connection S))). IsGoneOr (λ c. IsSilent now c ⊎ IsInUse now c) place) there is in
+      let was : IsUnusedOrInUse now c = subst (λ (place : Option (Option (Connection S))). IsGoneOr (IsUnusedOrInUse now) place) there is in
       subst (λ (place : Option (Option (Connection S))). IsGoneOr (λ c. IsSilent now c ⊎ IsInUse now c) place) (sym at)
       (read_silent now c d on.moved (none d at) was)
 
@@ -218,7 +253,69 @@ module _ {S : Type 0} (s : stream.Ghosts S) where
 
   pub heard_none : (now number : ℕ) (moved : Moved) (old mid new : List (Option (Connection S))) → HasMovedAt s now number moved old mid
       → HandsOver now number None mid new → (IsOpenWith (IsSilent now) (slice_get new number) → ⊥)
-      → Is (λ c. IsSilent now c ⊎ IsInUse now c) number old → Is (IsInUse now) number new
+      → Is (IsUnusedOrInUse now) number old → Is (IsInUse now) number new
   heard_none now number moved old mid new on (same, none) not is =
       not_silent now (slice_get new number) not
       (subst (Is (λ c. IsSilent now c ⊎ IsInUse now c) number) (sym same) (none_handed now number moved old mid on none is))
+
+  -- What is known of a connection, and stays known while it goes on: while replies are queued, octets move and
+  -- a message is handed over in a second. It is known of each one that was used in that second.
+  pub record Lasts (now : ℕ) (known : Connection S → Type 0) : Type 0 where
+    pub queued : StaysQueued known
+    pub moved : (c d : Connection S) → HasMoved s now c d → known c → known d
+    pub used : (c : Connection S) → used_of c ≡ now → known c
+
+  used_lasts_moved : (now : ℕ) (c d : Connection S) → HasTaken now c d ⊎ HasTakenNone c d → used_of c ≡ now → used_of d ≡ now
+  used_lasts_moved now c d (inl some) is = some.used
+  used_lasts_moved now c d (inr none) is = none.used ∙ is
+
+  pub used_lasts : (now : ℕ) → Lasts now (λ c. used_of c ≡ now)
+  used_lasts now = record {
+    queued = λ reply c d queued is. queued.used ∙ is;
+    moved = λ c d moved is. used_lasts_moved now c d moved.used is;
+    used = λ c is. is;
+  }
+
+  in_use_lasts_moved : (now : ℕ) (c d : Connection S) → HasTaken now c d ⊎ HasTakenNone c d → IsInUse now c → IsInUse now d
+  in_use_lasts_moved now c d (inl some) is = inl some.used
+  in_use_lasts_moved now c d (inr none) (inl used) = inl (none.used ∙ used)
+  in_use_lasts_moved now c d (inr none) (inr left) = inr (λ e. left (sym none.left ∙ e))
+
+  pub in_use_lasts : (now : ℕ) → Lasts now (IsInUse now)
+  in_use_lasts now = record {
+    queued = in_use_stays now;
+    moved = λ c d moved is. in_use_lasts_moved now c d moved.used is;
+    used = λ c is. inl is;
+  }
+
+  unused_lasts_moved : (now : ℕ) (c d : Connection S) → HasTaken now c d ⊎ HasTakenNone c d → IsUnusedOrInUse now c → IsUnusedOrInUse now d
+  unused_lasts_moved now c d (inl some) is = inr (inl some.used)
+  unused_lasts_moved now c d (inr none) (inl unused) =
+      inl (record { left = none.left ∙ unused.left; used = subst (λ (used : ℕ). 30 ≤ now - used) (sym none.used) unused.used })
+  unused_lasts_moved now c d (inr none) (inr used) = inr (in_use_lasts_moved now c d (inr none) used)
+
+  pub unused_lasts : (now : ℕ) → Lasts now (IsUnusedOrInUse now)
+  unused_lasts now = record {
+    queued = λ reply c d queued is. inr (inr (left_queued reply c d queued));
+    moved = λ c d moved is. unused_lasts_moved now c d moved.used is;
+    used = λ c is. inr (inl is);
+  }
+
+  stalled_lasts_queued : (now : ℕ) → StaysQueued {S = S} (IsStalledOrUsed now)
+  stalled_lasts_queued now reply c d queued (inr used) = inr (queued.used ∙ used)
+  stalled_lasts_queued now reply c d queued (inl stalled) =
+      inl (record { left = left_queued reply c d queued; used = subst (λ (used : ℕ). 30 ≤ now - used) (sym queued.used) stalled.used })
+
+  stalled_lasts_moved : (now : ℕ) (c d : Connection S) → HasMoved s now c d → IsStalledOrUsed now c → IsStalledOrUsed now d
+  stalled_lasts_moved now c d moved (inr used) = inr (used_lasts_moved now c d moved.used used)
+  stalled_lasts_moved now c d moved (inl stalled) = elim (wrote now c d stalled moved) [
+    | inl used ↦ inr used
+    | inr still ↦ inl still
+  ]
+
+  pub stalled_lasts : (now : ℕ) → Lasts now (IsStalledOrUsed now)
+  stalled_lasts now = record {
+    queued = stalled_lasts_queued now;
+    moved = λ c d moved is. stalled_lasts_moved now c d moved is;
+    used = λ c is. inr is;
+  }

@@ -1,9 +1,9 @@
 -- Why a connection is closed.
-use Rattle.std.specs.Prelude.{◌≤◌, ℕ, List, Option, length, slice_get}
+use Rattle.std.specs.Prelude.{◌≡◌, ◌≤◌, ℕ, List, Option, length, slice_get}
 use Rattle.dns_network.specs.declared.connection.Connection.{Connection}
 use Rattle.dns_network.specs.declared.stream.Stream.{Ghosts}
-use Rattle.dns_network.specs.Connection.{HasLost, IsSilent, IsStalled, stream_of}
-use Rattle.dns_network.specs.Connections.{IsOpenWith}
+use Rattle.dns_network.specs.Connection.{HasLost, IsInUse, IsSilent, IsStalled, IsUnused, stream_of, used_of}
+use Rattle.dns_network.specs.Connections.{IsGoneOr, IsOpenWith}
 
 -- Its stream ended or failed; it is silent, or stalled; memory was refused for what was read from it; its
 -- number is that of no place.
@@ -24,3 +24,16 @@ module _ {S : Type 0} where
   GivesCause s now NoMemory number places =
       IsOpenWith (λ c. (lost : Connection S) × HasLost s c lost) (slice_get places number)
   GivesCause s now NoPlace number places = length places ≤ number
+
+  -- Each connection that was unused in the second `now` is gone, or it was used in that second, or octets are
+  -- left to write.
+  abbrev pub UnusedAreGone : ℕ → List (Option (Connection S)) → List (Option (Connection S)) → Type 0
+  UnusedAreGone now old new =
+      (number : ℕ) → IsOpenWith (IsUnused now) (slice_get old number)
+      → IsGoneOr (IsInUse now) (slice_get new number)
+
+  -- Each one that was stalled is gone, or it was used in that second.
+  abbrev pub StalledAreGone : ℕ → List (Option (Connection S)) → List (Option (Connection S)) → Type 0
+  StalledAreGone now old new =
+      (number : ℕ) → IsOpenWith (IsStalled now) (slice_get old number)
+      → IsGoneOr (λ c. used_of c ≡ now) (slice_get new number)

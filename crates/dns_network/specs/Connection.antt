@@ -96,11 +96,21 @@ module _ {S : Type 0} where
   abbrev pub IsInUse : ℕ → Connection S → Type 0
   IsInUse now c = (used_of c ≡ now) ⊎ (unwritten_of c ≢ [])
 
-  -- In the second `now` nothing is left to write or to handle, and it was last used 30 seconds before, or more.
+  -- In the second `now` nothing is left to write or to handle, and it was last used 30 seconds before, or
+  -- more.
   pub record IsSilent (now : ℕ) (c : Connection S) : Type 0 where
     pub left : unwritten_of c ≡ []
     pub held : held_of c ≡ []
     pub used : 30 ≤ now - used_of c
+
+  -- In the second `now` nothing is left to write, and it was last used 30 seconds before, or more: it is
+  -- silent, or a message waits to be handled.
+  pub record IsUnused (now : ℕ) (c : Connection S) : Type 0 where
+    pub left : unwritten_of c ≡ []
+    pub used : 30 ≤ now - used_of c
+
+  abbrev pub IsUnusedOrInUse : ℕ → Connection S → Type 0
+  IsUnusedOrInUse now c = IsUnused now c ⊎ IsInUse now c
 
   -- In the second `now` octets are left to write, and it was last used 30 seconds before, or more.
   pub record IsStalled (now : ℕ) (c : Connection S) : Type 0 where

@@ -1,6 +1,6 @@
 -- All connections, as their contracts see them.
-use Rattle.std.specs.Prelude.{◌≡◌, ◌≢◌, ◌⊎◌, ◌==◌, ℕ, Bool, true, false, not, List, [], length, Option, Some, None}
-use Rattle.std.specs.Prelude.{filter, is_some, slice_get, slice_set}
+use Rattle.std.specs.Prelude.{◌≡◌, ◌≢◌, ◌⊎◌, ◌==◌, ℕ, Bool, true, false, not, List, [], length}
+use Rattle.std.specs.Prelude.{Option, Some, None, filter, is_some, slice_get, slice_set}
 use Rattle.dns_network.specs.declared.connection.Connection.{Connection}
 use Rattle.dns_network.specs.declared.connections.Connections.{Connections}
 use Rattle.dns_network.specs.declared.stream.Stream.{Ghosts}
@@ -79,8 +79,8 @@ module _ {S : Type 0} where
   HandsOver now number (Some message) old new =
       HasBecome (HasHandedOver now message) number old new
 
-  -- The next message of a transfer was queued on the connection with that number, or the connection was closed
-  -- in its stead; where it is not told that there was one, it may be that nothing has changed.
+  -- The next message of a transfer was queued on the connection with that number, or the connection was
+  -- closed in its stead; where it is not told that there was one, it may be that nothing has changed.
   abbrev pub IsNextQueued : ℕ → List (Option (Connection S)) → List (Option (Connection S)) → Type 0
   IsNextQueued number old new =
       (new ≡ slice_set old number None) ⊎ ((message : List ℕ) × IsReplyPushed number message old new)

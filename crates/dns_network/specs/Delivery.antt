@@ -1,5 +1,5 @@
 -- What a server by turns has, and where the replies of its machine go.
-use Rattle.std.specs.Prelude.{◌≡◌, ◌⊎◌, ◌<◌, ◌++◌, ℕ, Bool, true, false, List, map, Option, None}
+use Rattle.std.specs.Prelude.{◌≡◌, ◌⊎◌, ◌<◌, ◌++◌, ℕ, Bool, true, false, List, map, Option, Some, None}
 use Rattle.std.specs.Prelude.{length, slice_set}
 use Rattle.dns_network.specs.declared.connection.Connection.{Connection}
 use Rattle.dns_network.specs.Connections.{IsReplyPushed, is_open, places_of}
@@ -42,6 +42,15 @@ TakesEvent old event new effects = (m : Machine) → IsKept old m → SteppedBy 
 -- What is stored under each number, from 0 on.
 abbrev pub connections_of : {S : Type 0} → Edge S → List (Option (Connection S))
 connections_of edge = places_of edge.connections
+
+-- The second in which a visit of each connection last found nothing to do, and since when none has got
+-- something to send.
+abbrev pub rested_of : {S : Type 0} → Edge S → Option ℕ
+rested_of edge = edge.rested
+
+-- If it rests in a second after, it rested in that second before.
+abbrev pub RestsAsBefore : {S : Type 0} → Edge S → Edge S → Type 0
+RestsAsBefore old new = (second : ℕ) → rested_of new ≡ Some second → rested_of old ≡ Some second
 
 -- A primary, connections by their numbers, a network, and what takes notes.
 pub record Served (I D S N L : Type 0) (i : index.Ghosts I) (d : store.Ghosts D) : Type 0 where

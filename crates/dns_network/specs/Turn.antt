@@ -173,7 +173,8 @@ module _ {I D S N L : Type 0} {i : index.Ghosts I} {d : store.Ghosts D} where
       → Served I D S N L i d → Type 0
   MomentsLead s n l now old new = (moments : List TurnMoment) × AreMoments s n l now moments old new
 
-  -- These are done in a turn, in the second `now`: what is done first, and then, where a reply waits, a flush.
+  -- These are done in a turn, in the second `now`: what is done first, and then, where a reply waits, a
+  -- flush.
   pub record AreDone (s : stream.Ghosts S) (n : Ghosts N S) (l : notes.Ghosts L) (now : ℕ)
       (moments : List TurnMoment) (old new : Served I D S N L i d) : Type 0 where
     pub first : List TurnMoment

@@ -4,7 +4,8 @@ ghost use Rattle.std.specs.Prelude.{◌↔◌, IsTrue, IfOk, OnOk, OnErr, OnSome
 ghost use Rattle.dns_network.specs.Framed.{IsFramed};
 ghost use Rattle.dns_network.specs.Stream.{IfOctets, moved};
 ghost use Rattle.dns_network.specs.Connection.{HasLost, HasMoved, IsQueued, IsSilent, IsStalled, MovesOn};
-ghost use Rattle.dns_network.specs.Connection.{held_of, rest_of, stream_of, unwritten_of, used_after, used_of};
+ghost use Rattle.dns_network.specs.Connection.{held_of, rest_of, stream_of, unwritten_of, used_after};
+ghost use Rattle.dns_network.specs.Connection.{used_of};
 
 use crate::{Framing, Moved, Octets, Outbox, Stream};
 use dns_memory::Heap;

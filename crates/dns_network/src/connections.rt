@@ -64,6 +64,13 @@ impl<S: Stream + Drop> Connections<S> {
         }
     }
 
+    /// How many places there are. The numbers of connections are below it.
+    pub fn place_count(&self) -> usize
+        ensures { result ≡ length (places_of self.now) }
+    {
+        self.places.len()
+    }
+
     /// How many connections there are.
     pub fn open_count(&self) -> usize
         ensures { result ≡ open_count (places_of self.now) }

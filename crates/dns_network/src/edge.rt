@@ -1,16 +1,17 @@
 //! Turns: what is done with the network, one turn after the other.
 ghost use Rattle.std.specs.Prelude.{◌≡◌, ◌⊎◌, ◌≤◌, ◌<◌, ℕ, Bool, List, [], map, replicate, false};
-ghost use Rattle.std.specs.Prelude.{None, slice_get, slice_set, IfOk, IsTrue};
+ghost use Rattle.std.specs.Prelude.{Some, None, slice_get, slice_set, IfOk, IsTrue};
 ghost use Rattle.dns_primary.specs.declared.event.Effects.{Effects as StatedEffects};
 ghost use Rattle.dns_primary.specs.Keeps.{IsKept, header_out, reply_out};
 ghost use Rattle.dns_primary.specs.Machine.{IsListed, Machine};
 ghost use Rattle.dns_primary.specs.Step.{Closed};
 ghost use Rattle.dns_network.specs.declared.network.Note.TheVariants as note;
-ghost use Rattle.dns_network.specs.Connection.{IsInUse, IsSilent, IsStalled, used_of};
+ghost use Rattle.dns_network.specs.Closing.{StalledAreGone, UnusedAreGone};
+ghost use Rattle.dns_network.specs.Connection.{IsInUse, IsStalled, IsUnused, IsUnusedOrInUse, used_of};
 ghost use Rattle.dns_network.specs.Connections.{IsGoneOr, IsOpenWith, IsPumped, open_count};
 ghost use Rattle.dns_network.specs.Notes.{AreNoted, notes_of};
 ghost use Rattle.dns_network.specs.Delivery.{AreSent, Going, HasEffects, IsSent, TakesEvent, connections_of};
-ghost use Rattle.dns_network.specs.Delivery.{served};
+ghost use Rattle.dns_network.specs.Delivery.{RestsAsBefore, rested_of, served};
 ghost use Rattle.dns_network.specs.Turn.{AreDone, IsTurn, IsWelcomed, MomentsLead, NoneWaits, TurnMoment};
 ghost use Rattle.dns_network.specs.Turn.{places_for_all};
 
@@ -35,8 +36,6 @@ const PLACES_FOR_ALL: usize = 48;
 /// The connections of a server, and a buffer for what is read.
 pub struct Edge<S: Stream> {
     connections: Connections<S>,
-    // the numbers of all connections are below it
-    end: usize,
     // the second in which a visit of each connection last found nothing to do, and since when none has got
     // something to send
     rested: Option<u64>,
@@ -48,7 +47,6 @@ impl<S: Stream + Drop> Drop for Edge<S> {
     fn drop(self) {
         let Edge {
             connections,
-            end: _,
             rested: _,
             buffer,
         } = self;
@@ -65,7 +63,6 @@ impl<S: Stream + Drop> Edge<S> {
         buffer.resize(PIECE, 0)?;
         Ok(Edge {
             connections: Connections::new(alloc)?,
-            end: 0,
             rested: None,
             buffer,
         })
@@ -74,16 +71,6 @@ impl<S: Stream + Drop> Edge<S> {
     /// The connection with that number.
     pub fn connection_mut(&mut self, number: usize) -> Option<&mut Connection<S>> {
         self.connections.get_mut(number)
-    }
-
-    /// After which number there is no connection.
-    fn last_end(&self) -> usize {
-        for number in (0..self.end).rev() {
-            if self.connections.is_open(number) {
-                return number.saturating_add(1);
-            }
-        }
-        0
     }
 
     /// Closes a connection: its stream is let go, and what waits to go to it goes nowhere.
@@ -98,10 +85,10 @@ impl<S: Stream + Drop> Edge<S> {
             × TakesEvent primary.old (Closed number) primary.new effects }
         ensures gone { connections_of self.new ≡ slice_set (connections_of self.old) number None }
         ensures noted { L.takes notes.old (note.Closed number) notes.new }
+        ensures rested { RestsAsBefore self.old self.new }
     {
         let _nothing = primary.step(alloc, Event::Closed(number));
         self.connections.remove(number);
-        self.end = self.last_end();
         notes.note(Note::Closed(number));
     }
 
@@ -117,9 +104,10 @@ impl<S: Stream + Drop> Edge<S> {
         to: To,
         reply: &[u8],
     )
-        ensures { (cut : Bool) × IsSent N.Network L.Notes to reply.now cut
+        ensures sent { (cut : Bool) × IsSent N.Network L.Notes to reply.now cut
             (served primary.old self.old network.old notes.old)
             (served primary.new self.new network.new notes.new) }
+        ensures rested { RestsAsBefore self.old self.new }
     {
         match to {
             To::Address(peer) => network.send(peer, reply),
@@ -146,9 +134,10 @@ impl<S: Stream + Drop> Edge<S> {
         notes: &mut L,
         headers: &[HeaderTo],
     )
-        ensures { AreSent N.Network L.Notes (map (λ h. header_out h) headers.now)
+        ensures sent { AreSent N.Network L.Notes (map (λ h. header_out h) headers.now)
             (served primary.old self.old network.old notes.old)
             (served primary.new self.new network.new notes.new) }
+        ensures rested { RestsAsBefore self.old self.new }
     {
         for header in headers {
             self.send(alloc, network, primary, notes, header.to, &header.octets);
@@ -165,9 +154,10 @@ impl<S: Stream + Drop> Edge<S> {
         notes: &mut L,
         reply: &Option<Reply>,
     )
-        ensures { AreSent N.Network L.Notes (reply_out reply.now)
+        ensures sent { AreSent N.Network L.Notes (reply_out reply.now)
             (served primary.old self.old network.old notes.old)
             (served primary.new self.new network.new notes.new) }
+        ensures rested { RestsAsBefore self.old self.new }
     {
         if let Some(reply) = reply {
             let octets = reply.octets.as_slice();
@@ -186,9 +176,10 @@ impl<S: Stream + Drop> Edge<S> {
         notes: &mut L,
         effects: Effects,
     )
-        ensures { (goings : List Going) × HasEffects N.Network L.Notes effects goings
+        ensures happened { (goings : List Going) × HasEffects N.Network L.Notes effects goings
             (served primary.old self.old network.old notes.old)
             (served primary.new self.new network.new notes.new) }
+        ensures rested { RestsAsBefore self.old self.new }
     {
         self.send_headers(alloc, network, primary, notes, effects.headers.as_slice());
         self.send_reply(alloc, network, primary, notes, &effects.message);
@@ -207,8 +198,9 @@ impl<S: Stream + Drop> Edge<S> {
         peer: Peer,
         now: u64,
     )
-        ensures { IsWelcomed L.Notes now stream peer primary.old primary.new (connections_of self.old)
-            (connections_of self.new) notes.old notes.new }
+        ensures welcomed { IsWelcomed L.Notes now stream peer primary.old primary.new
+            (connections_of self.old) (connections_of self.new) notes.old notes.new }
+        ensures rested { RestsAsBefore self.old self.new }
     {
         let effects = primary.step(alloc, Event::Connect(peer));
         tell(notes, effects.noted);
@@ -221,7 +213,6 @@ impl<S: Stream + Drop> Edge<S> {
             self.close(alloc, primary, notes, number);
             return;
         }
-        self.end = self.end.max(number.saturating_add(1));
         self.rested = None;
     }
 
@@ -250,9 +241,10 @@ impl<S: Stream + Drop> Edge<S> {
         notes: &mut L,
         now: u64,
     ) -> bool
-        ensures { MomentsLead S.Stream N.Network L.Notes now
+        ensures moments { MomentsLead S.Stream N.Network L.Notes now
             (served primary.old self.old network.old notes.old)
             (served primary.new self.new network.new notes.new) }
+        ensures rested { RestsAsBefore self.old self.new }
     {
         let Some((stream, peer)) = network.accept() else {
             return false;
@@ -273,9 +265,10 @@ impl<S: Stream + Drop> Edge<S> {
         primary: &mut Primary<I, D>,
         notes: &mut L,
     ) -> bool
-        ensures { (now : ℕ) → MomentsLead S.Stream N.Network L.Notes now
+        ensures moments { (now : ℕ) → MomentsLead S.Stream N.Network L.Notes now
             (served primary.old self.old network.old notes.old)
             (served primary.new self.new network.new notes.new) }
+        ensures rested { RestsAsBefore self.old self.new }
     {
         let Some((count, peer)) = network.receive(&mut self.buffer) else {
             return false;
@@ -321,7 +314,7 @@ impl<S: Stream + Drop> Edge<S> {
         ensures moments { MomentsLead S.Stream N.Network L.Notes now
             (served primary.old self.old network.old notes.old)
             (served primary.new self.new network.new notes.new) }
-        ensures silent { IsGoneOr (λ c. IsSilent now c ⊎ IsInUse now c) (slice_get (connections_of self.old) number)
+        ensures silent { IsGoneOr (IsUnusedOrInUse now) (slice_get (connections_of self.old) number)
             → IsGoneOr (IsInUse now) (slice_get (connections_of self.new) number) }
     {
         let Ok(moved) = self.connections.read(alloc, number, &mut self.buffer) else {
@@ -363,10 +356,10 @@ impl<S: Stream + Drop> Edge<S> {
         // A connection that was stalled before is gone then, or it was used in this second.
         ensures stalled { IsOpenWith (IsStalled now) (slice_get (connections_of self.old) number)
             → IsGoneOr (λ c. used_of c ≡ now) (slice_get (connections_of self.new) number) }
-        // One that was silent before is gone then, or it was used in this second, or a message of a transfer
-        // is left to write.
+        // One that was unused before is gone then, or it was used in this second, or octets are left to
+        // write.
         ensures silent { (m : Machine) → IsKept primary.old m
-            → IsOpenWith (IsSilent now) (slice_get (connections_of self.old) number)
+            → IsOpenWith (IsUnused now) (slice_get (connections_of self.old) number)
             → IsGoneOr (IsInUse now) (slice_get (connections_of self.new) number) }
     {
         if !self.connections.is_open(number) {
@@ -400,15 +393,21 @@ impl<S: Stream + Drop> Edge<S> {
         notes: &mut L,
         now: u64,
     ) -> bool
-        ensures { MomentsLead S.Stream N.Network L.Notes now
+        ensures moments { MomentsLead S.Stream N.Network L.Notes now
             (served primary.old self.old network.old notes.old)
             (served primary.new self.new network.new notes.new) }
+        // Unless none had something to do in this second, each that was unused or stalled is gone, or used.
+        ensures unused { (rested_of self.old ≡ Some now → ⊥) → (m : Machine) → IsKept primary.old m
+            → UnusedAreGone now (connections_of self.old) (connections_of self.new) }
+        ensures stalled { (rested_of self.old ≡ Some now → ⊥)
+            → StalledAreGone now (connections_of self.old) (connections_of self.new) }
+        ensures rested { (second : ℕ) → rested_of self.new ≡ Some second → second ≡ now }
     {
         if self.rested == Some(now) && network.is_still() {
             return false;
         }
         let mut is_done = false;
-        for number in 0..self.end {
+        for number in 0..self.connections.place_count() {
             if self.visit(alloc, network, primary, notes, number, now) {
                 is_done = true;
             }
@@ -431,6 +430,11 @@ impl<S: Stream + Drop> Edge<S> {
             (served primary.old self.old network.old notes.old)
             (served primary.new self.new network.new notes.new) }
         ensures idle { result ≡ false → NoneWaits primary.new }
+        ensures unused { (rested_of self.old ≡ Some now → ⊥) → (m : Machine) → IsKept primary.old m
+            → UnusedAreGone now (connections_of self.old) (connections_of self.new) }
+        ensures stalled { (rested_of self.old ≡ Some now → ⊥)
+            → StalledAreGone now (connections_of self.old) (connections_of self.new) }
+        ensures rested { (second : ℕ) → rested_of self.new ≡ Some second → second ≡ now }
     {
         let accepted = self.accept(alloc, network, primary, notes, now);
         let received = self.receive(alloc, network, primary, notes);
@@ -450,8 +454,8 @@ impl<S: Stream + Drop> Edge<S> {
     /// connection is accepted and at most one datagram read; each connection has its part, by rising number;
     /// then there is a flush if a reply waits for one. It is noted that the turn begins, and that it ends.
     ///
-    /// Of the 64 places 16 are for peers whose address some zone lists. A connection that is silent or stalled
-    /// for 30 seconds is closed.
+    /// Of the 64 places 16 are for peers whose address some zone lists. A connection that is silent or
+    /// stalled for 30 seconds is closed.
     ///
     /// A read or a write that would wait does nothing, and one that fails closes its connection. So does
     /// refused memory.
@@ -467,6 +471,13 @@ impl<S: Stream + Drop> Edge<S> {
             (served primary.old self.old network.old notes.old)
             (served primary.new self.new network.new notes.new) }
         ensures idle { result ≡ false → NoneWaits primary.new }
+        // Unless a turn before, in this second, found that no connection had something to do: each that was
+        // silent or stalled is gone, or it was used in this second, or a silent one got something to write.
+        ensures unused { (rested_of self.old ≡ Some now → ⊥) → (m : Machine) → IsKept primary.old m
+            → UnusedAreGone now (connections_of self.old) (connections_of self.new) }
+        ensures stalled { (rested_of self.old ≡ Some now → ⊥)
+            → StalledAreGone now (connections_of self.old) (connections_of self.new) }
+        ensures rested { (second : ℕ) → rested_of self.new ≡ Some second → second ≡ now }
     {
         notes.note(Note::Begins(now));
         let is_done = self.work(alloc, network, primary, notes, now);

@@ -35,8 +35,8 @@ pub trait Network<S> {
     fn send(&mut self, to: Peer, octets: &[u8])
         ensures { sends self.old to octets.now self.new };
 
-    /// Looks at what came meanwhile. It is called before a flush and after it, since that takes long, and by a
-    /// server in every 32nd turn.
+    /// Looks at what came meanwhile. It is called before a flush and after it, since that takes long, and by
+    /// a server in every 32nd turn.
     fn look(&mut self)
         ensures { looks self.old self.new };
 

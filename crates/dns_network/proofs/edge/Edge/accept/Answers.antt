@@ -7,14 +7,14 @@ use Rattle.dns_network.specs.Turn.{Asks, Connects, Refuses}
 use Rattle.dns_network.proofs.Leads.{by_one, and_on, closes, standing}
 use Rattle.dns_network.proofs.edge.Edge.accept.Goals as goal
 
-pub returns-in_default : goal.returns-in_default
-returns-in_default g c =
+pub returns-in_default-clause-moments : goal.returns-in_default-clause-moments
+returns-in_default-clause-moments g c =
     let old = served c.args.primary.now c.args.self.now c.args.network.now c.args.notes.now in
     let new = served c.args.primary.now c.args.self.now c.accept.new.self c.args.notes.now in
     by_one g.S.Stream g.N.Network g.L.Notes c.args.now Asks old new (record { rest = refl; nothing = inl c.in_default.ensures })
 
-pub returns-then-is_full_for : goal.returns-then-is_full_for
-returns-then-is_full_for g c =
+pub returns-then-is_full_for-clause-moments : goal.returns-then-is_full_for-clause-moments
+returns-then-is_full_for-clause-moments g c =
     let old = served c.args.primary.now c.args.self.now c.args.network.now c.args.notes.now in
     let new = served c.args.primary.now c.args.self.now c.accept.new.self c.note.new.self in
     by_one g.S.Stream g.N.Network g.L.Notes c.args.now (Refuses c.in-Some.peer) old new
@@ -27,12 +27,12 @@ returns-then-is_full_for g c =
       noted = c.note.ensures;
     })
 
-pub returns : goal.returns
-returns g c =
+pub returns-clause-moments : goal.returns-clause-moments
+returns-clause-moments g c =
     let allowed = λ (m : Machine) (kept : IsKept c.args.primary.now m). c.is_full_for.ensures.allowed c.if-is_full_for.false m kept in
     let old = served c.args.primary.now c.args.self.now c.args.network.now c.args.notes.now in
     let new = served c.welcome.new.primary c.welcome.new.self c.accept.new.self c.welcome.new.notes in
-    elim c.welcome.ensures [
+    elim c.welcome.ensures.welcomed [
       | inl (effects, taken) ↦ by_one g.S.Stream g.N.Network g.L.Notes c.args.now (Connects c.in-Some.peer effects) old new
           (record { stream = c.in-Some.stream; came = c.in-Some.ensures; allowed = allowed; taken = taken })
       | inr (between, place, noted, number, effects, none, taken, lacks, told, gone, closed) ↦

@@ -54,7 +54,7 @@ returns-in-Some-clause-moments g c =
       subst (λ (octets : List ℕ). HasHandedOver c.args.now octets handed.0 handed.1) (sym c.deref.ensures.value) handed.3,
       ap (standing c.args.primary.now c.args.network.now c.args.notes.now) handed.4,
     )
-    (λ m kept. c.step-effects.ensures.step m kept) refl c.deliver.ensures)
+    (λ m kept. c.step-effects.ensures.step m kept) refl c.deliver.ensures.happened)
 
 pub returns-then-is_silent-clause-moments : goal.returns-then-is_silent-clause-moments
 returns-then-is_silent-clause-moments g c =
@@ -92,7 +92,7 @@ returns-in-Some-clause-silent g c = λ silent.
     let told = standing c.step-effects.new.self c.args.network.now c.args.notes.now (places_of c.next_message.new.self) in
     let new = served c.deliver.new.primary c.deliver.new.self c.deliver.new.network c.deliver.new.notes in
     let handed = handed_now now c.args.number c.in-Some.message.items (places_of c.read.new.self) (places_of c.next_message.new.self) c.in-Some.ensures in
-    effects_stay g.N.Network g.L.Notes (IsInUse now) c.args.number (in_use_stays now) c.step-effects.result c.deliver.ensures.0 told new c.deliver.ensures.1 handed
+    effects_stay g.N.Network g.L.Notes (IsInUse now) c.args.number (in_use_stays now) c.step-effects.result c.deliver.ensures.happened.0 told new c.deliver.ensures.happened.1 handed
 
 pub returns-then-is_silent-clause-silent : goal.returns-then-is_silent-clause-silent
 returns-then-is_silent-clause-silent g c = λ silent.

@@ -10,11 +10,11 @@ returns-clause-moments g c = λ now.
     let old = served c.args.primary.now c.args.self.now c.args.network.now c.args.notes.now in
     let told = served c.step-effects.new.self c.args.self.now c.args.network.now c.args.notes.now in
     let new = served c.deliver.new.primary c.deliver.new.self c.deliver.new.network c.deliver.new.notes in
-    happens g.S.Stream g.N.Network g.L.Notes now (Pump c.args.number) c.step-effects.result old old told new refl (λ m kept. c.step-effects.ensures.step m kept) refl c.deliver.ensures
+    happens g.S.Stream g.N.Network g.L.Notes now (Pump c.args.number) c.step-effects.result old old told new refl (λ m kept. c.step-effects.ensures.step m kept) refl c.deliver.ensures.happened
 
 pub returns-clause-pumped : goal.returns-clause-pumped
 returns-clause-pumped g c = λ m kept.
     let told = served c.step-effects.new.self c.args.self.now c.args.network.now c.args.notes.now in
     let new = served c.deliver.new.primary c.deliver.new.self c.deliver.new.network c.deliver.new.notes in
     is_pumped c.args.number c.is_some-is_sent.result c.step-effects.result.message (connections_of c.args.self.now) (connections_of c.deliver.new.self) c.is_some-is_sent.ensures
-    (next_queued g.N.Network g.L.Notes m c.args.number c.step-effects.result c.deliver.ensures.0 c.args.primary.now c.step-effects.new.self told new (λ e is. c.step-effects.ensures.step e is) kept c.deliver.ensures.1)
+    (next_queued g.N.Network g.L.Notes m c.args.number c.step-effects.result c.deliver.ensures.happened.0 c.args.primary.now c.step-effects.new.self told new (λ e is. c.step-effects.ensures.step e is) kept c.deliver.ensures.happened.1)

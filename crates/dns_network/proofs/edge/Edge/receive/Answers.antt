@@ -6,14 +6,14 @@ use Rattle.dns_network.specs.Turn.{Asks}
 use Rattle.dns_network.proofs.Leads.{by_one, happens}
 use Rattle.dns_network.proofs.edge.Edge.receive.Goals as goal
 
-pub returns-in_default : goal.returns-in_default
-returns-in_default g c = λ now.
+pub returns-in_default-clause-moments : goal.returns-in_default-clause-moments
+returns-in_default-clause-moments g c = λ now.
     let old = served c.args.primary.now c.args.self.now c.args.network.now c.args.notes.now in
     let new = served c.args.primary.now c.args.self.now c.receive.new.self c.args.notes.now in
     by_one g.S.Stream g.N.Network g.L.Notes now Asks old new (record { rest = refl; nothing = inr (inl c.in_default.ensures.came) })
 
-pub returns : goal.returns
-returns g c = λ now.
+pub returns-clause-moments : goal.returns-clause-moments
+returns-clause-moments g c = λ now.
     let old = served c.args.primary.now c.args.self.now c.args.network.now c.args.notes.now in
     let given = served c.args.primary.now c.args.self.now c.receive.new.self c.args.notes.now in
     let same : length c.receive.new.into ≡ c.args.self.now.buffer.len = omega (arith, c.receive.auto.into, c.deref_mut.ensures.len) in
@@ -24,4 +24,7 @@ returns g c = λ now.
       subst (λ (buffer : List ℕ). g.N.Network.receives c.args.network.now (Some (take c.in-Some.count buffer, c.in-Some.peer)) c.receive.new.self)
           (sym (c.deref.ensures.value ∙ with_items_is c.args.self.now.buffer c.receive.new.into same)) c.in-Some.ensures.came,
     )
-    (λ m kept. c.step-effects.ensures.step m kept) refl c.deliver.ensures
+    (λ m kept. c.step-effects.ensures.step m kept) refl c.deliver.ensures.happened
+
+pub returns-clause-rested : goal.returns-clause-rested
+returns-clause-rested g c = λ second rested. c.deliver.ensures.rested second rested

@@ -5,8 +5,8 @@ use Rattle.dns_network.specs.Delivery.{IsSent, connections_of, served}
 use Rattle.dns_network.proofs.Leads.{closed_still}
 use Rattle.dns_network.proofs.edge.Edge.send.Goals as goal
 
-pub returns-then-reply-gt-LONGEST : goal.returns-then-reply-gt-LONGEST
-returns-then-reply-gt-LONGEST g c =
+pub returns-then-reply-gt-LONGEST-clause-sent : goal.returns-then-reply-gt-LONGEST-clause-sent
+returns-then-reply-gt-LONGEST-clause-sent g c =
     let old = served c.args.primary.now c.args.self.now c.args.network.now c.args.notes.now in
     let new = served c.close.new.primary c.close.new.self c.args.network.now c.close.new.notes in
     let told = c.close.ensures.told in
@@ -19,8 +19,8 @@ returns-then-reply-gt-LONGEST g c =
       },
     )
 
-pub returns-in-Err : goal.returns-in-Err
-returns-in-Err g c =
+pub returns-in-Err-clause-sent : goal.returns-in-Err-clause-sent
+returns-in-Err-clause-sent g c =
     let old = served c.args.primary.now c.args.self.now c.args.network.now c.args.notes.now in
     let new = served c.close-in-Err.new.primary c.close-in-Err.new.self c.args.network.now c.close-in-Err.new.notes in
     let noted = served c.args.primary.now c.args.self.now c.args.network.now c.note.new.self in

@@ -8,13 +8,14 @@ use Rattle.dns_network.proofs.Leads.{next_sent}
 use Rattle.dns_network.proofs.edge.Edge.send_headers.Goals as goal
 
 pub loop-header-init : goal.loop-header-init
-loop-header-init g c = ([], refl, refl)
+loop-header-init g c = (([], refl, refl), λ second rested. rested)
 
 pub loop-header-preserved : goal.loop-header-preserved
 loop-header-preserved g c =
     let none : HeaderTo = record { to = Address (record { address = V4 (record { octets = [] }); port = 0 }); octets = [] } in
-    next_sent g.N.Network g.L.Notes (λ h. header_out h) c.args.headers.now c.loop-header.header-index none
+    let sent = next_sent g.N.Network g.L.Notes (λ h. header_out h) c.args.headers.now c.loop-header.header-index none
     (served c.args.primary.now c.args.self.now c.args.network.now c.args.notes.now)
     (served c.loop-header.primary c.loop-header.self c.loop-header.network c.loop-header.notes)
     (served c.send.new.primary c.send.new.self c.send.new.network c.send.new.notes)
-    c.loop-header-test.true c.loop-header.invariant c.send.ensures
+    c.loop-header-test.true c.loop-header.invariant.0 c.send.ensures.sent in
+    (sent, λ second rested. c.loop-header.invariant.1 second (c.send.ensures.rested second rested))

@@ -14,3 +14,9 @@ returns-clause-turn g c =
         ends = record { rest = refl; noted = c.note-2.ensures };
       },
     )
+
+pub returns-clause-unused : goal.returns-clause-unused
+returns-clause-unused g c = λ not m kept. c.work-is_done.ensures.unused not m kept
+
+pub returns-clause-stalled : goal.returns-clause-stalled
+returns-clause-stalled g c = λ not. c.work-is_done.ensures.stalled not

@@ -5,7 +5,7 @@ use Rattle.dns_network.specs.Connection.{IsInUse, IsStalled, used_of}
 use Rattle.dns_network.specs.Connections.{IsOpenWith, IsPumped, places_of}
 use Rattle.dns_network.specs.Delivery.{connections_of, served}
 use Rattle.dns_network.proofs.Leads.{and_on, closes, ends, moves, standing}
-use Rattle.dns_network.proofs.Used.{after_pump, is_gone, not_open, pumped_in_use, silent_left, stalled_left, written_now}
+use Rattle.dns_network.proofs.Used.{after_pump, is_gone, not_open, pumped_in_use, unused_left, stalled_left, written_now}
 use Rattle.dns_network.proofs.edge.Edge.visit.Goals as goal
 
 pub returns-in-Ended-clause-moments : goal.returns-in-Ended-clause-moments
@@ -78,7 +78,7 @@ returns-then-has_left-clause-stalled g c = λ stalled.
 
 pub returns-then-has_left-clause-silent : goal.returns-then-has_left-clause-silent
 returns-then-has_left-clause-silent g c = λ m kept silent.
-    absurd (silent_left c.args.now (slice_get (connections_of c.args.self.now) c.args.number) (sym c.has_left.ensures ∙ c.if-has_left.true) silent)
+    absurd (unused_left c.args.now (slice_get (connections_of c.args.self.now) c.args.number) (sym c.has_left.ensures ∙ c.if-has_left.true) silent)
 
 -- where none were
 pub returns-then-pump-clause-stalled : goal.returns-then-pump-clause-stalled

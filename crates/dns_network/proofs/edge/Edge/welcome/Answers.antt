@@ -6,8 +6,8 @@ use Rattle.dns_network.specs.Notes.{AreNoted, notes_of_opened}
 use Rattle.dns_network.proofs.Leads.{noted_then, nothing_came, still_past}
 use Rattle.dns_network.proofs.edge.Edge.welcome.Goals as goal
 
-pub returns-in_default : goal.returns-in_default
-returns-in_default g c =
+pub returns-in_default-clause-welcomed : goal.returns-in_default-clause-welcomed
+returns-in_default-clause-welcomed g c =
     let here = connections_of c.args.self.now in
     inl (
       c.step-effects.result,
@@ -20,8 +20,8 @@ returns-in_default g c =
       },
     )
 
-pub returns-in-Err : goal.returns-in-Err
-returns-in-Err g c =
+pub returns-in-Err-clause-welcomed : goal.returns-in-Err-clause-welcomed
+returns-in-Err-clause-welcomed g c =
     let here = connections_of c.args.self.now in
     let told = c.close.ensures.told in
     inr (
@@ -45,8 +45,8 @@ returns-in-Err g c =
       c.close.ensures.noted,
     )
 
-pub returns : goal.returns
-returns g c =
+pub returns-clause-welcomed : goal.returns-clause-welcomed
+returns-clause-welcomed g c =
     let here = connections_of c.args.self.now in
     let made = c.new-connection.result in
     inl (
