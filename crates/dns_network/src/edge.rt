@@ -341,6 +341,7 @@ impl<S: Stream + Drop> Edge<S> {
     /// Gives a connection its part of a turn: what is left to write is written; else the next message of a
     /// transfer is queued; else a piece is read, and a message handled. One that is stalled or silent then is
     /// closed.
+    #[inline(always)]
     fn visit<I: ZoneIndex, D: ZoneStore, N: Network<S>, L: Notes>(
         &mut self,
         alloc: Heap,
