@@ -3,8 +3,8 @@
 ghost use Rattle.std.specs.Prelude.{◌≡◌, ◌⊎◌, true, false, not, ◌∷◌, Some, None, IfOk, IfErr, OnOk, OnErr};
 ghost use Rattle.std.specs.Prelude.{MatchResult};
 ghost use Rattle.dns_zone.specs.Records.{contains, has, is_ordered, put, united, without};
-ghost use Rattle.dns_changes.specs.Change.{AreFew, is_formed, change_of, applied, are_present, are_new, change_fault};
-ghost use Rattle.dns_changes.specs.Change.{removed_from};
+ghost use Rattle.dns_changes.specs.Change.{AreFew, is_formed, change_of, applied, are_present, are_new};
+ghost use Rattle.dns_changes.specs.Change.{change_fault, removed_from};
 
 use crate::ChangeError;
 use crate::group::{put_each, take_each};

@@ -12,7 +12,6 @@ use Rattle.dns_names.specs.Name.{names_eq}
 use Rattle.dns_names.specs.Text.{name_of_text}
 use Rattle.std.specs.Str.{IsUtf8}
 use Rattle.std.specs.declared.net.ip_addr.IpAddr.{IpAddr}
-use Rattle.std.specs.declared.net.socket_addr.SocketAddr.{SocketAddr}
 use Rattle.dns_policy.specs.Prefix.{ExplainsPrefix, IsPrefix}
 use Rattle.dns_policy.specs.declared.PrefixError.{PrefixError}
 use Rattle.dns_policy.proofs.Prefixes.{no_prefix}
@@ -21,7 +20,7 @@ use Rattle.toml.specs.Data.{Data, Items, Members, as_str, as_table, item, string
 use Rattle.toml.specs.View.{items_of, items_view, members_of, members_view, view}
 use Rattle.toml.specs.declared.value.Value.{Value}
 use Rattle.dns_configuration.specs.declared.configuration.ZoneSettings.{ZoneSettings}
-use Rattle.dns_configuration.specs.Settings.{ArePrefixes, AreSettings, Describes, IsSocketAddress, HasPrefix, HasPrefixes, IsDescribedBy, IsSettings, ReadsOrFails, are_alike, has_keys, key_count, list_at, text_at}
+use Rattle.dns_configuration.specs.Settings.{ArePrefixes, AreSettings, Describes, HasPrefix, HasPrefixes, IsDescribedBy, IsSettings, ReadsOrFails, are_alike, has_keys, key_count, list_at, text_at}
 use Rattle.dns_configuration.specs.declared.configuration.Configuration.{Configuration}
 use Rattle.dns_configuration.specs.declared.configuration.ConfigurationError.{ConfigurationError}
 use Rattle.dns_configuration.specs.declared.configuration.ConfigurationError.TheVariants.{OutOfMemory, BadConfig}
@@ -37,7 +36,7 @@ misfit f R (x ∷ xs) i d [] small none h = h
 misfit f R (x ∷ xs) zero d (y ∷ ys) small none h = none y h.0
 misfit f R (x ∷ xs) (suc i) d (y ∷ ys) small none h = misfit f R xs i d ys (omega (arith, small)) none h.1
 
-zip_length : {A B C : Type 0} (f : A → B) (R : B → C → Type 0) (xs : List A) (ys : List C) → AllZip R (map f xs) ys → length ys ≡ length xs
+pub zip_length : {A B C : Type 0} (f : A → B) (R : B → C → Type 0) (xs : List A) (ys : List C) → AllZip R (map f xs) ys → length ys ≡ length xs
 zip_length f R [] [] h = refl
 zip_length f R [] (y ∷ ys) h = absurd h
 zip_length f R (x ∷ xs) [] h = absurd h
@@ -73,7 +72,7 @@ no_prefix_there d text bytes error p e same why h = no_prefix bytes error why p 
     one t there = cc
 
 -- A list is in one way that of items.
-same_items : (xs ys : List Data) → items_of xs ≡ items_of ys → xs ≡ ys
+pub same_items : (xs ys : List Data) → items_of xs ≡ items_of ys → xs ≡ ys
 same_items [] [] e = refl
 same_items [] (y ∷ ys) e = absurd cc
 same_items (x ∷ xs) [] e = absurd cc
@@ -114,12 +113,6 @@ zones_there d vs slice c e same h = subst (λ (t : List Data). AreSettings t c.z
   where
     all : (texts : List Data) → list_at (codes "zone") d ≡ Some (items_of texts) → items_of texts ≡ items_of (map view slice)
     all texts stand = (let there : items_of (map view slice) ≡ items_of (map view vs) = ap (λ (v : List Value). items_of (map view v)) same in cc)
-
-pub no_listener : (d : Data) (text : List ℕ) (c : Configuration) → Some text ≡ text_at (codes "listen") d → ((a : SocketAddr) → IsSocketAddress text a → ⊥) → Describes d c → ⊥
-no_listener d text c e none h = none c.listen (subst (λ (t : List ℕ). IsSocketAddress t c.listen) (same h.listen.0 h.listen.1) h.listen.2)
-  where
-    same : (t : List ℕ) → text_at (codes "listen") d ≡ Some t → t ≡ text
-    same t there = cc
 
 -- Two readings of the same tables are as long as each other.
 pub as_many : (tables : List Value) (zs ws : List ZoneSettings) → AreSettings (map view tables) zs → AreSettings (map view tables) ws → length zs ≡ length ws

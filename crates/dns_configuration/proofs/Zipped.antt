@@ -1,5 +1,5 @@
 -- Lists of what is written and what is read.
-use Rattle.std.proofs.Common.{◌≡◌, ℕ, zero, suc, ◌<◌, Bool, false, List, [], ◌∷◌, ◌++◌, length, length-append, take, get_or, arith}
+use Rattle.std.proofs.Common.{◌≡◌, ℕ, zero, suc, ◌<◌, Bool, false, List, [], ◌∷◌, ◌++◌, length, length-append, take, get_or, codes, arith}
 use Rattle.std.specs.Prelude.{◌≢◌, map, All}
 use Rattle.std.specs.List.{AllZip, list_any}
 use Rattle.std.proofs.lemmas.List.Quantifiers.{all_pairs_push}
@@ -10,6 +10,7 @@ use Rattle.toml.specs.View.{view}
 use Rattle.toml.specs.declared.value.Value.{Value}
 use Rattle.dns_configuration.specs.Settings.{AreApart, AreSettings, Describes, HasCounts, IsConfiguration, IsSettings, are_alike}
 use Rattle.dns_zone.proofs.Alone.{neither}
+use Rattle.dns_configuration.proofs.Listened.{valid_listeners}
 
 -- one more of each
 pub zipped_more : {A B C : Type 0} (f : A → B) (R : B → C → Type 0) (xs : List A) (i : ℕ) (d : A) (ys : List C) (y : C) → i < length xs → AllZip R (map f (take i xs)) ys → R (f (get_or xs i d)) y → AllZip R (map f (take (suc i) xs)) (ys ++ y ∷ [])
@@ -34,13 +35,15 @@ counts_of (w ∷ ws) (z ∷ zs) h zero d small = h.0.counts
 counts_of (w ∷ ws) (z ∷ zs) h (suc k) d small = counts_of ws zs h.1 k d (omega (arith, small))
 
 pub described_valid : (d : Data) (c : Configuration) → Describes d c → IsConfiguration c
-described_valid d c h = record {
-  listens = h.listen.2.port_is.0;
+described_valid d c h = (let there = valid_listeners (codes "listen") d c.listen h.listen in record {
+  listens = there.0;
+  somewhere = there.1;
+  at_few = there.2;
   some = h.some;
   few = h.zones.2.few;
   counts = counts_of h.zones.0 c.zones.items h.zones.2.each;
   apart = h.zones.2.apart;
-}
+})
 
 -- One more zone that is apart from those before it.
 pub settings_more : (tables : List Value) (i : ℕ) (table : Value) (zs : List ZoneSettings) (z : ZoneSettings) → i < length tables → AreSettings (map view (take i tables)) zs → IsSettings (view (get_or tables i table)) z → length zs ≢ 16 → list_any (λ other. are_alike other z) zs ≡ false → AreSettings (map view (take (suc i) tables)) (zs ++ z ∷ [])

@@ -2,3 +2,4 @@ pub mod Faults
 pub mod Files
 pub mod Known
 pub mod Settings
+pub mod Named

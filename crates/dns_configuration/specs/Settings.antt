@@ -1,6 +1,6 @@
 -- What a configuration says.
-use Rattle.std.specs.Prelude.{◌≡◌, ◌≢◌, ⊤, ℕ, suc, ◌<◌, ◌≤◌, ◌==◌, ◌^◌, Bool, true, false, ◌||◌, List, []}
-use Rattle.std.specs.Prelude.{◌∷◌, ◌++◌, length, Result, Ok, Err, Option, Some, None, option_and_then}
+use Rattle.std.specs.Prelude.{◌≡◌, ◌≢◌, ◌⊎◌, ⊤, ℕ, suc, ◌<◌, ◌≤◌, ◌==◌, ◌^◌, Bool, true, false, ◌||◌, List}
+use Rattle.std.specs.Prelude.{[], ◌∷◌, ◌++◌, length, Result, Ok, Err, Option, Some, None, option_and_then}
 use Rattle.std.specs.Prelude.{decimal, All, AllPairs, bytes_eq, codes, get_or, ℤ, pos, String, Vec}
 use Rattle.std.specs.Global.{Global}
 use Rattle.std.specs.Str.{IsUtf8}
@@ -67,10 +67,16 @@ are_alike z other =
 abbrev pub AreApart : ZoneSettings → ZoneSettings → Type 0
 AreApart z other = are_alike z other ≡ false
 
--- What a server may hold: it listens at a port, and has 1 to 16 zones, each with its counts, no two with one
--- apex or one device.
+-- A server can listen there.
+abbrev pub HasPort : SocketAddr → Type 0
+HasPort a = 0 < socket_port a
+
+-- What a server may hold: it listens on 1 to 8 addresses, each with a port, and has 1 to 16 zones, each with
+-- its counts, no two with one apex or one device.
 pub record IsConfiguration (c : Configuration) : Type 0 where
-  pub listens : 0 < socket_port c.listen
+  pub listens : All HasPort c.listen.items
+  pub somewhere : 0 < length c.listen.items
+  pub at_few : length c.listen.items ≤ 8
   pub some : 0 < length c.zones.items
   pub few : length c.zones.items ≤ 16
   pub counts : All HasCounts c.zones.items
@@ -118,6 +124,22 @@ pub record HasPrefixes (key : List ℕ) (d : Data) (prefixes : Vec (IpAddr × �
   pub stand : list_at key d ≡ Some (items_of texts)
   pub are : ArePrefixes texts prefixes.items
 
+-- The value is the text of an address and a port, and each of 1 to 8 is.
+abbrev pub HasAddress : Data → SocketAddr → Type 0
+HasAddress d a = (text : List ℕ) × (as_str d ≡ Some text) × IsSocketAddress text a
+
+pub record AreAddresses (texts : List Data) (addresses : List SocketAddr) : Type 0 where
+  pub each : AllZip HasAddress texts addresses
+  pub some : 0 < length addresses
+  pub few : length addresses ≤ 8
+
+-- The table has, at the key, the text of the only address, or a list of 1 to 8 texts, in the order of the
+-- addresses.
+abbrev pub HasAddresses : List ℕ → Data → Vec SocketAddr Global → Type 0
+HasAddresses key d addresses =
+    ((text : List ℕ) × (text_at key d ≡ Some text) × AllZip IsSocketAddress (text ∷ []) addresses.items)
+    ⊎ ((texts : List Data) × (list_at key d ≡ Some (items_of texts)) × AreAddresses texts addresses.items)
+
 -- The table has, at the key, a path; a number from low to high; the text of a name.
 abbrev pub HasPath : List ℕ → Data → String Global → Type 0
 HasPath key d path = text_at key d ≡ Some (string_bytes path)
@@ -151,7 +173,7 @@ pub record AreSettings (tables : List Data) (zs : List ZoneSettings) : Type 0 wh
 -- The document describes the configuration, and has no other key.
 pub record Describes (d : Data) (c : Configuration) : Type 0 where
   pub keys : has_keys 2 d ≡ true
-  pub listen : (text : List ℕ) × (text_at (codes "listen") d ≡ Some text) × IsSocketAddress text c.listen
+  pub listen : HasAddresses (codes "listen") d c.listen
   pub zones : (tables : List Data) × (list_at (codes "zone") d ≡ Some (items_of tables))
       × AreSettings tables c.zones.items
   pub some : 0 < length c.zones.items

@@ -1,29 +1,26 @@
 //! The configuration: the zones that are held, their files, and who may change and copy them.
-ghost use Rattle.std.specs.Prelude.{◌≡◌, ◌≢◌, ℕ, ◌<◌, ◌^◌, List, [], ◌∷◌, ◌++◌, Ok, Some, MatchOption, IfOk};
+ghost use Rattle.std.specs.Prelude.{◌≡◌, ◌≢◌, ℕ, ◌<◌, ◌^◌, [], Ok, Some, MatchOption, IfOk};
 ghost use Rattle.std.specs.Prelude.{map, option_map, pos};
 ghost use Rattle.std.specs.List.{list_any};
 ghost use Rattle.std.specs.Option.{option_copied};
 ghost use Rattle.toml.specs.View.{array_view, view};
 ghost use Rattle.dns_names.specs.Text.{name_of_text};
-ghost use Rattle.dns_policy.specs.Address.{IsAddress};
-ghost use Rattle.std.specs.declared.net.ip_addr.IpAddr.TheVariants.{V4, V6};
 ghost use Rattle.dns_configuration.specs.declared.configuration.ConfigurationError.TheVariants as told;
-ghost use Rattle.dns_configuration.specs.Settings.{ArePrefixes, AreSettings, Describes, FindsIfAny, HasCount};
-ghost use Rattle.dns_configuration.specs.Settings.{HasName, HasNone, HasPath, HasPrefixes, IsConfiguration};
-ghost use Rattle.dns_configuration.specs.Settings.{IsDescribedBy, IsHost, IsLastParted};
-ghost use Rattle.dns_configuration.specs.Settings.{IsSocketAddress, IsPort};
-ghost use Rattle.dns_configuration.specs.Settings.{IsSettings, ReadsOrFails, are_alike, has_keys, list_at};
-ghost use Rattle.dns_configuration.specs.Settings.{number_at, text_at};
+ghost use Rattle.dns_configuration.specs.Settings.{ArePrefixes, AreSettings, Describes, HasCount};
+ghost use Rattle.dns_configuration.specs.Settings.{HasName, HasPath, HasPrefixes, IsConfiguration};
+ghost use Rattle.dns_configuration.specs.Settings.{IsDescribedBy, IsSettings, ReadsOrFails, are_alike};
+ghost use Rattle.dns_configuration.specs.Settings.{has_keys, list_at, number_at, text_at};
 
+use crate::listening::addresses_at;
 use dns_memory::Heap;
 use dns_names::{Name, NameError};
-use dns_policy::{Prefix, address};
+use dns_policy::Prefix;
 use std::alloc::{AllocError, AllocFailed, Global};
-use std::net::{IpAddr, Ipv4Addr, Ipv6Addr, SocketAddr};
+use std::net::SocketAddr;
 use toml::Value;
 
 /// At most so many zones are held.
-const MOST_ZONES: usize = 16;
+pub(crate) const MOST_ZONES: usize = 16;
 
 /// The least count of sectors of a snapshot.
 pub(crate) const LEAST_SNAPSHOT: u32 = 1;
@@ -61,8 +58,8 @@ pub struct ZoneSettings {
 /// What a server holds, and where it listens.
 #[derive(Drop)]
 pub struct Configuration {
-    /// The address and the port, by UDP and TCP.
-    pub listen: SocketAddr,
+    /// 1 to 8 addresses with their ports, each by UDP and TCP.
+    pub listen: Vec<SocketAddr>,
     /// At most 16 zones, with distinct apexes and devices.
     pub zones: Vec<ZoneSettings>,
 }
@@ -90,89 +87,6 @@ impl<T: Drop> From<AllocFailed<T>> for ConfigurationError {
     fn from(_error: AllocFailed<T>) -> ConfigurationError {
         ConfigurationError::OutOfMemory
     }
-}
-
-/// A port: a decimal number from 1 to 65,535, without leading zeros.
-fn port(text: &str) -> Option<u16>
-    ensures { FindsIfAny (IsPort text.now) result }
-{
-    let first = *text.as_bytes().first()?;
-    if first == b'0' || first == b'+' {
-        return None;
-    }
-    text.parse().ok()
-}
-
-/// What is between brackets.
-fn between_brackets(text: &[u8]) -> Option<&[u8]>
-    ensures { MatchOption result ((inner : List ℕ) → text.now ≢ 91 ∷ inner ++ 93 ∷ [])
-        (λ inner. text.now ≡ 91 ∷ inner.now ++ 93 ∷ []) }
-{
-    match text {
-        [b'[', inner @ .., b']'] => Some(inner),
-        _ => None,
-    }
-}
-
-/// An IPv4 address.
-fn ipv4(text: &[u8]) -> Option<Ipv4Addr>
-    ensures { FindsIfAny (λ a. IsHost text.now (V4 a)) result }
-{
-    match address(text) {
-        Some(IpAddr::V4(ip)) => Some(ip),
-        _ => None,
-    }
-}
-
-/// An IPv6 address.
-fn ipv6(text: &[u8]) -> Option<Ipv6Addr>
-    ensures { FindsIfAny (λ a. IsAddress text.now (V6 a)) result }
-{
-    match address(text) {
-        Some(IpAddr::V6(ip)) => Some(ip),
-        _ => None,
-    }
-}
-
-/// An IPv6 address between brackets.
-fn bracketed_ipv6(text: &[u8]) -> Option<Ipv6Addr>
-    ensures { FindsIfAny (λ a. IsHost text.now (V6 a)) result }
-{
-    match between_brackets(text) {
-        Some(inner) => ipv6(inner),
-        None => None,
-    }
-}
-
-/// An IPv4 address, or an IPv6 address between brackets.
-fn host(text: &[u8]) -> Option<IpAddr>
-    ensures { FindsIfAny (IsHost text.now) result }
-{
-    match ipv4(text) {
-        Some(ip) => Some(IpAddr::V4(ip)),
-        None => match bracketed_ipv6(text) {
-            Some(ip) => Some(IpAddr::V6(ip)),
-            None => None,
-        },
-    }
-}
-
-/// What is before the last colon, and after it.
-fn split_at_last_colon(text: &str) -> Option<(&str, &str)>
-    ensures { MatchOption result (HasNone 58 text.now)
-        (λ parts. IsLastParted 58 text.now (parts.0.now, parts.1.now)) }
-{
-    text.rsplit_once(':')
-}
-
-/// The address and the port of a text such as `192.0.2.53:53` or `[2001:db8::53]:53`: a port of 1 to 65,535
-/// without leading zeros. None for every other text.
-pub fn socket_address(text: &str) -> Option<SocketAddr>
-    ensures { FindsIfAny (IsSocketAddress text.now) result }
-{
-    let (front, digits) = split_at_last_colon(text)?;
-    let ip = host(front.as_bytes())?;
-    Some(SocketAddr::new(ip, port(digits)?))
 }
 
 /// The text at a key of a table.
@@ -359,12 +273,7 @@ fn configuration_of(
     if !has_keys(document, 2) {
         return Err(ConfigurationError::BadConfig);
     }
-    let Some(text) = text_at(document, "listen") else {
-        return Err(ConfigurationError::BadConfig);
-    };
-    let Some(listen) = socket_address(text) else {
-        return Err(ConfigurationError::BadConfig);
-    };
+    let listen = addresses_at(alloc, document, "listen")?;
     let Some(tables) = list_at(document, "zone") else {
         return Err(ConfigurationError::BadConfig);
     };
@@ -377,7 +286,8 @@ fn configuration_of(
 
 impl Configuration {
     /// Reads a configuration in TOML: its keys are those of `Configuration` and of its zones, `listen` with
-    /// the address, a colon and the port as one text. `BadConfig` comes for every other text.
+    /// an address, a colon and a port as one text, or with a list of 1 to 8 such texts. `BadConfig` comes for
+    /// every other text.
     pub fn read(
         alloc: Global,
         heap: Heap,

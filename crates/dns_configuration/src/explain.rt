@@ -1,19 +1,28 @@
-//! What one who mends a refused configuration is told beside its fault: the key whose value is missing or
+//! What one who mends a refused configuration is told beside its fault: the key that is unknown, missing or
 //! wrong, and what is expected there. It serves `--explain` alone, and no clause says more of it than that it
 //! ends.
 use crate::configuration::{
-    LEAST_JOURNAL, LEAST_SNAPSHOT, MOST, ZONE_KEYS, count_at, has_keys, list_at, name_at, path_at,
-    prefixes_at, socket_address, text_at,
+    LEAST_JOURNAL, LEAST_SNAPSHOT, MOST, ZONE_KEYS, count_at, list_at, name_at, path_at,
+    prefixes_at,
 };
+use crate::explain_lines::{is_zone_header, line_of, line_of_key, line_of_single_zone};
+use crate::explain_zones::explain_zones;
 use crate::files::{File, PrintedWord};
+use crate::listening::addresses_at;
 use dns_memory::Heap;
+use dns_policy::{Prefix, PrefixError, address};
 use std::alloc::Global;
 use std::io::{self, Write};
+use std::net::IpAddr;
 use toml::Value;
 
-/// What is expected at a key of a zone.
+/// What is expected at a key.
 #[derive(Clone, Copy)]
 enum Expected {
+    /// An address and a port.
+    Address,
+    /// A list of zones.
+    Zones,
     /// The name of the apex.
     Apex,
     /// The path of a file.
@@ -24,8 +33,11 @@ enum Expected {
     Prefixes,
 }
 
+/// The keys of a configuration, and what is expected at each.
+const KEYS: [(&str, Expected); 2] = [("listen", Expected::Address), ("zone", Expected::Zones)];
+
 /// The keys of a zone, and what is expected at each.
-const KEYS: [(&str, Expected); ZONE_KEYS] = [
+const KEYS_OF_ZONE: [(&str, Expected); ZONE_KEYS] = [
     ("origin", Expected::Apex),
     ("file", Expected::Path("master file")),
     ("device", Expected::Path("device")),
@@ -36,44 +48,157 @@ const KEYS: [(&str, Expected); ZONE_KEYS] = [
     ("transfer", Expected::Prefixes),
 ];
 
-/// Whether the table has a value at that key of a zone, of the key's form.
-fn is_good(alloc: Global, heap: Heap, zone: &Value, key: &str, expected: Expected) -> bool {
-    match expected {
-        Expected::Apex => name_at(heap, zone, key).is_ok(),
-        Expected::Path(_) => path_at(alloc, zone, key).is_ok(),
-        Expected::Count(low, high) => count_at(zone, key, low, high).is_ok(),
-        Expected::Prefixes => prefixes_at(alloc, zone, key).is_ok(),
+/// A table that is looked at: the document if the number is 0, and else the zone with that number, the first
+/// being 1.
+#[derive(Clone, Copy)]
+struct Place<'a> {
+    /// The path of the configuration.
+    path: &'a str,
+    /// Its text.
+    octets: &'a [u8],
+    number: usize,
+}
+
+impl<'a> Place<'a> {
+    /// The path, as it is printed.
+    fn what(self) -> PrintedWord<'a> {
+        PrintedWord(self.path.as_bytes())
     }
 }
 
-/// The first key of a zone that is wrong.
-fn wrong_key(alloc: Global, heap: Heap, zone: &Value) -> Option<(&'static str, Expected)> {
-    for (key, expected) in KEYS {
-        if !is_good(alloc, heap, zone, key, expected) {
-            return Some((key, expected));
+/// Whether the table has a value at that key, of the key's form.
+fn is_good(alloc: Global, heap: Heap, table: &Value, key: &str, expected: Expected) -> bool {
+    match expected {
+        Expected::Address => addresses_at(alloc, table, key).is_ok(),
+        Expected::Zones => list_at(table, key).is_some(),
+        Expected::Apex => name_at(heap, table, key).is_ok(),
+        Expected::Path(_) => path_at(alloc, table, key).is_ok(),
+        Expected::Count(low, high) => count_at(table, key, low, high).is_ok(),
+        Expected::Prefixes => prefixes_at(alloc, table, key).is_ok(),
+    }
+}
+
+/// The first of these keys of a table that is missing or wrong.
+fn wrong_key(
+    alloc: Global,
+    heap: Heap,
+    table: &Value,
+    keys: &[(&'static str, Expected)],
+) -> Option<(&'static str, Expected)> {
+    for (key, expected) in keys {
+        if !is_good(alloc, heap, table, key, *expected) {
+            return Some((*key, *expected));
         }
     }
     None
 }
 
-/// Tells which key of the zone with that number is wrong, and what is expected there.
+/// Whether the key is one of these.
+fn is_among(keys: &[(&'static str, Expected)], key: &str) -> bool {
+    for (own, _) in keys {
+        if *own == key {
+            return true;
+        }
+    }
+    false
+}
+
+/// The first key of a table that is none of these.
+fn unknown_key<'v>(table: &'v Value, keys: &[(&'static str, Expected)]) -> Option<&'v str> {
+    for key in table.as_table()?.keys() {
+        if !is_among(keys, key.as_str()) {
+            return Some(key.as_str());
+        }
+    }
+    None
+}
+
+/// Tells which key of a table is unknown, and its line if that is found.
+fn tell_unknown<E: Write>(place: Place<'_>, key: &str, err: &mut E) -> io::Result<()> {
+    let (what, name) = (place.what(), PrintedWord(key.as_bytes()));
+    match line_of_key(place.octets, place.number, key.as_bytes()) {
+        Some(line) => writeln!(err, "{what}: unknown key `{name}`, line {line}"),
+        None => writeln!(err, "{what}: unknown key `{name}`"),
+    }
+}
+
+/// Tells what is wrong with a text that is no prefix.
+fn tell_prefix<E: Write>(text: &str, error: PrefixError, err: &mut E) -> io::Result<()> {
+    let met = PrintedWord(text.as_bytes());
+    match address(text.as_bytes()) {
+        Some(IpAddr::V4(_)) => writeln!(err, "'{met}': one host: {met}/32"),
+        Some(IpAddr::V6(_)) => writeln!(err, "'{met}': one host: {met}/128"),
+        None => writeln!(err, "'{met}': {error}, such as 192.0.2.0/24"),
+    }
+}
+
+/// Tells which entry of a list of prefixes is none.
+fn tell_prefixes<E: Write>(texts: &[Value], err: &mut E) -> io::Result<()> {
+    for value in texts {
+        let Some(text) = value.as_str() else {
+            return writeln!(err, "each prefix is a text, such as \"192.0.2.0/24\"");
+        };
+        if let Err(error) = Prefix::parse(text.as_bytes()) {
+            return tell_prefix(text, error, err);
+        }
+    }
+    writeln!(err, "a list of prefixes is expected")
+}
+
+/// Tells what is expected at a key of a table that is missing or wrong.
 fn tell_key<E: Write>(
-    what: &PrintedWord<'_>,
-    number: usize,
+    place: Place<'_>,
+    table: &Value,
     key: &str,
     expected: Expected,
     err: &mut E,
 ) -> io::Result<()> {
-    write!(err, "{what}: zone {number}: {key}: ")?;
+    match place.number {
+        0 => write!(err, "{}: {key}: ", place.what())?,
+        number => write!(err, "{}: zone {number}: {key}: ", place.what())?,
+    }
     match expected {
+        Expected::Address => writeln!(
+            err,
+            "an address and a port such as \"127.0.0.1:53\" are expected"
+        ),
+        Expected::Zones => writeln!(err, "a [[zone]] is expected for each zone"),
         Expected::Apex => writeln!(err, "the name of the zone's apex is expected"),
         Expected::Path(file) => writeln!(err, "the path of a {file} is expected"),
         Expected::Count(low, high) => writeln!(err, "a number from {low} to {high} is expected"),
-        Expected::Prefixes => writeln!(
-            err,
-            "a list of prefixes such as \"192.0.2.0/24\" is expected"
-        ),
+        Expected::Prefixes => match list_at(table, key) {
+            Some(texts) => tell_prefixes(texts.as_slice(), err),
+            None => writeln!(
+                err,
+                "a list of prefixes such as [\"192.0.2.0/24\"] is expected"
+            ),
+        },
     }
+}
+
+/// Tells which key of a table is unknown, missing or wrong. Answers whether one is.
+fn explain_keys<E: Write>(
+    alloc: Global,
+    heap: Heap,
+    place: Place<'_>,
+    table: &Value,
+    keys: &[(&'static str, Expected)],
+    err: &mut E,
+) -> io::Result<bool> {
+    if let Some(key) = unknown_key(table, keys) {
+        tell_unknown(place, key, err)?;
+        return Ok(true);
+    }
+    if let Some((key, expected)) = wrong_key(alloc, heap, table, keys) {
+        tell_key(place, table, key, expected, err)?;
+        return Ok(true);
+    }
+    Ok(false)
+}
+
+/// Tells that a table `[zone]` is none of a list.
+fn tell_single<E: Write>(what: &PrintedWord<'_>, line: usize, err: &mut E) -> io::Result<()> {
+    writeln!(err, "{what}:{line}: write [[zone]], not [zone]")
 }
 
 /// Tells which value of a document is wrong.
@@ -81,50 +206,46 @@ fn explain_document<E: Write>(
     alloc: Global,
     heap: Heap,
     document: &Value,
-    path: &str,
+    place: Place<'_>,
     err: &mut E,
 ) -> io::Result<()> {
-    let what = PrintedWord(path.as_bytes());
-    if text_at(document, "listen")
-        .and_then(socket_address)
-        .is_none()
-    {
-        return writeln!(
-            err,
-            "{what}: listen: an address and a port such as \"127.0.0.1:53\" are expected"
-        );
+    let mut place = place;
+    if let (Some(Value::Table(_)), Some(line)) = (
+        document.get("zone"),
+        line_of_single_zone(place.octets),
+    ) {
+        return tell_single(&place.what(), line, err);
+    }
+    if explain_keys(alloc, heap, place, document, &KEYS, err)? {
+        return Ok(());
     }
     let Some(zones) = list_at(document, "zone") else {
-        return writeln!(err, "{what}: zone: a [[zone]] is expected for each zone");
+        return Ok(());
     };
-    let mut number = 0usize;
     for zone in zones {
-        number = number.saturating_add(1);
-        if let Some((key, expected)) = wrong_key(alloc, heap, zone) {
-            return tell_key(&what, number, key, expected, err);
-        }
-        if !has_keys(zone, ZONE_KEYS) {
-            return writeln!(err, "{what}: zone {number}: it has a key that no zone has");
+        place.number = place.number.saturating_add(1);
+        if explain_keys(alloc, heap, place, zone, &KEYS_OF_ZONE, err)? {
+            return Ok(());
         }
     }
-    if !has_keys(document, 2) {
-        return writeln!(err, "{what}: there is a key beside listen and zone");
-    }
-    writeln!(
-        err,
-        "{what}: 1 to 16 zones are expected, no two with one origin or one device"
-    )
+    explain_zones(heap, &place.what(), zones.as_slice(), err)
 }
 
-/// The line that an octet is on, the first being 1.
-fn line_of(octets: &[u8], place: usize) -> usize {
-    let mut line = 1usize;
-    for octet in octets.iter().take(place) {
-        if *octet == b'\n' {
-            line = line.saturating_add(1);
-        }
+/// Tells what is wrong with a text that is no TOML.
+fn explain_text<E: Write>(
+    octets: &[u8],
+    what: &PrintedWord<'_>,
+    error: &toml::de::Error,
+    err: &mut E,
+) -> io::Result<()> {
+    let Some(span) = error.span() else {
+        return writeln!(err, "{what}: {}", error.message());
+    };
+    let line = line_of(octets, span.start);
+    match line_of_single_zone(octets) {
+        Some(single) if is_zone_header(octets, line) => tell_single(what, single, err),
+        _ => writeln!(err, "{what}:{line}: {}", error.message()),
     }
-    line
 }
 
 /// Tells what is wrong with a configuration that can be read and is refused, in a line for one who mends it.
@@ -142,13 +263,14 @@ pub fn explain_configuration<E: Write>(
         return writeln!(err, "{what}: it is no UTF-8");
     };
     match toml::table_from_str(alloc, text) {
-        Ok(table) => explain_document(alloc, heap, &Value::Table(table), file.path, err),
-        Err(error) => match error.span() {
-            Some(span) => {
-                let line = line_of(octets, span.start);
-                writeln!(err, "{what}:{line}: {}", error.message())
-            }
-            None => writeln!(err, "{what}: {}", error.message()),
-        },
+        Ok(table) => {
+            let place = Place {
+                path: file.path,
+                octets,
+                number: 0,
+            };
+            explain_document(alloc, heap, &Value::Table(table), place, err)
+        }
+        Err(error) => explain_text(octets, &what, &error, err),
     }
 }

@@ -4,14 +4,20 @@
 
 mod configuration;
 mod explain;
+mod explain_lines;
+mod explain_zones;
 mod files;
+mod listening;
 mod loading;
+mod named;
 mod zone_specs;
 
-pub use configuration::{Configuration, ConfigurationError, ZoneSettings, socket_address};
+pub use configuration::{Configuration, ConfigurationError, ZoneSettings};
 pub use explain::explain_configuration;
 pub use files::{
     DONE, FAILED, Fault, File, PrintedWord, REFUSED, USAGE, apex, read_configuration, tell,
 };
+pub use listening::socket_address;
 pub use loading::{load, load_all, load_one};
+pub use named::zone_of;
 pub use zone_specs::{origins_of, settings_of};

@@ -1,6 +1,7 @@
 //! Calls that take memory, each of which tells a number, or that memory was refused.
 use dns_answer::reply;
 use dns_changes::ChangeError;
+use dns_commands::check;
 use dns_configuration::{DONE, FAILED, File};
 use dns_lookup::resolve;
 use dns_masterfile::{FileError, read_zone};
@@ -8,7 +9,6 @@ use dns_memory::Heap;
 use dns_names::{Name, NameError};
 use dns_records::{Mx, RData, Record, RecordError, Soa, Srv, types};
 use dns_request::{Request, Transport, classify};
-use dns_server::check;
 use dns_wire::{Message, Section, WriteError};
 use dns_zone::{RecordList, Zone, ZoneError};
 use std::alloc::AllocError;

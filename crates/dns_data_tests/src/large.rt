@@ -1,5 +1,5 @@
 //! A whole zone of 40,000 addresses, from a session to a secondary.
-use dns_givens::zone;
+use dns_fixtures::zone;
 use dns_memory::{Heap, heap};
 use dns_request::{Request, Transport, classify};
 use dns_secondary::{Progress, Secondary};

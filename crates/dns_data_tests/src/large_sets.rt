@@ -1,6 +1,6 @@
 //! Many names, many labels, and the most records.
 use crate::refused_sets::loaded;
-use dns_givens::record;
+use dns_fixtures::record;
 use dns_memory::{Heap, heap};
 use dns_records::Record;
 use dns_records::types::A;

@@ -2,7 +2,7 @@
 use crate::calls::{Refused, Told, answered, checked, found, names, records, told_of_records};
 use crate::changes::judged;
 use crate::transfers::{fed, sent};
-use dns_givens::octets;
+use dns_fixtures::octets;
 use dns_memory::{Heap, heap};
 use std::test::Fail;
 

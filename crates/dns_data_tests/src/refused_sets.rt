@@ -1,5 +1,5 @@
 //! Each allocation of a write and of a load, refused in turn.
-use dns_givens::{name, record};
+use dns_fixtures::{name, record};
 use dns_memory::{Heap, heap};
 use dns_records::Record;
 use dns_records::types::{A, NS, SOA};

@@ -1,5 +1,5 @@
 //! The order of names, and the octets of data, by the examples of the standards.
-use dns_givens::name;
+use dns_fixtures::name;
 use dns_masterfile::read_zone;
 use dns_memory::{Heap, heap};
 use std::test::Fail;

@@ -1,8 +1,8 @@
 //! A transfer of a large zone, and what becomes of it while the zone changes (RFC 5936 section 3).
 use crate::large::{HOSTS, file};
+use dns_commands::replay;
 use dns_configuration::{DONE, File};
 use dns_memory::{Heap, heap};
-use dns_server::replay;
 use std::alloc::{AllocError, Global};
 use std::io;
 use std::test::Fail;

@@ -4,7 +4,7 @@ use crate::example::sum;
 use crate::migration::{Told, migrated};
 use crate::old_format::Held;
 use crate::stores::{Found, Shape, TINY, found_on, push_text, tiny_text};
-use dns_givens::plan;
+use dns_fixtures::plan;
 use dns_memory::{Heap, heap};
 use dns_store::{MigrateError, Migration, OpenError};
 use std::test::Fail;

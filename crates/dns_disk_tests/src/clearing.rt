@@ -1,7 +1,7 @@
 //! A store whose root says that the other bank may hold what format 1 left there: that bank is cleared when
 //! the store is opened.
 use crate::stores::{Device, TINY, entered, look, read, tiny_text, write};
-use dns_givens::{choices, crashed, plan};
+use dns_fixtures::{choices, crashed, plan};
 use dns_layout::{Format, Root};
 use dns_memory::{Heap, heap};
 use dns_sectors::{Keep, Plan, Sectors};

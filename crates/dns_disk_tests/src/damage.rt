@@ -3,7 +3,7 @@
 use crate::damage::Kept::{Changed, Checkpointed, Tiny};
 use crate::example::{EXAMPLE, changed, checkpointed};
 use crate::stores::{Device, Found, Shape, TINY, entered, look, read, tiny_text, write};
-use dns_givens::plan;
+use dns_fixtures::plan;
 use dns_memory::{Heap, heap};
 use dns_sectors::{Keep, Sectors};
 use dns_store::OpenError;

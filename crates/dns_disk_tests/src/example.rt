@@ -4,7 +4,7 @@ use crate::stores::{
     Device, Found, Shape, Store, Text, enter, found_on, made, opened, read, stage, write,
 };
 use dns_changes::Change;
-use dns_givens::{blank, octets, plan, zone};
+use dns_fixtures::{blank, octets, plan, zone};
 use dns_layout::{Format, is_intact};
 use dns_memory::{Heap, heap};
 use dns_sectors::{Keep, Sector, Sectors};

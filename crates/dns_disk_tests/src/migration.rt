@@ -3,7 +3,7 @@ use crate::example::{CLEAR_2, ENTRY, EXAMPLE, ROOT, Sealed, ZONE, fill, first_ot
 use crate::old_format::{is_updated, updated, with_checkpoint};
 use crate::primary::{in_file, replies, serving};
 use crate::stores::{Device, Found, Shape, found_on, read, write};
-use dns_givens::{blank, name, plan};
+use dns_fixtures::{blank, name, plan};
 use dns_memory::{Heap, heap};
 use dns_sectors::{Keep, Sectors};
 use dns_store::{MigrateError, Migration, migrate};

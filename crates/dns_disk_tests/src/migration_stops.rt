@@ -3,7 +3,7 @@ use crate::example::EXAMPLE;
 use crate::migration::{MIGRATED, Told, UPDATED, migrated};
 use crate::old_format::updated;
 use crate::stores::{Device, Found, opened};
-use dns_givens::{choices, crashed, plan};
+use dns_fixtures::{choices, crashed, plan};
 use dns_memory::{Heap, heap};
 use dns_sectors::{Keep, Plan};
 use dns_store::{MigrateError, Migration};

@@ -1,7 +1,7 @@
 //! Stores of format 1, by the tables of that format: no program of this repository writes one.
 use crate::example::{ENTRY, EXAMPLE, TEXTS, fill, has_sum};
 use crate::stores::{Device, Shape, push_text, write};
-use dns_givens::{blank, name, plan};
+use dns_fixtures::{blank, name, plan};
 use dns_memory::{Heap, heap};
 use dns_sectors::{Keep, Plan, Sector, Sectors};
 use std::rc::Rc;

@@ -2,7 +2,7 @@
 //! device's file fails; and what is left of the device.
 use crate::primary::{Device, in_file, open, shown_on};
 use crate::stores::{TINY, entered, tiny_text};
-use dns_givens::plan;
+use dns_fixtures::plan;
 use dns_memory::{Heap, heap};
 use dns_sectors::FileSectors;
 use dns_store::OpenError;

@@ -1,6 +1,6 @@
 //! A primary of one zone over a device in a file in memory.
 use crate::stores::{Shape, read};
-use dns_givens::{name, octets};
+use dns_fixtures::{name, octets};
 use dns_memory::Heap;
 use dns_policy::Prefix;
 use dns_primary::{Effects, Event, NotOpened, Peer, Primary, ZoneSpec};
@@ -19,6 +19,7 @@ fn peer() -> Peer {
     Peer {
         address: IpAddr::V4(Ipv4Addr::new(192, 0, 2, 9)),
         port: 5353,
+        local: 0,
     }
 }
 

@@ -4,7 +4,7 @@ use crate::stores::{
     Device, Found, OpenStore, Store, TINY, enter, entered, found_on, look, make, opened, stage,
     tiny_text,
 };
-use dns_givens::{blank, choices, crashed, plan};
+use dns_fixtures::{blank, choices, crashed, plan};
 use dns_memory::{Heap, heap};
 use dns_sectors::{Keep, Plan};
 use dns_store::{FormatError, OpenError, ZoneStore};

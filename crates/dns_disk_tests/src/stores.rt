@@ -1,7 +1,7 @@
 //! Two zones, stores of them on devices in memory, and what a device opens as. What a test doesn't look at is
 //! no error here but `None`.
 use dns_changes::Change;
-use dns_givens::{blank, name, zone};
+use dns_fixtures::{blank, name, zone};
 use dns_memory::Heap;
 use dns_sectors::{Keep, MemorySectors, Plan, Sector, Sectors};
 use dns_store::{FormatError, KeptStore, OpenError, ZoneStore, format, open};

@@ -10,8 +10,8 @@ use Rattle.dns_layout.specs.Sector.{clear}
 use Rattle.dns_layout.specs.Sector.{entry_sectors, snapshot_sectors}
 use Rattle.dns_layout.specs.Own.{AreOwn}
 use Rattle.dns_layout.specs.Forms.{SaysRoot, bank_number}
-use Rattle.dns_layout.specs.Journal.{Entry, entry_size, entry_octets, IsNextEntry, IsBatch, AllBehind, writes_from}
-use Rattle.dns_layout.specs.Journal.{place_behind, version_behind}
+use Rattle.dns_layout.specs.Journal.{Entry, entry_size, entry_octets, IsNextEntry, IsBatch, AllBehind}
+use Rattle.dns_layout.specs.Journal.{writes_from, place_behind, version_behind}
 use Rattle.dns_layout.specs.Store.{Sizes, Stored, OpensBy, OpensAs, IsTidy, AreParts, version_of}
 use Rattle.dns_layout.specs.Store.{snapshot_place, journal_place, bank_end, other_of}
 use Rattle.dns_layout.specs.declared.root.Root.{Root}

@@ -1,11 +1,11 @@
 -- What the root of a store says.
-use Rattle.std.proofs.Common.{◌≡◌, ℕ, ◌^◌, ◌<◌, ◌+◌, ◌-◌, ◌≤◌, List, [], ◌∷◌, ◌++◌, take, drop, length, replicate, refl, sym, ◌∙◌, ap, subst, arith, Bool, true, false, length-append, length-drop, append_assoc}
+use Rattle.std.proofs.Common.{◌≡◌, ℕ, ◌^◌, ◌<◌, ◌+◌, ◌-◌, ◌≤◌, List, [], ◌∷◌, ◌++◌, take, drop, length, replicate, refl, sym, ◌∙◌, ap, arith, Bool, true, false, length-append, length-drop, append_assoc}
 use Rattle.std.proofs.Math.Seq.{take-append_seam, take-append-add}
 use Rattle.std.proofs.lemmas.List.{take-replicate, replicate-append-replicate}
 use Rattle.byteorder.specs.Endian.{big_bytes, big_number}
 use Rattle.byteorder.specs.Numbers.{big_number-reads_back}
 use Rattle.dns_layout.specs.Apex.{IsPlainApex, apex_octets}
-use Rattle.dns_layout.specs.Sector.{HasNumbers, sector_of, tag, open_count, sequence_number, number, bank_open, snapshot_length, snapshot_room, journal_room, clear, apex_field, root_tag, root_tag_in}
+use Rattle.dns_layout.specs.Sector.{HasNumbers, sector_of, open_count, bank_open, snapshot_length, snapshot_room, journal_room, clear, apex_field, root_tag, root_tag_in}
 use Rattle.dns_layout.specs.Forms.{SaysRoot, SaysRootIn, root_front, bank_number, clear_number}
 use Rattle.dns_layout.specs.declared.format.Format.{Format}
 use Rattle.dns_layout.specs.declared.root.Root.{Root}

@@ -1,5 +1,6 @@
 //! Words of a master file.
-ghost use Rattle.std.specs.Prelude.{◌≡◌, ◌+◌, ◌<◌, ◌≤◌, [], ◌∷◌, length, take, drop, true, IfSome, MatchOption};
+ghost use Rattle.std.specs.Prelude.{◌≡◌, ◌+◌, ◌<◌, ◌≤◌, [], ◌∷◌, length, take, drop, true};
+ghost use Rattle.std.specs.Prelude.{IfSome, MatchOption};
 ghost use Rattle.dns_masterfile.specs.declared.kind.Kind.TheVariants.{Plain};
 ghost use Rattle.dns_masterfile.specs.Kinds.{kind};
 ghost use Rattle.dns_masterfile.specs.Pieces.{InWord, InQuotes, Fault, Text, Bare, Quoted, pieces_from};
@@ -41,8 +42,8 @@ fn escaped_len(rest: &[u8]) -> Option<usize>
     }
 }
 
-/// Whether the octet is a digit, a letter in lower case or one of `-./:`, as most octets of words are. Each of
-/// these is plain.
+/// Whether the octet is a digit, a letter in lower case or one of `-./:`, as most octets of words are. Each
+/// of these is plain.
 fn is_usual(octet: u8) -> bool
     ensures { result ≡ true → kind octet ≡ Plain }
 {

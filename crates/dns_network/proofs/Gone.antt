@@ -1,5 +1,5 @@
 -- Connections that are unused or stalled are gone after they were visited.
-use Rattle.std.proofs.Common.{◌≡◌, ◌⊎◌, inl, inr, ℕ, zero, suc, ◌+◌, ◌<◌, ◌≤◌, Bool, true, false, List, [], ◌∷◌, length, Option, Some, None, refl, ap, sym, subst, ◌∙◌, slice_set, arith}
+use Rattle.std.proofs.Common.{◌≡◌, ◌⊎◌, inl, inr, ℕ, zero, suc, ◌+◌, ◌<◌, ◌≤◌, List, [], ◌∷◌, length, Option, Some, None, refl, ap, sym, subst, ◌∙◌, arith}
 use Rattle.std.specs.Prelude.{slice_get}
 use Rattle.dns_zone.specs.declared.index.ZoneIndex as index
 use Rattle.dns_store.specs.declared.zone_store.ZoneStore as store
@@ -13,8 +13,8 @@ use Rattle.dns_network.specs.declared.network.Notes as notes
 use Rattle.dns_network.specs.declared.stream.Stream as stream
 use Rattle.dns_network.specs.Closing.{Cause, HasEnded, Silent, Stalled, NoMemory, NoPlace, StalledAreGone, UnusedAreGone}
 use Rattle.dns_network.specs.Connection.{IsInUse, IsStalled, IsUnused, IsUnusedOrInUse, used_of}
-use Rattle.dns_network.specs.Connections.{IsGoneOr, IsOpenWith}
-use Rattle.dns_network.specs.Delivery.{HasNoted, Served}
+use Rattle.dns_network.specs.Connections.{IsOpenWith}
+use Rattle.dns_network.specs.Delivery.{Served}
 use Rattle.dns_network.specs.Turn.{TurnMoment, Asks, Moves, Connects, Refuses, Happens, Closes, AreMoments, EventComes, IsCauseNoted, IsMoment, IsPlaced, MomentsLead}
 use Rattle.dns_network.proofs.Leads.{and_on}
 use Rattle.dns_network.proofs.Running.{moments_kept}

@@ -1,5 +1,5 @@
 -- What becomes of a connection that is used, or not.
-use Rattle.std.proofs.Common.{◌≡◌, ◌⊎◌, inl, inr, ℕ, zero, suc, ◌+◌, ◌-◌, ◌<◌, ◌≤◌, Bool, true, false, not, ◌==◌, List, [], ◌∷◌, ◌++◌, length, take, drop, Option, Some, None, refl, ap, sym, subst, ◌∙◌, slice_set, arith}
+use Rattle.std.proofs.Common.{◌≡◌, ◌⊎◌, inl, inr, ℕ, zero, suc, ◌+◌, ◌-◌, ◌<◌, ◌≤◌, true, false, not, ◌==◌, List, [], ◌∷◌, ◌++◌, length, take, drop, Option, Some, None, refl, ap, sym, subst, ◌∙◌, slice_set, arith}
 use Rattle.std.specs.Prelude.{◌≢◌, slice_get}
 use Rattle.std.proofs.lemmas.List.{length-take-le, take-append-drop}
 use Rattle.std.proofs.lemmas.Bool.Decides.{nat_tests}
@@ -7,8 +7,8 @@ use Rattle.dns_network.specs.declared.connection.Connection.{Connection}
 use Rattle.dns_network.specs.declared.stream.Moved.{Moved}
 use Rattle.dns_network.specs.declared.stream.Moved.TheVariants.{Octets, Later, Ended}
 use Rattle.dns_network.specs.declared.stream.Stream as stream
-use Rattle.dns_network.specs.Connection.{HasHandedOver, HasMoved, HasTaken, HasTakenNone, IsInUse, IsQueued, IsSilent, IsStalled, IsUnused, IsUnusedOrInUse, MovesOn, held_of, unwritten_of, used_after, used_of}
-use Rattle.dns_network.specs.Connections.{HandsOver, HasBecome, HasMovedAt, IsGoneOr, IsNextQueued, IsOpenWith, IsPumped, IsPushedTo, IsReplyPushed, has_left_at, is_open_at}
+use Rattle.dns_network.specs.Connection.{HasMoved, HasTaken, HasTakenNone, IsInUse, IsQueued, IsSilent, IsStalled, IsUnused, IsUnusedOrInUse, held_of, unwritten_of, used_after, used_of}
+use Rattle.dns_network.specs.Connections.{HandsOver, HasMovedAt, IsGoneOr, IsNextQueued, IsOpenWith, HasPumped, IsPushedTo, IsReplyPushed, has_left_at, is_open_at}
 use Rattle.dns_network.specs.Framed.{pending_length}
 use Rattle.dns_network.specs.Stream.{IfOctets, moved}
 use Rattle.dns_network.proofs.Pushed.{set_there}
@@ -154,7 +154,7 @@ module _ {S : Type 0} where
           subst (λ (place : Option (Option (Connection S))). IsGoneOr (IsInUse now) place) (sym at) (inr (left_queued message c d queued.1))
 
   -- what a pump leaves of an unused one
-  pub after_pump : (now number : ℕ) (old new : List (Option (Connection S))) → IsOpenWith (IsUnused now) (slice_get old number) → IsPumped number false old new
+  pub after_pump : (now number : ℕ) (old new : List (Option (Connection S))) → IsOpenWith (IsUnused now) (slice_get old number) → HasPumped number false old new
       → Is (IsUnusedOrInUse now) number new
   after_pump now number old new unused (inl same) =
       subst (Is (IsUnusedOrInUse now) number) (sym same)

@@ -21,7 +21,7 @@ use Rattle.dns_network.specs.declared.network.Network.{Ghosts}
 use Rattle.dns_network.specs.declared.network.Note.{Note}
 use Rattle.dns_network.specs.declared.network.Note.TheVariants as note
 use Rattle.dns_network.specs.declared.network.Notes as notes
-use Rattle.dns_network.specs.Connections.{IsNextQueued, IsPumped}
+use Rattle.dns_network.specs.Connections.{IsNextQueued, HasPumped}
 use Rattle.dns_network.specs.Delivery.{AreGoing, ClosedInstead, Going, HasEffects, HasNoted, IsSent, Served, TakesEvent, out_of, reply_to_send}
 use Rattle.dns_network.proofs.Used.{Is, StaysQueued, gone_stays, pushed_stays}
 
@@ -65,7 +65,7 @@ one_going (g ∷ h ∷ goings) x e = absurd (cc e)
 
 -- What is told of a pump is whether a message was queued, or may have been.
 pub is_pumped : {S : Type 0} (number : ℕ) (told : Bool) (message : Option Reply) (old new : List (Option (Connection S))) → told ≡ is_some message
-    → IsNextQueued number old new ⊎ ((message ≡ None) × (new ≡ old)) → IsPumped number told old new
+    → IsNextQueued number old new ⊎ ((message ≡ None) × (new ≡ old)) → HasPumped number told old new
 is_pumped number true message old new is (inl queued) = queued
 is_pumped number true message old new is (inr (none, same)) = absurd (let clash : true ≡ false = is ∙ ap (λ (o : Option Reply). is_some o) none in cc)
 is_pumped number false message old new is (inl queued) = inr queued

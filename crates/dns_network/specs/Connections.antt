@@ -26,8 +26,8 @@ module _ {S : Type 0} where
   IsGoneOr known (Some (Some c)) = known c
 
   -- how many connections there are
-  abbrev pub open_count : List (Option (Connection S)) → ℕ
-  open_count places = length (filter is_some places)
+  abbrev pub open_connections : List (Option (Connection S)) → ℕ
+  open_connections places = length (filter is_some places)
 
   -- This has become of the connection with that number, and no other one has changed.
   abbrev pub HasBecome : (Connection S → Connection S → Type 0) → ℕ → List (Option (Connection S))
@@ -85,6 +85,6 @@ module _ {S : Type 0} where
   IsNextQueued number old new =
       (new ≡ slice_set old number None) ⊎ ((message : List ℕ) × IsReplyPushed number message old new)
 
-  abbrev pub IsPumped : ℕ → Bool → List (Option (Connection S)) → List (Option (Connection S)) → Type 0
-  IsPumped number true old new = IsNextQueued number old new
-  IsPumped number false old new = (new ≡ old) ⊎ IsNextQueued number old new
+  abbrev pub HasPumped : ℕ → Bool → List (Option (Connection S)) → List (Option (Connection S)) → Type 0
+  HasPumped number true old new = IsNextQueued number old new
+  HasPumped number false old new = (new ≡ old) ⊎ IsNextQueued number old new

@@ -43,7 +43,7 @@ TakesEvent old event new effects = (m : Machine) → IsKept old m → SteppedBy 
 abbrev pub connections_of : {S : Type 0} → Edge S → List (Option (Connection S))
 connections_of edge = places_of edge.connections
 
--- The second in which a visit of each connection last found nothing to do, and since when none has got
+-- The second in which each connection was last found to have nothing to do, since when none has got
 -- something to send.
 abbrev pub rested_of : {S : Type 0} → Edge S → Option ℕ
 rested_of edge = edge.rested

@@ -5,7 +5,7 @@ use Rattle.dns_network.specs.declared.connection.Connection.{Connection}
 use Rattle.dns_network.specs.declared.stream.Stream as stream
 use Rattle.dns_network.specs.Closing.{Cause, GivesCause, HasEnded, Silent, Stalled, NoMemory, NoPlace}
 use Rattle.dns_network.specs.Connection.{HasMoved, HasHandedOver, stream_of, unhandled, unwritten_of, used_of}
-use Rattle.dns_network.specs.Connections.{open_count}
+use Rattle.dns_network.specs.Connections.{open_connections}
 use Rattle.dns_zone.specs.declared.index.ZoneIndex as index
 use Rattle.dns_store.specs.declared.zone_store.ZoneStore as store
 use Rattle.dns_primary.specs.declared.event.Peer.{Peer}
@@ -98,7 +98,7 @@ module _ {I D S N L : Type 0} {i : index.Ghosts I} {d : store.Ghosts D} where
     pub stream : S
     pub came : n.accepts old.network (Some (stream, peer)) new.network
     pub allowed : (m : Machine) → IsKept old.primary m
-        → (open_count old.connections < places_for_all) ⊎ IsListed m peer.address
+        → (open_connections old.connections < places_for_all) ⊎ IsListed m peer.address
     pub taken : IsTakenUp l now stream peer effects old.primary new.primary old.connections
         new.connections old.notes new.notes
 
@@ -108,7 +108,7 @@ module _ {I D S N L : Type 0} {i : index.Ghosts I} {d : store.Ghosts D} where
       (old new : Served I D S N L i d) : Type 0 where
     pub stream : S
     pub came : n.accepts old.network (Some (stream, peer)) new.network
-    pub full : places_for_all ≤ open_count old.connections
+    pub full : places_for_all ≤ open_connections old.connections
     pub unlisted : (m : Machine) → IsKept old.primary m → IsListed m peer.address → ⊥
     pub rest : new ≡ record old { network = new.network; notes = new.notes }
     pub noted : l.takes old.notes note.Refused new.notes

@@ -4,7 +4,7 @@ ghost use Rattle.std.specs.Prelude.{◌↔◌, None, Some, IsTrue, IfErr, IfOk, 
 ghost use Rattle.std.specs.Option.{option_map};
 ghost use Rattle.dns_network.specs.Connection.{HasLost, IsSilent, IsStalled};
 ghost use Rattle.dns_network.specs.Connections.{HandsOver, HasBecome, HasMovedAt, IsReplyPushed, IsOpenWith};
-ghost use Rattle.dns_network.specs.Connections.{has_left_at, is_open, open_count, places_of};
+ghost use Rattle.dns_network.specs.Connections.{has_left_at, is_open, open_connections, places_of};
 
 use crate::{Connection, Moved, Octets, Stream};
 use dns_memory::Heap;
@@ -73,7 +73,7 @@ impl<S: Stream + Drop> Connections<S> {
 
     /// How many connections there are.
     pub fn open_count(&self) -> usize
-        ensures { result ≡ open_count (places_of self.now) }
+        ensures { result ≡ open_connections (places_of self.now) }
     {
         self.places.iter().filter(|place| place.is_some()).count()
     }

@@ -42,6 +42,7 @@ impl Datagram {
             peer: Peer {
                 address: IpAddr::V4(Ipv4Addr::UNSPECIFIED),
                 port: 0,
+                local: 0,
             },
         }
     }

@@ -8,7 +8,7 @@ ghost use Rattle.dns_primary.specs.Step.{Closed};
 ghost use Rattle.dns_network.specs.declared.network.Note.TheVariants as note;
 ghost use Rattle.dns_network.specs.Closing.{StalledAreGone, UnusedAreGone};
 ghost use Rattle.dns_network.specs.Connection.{IsInUse, IsStalled, IsUnused, IsUnusedOrInUse, used_of};
-ghost use Rattle.dns_network.specs.Connections.{IsGoneOr, IsOpenWith, IsPumped, open_count};
+ghost use Rattle.dns_network.specs.Connections.{IsGoneOr, IsOpenWith, HasPumped, open_connections};
 ghost use Rattle.dns_network.specs.Notes.{AreNoted, notes_of};
 ghost use Rattle.dns_network.specs.Delivery.{AreSent, Going, HasEffects, IsSent, TakesEvent, connections_of};
 ghost use Rattle.dns_network.specs.Delivery.{RestsAsBefore, rested_of, served};
@@ -36,7 +36,7 @@ const PLACES_FOR_ALL: usize = 48;
 /// The connections of a server, and a buffer for what is read.
 pub struct Edge<S: Stream> {
     connections: Connections<S>,
-    // the second in which a visit of each connection last found nothing to do, and since when none has got
+    // the second in which each connection was last found to have nothing to do, since when none has got
     // something to send
     rested: Option<u64>,
     buffer: Vec<u8, Heap>,
@@ -55,9 +55,11 @@ impl<S: Stream + Drop> Drop for Edge<S> {
 }
 
 impl<S: Stream + Drop> Edge<S> {
-    /// No connection. Refused where the memory for the buffer and for the places of connections is.
+    /// No connection, and none that is known to have nothing to do. Refused if the memory for the buffer or
+    /// for the slots of connections is.
     pub fn new(alloc: Heap) -> Result<Edge<S>, AllocError>
-        ensures { IfOk result (λ edge. connections_of edge ≡ replicate 64 None) }
+        ensures empty { IfOk result (λ edge. connections_of edge ≡ replicate 64 None) }
+        ensures rested { IfOk result (λ edge. rested_of edge ≡ None) }
     {
         let mut buffer = Vec::new(alloc);
         buffer.resize(PIECE, 0)?;
@@ -186,10 +188,10 @@ impl<S: Stream + Drop> Edge<S> {
         tell(notes, effects.noted);
     }
 
-    /// Takes up a connection that a peer made: the primary is told, and it gets its place. One that gets no
+    /// Opens a connection that a peer made: the primary is told, and it gets its slot. One that gets no
     /// number is closed at once. It is compiled apart, so that a turn in which none comes doesn't pay for it.
     #[inline(never)]
-    fn welcome<I: ZoneIndex, D: ZoneStore, L: Notes>(
+    fn open_connection<I: ZoneIndex, D: ZoneStore, L: Notes>(
         &mut self,
         alloc: Heap,
         primary: &mut Primary<I, D>,
@@ -224,10 +226,10 @@ impl<S: Stream + Drop> Edge<S> {
         primary: &Primary<I, D>,
         address: IpAddr,
     ) -> bool
-        ensures full { IsTrue result → places_for_all ≤ open_count (connections_of self.now) }
+        ensures full { IsTrue result → places_for_all ≤ open_connections (connections_of self.now) }
         ensures unlisted { IsTrue result → (m : Machine) → IsKept primary.now m → IsListed m address → ⊥ }
         ensures allowed { result ≡ false → (m : Machine) → IsKept primary.now m
-            → (open_count (connections_of self.now) < places_for_all) ⊎ IsListed m address }
+            → (open_connections (connections_of self.now) < places_for_all) ⊎ IsListed m address }
     {
         self.connections.open_count() >= PLACES_FOR_ALL && !primary.lists(address)
     }
@@ -253,7 +255,7 @@ impl<S: Stream + Drop> Edge<S> {
             notes.note(Note::Refused);
             return true;
         }
-        self.welcome(alloc, primary, notes, stream, peer, now);
+        self.open_connection(alloc, primary, notes, stream, peer, now);
         true
     }
 
@@ -292,7 +294,7 @@ impl<S: Stream + Drop> Edge<S> {
             (served primary.old self.old network.old notes.old)
             (served primary.new self.new network.new notes.new) }
         ensures pumped { (m : Machine) → IsKept primary.old m
-            → IsPumped number result (connections_of self.old) (connections_of self.new) }
+            → HasPumped number result (connections_of self.old) (connections_of self.new) }
     {
         let effects = primary.step(alloc, Event::Pump(number));
         let is_sent = effects.message.is_some();
@@ -302,7 +304,7 @@ impl<S: Stream + Drop> Edge<S> {
 
     /// Reads one piece of a connection where there is none to handle, and handles one message. A connection
     /// that is silent then is closed.
-    fn hear<I: ZoneIndex, D: ZoneStore, N: Network<S>, L: Notes>(
+    fn read_piece<I: ZoneIndex, D: ZoneStore, N: Network<S>, L: Notes>(
         &mut self,
         alloc: Heap,
         network: &mut N,
@@ -342,7 +344,7 @@ impl<S: Stream + Drop> Edge<S> {
     /// transfer is queued; else a piece is read, and a message handled. One that is stalled or silent then is
     /// closed.
     #[inline(always)]
-    fn visit<I: ZoneIndex, D: ZoneStore, N: Network<S>, L: Notes>(
+    fn serve_connection<I: ZoneIndex, D: ZoneStore, N: Network<S>, L: Notes>(
         &mut self,
         alloc: Heap,
         network: &mut N,
@@ -381,12 +383,12 @@ impl<S: Stream + Drop> Edge<S> {
         if self.pump(alloc, network, primary, notes, number) {
             return true;
         }
-        self.hear(alloc, network, primary, notes, number, now)
+        self.read_piece(alloc, network, primary, notes, number, now)
     }
 
-    /// Visits each connection, by rising number, and answers whether one had something to do. Where none had
-    /// in this second, and the network is still, they are not visited again.
-    fn visit_each<I: ZoneIndex, D: ZoneStore, N: Network<S>, L: Notes>(
+    /// Gives each connection its part of a turn, by rising number, and answers whether one had something to
+    /// do. If none had in this second, and the network is still, they are passed over.
+    fn serve_connections<I: ZoneIndex, D: ZoneStore, N: Network<S>, L: Notes>(
         &mut self,
         alloc: Heap,
         network: &mut N,
@@ -409,7 +411,7 @@ impl<S: Stream + Drop> Edge<S> {
         }
         let mut is_done = false;
         for number in 0..self.connections.place_count() {
-            if self.visit(alloc, network, primary, notes, number, now) {
+            if self.serve_connection(alloc, network, primary, notes, number, now) {
                 is_done = true;
             }
         }
@@ -439,7 +441,7 @@ impl<S: Stream + Drop> Edge<S> {
     {
         let accepted = self.accept(alloc, network, primary, notes, now);
         let received = self.receive(alloc, network, primary, notes);
-        let visited = self.visit_each(alloc, network, primary, notes, now);
+        let visited = self.serve_connections(alloc, network, primary, notes, now);
         let mut is_done = accepted || received || visited;
         if primary.has_waiting() {
             network.look();

@@ -2,6 +2,8 @@
 ghost use Rattle.std.specs.Prelude.{◌≡◌, ◌<◌, ◌≤◌, ◌↔◌, ◌++◌, List, ℕ, length, take};
 ghost use Rattle.dns_network.specs.Stream.{IfOctets, moved};
 
+use std::io::{self, ErrorKind};
+
 /// What became of a read or a write.
 #[derive(Clone, Copy, Debug, PartialEq, Eq)]
 pub enum Moved {
@@ -11,6 +13,19 @@ pub enum Moved {
     Later,
     /// None will any more: the stream ended, or failed.
     Ended,
+}
+
+impl Moved {
+    /// What an error of the system means for a stream: no octet moved.
+    pub fn after_error(error: &io::Error) -> Moved
+        ensures none { moved result ≡ 0 }
+        ensures still { IfOctets result ⊥ }
+    {
+        match error.kind() {
+            ErrorKind::WouldBlock | ErrorKind::Interrupted => Moved::Later,
+            _ => Moved::Ended,
+        }
+    }
 }
 
 /// A stream of octets in both directions, of which no call waits.

@@ -1,7 +1,7 @@
 //! Clients of a server in the same process. They are where its log goes: they act as a line of it comes, and
 //! what was sent to them is read when the server is gone.
 use crate::given::are;
-use dns_givens::octets;
+use dns_fixtures::octets;
 use dns_memory::Heap;
 use std::io::{self, ErrorKind, Read, Write};
 use std::net::{Ipv4Addr, Shutdown, SocketAddr, TcpStream, UdpSocket};

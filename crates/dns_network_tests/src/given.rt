@@ -1,5 +1,5 @@
 //! A zone in a store on a device in memory.
-use dns_givens::{octets, plan, zone};
+use dns_fixtures::{octets, plan, zone};
 use dns_memory::Heap;
 use dns_sectors::MemorySectors;
 use dns_store::format;

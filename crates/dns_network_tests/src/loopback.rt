@@ -3,9 +3,10 @@
 use crate::clients::{Act, Clients};
 use crate::given::device;
 use dns_configuration::{DONE, File, REFUSED};
+use dns_devices::Devices;
 use dns_memory::{Heap, heap};
 use dns_sectors::{DeviceError, MemorySectors, OpenDeviceError, Sector, Sectors};
-use dns_server::{Devices, ServeOptions, serve};
+use dns_service::{ServeOptions, serve};
 use dns_zone::RecordList;
 use std::io;
 use std::test::Fail;

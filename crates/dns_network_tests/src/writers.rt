@@ -1,10 +1,10 @@
 //! Writers that fail after each octet in turn.
 use crate::given::ZONE;
+use dns_commands::{check, replay};
 use dns_configuration::{DONE, FAILED, File, REFUSED};
-use dns_givens::zone;
+use dns_fixtures::zone;
 use dns_masterfile::print_zone;
 use dns_memory::{Heap, heap};
-use dns_server::{check, replay};
 use std::alloc::Global;
 use std::io;
 use std::test::Fail;

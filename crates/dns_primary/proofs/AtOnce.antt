@@ -1,10 +1,9 @@
 -- No update is acknowledged at once.
-use Rattle.std.proofs.Common.{◌≡◌, ◌⊎◌, ℕ, Bool, true, false, inl, inr, List, [], ◌∷◌, ◌++◌, map, Option, Some, None, refl, sym, subst, arith}
+use Rattle.std.proofs.Common.{◌≡◌, ◌⊎◌, ℕ, Bool, true, inl, inr, List, [], ◌∷◌, ◌++◌, map, Option, Some, None, refl, sym, subst, arith}
 use Rattle.std.specs.Prelude.{slice_get, not, ◌==◌, ◌≢◌, if◌then◌else◌}
 use Rattle.std.specs.List.{AllByRecursion}
 use Rattle.std.specs.declared.net.ip_addr.IpAddr.{IpAddr}
 use Rattle.dns_records.specs.Types.{type_soa, class_in}
-use Rattle.dns_records.specs.Record.{Record}
 use Rattle.dns_wire.specs.Message.{header_of}
 use Rattle.dns_wire.specs.Text.{text}
 use Rattle.dns_request.specs.Codes.{rcode_formerr, rcode_notauth, rcode_refused, rcode_servfail}
@@ -18,7 +17,7 @@ use Rattle.dns_primary.specs.declared.event.To.{To}
 use Rattle.dns_primary.specs.declared.event.To.TheVariants as to
 use Rattle.dns_primary.specs.Machine.{ZoneState, Waits, Machine, kept_of, updates_of, peer_at, shown_zones}
 use Rattle.dns_primary.specs.Flush.{Sent, Replied, flushed, flush_sends, flushed_zones, released}
-use Rattle.dns_primary.specs.Update.{Asked, Admission, Rejects, Admits, admission, admission_in, admission_at, zone_position, waits, stages, replies, accepted_in, judged_in, admitted, is_full, answer, room_lacked}
+use Rattle.dns_primary.specs.Update.{Asked, Admission, Rejects, Admits, admission, admission_in, admission_at, zone_position, waits, stages, judged_in, admitted, is_full, answer, room_lacked}
 use Rattle.dns_primary.specs.Step.{Event, Datagram, Connect, Arrives, Flush, Checkpoint, Pump, Closed, IsUpdateBegun, IsUpdated, Effects, IsRequestHandled, IsArrived, Goes, Lacks, Step, is_asking, is_update, arrived_update, failure, failure_on, failures}
 use Rattle.dns_primary.specs.Runs.{IsNoAcknowledgement, brings_update}
 use Rattle.dns_primary.proofs.Zonewise.{tested}

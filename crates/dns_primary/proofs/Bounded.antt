@@ -1,6 +1,6 @@
 -- No more waits for a flush than may.
 use Rattle.std.proofs.Common.{◌≡◌, ◌⊎◌, ◌<◌, ◌≤◌, ◌+◌, ℕ, suc, Bool, true, false, inl, inr, ⊎_elim, List, [], ◌∷◌, ◌++◌, length, map, Option, Some, None, refl, sym, ap, subst, ◌∙◌, arith}
-use Rattle.std.specs.Prelude.{slice_get, slice_set, not, ◌==◌, ◌||◌, nat_le, nat_lt, if◌then◌else◌}
+use Rattle.std.specs.Prelude.{slice_get, slice_set, not, ◌==◌, ◌||◌, nat_lt, if◌then◌else◌}
 use Rattle.std.specs.List.{AllByRecursion}
 use Rattle.std.proofs.lemmas.List.{length-append, length-map}
 use Rattle.dns_records.specs.Record.{Record}
@@ -11,8 +11,7 @@ use Rattle.dns_request.specs.Codes.{rcode_formerr, rcode_notauth, rcode_refused,
 use Rattle.dns_zone.specs.Zone.{Zone}
 use Rattle.dns_answer.specs.Answer.{Handled, NoReply, Replies, Update, Transfer}
 use Rattle.dns_update.specs.Verdict.{Verdict, Refuses, Keeps, Leaves, verdict}
-use Rattle.dns_store.specs.Versions.{Opened, newest_of}
-use Rattle.dns_store.specs.Room.{entry_between, sectors_left}
+use Rattle.dns_store.specs.Versions.{Opened}
 use Rattle.dns_versions.specs.Each.{Each2, Each3}
 use Rattle.dns_versions.specs.Held.{newest_zone}
 use Rattle.dns_versions.specs.Staging.{has_room}
@@ -22,11 +21,11 @@ use Rattle.dns_primary.specs.declared.event.To.{To}
 use Rattle.dns_primary.specs.declared.event.To.TheVariants as to
 use Rattle.dns_primary.specs.Machine.{Made, ZoneState, Waits, Machine, kept_of, updates_of, peer_at, sending_at}
 use Rattle.dns_primary.specs.Flush.{Sent, is_none_made, flushed, flushed_zone, flushed_zones, flush_sends}
-use Rattle.dns_primary.specs.Connections.{closed, connected, without_connection}
-use Rattle.dns_primary.specs.Update.{Asked, Admission, Rejects, Admits, zone_position, admission_in, admission_at, admission, waits, stages, with_staged, replies, accepted_in, judged_in, admitted, is_full, made_place, answer, room_lacked}
+use Rattle.dns_primary.specs.Connections.{closed, without_connection}
+use Rattle.dns_primary.specs.Update.{Asked, Admission, Rejects, Admits, zone_position, admission_in, admission_at, admission, waits, stages, with_staged, accepted_in, judged_in, admitted, is_full, made_place, answer, room_lacked}
 use Rattle.dns_primary.specs.Checkpoint.{rebased, IsMovedUnlessClosed, IsCheckpoint}
 use Rattle.dns_primary.specs.Step.{Event, Datagram, Connect, Arrives, Flush, Checkpoint, Pump, Closed, IsCheckpointed, IsUpdateBegun, IsUpdated, Effects, AreFailures, IsRequestHandled, IsArrived, Goes, Lacks, Step}
-use Rattle.dns_primary.specs.Stop.{IsMaking, IsRecovered, AreRecovered, IsStopped, IsSetAnew, IsConfigured}
+use Rattle.dns_primary.specs.Stop.{AreRecovered, IsSetAnew, IsConfigured}
 use Rattle.dns_primary.specs.Fresh.{IsLoaded, IsFresh, IsReopened, IsResumed, IsStart}
 use Rattle.dns_primary.specs.Runs.{Moment, Took, Stopped, Configured, machine_after, Happens, Run, last_of}
 use Rattle.dns_primary.specs.Bounds.{HasFewStaged, IsBounded}

@@ -1,6 +1,6 @@
 -- Each update of a zone came in the run.
 use Rattle.std.proofs.Common.{◌≡◌, ◌+◌, ◌≤◌, ◌⊎◌, arith, inl, inr, ⊎_elim, ℕ, suc, Bool, true, not, List, [], ◌∷◌, ◌++◌, Option, Some, None, refl, sym, ap, subst, ◌∙◌, append_assoc, append-nil}
-use Rattle.std.specs.Prelude.{slice_get, slice_set, option_map, ◌==◌, nat_le, if◌then◌else◌}
+use Rattle.std.specs.Prelude.{slice_get, slice_set, option_map, ◌==◌, if◌then◌else◌}
 use Rattle.std.specs.declared.net.ip_addr.IpAddr.{IpAddr}
 use Rattle.std.specs.List.{AllByRecursion, Contains}
 use Rattle.dns_names.specs.Name.{Labels, names_eq}
@@ -12,8 +12,6 @@ use Rattle.dns_request.specs.declared.request.Transport.{Transport}
 use Rattle.dns_request.specs.declared.request.Transport.TheVariants.{Udp, Tcp}
 use Rattle.dns_answer.specs.Answer.{Handled, NoReply, Replies, Update, Transfer, handled}
 use Rattle.dns_update.specs.Verdict.{Verdict, Refuses, Keeps, Leaves, verdict}
-use Rattle.dns_store.specs.Versions.{newest_of}
-use Rattle.dns_store.specs.Room.{entry_between, sectors_left}
 use Rattle.dns_versions.specs.Each.{Each2, Each3}
 use Rattle.dns_versions.specs.Held.{newest_zone}
 use Rattle.dns_versions.specs.Staging.{has_room}
@@ -24,7 +22,7 @@ use Rattle.dns_primary.specs.declared.event.To.{To}
 use Rattle.dns_primary.specs.declared.event.To.TheVariants as to
 use Rattle.dns_primary.specs.Machine.{Setting, Made, ZoneState, Machine, kept_of, updates_of, shown_zones, peer_at, sending_at}
 use Rattle.dns_primary.specs.Flush.{Sent, flushed, flush_sends, flushed_zones}
-use Rattle.dns_primary.specs.Update.{Asked, Admission, Rejects, Admits, zone_position, admission_in, admission_at, admission, waits, stages, with_staged, replies, accepted_in, judged_in, admitted, is_full, answer}
+use Rattle.dns_primary.specs.Update.{Asked, Admission, Rejects, Admits, zone_position, admission_in, admission_at, admission, waits, stages, with_staged, accepted_in, judged_in, admitted, is_full, answer}
 use Rattle.dns_primary.specs.Checkpoint.{IsCheckpoint}
 use Rattle.dns_primary.specs.Step.{Event, Datagram, Connect, Arrives, Flush, Checkpoint, Pump, Closed, IsCheckpointed, IsUpdateBegun, IsUpdated, Effects, IsRequestHandled, IsArrived, IsConnected, Goes, Lacks, Step}
 use Rattle.dns_primary.specs.Stop.{IsMaking, IsRecovered, AreRecovered, IsStopped, IsSetAnew}

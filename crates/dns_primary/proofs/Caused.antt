@@ -25,7 +25,6 @@ use Rattle.dns_transfer.specs.Messages.{octets_with, message_with}
 use Rattle.dns_transfer.specs.Refusal.{client_serial, is_malformed, refusal as refusal_by}
 use Rattle.dns_transfer.specs.Session.{Sending, SendsBy}
 use Rattle.dns_update.specs.Verdict.{Verdict, Refuses, Keeps, Leaves, verdict}
-use Rattle.dns_store.specs.Versions.{newest_of}
 use Rattle.dns_versions.specs.Held.{newest_zone}
 use Rattle.dns_versions.specs.Staging.{has_room}
 use Rattle.dns_primary.specs.declared.event.Peer.{Peer}

@@ -1,6 +1,6 @@
 -- Transfers that are open are touched by the pumps and the end of their connection alone.
 use Rattle.std.proofs.Common.{◌≡◌, ◌⊎◌, inl, inr, ⊎_elim, ℕ, Bool, true, false, List, [], ◌∷◌, map, Option, Some, None, Result, Ok, Err, refl, sym, ap, subst, ◌∙◌}
-use Rattle.std.specs.Prelude.{not, ◌&&◌, ◌==◌, nat_le, is_none, is_some, option_map, slice_get}
+use Rattle.std.specs.Prelude.{◌&&◌, ◌==◌, is_none, is_some, option_map, slice_get}
 use Rattle.dns_records.specs.Record.{Record}
 use Rattle.dns_wire.specs.Message.{Question, Message}
 use Rattle.dns_wire.specs.declared.codes.Rcode.{Rcode}
@@ -10,8 +10,6 @@ use Rattle.dns_request.specs.Request.{request_of}
 use Rattle.dns_zone.specs.Zone.{Zone}
 use Rattle.dns_answer.specs.Answer.{Handled, NoReply, Replies, Update, Transfer, handled, handled_as}
 use Rattle.dns_update.specs.Verdict.{Verdict, Refuses, Keeps, Leaves, verdict}
-use Rattle.dns_store.specs.Versions.{newest_of}
-use Rattle.dns_store.specs.Room.{entry_between, sectors_left}
 use Rattle.dns_versions.specs.Held.{newest_zone}
 use Rattle.dns_versions.specs.Staging.{has_room}
 use Rattle.dns_transfer.specs.Refusal.{client_serial}

@@ -6,8 +6,6 @@ use Rattle.dns_names.specs.Name.{Labels, names_eq}
 use Rattle.dns_records.specs.Record.{Record}
 use Rattle.dns_records.specs.Types.{type_soa, class_in}
 use Rattle.dns_request.specs.Codes.{rcode_formerr, rcode_notauth, rcode_refused, rcode_servfail}
-use Rattle.dns_zone.specs.Zone.{Zone}
-use Rattle.dns_update.specs.Verdict.{verdict}
 use Rattle.dns_store.specs.Versions.{newest_after}
 use Rattle.dns_versions.specs.Each.{Each2}
 use Rattle.dns_versions.specs.Held.{newest_zone}
@@ -17,8 +15,8 @@ use Rattle.dns_primary.specs.Flush.{Sent, flushed, flush_sends, flushed_zone, fl
 use Rattle.dns_primary.specs.Update.{Asked, Admission, Rejects, Admits, admission, admission_at, admission_in, zone_position, is_full, lacked_at, room_lacked}
 use Rattle.dns_primary.specs.Checkpoint.{rebased, IsMovedUnlessClosed, IsCheckpoint}
 use Rattle.dns_primary.specs.Step.{Effects, IsUpdateBegun}
-use Rattle.dns_primary.specs.Outcome.{IsVerdictOf, lacked_of}
-use Rattle.dns_primary.specs.Queue.{HoldsStill, IsUpdateJudged}
+use Rattle.dns_primary.specs.Outcome.{lacked_of}
+use Rattle.dns_primary.specs.Queue.{IsUpdateJudged}
 use Rattle.dns_primary.proofs.Zonewise.{tested, pair_same, pair_on, pair_set, versions_joined}
 
 -- The same settings and the same newest version, and what was closed is closed.

@@ -1,6 +1,6 @@
 -- What a judgement says of its verdict, and how an update ends by it.
-use Rattle.std.proofs.Common.{◌≡◌, ◌<◌, ◌≤◌, Bool, true, false, not, List, refl, sym, ap, subst, ◌∙◌, arith}
-use Rattle.std.specs.Prelude.{Err, nat_le, if◌then◌else◌}
+use Rattle.std.proofs.Common.{◌≡◌, ◌<◌, ◌≤◌, Bool, true, false, List, refl, sym, ap, subst, ◌∙◌, arith}
+use Rattle.std.specs.Prelude.{Err, if◌then◌else◌}
 use Rattle.std.proofs.lemmas.Bool.Decides.{nat_tests}
 use Rattle.dns_records.specs.Record.{Record}
 use Rattle.dns_changes.specs.Change.{Change, IsChange}
@@ -8,13 +8,12 @@ use Rattle.dns_wire.specs.declared.codes.Rcode.{Rcode}
 use Rattle.dns_wire.specs.declared.codes.Rcode.TheVariants.{NoError, ServFail}
 use Rattle.dns_update.specs.Verdict.{Verdict, Refuses, Keeps, Leaves, IsVerdict}
 use Rattle.dns_update.specs.declared.Judged.TheVariants as judged
-use Rattle.dns_store.specs.Versions.{Kept, newest_of, staged_with}
-use Rattle.dns_store.specs.Room.{entry_between, sectors_left}
+use Rattle.dns_store.specs.Versions.{Kept, staged_with}
 use Rattle.dns_versions.specs.declared.staging.StagingError.{StagingError}
 use Rattle.dns_versions.specs.declared.staging.StagingError.TheVariants as staging
 use Rattle.dns_versions.specs.Staging.{HasRoomBy, has_room}
 use Rattle.dns_primary.specs.declared.update.Outcome.{Outcome}
-use Rattle.dns_primary.specs.declared.update.Outcome.TheVariants.{Waits, AtOnce}
+use Rattle.dns_primary.specs.declared.update.Outcome.TheVariants.{Waits}
 use Rattle.dns_primary.specs.Outcome.{Ends, HasLeft, end_of, IsDone, refused_as}
 
 pub refused_is : {X : Type 0} (records : X → List Record) (before : List Record) (v : Verdict) (rcode : Rcode) → IsVerdict records before v (judged.Refused rcode) → v ≡ Refuses rcode

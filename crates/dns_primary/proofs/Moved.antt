@@ -32,7 +32,7 @@ use Rattle.dns_primary.specs.Keeps.{IsKept, AreEffects}
 use Rattle.dns_primary.specs.Steps.{Stepped, SteppedOn, SteppedBy, IsBegunOrLacks, AtAnyMoment, AtAnyMomentOf, OpensAsEvent, with_room, without_room, noted_then, noted_moved, nothing}
 use Rattle.dns_primary.proofs.Flushed.{kept_flushed}
 use Rattle.dns_primary.proofs.Served.{gives_none}
-use Rattle.dns_store.specs.Versions.{closed_between, version_at, OpensAsEither, StandsStill}
+use Rattle.dns_store.specs.Versions.{closed_between, OpensAsEither, StandsStill}
 use Rattle.dns_store.specs.Checkpoint.{IsKeptNumber}
 use Rattle.dns_versions.proofs.Moved.{number_there, move_leaves}
 use Rattle.dns_versions.specs.Held.{IsTip}

@@ -1,6 +1,6 @@
 -- What is judged ends as the versions of its zone say, and its reply waits.
-use Rattle.std.proofs.Common.{◌≡◌, ℕ, Bool, true, false, not, List, [], ◌∷◌, ◌++◌, map, refl, sym, ap, subst, ◌∙◌}
-use Rattle.std.specs.Prelude.{Some, slice_get, slice_set, slice_index_or, nat_le, IsTrue, ◌↔◌, if◌then◌else◌}
+use Rattle.std.proofs.Common.{◌≡◌, ℕ, Bool, true, false, List, [], ◌∷◌, ◌++◌, map, refl, sym, ap, subst, ◌∙◌}
+use Rattle.std.specs.Prelude.{Some, slice_get, slice_set, slice_index_or, IsTrue, ◌↔◌, if◌then◌else◌}
 use Rattle.std.proofs.lemmas.List.{map-append}
 use Rattle.dns_records.specs.Record.{Record}
 use Rattle.dns_wire.specs.Message.{header_of}
@@ -11,7 +11,7 @@ use Rattle.dns_request.specs.Codes.{rcode_servfail}
 use Rattle.dns_zone.specs.Zone.{Zone}
 use Rattle.dns_update.specs.Verdict.{Verdict, Refuses, Keeps, Leaves}
 use Rattle.dns_policy.specs.Prefix.{IsAllowed}
-use Rattle.dns_store.specs.Versions.{Kept, newest_of, staged_with}
+use Rattle.dns_store.specs.Versions.{Kept, staged_with}
 use Rattle.dns_versions.specs.declared.pending.PendingZone.{PendingZone}
 use Rattle.dns_versions.specs.Each.{Each3}
 use Rattle.dns_versions.specs.Held.{HasVersions}

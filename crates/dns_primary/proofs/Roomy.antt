@@ -1,35 +1,33 @@
 -- A checkpoint leaves the room that it is made for, so that what was judged before it can be staged.
-use Rattle.std.proofs.Common.{◌≡◌, ◌⊎◌, ◌<◌, ◌≤◌, ◌+◌, ◌-◌, ◌^◌, ℕ, zero, suc, Bool, true, false, inl, inr, ⊎_elim, List, [], ◌∷◌, ◌++◌, length, take, drop, sum_by, Option, Some, None, refl, sym, ap, subst, ◌∙◌, arith, append_assoc, append-nil}
-use Rattle.std.specs.Prelude.{slice_get, slice_set, not, ◌&&◌, ◌||◌, nat_le, nat_lt, option_map, if◌then◌else◌}
+use Rattle.std.proofs.Common.{◌≡◌, ◌⊎◌, ◌<◌, ◌≤◌, ◌+◌, ◌-◌, ◌^◌, ℕ, zero, suc, Bool, true, false, inl, inr, ⊎_elim, List, [], ◌∷◌, ◌++◌, length, drop, sum_by, Option, Some, None, refl, sym, ap, subst, ◌∙◌, arith, append-nil}
+use Rattle.std.specs.Prelude.{slice_get, slice_set, ◌&&◌, ◌||◌, nat_le, nat_lt, option_map, if◌then◌else◌}
 use Rattle.std.specs.List.{AllByRecursion}
 use Rattle.std.proofs.lemmas.List.{length-append}
 use Rattle.std.proofs.lemmas.Bool.{cases_Bool}
 use Rattle.std.proofs.lemmas.Bool.Decides.{nat_tests}
 use Rattle.dns_records.specs.Record.{Record}
-use Rattle.dns_wire.proofs.Binds.{true_le, true_lt}
+use Rattle.dns_wire.proofs.Binds.{true_le}
 use Rattle.dns_zone.specs.Zone.{Zone}
 use Rattle.dns_zone.specs.Order.{both_true}
 use Rattle.dns_update.specs.Verdict.{Verdict, Leaves, verdict}
 use Rattle.dns_layout.specs.Sector.{snapshot_sectors}
-use Rattle.dns_store.specs.Versions.{Shape, Opened, Kept, newest_after, newest_of, version_at, moved_to}
+use Rattle.dns_store.specs.Versions.{Shape, Kept, newest_of, moved_to}
 use Rattle.dns_store.specs.Plain.{octets_of}
 use Rattle.dns_store.specs.Room.{entry_between, entries_along, sectors_left}
 use Rattle.dns_store.specs.Checkpoint.{IsKeptNumber}
 use Rattle.dns_store.proofs.Sizes.{room_left}
-use Rattle.dns_versions.specs.Each.{Each2, Each3}
-use Rattle.dns_versions.specs.Checkpoint.{IsNextBaseNumber}
+use Rattle.dns_versions.specs.Each.{Each2}
 use Rattle.dns_versions.specs.Held.{newest_zone}
-use Rattle.dns_versions.specs.Staging.{has_room, lacks_room, sectors_lacked}
-use Rattle.dns_primary.specs.declared.primary.ZoneSpec.{ZoneSpec}
-use Rattle.dns_primary.specs.Machine.{Setting, Made, ZoneState, Machine, kept_of, updates_of, versions_of}
+use Rattle.dns_versions.specs.Staging.{has_room, sectors_lacked}
+use Rattle.dns_primary.specs.Machine.{Setting, Made, ZoneState, Machine, kept_of, versions_of}
 use Rattle.dns_primary.specs.Flush.{Sent, is_none_made, flushed, flushed_zone, flushed_zones, flush_sends}
-use Rattle.dns_primary.specs.Update.{Asked, Admission, Rejects, Admits, admission, is_full, made_place, lacked_at, lacked_by, room_lacked}
+use Rattle.dns_primary.specs.Update.{Asked, Admission, Admits, admission, is_full, made_place, lacked_at, lacked_by, room_lacked}
 use Rattle.dns_primary.specs.declared.update.Judgement.{Judgement}
 use Rattle.dns_primary.specs.Outcome.{HasLeft, IsVerdictOf}
 use Rattle.dns_primary.specs.Queue.{HoldsStill, IsUpdateJudged}
 use Rattle.dns_primary.specs.Checkpoint.{rebased, IsMovedUnlessClosed, IsCheckpoint, IsSettled}
 use Rattle.dns_primary.specs.Step.{Effects, IsUpdateBegun}
-use Rattle.dns_primary.proofs.Zonewise.{tested, all_found, pair_over, pair_same, pair_on, pair_set, pair_found, same_history, versions_joined, zone_flushed}
+use Rattle.dns_primary.proofs.Zonewise.{tested, pair_same, pair_on, pair_set, pair_found, versions_joined, zone_flushed}
 use Rattle.dns_primary.proofs.Preserved.{StandsIn, admission_stands}
 use Rattle.dns_primary.proofs.Moved.{settled_flushed, open_staged, zone_settled}
 use Rattle.dns_primary.proofs.Follows.{Follows, StandsStill, Goes, begun_follows, admission_goes}

@@ -8,7 +8,7 @@ use Rattle.dns_zone.specs.Zone.{Zone}
 use Rattle.dns_zone.specs.declared.index.ZoneIndex as index
 use Rattle.dns_request.specs.Codes.{rcode_formerr, rcode_notimp, rcode_servfail}
 use Rattle.dns_request.specs.Request as request
-use Rattle.dns_request.specs.Request.{opcode_query, opcode_update, request_of, read_as, message_as, question_as, has_counts, too_long}
+use Rattle.dns_request.specs.Request.{opcode_query, opcode_update, request_of, read_as, too_long}
 use Rattle.dns_request.specs.declared.request.Transport.{Transport}
 use Rattle.dns_answer.specs.Answer.{Handled, Replies, bare_reply, handled, handled_as}
 use Rattle.dns_store.specs.declared.zone_store.ZoneStore as store

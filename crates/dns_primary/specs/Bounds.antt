@@ -1,5 +1,5 @@
 -- How much waits for a flush.
-use Rattle.std.specs.Prelude.{◌≡◌, ◌≤◌, ℕ, length}
+use Rattle.std.specs.Prelude.{◌≡◌, ◌≤◌, length}
 use Rattle.std.specs.List.{AllByRecursion}
 use Rattle.dns_primary.specs.Machine.{ZoneState, Machine}
 use Rattle.dns_primary.specs.Update.{most_waiting}

@@ -2,10 +2,8 @@
 use Rattle.std.specs.Prelude.{◌≡◌, ◌⊎◌, ◌≤◌, ℕ, false, List, [], length, Option, Some, None}
 use Rattle.std.specs.List.{AllByRecursion}
 use Rattle.dns_zone.specs.Zone.{Zone}
-use Rattle.dns_layout.specs.Sector.{snapshot_sectors}
 use Rattle.dns_store.specs.Versions.{Opened, opened_again}
 use Rattle.dns_store.specs.Opens.{fresh}
-use Rattle.dns_store.specs.Plain.{octets_of}
 use Rattle.dns_versions.specs.Each.{Each2, Each3}
 use Rattle.dns_versions.specs.Held.{shown_zone}
 use Rattle.dns_primary.specs.declared.primary.ZoneSpec.{ZoneSpec}

@@ -1,5 +1,5 @@
 -- What becomes of an update (RFC 2136 3).
-use Rattle.std.specs.Prelude.{ℕ, suc, Bool, not, ◌==◌, nat_le, nat_lt, List, [], ◌∷◌, ◌++◌, length, slice_get}
+use Rattle.std.specs.Prelude.{ℕ, suc, Bool, not, ◌==◌, nat_lt, List, [], ◌∷◌, ◌++◌, length, slice_get}
 use Rattle.std.specs.Prelude.{slice_set, Option, Some, None, option_map, if◌then◌else◌}
 use Rattle.std.specs.declared.net.ip_addr.IpAddr.{IpAddr}
 use Rattle.dns_names.specs.Name.{Labels, names_eq}
@@ -11,8 +11,7 @@ use Rattle.dns_wire.specs.Text.{text}
 use Rattle.dns_request.specs.Codes.{rcode_formerr, rcode_notauth, rcode_refused, rcode_servfail}
 use Rattle.dns_answer.specs.Answer.{bare_reply}
 use Rattle.dns_update.specs.Verdict.{Verdict, Refuses, Keeps, Leaves, verdict}
-use Rattle.dns_store.specs.Versions.{Kept, newest_of}
-use Rattle.dns_store.specs.Room.{entry_between, sectors_left}
+use Rattle.dns_store.specs.Versions.{Kept}
 use Rattle.dns_versions.specs.Held.{newest_zone}
 use Rattle.dns_versions.specs.Staging.{has_room, sectors_lacked}
 use Rattle.dns_primary.specs.declared.event.To.{To}

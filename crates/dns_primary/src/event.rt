@@ -13,6 +13,8 @@ pub struct Peer {
     pub address: IpAddr,
     /// Its port.
     pub port: u16,
+    /// The index of the server's address that it sent to, of those that the server listens on.
+    pub local: u8,
 }
 
 /// Where a reply goes.
@@ -155,6 +157,7 @@ impl Default for Peer {
         Peer {
             address: IpAddr::V4(Ipv4Addr::new(0, 0, 0, 0)),
             port: 0,
+            local: 0,
         }
     }
 }

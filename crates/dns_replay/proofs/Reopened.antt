@@ -1,5 +1,5 @@
 -- After a crash each zone is what is left on its device, opened again.
-use Rattle.std.proofs.Common.{◌≡◌, ℕ, zero, suc, inl, inr, Some, None, List, [], ◌∷◌, ◌++◌, refl, sym, ap, subst, ◌∙◌, append-nil, arith}
+use Rattle.std.proofs.Common.{◌≡◌, ℕ, suc, inl, inr, Some, None, List, [], ◌∷◌, ◌++◌, refl, sym, ap, subst, ◌∙◌, append-nil, arith}
 use Rattle.std.specs.Prelude.{◌⊎◌}
 use Rattle.dns_names.specs.Name.{Labels}
 use Rattle.dns_sectors.specs.Device.{Content}
@@ -11,9 +11,9 @@ use Rattle.dns_primary.specs.Machine.{Made, Machine, Setting, ZoneState}
 use Rattle.dns_primary.specs.Keeps.{IsSet}
 use Rattle.dns_primary.specs.Step.{Event, Flush}
 use Rattle.dns_primary.specs.Stop.{IsMaking, IsRecovered, AreRecovered, IsStopped, reopened_as}
-use Rattle.dns_primary.specs.Open.{AreRecoverable, IsRecoverable}
+use Rattle.dns_primary.specs.Open.{AreRecoverable}
 use Rattle.dns_replay.specs.Keeps.{ZoneKeep}
-use Rattle.dns_replay.specs.Crashes.{AreLeftBy, AreOpenedOver, IsLeftBy, IsOpenedOver, keep_at}
+use Rattle.dns_replay.specs.Crashes.{AreLeftBy, AreOpenedOver, IsLeftBy, keep_at}
 use Rattle.dns_replay.proofs.Crashed.{crashed_recoverable}
 
 pub none_kept : (kept lost : List Made) → [] ≡ kept ++ lost → kept ≡ []

@@ -11,12 +11,13 @@ use Rattle.dns_store.specs.declared.zone_store.ZoneStore as store
 use Rattle.dns_store.specs.declared.kept_store.KeptStore.{KeptStore}
 use Rattle.dns_primary.specs.declared.primary.Primary.{Primary}
 use Rattle.dns_primary.specs.declared.primary.ZoneSpec.{ZoneSpec}
-use Rattle.dns_primary.specs.Machine.{Machine, Setting, ZoneState}
-use Rattle.dns_primary.specs.Keeps.{IsKept, IsSet}
-use Rattle.dns_primary.specs.HandOut.{AreSetAs, IsSetAs}
+use Rattle.dns_primary.specs.Machine.{Machine}
+use Rattle.dns_primary.specs.Keeps.{IsKept}
+use Rattle.dns_primary.specs.HandOut.{AreSetAs}
 use Rattle.dns_primary.specs.Runs.{Moment, Run, last_of}
 use Rattle.dns_primary.specs.Step.{Flush}
 use Rattle.dns_primary.proofs.Brought.{StaysSet, step_set, stopped_set, all_stay_set, stay_set_on}
+use Rattle.dns_primary.proofs.StaysSet.{set_lasts}
 use Rattle.dns_versions.specs.Each.{Each2}
 use Rattle.dns_replay.specs.declared.run.Ending.{Ending}
 use Rattle.dns_replay.specs.declared.run.Ending.TheVariants.{Done, Syntax, Refused}
@@ -59,30 +60,6 @@ leads_runs names crash s (Crashes keeps) led h = recovers_runs names crash s kee
 leads_runs names crash s (Reopens keeps) led (inl h) = recovers_runs names crash s keeps led h
 leads_runs names crash (Takes m) (Reopens keeps) led (inr h) = run_of (Takes m) led _ h.1 (record { run = tt; set = all_stay_set m.zones; last = refl })
 leads_runs names crash (Stands m event tries) (Reopens keeps) led (inr h) = run_of (Stands m event tries) led _ h.1 (record { run = tt; set = all_stay_set m.zones; last = refl })
-
--- what zones were opened for stays
-set_lasts_one : (a : Labels) (s : ZoneSpec) (z w : ZoneState) → IsSetAs a s z → StaysSet z w → IsSetAs a s w
-set_lasts_one a s z w so l = record {
-  shape = ap (λ (x : Setting). x.shape) l ∙ so.shape;
-  set = record {
-    keep = so.set.keep ∙ sym (ap (λ (x : Setting). x.keep) l);
-    update = (subst (λ (x : Setting). IsSet s (record z { setting = x })) (sym l) so.set).update;
-    transfer = (subst (λ (x : Setting). IsSet s (record z { setting = x })) (sym l) so.set).transfer;
-  };
-  range = so.range;
-}
-
-pub set_lasts : (names : List Labels) (settings : List ZoneSpec) (olds news : List ZoneState) → AreSetAs names settings olds → Each2 StaysSet olds news → AreSetAs names settings news
-set_lasts [] [] [] [] so l = tt
-set_lasts (a ∷ names) (s ∷ settings) (z ∷ olds) (w ∷ news) so l = (set_lasts_one a s z w so.0 l.0, set_lasts names settings olds news so.1 l.1)
-set_lasts names settings [] (w ∷ news) so l = absurd l
-set_lasts names settings (z ∷ olds) [] so l = absurd l
-set_lasts [] (s ∷ settings) [] [] so l = absurd so
-set_lasts (a ∷ names) [] [] [] so l = absurd so
-set_lasts (a ∷ names) (s ∷ settings) [] [] so l = absurd so
-set_lasts [] [] (z ∷ olds) (w ∷ news) so l = absurd so
-set_lasts [] (s ∷ settings) (z ∷ olds) (w ∷ news) so l = absurd so
-set_lasts (a ∷ names) [] (z ∷ olds) (w ∷ news) so l = absurd so
 
 -- A run up to a line: that is printed so far, and what is led to from there on follows it.
 pub record IsRunUpTo (names : List Labels) (crash : Crash) (start : Machine) (all : List (List ℕ)) (number : ℕ) (left : List (List ℕ)) (out out_now : Option (List ℕ)) (now : Standing) : Type 0 where

@@ -30,7 +30,7 @@ use Rattle.dns_replay.specs.declared.run.Ending.TheVariants.{Done, Syntax, Refus
 
 -- A peer has no port in a script.
 abbrev pub peer_of : IpAddr → Peer
-peer_of address = record { address = address; port = 0 }
+peer_of address = record { address = address; port = 0; local = 0 }
 
 -- What a command says: nothing; an event; that a write or a sync is to fail; that a crash comes which keeps
 -- these of the writes that are pending, all stores are opened anew, and that a write or a sync of the opening

@@ -38,11 +38,15 @@ pub(crate) enum Plans {
     Stop(u32),
 }
 
-/// The peer of an address, which has no port in a script.
+/// The peer of an address. In a script it has no port, and the server has one address.
 fn peer_of(address: IpAddr) -> Peer
     ensures { result ≡ peer_of address }
 {
-    Peer { address, port: 0 }
+    Peer {
+        address,
+        port: 0,
+        local: 0,
+    }
 }
 
 /// What becomes of a run after a line.

@@ -70,6 +70,7 @@ fn by_question(request: RequestMessage<'_>) -> Request<'_>
 }
 
 /// A message, by its questions and its counts.
+#[inline(always)]
 fn by_message<'a>(message: Message<'a>, header: &'a [u8; 12]) -> Request<'a>
     requires header { header_of header.now ≡ header_of message.octets }
     requires counts { counts_as_request message.message ≡ true }

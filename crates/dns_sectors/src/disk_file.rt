@@ -136,9 +136,9 @@ impl File for DiskFile {
 impl FileSectors<DiskFile> {
     ghost use Rattle.dns_sectors.specs.FileDevice.{sector_count, failures_of};
 
-    /// Makes a file at this path that is a device of so many sectors of zeros. `Device` where there is a
-    /// file, where the system refuses one or a call on it, and where a file can't be so long; no file that was
-    /// made is then left.
+    /// Makes a file at this path that is a device of this many sectors of zeros. `Device` if there is a
+    /// file, if the system refuses one or a call on it, or if a file can't be so long; a file that was made
+    /// is then removed.
     pub fn make<R: Files<File = fs::File>>(
         files: &R,
         path: &str,

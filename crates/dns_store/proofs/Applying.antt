@@ -1,6 +1,6 @@
 -- The octets of a set with a change made of it: what goes is taken off, and what comes is added.
-use Rattle.std.proofs.Common.{◌≡◌, ◌+◌, ℕ, Bool, true, false, not, ◌&&◌, ◌||◌, inl, inr, List, [], ◌∷◌, Option, Some, None, length, refl, sym, ap, ◌∙◌, arith}
-use Rattle.std.specs.Prelude.{cond, filter, if◌then◌else◌}
+use Rattle.std.proofs.Common.{◌≡◌, ◌+◌, Bool, true, false, not, ◌&&◌, ◌||◌, inl, inr, List, [], ◌∷◌, Option, Some, None, length, refl, sym, ap, ◌∙◌, arith}
+use Rattle.std.specs.Prelude.{cond, if◌then◌else◌}
 use Rattle.std.specs.List.{list_any, list_all}
 use Rattle.std.specs.Ordering.{is_eq}
 use Rattle.std.specs.FinMap.Entries.{by_order}
@@ -8,7 +8,6 @@ use Rattle.std.specs.declared.cmp.Ordering.TheVariants.{Less, Equal, Greater}
 use Rattle.dns_records.specs.Record.{Record, plain, record_cmp}
 use Rattle.dns_zone.specs.Records.{has, put, without, united, alike, contains}
 use Rattle.dns_zone.specs.Zone.{has_twice}
-use Rattle.dns_zone.specs.Order.{both_true}
 use Rattle.dns_zone.specs.Sets.{ties, found, Below, Sorted, equal_is, true_or_false, below_tied, contains_found, sorted_filter, sorted_put}
 use Rattle.dns_changes.specs.Change.{Change, applied, change_fault, removed_from, are_present, are_new}
 use Rattle.dns_changes.specs.declared.ChangeError.{ChangeError}

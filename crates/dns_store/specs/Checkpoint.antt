@@ -1,7 +1,7 @@
 -- What a checkpoint makes of a store: a later base, and the newest changes alone.
 use Rattle.std.specs.Prelude.{◌≡◌, ◌≤◌, ◌-◌, ℕ, List, [], ◌∷◌, length, drop, sum_by}
 use Rattle.std.specs.List.{flat_map}
-use Rattle.dns_records.specs.Record.{Record, plain}
+use Rattle.dns_records.specs.Record.{plain}
 use Rattle.dns_names.specs.Name.{Labels}
 use Rattle.dns_zone.specs.Zone.{Zone, IsZone}
 use Rattle.dns_changes.specs.Change.{Change}

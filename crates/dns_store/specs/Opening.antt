@@ -59,8 +59,8 @@ IsNotReopened openings e = (e ≡ Device) ⊎ (e ≡ OutOfMemory) ⊎ ((e ≡ Da
 abbrev pub sizes_given : Labels → ℕ → ℕ → Sizes
 sizes_given apex snapshot journal = sizes_of (shape_given apex snapshot journal)
 
--- Why a device of which this content was altered is refused: as one that isn't opened again is, or by the name
--- of a sector that was altered.
+-- Why a device of which this content was altered is refused: as one that isn't opened again is, or by the
+-- name of a sector that was altered.
 abbrev pub RefusesAltered : Format → Content → Content → OpenError → Type 0
 RefusesAltered f before now e =
     IsNotReopened (open_count (sector_at before 0)) e ⊎ NamesAlteredIn f before now e
@@ -89,9 +89,9 @@ store_device store = device_of store.journal
 abbrev pub keeps : {D I : Type 0} {g : Ghosts D} → KeptStore D I g → Kept → Type 0
 keeps store k = HoldsVersions store.journal store.base store.changes.items k
 
--- Where the device is honest, all on it is durable, and it opens by the root as what is stored, with no head
--- ahead of that, and the cursor is past the last entry, and the base and the changes are those of the versions
--- that are stored: the store keeps these from here on.
+-- If the device is honest, all on it is durable, and it opens by the root as what is stored, with no head
+-- ahead of that, and the cursor is past the last entry, and the base and the changes are those of the
+-- versions that are stored: the store keeps these from here on.
 abbrev pub KeepsFrom : {D I : Type 0} {g : Ghosts D} → D → Cursor → Root → Zone → List Change
     → KeptStore D I g → Type 0
 KeepsFrom {D} {I} {g} device next root base changes store =

@@ -1,19 +1,18 @@
 -- An update whose message was read from octets, and is accepted, leaves the next version, of records that a zone can have.
-use Rattle.std.proofs.Common.{◌≡◌, ℕ, zero, suc, ◌+◌, ◌*◌, ◌-◌, ◌<◌, ◌≤◌, ◌^◌, Bool, true, false, not, ◌&&◌, ◌||◌, inl, inr, List, [], ◌∷◌, ◌++◌, length, take, drop, Option, Some, None, refl, sym, ap, subst, ◌∙◌, arith, cond}
+use Rattle.std.proofs.Common.{◌≡◌, ℕ, zero, suc, ◌+◌, ◌*◌, ◌-◌, ◌<◌, ◌≤◌, ◌^◌, Bool, true, false, ◌&&◌, ◌||◌, List, [], ◌∷◌, ◌++◌, length, take, drop, Option, Some, None, refl, sym, subst, ◌∙◌, arith, cond}
 use Rattle.std.specs.Prelude.{◌==◌, filter, slice_range, MatchOption, if◌then◌else◌}
 use Rattle.std.specs.List.{AllByRecursion}
 use Rattle.std.proofs.lemmas.List.{length-take, length-drop}
 use Rattle.dns_names.specs.Name.{Labels, IsName}
 use Rattle.dns_names.specs.PlainOctets.{octets-append, wire_octets}
 use Rattle.dns_names.specs.Lower.{AreOctets}
-use Rattle.dns_records.specs.Types.{Field, Values, Name, UncompressedName, Strings, octet_count, form, type_soa, type_cname, type_ns, class_in, class_any}
+use Rattle.dns_records.specs.Types.{Field, Values, Name, UncompressedName, Strings, form, type_soa, type_cname, class_in, class_any}
 use Rattle.dns_records.specs.Record.{Record, IsRecord, number_of}
-use Rattle.dns_zone.specs.Records.{put, without, owns_type}
+use Rattle.dns_zone.specs.Records.{put, owns_type}
 use Rattle.dns_zone.specs.Zone.{Zone, IsZone, soas}
 use Rattle.dns_zone.proofs.Kept.{numbers_same}
 use Rattle.dns_zone.proofs.Listed.{put_valid, without_valid}
 use Rattle.dns_wire.specs.Message.{ResourceRecord, Message}
-use Rattle.dns_wire.specs.NameAt.{FullNameAt}
 use Rattle.dns_wire.specs.Reads.{NumberAt, FieldAt, FieldsAt, RDataAt, ResourceRecordAt, ResourceRecordsAt, Reads}
 use Rattle.dns_wire.proofs.Formed.{data_formed}
 use Rattle.dns_serial.specs.Serial.{greater}
@@ -23,8 +22,8 @@ use Rattle.dns_changes.specs.Version.{IsVersion, serial_in}
 use Rattle.dns_update.specs.ResourceRecord.{HasForm, as_record, first_fault, otherwise}
 use Rattle.dns_update.specs.Prerequisites.{prerequisites_fault}
 use Rattle.dns_update.specs.Prescan.{prescan_fault}
-use Rattle.dns_update.specs.Effect.{is_of, replaced, owns_other, succeeds, added, deleted_set, is_spared, deleted, effect, effects}
-use Rattle.dns_update.specs.Verdict.{Verdict, Refuses, Keeps, Leaves, same_set, with_next_serial, versioned, unless, verdict}
+use Rattle.dns_update.specs.Effect.{replaced, owns_other, added, deleted_set, is_spared, deleted, effect, effects}
+use Rattle.dns_update.specs.Verdict.{Refuses, Keeps, Leaves, same_set, with_next_serial, versioned, unless, verdict}
 use Rattle.dns_update.proofs.Forms.{fit}
 use Rattle.dns_update.proofs.ResourceRecords.{no_fault}
 use Rattle.dns_update.proofs.Sound.{IsSound}

@@ -5,7 +5,7 @@ use Rattle.dns_names.specs.Name.{Labels}
 use Rattle.dns_names.specs.Lower.{AreOctets}
 use Rattle.dns_wire.specs.NameAt.{IsPointer, NameAt, points}
 use Rattle.dns_wire.specs.NameLaws.{pointer_unique}
-use Rattle.dns_wire.specs.Pointers.{Leads}
+use Rattle.dns_wire.specs.Pointers.{PointsTo}
 use Rattle.dns_wire.specs.Reads.{NumberAt}
 use Rattle.dns_wire.proofs.Copying.{pointed}
 use Rattle.dns_wire.proofs.Numbers.{two_octets_of}
@@ -36,22 +36,22 @@ onward m run n name stop fits k small high h =
       stands = subst (λ (x : ℕ). NameAt m x name p.after) is p.stands;
     }
 
-pub leads_here : (m : List ℕ) (at : ℕ) → Leads m at at
+pub leads_here : (m : List ℕ) (at : ℕ) → PointsTo m at at
 leads_here m at name stop h = (stop, h)
 
 -- over one more pointer
-pub leads_onward : (m : List ℕ) (at run n : ℕ) → AreOctets m → NumberAt m run 2 n → n < 65536 → (n < 49152 → ⊥) → Leads m at run → Leads m at (n % 16384)
+pub leads_onward : (m : List ℕ) (at run n : ℕ) → AreOctets m → NumberAt m run 2 n → n < 65536 → (n < 49152 → ⊥) → PointsTo m at run → PointsTo m at (n % 16384)
 leads_onward m at run n fits k small high so_far name stop h =
     let here = so_far name stop h in
     let o = onward m run n name here.0 fits k small high here.1 in
     (o.after, o.stands)
 
-pub leads_join : (m : List ℕ) (at run end : ℕ) → Leads m at run → Leads m run end → Leads m at end
+pub leads_join : (m : List ℕ) (at run end : ℕ) → PointsTo m at run → PointsTo m run end → PointsTo m at end
 leads_join m at run end first second name stop h =
     let here = first name stop h in
     second name here.0 here.1
 
 -- what a pointer leads to, its target leads to
-pub leads_behind : (m : List ℕ) (run end n : ℕ) (name : Labels) → Onward m run n name → Leads m run end → Leads m (n % 16384) end
+pub leads_behind : (m : List ℕ) (run end n : ℕ) (name : Labels) → Onward m run n name → PointsTo m run end → PointsTo m (n % 16384) end
 leads_behind m run end n name o whole other stop h =
     whole other (run + 2) (points [] other run (n % 16384) stop refl o.pointer o.far o.less h refl refl)

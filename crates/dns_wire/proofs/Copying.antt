@@ -12,7 +12,7 @@ use Rattle.dns_names.specs.PlainLaws.{wire_read}
 use Rattle.dns_wire.specs.NameAt.{IsPointer, NameAt}
 use Rattle.dns_wire.specs.NameLaws.{length-wire, opening, Closing, closing, by_root, by_pointer, zero_ends, pointer_ends, pointer_unique, some_octet}
 use Rattle.dns_wire.specs.Compressed.{run_octets}
-use Rattle.dns_wire.specs.Pointers.{Leads}
+use Rattle.dns_wire.specs.Pointers.{PointsTo}
 
 -- the octets of labels that are there, in lower case
 pub run_read : (m : List ℕ) (at : ℕ) (labels : Labels) (stop : ℕ) → LabelsAt m at labels stop → map to_ascii_lowercase (take (length (run_octets labels)) (drop at m)) ≡ run_octets labels
@@ -161,7 +161,7 @@ pointed m at high name end first marked h = go (closing m at [] at high name ref
     go (by_pointer rest target after p _ far back inner is) =
         record { target = target; after = after; pointer = p; far = far; back = back; stands = subst (λ (x : Labels). NameAt m target x after) (sym is) inner }
 
-pub copied_far : (m out : List ℕ) (target run size : ℕ) (name : Labels) → Leads m target run → Copied m out target size name → Copied m out run size name
+pub copied_far : (m out : List ℕ) (target run size : ℕ) (name : Labels) → PointsTo m target run → Copied m out target size name → Copied m out run size name
 copied_far m out target run size name leads h =
     let there = leads h.rest h.end h.stands in
     record { rest = h.rest; end = there.0; stands = there.1; inside = h.inside; whole = h.whole }

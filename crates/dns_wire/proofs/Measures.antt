@@ -8,7 +8,7 @@ use Rattle.dns_names.specs.Lower.{AreOctets}
 use Rattle.dns_names.specs.Runs.{run_up}
 use Rattle.dns_wire.specs.NameAt.{IsPointer, NameAt, ends, points, FullNameAt}
 use Rattle.dns_wire.specs.NameLaws.{length-wire}
-use Rattle.dns_wire.specs.Lengths.{IsMeasured, AreLengths}
+use Rattle.dns_wire.specs.Lengths.{IsMeasured}
 use Rattle.dns_wire.specs.Refusals.{NameRefused, here, behind}
 use Rattle.dns_wire.specs.declared.ReadError.{ReadError}
 use Rattle.dns_wire.specs.declared.ReadError.TheVariants.{NameTooLong}

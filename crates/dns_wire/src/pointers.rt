@@ -3,7 +3,7 @@
 ghost use Rattle.std.specs.Prelude.{◌≡◌, ℕ, ◌+◌, ◌≤◌, length, get_or};
 ghost use Rattle.dns_names.specs.Name.{Labels};
 ghost use Rattle.dns_wire.specs.NameAt.{NameAt};
-ghost use Rattle.dns_wire.specs.Pointers.{Leads, LeadsBack, AreEnds};
+ghost use Rattle.dns_wire.specs.Pointers.{PointsTo, LeadsBack, AreEnds};
 
 use crate::fields::number;
 use crate::name::POINTER_BITS;
@@ -44,17 +44,21 @@ fn pointers_end(message: &[u8], at: usize, ends: &[u16]) -> usize
     }
 }
 
-/// Keeps where the chain of pointers from an offset on ends, for each of its pointers.
+/// Keeps where the chain of pointers from an offset on ends, for each of its pointers up to the first for
+/// which it is kept.
 fn keep_end(message: &[u8], at: usize, end: usize, ends: &mut [u16])
     requires name { (name : Labels) × (stop : ℕ) × NameAt message.now at name stop }
     requires inside { at + 2 ≤ length message.now }
-    requires leads { Leads message.now at end }
+    requires leads { PointsTo message.now at end }
     requires few { length ends.old ≤ 16384 }
     requires known { AreEnds message.now ends.old }
     ensures known { AreEnds message.now ends.new }
 {
     let mut run = at;
     'pointers: while end < run {
+        if end_at(ends, run) > 0 {
+            return;
+        }
         if run < ends.len() {
             ends[run] = end as u16;
         }

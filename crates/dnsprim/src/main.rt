@@ -2,19 +2,23 @@
 //! into an exit status.
 #![tactic(auto)]
 
+mod command;
 mod lines;
 mod terminal;
 
 use clap::error::ErrorKind;
-use dns_command::{Asked, Fetching, Serving, Task, read_words};
+use command::{Asked, Fetching, Serving, Task, read_words};
+use dns_commands::{
+    Index, check, compare, dump, explain_check, explain_devices, explain_origin, explain_other,
+    explain_replay, explain_unreadable, explain_unserved, file, init, is_file, load, master_files,
+    migrate, octets, replay, zone_file,
+};
 use dns_configuration::{FAILED, File, REFUSED, USAGE};
+use dns_devices::Disk;
+use dns_fetch::{Tcp, TcpSocket, fetch};
 use dns_memory::{Heap, heap};
 use dns_sectors::{DiskFile, FileSectors};
-use dns_server::{
-    Disk, Index, ServeOptions, ServiceEnd, Tcp, TcpSocket, check, compare, dump, explain_check,
-    explain_devices, explain_other, explain_replay, explain_unreadable, explain_unserved, fetch,
-    file, init, is_file, load, master_files, migrate, octets, replay, serve, zone_file,
-};
+use dns_service::{ServeOptions, ServiceEnd, serve};
 use lines::Lines;
 use std::io::{self, Write};
 use std::process::ExitCode;
@@ -118,7 +122,7 @@ fn explain_files(
     explain_replay(rt.alloc(), heap, config, files, &none, &mut err)
 }
 
-/// Explains why the configuration was refused, or the master file of its zone of that name.
+/// Explains why the configuration was refused, or the name of the zone, or its master file.
 fn explain_load(
     rt: &HostRuntime,
     heap: Heap,
@@ -127,7 +131,8 @@ fn explain_load(
     origin: &str,
 ) -> io::Result<()> {
     let Ok(Some(file)) = zone_file(rt.alloc(), heap, config, files, origin) else {
-        return explain_files(rt, heap, config, &[]);
+        explain_files(rt, heap, config, &[])?;
+        return explain_origin(rt.alloc(), heap, config, origin, &mut rt.stderr());
     };
     let mut err = rt.stderr();
     explain_missing(rt, file, &mut err)?;
@@ -210,6 +215,7 @@ fn run_dump(
     out.flush()?;
     if explain && status == REFUSED {
         explain_files(rt, heap, &config, &[])?;
+        explain_origin(rt.alloc(), heap, &config, origin, &mut err)?;
     }
     explain_failed(rt, heap, &config, Some(origin), explain, status)
 }

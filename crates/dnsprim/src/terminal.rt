@@ -1,6 +1,6 @@
 //! What a terminal shows while a zone comes.
 
-use dns_server::Watch;
+use dns_fetch::Watch;
 use std::io::IsTerminal;
 
 /// Standard error, which shows how many records have come where it is a terminal, and nothing elsewhere.

@@ -20,7 +20,7 @@ loop-one-preserved g c =
       most = c.loop-one.invariant.most;
       places = omega (arith, c.release.ensures.capacity, c.loop-one.invariant.places);
       sent = λ shown zones ws each waits.
-          let n = next items ws i (record { to = Address (record { address = V4 (record { octets = [] }); port = 0 }); request = []; rcode = NoError; zone = 0 }) waits c.loop-one-test.true in
+          let n = next items ws i (record { to = Address (record { address = V4 (record { octets = [] }); port = 0; local = 0 }); request = []; rcode = NoError; zone = 0 }) waits c.loop-one-test.true in
           let more : map (released zones) (take (i + 1) ws) ≡ map (released zones) (take i ws) ++ released zones n.one ∷ [] = (λ j. map (released zones) (n.more j)) ∙ map-append (released zones) (take i ws) (n.one ∷ []) in
           grown header_out goes_out c.loop-one.headers.items c.release.new.headers.items (map (released zones) (take i ws)) (map (released zones) (take (i + 1) ws)) (released zones n.one) more
           (c.loop-one.invariant.sent shown zones ws each waits) (c.release.ensures.sent shown zones n.one each n.is);

@@ -1,11 +1,11 @@
 use Rattle.std.proofs.Common.{◌≤◌}
-use Rattle.dns_wire.specs.Pointers.{Leads}
+use Rattle.dns_wire.specs.Pointers.{PointsTo}
 use Rattle.dns_wire.proofs.pointers.pointers_end.Given as goal
 
 abbrev pub invariant-pointers : goal.invariant-pointers
 invariant-pointers l = record {
   back : l.run ≤ l.at;
-  leads : Leads l.message l.at l.run;
+  leads : PointsTo l.message l.at l.run;
 }
 
 abbrev pub decreases-pointers : goal.decreases-pointers

@@ -10,7 +10,7 @@ use Rattle.dns_network.proofs.datagrams.Queue.send.Goals as goal
 pub loop-datagram-preserved : goal.loop-datagram-preserved
 loop-datagram-preserved g c =
     let places : List Place = take (c.self.inside.end - c.self.inside.done) (drop c.self.inside.done c.deref.result.now) in
-    let none : Place = record { octets = []; count = 0; peer = record { address = V4 (record { octets = [] }); port = 0 } } in
+    let none : Place = record { octets = []; count = 0; peer = record { address = V4 (record { octets = [] }); port = 0; local = 0 } } in
     next_step (λ old one new. g.S.DatagramSocket.sends old one new) stands_in places c.loop-datagram.datagram-index none
     c.args.socket.now c.loop-datagram.socket c.send.new.self c.loop-datagram-test.true c.loop-datagram.invariant
     (subst (λ (xs : List ℕ). g.S.DatagramSocket.sends c.loop-datagram.socket (xs, (get_or places c.loop-datagram.datagram-index none).peer) c.send.new.self) c.octets.ensures c.send.ensures)

@@ -31,8 +31,8 @@ pub returns-clause-moments : goal.returns-clause-moments
 returns-clause-moments g c =
     let allowed = λ (m : Machine) (kept : IsKept c.args.primary.now m). c.is_full_for.ensures.allowed c.if-is_full_for.false m kept in
     let old = served c.args.primary.now c.args.self.now c.args.network.now c.args.notes.now in
-    let new = served c.welcome.new.primary c.welcome.new.self c.accept.new.self c.welcome.new.notes in
-    elim c.welcome.ensures.welcomed [
+    let new = served c.open_connection.new.primary c.open_connection.new.self c.accept.new.self c.open_connection.new.notes in
+    elim c.open_connection.ensures.welcomed [
       | inl (effects, taken) ↦ by_one g.S.Stream g.N.Network g.L.Notes c.args.now (Connects c.in-Some.peer effects) old new
           (record { stream = c.in-Some.stream; came = c.in-Some.ensures; allowed = allowed; taken = taken })
       | inr (between, place, noted, number, effects, none, taken, lacks, told, gone, closed) ↦
@@ -40,6 +40,6 @@ returns-clause-moments g c =
           and_on g.S.Stream g.N.Network g.L.Notes c.args.now old mid new
           (by_one g.S.Stream g.N.Network g.L.Notes c.args.now (Connects c.in-Some.peer effects) old mid
           (record { stream = c.in-Some.stream; came = c.in-Some.ensures; allowed = allowed; taken = taken }))
-          (closes g.S.Stream g.N.Network g.L.Notes c.args.now number NoPlace between c.welcome.new.primary c.accept.new.self noted noted c.welcome.new.notes place (connections_of c.welcome.new.self)
+          (closes g.S.Stream g.N.Network g.L.Notes c.args.now number NoPlace between c.open_connection.new.primary c.accept.new.self noted noted c.open_connection.new.notes place (connections_of c.open_connection.new.self)
           lacks refl (none, told) gone closed))
     ]

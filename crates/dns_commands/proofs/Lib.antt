@@ -1,0 +1,12 @@
+pub mod Changed
+pub mod Compared
+pub mod Files
+pub mod LoadEnded
+pub mod Made
+pub mod Migrated
+pub mod ReplayEnded
+pub mod Replayed
+pub mod Shown
+pub mod Soas
+pub mod Stored
+pub mod Taken

@@ -1,0 +1,80 @@
+-- How a run that loads a zone's master file ends.
+use Rattle.std.proofs.Common.{◌≡◌, ℕ, Bool, true, false, inl, inr, List, Option, Result, Ok, Err, IfOk, refl, sym, ap, ◌∙◌, arith}
+use Rattle.std.specs.Prelude.{◌⊎◌}
+use Rattle.std.specs.String.{string_bytes}
+use Rattle.std.specs.Io.KnownBytes.{Appends}
+use Rattle.std.proofs.KnownBytes.{Keeps-refl}
+use Rattle.dns_zone.specs.Zone.{Zone}
+use Rattle.dns_sectors.specs.declared.device.Sectors.{Ghosts}
+use Rattle.dns_configuration.specs.declared.configuration.ZoneSettings.{ZoneSettings}
+use Rattle.dns_configuration.specs.declared.files.File.{File}
+use Rattle.dns_configuration.specs.declared.files.Fault.{Fault}
+use Rattle.dns_configuration.specs.Faults.{fault_text, is_memory, line}
+use Rattle.dns_configuration.specs.Files.{IsLoadedFrom, loaded_by}
+use Rattle.dns_devices.specs.declared.device_faults.DeviceFault.{DeviceFault}
+use Rattle.dns_commands.specs.declared.next_version.Loaded.{Loaded}
+use Rattle.dns_devices.specs.DeviceFaults.{device_text, status_of}
+use Rattle.dns_devices.specs.Stores.{Gives}
+use Rattle.dns_configuration.specs.Named.{IsNamed, IsNoZoneName}
+use Rattle.dns_commands.specs.Load.{IsLoadedAs, IsNotLoaded}
+use Rattle.dns_commands.specs.LoadRun.{LoadEnds, LoadingEnds, loaded_line, path_blamed}
+
+-- A writer failed or memory was refused.
+pub loading_failed : {D : Type 0} (g : Ghosts D) (opened : Gives D) (own : ZoneSettings) (files : List File) (explain : Bool) (out out_after err err_after : Option (List ℕ)) → LoadingEnds g opened own files explain out out_after err err_after 3
+loading_failed g opened own files explain out out_after err err_after = record {
+  done = λ e. absurd (omega (arith, e));
+  refused = λ e. absurd (omega (arith, e));
+  others = inr refl;
+}
+
+pub load_failed : {D : Type 0} (g : Ghosts D) (opened : Gives D) (config : File) (files : List File) (origin : List ℕ) (explain : Bool) (out out_after err err_after : Option (List ℕ)) → LoadEnds g opened config files origin explain out out_after err err_after 3
+load_failed g opened config files origin explain out out_after err err_after = record {
+  done = λ e. absurd (omega (arith, e));
+  refused = λ e. absurd (omega (arith, e));
+  others = inr refl;
+}
+
+-- The file holds no zone.
+pub file_refused : {D : Type 0} (g : Ghosts D) (opened : Gives D) (own : ZoneSettings) (files : List File) (explain : Bool) (out err err_after : Option (List ℕ)) (path : List ℕ) (fault : Fault) → path ≡ string_bytes own.file → ((is_memory fault ≡ true) ⊎ (loaded_by files own ≡ Err fault)) → is_memory fault ≡ false → Appends err err_after (line (fault_text path fault)) → LoadingEnds g opened own files explain out out err err_after 1
+file_refused g opened own files explain out err err_after path fault p (inl memory) not_memory said = absurd (let both : true ≡ false = sym memory ∙ not_memory in cc)
+file_refused g opened own files explain out err err_after path fault p (inr why) not_memory said = record {
+  done = λ e. absurd (omega (arith, e));
+  refused = λ _. (fault_text path fault, inl (fault, why, ap (λ (t : List ℕ). fault_text t fault) p), said, Keeps-refl out);
+  others = inl (omega arith);
+}
+
+-- The records were not loaded.
+pub records_refused : {D : Type 0} (g : Ghosts D) (opened : Gives D) (own : ZoneSettings) (files : List File) (explain : Bool) (out err err_after : Option (List ℕ)) (path : List ℕ) (zone : Zone) (fault : DeviceFault) → path ≡ path_blamed own fault → IsLoadedFrom files own zone → IsNotLoaded g opened own zone.records fault → status_of fault ≡ 1 → Appends err err_after (line (device_text path fault explain)) → LoadingEnds g opened own files explain out out err err_after 1
+records_refused g opened own files explain out err err_after path zone fault p read why status said = record {
+  done = λ e. absurd (omega (arith, e));
+  refused = λ _. (device_text path fault explain, inr (zone, fault, read, why, status, ap (λ (t : List ℕ). device_text t fault explain) p), said, Keeps-refl out);
+  others = inl (omega arith);
+}
+
+-- They were.
+pub records_loaded : {D : Type 0} (g : Ghosts D) (opened : Gives D) (own : ZoneSettings) (files : List File) (explain : Bool) (out out_after err : Option (List ℕ)) (zone : Zone) (answer : Loaded) → IsLoadedFrom files own zone → IsLoadedAs g opened own zone.records answer → Appends out out_after (loaded_line own answer) → LoadingEnds g opened own files explain out out_after err err 0
+records_loaded g opened own files explain out out_after err zone answer read is said = record {
+  done = λ _. (answer, record { zone = zone; read = read; loaded = is }, said, Keeps-refl err);
+  refused = λ e. absurd (omega (arith, e));
+  others = inl (omega arith);
+}
+
+-- What was loaded is the file of the zone of that name.
+load_named : {D : Type 0} (g : Ghosts D) (opened : Gives D) (config : File) (files : List File) (origin : List ℕ) (own : ZoneSettings) (explain : Bool) (out out_after err err_after : Option (List ℕ)) (status : ℕ) → IsNamed config origin own → LoadingEnds g opened own files explain out out_after err err_after status → LoadEnds g opened config files origin explain out out_after err err_after status
+load_named g opened config files origin own explain out out_after err err_after status named h = record {
+  done = λ e. let d = h.done e in (own, named, d.0, d.1, d.2, d.3);
+  refused = λ e. let d = h.refused e in (d.0, d.2, d.3, inr (own, named, d.1));
+  others = h.others;
+}
+
+pub load_named_ok : {D E : Type 0} (g : Ghosts D) (opened : Gives D) (config : File) (files : List File) (origin : List ℕ) (own : ZoneSettings) (explain : Bool) (out out_after err err_after : Option (List ℕ)) (r : Result ℕ E) → IsNamed config origin own → IfOk r (λ status. LoadingEnds g opened own files explain out out_after err err_after status) → IfOk r (λ status. LoadEnds g opened config files origin explain out out_after err err_after status)
+load_named_ok g opened config files origin own explain out out_after err err_after (Err e) named h = tt
+load_named_ok g opened config files origin own explain out out_after err err_after (Ok status) named h = load_named g opened config files origin own explain out out_after err err_after status named h
+
+-- The configuration or the origin is refused.
+pub load_unnamed : {D : Type 0} (g : Ghosts D) (opened : Gives D) (config : File) (files : List File) (origin : List ℕ) (explain : Bool) (out err err_after : Option (List ℕ)) (text : List ℕ) → IsNoZoneName config origin text → Appends err err_after (line text) → LoadEnds g opened config files origin explain out out err err_after 1
+load_unnamed g opened config files origin explain out err err_after text why said = record {
+  done = λ e. absurd (omega (arith, e));
+  refused = λ _. (text, said, Keeps-refl out, inl why);
+  others = inl (omega arith);
+}

@@ -1,0 +1,31 @@
+use Rattle.std.proofs.Common.{inl}
+use Rattle.dns_store.specs.Opening.{store_device}
+use Rattle.dns_store.specs.Opens.{fresh}
+use Rattle.dns_store.specs.Versions.{opened_again}
+use Rattle.dns_devices.specs.Stores.{own_shape}
+use Rattle.dns_commands.proofs.Taken.{loadable, loaded_zone, loading_ends}
+use Rattle.dns_commands.proofs.next_version.load_zone.Goals as goal
+
+pub returns-in-Ok : goal.returns-in-Ok
+returns-in-Ok g c =
+    let own = c.args.own.now in
+    let zone = c.args.zone.now in
+    let is = c.in-Ok.ensures in
+    loading_ends g.D.Sectors (g.F.Devices.opened c.args.devices.now) own zone.records c.take_file.result (record {
+      device = is.device;
+      after = store_device c.take_file.new.store;
+      came = is.came;
+      loaded = λ honest range may.
+          (let t = is.taken honest range may in (
+            t.0,
+            t.1,
+            λ o h.
+                (let taken = t.2 o h in
+                let into = c.take_file.ensures (fresh (own_shape own) (opened_again o)) taken.keeps_them (loadable own c.in-Ok.newest zone c.change_to.result (opened_again o) taken.newest_is c.requires c.change_to.ensures) in
+                loaded_zone g.D.Sectors own zone.records is.device c.in-Ok.store c.take_file.new.store c.take_file.result o (is.any_moment honest range) is.quiet into.0
+                (record { later = (into.1).later; each = (into.1).each; before = (into.1).before })),
+          ));
+    })
+
+pub returns-in-Err : goal.returns-in-Err
+returns-in-Err g c = inl c.in-Err.ensures

@@ -1,0 +1,96 @@
+-- What loading a zone's master file would change.
+use Rattle.std.specs.Prelude.{◌≡◌, ◌⊎◌, ◌≤◌, ℕ, Bool, List, ◌∷◌, ◌++◌, flat_map, Option, Some, None, Ok, Err}
+use Rattle.std.specs.Prelude.{codes}
+use Rattle.std.specs.String.{string_bytes}
+use Rattle.std.specs.Io.KnownBytes.{Appends, Keeps}
+use Rattle.dns_names.specs.Text.{printed_name}
+use Rattle.dns_records.specs.Record.{Record}
+use Rattle.dns_zone.specs.Zone.{Zone}
+use Rattle.dns_changes.specs.Change.{Change}
+use Rattle.dns_masterfile.specs.Printed.{printed_record}
+use Rattle.dns_sectors.specs.declared.device.Sectors.{Ghosts}
+use Rattle.dns_configuration.specs.declared.configuration.ZoneSettings.{ZoneSettings}
+use Rattle.dns_configuration.specs.declared.files.File.{File}
+use Rattle.dns_configuration.specs.declared.files.Fault.{Fault}
+use Rattle.dns_configuration.specs.Faults.{fault_text, line}
+use Rattle.dns_configuration.specs.Files.{IsLoadedFrom, loaded_by}
+use Rattle.dns_devices.specs.declared.device_faults.DeviceFault.{DeviceFault}
+use Rattle.dns_devices.specs.DeviceFaults.{device_text, status_of}
+use Rattle.dns_devices.specs.Stores.{Gives, IsDumped, IsNotShown}
+use Rattle.dns_configuration.specs.Named.{IsNamed, IsNoZoneName}
+use Rattle.dns_commands.specs.Load.{IsChangeTo}
+use Rattle.dns_commands.specs.LoadRun.{path_blamed}
+
+-- A line for each record, as in a master file, after a sign and a blank.
+abbrev pub signed_lines : List ℕ → List Record → List ℕ
+signed_lines sign records = flat_map (λ r. sign ++ 32 ∷ printed_record r) records
+
+-- What goes, and then what comes, each with its SOA first.
+abbrev pub change_lines : Change → List ℕ
+change_lines change =
+    signed_lines (codes "-") (change.old_soa ∷ change.removed)
+    ++ signed_lines (codes "+") (change.new_soa ∷ change.added)
+
+-- ... or that the records are those of the newest version.
+abbrev pub difference_text : ZoneSettings → Option Change → List ℕ
+difference_text own None = line (printed_name own.origin ++ codes " already")
+difference_text own (Some change) = change_lines change
+
+-- The change from the newest version that the device keeps to these records.
+pub record IsDifference {D : Type 0} (g : Ghosts D) (opened : Gives D) (own : ZoneSettings)
+    (records : List Record) (change : Option Change) : Type 0 where
+  pub newest : Zone
+  pub shown : IsDumped g opened own newest
+  pub change_is : IsChangeTo newest.records records (Ok change)
+
+-- Why there is none: the device shows no zone, or the change is refused.
+abbrev pub HasNoDifference : {D : Type 0} → Ghosts D → Gives D → ZoneSettings → List Record → DeviceFault
+    → Type 0
+HasNoDifference g opened own records fault =
+    IsNotShown g opened own fault
+    ⊎ ((newest : Zone) × IsDumped g opened own newest × IsChangeTo newest.records records (Err fault))
+
+-- The zone's master file holds these records, and this is the change to them.
+pub record IsFileCompared {D : Type 0} (g : Ghosts D) (opened : Gives D) (own : ZoneSettings)
+    (files : List File) (change : Option Change) : Type 0 where
+  pub zone : Zone
+  pub read : IsLoadedFrom files own zone
+  pub differs : IsDifference g opened own zone.records change
+
+-- Why a zone's master file was not compared, and the text that says so.
+abbrev pub IsFileNotCompared : {D : Type 0} → Ghosts D → Gives D → ZoneSettings → List File → Bool → List ℕ
+    → Type 0
+IsFileNotCompared g opened own files explain text =
+    ((fault : Fault) × (loaded_by files own ≡ Err fault) × (text ≡ fault_text (string_bytes own.file) fault))
+    ⊎ ((zone : Zone) × (fault : DeviceFault) × IsLoadedFrom files own zone
+    × HasNoDifference g opened own zone.records fault × (status_of fault ≡ 1)
+    × (text ≡ device_text (path_blamed own fault) fault explain))
+
+-- How the comparison of a zone's master file ends. With status 3 the device can't be had, a writer failed or
+-- memory was refused.
+pub record ComparingEnds {D : Type 0} (g : Ghosts D) (opened : Gives D) (own : ZoneSettings)
+    (files : List File) (explain : Bool) (out out_after err err_after : Option (List ℕ)) (status : ℕ)
+    : Type 0 where
+  pub done : status ≡ 0
+      → (change : Option Change) × IsFileCompared g opened own files change
+      × Appends out out_after (difference_text own change) × Keeps err err_after
+  pub refused : status ≡ 1
+      → (text : List ℕ) × IsFileNotCompared g opened own files explain text
+      × Appends err err_after (line text) × Keeps out out_after
+  pub others : status ≤ 1 ⊎ (status ≡ 3)
+
+-- How a run of `load --dry-run` ends. With status 3 the device can't be had, a writer failed or memory was
+-- refused.
+pub record ComparisonEnds {D : Type 0} (g : Ghosts D) (opened : Gives D) (config : File) (files : List File)
+    (origin : List ℕ) (explain : Bool) (out out_after err err_after : Option (List ℕ)) (status : ℕ)
+    : Type 0 where
+  pub done : status ≡ 0
+      → (own : ZoneSettings) × IsNamed config origin own
+      × (change : Option Change) × IsFileCompared g opened own files change
+      × Appends out out_after (difference_text own change) × Keeps err err_after
+  pub refused : status ≡ 1
+      → (text : List ℕ) × Appends err err_after (line text) × Keeps out out_after
+      × (IsNoZoneName config origin text
+      ⊎ ((own : ZoneSettings) × IsNamed config origin own
+      × IsFileNotCompared g opened own files explain text))
+  pub others : status ≤ 1 ⊎ (status ≡ 3)

@@ -1,0 +1,9 @@
+pub mod Check
+pub mod Compare
+pub mod Dump
+pub mod Init
+pub mod Inputs
+pub mod Load
+pub mod LoadRun
+pub mod Migrate
+pub mod Replay

@@ -1,0 +1,146 @@
+-- How the devices of zones are migrated to sector format 2, and how a run that migrates them ends.
+use Rattle.std.specs.Prelude.{◌≡◌, ◌⊎◌, ◌↔◌, ◌≤◌, ◌<◌, ℕ, Bool, List, [], ◌∷◌, ◌++◌, Option, Ok, Err}
+use Rattle.std.specs.Prelude.{codes, decimal}
+use Rattle.std.specs.Option.{option_copied}
+use Rattle.std.specs.String.{string_bytes}
+use Rattle.std.specs.Io.KnownBytes.{Appends, Keeps}
+use Rattle.dns_names.specs.Text.{printed_name}
+use Rattle.dns_sectors.specs.Device.{LeavesOnly}
+use Rattle.dns_sectors.specs.declared.device.Sectors.{Ghosts}
+use Rattle.dns_layout.specs.Sector.{root_tag, sector_at, tag}
+use Rattle.dns_journal.specs.Reads.{HasRisen, OnlyReads}
+use Rattle.dns_store.specs.declared.migrating.MigrateError.{MigrateError}
+use Rattle.dns_store.specs.declared.migrating.MigrateError.TheVariants as told
+use Rattle.dns_store.specs.declared.migrating.Migration.{Migration}
+use Rattle.dns_store.specs.declared.migrating.Migration.TheVariants.{Already, Migrated}
+use Rattle.dns_store.specs.Plain.{sectors_of_snapshot}
+use Rattle.dns_store.specs.Migrating.{MayMigrate, MigrateRefusal, StopsMigrating, MigratesAsPossible}
+use Rattle.dns_store.specs.Migrating.{TakesMigrated, old_opens}
+use Rattle.dns_store.specs.Opening.{IsInRange}
+use Rattle.dns_store.specs.Versions.{Opened, newest_after}
+use Rattle.dns_configuration.specs.declared.configuration.ZoneSettings.{ZoneSettings}
+use Rattle.dns_configuration.specs.declared.configuration.Configuration.{Configuration}
+use Rattle.dns_configuration.specs.declared.files.File.{File}
+use Rattle.dns_configuration.specs.declared.files.Fault.{Fault}
+use Rattle.dns_configuration.specs.Faults.{fault_text, line}
+use Rattle.dns_configuration.specs.Files.{HoldsConfiguration}
+use Rattle.dns_devices.specs.declared.device_faults.DeviceFault.{DeviceFault}
+use Rattle.dns_devices.specs.DeviceFaults.{device_text, fault_of_migrate, status_of}
+use Rattle.dns_devices.specs.Stores.{Gives, IsDeviceNotGiven, own_shape}
+
+-- A crash at any moment of it leaves what `migrate` and then `open` open as a crash might have left the
+-- device before.
+abbrev pub StaysMigratable : {D : Type 0} → Ghosts D → ZoneSettings → D → D → Type 0
+StaysMigratable g own device after =
+    g.is_honest device → IsInRange own.snapshot_sectors own.journal_sectors
+    → LeavesOnly g.moment g.left_since device after (MigratesAsPossible g (own_shape own) device)
+
+-- The device that was given for the path was migrated, with this answer: from then on each crash leaves what
+-- `open` alone opens, as a crash might have left the device before, and the answer is of that. It was opened
+-- once more; one that is answered as of format 2 already was only read.
+pub record IsMigratedAs {D : Type 0} (g : Ghosts D) (opened : Gives D) (own : ZoneSettings)
+    (answer : Migration) : Type 0 where
+  pub device : D
+  pub after : D
+  pub came : opened (string_bytes own.device) (Ok device)
+  pub honest : g.is_honest after ↔ g.is_honest device
+  pub takes : g.is_honest device
+      → IsInRange own.snapshot_sectors own.journal_sectors
+      → MayMigrate g (own_shape own) device
+      → TakesMigrated g (own_shape own) device after answer
+  pub any_moment : StaysMigratable g own device after
+  pub already : g.is_honest device → answer ≡ Already → tag (sector_at (g.seen device) 0) ≡ root_tag
+  pub read_only : answer ≡ Already → OnlyReads g device after
+
+-- Why the device was not migrated: where each crash leaves a store with room in format 2, the device failed,
+-- memory was refused, or it was opened too often; else the reason is in what is stored on it. It was only
+-- read, unless it failed.
+pub record IsMigrationRefused {D : Type 0} (g : Ghosts D) (opened : Gives D) (own : ZoneSettings)
+    (fault : DeviceFault) : Type 0 where
+  pub device : D
+  pub after : D
+  pub came : opened (string_bytes own.device) (Ok device)
+  pub error : MigrateError
+  pub named : fault ≡ fault_of_migrate error
+  pub stopped : g.is_honest device
+      → IsInRange own.snapshot_sectors own.journal_sectors
+      → MayMigrate g (own_shape own) device
+      → StopsMigrating g (own_shape own) device error
+  pub refused : g.is_honest device → MigrateRefusal (own_shape own) (g.count device) (g.seen device) error
+  pub too_large : g.is_honest device
+      → (o : Opened) → old_opens (own_shape own) o (g.seen device)
+      → IsInRange own.snapshot_sectors own.journal_sectors
+      → error ≡ told.ZoneTooLarge
+      → own.snapshot_sectors < sectors_of_snapshot (newest_after o.loaded o.versions)
+  pub any_moment : StaysMigratable g own device after
+  pub read_only : (error ≡ told.Device) ⊎ OnlyReads g device after
+  pub failed : error ≡ told.Device → HasRisen (g.failed device) (g.failed after)
+
+-- ... or none was given.
+abbrev pub IsNotMigrated : {D : Type 0} → Ghosts D → Gives D → ZoneSettings → DeviceFault → Type 0
+IsNotMigrated g opened own fault = IsDeviceNotGiven opened own fault ⊎ IsMigrationRefused g opened own fault
+
+-- What is printed of a zone: the number and the serial of the newest version that its device keeps; or that
+-- it was of format 2.
+abbrev pub migrated_text : List ℕ → Migration → List ℕ
+migrated_text origin (Migrated version serial) =
+    codes "migrated " ++ origin ++ codes " version " ++ decimal version ++ codes " serial " ++ decimal serial
+migrated_text origin Already = origin ++ codes " already"
+
+abbrev pub migrated : ZoneSettings → Migration → List ℕ
+migrated own answer = line (migrated_text (printed_name own.origin) answer)
+
+-- The devices of zones were migrated, and this was printed of them.
+abbrev pub AreMigrated : {D : Type 0} → Ghosts D → Gives D → List ZoneSettings → List ℕ → Type 0
+AreMigrated g opened [] printed = printed ≡ []
+AreMigrated g opened (own ∷ settings) printed =
+    (answer : Migration) × (rest : List ℕ) × (printed ≡ migrated own answer ++ rest)
+    × IsMigratedAs g opened own answer × AreMigrated g opened settings rest
+
+-- The devices of the first zones were migrated, and that of the next one was not, for this: its path, and
+-- what was printed of those before it.
+abbrev pub MigratingStopsAt : {D : Type 0} → Ghosts D → Gives D → List ZoneSettings → List ℕ → DeviceFault
+    → List ℕ → Type 0
+MigratingStopsAt g opened [] path fault printed = ⊥
+MigratingStopsAt g opened (own ∷ settings) path fault printed =
+    ((path ≡ string_bytes own.device) × IsNotMigrated g opened own fault × (printed ≡ []))
+    ⊎ ((answer : Migration) × (rest : List ℕ) × (printed ≡ migrated own answer ++ rest)
+    × IsMigratedAs g opened own answer × MigratingStopsAt g opened settings path fault rest)
+
+-- How the migrating of all devices ends. With status 3 a device can't be had, a writer failed or memory was
+-- refused.
+pub record MigratingEnds {D : Type 0} (g : Ghosts D) (opened : Gives D) (settings : List ZoneSettings)
+    (explain : Bool) (out out_after err err_after : Option (List ℕ)) (status : ℕ)
+    : Type 0 where
+  pub done : status ≡ 0
+      → (printed : List ℕ) × AreMigrated g opened settings printed × Appends out out_after printed
+      × Keeps err err_after
+  pub refused : status ≡ 1
+      → (path : List ℕ) × (fault : DeviceFault) × (printed : List ℕ)
+      × MigratingStopsAt g opened settings path fault printed
+      × (status_of fault ≡ 1) × Appends out out_after printed
+      × Appends err err_after (line (device_text path fault explain))
+  pub others : status ≤ 1 ⊎ (status ≡ 3)
+
+-- How a run of `migrate` is refused: the fault of the configuration is reported, and nothing was printed or
+-- migrated; or else devices were migrated, up to one that was not.
+abbrev pub IsMigrateRefused : {D : Type 0} → Ghosts D → Gives D → File → List ℕ → List ℕ → Bool → Type 0
+IsMigrateRefused g opened config printed text explain =
+    ((fault : Fault) × HoldsConfiguration (option_copied config.octets) (Err fault) × (printed ≡ [])
+    × (text ≡ fault_text config.path.now fault))
+    ⊎ ((c : Configuration) × HoldsConfiguration (option_copied config.octets) (Ok c)
+    × (path : List ℕ) × (fault : DeviceFault) × (text ≡ device_text path fault explain)
+    × (status_of fault ≡ 1) × MigratingStopsAt g opened c.zones.items path fault printed)
+
+-- How a run of `migrate` ends. With status 3 a device can't be had, a writer failed or memory was refused.
+pub record MigrateEnds {D : Type 0} (g : Ghosts D) (opened : Gives D) (config : File) (explain : Bool)
+    (out out_after err err_after : Option (List ℕ)) (status : ℕ)
+    : Type 0 where
+  pub done : status ≡ 0
+      → (c : Configuration) × HoldsConfiguration (option_copied config.octets) (Ok c)
+      × ((printed : List ℕ) × AreMigrated g opened c.zones.items printed × Appends out out_after printed
+      × Keeps err err_after)
+  pub refused : status ≡ 1
+      → (printed : List ℕ) × (text : List ℕ) × IsMigrateRefused g opened config printed text explain
+      × Appends out out_after printed × Appends err err_after (line text)
+  pub others : status ≤ 1 ⊎ (status ≡ 3)

@@ -1,0 +1,8 @@
+//! The commands, one file each.
+pub mod check;
+pub mod compare;
+pub mod dump;
+pub mod init;
+pub mod load;
+pub mod migrate;
+pub mod replay;

@@ -1,0 +1,172 @@
+//! What loading a zone's master file would change, in print, without loading it: `load --dry-run`.
+ghost use Rattle.std.specs.Prelude.{◌∷◌, [], IfOk, OnOk, MatchResult};
+ghost use Rattle.std.specs.Io.KnownBytes.{Appends};
+ghost use Rattle.dns_commands.specs.Compare.{ComparingEnds, ComparisonEnds, HasNoDifference, IsDifference};
+ghost use Rattle.dns_commands.specs.Compare.{change_lines, difference_text, signed_lines};
+
+use crate::change::change_to;
+use crate::commands::load::path_blamed;
+use dns_changes::Change;
+use dns_configuration::{
+    DONE, FAILED, Fault, File, ZoneSettings, apex, load_one, read_configuration, tell, zone_of,
+};
+use dns_devices::{DeviceFault, Devices, open_zone, tell_device};
+use dns_masterfile::RecordLine;
+use dns_memory::Heap;
+use dns_records::Record;
+use dns_sectors::Sectors;
+use dns_zone::{Zone, ZoneIndex};
+use std::alloc::Global;
+use std::io::{self, Write};
+
+/// Prints a record after a sign.
+fn print_record<W: Write>(out: &mut W, sign: &str, entry: &Record) -> io::Result<()>
+    ensures { OnOk result
+        (Appends (W.contents out.old) (W.contents out.new) (signed_lines sign.now (entry.now ∷ []))) }
+{
+    write!(out, "{sign} {}", RecordLine(entry))
+}
+
+/// Prints a line for each of these records, after a sign.
+fn print_records<W: Write>(out: &mut W, sign: &str, records: &[Record]) -> io::Result<()>
+    ensures { OnOk result
+        (Appends (W.contents out.old) (W.contents out.new) (signed_lines sign.now records.now)) }
+{
+    for entry in records {
+        print_record(out, sign, entry)?;
+    }
+    Ok(())
+}
+
+/// Prints a SOA and then other records, a line for each, after a sign.
+fn print_side<W: Write>(out: &mut W, sign: &str, soa: &Record, others: &[Record]) -> io::Result<()>
+    ensures { OnOk result
+        (Appends (W.contents out.old) (W.contents out.new) (signed_lines sign.now (soa.now ∷ others.now))) }
+{
+    print_record(out, sign, soa)?;
+    print_records(out, sign, others)
+}
+
+/// Prints what goes and what comes by a change.
+fn print_change<W: Write>(out: &mut W, change: &Change) -> io::Result<()>
+    ensures { OnOk result
+        (Appends (W.contents out.old) (W.contents out.new) (change_lines change.now)) }
+{
+    print_side(out, "-", change.old_soa(), change.removed())?;
+    print_side(out, "+", change.new_soa(), change.added())
+}
+
+/// Prints the change to the records of a zone's master file.
+fn print_difference<W: Write>(
+    out: &mut W,
+    own: &ZoneSettings,
+    change: &Option<Change>,
+) -> io::Result<()>
+    ensures { OnOk result
+        (Appends (W.contents out.old) (W.contents out.new) (difference_text own.now change.now)) }
+{
+    match change {
+        Some(change) => print_change(out, change),
+        None => writeln!(out, "{} already", own.origin),
+    }
+}
+
+/// The change from the newest version that the device of a zone keeps to other records, or none where it has
+/// these.
+fn difference<D: Sectors + Drop, F: Devices<D>, I: ZoneIndex>(
+    heap: Heap,
+    devices: &F,
+    own: &ZoneSettings,
+    zone: &Zone<I>,
+) -> Result<Option<Change>, DeviceFault>
+    ensures { MatchResult result (IsDifference D.Sectors (F.opened devices.now) own.now zone.now.records)
+        (HasNoDifference D.Sectors (F.opened devices.now) own.now zone.now.records) }
+{
+    match open_zone::<D, F, I>(heap, devices, own) {
+        Ok(newest) => change_to(heap, &newest, zone),
+        Err(fault) => Err(fault),
+    }
+}
+
+/// Compares the master file of a zone with its device, and gives the exit status.
+fn compare_own<D: Sectors + Drop, F: Devices<D>, I: ZoneIndex, W: Write, E: Write>(
+    heap: Heap,
+    devices: &F,
+    own: &ZoneSettings,
+    files: &[File<'_>],
+    explain: bool,
+    out: &mut W,
+    err: &mut E,
+) -> io::Result<u8>
+    ensures { IfOk result
+        (λ status. ComparingEnds D.Sectors (F.opened devices.now) own.now files.now explain
+        (W.contents out.old) (W.contents out.new) (E.contents err.old) (E.contents err.new) status) }
+{
+    let zone: Zone<I> = match load_one(heap, files, own) {
+        Ok(zone) => zone,
+        Err(fault) => return tell(err, &own.file, fault),
+    };
+    match difference::<D, F, I>(heap, devices, own, &zone) {
+        Ok(change) => {
+            print_difference(out, own, &change)?;
+            Ok(DONE)
+        }
+        Err(fault) => tell_device(err, path_blamed(own, fault), fault, explain),
+    }
+}
+
+/// Compares the master file of the zone of that name with its device, and gives the exit status.
+fn compare_named<D: Sectors + Drop, F: Devices<D>, I: ZoneIndex, W: Write, E: Write>(
+    alloc: Global,
+    heap: Heap,
+    devices: &F,
+    config: &File<'_>,
+    files: &[File<'_>],
+    origin: &str,
+    explain: bool,
+    out: &mut W,
+    err: &mut E,
+) -> io::Result<u8>
+    ensures { IfOk result
+        (λ status. ComparisonEnds D.Sectors (F.opened devices.now) config.now files.now origin.now explain
+        (W.contents out.old) (W.contents out.new) (E.contents err.old) (E.contents err.new) status) }
+{
+    let zones = match read_configuration(alloc, heap, config) {
+        Ok(configuration) => configuration.zones,
+        Err(fault) => return tell(err, config.path, fault),
+    };
+    let name = match apex(heap, origin) {
+        Ok(name) => name,
+        Err(fault) => return tell(err, origin, fault),
+    };
+    match zone_of(&zones, &name) {
+        Some(own) => compare_own::<D, F, I, W, E>(heap, devices, own, files, explain, out, err),
+        None => tell(err, origin, Fault::BadOrigin),
+    }
+}
+
+/// Prints what `load` would change of a configuration's zone, and makes no version: each record that would
+/// go as a line of a master file after `- `, and then each that would come after `+ `, both with their SOA
+/// first; or `ORIGIN already`. Whether the next version would have room is not looked at.
+///
+/// Faults are reported as `load` does, but for `NoRoom`. Gives the exit status: `DONE`, `REFUSED`, or
+/// `FAILED` where the device can't be had, a writer failed or memory was refused.
+pub fn compare<D: Sectors + Drop, F: Devices<D>, I: ZoneIndex, W: Write, E: Write>(
+    alloc: Global,
+    heap: Heap,
+    devices: &F,
+    config: &File<'_>,
+    files: &[File<'_>],
+    origin: &str,
+    explain: bool,
+    out: &mut W,
+    err: &mut E,
+) -> u8
+    ensures { ComparisonEnds D.Sectors (F.opened devices.now) config.now files.now origin.now explain
+        (W.contents out.old) (W.contents out.new) (E.contents err.old) (E.contents err.new) result }
+{
+    compare_named::<D, F, I, W, E>(
+        alloc, heap, devices, config, files, origin, explain, out, err,
+    )
+    .unwrap_or(FAILED)
+}

@@ -1,0 +1,157 @@
+//! A run that makes the records of a zone's master file the next version of its store.
+ghost use Rattle.std.specs.Prelude.{◌≡◌, IfOk, OnOk};
+ghost use Rattle.std.specs.Io.KnownBytes.{Appends};
+ghost use Rattle.dns_commands.specs.LoadRun.{LoadEnds, LoadingEnds, difference_line, loaded_line};
+ghost use Rattle.dns_commands.specs.LoadRun.{loaded_text, path_blamed};
+
+use crate::next_version::{Loaded, load_zone};
+use dns_configuration::{
+    DONE, FAILED, Fault, File, ZoneSettings, apex, load_one, read_configuration, tell, zone_of,
+};
+use dns_devices::{DeviceFault, Devices, tell_device};
+use dns_memory::Heap;
+use dns_sectors::Sectors;
+use dns_zone::{Zone, ZoneIndex};
+use std::alloc::Global;
+use std::io::{self, Write};
+
+/// Prints which version of a zone was loaded.
+fn print_version<W: Write>(
+    out: &mut W,
+    own: &ZoneSettings,
+    version: u64,
+    serial: u32,
+) -> io::Result<()>
+    ensures { OnOk result
+        (Appends (W.contents out.old) (W.contents out.new) (loaded_text own.now version serial)) }
+{
+    write!(
+        out,
+        "loaded {} version {version} serial {serial}",
+        own.origin
+    )
+}
+
+/// Prints how many records came and how many went.
+fn print_difference<W: Write>(out: &mut W, added: usize, removed: usize) -> io::Result<()>
+    ensures { OnOk result
+        (Appends (W.contents out.old) (W.contents out.new) (difference_line added removed)) }
+{
+    writeln!(out, ", {added} added, {removed} removed")
+}
+
+/// Prints what was done with the records of a zone's master file.
+fn print_loaded<W: Write>(out: &mut W, own: &ZoneSettings, answer: Loaded) -> io::Result<()>
+    ensures { OnOk result (Appends (W.contents out.old) (W.contents out.new) (loaded_line own.now answer)) }
+{
+    match answer {
+        Loaded::Already => writeln!(out, "{} already", own.origin),
+        Loaded::Next {
+            version,
+            serial,
+            added,
+            removed,
+        } => {
+            print_version(out, own, version, serial)?;
+            print_difference(out, added, removed)
+        }
+    }
+}
+
+/// The path of what a fault is of: the master file where its serial is refused, and else the device.
+pub(crate) fn path_blamed(own: &ZoneSettings, fault: DeviceFault) -> &str
+    ensures { result.now ≡ path_blamed own.now fault }
+{
+    match fault {
+        DeviceFault::SerialNotRaised => &own.file,
+        _ => &own.device,
+    }
+}
+
+/// Loads the master file of a zone, and gives the exit status.
+fn load_own<D: Sectors + Drop, F: Devices<D>, I: ZoneIndex, W: Write, E: Write>(
+    heap: Heap,
+    devices: &F,
+    own: &ZoneSettings,
+    files: &[File<'_>],
+    explain: bool,
+    out: &mut W,
+    err: &mut E,
+) -> io::Result<u8>
+    ensures { IfOk result
+        (λ status. LoadingEnds D.Sectors (F.opened devices.now) own.now files.now explain (W.contents out.old)
+        (W.contents out.new) (E.contents err.old) (E.contents err.new) status) }
+{
+    let zone: Zone<I> = match load_one(heap, files, own) {
+        Ok(zone) => zone,
+        Err(fault) => return tell(err, &own.file, fault),
+    };
+    match load_zone(heap, devices, own, &zone) {
+        Ok(answer) => {
+            print_loaded(out, own, answer)?;
+            Ok(DONE)
+        }
+        Err(fault) => tell_device(err, path_blamed(own, fault), fault, explain),
+    }
+}
+
+/// Loads the master file of the zone of that name, and gives the exit status.
+fn load_named<D: Sectors + Drop, F: Devices<D>, I: ZoneIndex, W: Write, E: Write>(
+    alloc: Global,
+    heap: Heap,
+    devices: &F,
+    config: &File<'_>,
+    files: &[File<'_>],
+    origin: &str,
+    explain: bool,
+    out: &mut W,
+    err: &mut E,
+) -> io::Result<u8>
+    ensures { IfOk result
+        (λ status. LoadEnds D.Sectors (F.opened devices.now) config.now files.now origin.now explain
+        (W.contents out.old) (W.contents out.new) (E.contents err.old) (E.contents err.new) status) }
+{
+    let zones = match read_configuration(alloc, heap, config) {
+        Ok(configuration) => configuration.zones,
+        Err(fault) => return tell(err, config.path, fault),
+    };
+    let name = match apex(heap, origin) {
+        Ok(name) => name,
+        Err(fault) => return tell(err, origin, fault),
+    };
+    match zone_of(&zones, &name) {
+        Some(own) => load_own::<D, F, I, W, E>(heap, devices, own, files, explain, out, err),
+        None => tell(err, origin, Fault::BadOrigin),
+    }
+}
+
+/// Makes the records of the master file of a configuration's zone the next version of the store that the
+/// zone's device keeps, durable where it is printed: `loaded ORIGIN version V serial M, A added, R removed`,
+/// or `ORIGIN already` where the newest version has these records. How many came and went is without the SOA.
+/// Where the journal is too full for one more change, at most the zone's newest `keep` changes stay.
+///
+/// Faults are reported in one line, the first in this order: the configuration, the origin
+/// (`ORIGIN: BadOrigin`), the master file (as `check` reports them), the device,
+/// `FILE: SerialNotRaised` where the records are others and their serial isn't greater (RFC 1982 section
+/// 3.2), `DEVICE: NoRoom` where the next version takes more sectors than there are. Of a device or a serial,
+/// if it is wanted, a second line says what can be done. Gives the exit status: `DONE`, `REFUSED`, or
+/// `FAILED` where the device can't be had, a writer failed or memory was refused.
+pub fn load<D: Sectors + Drop, F: Devices<D>, I: ZoneIndex, W: Write, E: Write>(
+    alloc: Global,
+    heap: Heap,
+    devices: &F,
+    config: &File<'_>,
+    files: &[File<'_>],
+    origin: &str,
+    explain: bool,
+    out: &mut W,
+    err: &mut E,
+) -> u8
+    ensures { LoadEnds D.Sectors (F.opened devices.now) config.now files.now origin.now explain
+        (W.contents out.old) (W.contents out.new) (E.contents err.old) (E.contents err.new) result }
+{
+    load_named::<D, F, I, W, E>(
+        alloc, heap, devices, config, files, origin, explain, out, err,
+    )
+    .unwrap_or(FAILED)
+}

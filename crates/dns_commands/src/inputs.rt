@@ -1,0 +1,114 @@
+//! The files that a run reads.
+ghost use Rattle.std.specs.Prelude.{◌≡◌, map, find, bytes_eq, IfOk, MatchResult};
+ghost use Rattle.std.specs.Option.{option_copied};
+ghost use Rattle.std.specs.String.{string_bytes};
+ghost use Rattle.dns_commands.specs.Inputs.{AreFilesOf, IsNoZoneFile, IsZoneFile, file_paths};
+
+use dns_configuration::{Fault, File, ZoneSettings, apex, read_configuration, zone_of};
+use dns_memory::Heap;
+use std::alloc::Global;
+use std::{fs, io};
+
+/// Whether there is a file at a path, and no folder, pipe, socket or device, of which a read might never end.
+pub fn is_file(rt: &HostRuntime, path: &str) -> io::Result<bool> {
+    let metadata = fs::metadata(rt, path)?;
+    Ok(metadata.is_file())
+}
+
+/// The octets of the file at a path, none where there is no file or it can't be read. Refused memory is an
+/// error, and does not make a file unreadable.
+pub fn octets(rt: &HostRuntime, path: &str) -> io::Result<Option<Vec<u8>>> {
+    if !is_file(rt, path).unwrap_or(false) {
+        return Ok(None);
+    }
+    match fs::read(rt, path) {
+        Ok(octets) => Ok(Some(octets)),
+        Err(error) if error.kind() == io::ErrorKind::OutOfMemory => Err(error),
+        Err(_) => Ok(None),
+    }
+}
+
+/// The file of a path and its octets.
+pub fn file<'a>(path: &'a str, octets: &'a Option<Vec<u8>>) -> File<'a> {
+    File {
+        path,
+        octets: match octets {
+            Some(octets) => Some(octets.as_slice()),
+            None => None,
+        },
+    }
+}
+
+/// The octets of the file with that name in a folder; the name is a path where the folder is empty.
+pub fn octets_in(rt: &HostRuntime, folder: &str, name: &str) -> io::Result<Option<Vec<u8>>> {
+    if folder.is_empty() {
+        return octets(rt, name);
+    }
+    let path = format!(in rt.alloc(); "{folder}/{name}")?;
+    octets(rt, &path)
+}
+
+/// The paths of the master files of these zones, in their order, and the octets of each in the folder.
+fn files_of(
+    rt: &HostRuntime,
+    folder: &str,
+    zones: &[ZoneSettings],
+) -> io::Result<Vec<(String, Option<Vec<u8>>)>>
+    ensures { IfOk result
+        (λ files. map (λ file. string_bytes file.0) files.items ≡ file_paths zones.now) }
+{
+    let mut files = Vec::new(rt.alloc());
+    for zone in zones {
+        let octets = octets_in(rt, folder, &zone.file)?;
+        files.push((zone.file.clone()?, octets))?;
+    }
+    Ok(files)
+}
+
+/// The paths of the master files that a configuration names, and the octets of each, in the folder in which
+/// the paths begin; none where the configuration can't be read or is refused. Refused memory is an error, and
+/// not a configuration without files.
+pub fn master_files(
+    rt: &HostRuntime,
+    heap: Heap,
+    folder: &str,
+    config: &File<'_>,
+) -> io::Result<Vec<(String, Option<Vec<u8>>)>>
+    ensures { IfOk result (λ files.
+        AreFilesOf (option_copied config.now.octets) (map (λ file. string_bytes file.0) files.items)) }
+{
+    match read_configuration(rt.alloc(), heap, config) {
+        Ok(configuration) => files_of(rt, folder, &configuration.zones),
+        Err(Fault::OutOfMemory) => Err(io::ErrorKind::OutOfMemory.into()),
+        Err(_) => Ok(Vec::new(rt.alloc())),
+    }
+}
+
+/// The first of these files that has that path.
+fn file_at<'f, 'a>(files: &'f [File<'a>], path: &str) -> Option<&'f File<'a>>
+    ensures { option_copied result ≡ find (λ f. bytes_eq f.path.now path.now) files.now }
+{
+    files.iter().find(|file| file.path == path)
+}
+
+/// The master file of the configuration's zone of that name, which is the first of these files that has its
+/// path; none where there is no such zone or no such file. `Fault::BadOrigin` where the text is no name, and
+/// the faults of the configuration where that is refused.
+pub fn zone_file<'f, 'a>(
+    alloc: Global,
+    heap: Heap,
+    config: &File<'_>,
+    files: &'f [File<'a>],
+    origin: &str,
+) -> Result<Option<&'f File<'a>>, Fault>
+    ensures { MatchResult result
+        (λ found. IsZoneFile config.now files.now origin.now (option_copied found))
+        (λ fault. IsNoZoneFile config.now origin.now fault) }
+{
+    let configuration = read_configuration(alloc, heap, config)?;
+    let name = apex(heap, origin)?;
+    let Some(own) = zone_of(&configuration.zones, &name) else {
+        return Ok(None);
+    };
+    Ok(file_at(files, &own.file))
+}

@@ -1,0 +1,25 @@
+//! The commands but `serve` and `fetch`, each over any devices and any reading of files, one file a command,
+//! and what `--explain` adds.
+#![tactic(auto)]
+
+mod change;
+mod commands;
+mod explain;
+mod explain_settings;
+mod explain_system;
+mod inputs;
+mod next_version;
+
+pub use change::change_to;
+pub use commands::check::{Index, check};
+pub use commands::compare::compare;
+pub use commands::dump::dump;
+pub use commands::init::init;
+pub use commands::load::load;
+pub use commands::migrate::migrate;
+pub use commands::replay::replay;
+pub use explain::explain_check;
+pub use explain_settings::{explain_origin, explain_replay};
+pub use explain_system::{explain_devices, explain_other, explain_unreadable, explain_unserved};
+pub use inputs::{file, is_file, master_files, octets, octets_in, zone_file};
+pub use next_version::{Loaded, load_zone};

@@ -1,0 +1,2 @@
+pub mod DeviceFaults
+pub mod Stores

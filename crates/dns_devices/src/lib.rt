@@ -1,0 +1,11 @@
+//! The devices of configured zones: where they are, the stores that they keep, and what is reported of one
+//! that is refused.
+#![tactic(auto)]
+
+mod device_faults;
+mod devices;
+mod stores;
+
+pub use device_faults::{DeviceFault, refusal, tell_device};
+pub use devices::{Devices, Disk};
+pub use stores::{open_store, open_zone};

@@ -1,0 +1,4 @@
+pub mod Carried
+pub mod Fetched
+pub mod Heard
+pub mod Idle

@@ -1,0 +1,3 @@
+pub mod Fetch
+pub mod FetchFaults
+pub mod TakingIn

@@ -1,5 +1,0 @@
-use Rattle.dns_headline.proofs.Followed.{loaded_are_followed, resumed_are_followed}
-use Rattle.dns_headline.proofs.laws.headline_law.Goals as goal
-
-pub returns : goal.returns
-returns c = record { loaded = loaded_are_followed; resumed = resumed_are_followed }

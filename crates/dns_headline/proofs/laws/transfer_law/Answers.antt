@@ -1,5 +1,0 @@
-use Rattle.dns_headline.proofs.Forms.{transfer_is_taken}
-use Rattle.dns_headline.proofs.laws.transfer_law.Goals as goal
-
-pub returns : goal.returns
-returns c = transfer_is_taken

@@ -1,0 +1,108 @@
+use Rattle.std.proofs.Common.{◌≡◌, ◌∙◌, ℕ, true, false, List, Option, refl, sym, ap, subst}
+use Rattle.dns_network.specs.declared.connection.Connection.{Connection}
+use Rattle.std.specs.Prelude.{slice_get}
+use Rattle.dns_network.specs.Closing.{HasEnded, NoMemory, Silent}
+use Rattle.dns_network.specs.Connection.{HasHandedOver, HasLost, IsInUse, IsSilent}
+use Rattle.dns_network.specs.Connections.{IsOpenWith, places_of}
+use Rattle.dns_primary.specs.Step.{Arrives}
+use Rattle.dns_network.specs.Delivery.{connections_of, served}
+use Rattle.dns_network.specs.Turn.{MomentsLead}
+use Rattle.dns_network.proofs.Leads.{and_on, closed_still, closed_then, closes, ends, happens, loses, moves, standing}
+use Rattle.dns_network.proofs.Used.{handed_now, heard_none, in_use_stays, is_gone}
+use Rattle.dns_network.proofs.Visited.{effects_stay}
+use Rattle.dns_network.proofs.edge.Edge.read_piece.Goals as goal
+
+pub returns-in_default-clause-moments : goal.returns-in_default-clause-moments
+returns-in_default-clause-moments g c =
+    let now = c.args.now in
+    let number = c.args.number in
+    let here = connections_of c.args.self.now in
+    let mid = places_of c.read.new.self in
+    let new = connections_of c.close.new.self in
+    closes g.S.Stream g.N.Network g.L.Notes now number NoMemory c.args.primary.now c.close.new.primary c.args.network.now c.args.notes.now c.note.new.self c.close.new.notes here new
+    (loses g.S.Stream now number here mid c.in_default.ensures.lost) (record { rest = refl; noted = c.note.ensures }) c.close.ensures.told
+    (closed_then g.S.Stream (HasLost g.S.Stream) number here mid new c.in_default.ensures.lost c.close.ensures.gone) c.close.ensures.noted
+
+pub returns-in-Ended-clause-moments : goal.returns-in-Ended-clause-moments
+returns-in-Ended-clause-moments g c =
+    let now = c.args.now in
+    let number = c.args.number in
+    let network = c.args.network.now in
+    let here = connections_of c.args.self.now in
+    let there = places_of c.read.new.self in
+    let moved = c.in-Ok.ensures.moved now in
+    and_on g.S.Stream g.N.Network g.L.Notes now (standing c.args.primary.now network c.args.notes.now here) (standing c.args.primary.now network c.args.notes.now there)
+    (served c.close-in-Ended.new.primary c.close-in-Ended.new.self network c.close-in-Ended.new.notes)
+    (moves g.S.Stream g.N.Network g.L.Notes now number c.in-Ok.moved c.args.primary.now network c.args.notes.now here there moved)
+    (closes g.S.Stream g.N.Network g.L.Notes now number HasEnded c.args.primary.now c.close-in-Ended.new.primary network c.args.notes.now c.args.notes.now c.close-in-Ended.new.notes there (connections_of c.close-in-Ended.new.self)
+    (ends g.S.Stream now number c.in-Ok.moved here there c.in-Ended.is moved) refl c.close-in-Ended.ensures.told c.close-in-Ended.ensures.gone c.close-in-Ended.ensures.noted)
+
+pub returns-in-Some-clause-moments : goal.returns-in-Some-clause-moments
+returns-in-Some-clause-moments g c =
+    let old = served c.args.primary.now c.args.self.now c.args.network.now c.args.notes.now in
+    let mid = standing c.args.primary.now c.args.network.now c.args.notes.now (places_of c.read.new.self) in
+    let given = standing c.args.primary.now c.args.network.now c.args.notes.now (places_of c.next_message.new.self) in
+    let told = standing c.step-effects.new.self c.args.network.now c.args.notes.now (places_of c.next_message.new.self) in
+    let new = served c.deliver.new.primary c.deliver.new.self c.deliver.new.network c.deliver.new.notes in
+    let handed = c.in-Some.ensures in
+    and_on g.S.Stream g.N.Network g.L.Notes c.args.now old mid new
+    (moves g.S.Stream g.N.Network g.L.Notes c.args.now c.args.number c.in-Ok.moved c.args.primary.now c.args.network.now c.args.notes.now (connections_of c.args.self.now) (places_of c.read.new.self) (c.in-Ok.ensures.moved c.args.now))
+    (happens g.S.Stream g.N.Network g.L.Notes c.args.now (Arrives c.args.number c.deref.result.now) c.step-effects.result mid given told new (
+      handed.0,
+      handed.1,
+      handed.2,
+      subst (λ (octets : List ℕ). HasHandedOver c.args.now octets handed.0 handed.1) (sym c.deref.ensures.value) handed.3,
+      ap (standing c.args.primary.now c.args.network.now c.args.notes.now) handed.4,
+    )
+    (λ m kept. c.step-effects.ensures.step m kept) refl c.deliver.ensures.happened)
+
+pub returns-then-is_silent-clause-moments : goal.returns-then-is_silent-clause-moments
+returns-then-is_silent-clause-moments g c =
+    let now = c.args.now in
+    let number = c.args.number in
+    let network = c.args.network.now in
+    let here = connections_of c.args.self.now in
+    let there = places_of c.read.new.self in
+    let still = c.in_default-next_message.ensures.0 in
+    let new = connections_of c.close-then-is_silent.new.self in
+    let gone = closed_still number there (places_of c.next_message.new.self) new still c.close-then-is_silent.ensures.gone in
+    let silent = subst (λ (cs : List (Option (Connection g.row.S.Denot))). IsOpenWith (IsSilent now) (slice_get cs number)) still
+    (c.is_silent.ensures.0 c.if-is_silent.true) in
+    and_on g.S.Stream g.N.Network g.L.Notes now (standing c.args.primary.now network c.args.notes.now here) (standing c.args.primary.now network c.args.notes.now there)
+    (served c.close-then-is_silent.new.primary c.close-then-is_silent.new.self network c.close-then-is_silent.new.notes)
+    (moves g.S.Stream g.N.Network g.L.Notes now number c.in-Ok.moved c.args.primary.now network c.args.notes.now here there (c.in-Ok.ensures.moved c.args.now))
+    (closes g.S.Stream g.N.Network g.L.Notes now number Silent c.args.primary.now c.close-then-is_silent.new.primary network c.args.notes.now c.args.notes.now c.close-then-is_silent.new.notes there new
+    silent refl c.close-then-is_silent.ensures.told gone c.close-then-is_silent.ensures.noted)
+
+pub returns-clause-moments : goal.returns-clause-moments
+returns-clause-moments g c =
+    let old = served c.args.primary.now c.args.self.now c.args.network.now c.args.notes.now in
+    subst (λ (cs : List (Option (Connection g.row.S.Denot))). MomentsLead g.S.Stream g.N.Network g.L.Notes c.args.now old (standing c.args.primary.now c.args.network.now c.args.notes.now cs)) (sym c.in_default-next_message.ensures.0)
+    (moves g.S.Stream g.N.Network g.L.Notes c.args.now c.args.number c.in-Ok.moved c.args.primary.now c.args.network.now c.args.notes.now (connections_of c.args.self.now) (places_of c.read.new.self) (c.in-Ok.ensures.moved c.args.now))
+
+pub returns-in_default-clause-silent : goal.returns-in_default-clause-silent
+returns-in_default-clause-silent g c = λ silent. is_gone (IsInUse c.args.now) c.args.number (places_of c.read.new.self) (connections_of c.close.new.self) c.close.ensures.gone
+
+pub returns-in-Ended-clause-silent : goal.returns-in-Ended-clause-silent
+returns-in-Ended-clause-silent g c = λ silent. is_gone (IsInUse c.args.now) c.args.number (places_of c.read.new.self) (connections_of c.close-in-Ended.new.self) c.close-in-Ended.ensures.gone
+
+pub returns-in-Some-clause-silent : goal.returns-in-Some-clause-silent
+returns-in-Some-clause-silent g c = λ silent.
+    let now = c.args.now in
+    let told = standing c.step-effects.new.self c.args.network.now c.args.notes.now (places_of c.next_message.new.self) in
+    let new = served c.deliver.new.primary c.deliver.new.self c.deliver.new.network c.deliver.new.notes in
+    let handed = handed_now now c.args.number c.in-Some.message.items (places_of c.read.new.self) (places_of c.next_message.new.self) c.in-Some.ensures in
+    effects_stay g.N.Network g.L.Notes (IsInUse now) c.args.number (in_use_stays now) c.step-effects.result c.deliver.ensures.happened.0 told new c.deliver.ensures.happened.1 handed
+
+pub returns-then-is_silent-clause-silent : goal.returns-then-is_silent-clause-silent
+returns-then-is_silent-clause-silent g c = λ silent.
+    is_gone (IsInUse c.args.now) c.args.number (places_of c.next_message.new.self) (connections_of c.close-then-is_silent.new.self) c.close-then-is_silent.ensures.gone
+
+pub returns-clause-silent : goal.returns-clause-silent
+returns-clause-silent g c = λ before.
+    let silent = λ (is : IsOpenWith (IsSilent c.args.now) (slice_get (places_of c.next_message.new.self) c.args.number)).
+    let told : c.is_silent.result ≡ true = c.is_silent.ensures.1 is in
+    let not : c.is_silent.result ≡ false = c.if-is_silent.false in
+    absurd (let clash : true ≡ false = sym told ∙ not in cc) in
+    heard_none g.S.Stream c.args.now c.args.number c.in-Ok.moved (connections_of c.args.self.now) (places_of c.read.new.self) (places_of c.next_message.new.self)
+    (c.in-Ok.ensures.moved c.args.now) c.in_default-next_message.ensures silent before

@@ -1,0 +1,8 @@
+use Rattle.dns_network.specs.Delivery.{served}
+use Rattle.dns_network.proofs.Gone.{AreVisited}
+use Rattle.dns_network.proofs.edge.Edge.serve_connections.Given as goal
+
+abbrev pub invariant-loop-number : goal.invariant-loop-number
+invariant-loop-number g l =
+    AreVisited g.S.Stream g.N.Network g.L.Notes l.now l.number (served l.fn.primary l.fn.self l.fn.network l.fn.notes)
+    (served l.primary l.self l.network l.notes)

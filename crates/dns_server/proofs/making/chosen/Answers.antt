@@ -1,9 +1,0 @@
-use Rattle.std.proofs.Common.{ℕ, List, Option, sym, ap, subst}
-use Rattle.std.specs.Option.{option_copied}
-use Rattle.dns_server.specs.Init.{IsChosen}
-use Rattle.dns_server.proofs.making.chosen.Goals as goal
-
-pub returns-in-Some-zone_of : goal.returns-in-Some-zone_of
-returns-in-Some-zone_of c =
-    subst (λ (origin : Option (List ℕ)). IsChosen origin c.args.zones.now c.from_ref.result.now) (sym (ap option_copied c.in-Some.is))
-    (c.in-Ok.name, c.in-Some-zone_of.own.now, c.in-Ok.ensures, sym c.in-Some-zone_of.ensures, c.from_ref.ensures.value)

@@ -1,7 +1,0 @@
-use Rattle.std.proofs.Common.{take}
-use Rattle.std.specs.Prelude.{All}
-use Rattle.dns_server.specs.Init.{is_absent}
-use Rattle.dns_server.proofs.making.first_found.Given as goal
-
-abbrev pub invariant-loop-own : goal.invariant-loop-own
-invariant-loop-own g l = All (is_absent (g.F.Devices.found l.devices)) (take l.own-index l.zones)

@@ -1,7 +1,0 @@
-use Rattle.dns_network.specs.Delivery.{served}
-use Rattle.dns_server.specs.ServedTurns.{served_at_start}
-use Rattle.dns_server.proofs.Turned.{Made}
-use Rattle.dns_server.proofs.serving.run.Given as goal
-
-abbrev pub invariant-loop-turn : goal.invariant-loop-turn
-invariant-loop-turn g l = Made g.S.Stream g.N.Network g.L.Notes l.turn (served_at_start l.fn.primary l.fn.network l.fn.notes) (served l.primary l.edge l.network l.notes)

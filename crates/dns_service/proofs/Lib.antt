@@ -1,0 +1,5 @@
+pub mod Known
+pub mod Logged
+pub mod Said
+pub mod Served
+pub mod Turned

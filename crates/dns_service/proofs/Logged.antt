@@ -1,0 +1,165 @@
+-- The log of turns.
+use Rattle.std.proofs.Common.{◌≡◌, ◌⊎◌, inl, inr, ℕ, ◌+◌, ◌<◌, Bool, false, List, [], ◌∷◌, ◌++◌, length, Option, Some, None, Result, Ok, Err, IfOk, refl, arith, sym, ap, subst, ◌∙◌, append_assoc, append-nil}
+use Rattle.std.specs.Prelude.{get_or, slice_get, take}
+use Rattle.std.specs.Io.KnownBytes.{Appends, append_known}
+use Rattle.std.specs.declared.net.socket_addr.SocketAddr.{SocketAddr}
+use Rattle.std.proofs.KnownBytes.{Appends-nil, Appends-trans}
+use Rattle.std.proofs.lemmas.List.{length-take-le, take_more}
+use Rattle.dns_names.specs.Name.{Labels}
+use Rattle.dns_zone.specs.Zone.{Zone}
+use Rattle.dns_versions.specs.Held.{shown_zone}
+use Rattle.dns_primary.specs.Fresh.{IsShown}
+use Rattle.dns_primary.specs.Machine.{Machine, ZoneState, kept_of}
+use Rattle.dns_network.specs.declared.stream.Stream as stream
+use Rattle.dns_zone.specs.declared.index.ZoneIndex as index
+use Rattle.dns_store.specs.declared.zone_store.ZoneStore as store
+use Rattle.dns_primary.specs.declared.primary.Primary.{Primary}
+use Rattle.dns_primary.specs.Keeps.{IsKept}
+use Rattle.dns_network.specs.declared.network.Network.{Ghosts}
+use Rattle.dns_network.specs.declared.network.Note.{Note}
+use Rattle.dns_network.specs.declared.network.Notes as notes
+use Rattle.dns_network.specs.Notes.{AreNoted}
+use Rattle.dns_network.specs.NotesOfTurns.{AreNotesOfTurns}
+use Rattle.dns_network.specs.Turn.{TurnMoment}
+use Rattle.dns_network.proofs.Noted.{Took}
+use Rattle.dns_service.specs.declared.log.Counts.{Counts}
+use Rattle.dns_service.specs.Log.{IsLogged, IsLogOf, IsSaid, Logged, listening_line, listening_lines, log_of, none_in, said_of, says, zone_line, zone_lines}
+use Rattle.dns_service.specs.ServedTurns.{HasTurned, IsServedOn}
+use Rattle.dns_service.proofs.Turned.{has_been_turned}
+
+-- What is written out comes after what was said.
+pub says_written : (before written after : Option (List ℕ)) (lines text : List ℕ) → Appends before (append_known written lines) text → Appends written after lines → Appends before after text
+says_written None written after lines text said out = tt
+says_written (Some xs) None after lines text said out = absurd said
+says_written (Some xs) (Some ys) None lines text said out = absurd out
+says_written (Some xs) (Some ys) (Some zs) lines text said out = out ∙ said
+
+-- A log says what was written where no line is left.
+pub says_all : (written after : Option (List ℕ)) (text : List ℕ) → Appends (append_known written []) after text → Appends written after text
+says_all None after text said = tt
+says_all (Some xs) None text said = said
+says_all (Some xs) (Some ys) text said = said ∙ ap (λ (x : List ℕ). x ++ text) (append-nil xs)
+
+-- What is said of notes, in a log that stays the same one, and of which no line failed.
+module _ {L M : Type 0} (l : notes.Ghosts L) (mark : L → M) (names : L → List Labels) (hushed : L → Bool) (failed : L → Bool) (state : L → Logged)
+    (taken_so : (old : L) (one : Note) (new : L) → l.takes old one new → (mark new ≡ mark old) × (names new ≡ names old) × (hushed new ≡ hushed old) × IsLogged (hushed old) (names old) one (failed old) (failed new) (state old) (state new)) where
+  notes_logged : (origins : List Labels) (quiet : Bool) (taken : List Note) (old new : L) → names old ≡ origins → hushed old ≡ quiet → AreNoted l taken old new → failed new ≡ false
+      → (failed old ≡ false) × Appends (says (state old)) (says (state new)) (log_of quiet origins (state old).counts taken)
+  notes_logged origins quiet [] old new known is same whole = (
+    subst (λ (x : L). failed x ≡ false) same whole,
+    subst (λ (x : L). Appends (says (state old)) (says (state x)) []) (sym same) (Appends-nil (says (state old))),
+  )
+  notes_logged origins quiet (one ∷ rest) old new known is (between, here, pending) whole =
+      let step = taken_so old one between here in
+      let later = notes_logged origins quiet rest between new (step.1 ∙ known) (step.2 ∙ is) pending whole in
+      let now = step.3.said later.0 in
+      let named : IsSaid (said_of (hushed old) origins (state old).counts one) (state old) (state between) =
+      subst (λ (x : List Labels). IsSaid (said_of (hushed old) x (state old).counts one) (state old) (state between)) known now.1 in
+      let said : IsSaid (said_of quiet origins (state old).counts one) (state old) (state between) =
+      subst (λ (x : Bool). IsSaid (said_of x origins (state old).counts one) (state old) (state between)) is named in
+      let first = said_of quiet origins (state old).counts one in (
+        now.0,
+        Appends-trans (says (state old)) (says (state between)) (says (state new)) first.0 (log_of quiet origins first.1 rest) said.text
+            (subst (λ (x : Counts). Appends (says (state between)) (says (state new)) (log_of quiet origins x rest)) said.counts later.1),
+      )
+
+  stays : (taken : List Note) (old new : L) → AreNoted l taken old new → mark old ≡ mark new
+  stays [] old new same = ap mark (sym same)
+  stays (one ∷ rest) old new (between, here, pending) = sym (taken_so old one between here).0 ∙ stays rest between new pending
+
+  -- The log of turns, after the lines of the addresses, once all of it is written out.
+  turns_logged : (addresses : List SocketAddr) (err out err_after : Option (List ℕ)) (old new : L) (turns : List (List TurnMoment)) → Appends err (state old).written (listening_lines addresses)
+      → (state old).lines ≡ [] → (state old).counts ≡ none_in 0 → failed new ≡ false → Appends (state new).written out (state new).lines
+      → (mark old ≡ mark new → err_after ≡ out) → Took l (AreNotesOfTurns turns) old new → IsLogOf [] (hushed old) (names old) addresses err err_after turns
+  turns_logged addresses err out err_after old new turns said none fresh whole written at took =
+      let noted = notes_logged (names old) (hushed old) took.0 old new refl refl took.2 whole in
+      let more = log_of (hushed old) (names old) (none_in 0) took.0 in
+      let begun : Appends (append_known (state old).written []) (says (state new)) more =
+      subst (λ (x : List ℕ). Appends (append_known (state old).written x) (says (state new)) more) none
+      (subst (λ (x : Counts). Appends (says (state old)) (says (state new)) (log_of (hushed old) (names old) x took.0)) fresh noted.1) in
+      let all : Appends (state old).written out more = says_written (state old).written (state new).written out (state new).lines more (says_all (state old).written (says (state new)) more begun) written in (
+        took.0,
+        took.1,
+        subst (λ (x : Option (List ℕ)). Appends err x (listening_lines addresses ++ more)) (sym (at (stays took.0 old new took.2)))
+            (Appends-trans err (state old).written out (listening_lines addresses) more said all),
+      )
+
+-- A server listened and made its turns, no line failed, and all lines are written out.
+pub has_listened : {I D S N L M : Type 0} {i : index.Ghosts I} {d : store.Ghosts D} {s : stream.Ghosts S} {n : Ghosts N S} {l : notes.Ghosts L}
+    {count : ℕ} {old new : Primary I D i d} {network network' : N} {first last : L} {err_after : Option (List ℕ)} → IsServedOn s n l count old network first new network' last
+    → (mark : L → M) (names : L → List Labels) (hushed : L → Bool) (failed : L → Bool) (state : L → Logged)
+    → ((old : L) (one : Note) (new : L) → l.takes old one new → (mark new ≡ mark old) × (names new ≡ names old) × (hushed new ≡ hushed old) × IsLogged (hushed old) (names old) one (failed old) (failed new) (state old) (state new))
+    → (addresses : List SocketAddr) (err out : Option (List ℕ)) → Appends err (state first).written (listening_lines addresses) → (state first).lines ≡ [] → (state first).counts ≡ none_in 0
+    → failed last ≡ false → Appends (state last).written out (state last).lines → (mark first ≡ mark last → err_after ≡ out)
+    → HasTurned count (λ turns _. IsLogOf [] (hushed first) (names first) addresses err err_after turns) (λ m. IsKept old m) (λ m. IsKept new m)
+has_listened {l = l} {first = first} {last = last} {err_after = err_after} is mark names hushed failed state taken_so addresses err out said none fresh whole written at =
+    has_been_turned (λ (turns : List (List TurnMoment)). IsLogOf [] (hushed first) (names first) addresses err err_after turns) is
+    (λ turns took. turns_logged l mark names hushed failed state taken_so addresses err out err_after first last turns said none fresh whole written at took)
+
+-- The line of one address more was written.
+listening_push : (addresses : List SocketAddr) (address : SocketAddr) → listening_lines (addresses ++ address ∷ []) ≡ listening_lines addresses ++ listening_line address
+listening_push [] address = append-nil (listening_line address)
+listening_push (a ∷ addresses) address = ap (λ (x : List ℕ). listening_line a ++ x) (listening_push addresses address) ∙ sym (append_assoc (listening_line a) (listening_lines addresses) (listening_line address))
+
+pub listening_more : (addresses : List SocketAddr) (other : SocketAddr) (place : ℕ) (err between err_after : Option (List ℕ)) → place < length addresses
+    → Appends err between (listening_lines (take place addresses)) → Appends between err_after (listening_line (get_or addresses place other))
+    → Appends err err_after (listening_lines (take (place + 1) addresses))
+listening_more addresses other place err between err_after lt first more =
+    let here = get_or addresses place other in
+    subst (λ (x : List ℕ). Appends err err_after x) (sym (ap listening_lines (take_more addresses place other lt) ∙ listening_push (take place addresses) here))
+    (Appends-trans err between err_after (listening_lines (take place addresses)) (listening_line here) first more)
+
+-- The line of one zone more.
+abbrev pub line_at : Labels → Option ZoneState → List ℕ
+line_at origin None = []
+line_at origin (Some z) = zone_line origin (length z.shown) (shown_zone (kept_of z))
+
+lines_push : (origins : List Labels) (origin : Labels) (zones : List ZoneState) → zone_lines (origins ++ origin ∷ []) zones ≡ zone_lines origins zones ++ line_at origin (slice_get zones (length origins))
+lines_push [] origin [] = refl
+lines_push [] origin (z ∷ zones) = append-nil (zone_line origin (length z.shown) (shown_zone (kept_of z)))
+lines_push (o ∷ origins) origin [] = refl
+lines_push (o ∷ origins) origin (z ∷ zones) =
+    let here = zone_line o (length z.shown) (shown_zone (kept_of z)) in
+    ap (λ (x : List ℕ). here ++ x) (lines_push origins origin zones) ∙ sym (append_assoc here (zone_lines origins zones) (line_at origin (slice_get zones (length origins))))
+
+pub lines_more : (origins : List Labels) (other : Labels) (zones : List ZoneState) (place : ℕ) → place < length origins
+    → zone_lines (take (place + 1) origins) zones ≡ zone_lines (take place origins) zones ++ line_at (get_or origins place other) (slice_get zones place)
+lines_more origins other zones place lt =
+    let here = get_or origins place other in
+    ap (λ (x : List Labels). zone_lines x zones) (take_more origins place other lt) ∙ lines_push (take place origins) here zones
+    ∙ ap (λ (x : ℕ). zone_lines (take place origins) zones ++ line_at here (slice_get zones x)) (length-take-le place origins (omega (arith, lt)))
+
+-- The log of turns, after the lines of the zones.
+pub after_zones : {E : Type 0} (r : Result ℕ E) (quiet : Bool) (origins : List Labels) (addresses : List SocketAddr) (count : ℕ) (err between err_after : Option (List ℕ)) (keeps after : Machine → Type 0)
+    → ((m : Machine) → keeps m → Appends err between (zone_lines origins m.zones))
+    → IfOk r (λ status. (status ≡ 3) ⊎ ((status ≡ 0) × HasTurned count (λ turns _. IsLogOf [] quiet origins addresses between err_after turns) keeps after))
+    → IfOk r (λ status. (status ≡ 3) ⊎ ((status ≡ 0) × HasTurned count (λ turns m. IsLogOf (zone_lines origins m.zones) quiet origins addresses err err_after turns) keeps after))
+after_zones (Err e) quiet origins addresses count err between err_after keeps after said h = tt
+after_zones (Ok status) quiet origins addresses count err between err_after keeps after said (inl failed) = inl failed
+after_zones (Ok status) quiet origins addresses count err between err_after keeps after said (inr (done, turned)) = inr (
+  done,
+  (
+    turned.0,
+    turned.1,
+    λ m kept.
+        let is = turned.2 m kept in
+        ((is.0.0, is.0.1, Appends-trans err between err_after (zone_lines origins m.zones) (listening_lines addresses ++ log_of quiet origins (none_in 0) is.0.0) (said m kept) is.0.2), is.1),
+  ),
+)
+
+-- The line of one zone more was written, or there is no such zone.
+pub told_more : (origins : List Labels) (other : Labels) (zones : List ZoneState) (place : ℕ) (err between err_after : Option (List ℕ)) → place < length origins
+    → Appends err between (zone_lines (take place origins) zones) → Appends between err_after (line_at (get_or origins place other) (slice_get zones place))
+    → Appends err err_after (zone_lines (take (place + 1) origins) zones)
+told_more origins other zones place err between err_after lt first more =
+    let here = line_at (get_or origins place other) (slice_get zones place) in
+    subst (λ (x : List ℕ). Appends err err_after x) (sym (lines_more origins other zones place lt)) (Appends-trans err between err_after (zone_lines (take place origins) zones) here first more)
+
+pub no_line : (origin : Labels) (z : Option ZoneState) (err err_after : Option (List ℕ)) → z ≡ None → err_after ≡ err → Appends err err_after (line_at origin z)
+no_line origin z err err_after none same =
+    subst (λ (x : Option ZoneState). Appends err err_after (line_at origin x)) (sym none) (subst (λ (x : Option (List ℕ)). Appends err x []) (sym same) (Appends-nil err))
+
+pub one_line : (origin : Labels) (z : Option ZoneState) (number : ℕ) (zone : Zone) (err err_after : Option (List ℕ)) → IsShown number zone z → Appends err err_after (zone_line origin number zone) → Appends err err_after (line_at origin z)
+one_line origin None number zone err err_after shown said = absurd shown
+one_line origin (Some z) number zone err err_after shown said =
+    subst (λ (x : Zone). Appends err err_after (zone_line origin (length z.shown) x)) shown.1 (subst (λ (x : ℕ). Appends err err_after (zone_line origin x zone)) shown.0 said)

@@ -1,0 +1,60 @@
+-- Turns that are made one after the other.
+use Rattle.std.proofs.Common.{◌≡◌, ◌⊎◌, inl, inr, ℕ, ◌+◌, List, [], ◌∷◌, ◌++◌, length, Option, refl, arith}
+use Rattle.std.proofs.lemmas.List.{length_push}
+use Rattle.dns_network.specs.declared.connection.Connection.{Connection}
+use Rattle.dns_network.specs.declared.stream.Stream as stream
+use Rattle.dns_zone.specs.declared.index.ZoneIndex as index
+use Rattle.dns_store.specs.declared.zone_store.ZoneStore as store
+use Rattle.dns_primary.specs.declared.primary.Primary.{Primary}
+use Rattle.dns_primary.specs.Keeps.{IsKept}
+use Rattle.dns_network.specs.declared.network.Network.{Ghosts}
+use Rattle.dns_network.specs.declared.network.Notes as notes
+use Rattle.dns_network.specs.Delivery.{Served}
+use Rattle.dns_network.specs.Turn.{TurnMoment, AreTurns, HasAsked, IsRound, IsTurn}
+use Rattle.dns_network.specs.NotesOfTurns.{AreNotesOfTurns}
+use Rattle.dns_network.proofs.Noted.{Took, turns_noted}
+use Rattle.dns_network.proofs.Running.{turns_run}
+use Rattle.dns_network.proofs.Steps.{step_more}
+use Rattle.dns_service.specs.ServedTurns.{HasPaused, HasTurned, IsServedOn, served_at_start}
+
+module _ {I D S N L : Type 0} {i : index.Ghosts I} {d : store.Ghosts D} (s : stream.Ghosts S) (n : Ghosts N S) (l : notes.Ghosts L) where
+  -- So many turns were made.
+  abbrev pub Made : ℕ → Served I D S N L i d → Served I D S N L i d → Type 0
+  Made count a b = (turns : List (List TurnMoment)) × (length turns ≡ count) × AreTurns s n l turns a b
+
+  pub paused : (primary : Primary I D i d) (connections : List (Option (Connection S))) (noted : L) (old new : N) → HasPaused n old new
+      → ◌≡◌ {A = Served I D S N L i d} (record { primary = primary; connections = connections; network = new; notes = noted }) (record { primary = primary; connections = connections; network = old; notes = noted })
+      ⊎ HasAsked n (record { primary = primary; connections = connections; network = old; notes = noted }) (record { primary = primary; connections = connections; network = new; notes = noted })
+  paused primary connections noted old new (inl same) = inl (λ k. record { primary = primary; connections = connections; network = same k; notes = noted })
+  paused primary connections noted old new (inr looks) = inr (record { rest = refl; nothing = inr (inr looks) })
+
+  pub turned : (count now : ℕ) (a old start end new : Served I D S N L i d) → Made count a old → (start ≡ old) ⊎ HasAsked n old start
+      → (moments : List TurnMoment) × IsTurn s n l now moments start end → (new ≡ end) ⊎ HasAsked n end new → Made (count + 1) a new
+  turned count now a old start end new (turns, many, made) before (moments, turn) after = (
+    turns ++ moments ∷ [],
+    omega (arith, many, length_push turns moments),
+    step_more (λ x one y. IsRound s n l one x y) turns moments a old new made
+        (record { now = now; begun = start; ended = end; before = before; turn = turn; after = after }),
+  )
+
+  -- What its notes say of turns, and that they are a run.
+  pub has_turned : (said : List (List TurnMoment) → Type 0) (count : ℕ) (old new : Primary I D i d) (network network' : N) (first last : L) → IsServedOn s n l count old network first new network' last
+      → ((turns : List (List TurnMoment)) → Took l (AreNotesOfTurns turns) first last → said turns)
+      → HasTurned count (λ turns _. said turns) (λ m. IsKept old m) (λ m. IsKept new m)
+  has_turned said count old new network network' first last is log = (
+    is.turns,
+    is.many,
+    λ m kept.
+        let start : Served I D S N L i d = served_at_start old network first in
+        let end : Served I D S N L i d = record { primary = new; connections = is.connections; network = network'; notes = last } in
+        let to = turns_run s n l is.turns start end m is.made kept in
+        (log is.turns (turns_noted s n l is.turns start end is.made), (to.0, to.1, to.2)),
+  )
+
+-- ... whatever the network is.
+pub has_been_turned : {I D S N L : Type 0} {i : index.Ghosts I} {d : store.Ghosts D} {s : stream.Ghosts S} {n : Ghosts N S} {l : notes.Ghosts L}
+    {count : ℕ} {old new : Primary I D i d} {network network' : N} {first last : L} (said : List (List TurnMoment) → Type 0) → IsServedOn s n l count old network first new network' last
+    → ((turns : List (List TurnMoment)) → Took l (AreNotesOfTurns turns) first last → said turns)
+    → HasTurned count (λ turns _. said turns) (λ m. IsKept old m) (λ m. IsKept new m)
+has_been_turned {s = s} {n = n} {l = l} {count = count} {old = old} {new = new} {network = network} {network' = network'} {first = first} {last = last} said is log =
+    has_turned s n l said count old new network network' first last is log

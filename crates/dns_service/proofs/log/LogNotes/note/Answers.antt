@@ -1,0 +1,28 @@
+use Rattle.std.proofs.Common.{◌≡◌, Option, List, ℕ, sym, subst}
+use Rattle.std.specs.Io.KnownBytes.{Appends, append_known}
+use Rattle.dns_service.specs.Log.{said_of}
+use Rattle.dns_service.proofs.Said.{said_more}
+use Rattle.dns_service.proofs.log.LogNotes.note.Goals as goal
+
+pub returns : goal.returns
+returns g c =
+    let text = g.E.Write.contents in
+    let old = c.args.self.now in
+    let new = c.take.new.self in
+    let said = said_of old.is_quiet old.origins.now old.counts c.args.note in (
+      c.take.ensures.same_reference,
+      c.take.ensures.origins,
+      c.take.ensures.quiet,
+      record {
+        said = λ whole.
+            let took = c.take.ensures.said whole in (
+              took.0,
+              record {
+                text = subst (λ (x : Option (List ℕ)). Appends (append_known (text old.err.now) old.lines.now.items) (append_known x new.lines.now.items) said.0) (sym c.take.ensures.text)
+                    (said_more (text old.err.now) old.lines.now.items said.0 new.lines.now.items took.1.lines_are);
+                counts = took.1.counts_are;
+              },
+            );
+        written = λ e. absurd (c.in_default.not-Ends e);
+      },
+    )

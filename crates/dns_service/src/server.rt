@@ -1,0 +1,398 @@
+//! A server over devices and sockets.
+ghost use Rattle.std.specs.Prelude.{◌≡◌, ◌⊎◌, [], List, IfOk, OnOk};
+ghost use Rattle.std.specs.Io.KnownBytes.{Appends};
+ghost use Rattle.dns_service.specs.Log.{IsLogOf, listening_lines, zone_line, zone_lines};
+ghost use Rattle.dns_service.specs.Serve.{IsRefusalTold, ServingEnds};
+ghost use Rattle.dns_service.specs.ServedTurns.{HasPaused, HasTurned, IsServedOn};
+ghost use Rattle.dns_primary.specs.Keeps.{IsKept};
+ghost use Rattle.dns_names.specs.Name.{Labels};
+ghost use Rattle.dns_primary.specs.HandOut.{AreSetAs};
+ghost use Rattle.dns_primary.specs.Machine.{Machine};
+ghost use Rattle.dns_primary.specs.Open.{AreRecoverable};
+ghost use Rattle.dns_primary.specs.Step.{Event as StatedEvent};
+ghost use Rattle.dns_primary.specs.declared.primary.ZoneSpec.{ZoneSpec as StatedSettings};
+
+use crate::log::{Counts, Log};
+use crate::opening::{Refusal, open_primary};
+use crate::sockets::Sockets;
+use dns_configuration::{DONE, FAILED, File, ZoneSettings, origins_of, read_configuration, tell};
+use dns_devices::{Devices, tell_device};
+use dns_memory::Heap;
+use dns_names::Name;
+use dns_network::{Edge, Network, Notes, Stream};
+use dns_primary::Primary;
+use dns_sectors::Sectors;
+use dns_store::{KeptStore, ZoneStore};
+use dns_zone::{Zone, ZoneIndex};
+use std::alloc::{AllocError, Global};
+use std::io::{self, Write};
+use std::net::{Net, SocketAddr};
+use std::time::{Clock, Instant};
+
+/// In which turns the clock and the events of sockets are looked at, besides those after a wait: each one of
+/// so many.
+const GLANCE: u64 = 32;
+
+/// Tells which version of a zone is shown.
+fn tell_zone<I: ZoneIndex, E: Write>(
+    err: &mut E,
+    origin: &Name,
+    version: u64,
+    zone: &Zone<I>,
+) -> io::Result<()>
+    ensures { OnOk result
+        (Appends (E.contents err.old) (E.contents err.new) (zone_line origin.now version zone.now)) }
+{
+    let serial = zone.soa().serial();
+    writeln!(err, "zone {origin} version {version} serial {serial}")
+}
+
+/// Tells which version of each zone is shown.
+fn tell_zones<I: ZoneIndex, S: ZoneStore, E: Write>(
+    err: &mut E,
+    primary: &Primary<I, S>,
+    origins: &[Name],
+) -> io::Result<()>
+    ensures { OnOk result ((m : Machine) → IsKept primary.now m
+        → Appends (E.contents err.old) (E.contents err.new) (zone_lines origins.now m.zones)) }
+{
+    for place in 0..origins.len() {
+        if let Some((version, zone)) = primary.shown(place) {
+            tell_zone(err, &origins[place], version, zone)?;
+        }
+    }
+    Ok(())
+}
+
+/// Tells on which addresses a server listens, each in its own line.
+fn tell_listening<E: Write>(err: &mut E, addresses: &[SocketAddr]) -> io::Result<()>
+    ensures { OnOk result
+        (Appends (E.contents err.old) (E.contents err.new) (listening_lines addresses.now)) }
+{
+    for address in addresses {
+        writeln!(err, "listening on {address}")?;
+    }
+    Ok(())
+}
+
+/// The seconds since the start, or those before where the clock fails.
+fn seconds<R: Clock>(rt: &R, start: &Instant, before: u64) -> u64 {
+    match start.elapsed(rt) {
+        Ok(passed) => passed.as_secs(),
+        Err(_) => before,
+    }
+}
+
+/// Looks what came in each so-many-th turn, and gives the seconds since the start.
+fn glance<R: Clock, S, N: Network<S>>(
+    rt: &R,
+    start: &Instant,
+    network: &mut N,
+    turn: u64,
+    now: u64,
+) -> u64
+    ensures { HasPaused N.Network network.old network.new }
+{
+    if turn % GLANCE != 0 {
+        return now;
+    }
+    network.look();
+    seconds(rt, start, now)
+}
+
+/// Waits until something may have come, where nothing was done, and gives the seconds since the start.
+fn rest<R: Clock, S, N: Network<S>>(
+    rt: &R,
+    start: &Instant,
+    network: &mut N,
+    is_done: bool,
+    now: u64,
+) -> u64
+    ensures { HasPaused N.Network network.old network.new }
+{
+    if is_done {
+        return now;
+    }
+    network.wait();
+    seconds(rt, start, now)
+}
+
+/// Makes so many turns, and waits after each one in which nothing was done.
+fn run<R: Clock, I: ZoneIndex, D: ZoneStore, S: Stream + Drop, N: Network<S>, L: Notes>(
+    heap: Heap,
+    rt: &R,
+    primary: &mut Primary<I, D>,
+    network: &mut N,
+    notes: &mut L,
+    turns: u64,
+) -> io::Result<()>
+    ensures { IfOk result
+        (λ _. IsServedOn S.Stream N.Network L.Notes turns primary.old network.old notes.old primary.new
+        network.new notes.new) }
+{
+    let mut edge: Edge<S> = Edge::new(heap)?;
+    let start = Instant::now(rt)?;
+    let mut now = 0;
+    for turn in 0..turns {
+        now = glance(rt, &start, network, turn, now);
+        let is_done = edge.turn(heap, network, primary, notes, now);
+        now = rest(rt, &start, network, is_done, now);
+    }
+    Ok(())
+}
+
+/// Tells which address can't be had, if one is known.
+fn tell_unavailable<E: Write>(err: &mut E, address: Option<SocketAddr>) -> io::Result<()> {
+    match address {
+        Some(address) => writeln!(err, "{address}: Unavailable"),
+        None => Ok(()),
+    }
+}
+
+/// Listens on these addresses, and makes so many turns.
+fn listen<R: Net + Clock, I: ZoneIndex, S: ZoneStore, E: Write>(
+    heap: Heap,
+    rt: &R,
+    primary: &mut Primary<I, S>,
+    origins: &[Name],
+    addresses: &[SocketAddr],
+    turns: u64,
+    is_quiet: bool,
+    err: &mut E,
+) -> io::Result<u8>
+    ensures { IfOk result (λ status. (status ≡ FAILED)
+        ⊎ ((status ≡ DONE)
+        × HasTurned turns
+        (λ told _. IsLogOf [] is_quiet origins.now addresses.now (E.contents err.old)
+        (E.contents err.new) told)
+        (λ m. IsKept primary.old m) (λ m. IsKept primary.new m))) }
+{
+    let mut sockets = match Sockets::bind(heap, rt, addresses) {
+        Ok(sockets) => sockets,
+        Err(address) => {
+            tell_unavailable(err, address)?;
+            return Ok(FAILED);
+        }
+    };
+    tell_listening(err, addresses)?;
+    let mut lines = Vec::new(heap);
+    let counts = Counts::new(0);
+    let mut log = Log {
+        err,
+        origins,
+        is_quiet,
+        lines: &mut lines,
+        counts,
+        has_failed: false,
+    };
+    run(heap, rt, primary, &mut sockets, &mut log, turns)?;
+    if !log.is_written() {
+        return Ok(FAILED);
+    }
+    Ok(DONE)
+}
+
+/// Tells which versions are shown, listens, and makes so many turns.
+fn serve_primary<R: Net + Clock, I: ZoneIndex, S: ZoneStore, E: Write>(
+    heap: Heap,
+    rt: &R,
+    primary: &mut Primary<I, S>,
+    origins: &[Name],
+    addresses: &[SocketAddr],
+    turns: u64,
+    is_quiet: bool,
+    err: &mut E,
+) -> io::Result<u8>
+    ensures { IfOk result (λ status. (status ≡ FAILED)
+        ⊎ ((status ≡ DONE)
+        × HasTurned turns
+        (λ told m. IsLogOf (zone_lines origins.now m.zones) is_quiet origins.now addresses.now
+        (E.contents err.old) (E.contents err.new) told)
+        (λ m. IsKept primary.old m) (λ m. IsKept primary.new m))) }
+{
+    tell_zones(err, primary, origins)?;
+    listen(heap, rt, primary, origins, addresses, turns, is_quiet, err)
+}
+
+/// What a server has besides a primary and its log: the names of its zones, the addresses on which it
+/// listens, how many turns it makes, and whether lines of connections are left out of its log.
+#[derive(Drop)]
+struct Service<'a, R> {
+    heap: Heap,
+    rt: &'a R,
+    origins: &'a [Name],
+    addresses: &'a [SocketAddr],
+    turns: u64,
+    is_quiet: bool,
+}
+
+/// What can be served so. (A call that names both a store over a device and the memory of every collection
+/// has no proof, so that the service is a type parameter.)
+trait Servable<S, E> {
+    /// All turns of a service were made of it, and it and the log are these after them.
+    ghost is_served: { Self → S → E → Self → E → Type 0 };
+
+    /// Serves it, and gives the exit status.
+    fn serve_as(&mut self, service: &S, err: &mut E) -> u8
+        ensures { (result ≡ FAILED)
+            ⊎ ((result ≡ DONE) × is_served self.old service.now err.old self.new err.new) };
+}
+
+impl<R: Net + Clock, I: ZoneIndex, S: ZoneStore, E: Write> Servable<Service<'_, R>, E>
+    for Primary<I, S> {
+    ghost is_served = { λ primary service err after err_after.
+        HasTurned service.turns
+        (λ told m. IsLogOf (zone_lines service.origins.now m.zones) service.is_quiet service.origins.now
+        service.addresses.now (E.contents err) (E.contents err_after) told)
+        (λ m. IsKept primary m) (λ m. IsKept after m) };
+
+    fn serve_as(&mut self, service: &Service<'_, R>, err: &mut E) -> u8 {
+        serve_primary(
+            service.heap,
+            service.rt,
+            self,
+            service.origins,
+            service.addresses,
+            service.turns,
+            service.is_quiet,
+            err,
+        )
+        .unwrap_or(FAILED)
+    }
+}
+
+/// Serves a primary, and gives the exit status.
+fn serve_as<S, E, P: Servable<S, E>>(primary: &mut P, service: &S, err: &mut E) -> u8
+    ensures { (result ≡ FAILED)
+        ⊎ ((result ≡ DONE) × P.is_served primary.old service.now err.old primary.new err.new) }
+{
+    primary.serve_as(service, err)
+}
+
+/// Tells which device is refused, and gives the exit status.
+fn tell_refusal<E: Write>(
+    err: &mut E,
+    zones: &[ZoneSettings],
+    refusal: Refusal,
+    explain: bool,
+) -> io::Result<u8>
+    ensures { IfOk result
+        (λ status. IsRefusalTold zones.now refusal.place refusal.fault explain (E.contents err.old)
+        (E.contents err.new) status) }
+{
+    match zones.get(refusal.place) {
+        Some(own) => tell_device(err, &own.device, refusal.fault, explain),
+        None => Ok(FAILED),
+    }
+}
+
+/// Takes a primary apart into the devices of its zones. Where there is room for them this takes no memory.
+fn give_back<D: Sectors + Drop, I: ZoneIndex>(
+    primary: Primary<I, KeptStore<D, I>>,
+    back: &mut Vec<D, Heap>,
+) -> Result<(), AllocError>
+    requires { back.old.items ≡ [] }
+    ensures { IfOk result (λ _. (m : Machine) (event : StatedEvent) (names : List Labels)
+        (known : List StatedSettings) → IsKept primary m → AreSetAs names known m.zones
+        → AreRecoverable D.Sectors 0 m event 0 m.zones names known back.new.items) }
+{
+    back.reserve_exact(primary.zone_count())?;
+    primary.into_devices(back);
+    Ok(())
+}
+
+/// Opens the stores of all zones, serves them and gives their devices back, for which it makes room first.
+/// Gives the exit status.
+fn serve_all<D: Sectors + Drop, F: Devices<D>, I: ZoneIndex, R: Net + Clock, E: Write>(
+    alloc: Global,
+    heap: Heap,
+    rt: &R,
+    devices: &F,
+    config: &File<'_>,
+    options: ServeOptions,
+    back: &mut Vec<D, Heap>,
+    err: &mut E,
+) -> io::Result<u8>
+    requires { back.old.items ≡ [] }
+    ensures { IfOk result
+        (λ status. ServingEnds D.Sectors (F.opened devices.now) config.now options (E.contents err.old)
+        (E.contents err.new) status back.new.items) }
+{
+    let configuration = match read_configuration(alloc, heap, config) {
+        Ok(configuration) => configuration,
+        Err(fault) => return tell(err, config.path, fault),
+    };
+    let origins = origins_of(heap, &configuration.zones)?;
+    match open_primary::<D, F, I>(heap, devices, &configuration.zones, &origins) {
+        Ok(mut primary) => {
+            back.reserve_exact(primary.zone_count())?;
+            let service = Service {
+                heap,
+                rt,
+                origins: &origins,
+                addresses: &configuration.listen,
+                turns: options.turns,
+                is_quiet: options.is_quiet,
+            };
+            let status = serve_as(&mut primary, &service, err);
+            give_back(primary, back)?;
+            Ok(status)
+        }
+        Err(refusal) => { tell_refusal(err, &configuration.zones, refusal, options.explain) }
+    }
+}
+
+/// What a server ends with.
+#[derive(Drop)]
+pub struct ServiceEnd<D> {
+    /// The exit status.
+    pub status: u8,
+    /// The devices that it served, in the order of their zones.
+    pub devices: Vec<D, Heap>,
+}
+
+/// How a server is to be run.
+#[derive(Clone, Copy)]
+pub struct ServeOptions {
+    /// How many turns it makes.
+    pub turns: u64,
+    /// Whether lines of connections are left out of its log.
+    pub is_quiet: bool,
+    /// Whether a second line says what can be done about a device that is refused.
+    pub explain: bool,
+}
+
+/// Opens the stores of a configuration's zones, each in its device, and serves them on each of its addresses
+/// by UDP and TCP for this many turns. A datagram is answered from the address that it was sent to. A log
+/// goes to `err`: `zone ORIGIN version V serial M` for each zone, `listening on ADDRESS` for each address,
+/// and then `conn N open ADDRESS`, `conn N closed`, `out of memory` and `device ORIGIN` as they come. The
+/// lines of a turn are written when it ends. Of lines of connections at most 20 are written in a second; when
+/// it is over `N lines left out` is, and `N connections refused` for those that were closed for want of a
+/// slot.
+///
+/// Faults are reported in one line, the first in this order: the configuration, the devices (of which, if it
+/// is wanted, a second line says what can be done), the addresses (`ADDRESS: Unavailable`). Gives the exit
+/// status: `DONE`, `REFUSED`, or `FAILED` where a device or an address can't be had, a writer failed or
+/// memory was refused. The devices are given back as the last turn left them, and none of them where one of
+/// them could not be opened.
+pub fn serve<D: Sectors + Drop, F: Devices<D>, I: ZoneIndex, R: Net + Clock, E: Write>(
+    alloc: Global,
+    heap: Heap,
+    rt: &R,
+    devices: &F,
+    config: &File<'_>,
+    options: ServeOptions,
+    err: &mut E,
+) -> ServiceEnd<D>
+    ensures { ServingEnds D.Sectors (F.opened devices.now) config.now options (E.contents err.old)
+        (E.contents err.new) result.status result.devices.items }
+{
+    let mut back = Vec::new(heap);
+    let status = serve_all::<D, F, I, R, E>(
+        alloc, heap, rt, devices, config, options, &mut back, err,
+    ).unwrap_or(FAILED);
+    ServiceEnd {
+        status,
+        devices: back,
+    }
+}
