@@ -13,7 +13,7 @@ import sys
 import dns.zonefile
 
 BENCH = pathlib.Path(__file__).resolve().parent.parent
-DATA = BENCH.parent / "crates/dns_conformance/data"
+DATA = BENCH.parent / "crates/dns_stored_runs/data"
 sys.path.insert(0, str(BENCH / "runs"))
 import model
 

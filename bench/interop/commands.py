@@ -1,25 +1,44 @@
 #!/usr/bin/env python3
-"""Prints the commands of a section of a document, in its order: `commands.py DOCUMENT HEADING`.
+"""Prints the commands of a section of a document, in its order: `commands.py DOCUMENT HEADING`. Without HEADING it prints the headings of
+the sections that have any, a line each.
 
-They are the lines of its indented blocks, a here-document being one with its command, and of its text the pieces in backquotes that
-are a command of dnsprim with its words, a `cp`, or a setting `KEY = VALUE`. After each command comes what `# ...` at the end of its
-line says, or nothing. A zero byte ends each of both.
+They are the lines of its indented blocks, a here-document being one with its command, and of its text the pieces in backquotes that are a
+command with its words, or a setting `KEY = VALUE` or `KEY: VALUE`. A block that is a file and no commands, as a configuration, is one
+piece. In a manual page they are the lines from `.nf` to `.fi`. After each command comes what `# ...` at the end of its line says, or
+nothing. A zero byte ends each of both.
 """
 import pathlib
 import re
 import sys
 
-IN_TEXT = re.compile(r"dnsprim [a-z]+ \S|cp \S|[a-z_]+ = \S")
+IN_TEXT = re.compile(
+    r"(dnsprim [a-z]+|dnsprim COMMAND|cp|cd|chmod|setcap|systemctl|rndc|nsd-control|knotc|keymgr|ss|rt|man|examples/[\w-]+|\./[a-z]+"
+    r"|[a-z_]+ =|[a-z-]+:) \S|dnsprim --[a-z]+$|\./(install|package)$"
+)
+A_FILE = re.compile(r"\S+:$|\S+ .*\{$")
 
 
-def section(document, heading):
-    lines, is_inside = [], False
-    for line in pathlib.Path(document).read_text().splitlines():
+def headings(lines):
+    """The lines of each section, by its heading, in the form of Markdown."""
+    found, heading = {}, None
+    for line in lines:
         if line.startswith("#"):
-            is_inside = line.lstrip("#").strip() == heading
-        elif is_inside:
-            lines.append(line)
-    return lines
+            heading = line.lstrip("#").strip()
+            found[heading] = []
+        elif heading is not None:
+            found[heading].append(line)
+    return found
+
+
+def of_manual(lines):
+    """A manual page in the form of Markdown: its headings, and its blocks of lines as they are."""
+    is_block = False
+    for line in lines:
+        is_block = line.startswith(".nf") or is_block and not line.startswith(".fi")
+        if line.startswith(".SH"):
+            yield "# " + line[4:].strip('"')
+        elif is_block and not line.startswith(".nf"):
+            yield "    " + line.replace("\\-", "-")
 
 
 def in_text(paragraph):
@@ -28,6 +47,9 @@ def in_text(paragraph):
 
 
 def in_block(block):
+    if block and A_FILE.match(block[0]):
+        yield "\n".join(block), ""
+        return
     lines = iter(block)
     for line in lines:
         command, _, comment = re.fullmatch(r"(.*?)(\s+# (.*))?", line).groups(default="")
@@ -39,9 +61,9 @@ def in_block(block):
         yield command, comment
 
 
-def commands(document, heading):
+def commands(section):
     paragraph, block = [], []
-    for line in [*section(document, heading), "", "the end"]:
+    for line in [*section, "", "the end"]:
         if line.startswith("    ") and not paragraph:
             block.append(line[4:])
         elif line.strip():
@@ -53,4 +75,13 @@ def commands(document, heading):
             paragraph = []
 
 
-sys.stdout.write("".join(f"{command}\0{comment}\0" for command, comment in commands(*sys.argv[1:])))
+def main(document, heading=None):
+    lines = pathlib.Path(document).read_text().splitlines()
+    sections = headings(of_manual(lines) if document.endswith(".8") else lines)
+    if heading is None:
+        sys.stdout.write("".join(f"{it}\n" for it, section in sections.items() if any(commands(section))))
+    else:
+        sys.stdout.write("".join(f"{command}\0{comment}\0" for command, comment in commands(sections.get(heading, []))))
+
+
+main(*sys.argv[1:])

@@ -1,4 +1,4 @@
-"""Stored runs of dns_conformance that are made: each message of the zone's other scripts cut at each octet, counts of a header that lie,
+"""Stored runs of dns_stored_runs that are made: each message of the zone's other scripts cut at each octet, counts of a header that lie,
 chains of pointers of every length that 512 octets hold and some that are longer, sweeps over stops and failures, what is largest of its
 kind, and forty of the random runs. What is expected is what the plain machine of `model.py` prints. `cases.py` writes the scripts and puts their lines and what they
 are to print at the end of `list` and `stdout`, in place of those that it made before.
@@ -13,7 +13,7 @@ import struct
 import model
 import run
 
-CRATE = os.path.join(os.path.dirname(os.path.abspath(__file__)), "../../crates/dns_conformance")
+CRATE = os.path.join(os.path.dirname(os.path.abspath(__file__)), "../../crates/dns_stored_runs")
 FOLDER = f"{CRATE}/data/example"
 MADE = "by_the_model_"
 RANDOM = "random/"
