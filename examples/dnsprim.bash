@@ -9,7 +9,8 @@ _dnsprim_options() {
         load) echo --dry-run --explain --help ;;
         serve) echo --turns --quiet --explain --help ;;
         fetch) echo --since --seconds --explain --help ;;
-        check | dump | init | migrate | replay) echo --explain --help ;;
+        check) echo --config --explain --help ;;
+        dump | init | migrate | replay) echo --explain --help ;;
     esac
 }
 

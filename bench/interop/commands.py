@@ -3,8 +3,8 @@
 the sections that have any, a line each.
 
 They are the lines of its indented blocks, a here-document being one with its command, and of its text the pieces in backquotes that are a
-command with its words, or a setting `KEY = VALUE` or `KEY: VALUE`. A block that is a file and no commands, as a configuration, is one
-piece. In a manual page they are the lines from `.nf` to `.fi`. After each command comes what `# ...` at the end of its line says, or
+command or an option with its words, or a setting `KEY = VALUE`, `KEY: VALUE` or `KEY=VALUE`. A block that is a file and no commands, as a
+configuration, is one piece. In a manual page they are the lines from `.nf` to `.fi`. After each command comes what `# ...` at the end of its line says, or
 nothing. A zero byte ends each of both.
 """
 import pathlib
@@ -12,8 +12,8 @@ import re
 import sys
 
 IN_TEXT = re.compile(
-    r"(dnsprim [a-z]+|dnsprim COMMAND|cp|cd|chmod|setcap|systemctl|rndc|nsd-control|knotc|keymgr|ss|rt|man|examples/[\w-]+|\./[a-z]+"
-    r"|[a-z_]+ =|[a-z-]+:) \S|dnsprim --[a-z]+$|\./(install|package)$"
+    r"(dnsprim [a-z]+|dnsprim COMMAND|btrfs|cp|cd|chmod|setcap|systemctl|nsupdate|rndc|nsd-control|knotc|keymgr|ss|rt|man|server|examples/[\w-]+"
+    r"|\./[a-z]+|--dns-[\w-]+|[a-z_]+ =|[a-z][a-z-]*:) \S|dnsprim --[a-z]+$|\./(install|package)$|[a-z-]+=\S|UNDER=\S|policy\.\w+\("
 )
 A_FILE = re.compile(r"\S+:$|\S+ .*\{$")
 

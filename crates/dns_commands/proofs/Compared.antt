@@ -1,9 +1,10 @@
 -- How a run ends that compares a zone's master file with its device.
 use Rattle.std.proofs.Common.{◌≡◌, ℕ, Bool, true, false, inl, inr, List, ◌++◌, Option, Result, Ok, Err, IfOk, OnOk, refl, sym, ap, ◌∙◌, arith}
-use Rattle.std.specs.Prelude.{◌⊎◌}
+use Rattle.std.specs.Prelude.{◌⊎◌, MatchResult}
 use Rattle.std.specs.String.{string_bytes}
 use Rattle.std.specs.Io.KnownBytes.{Appends}
 use Rattle.std.proofs.KnownBytes.{Keeps-refl}
+use Rattle.dns_records.specs.Record.{Record}
 use Rattle.dns_zone.specs.Zone.{Zone}
 use Rattle.dns_masterfile.proofs.PrintedZone.{appends_two}
 use Rattle.dns_sectors.specs.declared.device.Sectors.{Ghosts}
@@ -18,7 +19,12 @@ use Rattle.dns_devices.specs.DeviceFaults.{device_text, status_of}
 use Rattle.dns_devices.specs.Stores.{Gives}
 use Rattle.dns_configuration.specs.Named.{IsNamed, IsNoZoneName}
 use Rattle.dns_commands.specs.LoadRun.{path_blamed}
-use Rattle.dns_commands.specs.Compare.{ComparingEnds, ComparisonEnds, HasNoDifference, IsDifference, difference_text}
+use Rattle.dns_commands.specs.Compare.{ComparingEnds, ComparisonEnds, HasNoDifference, IsCompared, IsDifference, difference_text}
+
+-- The records were compared, with a change or with a refusal.
+pub comparing_ends : {D : Type 0} (g : Ghosts D) (opened : Gives D) (own : ZoneSettings) (records : List Record) (r : Result (Option Change) DeviceFault) → IsCompared g opened own records r → MatchResult r (IsDifference g opened own records) (HasNoDifference g opened own records)
+comparing_ends g opened own records (Ok change) is = is
+comparing_ends g opened own records (Err fault) is = inr is
 
 -- A writer failed or memory was refused.
 pub comparing_failed : {D : Type 0} (g : Ghosts D) (opened : Gives D) (own : ZoneSettings) (files : List File) (explain : Bool) (out out_after err err_after : Option (List ℕ)) → ComparingEnds g opened own files explain out out_after err err_after 3

@@ -1,4 +1,5 @@
 pub mod Changed
+pub mod Checked
 pub mod Compared
 pub mod Files
 pub mod LoadEnded

@@ -5,7 +5,7 @@ use Rattle.std.specs.List.{AllZip}
 use Rattle.std.specs.Option.{option_copied}
 use Rattle.std.specs.String.{string_bytes}
 use Rattle.std.specs.Io.KnownBytes.{Appends}
-use Rattle.std.proofs.KnownBytes.{Appends-nil, Appends-trans, Keeps-refl}
+use Rattle.std.proofs.KnownBytes.{Appends-trans, Keeps-refl}
 use Rattle.dns_zone.specs.Zone.{Zone}
 use Rattle.dns_sectors.specs.declared.device.Sectors.{Ghosts}
 use Rattle.dns_configuration.specs.declared.configuration.ZoneSettings.{ZoneSettings}
@@ -44,9 +44,10 @@ printed_more f [] n d inside = absurd (omega (arith, inside))
 printed_more f (x ∷ xs) zero d inside = append-nil (f x)
 printed_more f (x ∷ xs) (suc n) d inside = ap (λ (t : List ℕ). f x ++ t) (printed_more f xs n d (omega (arith, inside))) ∙ sym (append_assoc (f x) (flat_map f (take n xs)) (f (get_or xs n d)))
 
--- One more line.
-pub lines_more : (zones : List Zone) (n : ℕ) (z : Zone) (a b c : Option (List ℕ)) → n < length zones → Appends a b (flat_map formatted (take n zones)) → Appends b c (formatted (get_or zones n z)) → Appends a c (flat_map formatted (take (suc n) zones))
-lines_more zones n z a b c inside h k = subst (Appends a c) (sym (printed_more formatted zones n z inside)) (Appends-trans a b c (flat_map formatted (take n zones)) (formatted (get_or zones n z)) h k)
+-- What is printed of one more.
+pub lines_more : {A : Type 0} (f : A → List ℕ) (xs : List A) (n : ℕ) (x : A) (a b c : Option (List ℕ)) → n < length xs → Appends a b (flat_map f (take n xs)) → Appends b c (f (get_or xs n x)) → Appends a c (flat_map f (take (suc n) xs))
+lines_more f xs n x a b c inside h k =
+    subst (Appends a c) (sym (printed_more f xs n x inside)) (Appends-trans a b c (flat_map f (take n xs)) (f (get_or xs n x)) h k)
 
 -- The devices of the first zones were made, and that of the next one was not.
 pub stops_at : {D : Type 0} (g : Ghosts D) (made : Makes D) (settings : List ZoneSettings) (zones : List Zone) (n : ℕ) (d : ZoneSettings) (e : Zone) (path : List ℕ) (fault : DeviceFault) → n < length settings → n < length zones → AllZip (HasDevice g made) (take n settings) (take n zones) → path ≡ string_bytes (get_or settings n d).device → IsNotMade g made (get_or settings n d) (get_or zones n e) fault → MakingStopsAt g made settings zones path fault

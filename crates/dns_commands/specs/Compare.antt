@@ -1,6 +1,6 @@
 -- What loading a zone's master file would change.
-use Rattle.std.specs.Prelude.{◌≡◌, ◌⊎◌, ◌≤◌, ℕ, Bool, List, ◌∷◌, ◌++◌, flat_map, Option, Some, None, Ok, Err}
-use Rattle.std.specs.Prelude.{codes}
+use Rattle.std.specs.Prelude.{◌≡◌, ◌⊎◌, ◌≤◌, ℕ, Bool, true, false, List, ◌∷◌, ◌++◌, flat_map, Option, Some, None}
+use Rattle.std.specs.Prelude.{Result, Ok, Err, codes}
 use Rattle.std.specs.String.{string_bytes}
 use Rattle.std.specs.Io.KnownBytes.{Appends, Keeps}
 use Rattle.dns_names.specs.Text.{printed_name}
@@ -8,15 +8,21 @@ use Rattle.dns_records.specs.Record.{Record}
 use Rattle.dns_zone.specs.Zone.{Zone}
 use Rattle.dns_changes.specs.Change.{Change}
 use Rattle.dns_masterfile.specs.Printed.{printed_record}
+use Rattle.dns_sectors.specs.Device.{Content}
 use Rattle.dns_sectors.specs.declared.device.Sectors.{Ghosts}
+use Rattle.dns_store.specs.Opening.{IsInRange, MayOpen}
+use Rattle.dns_store.specs.Opens.{fresh, opens}
+use Rattle.dns_store.specs.Versions.{Kept, Opened, newest_after}
+use Rattle.dns_versions.specs.Staging.{has_room}
 use Rattle.dns_configuration.specs.declared.configuration.ZoneSettings.{ZoneSettings}
 use Rattle.dns_configuration.specs.declared.files.File.{File}
 use Rattle.dns_configuration.specs.declared.files.Fault.{Fault}
 use Rattle.dns_configuration.specs.Faults.{fault_text, line}
 use Rattle.dns_configuration.specs.Files.{IsLoadedFrom, loaded_by}
 use Rattle.dns_devices.specs.declared.device_faults.DeviceFault.{DeviceFault}
+use Rattle.dns_devices.specs.declared.device_faults.DeviceFault.TheVariants.{NoRoom}
 use Rattle.dns_devices.specs.DeviceFaults.{device_text, status_of}
-use Rattle.dns_devices.specs.Stores.{Gives, IsDumped, IsNotShown}
+use Rattle.dns_devices.specs.Stores.{Gives, IsNotShown, own_shape}
 use Rattle.dns_configuration.specs.Named.{IsNamed, IsNoZoneName}
 use Rattle.dns_commands.specs.Load.{IsChangeTo}
 use Rattle.dns_commands.specs.LoadRun.{path_blamed}
@@ -36,19 +42,44 @@ abbrev pub difference_text : ZoneSettings → Option Change → List ℕ
 difference_text own None = line (printed_name own.origin ++ codes " already")
 difference_text own (Some change) = change_lines change
 
--- The change from the newest version that the device keeps to these records.
-pub record IsDifference {D : Type 0} (g : Ghosts D) (opened : Gives D) (own : ZoneSettings)
-    (records : List Record) (change : Option Change) : Type 0 where
+-- The change from a version to the records of the file, or that there is one which has no room.
+abbrev pub IsChangeWithin : List Record → List Record → Result (Option Change) DeviceFault → Type 0
+IsChangeWithin before records (Err NoRoom) = (change : Change) × IsChangeTo before records (Ok (Some change))
+IsChangeWithin before records result = IsChangeTo before records result
+
+-- A change is one that has room after these versions, and `NoRoom` one that has none.
+abbrev pub IsWithinRoom : Kept → List Record → Result (Option Change) DeviceFault → Type 0
+IsWithinRoom k records (Ok (Some change)) = has_room k records ≡ true
+IsWithinRoom k records (Err NoRoom) = has_room k records ≡ false
+IsWithinRoom k records _ = Unit {0}
+
+-- The records were compared, with this result, with the newest version of what a crash might have left of the
+-- device that was given for the path, whichever versions there were before the base.
+pub record IsCompared {D : Type 0} (g : Ghosts D) (opened : Gives D) (own : ZoneSettings)
+    (records : List Record) (result : Result (Option Change) DeviceFault) : Type 0 where
+  pub device : D
+  pub came : opened (string_bytes own.device) (Ok device)
   pub newest : Zone
-  pub shown : IsDumped g opened own newest
-  pub change_is : IsChangeTo newest.records records (Ok change)
+  pub apex : newest.apex ≡ own.origin
+  pub change_is : IsChangeWithin newest.records records result
+  pub compared : g.is_honest device
+      → IsInRange own.snapshot_sectors own.journal_sectors
+      → MayOpen g (own_shape own) device
+      → (c : Content) × g.may_leave device c
+      × ((o : Opened) → opens (own_shape own) o c
+      → (newest ≡ record { apex = own.origin; records = newest_after o.loaded o.versions })
+      × IsWithinRoom (fresh (own_shape own) o) records result)
+
+-- The change from the newest version that the device keeps to these records.
+abbrev pub IsDifference : {D : Type 0} → Ghosts D → Gives D → ZoneSettings → List Record → Option Change
+    → Type 0
+IsDifference g opened own records change = IsCompared g opened own records (Ok change)
 
 -- Why there is none: the device shows no zone, or the change is refused.
 abbrev pub HasNoDifference : {D : Type 0} → Ghosts D → Gives D → ZoneSettings → List Record → DeviceFault
     → Type 0
 HasNoDifference g opened own records fault =
-    IsNotShown g opened own fault
-    ⊎ ((newest : Zone) × IsDumped g opened own newest × IsChangeTo newest.records records (Err fault))
+    IsNotShown g opened own fault ⊎ IsCompared g opened own records (Err fault)
 
 -- The zone's master file holds these records, and this is the change to them.
 pub record IsFileCompared {D : Type 0} (g : Ghosts D) (opened : Gives D) (own : ZoneSettings)

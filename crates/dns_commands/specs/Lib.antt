@@ -1,4 +1,5 @@
 pub mod Check
+pub mod CheckConfiguration
 pub mod Compare
 pub mod Dump
 pub mod Init

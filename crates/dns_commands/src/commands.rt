@@ -1,5 +1,6 @@
 //! The commands, one file each.
 pub mod check;
+pub mod check_configuration;
 pub mod compare;
 pub mod dump;
 pub mod init;

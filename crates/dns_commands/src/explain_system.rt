@@ -3,9 +3,10 @@
 use dns_configuration::{File, PrintedWord, ZoneSettings, apex, read_configuration, zone_of};
 use dns_memory::Heap;
 use mio::net::{TcpListener, UdpSocket};
-use std::fs::OpenOptions;
+use std::fs::{self, OpenOptions};
 use std::io::{self, ErrorKind, Write};
 use std::net::SocketAddr;
+use std::slice;
 
 /// Tells why the system does not give a file.
 pub fn explain_unreadable<E: Write>(path: &str, reason: &io::Error, err: &mut E) -> io::Result<()> {
@@ -42,6 +43,24 @@ fn explain_device<E: Write>(rt: &HostRuntime, own: &ZoneSettings, err: &mut E) -
     Ok(true)
 }
 
+/// The zones of these that are meant: that of the name, or all if there is no name.
+fn zones_meant<'z>(
+    heap: Heap,
+    zones: &'z [ZoneSettings],
+    origin: Option<&str>,
+) -> &'z [ZoneSettings] {
+    let Some(origin) = origin else {
+        return zones;
+    };
+    let Ok(name) = apex(heap, origin) else {
+        return &[];
+    };
+    match zone_of(zones, &name) {
+        Some(own) => slice::from_ref(own),
+        None => &[],
+    }
+}
+
 /// Tells why the first device of these zones that can't be had can't. Answers whether there is one.
 fn explain_first<E: Write>(
     rt: &HostRuntime,
@@ -68,16 +87,56 @@ pub fn explain_devices<E: Write>(
     let Ok(configuration) = read_configuration(rt.alloc(), heap, config) else {
         return Ok(false);
     };
-    let Some(origin) = origin else {
-        return explain_first(rt, &configuration.zones, err);
-    };
-    let Ok(name) = apex(heap, origin) else {
-        return Ok(false);
-    };
-    match zone_of(&configuration.zones, &name) {
-        Some(own) => explain_device(rt, own, err),
-        None => Ok(false),
+    explain_first(rt, zones_meant(heap, &configuration.zones, origin), err)
+}
+
+/// Tells why no file can be made at the path of a zone's device. Answers whether none can; one that can is
+/// taken away again.
+fn explain_unmade_device<E: Write>(
+    rt: &HostRuntime,
+    own: &ZoneSettings,
+    err: &mut E,
+) -> io::Result<bool> {
+    let path = own.device.as_str();
+    match OpenOptions::new()
+        .write(true)
+        .create_new(true)
+        .open(rt, path)
+    {
+        Ok(file) => {
+            drop(file);
+            fs::remove_file(rt, path)?;
+            Ok(false)
+        }
+        Err(reason) => {
+            explain_unreadable(path, &reason, err)?;
+            Ok(true)
+        }
     }
+}
+
+/// Tells why the devices of a configuration, or that of its zone of that name, could not be made: the first
+/// path at which no file can be; or else what is left.
+pub fn explain_unmade<E: Write>(
+    rt: &HostRuntime,
+    heap: Heap,
+    config: &File<'_>,
+    origin: Option<&str>,
+    err: &mut E,
+) -> io::Result<()> {
+    let Ok(configuration) = read_configuration(rt.alloc(), heap, config) else {
+        return Ok(());
+    };
+    for own in zones_meant(heap, &configuration.zones, origin) {
+        if explain_unmade_device(rt, own, err)? {
+            return Ok(());
+        }
+    }
+    let what = PrintedWord(config.path.as_bytes());
+    writeln!(
+        err,
+        "{what}: a file can be made for each device; the disk may be full, or the output was closed"
+    )
 }
 
 /// Why nobody can listen on an address, if so.

@@ -9,9 +9,11 @@ mod explain_settings;
 mod explain_system;
 mod inputs;
 mod next_version;
+mod warnings;
 
 pub use change::change_to;
 pub use commands::check::{Index, check};
+pub use commands::check_configuration::check_configuration;
 pub use commands::compare::compare;
 pub use commands::dump::dump;
 pub use commands::init::init;
@@ -20,6 +22,9 @@ pub use commands::migrate::migrate;
 pub use commands::replay::replay;
 pub use explain::explain_check;
 pub use explain_settings::{explain_origin, explain_replay};
-pub use explain_system::{explain_devices, explain_other, explain_unreadable, explain_unserved};
+pub use explain_system::{
+    explain_devices, explain_other, explain_unmade, explain_unreadable, explain_unserved,
+};
 pub use inputs::{file, is_file, master_files, octets, octets_in, zone_file};
 pub use next_version::{Loaded, load_zone};
+pub use warnings::warn_of_configuration;

@@ -1,5 +1,5 @@
 //! The records of a zone's master file, as the next version of its store.
-ghost use Rattle.std.specs.Prelude.{◌≡◌, ◌≤◌, ◌<◌, ◌-◌, ◌^◌, List, Result, length, OnOk, MatchResult};
+ghost use Rattle.std.specs.Prelude.{◌≡◌, ◌≤◌, ◌<◌, ◌-◌, ◌^◌, ◌+◌, List, Result, length, OnOk, MatchResult};
 ghost use Rattle.dns_records.specs.Record.{Record as Stated};
 ghost use Rattle.dns_sectors.specs.Device.{LeavesOnly};
 ghost use Rattle.dns_changes.specs.Entry.{entry};
@@ -38,20 +38,21 @@ pub enum Loaded {
     },
 }
 
-/// Whether there is room for the version of these records, whose entry takes so many sectors.
-fn has_room<I: ZoneIndex, S: ZoneStore>(
-    store: &S,
+/// Whether there is room after the version of that number for one of these records, whose entry takes that
+/// number of sectors.
+pub(crate) fn has_room<I: ZoneIndex>(
+    newest: u64,
     own: &ZoneSettings,
     zone: &Zone<I>,
     sectors: usize,
 ) -> bool
-    ensures { (k : Kept) → S.keeps store.now k → k.shape ≡ own_shape own.now
+    ensures { (k : Kept) → k.shape ≡ own_shape own.now → newest ≡ length k.shown + length k.staged
         → sectors ≡ entry_between (newest_of k) zone.now.records → result ≡ has_room k zone.now.records }
 {
     let _valid = zone.apex();
     snapshot_sectors(snapshot_len(zone)) <= own.snapshot_sectors as usize
         && sectors <= own.journal_sectors as usize
-        && store.newest() < u64::MAX
+        && newest < u64::MAX
 }
 
 /// Moves the base where fewer sectors than these are left of the journal, so that they are.
@@ -121,7 +122,7 @@ fn load_into<I: ZoneIndex, S: ZoneStore>(
     };
     let _valid = zone.apex();
     let room = entry_sectors(change.encoded_len());
-    if !has_room(store, own, zone, room) {
+    if !has_room(store.newest(), own, zone, room) {
         drop(change);
         return Err(DeviceFault::NoRoom);
     }

@@ -20,7 +20,7 @@ use Rattle.toml.specs.Data.{Data, Items, Members, as_str, as_table, item, string
 use Rattle.toml.specs.View.{items_of, items_view, members_of, members_view, view}
 use Rattle.toml.specs.declared.value.Value.{Value}
 use Rattle.dns_configuration.specs.declared.configuration.ZoneSettings.{ZoneSettings}
-use Rattle.dns_configuration.specs.Settings.{ArePrefixes, AreSettings, Describes, HasPrefix, HasPrefixes, IsDescribedBy, IsSettings, ReadsOrFails, are_alike, has_keys, key_count, list_at, text_at}
+use Rattle.dns_configuration.specs.Settings.{ArePrefixes, AreSettings, Describes, HasPrefix, HasPrefixes, IsDescribedBy, IsSettings, ReadsOrFails, are_alike, has_keys, is_same_path, key_count, list_at, text_at}
 use Rattle.dns_configuration.specs.declared.configuration.Configuration.{Configuration}
 use Rattle.dns_configuration.specs.declared.configuration.ConfigurationError.{ConfigurationError}
 use Rattle.dns_configuration.specs.declared.configuration.ConfigurationError.TheVariants.{OutOfMemory, BadConfig}
@@ -138,7 +138,7 @@ same_zone d z w h k = (names h.origin.text k.origin.text h.origin.stands k.origi
     devices a b = cc
 
 alike_too : (z u w v : ZoneSettings) → z.origin ≡ w.origin → string_bytes z.device ≡ string_bytes w.device → u.origin ≡ v.origin → string_bytes u.device ≡ string_bytes v.device → are_alike z u ≡ are_alike w v
-alike_too z u w v a b c d = (λ i. names_eq (a i) (c i) || bytes_eq (b i) (d i))
+alike_too z u w v a b c d = (λ i. names_eq (a i) (c i) || is_same_path (b i) (d i))
 
 -- Sixteen zones before a further one are too many.
 pub too_many : (tables : List Value) (i : ℕ) (zs ws : List ZoneSettings) → i < length tables → AllZip IsSettings (map view (take i tables)) zs → length zs ≡ 16 → AreSettings (map view tables) ws → ⊥

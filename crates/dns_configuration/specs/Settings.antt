@@ -1,7 +1,7 @@
 -- What a configuration says.
 use Rattle.std.specs.Prelude.{◌≡◌, ◌≢◌, ◌⊎◌, ⊤, ℕ, suc, ◌<◌, ◌≤◌, ◌==◌, ◌^◌, Bool, true, false, ◌||◌, List}
 use Rattle.std.specs.Prelude.{[], ◌∷◌, ◌++◌, length, Result, Ok, Err, Option, Some, None, option_and_then}
-use Rattle.std.specs.Prelude.{decimal, All, AllPairs, bytes_eq, codes, get_or, ℤ, pos, String, Vec}
+use Rattle.std.specs.Prelude.{decimal, All, AllPairs, codes, get_or, ℤ, pos, String, Vec}
 use Rattle.std.specs.Global.{Global}
 use Rattle.std.specs.Str.{IsUtf8}
 use Rattle.toml.specs.Data.{Data, Items, Members, no_members, member, as_array, as_integer, as_str, get}
@@ -9,6 +9,8 @@ use Rattle.toml.specs.Data.{table}
 use Rattle.toml.specs.View.{items_of}
 use Rattle.toml.specs.Parse.{parse_document}
 use Rattle.std.specs.List.{AllZip}
+use Rattle.std.specs.Ordering.{is_eq}
+use Rattle.std.specs.Path.{path_cmp, path_join}
 use Rattle.std.specs.String.{string_bytes}
 use Rattle.std.specs.Net.Socket.{socket_ip, socket_port}
 use Rattle.std.specs.declared.net.ip_addr.IpAddr.{IpAddr}
@@ -59,10 +61,14 @@ pub record AreCounts (sectors entries versions : ℕ) : Type 0 where
 abbrev pub HasCounts : ZoneSettings → Type 0
 HasCounts z = AreCounts z.snapshot_sectors z.journal_sectors z.keep
 
+-- Two paths are one: joined to `.`, they have the same components.
+abbrev pub is_same_path : List ℕ → List ℕ → Bool
+is_same_path path other = is_eq (path_cmp (path_join (codes ".") path) (path_join (codes ".") other))
+
 -- Two zones have one apex or one device.
 abbrev pub are_alike : ZoneSettings → ZoneSettings → Bool
 are_alike z other =
-    names_eq z.origin other.origin || bytes_eq (string_bytes z.device) (string_bytes other.device)
+    names_eq z.origin other.origin || is_same_path (string_bytes z.device) (string_bytes other.device)
 
 abbrev pub AreApart : ZoneSettings → ZoneSettings → Type 0
 AreApart z other = are_alike z other ≡ false

@@ -12,6 +12,7 @@ ghost use Rattle.dns_configuration.specs.Settings.{IsDescribedBy, IsSettings, Re
 ghost use Rattle.dns_configuration.specs.Settings.{has_keys, list_at, number_at, text_at};
 
 use crate::listening::addresses_at;
+use crate::paths::is_same_path;
 use dns_memory::Heap;
 use dns_names::{Name, NameError};
 use dns_policy::Prefix;
@@ -121,7 +122,7 @@ pub(crate) fn list_at<'a>(table: &'a Value, key: &str) -> Option<&'a Vec<Value>>
 }
 
 /// Whether a table has so many keys.
-pub(crate) fn has_keys(table: &Value, count: usize) -> bool
+fn has_keys(table: &Value, count: usize) -> bool
     ensures { result ≡ has_keys count (view table.now) }
 {
     match table.as_table() {
@@ -227,17 +228,22 @@ fn settings(alloc: Global, heap: Heap, zone: &Value) -> Result<ZoneSettings, Con
 }
 
 /// Whether two zones have one apex or one device.
-fn are_alike(zone: &ZoneSettings, other: &ZoneSettings) -> bool
-    ensures { result ≡ are_alike zone.now other.now }
+fn are_alike(alloc: Global, zone: &ZoneSettings, other: &ZoneSettings) -> Result<bool, AllocError>
+    ensures { IfOk result (λ alike. alike ≡ are_alike zone.now other.now) }
 {
-    zone.origin == other.origin || zone.device == other.device
+    Ok(zone.origin == other.origin || is_same_path(alloc, &zone.device, &other.device)?)
 }
 
 /// Whether a zone has the apex or the device of one before it.
-fn is_double(zones: &[ZoneSettings], zone: &ZoneSettings) -> bool
-    ensures { result ≡ list_any (λ z. are_alike z zone.now) zones.now }
+fn is_double(alloc: Global, zones: &[ZoneSettings], zone: &ZoneSettings) -> Result<bool, AllocError>
+    ensures { IfOk result (λ double. double ≡ list_any (λ z. are_alike z zone.now) zones.now) }
 {
-    zones.iter().any(|other| are_alike(other, zone))
+    'zones: for other in zones {
+        if are_alike(alloc, other, zone)? {
+            return Ok(true);
+        }
+    }
+    Ok(false)
 }
 
 /// The settings of zones by their tables: at most 16, no two with one apex or one device.
@@ -254,7 +260,8 @@ fn all_settings(
         if zones.len() == MOST_ZONES {
             return Err(ConfigurationError::BadConfig);
         }
-        if is_double(&zones, &zone) {
+        let is_second = is_double(alloc, &zones, &zone)?;
+        if is_second {
             return Err(ConfigurationError::BadConfig);
         }
         zones.push(zone)?;

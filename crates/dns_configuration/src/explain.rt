@@ -8,7 +8,7 @@ use crate::configuration::{
 use crate::explain_lines::{is_zone_header, line_of, line_of_key, line_of_single_zone};
 use crate::explain_zones::explain_zones;
 use crate::files::{File, PrintedWord};
-use crate::listening::addresses_at;
+use crate::listening::{MOST_ADDRESSES, addresses_at, socket_address};
 use dns_memory::Heap;
 use dns_policy::{Prefix, PrefixError, address};
 use std::alloc::Global;
@@ -19,8 +19,8 @@ use toml::Value;
 /// What is expected at a key.
 #[derive(Clone, Copy)]
 enum Expected {
-    /// An address and a port.
-    Address,
+    /// An address and a port, or a list of them.
+    Addresses,
     /// A list of zones.
     Zones,
     /// The name of the apex.
@@ -33,8 +33,11 @@ enum Expected {
     Prefixes,
 }
 
+/// What an address is.
+const ADDRESS_EXPECTED: &str = "an address and a port such as \"127.0.0.1:53\" are expected";
+
 /// The keys of a configuration, and what is expected at each.
-const KEYS: [(&str, Expected); 2] = [("listen", Expected::Address), ("zone", Expected::Zones)];
+const KEYS: [(&str, Expected); 2] = [("listen", Expected::Addresses), ("zone", Expected::Zones)];
 
 /// The keys of a zone, and what is expected at each.
 const KEYS_OF_ZONE: [(&str, Expected); ZONE_KEYS] = [
@@ -69,7 +72,7 @@ impl<'a> Place<'a> {
 /// Whether the table has a value at that key, of the key's form.
 fn is_good(alloc: Global, heap: Heap, table: &Value, key: &str, expected: Expected) -> bool {
     match expected {
-        Expected::Address => addresses_at(alloc, table, key).is_ok(),
+        Expected::Addresses => addresses_at(alloc, table, key).is_ok(),
         Expected::Zones => list_at(table, key).is_some(),
         Expected::Apex => name_at(heap, table, key).is_ok(),
         Expected::Path(_) => path_at(alloc, table, key).is_ok(),
@@ -145,6 +148,27 @@ fn tell_prefixes<E: Write>(texts: &[Value], err: &mut E) -> io::Result<()> {
     writeln!(err, "a list of prefixes is expected")
 }
 
+/// Tells which entry of a list of addresses is none, or how many there are.
+fn tell_addresses<E: Write>(texts: &[Value], err: &mut E) -> io::Result<()> {
+    for value in texts {
+        let Some(text) = value.as_str() else {
+            return writeln!(err, "each address is a text, such as \"127.0.0.1:53\"");
+        };
+        if socket_address(text).is_none() {
+            return writeln!(
+                err,
+                "'{}': {ADDRESS_EXPECTED}",
+                PrintedWord(text.as_bytes())
+            );
+        }
+    }
+    writeln!(
+        err,
+        "there are {} addresses, and 1 to {MOST_ADDRESSES} are expected",
+        texts.len()
+    )
+}
+
 /// Tells what is expected at a key of a table that is missing or wrong.
 fn tell_key<E: Write>(
     place: Place<'_>,
@@ -158,10 +182,10 @@ fn tell_key<E: Write>(
         number => write!(err, "{}: zone {number}: {key}: ", place.what())?,
     }
     match expected {
-        Expected::Address => writeln!(
-            err,
-            "an address and a port such as \"127.0.0.1:53\" are expected"
-        ),
+        Expected::Addresses => match list_at(table, key) {
+            Some(texts) => tell_addresses(texts.as_slice(), err),
+            None => writeln!(err, "{ADDRESS_EXPECTED}"),
+        },
         Expected::Zones => writeln!(err, "a [[zone]] is expected for each zone"),
         Expected::Apex => writeln!(err, "the name of the zone's apex is expected"),
         Expected::Path(file) => writeln!(err, "the path of a {file} is expected"),
@@ -228,7 +252,7 @@ fn explain_document<E: Write>(
             return Ok(());
         }
     }
-    explain_zones(heap, &place.what(), zones.as_slice(), err)
+    explain_zones(alloc, heap, &place.what(), zones.as_slice(), err)
 }
 
 /// Tells what is wrong with a text that is no TOML.
@@ -260,7 +284,7 @@ pub fn explain_configuration<E: Write>(
         return Ok(());
     };
     let Ok(text) = std::str::from_utf8(octets) else {
-        return writeln!(err, "{what}: it is no UTF-8");
+        return writeln!(err, "{what}: it is not UTF-8");
     };
     match toml::table_from_str(alloc, text) {
         Ok(table) => {

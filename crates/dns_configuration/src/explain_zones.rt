@@ -3,7 +3,9 @@
 //! more of it than that it ends.
 use crate::configuration::{MOST_ZONES, name_at, text_at};
 use crate::files::PrintedWord;
+use crate::paths::is_same_path;
 use dns_memory::Heap;
+use std::alloc::Global;
 use std::io::{self, Write};
 use toml::Value;
 
@@ -19,20 +21,25 @@ fn have_one_origin(heap: Heap, zone: &Value, other: &Value) -> bool {
 }
 
 /// Whether two zones have one device.
-fn have_one_device(zone: &Value, other: &Value) -> bool {
+fn have_one_device(alloc: Global, zone: &Value, other: &Value) -> bool {
     match (text_at(zone, "device"), text_at(other, "device")) {
-        (Some(path), Some(second)) => path == second,
+        (Some(path), Some(second)) => is_same_path(alloc, path, second).unwrap_or(false),
         _ => false,
     }
 }
 
 /// The position of the first of these zones that has the origin or the device of another, and which of both.
-fn first_alike(heap: Heap, zones: &[Value], zone: &Value) -> Option<(usize, &'static str)> {
+fn first_alike(
+    alloc: Global,
+    heap: Heap,
+    zones: &[Value],
+    zone: &Value,
+) -> Option<(usize, &'static str)> {
     for (place, other) in zones.iter().enumerate() {
         if have_one_origin(heap, other, zone) {
             return Some((place, "origin"));
         }
-        if have_one_device(other, zone) {
+        if have_one_device(alloc, other, zone) {
             return Some((place, "device"));
         }
     }
@@ -41,6 +48,7 @@ fn first_alike(heap: Heap, zones: &[Value], zone: &Value) -> Option<(usize, &'st
 
 /// Tells which two zones have one origin or one device. Answers whether two have.
 fn tell_alike<E: Write>(
+    alloc: Global,
     heap: Heap,
     what: &PrintedWord<'_>,
     zones: &[Value],
@@ -48,7 +56,7 @@ fn tell_alike<E: Write>(
 ) -> io::Result<bool> {
     for (place, zone) in zones.iter().enumerate().take(MOST_ZONES) {
         let before = zones.get(..place).unwrap_or(&[]);
-        if let Some((earlier, key)) = first_alike(heap, before, zone) {
+        if let Some((earlier, key)) = first_alike(alloc, heap, before, zone) {
             let (first, second) = (earlier.saturating_add(1), place.saturating_add(1));
             let value = PrintedWord(text_at(zone, key).unwrap_or("").as_bytes());
             writeln!(
@@ -63,6 +71,7 @@ fn tell_alike<E: Write>(
 
 /// Tells what is wrong with zones of which each by itself is right.
 pub(crate) fn explain_zones<E: Write>(
+    alloc: Global,
     heap: Heap,
     what: &PrintedWord<'_>,
     zones: &[Value],
@@ -71,7 +80,7 @@ pub(crate) fn explain_zones<E: Write>(
     if zones.is_empty() {
         return writeln!(err, "{what}: zone: a [[zone]] is expected for each zone");
     }
-    if tell_alike(heap, what, zones, err)? {
+    if tell_alike(alloc, heap, what, zones, err)? {
         return Ok(());
     }
     let count = zones.len();

@@ -10,6 +10,8 @@ mod files;
 mod listening;
 mod loading;
 mod named;
+mod paths;
+mod warnings;
 mod zone_specs;
 
 pub use configuration::{Configuration, ConfigurationError, ZoneSettings};
@@ -20,4 +22,5 @@ pub use files::{
 pub use listening::socket_address;
 pub use loading::{load, load_all, load_one};
 pub use named::zone_of;
+pub use warnings::warn_of_settings;
 pub use zone_specs::{origins_of, settings_of};

@@ -15,7 +15,7 @@ use std::net::{IpAddr, Ipv4Addr, Ipv6Addr, SocketAddr};
 use toml::Value;
 
 /// On at most so many addresses a server listens.
-const MOST_ADDRESSES: usize = 8;
+pub(crate) const MOST_ADDRESSES: usize = 8;
 
 /// A port: a decimal number from 1 to 65,535, without leading zeros.
 fn port(text: &str) -> Option<u16>

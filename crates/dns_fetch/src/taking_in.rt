@@ -162,7 +162,7 @@ fn idle_with<I: ZoneIndex>(
 /// Reads the messages of an answer in their order, until it is at its end, and answers whether it is. One
 /// that brings more records of a whole zone than one may have is given up: no zone comes of it, whatever
 /// follows. So is one with too many messages in a row that bring no record, of which `idle` is the count.
-fn hear<I: ZoneIndex>(
+fn feed_messages<I: ZoneIndex>(
     heap: Heap,
     secondary: &mut Secondary<I>,
     messages: &[Octets],
@@ -197,7 +197,7 @@ fn hear<I: ZoneIndex>(
 }
 
 /// Reads the answer piece by piece, until it is at its end.
-fn hear_all<S: WaitingStream, I: ZoneIndex, P: Watch>(
+fn read_answer<S: WaitingStream, I: ZoneIndex, P: Watch>(
     heap: Heap,
     stream: &mut S,
     piece: &mut [u8],
@@ -215,8 +215,8 @@ fn hear_all<S: WaitingStream, I: ZoneIndex, P: Watch>(
     'pieces: for _ in 0..u64::MAX {
         let count = read_some(stream, piece)?;
         let messages = framing.feed(heap, &piece[..count])?;
-        watch.heard(records_in(messages.as_slice()));
-        if hear(heap, secondary, &messages, &mut idle)? {
+        watch.received(records_in(messages.as_slice()));
+        if feed_messages(heap, secondary, &messages, &mut idle)? {
             return Ok(());
         }
     }
@@ -237,7 +237,7 @@ fn listen<S: WaitingStream, I: ZoneIndex, P: Watch>(
 {
     let mut piece = Vec::new(heap);
     piece.resize(PIECE, 0)?;
-    hear_all(heap, stream, &mut piece, secondary, watch)
+    read_answer(heap, stream, &mut piece, secondary, watch)
 }
 
 /// Takes in the zone of that apex: asks for the changes of the version that is held, or for the whole zone

@@ -5,7 +5,7 @@ use dns_network::Octets;
 /// Is told how many records a transfer brings. No clause speaks of what it does with that.
 pub trait Watch {
     /// So many records came in the messages that were read last.
-    fn heard(&mut self, records: u64);
+    fn received(&mut self, records: u64);
 
     /// No more will come.
     fn end(&mut self);

@@ -48,6 +48,7 @@ fn has_counts(message: &Message<'_>, question: &QuestionView<'_>) -> bool
 }
 
 /// A message with its one question, by its kind, its type and its class.
+#[inline(always)]
 fn by_question(request: RequestMessage<'_>) -> Request<'_>
     ensures request { request_shown result
         ≡ question_as request.entry.message.message request.entry.question }

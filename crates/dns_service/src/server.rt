@@ -31,7 +31,7 @@ use std::time::{Clock, Instant};
 
 /// In which turns the clock and the events of sockets are looked at, besides those after a wait: each one of
 /// so many.
-const GLANCE: u64 = 32;
+const TURNS_PER_POLL: u64 = 32;
 
 /// Tells which version of a zone is shown.
 fn tell_zone<I: ZoneIndex, E: Write>(
@@ -83,8 +83,8 @@ fn seconds<R: Clock>(rt: &R, start: &Instant, before: u64) -> u64 {
     }
 }
 
-/// Looks what came in each so-many-th turn, and gives the seconds since the start.
-fn glance<R: Clock, S, N: Network<S>>(
+/// Looks what came, in each 32nd turn, and returns the seconds since the start.
+fn poll<R: Clock, S, N: Network<S>>(
     rt: &R,
     start: &Instant,
     network: &mut N,
@@ -93,15 +93,15 @@ fn glance<R: Clock, S, N: Network<S>>(
 ) -> u64
     ensures { HasPaused N.Network network.old network.new }
 {
-    if turn % GLANCE != 0 {
+    if turn % TURNS_PER_POLL != 0 {
         return now;
     }
     network.look();
     seconds(rt, start, now)
 }
 
-/// Waits until something may have come, where nothing was done, and gives the seconds since the start.
-fn rest<R: Clock, S, N: Network<S>>(
+/// Waits until something may have come, if nothing was done, and returns the seconds since the start.
+fn pause<R: Clock, S, N: Network<S>>(
     rt: &R,
     start: &Instant,
     network: &mut N,
@@ -134,9 +134,9 @@ fn run<R: Clock, I: ZoneIndex, D: ZoneStore, S: Stream + Drop, N: Network<S>, L:
     let start = Instant::now(rt)?;
     let mut now = 0;
     for turn in 0..turns {
-        now = glance(rt, &start, network, turn, now);
+        now = poll(rt, &start, network, turn, now);
         let is_done = edge.turn(heap, network, primary, notes, now);
-        now = rest(rt, &start, network, is_done, now);
+        now = pause(rt, &start, network, is_done, now);
     }
     Ok(())
 }

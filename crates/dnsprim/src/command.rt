@@ -8,6 +8,8 @@ use std::alloc::Global;
 pub enum Task<'a> {
     /// `check FILE ORIGIN`
     Check(&'a str, &'a str),
+    /// `check CONFIG`
+    CheckConfiguration(&'a str),
     /// `replay CONFIG SCRIPT`
     Replay(&'a str, &'a str),
     /// `init CONFIG [ORIGIN]`
@@ -50,6 +52,27 @@ pub struct Asked<'a> {
     pub task: Task<'a>,
     pub explain: bool,
 }
+
+/// What the words are.
+#[derive(Clone, Copy)]
+pub enum Words<'a> {
+    /// A task is asked for.
+    Asked(Asked<'a>),
+    /// A word is missing, or is no number: this is what is expected.
+    Wrong(&'static str),
+    /// There is no command.
+    NoCommand,
+}
+
+/// What is expected of `check` with one word.
+const CHECK_EXPECTED: &str =
+    "check: a master file and an origin, or a configuration (.toml, or --config) alone, are expected";
+
+/// What is expected of `--turns`.
+const TURNS_EXPECTED: &str = "--turns: a number from 0 to 4294967295, or unlimited, is expected";
+
+/// What is expected of `--seconds`.
+const SECONDS_EXPECTED: &str = "--seconds: a number from 0 to 4294967295 is expected";
 
 /// How many seconds `fetch` may take unless it is told another number.
 const FETCH_SECONDS: u64 = 300;
@@ -101,10 +124,22 @@ fn origin<'a>(alloc: Global) -> Arg<'a> {
 }
 
 fn check_command<'a>(alloc: Global) -> Result<Command<'a>, Error> {
-    let file = word(alloc, "FILE", "A master file (RFC 1035 section 5)");
-    let about = "Reads a master file and tells what is wrong with it";
+    let file = word(
+        alloc,
+        "FILE",
+        "A master file (RFC 1035 section 5), or alone a configuration, whose name ends in .toml",
+    );
+    let about =
+        "Reads a master file, or a configuration with its master files, and tells what is wrong with it";
     let command = of_one_word(alloc, "check", about, file)?;
-    Ok(command.arg(origin(alloc))?)
+    let origin = Arg::new(alloc, "ORIGIN")
+        .action(ArgAction::Set)
+        .help("The name of the zone's apex, as example.");
+    let is_config = Arg::new(alloc, "config")
+        .long("config")
+        .action(ArgAction::SetTrue)
+        .help("FILE is a configuration, whatever its name");
+    Ok(command.arg(origin)?.arg(is_config)?)
 }
 
 fn replay_command<'a>(alloc: Global) -> Result<Command<'a>, Error> {
@@ -142,7 +177,7 @@ fn load_command<'a>(alloc: Global) -> Result<Command<'a>, Error> {
     let dry_run = Arg::new(alloc, "dry-run")
         .long("dry-run")
         .action(ArgAction::SetTrue)
-        .help("Prints the records that would go and come, and loads none");
+        .help("Prints the records that would be removed and added, and loads none");
     Ok(command.arg(dry_run)?)
 }
 
@@ -160,7 +195,7 @@ fn serve_command<'a>(alloc: Global) -> Result<Command<'a>, Error> {
         .required(true)
         .action(ArgAction::Set)
         .help(
-            "The server ends after so many turns, at most 4294967295, or by a signal alone: unlimited",
+            "The server ends after this number of turns, at most 4294967295; or, with unlimited, by a signal",
         );
     let quiet = Arg::new(alloc, "quiet")
         .long("quiet")
@@ -189,7 +224,7 @@ fn fetch_command<'a>(alloc: Global) -> Result<Command<'a>, Error> {
         .long("seconds")
         .value_name("N")
         .action(ArgAction::Set)
-        .help("It gives up after so many seconds, 300 unless another number is given");
+        .help("It gives up after this number of seconds, which is 300 unless it is given");
     Ok(command.arg(since)?.arg(seconds)?)
 }
 
@@ -237,33 +272,74 @@ fn turns_of(text: &str) -> Option<u64> {
     }
 }
 
-/// The words of `serve`, if its number of turns is one.
-fn serve_words<'a>(inner: &ArgMatches<'a>) -> Option<Serving<'a>> {
-    Some(Serving {
-        config: inner.get_str("CONFIG")?,
-        turns: turns_of(inner.get_str("turns")?)?,
-        quiet: inner.get_flag("quiet"),
-    })
-}
-
-/// The words of `fetch`, if its number of seconds, where there is one, is a number.
-fn fetch_words<'a>(inner: &ArgMatches<'a>) -> Option<Fetching<'a>> {
-    let seconds = match inner.get_str("seconds") {
-        Some(text) => number_of(text)?,
-        None => FETCH_SECONDS,
+/// The words of `check`.
+fn check_words<'a>(inner: &ArgMatches<'a>) -> Words<'a> {
+    let Some(path) = inner.get_str("FILE") else {
+        return Words::NoCommand;
     };
-    Some(Fetching {
-        server: inner.get_str("ADDRESS:PORT")?,
-        origin: inner.get_str("ORIGIN")?,
-        since: inner.get_str("since"),
-        seconds,
-    })
+    let is_config = inner.get_flag("config");
+    match inner.get_str("ORIGIN") {
+        Some(origin) if !is_config => task_words(inner, Task::Check(path, origin)),
+        None if is_config || path.ends_with(".toml") => {
+            task_words(inner, Task::CheckConfiguration(path))
+        }
+        _ => Words::Wrong(CHECK_EXPECTED),
+    }
 }
 
-/// The task of a subcommand and its words. None where one is missing, or where a number is none.
+/// The words of `serve`.
+fn serve_words<'a>(inner: &ArgMatches<'a>) -> Words<'a> {
+    let (Some(config), Some(text)) = (inner.get_str("CONFIG"), inner.get_str("turns")) else {
+        return Words::NoCommand;
+    };
+    let Some(turns) = turns_of(text) else {
+        return Words::Wrong(TURNS_EXPECTED);
+    };
+    let quiet = inner.get_flag("quiet");
+    let serving = Serving {
+        config,
+        turns,
+        quiet,
+    };
+    task_words(inner, Task::Serve(serving))
+}
+
+/// The seconds that the words of `fetch` say, or those without such a word. None if they are no number.
+fn seconds_of(inner: &ArgMatches<'_>) -> Option<u64> {
+    match inner.get_str("seconds") {
+        Some(text) => number_of(text),
+        None => Some(FETCH_SECONDS),
+    }
+}
+
+/// The words of `fetch`.
+fn fetch_words<'a>(inner: &ArgMatches<'a>) -> Words<'a> {
+    let (Some(server), Some(origin)) = (inner.get_str("ADDRESS:PORT"), inner.get_str("ORIGIN"))
+    else {
+        return Words::NoCommand;
+    };
+    let Some(seconds) = seconds_of(inner) else {
+        return Words::Wrong(SECONDS_EXPECTED);
+    };
+    let since = inner.get_str("since");
+    let fetching = Fetching {
+        server,
+        origin,
+        since,
+        seconds,
+    };
+    task_words(inner, Task::Fetch(fetching))
+}
+
+/// The task that is asked for, and whether a fault is to be explained.
+fn task_words<'a>(inner: &ArgMatches<'a>, task: Task<'a>) -> Words<'a> {
+    let explain = inner.get_flag("explain");
+    Words::Asked(Asked { task, explain })
+}
+
+/// The task of another subcommand. None if a word is missing.
 fn task_of<'a>(name: &str, inner: &ArgMatches<'a>) -> Option<Task<'a>> {
     match name {
-        "check" => Some(Task::Check(inner.get_str("FILE")?, inner.get_str("ORIGIN")?)),
         "replay" => Some(Task::Replay(inner.get_str("CONFIG")?, inner.get_str("SCRIPT")?)),
         "init" => Some(Task::Init(inner.get_str("CONFIG")?, inner.get_str("ORIGIN"))),
         "dump" => Some(Task::Dump(inner.get_str("CONFIG")?, inner.get_str("ORIGIN")?)),
@@ -272,21 +348,23 @@ fn task_of<'a>(name: &str, inner: &ArgMatches<'a>) -> Option<Task<'a>> {
             Some(Task::Load(inner.get_str("CONFIG")?, inner.get_str("ORIGIN")?, dry_run))
         }
         "migrate" => Some(Task::Migrate(inner.get_str("CONFIG")?)),
-        "serve" => Some(Task::Serve(serve_words(inner)?)),
-        "fetch" => Some(Task::Fetch(fetch_words(inner)?)),
         _ => None,
     }
 }
 
-/// What the words ask for, if it is a task.
-pub fn read_words<'a>(alloc: Global, words: &'a [&'a str]) -> Result<Option<Asked<'a>>, Error> {
+/// What the words are: those that clap takes, which ask for a task, or have a number that is none.
+pub fn read_words<'a>(alloc: Global, words: &'a [&'a str]) -> Result<Words<'a>, Error> {
     let matches = whole_command(alloc)?.try_get_matches_from(words)?;
     let Some((name, inner)) = matches.subcommand() else {
-        return Ok(None);
+        return Ok(Words::NoCommand);
     };
-    let Some(task) = task_of(name, inner) else {
-        return Ok(None);
-    };
-    let explain = inner.get_flag("explain");
-    Ok(Some(Asked { task, explain }))
+    match name {
+        "check" => Ok(check_words(inner)),
+        "serve" => Ok(serve_words(inner)),
+        "fetch" => Ok(fetch_words(inner)),
+        _ => match task_of(name, inner) {
+            Some(task) => Ok(task_words(inner, task)),
+            None => Ok(Words::NoCommand),
+        },
+    }
 }

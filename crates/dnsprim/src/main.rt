@@ -7,13 +7,14 @@ mod lines;
 mod terminal;
 
 use clap::error::ErrorKind;
-use command::{Asked, Fetching, Serving, Task, read_words};
+use command::{Asked, Fetching, Serving, Task, Words, read_words};
 use dns_commands::{
-    Index, check, compare, dump, explain_check, explain_devices, explain_origin, explain_other,
-    explain_replay, explain_unreadable, explain_unserved, file, init, is_file, load, master_files,
-    migrate, octets, replay, zone_file,
+    Index, check, check_configuration, compare, dump, explain_check, explain_devices,
+    explain_origin, explain_other, explain_replay, explain_unmade, explain_unreadable,
+    explain_unserved, file, init, is_file, load, master_files, migrate, octets, replay,
+    warn_of_configuration, zone_file,
 };
-use dns_configuration::{FAILED, File, REFUSED, USAGE};
+use dns_configuration::{DONE, FAILED, File, REFUSED, USAGE};
 use dns_devices::Disk;
 use dns_fetch::{Tcp, TcpSocket, fetch};
 use dns_memory::{Heap, heap};
@@ -103,6 +104,41 @@ fn run_replay(
     Ok(status)
 }
 
+/// Checks a configuration and its master files, and gives the exit status.
+fn run_check_configuration(
+    rt: &HostRuntime,
+    heap: Heap,
+    config: &str,
+    explain: bool,
+) -> io::Result<u8> {
+    let text = octets(rt, config)?;
+    let config = file(config, &text);
+    let texts = master_files(rt, heap, "", &config)?;
+    let mut files = Vec::new(rt.alloc());
+    for (path, text) in &texts {
+        files.push(file(path, text))?;
+    }
+    let mut out = io::BufWriter::new(rt.alloc(), io::writer(rt))?;
+    let mut err = rt.stderr();
+    let status = check_configuration::<Index, _, _>(
+        rt.alloc(),
+        heap,
+        &config,
+        &files,
+        explain,
+        &mut out,
+        &mut err,
+    );
+    out.flush()?;
+    if explain && status == REFUSED {
+        explain_files(rt, heap, &config, &files)?;
+    }
+    if explain && status == DONE {
+        warn_of_configuration::<Index, _>(rt.alloc(), heap, &config, &files, &mut err)?;
+    }
+    Ok(status)
+}
+
 /// Explains why a configuration or a master file was refused.
 fn explain_files(
     rt: &HostRuntime,
@@ -186,6 +222,9 @@ fn run_init(
             Some(origin) => explain_load(rt, heap, &config, &files, origin)?,
             None => explain_files(rt, heap, &config, &files)?,
         }
+    }
+    if explain && status == FAILED {
+        explain_unmade(rt, heap, &config, origin, &mut err)?;
     }
     Ok(status)
 }
@@ -357,6 +396,9 @@ fn run(rt: &HostRuntime, asked: Asked<'_>) -> io::Result<u8> {
     let heap = heap(rt.alloc())?;
     match asked.task {
         Task::Check(path, origin) => run_check(rt, heap, path, origin, asked.explain),
+        Task::CheckConfiguration(config) => {
+            run_check_configuration(rt, heap, config, asked.explain)
+        }
         Task::Replay(config, script) => run_replay(rt, heap, config, script, asked.explain),
         Task::Init(config, origin) => run_init(rt, heap, config, origin, asked.explain),
         Task::Dump(config, origin) => run_dump(rt, heap, config, origin, asked.explain),
@@ -369,8 +411,19 @@ fn run(rt: &HostRuntime, asked: Asked<'_>) -> io::Result<u8> {
     }
 }
 
+/// Tells how the program is called, and gives the exit status.
+fn tell_usage(rt: &HostRuntime) -> io::Result<u8> {
+    eprintln!(rt;
+        "usage: dnsprim check FILE ORIGIN | check CONFIG | replay CONFIG SCRIPT | init CONFIG [ORIGIN] | \
+dump CONFIG ORIGIN | load CONFIG ORIGIN [--dry-run] | migrate CONFIG | \
+serve CONFIG --turns N|unlimited [--quiet] | \
+fetch ADDRESS:PORT ORIGIN [--since FILE] [--seconds N] [--explain]"
+    )?;
+    Ok(USAGE)
+}
+
 /// Does what the words say, and gives the exit status. An error is that of a stream, of memory, or of a word
-/// that is no UTF-8.
+/// that is not UTF-8.
 fn start(rt: &HostRuntime) -> io::Result<u8> {
     let mut words = Vec::new(rt.alloc());
     for word in env::args(rt)? {
@@ -381,16 +434,12 @@ fn start(rt: &HostRuntime) -> io::Result<u8> {
         texts.push(word.as_str())?;
     }
     match read_words(rt.alloc(), &texts) {
-        Ok(Some(asked)) => run(rt, asked),
-        Ok(None) => {
-            eprintln!(rt;
-                "usage: dnsprim check FILE ORIGIN | replay CONFIG SCRIPT | init CONFIG [ORIGIN] | \
-dump CONFIG ORIGIN | load CONFIG ORIGIN [--dry-run] | migrate CONFIG | \
-serve CONFIG --turns N|unlimited [--quiet] | \
-fetch ADDRESS:PORT ORIGIN [--since FILE] [--seconds N] [--explain]"
-            )?;
+        Ok(Words::Asked(asked)) => run(rt, asked),
+        Ok(Words::Wrong(expected)) => {
+            eprintln!(rt; "{expected}")?;
             Ok(USAGE)
         }
+        Ok(Words::NoCommand) => tell_usage(rt),
         Err(error) => {
             if error.kind() == ErrorKind::OutOfMemory {
                 return Err(io::ErrorKind::OutOfMemory.into());
@@ -410,7 +459,7 @@ fetch ADDRESS:PORT ORIGIN [--since FILE] [--seconds N] [--explain]"
 /// nothing can be reported.
 fn tell(rt: &HostRuntime, kind: io::ErrorKind) -> u8 {
     let (line, status) = match kind {
-        io::ErrorKind::InvalidData => ("a word is no UTF-8", USAGE),
+        io::ErrorKind::InvalidData => ("an argument is not UTF-8", USAGE),
         io::ErrorKind::OutOfMemory => ("out of memory", FAILED),
         _ => return FAILED,
     };

@@ -24,7 +24,7 @@ impl<'a> Terminal<'a> {
 }
 
 impl Watch for Terminal<'_> {
-    fn heard(&mut self, records: u64) {
+    fn received(&mut self, records: u64) {
         self.records = self.records.saturating_add(records);
         if !self.is_shown || records == 0 {
             return;

@@ -1,20 +1,27 @@
 //! What loading a zone's master file would change, in print, without loading it: `load --dry-run`.
-ghost use Rattle.std.specs.Prelude.{◌∷◌, [], IfOk, OnOk, MatchResult};
+ghost use Rattle.std.specs.Prelude.{◌≡◌, ◌+◌, ◌∷◌, [], length, IfOk, OnOk, MatchResult};
 ghost use Rattle.std.specs.Io.KnownBytes.{Appends};
-ghost use Rattle.dns_commands.specs.Compare.{ComparingEnds, ComparisonEnds, HasNoDifference, IsDifference};
-ghost use Rattle.dns_commands.specs.Compare.{change_lines, difference_text, signed_lines};
+ghost use Rattle.dns_store.specs.Versions.{Kept, newest_of};
+ghost use Rattle.dns_devices.specs.Stores.{own_shape};
+ghost use Rattle.dns_commands.specs.Compare.{ComparingEnds, ComparisonEnds, HasNoDifference, IsChangeWithin};
+ghost use Rattle.dns_commands.specs.Compare.{IsDifference, IsWithinRoom, change_lines, difference_text};
+ghost use Rattle.dns_commands.specs.Compare.{signed_lines};
+ghost use Rattle.dns_commands.specs.Load.{IsChangeTo};
 
 use crate::change::change_to;
 use crate::commands::load::path_blamed;
+use crate::next_version::has_room;
 use dns_changes::Change;
 use dns_configuration::{
     DONE, FAILED, Fault, File, ZoneSettings, apex, load_one, read_configuration, tell, zone_of,
 };
-use dns_devices::{DeviceFault, Devices, open_zone, tell_device};
+use dns_devices::{DeviceFault, Devices, open_store, tell_device};
+use dns_layout::entry_sectors;
 use dns_masterfile::RecordLine;
 use dns_memory::Heap;
 use dns_records::Record;
 use dns_sectors::Sectors;
+use dns_store::ZoneStore;
 use dns_zone::{Zone, ZoneIndex};
 use std::alloc::Global;
 use std::io::{self, Write};
@@ -71,7 +78,33 @@ fn print_difference<W: Write>(
     }
 }
 
-/// The change from the newest version that the device of a zone keeps to other records, or none where it has
+/// The change to the records of a zone's file after the version of that number, if there is room for it.
+fn with_room<I: ZoneIndex>(
+    newest: &Zone<I>,
+    number: u64,
+    own: &ZoneSettings,
+    zone: &Zone<I>,
+    change: Result<Option<Change>, DeviceFault>,
+) -> Result<Option<Change>, DeviceFault>
+    requires { IsChangeTo newest.now.records zone.now.records change }
+    ensures change { IsChangeWithin newest.now.records zone.now.records result }
+    ensures room { (k : Kept) → k.shape ≡ own_shape own.now → newest_of k ≡ newest.now.records
+        → number ≡ length k.shown + length k.staged → IsWithinRoom k zone.now.records result }
+{
+    let change = match change {
+        Ok(Some(change)) => change,
+        others => return others,
+    };
+    let _valid = zone.apex();
+    let room = entry_sectors(change.encoded_len());
+    if !has_room(number, own, zone, room) {
+        drop(change);
+        return Err(DeviceFault::NoRoom);
+    }
+    Ok(Some(change))
+}
+
+/// The change from the newest version that the device of a zone keeps to other records, or none if it has
 /// these.
 fn difference<D: Sectors + Drop, F: Devices<D>, I: ZoneIndex>(
     heap: Heap,
@@ -82,8 +115,13 @@ fn difference<D: Sectors + Drop, F: Devices<D>, I: ZoneIndex>(
     ensures { MatchResult result (IsDifference D.Sectors (F.opened devices.now) own.now zone.now.records)
         (HasNoDifference D.Sectors (F.opened devices.now) own.now zone.now.records) }
 {
-    match open_zone::<D, F, I>(heap, devices, own) {
-        Ok(newest) => change_to(heap, &newest, zone),
+    match open_store::<D, F, I>(heap, devices, own) {
+        Ok((store, newest)) => {
+            let number = store.newest();
+            drop(store);
+            let change = change_to(heap, &newest, zone);
+            with_room(&newest, number, own, zone, change)
+        }
         Err(fault) => Err(fault),
     }
 }
@@ -147,9 +185,9 @@ fn compare_named<D: Sectors + Drop, F: Devices<D>, I: ZoneIndex, W: Write, E: Wr
 
 /// Prints what `load` would change of a configuration's zone, and makes no version: each record that would
 /// go as a line of a master file after `- `, and then each that would come after `+ `, both with their SOA
-/// first; or `ORIGIN already`. Whether the next version would have room is not looked at.
+/// first; or `ORIGIN already`.
 ///
-/// Faults are reported as `load` does, but for `NoRoom`. Gives the exit status: `DONE`, `REFUSED`, or
+/// Faults are reported as `load` does. Gives the exit status: `DONE`, `REFUSED`, or
 /// `FAILED` where the device can't be had, a writer failed or memory was refused.
 pub fn compare<D: Sectors + Drop, F: Devices<D>, I: ZoneIndex, W: Write, E: Write>(
     alloc: Global,

@@ -15,7 +15,7 @@ zones-preserved c =
     let zone = c.in_ok-zone.zone in
     let table = c.table-item.result in
     let room : length zones ≢ 16 = search rules in
-    let apart : list_any (λ z. are_alike z zone) zones ≡ false = ap (list_any (λ z. are_alike z zone)) (sym c.deref.ensures.value) ∙ sym c.if-is_double.ensures in
+    let apart : list_any (λ z. are_alike z zone) zones ≡ false = search rules in
     let here : IsSettings (view (get_or c.args.tables.now c.zones.table-index table)) zone = search rules in
     rw (add-one, c.in_ok-push.ensures.items) (settings_more c.args.tables.now c.zones.table-index table zones zone (omega arith) c.zones.invariant here room apart)
 
@@ -29,10 +29,10 @@ returns-then-len-eq-MOST_ZONES c = λ zs h.
     let full : length c.zones.zones.items ≡ 16 = search rules in
     too_many c.args.tables.now c.zones.table-index c.zones.zones.items zs.items (omega arith) c.zones.invariant.each full h
 
-pub returns-then-is_double : goal.returns-then-is_double
-returns-then-is_double c = λ zs h.
+pub returns-then-is_second : goal.returns-then-is_second
+returns-then-is_second c = λ zs h.
     let zone = c.in_ok-zone.zone in
     let table = c.table-item.result in
-    let double : list_any (λ z. are_alike z zone) c.zones.zones.items ≡ true = ap (list_any (λ z. are_alike z zone)) (sym c.deref.ensures.value) ∙ sym c.if-is_double.ensures in
+    let double : list_any (λ z. are_alike z zone) c.zones.zones.items ≡ true = search rules in
     let here : IsSettings (view (get_or c.args.tables.now c.zones.table-index table)) zone = search rules in
     never_apart c.args.tables.now c.zones.table-index table c.zones.zones.items zs.items zone (omega arith) c.zones.invariant.each here double h

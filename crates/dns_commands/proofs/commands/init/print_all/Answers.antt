@@ -14,7 +14,7 @@ pub loop-zone-preserved : goal.loop-zone-preserved
 loop-zone-preserved g c =
     let n = c.loop-zone.zone-index in
     let line = rw (ap formatted c.zone-item.is) at c.in_ok-print_formatted.ensures in
-    rw add-one (lines_more c.args.zones.now n c.zone-item.result _ _ _ (omega arith) c.loop-zone.invariant line)
+    rw add-one (lines_more formatted c.args.zones.now n c.zone-item.result _ _ _ (omega arith) c.loop-zone.invariant line)
 
 pub returns : goal.returns
 returns g c =

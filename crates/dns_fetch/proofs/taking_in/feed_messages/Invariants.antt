@@ -1,6 +1,6 @@
 use Rattle.std.proofs.Common.{◌<◌, map, take}
 use Rattle.dns_fetch.specs.TakingIn.{HearsMore, idle_limit}
-use Rattle.dns_fetch.proofs.taking_in.hear.Given as goal
+use Rattle.dns_fetch.proofs.taking_in.feed_messages.Given as goal
 
 abbrev pub invariant-loop-message : goal.invariant-loop-message
 invariant-loop-message g l = record {

@@ -3,7 +3,7 @@ use Rattle.dns_fetch.specs.FetchFaults.{ComesOfAsking}
 use Rattle.dns_fetch.specs.TakingIn.{TellRefusal}
 use Rattle.dns_fetch.proofs.Heard.{beyond_fed, counted_fed, ended_fed, err_goes, more_fed, next_at, refused_fed, split_at, stalled_fed}
 use Rattle.dns_fetch.proofs.Idle.{counted_below}
-use Rattle.dns_fetch.proofs.taking_in.hear.Goals as goal
+use Rattle.dns_fetch.proofs.taking_in.feed_messages.Goals as goal
 
 pub returns-in_err-feed-clause-refused : goal.returns-in_err-feed-clause-refused
 returns-in_err-feed-clause-refused g c =
