@@ -17,7 +17,8 @@ use Rattle.dns_configuration.specs.Faults.{fault_text, is_memory, line}
 use Rattle.dns_configuration.specs.Files.{HoldsConfiguration, IsFirstFault}
 use Rattle.dns_devices.specs.declared.device_faults.DeviceFault.{DeviceFault}
 use Rattle.dns_devices.specs.DeviceFaults.{device_text, status_of}
-use Rattle.dns_commands.specs.Init.{Finds, HasDevice, InitEnds, AreChosen, IsFirstFound, IsFound, IsGiven, IsInitRefused, IsNotChosen, IsNotMade, Makes, MakingEnds, MakingStopsAt, formatted, is_absent}
+use Rattle.dns_devices.specs.Made.{Makes}
+use Rattle.dns_commands.specs.Init.{AreChosen, Finds, HasDevice, HasMade, InitEnds, IsFirstFound, IsFound, IsGiven, IsInitRefused, IsNotChosen, IsNotMade, MakingEnds, MakingStopsAt, formatted, is_absent, sectors_of}
 
 -- The first device where there is something already.
 pub found_at : (found : Finds) (all : List ZoneSettings) (n : ℕ) (z : ZoneSettings) (path : List ℕ) (fault : DeviceFault) → n < length all → All (is_absent found) (take n all) → path ≡ string_bytes (get_or all n z).device → IsFound found (get_or all n z) fault → IsFirstFound found all path fault
@@ -61,6 +62,13 @@ stops_at g made (x ∷ xs) (y ∷ ys) (suc n) d e path fault inside within h p k
 pub pairs_all : {A B : Type 0} (R : A → B → Type 0) (xs : List A) (ys : List B) (n : ℕ) → length xs ≤ n → length ys ≤ n → AllZip R (take n xs) (take n ys) → AllZip R xs ys
 pairs_all {A = A} {B = B} R xs ys n all whole h =
     subst (λ (some : List A). AllZip R some ys) (take_all n xs all) (subst (λ (others : List B). AllZip R (take n xs) others) (take_all n ys whole) h)
+
+-- The devices that were made were.
+pub have_made : {D : Type 0} (g : Ghosts D) (made : Makes D) (settings : List ZoneSettings) (zones : List Zone) → AllZip (HasDevice g made) settings zones → All (HasMade made) settings
+have_made g made [] zones h i d inside = absurd (omega (arith, inside))
+have_made g made (own ∷ settings) [] h i d inside = absurd h
+have_made g made (own ∷ settings) (zone ∷ zones) h zero d inside = (sectors_of own, (h.0).1.blank, (h.0).1.came)
+have_made g made (own ∷ settings) (zone ∷ zones) h (suc i) d inside = have_made g made settings zones h.1 i d (omega (arith, inside))
 
 -- A writer failed or memory was refused.
 pub making_failed : {D : Type 0} (g : Ghosts D) (made : Makes D) (settings : List ZoneSettings) (zones : List Zone) (explain : Bool) (out out_after err err_after : Option (List ℕ)) → MakingEnds g made settings zones explain out out_after err err_after 3

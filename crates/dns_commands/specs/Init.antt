@@ -32,13 +32,10 @@ use Rattle.dns_devices.specs.declared.device_faults.DeviceFault.TheVariants.{Zon
 use Rattle.dns_devices.specs.declared.device_faults.DeviceFault.TheVariants.{SerialNotRaised, NoRoom}
 use Rattle.dns_devices.specs.declared.device_faults.DeviceFault.TheVariants.{OutOfMemory}
 use Rattle.dns_devices.specs.DeviceFaults.{device_text, status_of}
+use Rattle.dns_devices.specs.Made.{IsMadeAt, Makes}
 use Rattle.dns_configuration.specs.Named.{IsNoZone, zone_configured}
 
--- What may be answered for a device that is to be made, of so many sectors; and where it is asked whether
--- there is one.
-abbrev pub Makes : Type 0 → Type 1
-Makes D = List ℕ → ℕ → Result D DeviceError → Type 0
-
+-- What may be answered if it is asked whether there is a device.
 abbrev pub Finds : Type 1
 Finds = List ℕ → Result Bool DeviceError → Type 0
 
@@ -116,6 +113,10 @@ formatted zone = flat_map (λ soa. line (formatted_text zone soa)) (soas zone.re
 -- The zone's device was made.
 abbrev pub HasDevice : {D : Type 0} → Ghosts D → Makes D → ZoneSettings → Zone → Type 0
 HasDevice {D} g made own zone = (device : D) × IsDeviceMade g made own zone device
+
+-- A device was made at the zone's path.
+abbrev pub HasMade : {D : Type 0} → Makes D → ZoneSettings → Type 0
+HasMade made own = IsMadeAt made (string_bytes own.device)
 
 -- The devices of the first zones were made, and that of the next one, which has that path, was not, for this.
 abbrev pub MakingStopsAt : {D : Type 0} → Ghosts D → Makes D → List ZoneSettings → List Zone → List ℕ

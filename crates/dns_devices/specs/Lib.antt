@@ -1,2 +1,3 @@
 pub mod DeviceFaults
+pub mod Made
 pub mod Stores

@@ -7,5 +7,5 @@ mod devices;
 mod stores;
 
 pub use device_faults::{DeviceFault, refusal, tell_device};
-pub use devices::{Devices, Disk};
+pub use devices::{Devices, Disk, NewDevices};
 pub use stores::{open_store, open_zone};

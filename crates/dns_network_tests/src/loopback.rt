@@ -48,19 +48,7 @@ struct InMemory {
 }
 
 impl Devices<MemorySectors> for InMemory {
-    ghost found = { λ _ _ _. Unit {0} };
-
-    ghost made = { λ _ _ _ _. Unit {0} };
-
     ghost opened = { λ _ _ _. Unit {0} };
-
-    fn has(&self, _path: &str) -> Result<bool, DeviceError> {
-        Ok(true)
-    }
-
-    fn make(&self, _path: &str, _len: usize) -> Result<MemorySectors, DeviceError> {
-        Err(DeviceError::Device)
-    }
 
     fn open(&self, _path: &str) -> Result<MemorySectors, OpenDeviceError> {
         let mut device = device(self.heap, ZONE, 8).ok_or(OpenDeviceError::Device)?;
@@ -71,8 +59,6 @@ impl Devices<MemorySectors> for InMemory {
         }
         Ok(device)
     }
-
-    fn remove(&self, _path: &str) {}
 }
 
 /// A run of a server for so many turns: what its clients do, the datagrams that they get, what they read on

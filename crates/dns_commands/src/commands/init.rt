@@ -5,14 +5,14 @@ ghost use Rattle.std.specs.List.{AllZip};
 ghost use Rattle.std.specs.Option.{option_copied};
 ghost use Rattle.std.specs.Io.KnownBytes.{Appends};
 ghost use Rattle.dns_configuration.specs.Faults.{is_memory};
-ghost use Rattle.dns_commands.specs.Init.{AreChosen, HasDevice, InitEnds, IsFirstFound, IsFound};
+ghost use Rattle.dns_commands.specs.Init.{AreChosen, HasDevice, HasMade, InitEnds, IsFirstFound, IsFound};
 ghost use Rattle.dns_commands.specs.Init.{IsDeviceMade, IsNotChosen, IsNotMade, MakingEnds, MakingStopsAt};
 ghost use Rattle.dns_commands.specs.Init.{formatted, is_absent, sectors_of};
 
 use dns_configuration::{
     DONE, FAILED, Fault, File, ZoneSettings, apex, load_all, read_configuration, tell, zone_of,
 };
-use dns_devices::{DeviceFault, Devices, tell_device};
+use dns_devices::{DeviceFault, NewDevices, tell_device};
 use dns_memory::Heap;
 use dns_sectors::Sectors;
 use dns_store::format;
@@ -30,7 +30,7 @@ fn sectors_of(own: &ZoneSettings) -> usize
 }
 
 /// Makes the store of a zone on a new device. One on which the store can't be made is taken away again.
-fn make_store<D: Sectors + Drop, F: Devices<D>, I: ZoneIndex>(
+fn make_store<D: Sectors + Drop, F: NewDevices<D>, I: ZoneIndex>(
     heap: Heap,
     devices: &F,
     own: &ZoneSettings,
@@ -54,7 +54,7 @@ fn make_store<D: Sectors + Drop, F: Devices<D>, I: ZoneIndex>(
 
 /// Why the device of a zone is not to be made: there is something at its path already, or that can't be
 /// determined.
-fn fault_at<D, F: Devices<D>>(devices: &F, own: &ZoneSettings) -> Option<DeviceFault>
+fn fault_at<D, F: NewDevices<D>>(devices: &F, own: &ZoneSettings) -> Option<DeviceFault>
     ensures { MatchOption result (is_absent (F.found devices.now) own.now)
         (IsFound (F.found devices.now) own.now) }
 {
@@ -71,7 +71,7 @@ fn fault_at<D, F: Devices<D>>(devices: &F, own: &ZoneSettings) -> Option<DeviceF
 }
 
 /// The path of the first device where there is something already, or where that can't be determined.
-fn first_found<'s, D, F: Devices<D>>(
+fn first_found<'s, D, F: NewDevices<D>>(
     devices: &F,
     zones: &'s [ZoneSettings],
 ) -> Option<(&'s str, DeviceFault)>
@@ -112,14 +112,16 @@ fn chosen<'s, 'o>(
 }
 
 /// Takes away the devices of these zones, which were made in this run.
-fn take_away<D, F: Devices<D>>(devices: &F, settings: &[ZoneSettings]) {
+fn take_away<D, F: NewDevices<D>>(devices: &F, settings: &[ZoneSettings])
+    requires { All (HasMade (F.made devices.now)) settings.now }
+{
     for own in settings {
         devices.remove(&own.device);
     }
 }
 
 /// Makes the devices of zones, in their order. Where one is refused those before it are taken away again.
-fn make_devices<'s, D: Sectors + Drop, F: Devices<D>, I: ZoneIndex>(
+fn make_devices<'s, D: Sectors + Drop, F: NewDevices<D>, I: ZoneIndex>(
     heap: Heap,
     devices: &F,
     settings: &'s [ZoneSettings],
@@ -165,7 +167,7 @@ fn print_all<I: ZoneIndex, W: Write>(out: &mut W, zones: &[Zone<I>]) -> io::Resu
 
 /// Makes the devices of zones, in their order, and prints each. Where one is refused, or what was made can't
 /// be printed, none that was made stays.
-fn make_all<D: Sectors + Drop, F: Devices<D>, I: ZoneIndex, W: Write, E: Write>(
+fn make_all<D: Sectors + Drop, F: NewDevices<D>, I: ZoneIndex, W: Write, E: Write>(
     heap: Heap,
     devices: &F,
     settings: &[ZoneSettings],
@@ -191,7 +193,7 @@ fn make_all<D: Sectors + Drop, F: Devices<D>, I: ZoneIndex, W: Write, E: Write>(
 }
 
 /// Makes the devices that are asked for, and gives the exit status.
-fn init_all<D: Sectors + Drop, F: Devices<D>, I: ZoneIndex, W: Write, E: Write>(
+fn init_all<D: Sectors + Drop, F: NewDevices<D>, I: ZoneIndex, W: Write, E: Write>(
     alloc: Global,
     heap: Heap,
     devices: &F,
@@ -233,7 +235,7 @@ fn init_all<D: Sectors + Drop, F: Devices<D>, I: ZoneIndex, W: Write, E: Write>(
 /// be done.
 /// Gives the exit status: `DONE`, `REFUSED`, or `FAILED` where a device can't be had, a writer failed or
 /// memory was refused.
-pub fn init<D: Sectors + Drop, F: Devices<D>, I: ZoneIndex, W: Write, E: Write>(
+pub fn init<D: Sectors + Drop, F: NewDevices<D>, I: ZoneIndex, W: Write, E: Write>(
     alloc: Global,
     heap: Heap,
     devices: &F,

@@ -7,8 +7,8 @@ use Rattle.dns_commands.proofs.commands.init.init.Goals as goal
 
 pub returns : goal.returns
 returns g c =
-    let found = g.F.Devices.found c.args.devices.now in
-    let made = g.F.Devices.made c.args.devices.now in
+    let found = g.F.NewDevices.found c.args.devices.now in
+    let made = g.F.NewDevices.made c.args.devices.now in
     let config = c.args.config.now in
     let origin = option_copied c.args.origin in
     let files = c.args.files.now in

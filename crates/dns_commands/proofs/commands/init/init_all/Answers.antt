@@ -1,14 +1,12 @@
-use Rattle.std.proofs.Common.{◌≡◌, ℕ, List, true, inl, inr, refl, sym, ap, subst, length, ◌∙◌}
+use Rattle.std.proofs.Common.{◌≡◌, ℕ, List, true, inl, refl, sym, ap, subst, length, ◌∙◌}
 use Rattle.std.specs.Prelude.{◌⊎◌}
-use Rattle.std.specs.List.{AllZip}
 use Rattle.std.specs.Option.{option_copied}
-use Rattle.dns_zone.specs.Zone.{Zone}
 use Rattle.dns_configuration.specs.declared.configuration.ZoneSettings.{ZoneSettings}
 use Rattle.dns_configuration.specs.declared.files.Fault.TheVariants.{BadOrigin}
 use Rattle.dns_configuration.specs.Faults.{fault_text, is_memory}
 use Rattle.dns_configuration.specs.Files.{IsLoadedFrom}
 use Rattle.dns_devices.specs.DeviceFaults.{device_text}
-use Rattle.dns_commands.specs.Init.{InitEnds, AreChosen, IsGiven, IsNotChosen, MakingEnds}
+use Rattle.dns_commands.specs.Init.{InitEnds, AreChosen, IsGiven, IsNotChosen}
 use Rattle.dns_devices.proofs.Told.{device_told}
 use Rattle.dns_configuration.proofs.Told.{fault_told}
 use Rattle.dns_commands.proofs.Made.{files_refused, found_refused, init_failed, init_made_ok, init_refused, word_refused, zip_length}
@@ -16,8 +14,8 @@ use Rattle.dns_commands.proofs.commands.init.init_all.Goals as goal
 
 pub returns-in-Err : goal.returns-in-Err
 returns-in-Err g c =
-    let found = g.F.Devices.found c.args.devices.now in
-    let made = g.F.Devices.made c.args.devices.now in
+    let found = g.F.NewDevices.found c.args.devices.now in
+    let made = g.F.NewDevices.made c.args.devices.now in
     let config = c.args.config.now in
     let origin = option_copied c.args.origin in
     let files = c.args.files.now in
@@ -31,8 +29,8 @@ returns-in-Err g c =
 
 pub returns-in-Err-chosen : goal.returns-in-Err-chosen
 returns-in-Err-chosen g c =
-    let found = g.F.Devices.found c.args.devices.now in
-    let made = g.F.Devices.made c.args.devices.now in
+    let found = g.F.NewDevices.found c.args.devices.now in
+    let made = g.F.NewDevices.made c.args.devices.now in
     let config = c.args.config.now in
     let origin = option_copied c.args.origin in
     let files = c.args.files.now in
@@ -48,8 +46,8 @@ returns-in-Err-chosen g c =
 
 pub returns-in-Err-load_all : goal.returns-in-Err-load_all
 returns-in-Err-load_all g c =
-    let found = g.F.Devices.found c.args.devices.now in
-    let made = g.F.Devices.made c.args.devices.now in
+    let found = g.F.NewDevices.found c.args.devices.now in
+    let made = g.F.NewDevices.made c.args.devices.now in
     let config = c.args.config.now in
     let origin = option_copied c.args.origin in
     let files = c.args.files.now in
@@ -66,8 +64,8 @@ returns-in-Err-load_all g c =
 
 pub returns-in-Some : goal.returns-in-Some
 returns-in-Some g c =
-    let found = g.F.Devices.found c.args.devices.now in
-    let made = g.F.Devices.made c.args.devices.now in
+    let found = g.F.NewDevices.found c.args.devices.now in
+    let made = g.F.NewDevices.made c.args.devices.now in
     let config = c.args.config.now in
     let origin = option_copied c.args.origin in
     let files = c.args.files.now in
@@ -89,8 +87,8 @@ make_all-requires g c = zip_length (IsLoadedFrom c.args.files.now) c.in-Ok-chose
 
 pub returns : goal.returns
 returns g c =
-    let found = g.F.Devices.found c.args.devices.now in
-    let made = g.F.Devices.made c.args.devices.now in
+    let found = g.F.NewDevices.found c.args.devices.now in
+    let made = g.F.NewDevices.made c.args.devices.now in
     let config = c.args.config.now in
     let origin = option_copied c.args.origin in
     let files = c.args.files.now in

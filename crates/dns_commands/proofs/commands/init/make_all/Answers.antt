@@ -1,12 +1,12 @@
 use Rattle.std.proofs.Common.{ℕ}
 use Rattle.dns_commands.specs.Init.{MakingEnds}
 use Rattle.dns_devices.proofs.Told.{device_told}
-use Rattle.dns_commands.proofs.Made.{making_done, making_failed, making_refused}
+use Rattle.dns_commands.proofs.Made.{have_made, making_done, making_failed, making_refused}
 use Rattle.dns_commands.proofs.commands.init.make_all.Goals as goal
 
 pub returns-in-Err : goal.returns-in-Err
 returns-in-Err g c =
-    let made = g.F.Devices.made c.args.devices.now in
+    let made = g.F.NewDevices.made c.args.devices.now in
     let settings = c.args.settings.now in
     let zones = c.args.zones.now in
     let path = c.in-Err.path.now in
@@ -20,4 +20,7 @@ returns-in-Err g c =
 
 pub returns-in-Ok : goal.returns-in-Ok
 returns-in-Ok g c =
-    making_done g.D.Sectors (g.F.Devices.made c.args.devices.now) c.args.settings.now c.args.zones.now c.args.explain (g.W.Write.contents c.args.out.now) (g.W.Write.contents c.print_all.new.out) (g.E.Write.contents c.args.err.now) c.in_default.ensures c.in-Ok.ensures
+    making_done g.D.Sectors (g.F.NewDevices.made c.args.devices.now) c.args.settings.now c.args.zones.now c.args.explain (g.W.Write.contents c.args.out.now) (g.W.Write.contents c.print_all.new.out) (g.E.Write.contents c.args.err.now) c.in_default.ensures c.in-Ok.ensures
+
+pub take_away-requires : goal.take_away-requires
+take_away-requires g c = have_made g.D.Sectors (g.F.NewDevices.made c.args.devices.now) c.args.settings.now c.args.zones.now c.in_default.ensures
