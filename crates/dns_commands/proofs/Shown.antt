@@ -1,5 +1,5 @@
 -- How a run that shows a device ends.
-use Rattle.std.proofs.Common.{◌≡◌, ℕ, Bool, true, false, inl, inr, List, [], Option, None, Result, Ok, Err, IfOk, refl, sym, ap, subst, ◌∙◌, arith}
+use Rattle.std.proofs.Common.{◌≡◌, ℕ, Bool, true, false, inl, inr, List, [], Option, None, Ok, Err, refl, sym, ap, subst, ◌∙◌, arith}
 use Rattle.std.specs.Prelude.{◌⊎◌, find}
 use Rattle.std.specs.Option.{option_copied}
 use Rattle.std.specs.String.{string_bytes}
@@ -19,50 +19,52 @@ use Rattle.dns_configuration.specs.Files.{HoldsConfiguration}
 use Rattle.dns_devices.specs.declared.device_faults.DeviceFault.{DeviceFault}
 use Rattle.dns_devices.specs.DeviceFaults.{device_text, status_of}
 use Rattle.dns_commands.specs.Dump.{DumpEnds, ShowingEnds}
-use Rattle.dns_devices.specs.Stores.{Gives, IsNotShown}
+use Rattle.dns_devices.specs.DeviceCalls.{DeviceCall}
+use Rattle.dns_devices.specs.Stores.{AreCallsOf, IsLookedInto, IsNotShown}
 use Rattle.dns_configuration.specs.Named.{IsNamed, IsNoZoneName, zone_configured}
 
 -- A writer failed or memory was refused.
-pub showing_failed : {D : Type 0} (g : Ghosts D) (opened : Gives D) (own : ZoneSettings) (explain : Bool) (out out_after err err_after : Option (List ℕ)) → ShowingEnds g opened own explain out out_after err err_after 3
-showing_failed g opened own explain out out_after err err_after = record {
+pub showing_failed : {D : Type 0} (g : Ghosts D) (calls : List (DeviceCall D)) (own : ZoneSettings) (explain : Bool) (out out_after err err_after : Option (List ℕ)) → IsLookedInto g calls own → ShowingEnds g calls own explain out out_after err err_after 3
+showing_failed g calls own explain out out_after err err_after called = record {
   done = λ e. absurd (omega (arith, e));
   refused = λ e. absurd (omega (arith, e));
   others = inr refl;
+  called = called;
 }
 
-pub dump_failed : {D : Type 0} (g : Ghosts D) (opened : Gives D) (config : File) (origin : List ℕ) (explain : Bool) (out out_after err err_after : Option (List ℕ)) → DumpEnds g opened config origin explain out out_after err err_after 3
-dump_failed g opened config origin explain out out_after err err_after = record {
+pub dump_failed : {D : Type 0} (g : Ghosts D) (calls : List (DeviceCall D)) (config : File) (origin : List ℕ) (explain : Bool) (out out_after err err_after : Option (List ℕ)) → AreCallsOf config origin (IsLookedInto g calls) calls → DumpEnds g calls config origin explain out out_after err err_after 3
+dump_failed g calls config origin explain out out_after err err_after called = record {
   done = λ e. absurd (omega (arith, e));
   refused = λ e. absurd (omega (arith, e));
   others = inr refl;
+  called = called;
 }
 
 -- The device shows no zone.
-pub not_shown : {D : Type 0} (g : Ghosts D) (opened : Gives D) (own : ZoneSettings) (explain : Bool) (out err err_after : Option (List ℕ)) (path : List ℕ) (fault : DeviceFault) → path ≡ string_bytes own.device → IsNotShown g opened own fault → status_of fault ≡ 1 → Appends err err_after (line (device_text path fault explain)) → ShowingEnds g opened own explain out out err err_after 1
-not_shown g opened own explain out err err_after path fault p why status said = record {
+pub not_shown : {D : Type 0} (g : Ghosts D) (calls : List (DeviceCall D)) (own : ZoneSettings) (explain : Bool) (out err err_after : Option (List ℕ)) (path : List ℕ) (fault : DeviceFault) → path ≡ string_bytes own.device → IsNotShown g calls own fault → status_of fault ≡ 1 → Appends err err_after (line (device_text path fault explain)) → ShowingEnds g calls own explain out out err err_after 1
+not_shown g calls own explain out err err_after path fault p why status said = record {
   done = λ e. absurd (omega (arith, e));
   refused = λ _. (fault, why, status, subst (λ (t : List ℕ). Appends err err_after (line (device_text t fault explain))) p said, Keeps-refl out);
   others = inl (omega arith);
+  called = inr (fault, why);
 }
 
 -- What is shown is that of the zone of that name.
-pub dump_shown : {D : Type 0} (g : Ghosts D) (opened : Gives D) (config : File) (origin : List ℕ) (own : ZoneSettings) (explain : Bool) (out out_after err err_after : Option (List ℕ)) (status : ℕ) → IsNamed config origin own → ShowingEnds g opened own explain out out_after err err_after status → DumpEnds g opened config origin explain out out_after err err_after status
-dump_shown g opened config origin own explain out out_after err err_after status named h = record {
+pub dump_shown : {D : Type 0} (g : Ghosts D) (calls : List (DeviceCall D)) (config : File) (origin : List ℕ) (own : ZoneSettings) (explain : Bool) (out out_after err err_after : Option (List ℕ)) (status : ℕ) → IsNamed config origin own → ShowingEnds g calls own explain out out_after err err_after status → DumpEnds g calls config origin explain out out_after err err_after status
+dump_shown g calls config origin own explain out out_after err err_after status named h = record {
   done = λ e. let d = h.done e in (own, d.0, named, d.1, d.2, d.3);
   refused = λ e. let d = h.refused e in (device_text (string_bytes own.device) d.0 explain, d.3, d.4, inr (own, d.0, named, d.1, refl));
   others = h.others;
+  called = inr (own, named, h.called);
 }
 
-pub dump_shown_ok : {D E : Type 0} (g : Ghosts D) (opened : Gives D) (config : File) (origin : List ℕ) (own : ZoneSettings) (explain : Bool) (out out_after err err_after : Option (List ℕ)) (r : Result ℕ E) → IsNamed config origin own → IfOk r (λ status. ShowingEnds g opened own explain out out_after err err_after status) → IfOk r (λ status. DumpEnds g opened config origin explain out out_after err err_after status)
-dump_shown_ok g opened config origin own explain out out_after err err_after (Err e) named h = tt
-dump_shown_ok g opened config origin own explain out out_after err err_after (Ok status) named h = dump_shown g opened config origin own explain out out_after err err_after status named h
-
 -- The configuration or the origin is refused.
-pub dump_unnamed : {D : Type 0} (g : Ghosts D) (opened : Gives D) (config : File) (origin : List ℕ) (explain : Bool) (out err err_after : Option (List ℕ)) (text : List ℕ) → IsNoZoneName config origin text → Appends err err_after (line text) → DumpEnds g opened config origin explain out out err err_after 1
-dump_unnamed g opened config origin explain out err err_after text why said = record {
+pub dump_unnamed : {D : Type 0} (g : Ghosts D) (config : File) (origin : List ℕ) (explain : Bool) (out err err_after : Option (List ℕ)) (text : List ℕ) → IsNoZoneName config origin text → Appends err err_after (line text) → DumpEnds g [] config origin explain out out err err_after 1
+dump_unnamed g config origin explain out err err_after text why said = record {
   done = λ e. absurd (omega (arith, e));
   refused = λ _. (text, said, Keeps-refl out, inl why);
   others = inl (omega arith);
+  called = inl refl;
 }
 
 -- The origin is no name.

@@ -15,13 +15,14 @@ use Rattle.dns_store.specs.declared.kept_store.KeptStore.{KeptStore}
 use Rattle.dns_configuration.specs.declared.configuration.ZoneSettings.{ZoneSettings}
 use Rattle.dns_devices.specs.declared.device_faults.DeviceFault.{DeviceFault}
 use Rattle.dns_commands.specs.declared.next_version.Loaded.{Loaded}
-use Rattle.dns_commands.specs.Load.{IsChangeTo, IsLoadable, IsLoadedInto, IsLoadedOn, IsLoadedAs, IsLoading, IsNotLoaded, LeavesKept, LoadsAsPossible, OpensAsLoading}
-use Rattle.dns_devices.specs.Stores.{Gives, own_shape}
+use Rattle.dns_commands.specs.Load.{IsChangeTo, IsLoadable, IsLoadedInto, IsLoadedOn, IsLoadedAs, IsLoading, IsNotLoaded, LoadsAsPossible, OpensAsLoading}
+use Rattle.dns_devices.specs.DeviceCalls.{DeviceCall}
+use Rattle.dns_devices.specs.Stores.{LeavesKept, own_shape}
 use Rattle.dns_commands.proofs.Stored.{loaded_on}
 
-pub loading_ends : {D : Type 0} (g : Ghosts D) (opened : Gives D) (own : ZoneSettings) (records : List Record) (r : Result Loaded DeviceFault) → IsLoading g opened own records r → MatchResult r (IsLoadedAs g opened own records) (IsNotLoaded g opened own records)
-loading_ends g opened own records (Ok answer) is = is
-loading_ends g opened own records (Err fault) is = inr is
+pub loading_ends : {D : Type 0} (g : Ghosts D) (calls : List (DeviceCall D)) (own : ZoneSettings) (records : List Record) (r : Result Loaded DeviceFault) → IsLoading g calls own records r → MatchResult r (IsLoadedAs g calls own records) (IsNotLoaded g calls own records)
+loading_ends g calls own records (Ok answer) is = is
+loading_ends g calls own records (Err fault) is = inr is
 
 -- The records beside the versions of a store that was just opened.
 pub loadable : (own : ZoneSettings) (newest zone : Zone) (r : Result (Option Change) DeviceFault) (o : Opened) → newest ≡ record { apex = own.origin; records = newest_after o.loaded o.versions } → zone.apex ≡ own.origin → IsChangeTo newest.records zone.records r → IsLoadable own newest zone r (fresh (own_shape own) o)

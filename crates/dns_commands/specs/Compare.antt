@@ -1,5 +1,6 @@
 -- What loading a zone's master file would change.
-use Rattle.std.specs.Prelude.{◌≡◌, ◌⊎◌, ◌≤◌, ℕ, Bool, true, false, List, ◌∷◌, ◌++◌, flat_map, Option, Some, None}
+use Rattle.std.specs.Prelude.{◌≡◌, ◌⊎◌, ◌≤◌, ℕ, Bool, true, false, List, [], ◌∷◌, ◌++◌, flat_map, Option}
+use Rattle.std.specs.Prelude.{Some, None}
 use Rattle.std.specs.Prelude.{Result, Ok, Err, codes}
 use Rattle.std.specs.String.{string_bytes}
 use Rattle.std.specs.Io.KnownBytes.{Appends, Keeps}
@@ -8,11 +9,11 @@ use Rattle.dns_records.specs.Record.{Record}
 use Rattle.dns_zone.specs.Zone.{Zone}
 use Rattle.dns_changes.specs.Change.{Change}
 use Rattle.dns_masterfile.specs.Printed.{printed_record}
-use Rattle.dns_sectors.specs.Device.{Content}
+use Rattle.dns_sectors.specs.Device.{Content, LeavesOnly}
 use Rattle.dns_sectors.specs.declared.device.Sectors.{Ghosts}
-use Rattle.dns_store.specs.Opening.{IsInRange, MayOpen}
+use Rattle.dns_store.specs.Opening.{IsInRange, MayOpen, OpensAsPossible}
 use Rattle.dns_store.specs.Opens.{fresh, opens}
-use Rattle.dns_store.specs.Versions.{Kept, Opened, newest_after}
+use Rattle.dns_store.specs.Versions.{Kept, Opened, newest_after, opened_again}
 use Rattle.dns_versions.specs.Staging.{has_room}
 use Rattle.dns_configuration.specs.declared.configuration.ZoneSettings.{ZoneSettings}
 use Rattle.dns_configuration.specs.declared.files.File.{File}
@@ -22,7 +23,8 @@ use Rattle.dns_configuration.specs.Files.{IsLoadedFrom, loaded_by}
 use Rattle.dns_devices.specs.declared.device_faults.DeviceFault.{DeviceFault}
 use Rattle.dns_devices.specs.declared.device_faults.DeviceFault.TheVariants.{NoRoom}
 use Rattle.dns_devices.specs.DeviceFaults.{device_text, status_of}
-use Rattle.dns_devices.specs.Stores.{Gives, IsNotShown, own_shape}
+use Rattle.dns_devices.specs.DeviceCalls.{DeviceCall}
+use Rattle.dns_devices.specs.Stores.{AreCallsOf, IsNotShown, IsOpenedAndClosed, LeavesKept, own_shape}
 use Rattle.dns_configuration.specs.Named.{IsNamed, IsNoZoneName}
 use Rattle.dns_commands.specs.Load.{IsChangeTo}
 use Rattle.dns_commands.specs.LoadRun.{path_blamed}
@@ -54,11 +56,14 @@ IsWithinRoom k records (Err NoRoom) = has_room k records ≡ false
 IsWithinRoom k records _ = Unit {0}
 
 -- The records were compared, with this result, with the newest version of what a crash might have left of the
--- device that was given for the path, whichever versions there were before the base.
-pub record IsCompared {D : Type 0} (g : Ghosts D) (opened : Gives D) (own : ZoneSettings)
+-- device that was opened at the path, whichever versions there were before the base; and the device was
+-- closed with the same versions, opened once more. A crash at any moment between leaves what opens as one
+-- might have left it before.
+pub record IsCompared {D : Type 0} (g : Ghosts D) (calls : List (DeviceCall D)) (own : ZoneSettings)
     (records : List Record) (result : Result (Option Change) DeviceFault) : Type 0 where
   pub device : D
-  pub came : opened (string_bytes own.device) (Ok device)
+  pub after : D
+  pub came : IsOpenedAndClosed calls own device after
   pub newest : Zone
   pub apex : newest.apex ≡ own.origin
   pub change_is : IsChangeWithin newest.records records result
@@ -68,60 +73,78 @@ pub record IsCompared {D : Type 0} (g : Ghosts D) (opened : Gives D) (own : Zone
       → (c : Content) × g.may_leave device c
       × ((o : Opened) → opens (own_shape own) o c
       → (newest ≡ record { apex = own.origin; records = newest_after o.loaded o.versions })
-      × IsWithinRoom (fresh (own_shape own) o) records result)
+      × IsWithinRoom (fresh (own_shape own) o) records result
+      × LeavesKept g after (fresh (own_shape own) (opened_again o)))
+  pub any_moment : g.is_honest device
+      → IsInRange own.snapshot_sectors own.journal_sectors
+      → LeavesOnly g.moment g.left_since device after (OpensAsPossible g (own_shape own) device)
 
 -- The change from the newest version that the device keeps to these records.
-abbrev pub IsDifference : {D : Type 0} → Ghosts D → Gives D → ZoneSettings → List Record → Option Change
+abbrev pub IsDifference : {D : Type 0} → Ghosts D → List (DeviceCall D) → ZoneSettings → List Record → Option Change
     → Type 0
-IsDifference g opened own records change = IsCompared g opened own records (Ok change)
+IsDifference g calls own records change = IsCompared g calls own records (Ok change)
 
 -- Why there is none: the device shows no zone, or the change is refused.
-abbrev pub HasNoDifference : {D : Type 0} → Ghosts D → Gives D → ZoneSettings → List Record → DeviceFault
+abbrev pub HasNoDifference : {D : Type 0} → Ghosts D → List (DeviceCall D) → ZoneSettings → List Record → DeviceFault
     → Type 0
-HasNoDifference g opened own records fault =
-    IsNotShown g opened own fault ⊎ IsCompared g opened own records (Err fault)
+HasNoDifference g calls own records fault =
+    IsNotShown g calls own fault ⊎ IsCompared g calls own records (Err fault)
+
+-- The records were compared with what the device keeps, or it shows no version.
+abbrev pub IsComparisonTried : {D : Type 0} → Ghosts D → List (DeviceCall D) → ZoneSettings → List Record
+    → Type 0
+IsComparisonTried g calls own records =
+    ((result : Result (Option Change) DeviceFault) × IsCompared g calls own records result)
+    ⊎ ((fault : DeviceFault) × IsNotShown g calls own fault)
+
+-- The calls of a comparison: none, or those of one with the records of the zone's master file.
+abbrev pub IsFileTried : {D : Type 0} → Ghosts D → List (DeviceCall D) → List File → ZoneSettings → Type 0
+IsFileTried g calls files own =
+    (calls ≡ []) ⊎ ((zone : Zone) × IsLoadedFrom files own zone × IsComparisonTried g calls own zone.records)
 
 -- The zone's master file holds these records, and this is the change to them.
-pub record IsFileCompared {D : Type 0} (g : Ghosts D) (opened : Gives D) (own : ZoneSettings)
+pub record IsFileCompared {D : Type 0} (g : Ghosts D) (calls : List (DeviceCall D)) (own : ZoneSettings)
     (files : List File) (change : Option Change) : Type 0 where
   pub zone : Zone
   pub read : IsLoadedFrom files own zone
-  pub differs : IsDifference g opened own zone.records change
+  pub differs : IsDifference g calls own zone.records change
 
 -- Why a zone's master file was not compared, and the text that says so.
-abbrev pub IsFileNotCompared : {D : Type 0} → Ghosts D → Gives D → ZoneSettings → List File → Bool → List ℕ
+abbrev pub IsFileNotCompared : {D : Type 0} → Ghosts D → List (DeviceCall D) → ZoneSettings → List File → Bool → List ℕ
     → Type 0
-IsFileNotCompared g opened own files explain text =
+IsFileNotCompared g calls own files explain text =
     ((fault : Fault) × (loaded_by files own ≡ Err fault) × (text ≡ fault_text (string_bytes own.file) fault))
     ⊎ ((zone : Zone) × (fault : DeviceFault) × IsLoadedFrom files own zone
-    × HasNoDifference g opened own zone.records fault × (status_of fault ≡ 1)
+    × HasNoDifference g calls own zone.records fault × (status_of fault ≡ 1)
     × (text ≡ device_text (path_blamed own fault) fault explain))
 
 -- How the comparison of a zone's master file ends. With status 3 the device can't be had, a writer failed or
 -- memory was refused.
-pub record ComparingEnds {D : Type 0} (g : Ghosts D) (opened : Gives D) (own : ZoneSettings)
+pub record ComparingEnds {D : Type 0} (g : Ghosts D) (calls : List (DeviceCall D)) (own : ZoneSettings)
     (files : List File) (explain : Bool) (out out_after err err_after : Option (List ℕ)) (status : ℕ)
     : Type 0 where
   pub done : status ≡ 0
-      → (change : Option Change) × IsFileCompared g opened own files change
+      → (change : Option Change) × IsFileCompared g calls own files change
       × Appends out out_after (difference_text own change) × Keeps err err_after
   pub refused : status ≡ 1
-      → (text : List ℕ) × IsFileNotCompared g opened own files explain text
+      → (text : List ℕ) × IsFileNotCompared g calls own files explain text
       × Appends err err_after (line text) × Keeps out out_after
   pub others : status ≤ 1 ⊎ (status ≡ 3)
+  pub called : IsFileTried g calls files own
 
 -- How a run of `load --dry-run` ends. With status 3 the device can't be had, a writer failed or memory was
--- refused.
-pub record ComparisonEnds {D : Type 0} (g : Ghosts D) (opened : Gives D) (config : File) (files : List File)
+-- refused. However it ends, nothing was done but to look into the device of the zone that is named.
+pub record ComparisonEnds {D : Type 0} (g : Ghosts D) (calls : List (DeviceCall D)) (config : File) (files : List File)
     (origin : List ℕ) (explain : Bool) (out out_after err err_after : Option (List ℕ)) (status : ℕ)
     : Type 0 where
   pub done : status ≡ 0
       → (own : ZoneSettings) × IsNamed config origin own
-      × (change : Option Change) × IsFileCompared g opened own files change
+      × (change : Option Change) × IsFileCompared g calls own files change
       × Appends out out_after (difference_text own change) × Keeps err err_after
   pub refused : status ≡ 1
       → (text : List ℕ) × Appends err err_after (line text) × Keeps out out_after
       × (IsNoZoneName config origin text
       ⊎ ((own : ZoneSettings) × IsNamed config origin own
-      × IsFileNotCompared g opened own files explain text))
+      × IsFileNotCompared g calls own files explain text))
   pub others : status ≤ 1 ⊎ (status ≡ 3)
+  pub called : AreCallsOf config origin (IsFileTried g calls files) calls

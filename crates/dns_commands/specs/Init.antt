@@ -1,6 +1,7 @@
 -- How the devices of zones are made, and how a run that makes them ends.
-use Rattle.std.specs.Prelude.{◌≡◌, ◌⊎◌, ◌↔◌, ◌≤◌, ◌<◌, ◌+◌, ◌*◌, ℕ, Bool, true, false, List, [], ◌∷◌, ◌++◌}
-use Rattle.std.specs.Prelude.{length, flat_map, All, Option, Some, None, Result, Ok, Err}
+use Rattle.std.specs.Prelude.{◌≡◌, ◌⊎◌, ◌↔◌, ◌≤◌, ◌<◌, ◌+◌, ◌*◌, ℕ, zero, suc, Bool, true, false, List, [], ◌∷◌}
+use Rattle.std.specs.Prelude.{◌++◌, take}
+use Rattle.std.specs.Prelude.{length, map, flat_map, Option, Some, None, Ok, Err}
 use Rattle.std.specs.Prelude.{codes, decimal}
 use Rattle.std.specs.List.{AllZip}
 use Rattle.std.specs.Option.{option_copied}
@@ -32,12 +33,8 @@ use Rattle.dns_devices.specs.declared.device_faults.DeviceFault.TheVariants.{Zon
 use Rattle.dns_devices.specs.declared.device_faults.DeviceFault.TheVariants.{SerialNotRaised, NoRoom}
 use Rattle.dns_devices.specs.declared.device_faults.DeviceFault.TheVariants.{OutOfMemory}
 use Rattle.dns_devices.specs.DeviceFaults.{device_text, status_of}
-use Rattle.dns_devices.specs.Made.{IsMadeAt, Makes}
+use Rattle.dns_devices.specs.DeviceCalls.{Asked, Closed, DeviceCall, Made, Removed}
 use Rattle.dns_configuration.specs.Named.{IsNoZone, zone_configured}
-
--- What may be answered if it is asked whether there is a device.
-abbrev pub Finds : Type 1
-Finds = List ℕ → Result Bool DeviceError → Type 0
 
 -- A root, and two banks.
 abbrev pub sectors_of : ZoneSettings → ℕ
@@ -47,12 +44,14 @@ abbrev pub shape_made : ZoneSettings → Zone → Shape
 shape_made own zone =
     record { apex = zone.apex; snapshot = own.snapshot_sectors; journal = own.journal_sectors }
 
--- The device was made at the zone's path, and formatted: from then on it opens as the zone, its first
+-- A device was made at the zone's path, formatted and closed: from then on it opens as the zone, its first
 -- version; and a crash while it was made left it as it came, blank, or as that.
-pub record IsDeviceMade {D : Type 0} (g : Ghosts D) (made : Makes D) (own : ZoneSettings) (zone : Zone)
-    (device : D) : Type 0 where
+pub record IsDeviceMade {D : Type 0} (g : Ghosts D) (calls : List (DeviceCall D)) (own : ZoneSettings)
+    (zone : Zone) : Type 0 where
   pub blank : D
-  pub came : made (string_bytes own.device) (sectors_of own) (Ok blank)
+  pub device : D
+  pub came : let path = string_bytes own.device in
+      calls ≡ Made path (sectors_of own) (Ok blank) ∷ Closed path device ∷ []
   pub honest : g.is_honest device ↔ g.is_honest blank
   pub any_moment : g.is_honest blank
       → LeavesOnly g.moment g.left_since blank device (LeftByFormat g
@@ -60,47 +59,53 @@ pub record IsDeviceMade {D : Type 0} (g : Ghosts D) (made : Makes D) (own : Zone
   pub keeps : g.is_honest blank → (c : Content) → g.may_leave device c
       → opens (shape_made own zone) (first_of zone.records) c
 
--- Why it was not: no device was made; or the one that was failed, has not the sectors for these sizes, or the
--- zone's records take more than a snapshot has.
-pub record IsMakingRefused {D : Type 0} (made : Makes D) (own : ZoneSettings) (P : D → Type 0) : Type 0 where
+-- Why it was not: no device was made; or the one that was failed, has not the sectors for these sizes, the
+-- zone's records take more than a snapshot has, or memory was refused. One that was made was closed and
+-- removed.
+pub record IsMakingRefused {D : Type 0} (calls : List (DeviceCall D)) (own : ZoneSettings)
+    (P : D → D → Type 0) : Type 0 where
   pub blank : D
-  pub came : made (string_bytes own.device) (sectors_of own) (Ok blank)
-  pub why : P blank
+  pub after : D
+  pub came : let path = string_bytes own.device in
+      calls ≡ Made path (sectors_of own) (Ok blank) ∷ Closed path after ∷ Removed path ∷ []
+  pub why : P blank after
 
-abbrev pub IsNotMade : {D : Type 0} → Ghosts D → Makes D → ZoneSettings → Zone → DeviceFault → Type 0
-IsNotMade {D} g made own zone Device =
-    ((e : DeviceError) × made (string_bytes own.device) (sectors_of own) (Err e))
-    ⊎ IsMakingRefused made own (λ blank. (after : D) × HasRisen (g.failed blank) (g.failed after))
-IsNotMade g made own zone Geometry =
-    IsMakingRefused made own
-    (λ blank. IsGeometry own.snapshot_sectors own.journal_sectors (g.count blank) → ⊥)
-IsNotMade g made own zone ZoneTooLarge =
-    IsMakingRefused made own
-    (λ _. own.snapshot_sectors < snapshot_sectors (length (flat_map plain zone.records)))
-IsNotMade g made own zone OutOfMemory = Unit {0}
-IsNotMade g made own zone Exists = ⊥
-IsNotMade g made own zone Blank = ⊥
-IsNotMade g made own zone (Damaged sector) = ⊥
-IsNotMade g made own zone OldFormat = ⊥
-IsNotMade g made own zone SerialNotRaised = ⊥
-IsNotMade g made own zone NoRoom = ⊥
+abbrev pub IsNotMade : {D : Type 0} → Ghosts D → List (DeviceCall D) → ZoneSettings → Zone → DeviceFault
+    → Type 0
+IsNotMade g calls own zone Device =
+    ((e : DeviceError) × (calls ≡ Made (string_bytes own.device) (sectors_of own) (Err e) ∷ []))
+    ⊎ IsMakingRefused calls own (λ blank after. HasRisen (g.failed blank) (g.failed after))
+IsNotMade g calls own zone Geometry =
+    IsMakingRefused calls own
+    (λ blank _. IsGeometry own.snapshot_sectors own.journal_sectors (g.count blank) → ⊥)
+IsNotMade g calls own zone ZoneTooLarge =
+    IsMakingRefused calls own
+    (λ _ _. own.snapshot_sectors < snapshot_sectors (length (flat_map plain zone.records)))
+IsNotMade g calls own zone OutOfMemory = IsMakingRefused calls own (λ _ _. Unit {0})
+IsNotMade g calls own zone Exists = ⊥
+IsNotMade g calls own zone Blank = ⊥
+IsNotMade g calls own zone (Damaged sector) = ⊥
+IsNotMade g calls own zone OldFormat = ⊥
+IsNotMade g calls own zone SerialNotRaised = ⊥
+IsNotMade g calls own zone NoRoom = ⊥
 
--- Nothing is at the path of the zone's device.
-abbrev pub is_absent : Finds → ZoneSettings → Type 0
-is_absent found own = found (string_bytes own.device) (Ok false)
+-- It was asked whether there is anything at the path of the zone's device, and nothing is.
+abbrev pub absent : {D : Type 0} → ZoneSettings → DeviceCall D
+absent own = Asked (string_bytes own.device) (Ok false)
 
--- The first device, in order, where there is something, or where that can't be determined: its path and the
--- fault.
-abbrev pub IsFound : Finds → ZoneSettings → DeviceFault → Type 0
-IsFound found own fault =
-    ((fault ≡ Exists) × found (string_bytes own.device) (Ok true))
-    ⊎ ((fault ≡ Device) × ((e : DeviceError) × found (string_bytes own.device) (Err e)))
+-- There is something at the path of the zone's device, or that can't be determined.
+abbrev pub IsFound : {D : Type 0} → List (DeviceCall D) → ZoneSettings → DeviceFault → Type 0
+IsFound calls own fault =
+    ((fault ≡ Exists) × (calls ≡ Asked (string_bytes own.device) (Ok true) ∷ []))
+    ⊎ ((fault ≡ Device) × ((e : DeviceError) × (calls ≡ Asked (string_bytes own.device) (Err e) ∷ [])))
 
-abbrev pub IsFirstFound : Finds → List ZoneSettings → List ℕ → DeviceFault → Type 0
-IsFirstFound found [] path fault = ⊥
-IsFirstFound found (own ∷ rest) path fault =
-    ((path ≡ string_bytes own.device) × IsFound found own fault)
-    ⊎ (is_absent found own × IsFirstFound found rest path fault)
+-- The first device, in order, of which that is so: its path and the fault. Of the later ones none was asked.
+abbrev pub IsFirstFound : {D : Type 0} → List (DeviceCall D) → List ZoneSettings → List ℕ → DeviceFault
+    → Type 0
+IsFirstFound calls [] path fault = ⊥
+IsFirstFound {D} calls (own ∷ rest) path fault =
+    ((path ≡ string_bytes own.device) × IsFound calls own fault)
+    ⊎ ((others : List (DeviceCall D)) × (calls ≡ absent own ∷ others) × IsFirstFound others rest path fault)
 
 -- What is printed of a zone whose device was made: the serial of its SOA.
 abbrev pub formatted_text : Zone → Record → List ℕ
@@ -110,35 +115,57 @@ formatted_text zone soa =
 abbrev pub formatted : Zone → List ℕ
 formatted zone = flat_map (λ soa. line (formatted_text zone soa)) (soas zone.records)
 
--- The zone's device was made.
-abbrev pub HasDevice : {D : Type 0} → Ghosts D → Makes D → ZoneSettings → Zone → Type 0
-HasDevice {D} g made own zone = (device : D) × IsDeviceMade g made own zone device
+-- The devices of zones were made, one after another.
+abbrev pub AreMade : {D : Type 0} → Ghosts D → List (DeviceCall D) → List ZoneSettings → List Zone → Type 0
+AreMade g calls [] [] = calls ≡ []
+AreMade {D} g calls (own ∷ settings) (zone ∷ zones) =
+    (first : List (DeviceCall D)) × (others : List (DeviceCall D)) × (calls ≡ first ++ others)
+    × IsDeviceMade g first own zone × AreMade g others settings zones
+AreMade g calls _ _ = ⊥
 
--- A device was made at the zone's path.
-abbrev pub HasMade : {D : Type 0} → Makes D → ZoneSettings → Type 0
-HasMade made own = IsMadeAt made (string_bytes own.device)
+-- The devices of the first zones were made, as many as the number says, and that of the next one, which has
+-- that path, was not, for this.
+abbrev pub MakingStopsAt : {D : Type 0} → Ghosts D → List (DeviceCall D) → ℕ → List ZoneSettings → List Zone
+    → List ℕ → DeviceFault → Type 0
+MakingStopsAt g calls zero (own ∷ settings) (zone ∷ zones) path fault =
+    (path ≡ string_bytes own.device) × IsNotMade g calls own zone fault
+MakingStopsAt {D} g calls (suc n) (own ∷ settings) (zone ∷ zones) path fault =
+    (first : List (DeviceCall D)) × (others : List (DeviceCall D)) × (calls ≡ first ++ others)
+    × IsDeviceMade g first own zone × MakingStopsAt g others n settings zones path fault
+MakingStopsAt g calls _ _ _ path fault = ⊥
 
--- The devices of the first zones were made, and that of the next one, which has that path, was not, for this.
-abbrev pub MakingStopsAt : {D : Type 0} → Ghosts D → Makes D → List ZoneSettings → List Zone → List ℕ
-    → DeviceFault → Type 0
-MakingStopsAt g made (own ∷ settings) (zone ∷ zones) path fault =
-    ((path ≡ string_bytes own.device) × IsNotMade g made own zone fault)
-    ⊎ (HasDevice g made own zone × MakingStopsAt g made settings zones path fault)
-MakingStopsAt g made _ _ path fault = ⊥
+-- What was made at the zone's path is removed.
+abbrev pub removal : {D : Type 0} → ZoneSettings → DeviceCall D
+removal own = Removed (string_bytes own.device)
+
+-- A device was not made, and those that were made before it are removed again.
+abbrev pub IsMakingUndone : {D : Type 0} → Ghosts D → List (DeviceCall D) → List ZoneSettings → List Zone
+    → List ℕ → DeviceFault → Type 0
+IsMakingUndone {D} g calls settings zones path fault =
+    (n : ℕ) × (making : List (DeviceCall D)) × (calls ≡ making ++ map removal (take n settings))
+    × MakingStopsAt g making n settings zones path fault
+
+-- No device that was made stays: one was not made, or all were and are removed again.
+abbrev pub NoneStays : {D : Type 0} → Ghosts D → List (DeviceCall D) → List ZoneSettings → List Zone → Type 0
+NoneStays {D} g calls settings zones =
+    ((path : List ℕ) × (fault : DeviceFault) × IsMakingUndone g calls settings zones path fault)
+    ⊎ ((making : List (DeviceCall D)) × AreMade g making settings zones
+    × (calls ≡ making ++ map removal settings))
 
 -- How the making of all devices ends. With status 3 a device can't be had, a writer failed or memory was
 -- refused.
-pub record MakingEnds {D : Type 0} (g : Ghosts D) (made : Makes D) (settings : List ZoneSettings)
+pub record MakingEnds {D : Type 0} (g : Ghosts D) (calls : List (DeviceCall D)) (settings : List ZoneSettings)
     (zones : List Zone) (explain : Bool) (out out_after err err_after : Option (List ℕ)) (status : ℕ)
     : Type 0 where
   pub done : status ≡ 0
-      → AllZip (HasDevice g made) settings zones × Appends out out_after (flat_map formatted zones)
+      → AreMade g calls settings zones × Appends out out_after (flat_map formatted zones)
       × Keeps err err_after
   pub refused : status ≡ 1
-      → (path : List ℕ) × (fault : DeviceFault) × MakingStopsAt g made settings zones path fault
+      → (path : List ℕ) × (fault : DeviceFault) × IsMakingUndone g calls settings zones path fault
       × (status_of fault ≡ 1) × Keeps out out_after
       × Appends err err_after (line (device_text path fault explain))
   pub others : status ≤ 1 ⊎ (status ≡ 3)
+  pub called : (status ≡ 0) ⊎ NoneStays g calls settings zones
 
 -- The zones whose devices are made: all that are configured, or the one that the word names.
 abbrev pub AreChosen : Option (List ℕ) → List ZoneSettings → List ZoneSettings → Type 0
@@ -170,29 +197,44 @@ IsInitFault config origin files path fault =
     ⊎ ((settings : List ZoneSettings) × AreChosen origin c.zones.items settings
     × IsFirstFault files settings path fault)))
 
--- How a run of `init` is refused: the first fault of a file or of the word is reported, and nothing was made;
+-- How a run of `init` is refused: the first fault of a file or of the word is reported, and no call was made;
 -- or else that of the first device where there is something already; or else devices were made, up to one
--- that was not.
-abbrev pub IsInitRefused : {D : Type 0} → Ghosts D → Finds → Makes D → File → Option (List ℕ) → List File
+-- that was not, and removed again.
+abbrev pub IsInitRefused : {D : Type 0} → Ghosts D → List (DeviceCall D) → File → Option (List ℕ) → List File
     → List ℕ → Bool → Type 0
-IsInitRefused g found made config origin files text explain =
+IsInitRefused {D} g calls config origin files text explain =
     ((path : List ℕ) × (fault : Fault) × IsInitFault config origin files path fault
-    × (text ≡ fault_text path fault))
+    × (text ≡ fault_text path fault) × (calls ≡ []))
     ⊎ ((settings : List ZoneSettings) × (zones : List Zone) × IsGiven config origin files settings zones
     × (path : List ℕ) × (fault : DeviceFault) × (text ≡ device_text path fault explain)
-    × (IsFirstFound found settings path fault
-    ⊎ (All (is_absent found) settings × MakingStopsAt g made settings zones path fault)))
+    × (IsFirstFound calls settings path fault
+    ⊎ ((making : List (DeviceCall D)) × (calls ≡ map absent settings ++ making)
+    × IsMakingUndone g making settings zones path fault)))
+
+-- The calls of a run that ends otherwise than with all devices made: none; or it was asked of the devices of
+-- the zones that are given, and none of theirs that was made stays.
+abbrev pub IsInitTried : {D : Type 0} → Ghosts D → List (DeviceCall D) → File → Option (List ℕ) → List File
+    → Type 0
+IsInitTried {D} g calls config origin files =
+    (calls ≡ [])
+    ⊎ ((settings : List ZoneSettings) × (zones : List Zone) × IsGiven config origin files settings zones
+    × (((path : List ℕ) × (fault : DeviceFault) × IsFirstFound calls settings path fault)
+    ⊎ ((making : List (DeviceCall D)) × (calls ≡ map absent settings ++ making)
+    × NoneStays g making settings zones)))
 
 -- How a run of `init` ends, for all zones or for the one that the word names. With status 3 a device can't be
--- had, a writer failed or memory was refused.
-pub record InitEnds {D : Type 0} (g : Ghosts D) (found : Finds) (made : Makes D) (config : File)
+-- had, a writer failed or memory was refused. Nothing that was there before is opened, written or removed,
+-- however it ends.
+pub record InitEnds {D : Type 0} (g : Ghosts D) (calls : List (DeviceCall D)) (config : File)
     (origin : Option (List ℕ)) (files : List File) (explain : Bool)
     (out out_after err err_after : Option (List ℕ)) (status : ℕ) : Type 0 where
   pub done : status ≡ 0
       → (settings : List ZoneSettings) × (zones : List Zone) × IsGiven config origin files settings zones
-      × All (is_absent found) settings × AllZip (HasDevice g made) settings zones
+      × (making : List (DeviceCall D)) × (calls ≡ map absent settings ++ making)
+      × AreMade g making settings zones
       × Appends out out_after (flat_map formatted zones) × Keeps err err_after
   pub refused : status ≡ 1
-      → (text : List ℕ) × IsInitRefused g found made config origin files text explain
+      → (text : List ℕ) × IsInitRefused g calls config origin files text explain
       × Keeps out out_after × Appends err err_after (line text)
   pub others : status ≤ 1 ⊎ (status ≡ 3)
+  pub called : (status ≡ 0) ⊎ IsInitTried g calls config origin files

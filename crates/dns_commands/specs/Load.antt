@@ -1,7 +1,6 @@
 -- How the records of a zone's master file become the next version of its store.
 use Rattle.std.specs.Prelude.{◌≡◌, ◌⊎◌, ◌≤◌, ◌<◌, ◌+◌, ◌-◌, ℕ, true, false, List, [], length, Option}
 use Rattle.std.specs.Prelude.{Some, None, Result, Ok, Err}
-use Rattle.std.specs.String.{string_bytes}
 use Rattle.dns_records.specs.Record.{Record}
 use Rattle.dns_zone.specs.Zone.{Zone, soas}
 use Rattle.dns_serial.specs.Serial.{greater}
@@ -23,7 +22,8 @@ use Rattle.dns_devices.specs.declared.device_faults.DeviceFault.TheVariants.{Dev
 use Rattle.dns_devices.specs.declared.device_faults.DeviceFault.TheVariants.{SerialNotRaised}
 use Rattle.dns_commands.specs.declared.next_version.Loaded.{Loaded}
 use Rattle.dns_commands.specs.declared.next_version.Loaded.TheVariants.{Already, Next}
-use Rattle.dns_devices.specs.Stores.{Gives, IsNotShown, own_shape}
+use Rattle.dns_devices.specs.DeviceCalls.{DeviceCall}
+use Rattle.dns_devices.specs.Stores.{IsNotShown, IsOpenedAndClosed, LeavesKept, own_shape}
 
 -- The serial of the file's records is greater than that of the version before (RFC 1982 3.2).
 abbrev pub IsSerialRaised : List Record → List Record → Type 0
@@ -137,10 +137,6 @@ OpensAsLoading opens keep records k c =
     ⊎ ((base : ℕ) × IsBaseForRecords keep records k base
     × OpensAsLeft opens (staged_with records (moved_to base k)) c)
 
--- Each crash from now on leaves these versions.
-abbrev pub LeavesKept : {D : Type 0} → Ghosts D → D → Kept → Type 0
-LeavesKept g device k = (c : Content) → g.may_leave device c → OpensAsLeft opens k c
-
 -- A crash leaves what opens as a content does that one might have left of the device before, opened as often
 -- or once more; or these versions, opened once more, as loading the records leaves them.
 abbrev pub LoadsAsPossible : {D : Type 0} → Ghosts D → ZoneSettings → List Record → D → Opened → Content
@@ -157,13 +153,14 @@ pub record IsLoadedOn {D : Type 0} (g : Ghosts D) (own : ZoneSettings) (records 
       (fresh (own_shape own) (opened_again o)) result
   pub any_moment : LeavesOnly g.moment g.left_since device after (LoadsAsPossible g own records device o)
 
--- The device that was given for the path was opened as a content that a crash might have left of it, and the
--- records were loaded, with this result, whichever versions there were before its base.
-pub record IsLoading {D : Type 0} (g : Ghosts D) (opened : Gives D) (own : ZoneSettings)
+-- The device that was opened at the path was one that a crash might have left as some content, the records
+-- were loaded into what that opens as, with this result, whichever versions there were before its base, and it
+-- was closed.
+pub record IsLoading {D : Type 0} (g : Ghosts D) (calls : List (DeviceCall D)) (own : ZoneSettings)
     (records : List Record) (result : Result Loaded DeviceFault) : Type 0 where
   pub device : D
   pub after : D
-  pub came : opened (string_bytes own.device) (Ok device)
+  pub came : IsOpenedAndClosed calls own device after
   pub loaded : g.is_honest device
       → IsInRange own.snapshot_sectors own.journal_sectors
       → MayOpen g (own_shape own) device
@@ -171,11 +168,18 @@ pub record IsLoading {D : Type 0} (g : Ghosts D) (opened : Gives D) (own : ZoneS
       × ((o : Opened) → opens (own_shape own) o d → IsLoadedOn g own records device after result o)
 
 -- They were loaded, with this answer.
-abbrev pub IsLoadedAs : {D : Type 0} → Ghosts D → Gives D → ZoneSettings → List Record → Loaded → Type 0
-IsLoadedAs g opened own records answer = IsLoading g opened own records (Ok answer)
-
--- Why they were not: the device was not given, its store was not opened, or they were refused.
-abbrev pub IsNotLoaded : {D : Type 0} → Ghosts D → Gives D → ZoneSettings → List Record → DeviceFault
+abbrev pub IsLoadedAs : {D : Type 0} → Ghosts D → List (DeviceCall D) → ZoneSettings → List Record → Loaded
     → Type 0
-IsNotLoaded g opened own records fault =
-    IsNotShown g opened own fault ⊎ IsLoading g opened own records (Err fault)
+IsLoadedAs g calls own records answer = IsLoading g calls own records (Ok answer)
+
+-- Why they were not: the device was not had, its store was not opened, or they were refused.
+abbrev pub IsNotLoaded : {D : Type 0} → Ghosts D → List (DeviceCall D) → ZoneSettings → List Record
+    → DeviceFault → Type 0
+IsNotLoaded g calls own records fault =
+    IsNotShown g calls own fault ⊎ IsLoading g calls own records (Err fault)
+
+-- They were, or they were not.
+abbrev pub IsLoadTried : {D : Type 0} → Ghosts D → List (DeviceCall D) → ZoneSettings → List Record → Type 0
+IsLoadTried g calls own records =
+    ((result : Result Loaded DeviceFault) × IsLoading g calls own records result)
+    ⊎ ((fault : DeviceFault) × IsNotShown g calls own fault)

@@ -1,5 +1,5 @@
 -- How a run ends that makes the records of a zone's master file the next version of its store.
-use Rattle.std.specs.Prelude.{◌≡◌, ◌⊎◌, ◌≤◌, ℕ, Bool, List, ◌++◌, Option, Err, codes, decimal}
+use Rattle.std.specs.Prelude.{◌≡◌, ◌⊎◌, ◌≤◌, ℕ, Bool, List, [], ◌++◌, Option, Err, codes, decimal}
 use Rattle.std.specs.String.{string_bytes}
 use Rattle.std.specs.Io.KnownBytes.{Appends, Keeps}
 use Rattle.dns_names.specs.Text.{printed_name}
@@ -15,9 +15,10 @@ use Rattle.dns_devices.specs.declared.device_faults.DeviceFault.TheVariants.{Ser
 use Rattle.dns_commands.specs.declared.next_version.Loaded.{Loaded}
 use Rattle.dns_commands.specs.declared.next_version.Loaded.TheVariants.{Already, Next}
 use Rattle.dns_devices.specs.DeviceFaults.{device_text, status_of}
-use Rattle.dns_devices.specs.Stores.{Gives}
+use Rattle.dns_devices.specs.DeviceCalls.{DeviceCall}
+use Rattle.dns_devices.specs.Stores.{AreCallsOf}
 use Rattle.dns_configuration.specs.Named.{IsNamed, IsNoZoneName}
-use Rattle.dns_commands.specs.Load.{IsLoadedAs, IsNotLoaded}
+use Rattle.dns_commands.specs.Load.{IsLoadTried, IsLoadedAs, IsNotLoaded}
 
 -- What is printed of the records of a file that were loaded: the number of their version and their serial,
 -- and how many records came and how many went.
@@ -41,45 +42,53 @@ path_blamed own SerialNotRaised = string_bytes own.file
 path_blamed own _ = string_bytes own.device
 
 -- The zone's master file holds these records, and they were loaded, with this answer.
-pub record IsFileLoaded {D : Type 0} (g : Ghosts D) (opened : Gives D) (own : ZoneSettings)
+pub record IsFileLoaded {D : Type 0} (g : Ghosts D) (calls : List (DeviceCall D)) (own : ZoneSettings)
     (files : List File) (answer : Loaded) : Type 0 where
   pub zone : Zone
   pub read : IsLoadedFrom files own zone
-  pub loaded : IsLoadedAs g opened own zone.records answer
+  pub loaded : IsLoadedAs g calls own zone.records answer
 
 -- Why a zone's master file was not loaded, and the text that says so: it holds no zone; or it holds these
 -- records, and the device or the records were refused.
-abbrev pub IsFileRefused : {D : Type 0} → Ghosts D → Gives D → ZoneSettings → List File → Bool → List ℕ
+abbrev pub IsFileRefused : {D : Type 0} → Ghosts D → List (DeviceCall D) → ZoneSettings → List File → Bool → List ℕ
     → Type 0
-IsFileRefused g opened own files explain text =
+IsFileRefused g calls own files explain text =
     ((fault : Fault) × (loaded_by files own ≡ Err fault) × (text ≡ fault_text (string_bytes own.file) fault))
     ⊎ ((zone : Zone) × (fault : DeviceFault) × IsLoadedFrom files own zone
-    × IsNotLoaded g opened own zone.records fault × (status_of fault ≡ 1)
+    × IsNotLoaded g calls own zone.records fault × (status_of fault ≡ 1)
     × (text ≡ device_text (path_blamed own fault) fault explain))
+
+-- The calls of a load: none, or those of one of the records of the zone's master file.
+abbrev pub IsFileLoadTried : {D : Type 0} → Ghosts D → List (DeviceCall D) → List File → ZoneSettings → Type 0
+IsFileLoadTried g calls files own =
+    (calls ≡ []) ⊎ ((zone : Zone) × IsLoadedFrom files own zone × IsLoadTried g calls own zone.records)
 
 -- How the loading of a zone's master file ends. With status 3 the device can't be had, a writer failed or
 -- memory was refused.
-pub record LoadingEnds {D : Type 0} (g : Ghosts D) (opened : Gives D) (own : ZoneSettings)
+pub record LoadingEnds {D : Type 0} (g : Ghosts D) (calls : List (DeviceCall D)) (own : ZoneSettings)
     (files : List File) (explain : Bool) (out out_after err err_after : Option (List ℕ)) (status : ℕ)
     : Type 0 where
   pub done : status ≡ 0
-      → (answer : Loaded) × IsFileLoaded g opened own files answer
+      → (answer : Loaded) × IsFileLoaded g calls own files answer
       × Appends out out_after (loaded_line own answer) × Keeps err err_after
   pub refused : status ≡ 1
-      → (text : List ℕ) × IsFileRefused g opened own files explain text × Appends err err_after (line text)
+      → (text : List ℕ) × IsFileRefused g calls own files explain text × Appends err err_after (line text)
       × Keeps out out_after
   pub others : status ≤ 1 ⊎ (status ≡ 3)
+  pub called : IsFileLoadTried g calls files own
 
 -- How a run of `load` ends. With status 3 the device can't be had, a writer failed or memory was refused.
-pub record LoadEnds {D : Type 0} (g : Ghosts D) (opened : Gives D) (config : File) (files : List File)
+-- However it ends, nothing was done but to load the file of the zone that is named into its device.
+pub record LoadEnds {D : Type 0} (g : Ghosts D) (calls : List (DeviceCall D)) (config : File) (files : List File)
     (origin : List ℕ) (explain : Bool) (out out_after err err_after : Option (List ℕ)) (status : ℕ)
     : Type 0 where
   pub done : status ≡ 0
       → (own : ZoneSettings) × IsNamed config origin own
-      × (answer : Loaded) × IsFileLoaded g opened own files answer
+      × (answer : Loaded) × IsFileLoaded g calls own files answer
       × Appends out out_after (loaded_line own answer) × Keeps err err_after
   pub refused : status ≡ 1
       → (text : List ℕ) × Appends err err_after (line text) × Keeps out out_after
       × (IsNoZoneName config origin text
-      ⊎ ((own : ZoneSettings) × IsNamed config origin own × IsFileRefused g opened own files explain text))
+      ⊎ ((own : ZoneSettings) × IsNamed config origin own × IsFileRefused g calls own files explain text))
   pub others : status ≤ 1 ⊎ (status ≡ 3)
+  pub called : AreCallsOf config origin (IsFileLoadTried g calls files) calls

@@ -1,6 +1,6 @@
 -- How the devices of zones are migrated to sector format 2, and how a run that migrates them ends.
-use Rattle.std.specs.Prelude.{◌≡◌, ◌⊎◌, ◌↔◌, ◌≤◌, ◌<◌, ℕ, Bool, List, [], ◌∷◌, ◌++◌, Option, Ok, Err}
-use Rattle.std.specs.Prelude.{codes, decimal}
+use Rattle.std.specs.Prelude.{◌≡◌, ◌⊎◌, ◌↔◌, ◌≤◌, ◌<◌, ℕ, Bool, List, [], ◌∷◌, ◌++◌, take, Option}
+use Rattle.std.specs.Prelude.{Ok, Err, codes, decimal}
 use Rattle.std.specs.Option.{option_copied}
 use Rattle.std.specs.String.{string_bytes}
 use Rattle.std.specs.Io.KnownBytes.{Appends, Keeps}
@@ -26,7 +26,8 @@ use Rattle.dns_configuration.specs.Faults.{fault_text, line}
 use Rattle.dns_configuration.specs.Files.{HoldsConfiguration}
 use Rattle.dns_devices.specs.declared.device_faults.DeviceFault.{DeviceFault}
 use Rattle.dns_devices.specs.DeviceFaults.{device_text, fault_of_migrate, status_of}
-use Rattle.dns_devices.specs.Stores.{Gives, IsDeviceNotGiven, own_shape}
+use Rattle.dns_devices.specs.DeviceCalls.{DeviceCall}
+use Rattle.dns_devices.specs.Stores.{IsDeviceNotGiven, IsOpenedAndClosed, own_shape}
 
 -- A crash at any moment of it leaves what `migrate` and then `open` open as a crash might have left the
 -- device before.
@@ -35,14 +36,14 @@ StaysMigratable g own device after =
     g.is_honest device → IsInRange own.snapshot_sectors own.journal_sectors
     → LeavesOnly g.moment g.left_since device after (MigratesAsPossible g (own_shape own) device)
 
--- The device that was given for the path was migrated, with this answer: from then on each crash leaves what
+-- The device that was opened at the path was migrated and closed, with this answer: from then on each crash leaves what
 -- `open` alone opens, as a crash might have left the device before, and the answer is of that. It was opened
 -- once more; one that is answered as of format 2 already was only read.
-pub record IsMigratedAs {D : Type 0} (g : Ghosts D) (opened : Gives D) (own : ZoneSettings)
+pub record IsMigratedAs {D : Type 0} (g : Ghosts D) (calls : List (DeviceCall D)) (own : ZoneSettings)
     (answer : Migration) : Type 0 where
   pub device : D
   pub after : D
-  pub came : opened (string_bytes own.device) (Ok device)
+  pub came : IsOpenedAndClosed calls own device after
   pub honest : g.is_honest after ↔ g.is_honest device
   pub takes : g.is_honest device
       → IsInRange own.snapshot_sectors own.journal_sectors
@@ -55,11 +56,11 @@ pub record IsMigratedAs {D : Type 0} (g : Ghosts D) (opened : Gives D) (own : Zo
 -- Why the device was not migrated: where each crash leaves a store with room in format 2, the device failed,
 -- memory was refused, or it was opened too often; else the reason is in what is stored on it. It was only
 -- read, unless it failed.
-pub record IsMigrationRefused {D : Type 0} (g : Ghosts D) (opened : Gives D) (own : ZoneSettings)
+pub record IsMigrationRefused {D : Type 0} (g : Ghosts D) (calls : List (DeviceCall D)) (own : ZoneSettings)
     (fault : DeviceFault) : Type 0 where
   pub device : D
   pub after : D
-  pub came : opened (string_bytes own.device) (Ok device)
+  pub came : IsOpenedAndClosed calls own device after
   pub error : MigrateError
   pub named : fault ≡ fault_of_migrate error
   pub stopped : g.is_honest device
@@ -76,9 +77,9 @@ pub record IsMigrationRefused {D : Type 0} (g : Ghosts D) (opened : Gives D) (ow
   pub read_only : (error ≡ told.Device) ⊎ OnlyReads g device after
   pub failed : error ≡ told.Device → HasRisen (g.failed device) (g.failed after)
 
--- ... or none was given.
-abbrev pub IsNotMigrated : {D : Type 0} → Ghosts D → Gives D → ZoneSettings → DeviceFault → Type 0
-IsNotMigrated g opened own fault = IsDeviceNotGiven opened own fault ⊎ IsMigrationRefused g opened own fault
+-- ... or none was had.
+abbrev pub IsNotMigrated : {D : Type 0} → Ghosts D → List (DeviceCall D) → ZoneSettings → DeviceFault → Type 0
+IsNotMigrated g calls own fault = IsDeviceNotGiven calls own fault ⊎ IsMigrationRefused g calls own fault
 
 -- What is printed of a zone: the number and the serial of the newest version that its device keeps; or that
 -- it was of format 2.
@@ -90,57 +91,72 @@ migrated_text origin Already = origin ++ codes " already"
 abbrev pub migrated : ZoneSettings → Migration → List ℕ
 migrated own answer = line (migrated_text (printed_name own.origin) answer)
 
--- The devices of zones were migrated, and this was printed of them.
-abbrev pub AreMigrated : {D : Type 0} → Ghosts D → Gives D → List ZoneSettings → List ℕ → Type 0
-AreMigrated g opened [] printed = printed ≡ []
-AreMigrated g opened (own ∷ settings) printed =
+-- The devices of zones were migrated, one after another, and this was printed of them.
+abbrev pub AreMigrated : {D : Type 0} → Ghosts D → List (DeviceCall D) → List ZoneSettings → List ℕ → Type 0
+AreMigrated g calls [] printed = (printed ≡ []) × (calls ≡ [])
+AreMigrated {D} g calls (own ∷ settings) printed =
     (answer : Migration) × (rest : List ℕ) × (printed ≡ migrated own answer ++ rest)
-    × IsMigratedAs g opened own answer × AreMigrated g opened settings rest
+    × (first : List (DeviceCall D)) × (others : List (DeviceCall D)) × (calls ≡ first ++ others)
+    × IsMigratedAs g first own answer × AreMigrated g others settings rest
 
 -- The devices of the first zones were migrated, and that of the next one was not, for this: its path, and
--- what was printed of those before it.
-abbrev pub MigratingStopsAt : {D : Type 0} → Ghosts D → Gives D → List ZoneSettings → List ℕ → DeviceFault
-    → List ℕ → Type 0
-MigratingStopsAt g opened [] path fault printed = ⊥
-MigratingStopsAt g opened (own ∷ settings) path fault printed =
-    ((path ≡ string_bytes own.device) × IsNotMigrated g opened own fault × (printed ≡ []))
+-- what was printed of those before it. Of the later ones none was opened.
+abbrev pub MigratingStopsAt : {D : Type 0} → Ghosts D → List (DeviceCall D) → List ZoneSettings → List ℕ
+    → DeviceFault → List ℕ → Type 0
+MigratingStopsAt g calls [] path fault printed = ⊥
+MigratingStopsAt {D} g calls (own ∷ settings) path fault printed =
+    ((path ≡ string_bytes own.device) × IsNotMigrated g calls own fault × (printed ≡ []))
     ⊎ ((answer : Migration) × (rest : List ℕ) × (printed ≡ migrated own answer ++ rest)
-    × IsMigratedAs g opened own answer × MigratingStopsAt g opened settings path fault rest)
+    × (first : List (DeviceCall D)) × (others : List (DeviceCall D)) × (calls ≡ first ++ others)
+    × IsMigratedAs g first own answer × MigratingStopsAt g others settings path fault rest)
+
+-- The devices of the first zones were migrated, and at most one more was tried.
+abbrev pub IsMigrationTried : {D : Type 0} → Ghosts D → List (DeviceCall D) → List ZoneSettings → Type 0
+IsMigrationTried g calls settings =
+    ((n : ℕ) × (printed : List ℕ) × AreMigrated g calls (take n settings) printed)
+    ⊎ ((path : List ℕ) × (fault : DeviceFault) × (printed : List ℕ)
+    × MigratingStopsAt g calls settings path fault printed)
 
 -- How the migrating of all devices ends. With status 3 a device can't be had, a writer failed or memory was
 -- refused.
-pub record MigratingEnds {D : Type 0} (g : Ghosts D) (opened : Gives D) (settings : List ZoneSettings)
+pub record MigratingEnds {D : Type 0} (g : Ghosts D) (calls : List (DeviceCall D)) (settings : List ZoneSettings)
     (explain : Bool) (out out_after err err_after : Option (List ℕ)) (status : ℕ)
     : Type 0 where
   pub done : status ≡ 0
-      → (printed : List ℕ) × AreMigrated g opened settings printed × Appends out out_after printed
+      → (printed : List ℕ) × AreMigrated g calls settings printed × Appends out out_after printed
       × Keeps err err_after
   pub refused : status ≡ 1
       → (path : List ℕ) × (fault : DeviceFault) × (printed : List ℕ)
-      × MigratingStopsAt g opened settings path fault printed
+      × MigratingStopsAt g calls settings path fault printed
       × (status_of fault ≡ 1) × Appends out out_after printed
       × Appends err err_after (line (device_text path fault explain))
   pub others : status ≤ 1 ⊎ (status ≡ 3)
+  pub called : IsMigrationTried g calls settings
 
 -- How a run of `migrate` is refused: the fault of the configuration is reported, and nothing was printed or
 -- migrated; or else devices were migrated, up to one that was not.
-abbrev pub IsMigrateRefused : {D : Type 0} → Ghosts D → Gives D → File → List ℕ → List ℕ → Bool → Type 0
-IsMigrateRefused g opened config printed text explain =
+abbrev pub IsMigrateRefused : {D : Type 0} → Ghosts D → List (DeviceCall D) → File → List ℕ → List ℕ → Bool → Type 0
+IsMigrateRefused g calls config printed text explain =
     ((fault : Fault) × HoldsConfiguration (option_copied config.octets) (Err fault) × (printed ≡ [])
     × (text ≡ fault_text config.path.now fault))
     ⊎ ((c : Configuration) × HoldsConfiguration (option_copied config.octets) (Ok c)
     × (path : List ℕ) × (fault : DeviceFault) × (text ≡ device_text path fault explain)
-    × (status_of fault ≡ 1) × MigratingStopsAt g opened c.zones.items path fault printed)
+    × (status_of fault ≡ 1) × MigratingStopsAt g calls c.zones.items path fault printed)
 
 -- How a run of `migrate` ends. With status 3 a device can't be had, a writer failed or memory was refused.
-pub record MigrateEnds {D : Type 0} (g : Ghosts D) (opened : Gives D) (config : File) (explain : Bool)
+-- However it ends, nothing was done but to migrate the devices of zones in their order, each closed before the
+-- next one is opened.
+pub record MigrateEnds {D : Type 0} (g : Ghosts D) (calls : List (DeviceCall D)) (config : File) (explain : Bool)
     (out out_after err err_after : Option (List ℕ)) (status : ℕ)
     : Type 0 where
   pub done : status ≡ 0
       → (c : Configuration) × HoldsConfiguration (option_copied config.octets) (Ok c)
-      × ((printed : List ℕ) × AreMigrated g opened c.zones.items printed × Appends out out_after printed
+      × ((printed : List ℕ) × AreMigrated g calls c.zones.items printed × Appends out out_after printed
       × Keeps err err_after)
   pub refused : status ≡ 1
-      → (printed : List ℕ) × (text : List ℕ) × IsMigrateRefused g opened config printed text explain
+      → (printed : List ℕ) × (text : List ℕ) × IsMigrateRefused g calls config printed text explain
       × Appends out out_after printed × Appends err err_after (line text)
   pub others : status ≤ 1 ⊎ (status ≡ 3)
+  pub called : (calls ≡ [])
+      ⊎ ((c : Configuration) × HoldsConfiguration (option_copied config.octets) (Ok c)
+      × IsMigrationTried g calls c.zones.items)

@@ -9,6 +9,7 @@ ghost use Rattle.dns_store.specs.Room.{entry_between, sectors_left};
 ghost use Rattle.dns_versions.specs.Staging.{has_room};
 ghost use Rattle.dns_commands.specs.Load.{IsAtRest, IsLoadable, IsLoadedInto, IsRoomMade, IsStored};
 ghost use Rattle.dns_commands.specs.Load.{IsLoadedAs, IsNotLoaded, OpensAsLoading, OpensAsMoved};
+ghost use Rattle.dns_configuration.specs.Calls.{Calls};
 ghost use Rattle.dns_devices.specs.Stores.{own_shape};
 ghost use Rattle.dns_devices.specs.declared.device_faults.DeviceFault.{DeviceFault as StatedFault};
 ghost use Rattle.dns_commands.specs.declared.next_version.Loaded.{Loaded as StatedLoaded};
@@ -187,19 +188,20 @@ fn take_file<F, S: TakesFile<F>>(store: &mut S, file: F) -> Result<Loaded, Devic
 
 /// Makes the records of a zone's master file the next version of the store that its device keeps, durable
 /// where it is answered. The newest changes are kept as the configuration of the zone says, where its journal
-/// is too full for one more.
+/// is too full for one more. The device is closed.
 ///
 /// `SerialNotRaised` where the records are others and their serial isn't greater, and else `NoRoom` where
 /// their snapshot or the entry takes more sectors than there are; neither changes a version.
 pub fn load_zone<D: Sectors + Drop, F: Devices<D>, I: ZoneIndex>(
     heap: Heap,
-    devices: &F,
+    devices: &mut F,
     own: &ZoneSettings,
     zone: &Zone<I>,
 ) -> Result<Loaded, DeviceFault>
     requires { zone.now.apex ≡ own.now.origin }
-    ensures { MatchResult result (IsLoadedAs D.Sectors (F.opened devices.now) own.now zone.now.records)
-        (IsNotLoaded D.Sectors (F.opened devices.now) own.now zone.now.records) }
+    ensures { Calls (F.calls devices.old) (F.calls devices.new)
+        (λ calls. MatchResult result (IsLoadedAs D.Sectors calls own.now zone.now.records)
+        (IsNotLoaded D.Sectors calls own.now zone.now.records)) }
 {
     match open_store::<D, F, I>(heap, devices, own) {
         Ok((store, newest)) => {
@@ -210,7 +212,9 @@ pub fn load_zone<D: Sectors + Drop, F: Devices<D>, I: ZoneIndex>(
                 zone,
                 change: change_to(heap, &newest, zone),
             };
-            take_file(&mut store, file)
+            let loaded = take_file(&mut store, file);
+            devices.close(&own.device, store.into_device());
+            loaded
         }
         Err(fault) => Err(fault),
     }

@@ -1,5 +1,5 @@
-//! What is worth a second look in zones that are zones. It serves `--explain` alone, and no clause says more of
-//! it than that it ends.
+//! What is worth a second look in zones that are zones. It serves `--explain` alone, and no clause says more
+//! of it than that it ends.
 use dns_configuration::{File, ZoneSettings, load_one, read_configuration, warn_of_settings};
 use dns_layout::snapshot_sectors;
 use dns_memory::Heap;
@@ -20,8 +20,8 @@ fn has_address(records: &[Record]) -> bool {
     has_type(records, types::A) || has_type(records, types::AAAA)
 }
 
-/// What is missing at the host of a record, if the zone tells: the target of an NS, an MX or an SRV is to have
-/// an address, and to be no alias (RFC 2181 section 10.3).
+/// What is missing at the host of a record, if the zone tells: the target of an NS, an MX or an SRV is to
+/// have an address, and to be no alias (RFC 2181 section 10.3).
 fn lack_of<I: ZoneIndex>(zone: &Zone<I>, host: &NameRef<'_>, rtype: u16) -> Option<&'static str> {
     match zone.find_node(host) {
         Match::Cut(_, _) => {
@@ -109,8 +109,8 @@ fn warn_of_zone<I: ZoneIndex, E: Write>(
     Ok(())
 }
 
-/// Warns, in a line each, of what a configuration and its master files have that is taken and may be other than
-/// what was meant.
+/// Warns, in a line each, of what a configuration and its master files have that is taken and may be other
+/// than what was meant.
 pub fn warn_of_configuration<I: ZoneIndex, E: Write>(
     alloc: Global,
     heap: Heap,

@@ -1,6 +1,6 @@
 -- Why nothing else is described where a value is refused.
 use Rattle.std.proofs.Common.{◌≡◌, ℕ, zero, suc, ◌<◌, Bool, true, false, refl, List, [], ◌∷◌, length, length-take, take, get_or, get_or-take, Ok, Err, Result, Some, None, nat_eq, Vec, codes, ◌||◌, sym, ap, subst, ◌∙◌, arith, String}
-use Rattle.std.specs.Prelude.{map, bytes_eq}
+use Rattle.std.specs.Prelude.{map}
 use Rattle.std.specs.Global.{Global}
 use Rattle.std.specs.List.{AllZip, list_any}
 use Rattle.std.specs.String.{string_bytes}

@@ -1,5 +1,6 @@
+pub mod Calls
 pub mod Faults
 pub mod Files
 pub mod Known
-pub mod Settings
 pub mod Named
+pub mod Settings

@@ -1,5 +1,5 @@
-//! What is worth a second look in settings that are taken. It serves `--explain` alone, and no clause says more
-//! of it than that it ends.
+//! What is worth a second look in settings that are taken. It serves `--explain` alone, and no clause says
+//! more of it than that it ends.
 use crate::configuration::{LEAST_JOURNAL, MOST, count_at, list_at};
 use crate::files::{File, PrintedWord};
 use dns_policy::address;

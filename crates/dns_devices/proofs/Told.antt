@@ -2,6 +2,7 @@
 use Rattle.std.proofs.Common.{◌≡◌, ℕ, Bool, true, false, inl, inr, List, Option, Result, Ok, Err, IfOk, refl, sym, subst, ◌∙◌}
 use Rattle.std.specs.Prelude.{◌⊎◌}
 use Rattle.std.specs.Bool.{MatchBool}
+use Rattle.std.specs.Result.{IsErr, result_unwrap_or}
 use Rattle.std.specs.Io.KnownBytes.{Appends}
 use Rattle.dns_configuration.specs.Faults.{line}
 use Rattle.dns_devices.specs.declared.device_faults.DeviceFault.{DeviceFault}
@@ -32,3 +33,8 @@ device_told P path fault explain err err_after (Ok status) told failed refused =
     go : (b : Bool) → MatchBool b (status ≡ 3) ((status ≡ status_of fault) × Appends err err_after (line (device_text path fault explain))) → P status
     go true e = subst P (sym e) failed
     go false e = known e.0 e.1 (status_known fault)
+
+-- What holds with status 3 holds of a run that failed.
+pub failed_as : {E : Type 0} (P : ℕ → Type 0) (r : Result ℕ E) → IsErr r → P 3 → P (result_unwrap_or r 3)
+failed_as P (Ok status) is failed = absurd (let both : false ≡ true = is in cc)
+failed_as P (Err e) is failed = failed

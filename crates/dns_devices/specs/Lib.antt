@@ -1,3 +1,3 @@
+pub mod DeviceCalls
 pub mod DeviceFaults
-pub mod Made
 pub mod Stores

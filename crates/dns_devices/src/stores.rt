@@ -1,5 +1,6 @@
 //! The store that the device of a configured zone keeps, and its newest version.
 ghost use Rattle.std.specs.Prelude.{MatchResult};
+ghost use Rattle.dns_configuration.specs.Calls.{Calls};
 ghost use Rattle.dns_devices.specs.Stores.{IsDumped, IsNotShown, IsStoreOpened};
 
 use crate::device_faults::{DeviceFault, refusal};
@@ -10,15 +11,15 @@ use dns_sectors::Sectors;
 use dns_store::{KeptStore, OpenError, open};
 use dns_zone::{Zone, ZoneIndex};
 
-/// Opens the store that the device of a configured zone keeps, and gives it with its newest version. The
-/// device is let go where its store is refused.
+/// Opens the store that the device of a configured zone keeps, and returns it with its newest version. The
+/// device is closed if its store is refused.
 pub fn open_store<D: Sectors + Drop, F: Devices<D>, I: ZoneIndex>(
     heap: Heap,
-    devices: &F,
+    devices: &mut F,
     own: &ZoneSettings,
 ) -> Result<(KeptStore<D, I>, Zone<I>), DeviceFault>
-    ensures { MatchResult result (λ r. IsStoreOpened (F.opened devices.now) own.now r.0 r.1)
-        (IsNotShown D.Sectors (F.opened devices.now) own.now) }
+    ensures { Calls (F.calls devices.old) (F.calls devices.new) (λ calls. MatchResult result
+        (λ r. IsStoreOpened calls own.now r.0 r.1) (IsNotShown D.Sectors calls own.now)) }
 {
     let device = devices.open(&own.device)?;
     let (snapshot, journal) = (own.snapshot_sectors, own.journal_sectors);
@@ -31,21 +32,28 @@ pub fn open_store<D: Sectors + Drop, F: Devices<D>, I: ZoneIndex>(
     );
     match opened {
         Ok(store_and_newest) => Ok(store_and_newest),
-        Err((mut device, error)) => Err(refusal(&mut device, error)),
+        Err((mut device, error)) => {
+            let fault = refusal(&mut device, error);
+            devices.close(&own.device, device);
+            Err(fault)
+        }
     }
 }
 
-/// The newest zone that the device of a configured one keeps.
+/// The newest zone that the device of a configured one keeps. The device is closed.
 pub fn open_zone<D: Sectors + Drop, F: Devices<D>, I: ZoneIndex>(
     heap: Heap,
-    devices: &F,
+    devices: &mut F,
     own: &ZoneSettings,
 ) -> Result<Zone<I>, DeviceFault>
-    ensures { MatchResult result (IsDumped D.Sectors (F.opened devices.now) own.now)
-        (IsNotShown D.Sectors (F.opened devices.now) own.now) }
+    ensures { Calls (F.calls devices.old) (F.calls devices.new) (λ calls. MatchResult result
+        (IsDumped D.Sectors calls own.now) (IsNotShown D.Sectors calls own.now)) }
 {
     match open_store::<D, F, I>(heap, devices, own) {
-        Ok((_store, zone)) => Ok(zone),
+        Ok((store, zone)) => {
+            devices.close(&own.device, store.into_device());
+            Ok(zone)
+        }
         Err(fault) => Err(fault),
     }
 }

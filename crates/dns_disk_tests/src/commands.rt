@@ -109,19 +109,40 @@ fn file<'a>(path: &'a str, text: &'a str) -> File<'a> {
 
 /// The exit status of a command, and what it wrote to the two writers.
 fn run(rt: &HostRuntime, heap: Heap, command: Command, out: &mut Vec<u8>, err: &mut Vec<u8>) -> u8 {
-    let (alloc, config, devices) = (rt.alloc(), file("dnsprim.toml", CONFIG), Disk(rt));
+    let (alloc, config, mut devices) = (rt.alloc(), file("dnsprim.toml", CONFIG), Disk(rt));
     match command {
         Init(other, explain) => {
             let files = [file("example.zone", EXAMPLE), file("other.zone", other)];
             init::<Device, _, RecordList, _, _>(
-                alloc, heap, &devices, &config, None, &files, explain, out, err,
+                alloc,
+                heap,
+                &mut devices,
+                &config,
+                None,
+                &files,
+                explain,
+                out,
+                err,
             )
         }
         Dump(origin, explain) => dump::<Device, _, RecordList, _, _>(
-            alloc, heap, &devices, &config, origin, explain, out, err,
+            alloc,
+            heap,
+            &mut devices,
+            &config,
+            origin,
+            explain,
+            out,
+            err,
         ),
         Migrate(explain) => migrate::<Device, _, RecordList, _, _>(
-            alloc, heap, &devices, &config, explain, out, err,
+            alloc,
+            heap,
+            &mut devices,
+            &config,
+            explain,
+            out,
+            err,
         ),
     }
 }

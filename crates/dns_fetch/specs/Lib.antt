@@ -1,3 +1,4 @@
+pub mod Connecting
 pub mod Fetch
 pub mod FetchFaults
 pub mod TakingIn

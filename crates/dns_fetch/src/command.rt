@@ -1,11 +1,14 @@
 //! A zone that is taken in from another server, as a master file.
-ghost use Rattle.std.specs.Prelude.{◌≡◌, ◌⊎◌, true, Some, Ok, Err, IfOk, IfErr};
+ghost use Rattle.std.specs.Prelude.{◌≡◌, ◌⊎◌, true, Some, Ok, Err, IfOk, IfErr, MatchResult};
 ghost use Rattle.std.specs.Option.{option_copied};
+ghost use Rattle.std.specs.Result.{result_unwrap_or};
 ghost use Rattle.std.specs.Io.KnownBytes.{Appends};
 ghost use Rattle.dns_zone.specs.Zone.{Zone as Stated};
 ghost use Rattle.dns_masterfile.specs.Printed.{printed_zone};
 ghost use Rattle.dns_configuration.specs.declared.files.File.{File as StatedFile};
+ghost use Rattle.dns_configuration.specs.Calls.{Calls};
 ghost use Rattle.dns_configuration.specs.Faults.{IsTold, is_memory, loaded};
+ghost use Rattle.dns_fetch.specs.Connecting.{ConnectsOnce, IsOneCall, IsReached};
 ghost use Rattle.dns_fetch.specs.Fetch.{FetchEnds, IsHeldIn};
 ghost use Rattle.dns_fetch.specs.FetchFaults.{ComesOfAsking};
 ghost use Rattle.dns_fetch.specs.TakingIn.{IsRefusedFrom, IsTakenFrom};
@@ -49,16 +52,17 @@ fn held_version<I: ZoneIndex>(
 /// Takes in the zone of that apex from the server at an address.
 fn take_from<S: WaitingStream + Drop, V: Servers<S>, I: ZoneIndex, P: Watch>(
     heap: Heap,
-    servers: &V,
+    servers: &mut V,
     address: SocketAddr,
     apex: Name,
     held: Option<Zone<I>>,
     watch: &mut P,
 ) -> Result<Secondary<I>, FetchFault>
-    ensures taken { IfOk result (λ s. (zone : Stated) × (s.held ≡ Some zone)
-        × IsTakenFrom S.Stream (V.reached servers.now address) apex held zone.records) }
-    ensures refused { IfErr result
-        (λ e. ComesOfAsking e (IsRefusedFrom S.Stream (V.reached servers.now address) apex held)) }
+    ensures { Calls (V.calls servers.old) (V.calls servers.new) (λ calls. IsOneCall calls address
+        × MatchResult result
+        (λ s. (zone : Stated) × (s.held ≡ Some zone)
+        × IsTakenFrom S.Stream (IsReached calls address) apex held zone.records)
+        (λ e. ComesOfAsking e (IsRefusedFrom S.Stream (IsReached calls address) apex held))) }
 {
     let Some(mut stream) = servers.connect(address) else {
         drop((apex, held));
@@ -99,7 +103,7 @@ fn tell_since<E: Write>(err: &mut E, since: Option<&File<'_>>, fault: Fault) -> 
 /// Takes in a zone and prints it, and gives the exit status.
 fn fetched<S: WaitingStream + Drop, V: Servers<S>, I: ZoneIndex, P: Watch, W: Write, E: Write>(
     heap: Heap,
-    servers: &V,
+    servers: &mut V,
     server: &str,
     origin: &str,
     since: Option<&File<'_>>,
@@ -108,10 +112,10 @@ fn fetched<S: WaitingStream + Drop, V: Servers<S>, I: ZoneIndex, P: Watch, W: Wr
     out: &mut W,
     err: &mut E,
 ) -> io::Result<u8>
-    ensures { IfOk result
-        (λ status. FetchEnds S.Stream (V.reached servers.now) server.now origin.now
-        (option_copied since.entry) explain (W.contents out.old) (W.contents out.new)
-        (E.contents err.old) (E.contents err.new) status) }
+    ensures { Calls (V.calls servers.old) (V.calls servers.new) (λ calls. ConnectsOnce server.now calls
+        × FetchEnds S.Stream (IsReached calls) server.now origin.now (option_copied since.entry) explain
+        (W.contents out.old) (W.contents out.new) (E.contents err.old) (E.contents err.new)
+        (result_unwrap_or result FAILED)) }
 {
     let Some(address) = socket_address(server) else {
         return tell_fetch(err, server, FetchFault::BadAddress, explain);
@@ -137,12 +141,13 @@ fn fetched<S: WaitingStream + Drop, V: Servers<S>, I: ZoneIndex, P: Watch, W: Wr
 /// Faults are reported in one line, the first in this order: the address (`SERVER: BadAddress`), the origin
 /// (`ORIGIN: BadOrigin`), the file, as `check` reports it, and what came of the request: `SERVER:
 /// Unavailable`, `Closed`, `TimedOut`, or by its name the fault for which the answer was refused. For a fault
-/// of the server a second line, if it is wanted, says what can be done. Gives the exit status: `DONE`,
-/// `REFUSED`, or `FAILED` where the server can't be reached or doesn't answer to the end, a writer failed or
-/// memory was refused. `watch` is told of the records as they come.
+/// of the server a second line, if it is wanted, says what can be done. Nothing but that server is connected
+/// to, and it once at most. Returns the exit status: `DONE`, `REFUSED`, or `FAILED` if the server can't be
+/// reached or doesn't answer to the end, a writer failed or memory was refused. `watch` is told of the records
+/// as they come.
 pub fn fetch<S: WaitingStream + Drop, V: Servers<S>, I: ZoneIndex, P: Watch, W: Write, E: Write>(
     heap: Heap,
-    servers: &V,
+    servers: &mut V,
     server: &str,
     origin: &str,
     since: Option<&File<'_>>,
@@ -151,9 +156,9 @@ pub fn fetch<S: WaitingStream + Drop, V: Servers<S>, I: ZoneIndex, P: Watch, W: 
     out: &mut W,
     err: &mut E,
 ) -> u8
-    ensures { FetchEnds S.Stream (V.reached servers.now) server.now origin.now
-        (option_copied since.entry) explain (W.contents out.old) (W.contents out.new)
-        (E.contents err.old) (E.contents err.new) result }
+    ensures { Calls (V.calls servers.old) (V.calls servers.new) (λ calls. ConnectsOnce server.now calls
+        × FetchEnds S.Stream (IsReached calls) server.now origin.now (option_copied since.entry) explain
+        (W.contents out.old) (W.contents out.new) (E.contents err.old) (E.contents err.new) result) }
 {
     fetched::<S, V, I, P, W, E>(
         heap, servers, server, origin, since, explain, watch, out, err,

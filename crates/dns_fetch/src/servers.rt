@@ -1,6 +1,7 @@
 //! Other servers, by their addresses, and streams to them on which one may wait.
-ghost use Rattle.std.specs.Prelude.{◌≡◌, ◌↔◌, [], IfSome};
-ghost use Rattle.std.specs.declared.net.socket_addr.SocketAddr.{SocketAddr as StatedAddress};
+ghost use Rattle.std.specs.Prelude.{◌≡◌, ◌↔◌, List, [], ◌∷◌, Option, None};
+ghost use Rattle.dns_configuration.specs.Calls.{HasCalled};
+ghost use Rattle.dns_fetch.specs.Connecting.{ConnectCall};
 
 use dns_memory::Heap;
 use dns_network::{Moved, Stream};
@@ -35,12 +36,12 @@ pub trait WaitingStream: Stream {
 /// Servers by their addresses. Whoever has them may answer a call differently from one time to the next, as
 /// a network does.
 pub trait Servers<S> {
-    /// It may give this stream to the server at an address.
-    ghost reached: { Self → StatedAddress → S → Type 0 };
+    /// The calls so far, in order; `None` if they are not known, as those of a system are not.
+    ghost calls: { Self → Option (List (ConnectCall S)) };
 
     /// A stream to the server at an address, if that can be reached.
-    fn connect(&self, address: SocketAddr) -> Option<S>
-        ensures { IfSome result (λ stream. reached self.now address stream) };
+    fn connect(&mut self, address: SocketAddr) -> Option<S>
+        ensures { HasCalled (calls self.old) (calls self.new) ((address, result) ∷ []) };
 }
 
 /// Servers by TCP, each of which is given so many seconds in all. Nothing that is proved says what the system
@@ -127,9 +128,9 @@ impl<'a, R: Net + Clock> TcpSocket<'a, R> {
 }
 
 impl<'a, R: Net + Clock> Servers<TcpSocket<'a, R>> for Tcp<'a, R> {
-    ghost reached = { λ _ _ _. Unit {0} };
+    ghost calls = { λ _. None };
 
-    fn connect(&self, address: SocketAddr) -> Option<TcpSocket<'a, R>> {
+    fn connect(&mut self, address: SocketAddr) -> Option<TcpSocket<'a, R>> {
         let mut socket = TcpSocket::begin(self, address).ok()?;
         if !socket.is_reached() {
             return None;

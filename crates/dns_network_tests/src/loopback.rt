@@ -48,9 +48,9 @@ struct InMemory {
 }
 
 impl Devices<MemorySectors> for InMemory {
-    ghost opened = { λ _ _ _. Unit {0} };
+    ghost calls = { λ _. None };
 
-    fn open(&self, _path: &str) -> Result<MemorySectors, OpenDeviceError> {
+    fn open(&mut self, _path: &str) -> Result<MemorySectors, OpenDeviceError> {
         let mut device = device(self.heap, ZONE, 8).ok_or(OpenDeviceError::Device)?;
         if let Some(root) = self.root {
             if device.len() > 0 && device.write(0, &with_front(root)).is_err() {
@@ -58,6 +58,10 @@ impl Devices<MemorySectors> for InMemory {
             }
         }
         Ok(device)
+    }
+
+    fn close(&mut self, _path: &str, device: MemorySectors) {
+        drop(device);
     }
 }
 
@@ -265,16 +269,21 @@ fn served(rt: &HostRuntime, heap: Heap, clients: &mut Clients<'_>, turns: u32) -
     let text = format!(in heap; "listen = \"{server}\"\n{SETTINGS}")?;
     let config = configuration(&text);
     let alloc = rt.alloc();
-    let devices = InMemory { heap, root: None };
+    let mut devices = InMemory { heap, root: None };
     let options = ServeOptions {
         turns: u64::from(turns),
         is_quiet: false,
         explain: false,
     };
-    let ended = serve::<MemorySectors, _, RecordList, _, _>(
-        alloc, heap, rt, &devices, &config, options, clients,
-    );
-    Ok(ended.status)
+    Ok(serve::<MemorySectors, _, RecordList, _, _>(
+        alloc,
+        heap,
+        rt,
+        &mut devices,
+        &config,
+        options,
+        clients,
+    ))
 }
 
 /// Whether the log is what a run says.
@@ -324,23 +333,23 @@ fn refuses(rt: &HostRuntime, heap: Heap, root: &'static [u8], told: &str) -> io:
     let text = format!(in heap; "listen = \"127.0.0.1:5300\"\n{SETTINGS}")?;
     let config = configuration(&text);
     let root = Some(root);
-    let devices = InMemory { heap, root };
+    let mut devices = InMemory { heap, root };
     let mut err = Vec::new(rt.alloc());
     let options = ServeOptions {
         turns: 1,
         is_quiet: false,
         explain: true,
     };
-    let ended = serve::<MemorySectors, _, RecordList, _, _>(
+    let status = serve::<MemorySectors, _, RecordList, _, _>(
         rt.alloc(),
         heap,
         rt,
-        &devices,
+        &mut devices,
         &config,
         options,
         &mut err,
     );
-    Ok(ended.status == REFUSED && ended.devices.is_empty() && err.as_slice() == told.as_bytes())
+    Ok(status == REFUSED && err.as_slice() == told.as_bytes())
 }
 
 #[test]

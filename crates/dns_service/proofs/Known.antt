@@ -1,24 +1,70 @@
 -- What a primary is given, one more of it.
-use Rattle.std.proofs.Common.{◌≡◌, ℕ, zero, suc, ◌<◌, ◌≤◌, List, [], ◌∷◌, length, get_or, Err, refl, sym, ap, subst, arith}
+use Rattle.std.proofs.Common.{◌≡◌, ℕ, zero, suc, ◌<◌, ◌≤◌, List, [], ◌∷◌, ◌++◌, Bool, true, false, length, take, drop, take_all, get_or, Ok, refl, sym, ap, subst, ◌∙◌, arith, append-nil, append_assoc}
+use Rattle.std.specs.Bool.{◌==◌}
+use Rattle.std.proofs.lemmas.Bool.Decides.{nat_tests}
+use Rattle.std.proofs.Math.Seq.{drop-cons}
+use Rattle.std.proofs.Math.ListN.{drop_of_length-le}
 use Rattle.std.proofs.Math.ListN.{set}
 use Rattle.std.specs.List.{AllZip}
 use Rattle.std.specs.String.{string_bytes}
 use Rattle.dns_sectors.specs.declared.device.Sectors.{Ghosts}
 use Rattle.dns_store.specs.declared.root.OpenError.{OpenError}
-use Rattle.dns_sectors.specs.declared.file_device.OpenDeviceError.{OpenDeviceError}
 use Rattle.dns_configuration.specs.declared.configuration.ZoneSettings.{ZoneSettings}
 use Rattle.dns_configuration.specs.Known.{origins_of}
 use Rattle.dns_devices.specs.declared.device_faults.DeviceFault.{DeviceFault}
-use Rattle.dns_devices.specs.DeviceFaults.{IsFaultOf, fault_of_device, fault_of_open}
-use Rattle.dns_devices.specs.Stores.{Gives}
-use Rattle.dns_service.specs.Opening.{CannotBeHad, IsFaultAt}
+use Rattle.dns_devices.specs.DeviceFaults.{IsFaultOf, fault_of_open}
+use Rattle.dns_devices.specs.DeviceCalls.{Closed, DeviceCall, Opened}
+use Rattle.dns_devices.specs.Stores.{IsDeviceNotGiven}
+use Rattle.dns_service.specs.Opening.{CannotBeHad, IsFaultAt, closings, openings}
 use Rattle.dns_service.specs.Serve.{IsPathAt}
 
 -- The device of the zone there was not opened, for this.
-pub cannot_be_had : {D : Type 0} (opened : Gives D) (zones : List ZoneSettings) (n : ℕ) (z : ZoneSettings) (e : OpenDeviceError) (fault : DeviceFault) → n < length zones → opened (string_bytes (get_or zones n z).device) (Err e) → fault ≡ fault_of_device e → CannotBeHad opened zones n fault
-cannot_be_had opened [] n z e fault inside h is = absurd (omega (arith, inside))
-cannot_be_had opened (x ∷ xs) zero z e fault inside h is = (e, h, is)
-cannot_be_had opened (x ∷ xs) (suc n) z e fault inside h is = cannot_be_had opened xs n z e fault (omega (arith, inside)) h is
+pub cannot_be_had : {D : Type 0} (calls : List (DeviceCall D)) (zones : List ZoneSettings) (n : ℕ) (z : ZoneSettings) (fault : DeviceFault) → n < length zones → IsDeviceNotGiven calls (get_or zones n z) fault → CannotBeHad calls zones n fault
+cannot_be_had calls [] n z fault inside h = absurd (omega (arith, inside))
+cannot_be_had calls (x ∷ xs) zero z fault inside h = h
+cannot_be_had calls (x ∷ xs) (suc n) z fault inside h = cannot_be_had calls xs n z fault (omega (arith, inside)) h
+
+-- One more device was opened.
+pub openings_more : {D : Type 0} (given : List D) (d : D) (zones : List ZoneSettings) (z : ZoneSettings) → length given < length zones → openings (given ++ d ∷ []) zones ≡ openings given zones ++ Opened (string_bytes (get_or zones (length given) z).device) (Ok d) ∷ []
+openings_more [] d [] z inside = absurd (omega (arith, inside))
+openings_more [] d (x ∷ xs) z inside = refl
+openings_more (e ∷ given) d [] z inside = absurd (omega (arith, inside))
+openings_more {D = D} (e ∷ given) d (x ∷ xs) z inside =
+    ap (λ (calls : List (DeviceCall D)). Opened (string_bytes x.device) (Ok e) ∷ calls) (openings_more given d xs z (omega (arith, inside)))
+
+-- Without a zone none is closed.
+pub closings_none : {D : Type 0} (still : List D) → closings still [] ≡ []
+closings_none [] = refl
+closings_none (d ∷ still) = refl
+
+-- All devices were closed that there are zones for.
+pub all_closed : {D : Type 0} (done all : List (DeviceCall D)) (still : List D) (zones : List ZoneSettings) (n : ℕ) → length zones ≤ n → done ++ closings still (drop n zones) ≡ all → done ≡ all
+all_closed {D = D} done all still zones n whole is =
+    let none : drop n zones ≡ [] = drop_of_length-le zones whole in
+    sym (append-nil done) ∙ sym (ap (λ (calls : List (DeviceCall D)). done ++ calls) (ap (closings still) none ∙ closings_none still)) ∙ is
+
+-- A vector, some of which was lent and came back.
+pub back_whole : {A : Type 0} (new old : List A) (n : ℕ) → length new ≡ length old → n ≡ length old → take n (new ++ drop (length new) old) ≡ new
+back_whole {A = A} new old n same count =
+    ap (λ (rest : List A). take n (new ++ rest)) (drop_of_length-le old (omega (arith, same))) ∙ ap (λ (all : List A). take n all) (append-nil new) ∙ take_all n new (omega (arith, same, count))
+
+pub is_some : (n : ℕ) (b : Bool) → b ≡ (n == 0) → b ≡ false → 0 < n
+is_some n b e f = grind (arith, nat_tests, e, f)
+
+pub is_none : (n : ℕ) (b : Bool) → b ≡ (n == 0) → b ≡ true → n ≡ 0
+is_none n b e f = grind (arith, nat_tests, e, f)
+
+-- One more device was closed.
+pub closings_more : {D : Type 0} (done all : List (DeviceCall D)) (still : List D) (d : D) (zones : List ZoneSettings) (n : ℕ) (z : ZoneSettings) → n < length zones → 0 < length still → done ++ closings still (drop n zones) ≡ all → (done ++ Closed (string_bytes (get_or zones n z).device) (get_or still 0 d) ∷ []) ++ closings (drop 1 still) (drop (suc n) zones) ≡ all
+closings_more done all [] d zones n z inside some is = absurd (omega (arith, some))
+closings_more {D = D} done all (x ∷ still) d zones n z inside some is =
+    append_assoc done (Closed (string_bytes (get_or zones n z).device) x ∷ []) (closings still (drop (suc n) zones))
+    ∙ sym (ap (λ (zs : List ZoneSettings). done ++ closings (x ∷ still) zs) (drop-cons zones n z inside)) ∙ is
+
+-- There was none to close.
+pub closings_over : {D : Type 0} (done all : List (DeviceCall D)) (still : List D) (zones others : List ZoneSettings) → length still ≡ 0 → done ++ closings still zones ≡ all → done ++ closings still others ≡ all
+closings_over done all [] zones others none is = is
+closings_over done all (d ∷ still) zones others none is = absurd (omega (arith, none))
 
 -- The path of the device of the zone there.
 pub path_at : (zones : List ZoneSettings) (n : ℕ) (z : ZoneSettings) → n < length zones → IsPathAt zones n (string_bytes (get_or zones n z).device)

@@ -1,7 +1,8 @@
 -- How a server ends, by what its parts told.
-use Rattle.std.proofs.Common.{◌≡◌, ℕ, suc, inl, inr, List, [], ◌∷◌, Option, Result, Ok, Err, IfOk, refl, arith, subst}
-use Rattle.std.specs.Prelude.{◌⊎◌}
+use Rattle.std.proofs.Common.{◌≡◌, ℕ, true, false, suc, inl, inr, List, [], ◌∷◌, ◌++◌, Option, Result, Ok, Err, IfOk, refl, sym, ap, ◌∙◌, arith, subst, append-nil}
+use Rattle.std.specs.Prelude.{◌⊎◌, MatchResult}
 use Rattle.std.specs.Option.{option_copied}
+use Rattle.std.specs.Result.{IsErr, result_unwrap_or}
 use Rattle.std.specs.Io.KnownBytes.{Appends}
 use Rattle.dns_sectors.specs.declared.device.Sectors.{Ghosts}
 use Rattle.dns_configuration.specs.declared.configuration.Configuration.{Configuration}
@@ -10,7 +11,7 @@ use Rattle.dns_configuration.specs.declared.files.Fault.{Fault}
 use Rattle.dns_configuration.specs.Faults.{fault_text, line}
 use Rattle.dns_configuration.specs.Files.{HoldsConfiguration}
 use Rattle.dns_devices.specs.declared.device_faults.DeviceFault.{DeviceFault}
-use Rattle.dns_devices.specs.Stores.{Gives}
+use Rattle.dns_devices.specs.DeviceCalls.{DeviceCall}
 use Rattle.dns_names.specs.Name.{Labels}
 use Rattle.dns_configuration.specs.Known.{origins_of}
 use Rattle.dns_versions.specs.Each.{Each2}
@@ -19,32 +20,40 @@ use Rattle.dns_primary.specs.Machine.{Machine, ZoneState}
 use Rattle.dns_primary.specs.Open.{AreRecoverable}
 use Rattle.dns_primary.specs.Runs.{Moment, Took, Stopped, Configured, Run, last_of}
 use Rattle.dns_primary.specs.Step.{Event}
+use Rattle.dns_primary.specs.Stop.{IsStopped}
 use Rattle.dns_primary.specs.declared.primary.ZoneSpec.{ZoneSpec}
 use Rattle.dns_primary.proofs.Brought.{StaysSet, step_set, stopped_set, all_stay_set, stay_set_on}
+use Rattle.dns_network.specs.Turn.{TurnMoment}
 use Rattle.dns_network.specs.Runs.{IsStepOf, Told, told_by}
 use Rattle.dns_primary.proofs.StaysSet.{set_lasts}
 use Rattle.dns_service.specs.Log.{IsLogOf, zone_lines}
 use Rattle.dns_service.specs.declared.server.ServeOptions.{ServeOptions}
-use Rattle.dns_service.specs.Opening.{IsNotServed, IsServed}
-use Rattle.dns_service.specs.Serve.{IsRefusalTold, IsServedFor, ServingEnds}
-use Rattle.dns_service.specs.ServedTurns.{HasTurned}
+use Rattle.dns_service.specs.Opening.{IsNotServed, IsServed, closings}
+use Rattle.dns_service.specs.Serve.{AreLeft, IsRefusalTold, IsServedFor, IsServedSomehow, IsServingTried, ServingEnds}
+use Rattle.dns_service.specs.ServedTurns.{HasRun, HasTurned, HaveRun}
 
 pub at_ok : {A E : Type 0} (r : Result A E) (P : A → Type 0) (x : A) → r ≡ Ok x → IfOk r P → P x
 at_ok {A = A} {E = E} r P x e h = subst (λ (s : Result A E). IfOk s P) e h
 
-pub serving_failed : {D : Type 0} (g : Ghosts D) (opened : Gives D) (config : File) (options : ServeOptions) (err err_after : Option (List ℕ)) (back : List D) → ServingEnds g opened config options err err_after 3 back
-serving_failed g opened config options err err_after back = record {
+pub failed_with : {A E : Type 0} (P : A → Type 0) (Q : E → Type 0) (r : Result A E) → IsErr r → ((e : E) → Q e) → MatchResult r P Q
+failed_with P Q (Ok x) is q = absurd (let both : false ≡ true = is in cc)
+failed_with P Q (Err e) is q = q e
+
+pub serving_failed : {D : Type 0} (g : Ghosts D) (calls : List (DeviceCall D)) (config : File) (options : ServeOptions) (err err_after : Option (List ℕ)) → IsServingTried g calls config → ServingEnds g calls config options err err_after 3
+serving_failed g calls config options err err_after tried = record {
   done = λ e. absurd (omega (arith, e));
   refused = λ e. absurd (omega (arith, e));
   others = inr refl;
+  called = tried;
 }
 
 -- The configuration is refused.
-pub configuration_refused : {D : Type 0} (g : Ghosts D) (opened : Gives D) (config : File) (options : ServeOptions) (fault : Fault) (err err_after : Option (List ℕ)) (back : List D) → HoldsConfiguration (option_copied config.octets) (Err fault) → Appends err err_after (line (fault_text config.path.now fault)) → ServingEnds g opened config options err err_after 1 back
-configuration_refused g opened config options fault err err_after back holds said = record {
+pub configuration_refused : {D : Type 0} (g : Ghosts D) (config : File) (options : ServeOptions) (fault : Fault) (err err_after : Option (List ℕ)) → HoldsConfiguration (option_copied config.octets) (Err fault) → Appends err err_after (line (fault_text config.path.now fault)) → ServingEnds g [] config options err err_after 1
+configuration_refused g config options fault err err_after holds said = record {
   done = λ e. absurd (omega (arith, e));
   refused = λ _. (fault_text config.path.now fault, said, inl (fault, holds, refl));
   others = inl (omega arith);
+  called = inl refl;
 }
 
 -- The zones of a machine whose devices may be opened again were opened for these names and settings.
@@ -63,52 +72,94 @@ run_set (t ∷ told) start (Took event fails effects new ∷ run) r each = stay_
 run_set (t ∷ told) start (Stopped event tries new ∷ run) r each = absurd each.0
 run_set (t ∷ told) start (Configured new ∷ run) r each = absurd each.0
 
--- What is kept has turned, and its devices came back.
-pub served_for : {D : Type 0} (g : Ghosts D) (opened : Gives D) (c : Configuration) (options : ServeOptions) (err err_after : Option (List ℕ)) (keeps after : Machine → Type 0) (back : List D) → IsServed g opened c.zones.items (λ known m. keeps m)
-    → HasTurned options.turns (λ turns m. IsLogOf (zone_lines (origins_of c.zones.items) m.zones) options.is_quiet (origins_of c.zones.items) c.listen.items err err_after turns) keeps after
-    → ((m : Machine) (event : Event) (names : List Labels) (known : List ZoneSpec) → after m → AreSetAs names known m.zones → AreRecoverable g 0 m event 0 m.zones names known back)
-    → IsServedFor g opened c options err err_after back
-served_for g opened c options err err_after keeps after back is (turns, many, run) left = (
-  turns,
-  many,
-  record {
-    devices = is.devices;
-    given = is.given;
-    known = is.known;
-    settings = is.settings;
-    recovered = λ m event tries may.
-        let names = origins_of c.zones.items in
-        let to = is.recovered m event tries may in
-        let turned = run to.0 to.2 in
-        let ran = turned.1 in
-        let at = set_lasts names is.known m.zones to.0.zones (recoverable_set g tries m event 0 m.zones names is.known is.devices may) (stopped_set tries m event to.0 to.1) in
-        let end = set_lasts names is.known to.0.zones (last_of to.0 ran.0).zones at (run_set (told_by turns) to.0 ran.0 ran.1.runs ran.1.each) in
-        (to.0, to.1, (turned.0, (ran.0, ran.1, λ within. left (last_of to.0 ran.0) within names is.known ran.2 end)));
-  },
-)
+-- What ran from a machine that recovered, and whose devices were closed.
+module _ {D : Type 0} (g : Ghosts D) (c : Configuration) (opening : List (DeviceCall D)) (keeps after : Machine → Type 0) (back : List D) (is : IsServed g opening c.zones.items (λ known m. keeps m)) (left : (m : Machine) (event : Event) (names : List Labels) (known : List ZoneSpec) → after m → AreSetAs names known m.zones → AreRecoverable g 0 m event 0 m.zones names known back) where
+  -- So it is of whichever machine the turns led to.
+  led : (turns : List (List TurnMoment)) (m : Machine) (event : Event) (tries : ℕ) → AreRecoverable g tries m event 0 m.zones (origins_of c.zones.items) is.known is.devices → (new : Machine) → IsStopped tries m event new → HaveRun turns after new → HaveRun turns (AreLeft g c.zones.items back is.known) new
+  led turns m event tries may new stopped ran =
+      let names = origins_of c.zones.items in
+      let at = set_lasts names is.known m.zones new.zones (recoverable_set g tries m event 0 m.zones names is.known is.devices may) (stopped_set tries m event new stopped) in
+      let end = set_lasts names is.known new.zones (last_of new ran.0).zones at (run_set (told_by turns) new ran.0 ran.1.runs ran.1.each) in
+      (ran.0, ran.1, λ within. left (last_of new ran.0) within names is.known ran.2 end)
+
+  -- All turns were made.
+  pub served_for : (options : ServeOptions) (err err_after : Option (List ℕ)) → HasTurned options.turns (λ turns m. IsLogOf (zone_lines (origins_of c.zones.items) m.zones) options.is_quiet (origins_of c.zones.items) c.listen.items err err_after turns) keeps after → IsServedFor g (opening ++ closings back c.zones.items) c options err err_after
+  served_for options err err_after (turns, many, run) = record {
+    opening = opening;
+    back = back;
+    came = refl;
+    turns = turns;
+    many = many;
+    served = record {
+      devices = is.devices;
+      given = is.given;
+      known = is.known;
+      settings = is.settings;
+      recovered = λ m event tries may.
+          let to = is.recovered m event tries may in
+          let turned = run to.0 to.2 in
+          (to.0, to.1, (turned.0, led turns m event tries may to.0 to.1 turned.1));
+    };
+  }
+
+  -- Some were.
+  pub served_somehow : HasRun keeps after → IsServedSomehow g (opening ++ closings back c.zones.items) c.zones.items
+  served_somehow (turns, run) = record {
+    opening = opening;
+    back = back;
+    came = refl;
+    served = record {
+      devices = is.devices;
+      given = is.given;
+      known = is.known;
+      settings = is.settings;
+      recovered = λ m event tries may.
+          let to = is.recovered m event tries may in
+          (to.0, to.1, (turns, led turns m event tries may to.0 to.1 (run to.0 to.2)));
+    };
+  }
+
+-- Memory was refused when the devices were to be closed.
+pub let_go : {D : Type 0} (g : Ghosts D) (opening calls : List (DeviceCall D)) (config : File) (c : Configuration) (options : ServeOptions) (keeps : Machine → Type 0) (err err_after : Option (List ℕ)) → HoldsConfiguration (option_copied config.octets) (Ok c) → IsServed g opening c.zones.items (λ known m. keeps m) → calls ≡ [] → ServingEnds g (opening ++ calls) config options err err_after 3
+let_go {D = D} g opening calls config c options keeps err err_after holds is none =
+    let gone : opening ++ calls ≡ opening = ap (λ (t : List (DeviceCall D)). opening ++ t) none ∙ append-nil opening in
+    serving_failed g (opening ++ calls) config options err err_after (inr (
+      c,
+      holds,
+      inr (inr (subst (λ (t : List (DeviceCall D)). IsServed g t c.zones.items (λ known m. Unit {0})) (sym gone) (record {
+        devices = is.devices;
+        given = is.given;
+        known = is.known;
+        settings = is.settings;
+        recovered = λ m event tries may. let to = is.recovered m event tries may in (to.0, to.1, tt);
+      }))),
+    ))
 
 -- All turns were made, or the address could not be had.
-pub served : {D : Type 0} (g : Ghosts D) (opened : Gives D) (config : File) (c : Configuration) (options : ServeOptions) (err err_after : Option (List ℕ)) (status : ℕ) (back : List D) → HoldsConfiguration (option_copied config.octets) (Ok c) → (status ≡ 3) ⊎ ((status ≡ 0) × IsServedFor g opened c options err err_after back) → ServingEnds g opened config options err err_after status back
-served g opened config c options err err_after status back holds (inr (none, is)) = record {
+pub served : {D : Type 0} (g : Ghosts D) (calls : List (DeviceCall D)) (config : File) (c : Configuration) (options : ServeOptions) (err err_after : Option (List ℕ)) (status : ℕ) → HoldsConfiguration (option_copied config.octets) (Ok c) → IsServedSomehow g calls c.zones.items → (status ≡ 3) ⊎ ((status ≡ 0) × IsServedFor g calls c options err err_after) → ServingEnds g calls config options err err_after status
+served g calls config c options err err_after status holds somehow (inr (none, is)) = record {
   done = λ _. (c, holds, is);
   refused = λ one. absurd (omega (arith, none, one));
   others = inl (omega (arith, none));
+  called = inr (c, holds, inr (inl somehow));
 }
-served g opened config c options err err_after status back holds (inl three) = record {
+served g calls config c options err err_after status holds somehow (inl three) = record {
   done = λ none. absurd (omega (arith, none, three));
   refused = λ one. absurd (omega (arith, one, three));
   others = inr three;
+  called = inr (c, holds, inr (inl somehow));
 }
 
 -- A device is refused.
-pub device_refused : {D E : Type 0} (g : Ghosts D) (opened : Gives D) (config : File) (c : Configuration) (options : ServeOptions) (place : ℕ) (fault : DeviceFault) (err err_after : Option (List ℕ)) (back : List D) (r : Result ℕ E) → HoldsConfiguration (option_copied config.octets) (Ok c) → IsNotServed g opened c.zones.items place fault → IfOk r (IsRefusalTold c.zones.items place fault options.explain err err_after) → IfOk r (λ status. ServingEnds g opened config options err err_after status back)
-device_refused g opened config c options place fault err err_after back (Err e) holds not h = tt
-device_refused {D = D} g opened config c options place fault err err_after back (Ok status) holds not h = go h
+pub device_refused : {D E : Type 0} (g : Ghosts D) (calls : List (DeviceCall D)) (config : File) (c : Configuration) (options : ServeOptions) (place : ℕ) (fault : DeviceFault) (err err_after : Option (List ℕ)) (r : Result ℕ E) → HoldsConfiguration (option_copied config.octets) (Ok c) → IsNotServed g calls c.zones.items place fault → IfOk r (IsRefusalTold c.zones.items place fault options.explain err err_after) → ServingEnds g calls config options err err_after (result_unwrap_or r 3)
+device_refused g calls config c options place fault err err_after (Err e) holds not h = serving_failed g calls config options err err_after (inr (c, holds, inl (place, fault, not)))
+device_refused {D = D} g calls config c options place fault err err_after (Ok status) holds not h = go h
   where
-    go : IsRefusalTold c.zones.items place fault options.explain err err_after status → ServingEnds g opened config options err err_after status back
-    go (inl e) = record { done = λ z. absurd (omega (arith, e, z)); refused = λ z. absurd (omega (arith, e, z)); others = inr e }
+    go : IsRefusalTold c.zones.items place fault options.explain err err_after status → ServingEnds g calls config options err err_after status
+    go (inl e) = record { done = λ z. absurd (omega (arith, e, z)); refused = λ z. absurd (omega (arith, e, z)); others = inr e; called = inr (c, holds, inl (place, fault, not)) }
     go (inr told) = record {
       done = λ z. absurd (let one = told.0 in omega (arith, one, z));
       refused = λ _. (_, told.2.2, inr (c, holds, record { place = place; path = told.2.0; fault = fault; at = told.2.1; refused = not; says = refl; status = told.1 }));
       others = inl (let one = told.0 in omega (arith, one));
+      called = inr (c, holds, inl (place, fault, not));
     }

@@ -15,7 +15,8 @@ use Rattle.dns_network.specs.NotesOfTurns.{AreNotesOfTurns}
 use Rattle.dns_network.proofs.Noted.{Took, turns_noted}
 use Rattle.dns_network.proofs.Running.{turns_run}
 use Rattle.dns_network.proofs.Steps.{step_more}
-use Rattle.dns_service.specs.ServedTurns.{HasPaused, HasTurned, IsServedOn, served_at_start}
+use Rattle.dns_primary.specs.Machine.{Machine}
+use Rattle.dns_service.specs.ServedTurns.{HasPaused, HasRun, HasTurned, IsServedOn, served_at_start}
 
 module _ {I D S N L : Type 0} {i : index.Ghosts I} {d : store.Ghosts D} (s : stream.Ghosts S) (n : Ghosts N S) (l : notes.Ghosts L) where
   -- So many turns were made.
@@ -58,3 +59,11 @@ pub has_been_turned : {I D S N L : Type 0} {i : index.Ghosts I} {d : store.Ghost
     → HasTurned count (λ turns _. said turns) (λ m. IsKept old m) (λ m. IsKept new m)
 has_been_turned {s = s} {n = n} {l = l} {count = count} {old = old} {new = new} {network = network} {network' = network'} {first = first} {last = last} said is log =
     has_turned s n l said count old new network network' first last is log
+
+-- No turn was made.
+pub none_run : (keeps : Machine → Type 0) → HasRun keeps keeps
+none_run keeps = ([], λ m kept. ([], record { runs = tt; each = tt }, kept))
+
+-- Some turns were made.
+pub some_run : (count : ℕ) (said : List (List TurnMoment) → Machine → Type 0) (keeps after : Machine → Type 0) → HasTurned count said keeps after → HasRun keeps after
+some_run count said keeps after is = (is.0, λ m kept. (is.2 m kept).1)

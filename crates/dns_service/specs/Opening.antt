@@ -1,5 +1,6 @@
 -- The zones of a configuration over their devices.
-use Rattle.std.specs.Prelude.{◌≡◌, ◌⊎◌, ℕ, zero, suc, List, [], ◌∷◌, Some, Ok, slice_get, MatchOption}
+use Rattle.std.specs.Prelude.{◌≡◌, ◌⊎◌, ℕ, zero, suc, List, [], ◌∷◌, ◌++◌, Some, Ok, length, slice_get}
+use Rattle.std.specs.Prelude.{MatchOption}
 use Rattle.std.specs.List.{AllZip}
 use Rattle.std.specs.String.{string_bytes}
 use Rattle.dns_sectors.specs.declared.device.Sectors.{Ghosts}
@@ -11,31 +12,57 @@ use Rattle.dns_primary.specs.Stop.{IsStopped}
 use Rattle.dns_primary.specs.declared.primary.ZoneSpec as primary
 use Rattle.dns_configuration.specs.declared.configuration.ZoneSettings.{ZoneSettings}
 use Rattle.dns_configuration.specs.Known.{IsSettingOf, origins_of}
+use Rattle.dns_devices.specs.DeviceCalls.{Closed, DeviceCall, Opened}
 use Rattle.dns_devices.specs.DeviceFaults.{IsFaultOf, fault_of_open}
-use Rattle.dns_devices.specs.Stores.{Gives}
 use Rattle.dns_devices.specs.Stores.{IsDeviceNotGiven as IsUnopened}
 use Rattle.dns_devices.specs.declared.device_faults.DeviceFault.{DeviceFault}
 use Rattle.dns_devices.specs.declared.device_faults.DeviceFault.TheVariants.{OutOfMemory}
 
--- The devices that were given for the zones, each by its path.
-abbrev pub AreGiven : {D : Type 0} → Gives D → List ZoneSettings → List D → Type 0
-AreGiven opened zones devices = AllZip (λ z device. opened (string_bytes z.device) (Ok device)) zones devices
+-- The devices of the first zones are opened, or closed, one after another, each at its path.
+abbrev pub openings : {D : Type 0} → List D → List ZoneSettings → List (DeviceCall D)
+openings [] zones = []
+openings (d ∷ devices) [] = []
+openings (d ∷ devices) (z ∷ zones) = Opened (string_bytes z.device) (Ok d) ∷ openings devices zones
 
--- The device of the zone there was not opened, for this; or memory was refused.
-abbrev pub CannotBeHad : {D : Type 0} → Gives D → List ZoneSettings → ℕ → DeviceFault → Type 0
-CannotBeHad opened [] place fault = ⊥
-CannotBeHad opened (z ∷ zones) zero fault = IsUnopened opened z fault
-CannotBeHad opened (z ∷ zones) (suc place) fault = CannotBeHad opened zones place fault
+abbrev pub closings : {D : Type 0} → List D → List ZoneSettings → List (DeviceCall D)
+closings [] zones = []
+closings (d ∷ devices) [] = []
+closings (d ∷ devices) (z ∷ zones) = Closed (string_bytes z.device) d ∷ closings devices zones
 
-abbrev pub IsNotGiven : {D : Type 0} → Gives D → List ZoneSettings → ℕ → DeviceFault → Type 0
-IsNotGiven opened zones place fault = (fault ≡ OutOfMemory) ⊎ CannotBeHad opened zones place fault
+-- The device of one more zone was opened, after those before; or it was not, or memory was refused.
+abbrev pub IsNextGiven : {D : Type 0} → List (DeviceCall D) → ZoneSettings → List D → List D → Type 0
+IsNextGiven {D} calls own before after =
+    (device : D) × (after ≡ before ++ device ∷ [])
+    × (calls ≡ Opened (string_bytes own.device) (Ok device) ∷ [])
 
--- A primary over the devices that were given: on those of a machine that stopped it keeps one that recovered
+abbrev pub IsNextNotGiven : {D : Type 0} → List (DeviceCall D) → ZoneSettings → DeviceFault → Type 0
+IsNextNotGiven calls own fault = ((fault ≡ OutOfMemory) × (calls ≡ [])) ⊎ IsUnopened calls own fault
+
+-- These devices were opened for the zones.
+abbrev pub AreGiven : {D : Type 0} → List (DeviceCall D) → List ZoneSettings → List D → Type 0
+AreGiven calls zones devices = (length devices ≡ length zones) × (calls ≡ openings devices zones)
+
+-- The device of the zone there can't be had, for this.
+abbrev pub CannotBeHad : {D : Type 0} → List (DeviceCall D) → List ZoneSettings → ℕ → DeviceFault → Type 0
+CannotBeHad calls [] place fault = ⊥
+CannotBeHad calls (z ∷ zones) zero fault = IsUnopened calls z fault
+CannotBeHad calls (z ∷ zones) (suc place) fault = CannotBeHad calls zones place fault
+
+-- Those of the first zones were opened; then that of the zone there could not be had, or memory was refused,
+-- and they were closed as they came.
+pub record IsNotGiven {D : Type 0} (calls : List (DeviceCall D)) (zones : List ZoneSettings) (place : ℕ)
+    (fault : DeviceFault) : Type 0 where
+  pub given : List D
+  pub tried : List (DeviceCall D)
+  pub came : calls ≡ openings given zones ++ (tried ++ closings given zones)
+  pub why : ((fault ≡ OutOfMemory) × (tried ≡ [])) ⊎ CannotBeHad tried zones place fault
+
+-- A primary over the devices that were opened: on those of a machine that stopped it keeps one that recovered
 -- from that stop, of zones with these settings.
-pub record IsServed {D : Type 0} (g : Ghosts D) (opened : Gives D) (zones : List ZoneSettings)
+pub record IsServed {D : Type 0} (g : Ghosts D) (calls : List (DeviceCall D)) (zones : List ZoneSettings)
     (keeps : List primary.ZoneSpec → Machine → Type 0) : Type 0 where
   pub devices : List D
-  pub given : AreGiven opened zones devices
+  pub given : AreGiven calls zones devices
   pub known : List primary.ZoneSpec
   pub settings : AllZip IsSettingOf zones known
   pub recovered : (m : Machine) (event : Event) (tries : ℕ)
@@ -49,20 +76,22 @@ IsFaultAt {D} g error devices afters place fault =
     MatchOption (slice_get devices place) (fault ≡ fault_of_open error)
     (λ device. (after : D) × (slice_get afters place ≡ Some after) × IsFaultOf g error device after fault)
 
--- The devices were given, and that of the zone there was not opened, for this.
-pub record IsZoneNotOpened {D : Type 0} (g : Ghosts D) (opened : Gives D)
-    (zones : List ZoneSettings) (place : ℕ)
-    (fault : DeviceFault) : Type 0 where
+-- The devices were opened, the store of the zone there was refused, for this, and all were closed as opening
+-- the stores had left them.
+pub record IsZoneNotOpened {D : Type 0} (g : Ghosts D) (calls : List (DeviceCall D))
+    (zones : List ZoneSettings) (place : ℕ) (fault : DeviceFault) : Type 0 where
   pub devices : List D
-  pub given : AreGiven opened zones devices
+  pub after : List D
+  pub many : length devices ≡ length zones
+  pub came : calls ≡ openings devices zones ++ closings after zones
   pub known : List primary.ZoneSpec
   pub settings : AllZip IsSettingOf zones known
   pub back : List D
-  pub after : List D
   pub error : OpenError
   pub named : IsFaultAt g error back after place fault
   pub refused : AreRefused g error place (origins_of zones) known devices back
 
-abbrev pub IsNotServed : {D : Type 0} → Ghosts D → Gives D → List ZoneSettings → ℕ → DeviceFault → Type 0
-IsNotServed g opened zones place fault =
-    IsNotGiven opened zones place fault ⊎ IsZoneNotOpened g opened zones place fault
+abbrev pub IsNotServed : {D : Type 0} → Ghosts D → List (DeviceCall D) → List ZoneSettings → ℕ → DeviceFault
+    → Type 0
+IsNotServed g calls zones place fault =
+    IsNotGiven calls zones place fault ⊎ IsZoneNotOpened g calls zones place fault

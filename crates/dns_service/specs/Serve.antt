@@ -1,5 +1,6 @@
 -- How a server ends.
-use Rattle.std.specs.Prelude.{◌≡◌, ◌⊎◌, ◌≤◌, ℕ, zero, suc, Bool, List, [], ◌∷◌, length, Option, Ok, Err}
+use Rattle.std.specs.Prelude.{◌≡◌, ◌⊎◌, ◌≤◌, ℕ, zero, suc, Bool, List, [], ◌∷◌, ◌++◌, length}
+use Rattle.std.specs.Prelude.{Option, Ok, Err}
 use Rattle.std.specs.Option.{option_copied}
 use Rattle.std.specs.String.{string_bytes}
 use Rattle.std.specs.Io.KnownBytes.{Appends}
@@ -12,16 +13,22 @@ use Rattle.dns_configuration.specs.Faults.{fault_text, line}
 use Rattle.dns_configuration.specs.Files.{HoldsConfiguration}
 use Rattle.dns_devices.specs.declared.device_faults.DeviceFault.{DeviceFault}
 use Rattle.dns_devices.specs.DeviceFaults.{device_text, status_of}
-use Rattle.dns_devices.specs.Stores.{Gives}
+use Rattle.dns_devices.specs.DeviceCalls.{DeviceCall}
 use Rattle.dns_network.specs.Turn.{TurnMoment}
+use Rattle.dns_names.specs.Name.{Labels}
+use Rattle.dns_zone.specs.declared.index.ZoneIndex as index
+use Rattle.dns_store.specs.declared.zone_store.ZoneStore as store
+use Rattle.dns_primary.specs.HandOut.{AreSetAs}
+use Rattle.dns_primary.specs.Keeps.{IsKept}
 use Rattle.dns_primary.specs.Machine.{Machine}
 use Rattle.dns_primary.specs.Open.{AreRecoverable}
 use Rattle.dns_primary.specs.Step.{Event}
+use Rattle.dns_primary.specs.declared.primary.Primary.{Primary}
 use Rattle.dns_primary.specs.declared.primary.ZoneSpec.{ZoneSpec}
 use Rattle.dns_configuration.specs.Known.{origins_of}
 use Rattle.dns_service.specs.Log.{IsLogOf, zone_lines}
 use Rattle.dns_service.specs.declared.server.ServeOptions.{ServeOptions}
-use Rattle.dns_service.specs.Opening.{IsNotServed, IsServed}
+use Rattle.dns_service.specs.Opening.{IsNotServed, IsServed, closings}
 use Rattle.dns_service.specs.ServedTurns.{HaveRun}
 
 -- The path of the device of the zone there.
@@ -31,14 +38,14 @@ IsPathAt (z ∷ zones) zero path = path ≡ string_bytes z.device
 IsPathAt (z ∷ zones) (suc place) path = IsPathAt zones place path
 
 -- The device of a zone is refused, and the text says so.
-pub record IsDeviceRefused {D : Type 0} (g : Ghosts D) (opened : Gives D) (zones : List ZoneSettings)
+pub record IsDeviceRefused {D : Type 0} (g : Ghosts D) (calls : List (DeviceCall D)) (zones : List ZoneSettings)
     (explain : Bool) (text : List ℕ)
     : Type 0 where
   pub place : ℕ
   pub path : List ℕ
   pub fault : DeviceFault
   pub at : IsPathAt zones place path
-  pub refused : IsNotServed g opened zones place fault
+  pub refused : IsNotServed g calls zones place fault
   pub says : text ≡ device_text path fault explain
   pub status : status_of fault ≡ 1
 
@@ -48,37 +55,71 @@ abbrev pub AreLeft : {D : Type 0} → Ghosts D → List ZoneSettings → List D 
 AreLeft g zones devices known m =
     (event : Event) → AreRecoverable g 0 m event 0 m.zones (origins_of zones) known devices
 
--- So many turns were made of a primary over the devices of a configuration's zones, and it gave these back:
--- on those of a machine that stopped, the events of the turns are those of a run from one that recovered from
--- that stop, each that came back holds what the machine at the run's end left of its zone, and the log tells
--- of the versions that are shown at the run's start, of the addresses, and of all that was noted.
-abbrev pub IsServedFor : {D : Type 0} → Ghosts D → Gives D → Configuration → ServeOptions → Option (List ℕ)
-    → Option (List ℕ) → List D → Type 0
-IsServedFor g opened c options err err_after back =
-    let zones = c.zones.items in
-    let names = origins_of zones in
-    (turns : List (List TurnMoment)) × (length turns ≡ options.turns)
-    × IsServed g opened zones (λ known m.
-    IsLogOf (zone_lines names m.zones) options.is_quiet names c.listen.items err err_after turns
-    × HaveRun turns (AreLeft g zones back known) m)
+-- The devices of a primary were closed: those of each machine that it keeps, as this left its zones.
+abbrev pub ArePrimaryClosed : {D I S : Type 0} {i : index.Ghosts I} {s : store.Ghosts S} → Ghosts D
+    → List (DeviceCall D) → List ZoneSettings → Primary I S i s → Type 0
+ArePrimaryClosed {D} g calls zones primary =
+    (back : List D) × (calls ≡ closings back zones)
+    × ((m : Machine) (event : Event) (names : List Labels) (known : List ZoneSpec) → IsKept primary m
+    → AreSetAs names known m.zones → AreRecoverable g 0 m event 0 m.zones names known back)
 
--- How a server ends: all its turns were made, over the devices of the zones of its configuration, which are
--- given back, and its log was written; or nothing was served, and the fault of the configuration or of the
--- first device that is refused is reported. With status 3 a device or an address can't be had, a writer
--- failed or memory was refused.
-pub record ServingEnds {D : Type 0} (g : Ghosts D) (opened : Gives D) (config : File)
-    (options : ServeOptions) (err err_after : Option (List ℕ)) (status : ℕ) (back : List D)
-    : Type 0 where
+-- All turns were made of a primary over the devices of a configuration's zones, which were then closed: on
+-- those of a machine that stopped, the events of the turns are those of a run from one that recovered from
+-- that stop, each device was closed as the machine at the run's end left its zone, and the log tells of the
+-- versions that are shown at the run's start, of the addresses, and of all that was noted.
+pub record IsServedFor {D : Type 0} (g : Ghosts D) (calls : List (DeviceCall D)) (c : Configuration)
+    (options : ServeOptions) (err err_after : Option (List ℕ)) : Type 0 where
+  pub opening : List (DeviceCall D)
+  pub back : List D
+  pub came : calls ≡ opening ++ closings back c.zones.items
+  pub turns : List (List TurnMoment)
+  pub many : length turns ≡ options.turns
+  pub served : let names = origins_of c.zones.items in
+      IsServed g opening c.zones.items (λ known m.
+      IsLogOf (zone_lines names m.zones) options.is_quiet names c.listen.items err err_after turns
+      × HaveRun turns (AreLeft g c.zones.items back known) m)
+
+-- However it ended: some turns were made, and the devices were closed as the machine at their end left its
+-- zones.
+pub record IsServedSomehow {D : Type 0} (g : Ghosts D) (calls : List (DeviceCall D))
+    (zones : List ZoneSettings) : Type 0 where
+  pub opening : List (DeviceCall D)
+  pub back : List D
+  pub came : calls ≡ opening ++ closings back zones
+  pub served : IsServed g opening zones (λ known m.
+      (turns : List (List TurnMoment)) × HaveRun turns (AreLeft g zones back known) m)
+
+-- The stores were opened, and memory for the list of the devices was refused when they were to be closed.
+abbrev pub AreLetGo : {D : Type 0} → Ghosts D → List (DeviceCall D) → List ZoneSettings → Type 0
+AreLetGo g calls zones = IsServed g calls zones (λ known m. Unit {0})
+
+-- The calls of a server: none; or devices of the zones of its configuration were opened, of which one was
+-- refused, or which it served.
+abbrev pub IsServingTried : {D : Type 0} → Ghosts D → List (DeviceCall D) → File → Type 0
+IsServingTried g calls config =
+    (calls ≡ [])
+    ⊎ ((c : Configuration) × HoldsConfiguration (option_copied config.octets) (Ok c)
+    × (((place : ℕ) × (fault : DeviceFault) × IsNotServed g calls c.zones.items place fault)
+    ⊎ IsServedSomehow g calls c.zones.items
+    ⊎ AreLetGo g calls c.zones.items))
+
+-- How a server ends: all its turns were made, over the devices of the zones of its configuration, and its log
+-- was written; or nothing was served, and the fault of the configuration or of the first device that is
+-- refused is reported. With status 3 a device or an address can't be had, a writer failed or memory was
+-- refused.
+pub record ServingEnds {D : Type 0} (g : Ghosts D) (calls : List (DeviceCall D)) (config : File)
+    (options : ServeOptions) (err err_after : Option (List ℕ)) (status : ℕ) : Type 0 where
   pub done : status ≡ 0
       → (c : Configuration) × HoldsConfiguration (option_copied config.octets) (Ok c)
-      × IsServedFor g opened c options err err_after back
+      × IsServedFor g calls c options err err_after
   pub refused : status ≡ 1
       → (text : List ℕ) × Appends err err_after (line text)
       × (((fault : Fault) × HoldsConfiguration (option_copied config.octets) (Err fault)
       × (text ≡ fault_text config.path.now fault))
       ⊎ ((c : Configuration) × HoldsConfiguration (option_copied config.octets) (Ok c)
-      × IsDeviceRefused g opened c.zones.items options.explain text))
+      × IsDeviceRefused g calls c.zones.items options.explain text))
   pub others : status ≤ 1 ⊎ (status ≡ 3)
+  pub called : IsServingTried g calls config
 
 -- What is reported of a device that is refused: nothing where memory was, and nothing where there is no such
 -- zone.

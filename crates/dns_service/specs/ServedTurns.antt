@@ -45,3 +45,7 @@ abbrev pub HasTurned : ℕ → (List (List TurnMoment) → Machine → Type 0) �
 HasTurned count said keeps after =
     (turns : List (List TurnMoment)) × (length turns ≡ count)
     × ((m : Machine) → keeps m → said turns m × HaveRun turns after m)
+
+-- Some turns were made, perhaps none.
+abbrev pub HasRun : (Machine → Type 0) → (Machine → Type 0) → Type 0
+HasRun keeps after = (turns : List (List TurnMoment)) × ((m : Machine) → keeps m → HaveRun turns after m)

@@ -8,4 +8,4 @@ mod readiness;
 mod server;
 mod sockets;
 
-pub use server::{ServeOptions, ServiceEnd, serve};
+pub use server::{ServeOptions, serve};

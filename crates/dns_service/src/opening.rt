@@ -2,7 +2,9 @@
 ghost use Rattle.std.specs.Prelude.{◌≡◌, MatchResult};
 ghost use Rattle.dns_primary.specs.Keeps.{IsKept};
 ghost use Rattle.dns_configuration.specs.Known.{origins_of};
-ghost use Rattle.dns_service.specs.Opening.{AreGiven, IsFaultAt, IsNotGiven, IsNotServed, IsServed};
+ghost use Rattle.dns_configuration.specs.Calls.{Calls, HasCalled};
+ghost use Rattle.dns_service.specs.Opening.{AreGiven, IsFaultAt, IsNextGiven, IsNextNotGiven, IsNotGiven};
+ghost use Rattle.dns_service.specs.Opening.{IsNotServed, IsServed, closings};
 
 use dns_configuration::{ZoneSettings, settings_of};
 use dns_devices::{DeviceFault, Devices, refusal};
@@ -20,34 +22,55 @@ pub(crate) struct Refusal {
     pub(crate) fault: DeviceFault,
 }
 
-/// The devices of zones, or the first one that can't be had.
-fn open_devices<D: Sectors + Drop, F: Devices<D>>(
+/// Closes devices, those of the first zones.
+pub(crate) fn close_all<D: Drop, F: Devices<D>>(
+    devices: &mut F,
+    zones: &[ZoneSettings],
+    open: Vec<D, Heap>,
+)
+    ensures { HasCalled (F.calls devices.old) (F.calls devices.new) (closings open.entry.items zones.now) }
+{
+    let mut open = open;
+    for own in zones {
+        if !open.is_empty() {
+            devices.close(&own.device, open.remove(0));
+        }
+    }
+}
+
+/// Opens the device of a zone, and puts it after those that were opened before.
+fn open_next<D, F: Devices<D>>(
+    devices: &mut F,
+    own: &ZoneSettings,
+    given: &mut Vec<D, Heap>,
+) -> Result<(), DeviceFault>
+    ensures { Calls (F.calls devices.old) (F.calls devices.new) (λ calls. MatchResult result
+        (λ _. IsNextGiven calls own.now given.old.items given.new.items)
+        (λ fault. (given.new.items ≡ given.old.items) × IsNextNotGiven calls own.now fault)) }
+{
+    if given.reserve(1).is_err() {
+        return Err(DeviceFault::OutOfMemory);
+    }
+    let device = devices.open(&own.device)?;
+    given.push_reserved(device);
+    Ok(())
+}
+
+/// Opens the devices of zones. If one can't be had, those before it are closed.
+fn open_devices<D: Drop, F: Devices<D>>(
     heap: Heap,
-    devices: &F,
+    devices: &mut F,
     zones: &[ZoneSettings],
 ) -> Result<Vec<D, Heap>, Refusal>
-    ensures { MatchResult result (λ given. AreGiven (F.opened devices.now) zones.now given.items)
-        (λ r. IsNotGiven (F.opened devices.now) zones.now r.place r.fault) }
+    ensures { Calls (F.calls devices.old) (F.calls devices.new) (λ calls. MatchResult result
+        (λ given. AreGiven calls zones.now given.items)
+        (λ r. IsNotGiven calls zones.now r.place r.fault)) }
 {
     let mut given = Vec::new(heap);
     for place in 0..zones.len() {
-        let device = match devices.open(&zones[place].device) {
-            Ok(device) => device,
-            Err(error) => {
-                return Err(Refusal {
-                    place,
-                    fault: DeviceFault::from(error),
-                });
-            }
-        };
-        match given.push(device) {
-            Ok(()) => {}
-            Err(_) => {
-                return Err(Refusal {
-                    place,
-                    fault: DeviceFault::OutOfMemory,
-                });
-            }
+        if let Err(fault) = open_next(devices, &zones[place], &mut given) {
+            close_all(devices, zones, given);
+            return Err(Refusal { place, fault });
         }
     }
     Ok(given)
@@ -64,17 +87,17 @@ fn fault_at<D: Sectors>(devices: &mut [D], place: usize, error: OpenError) -> De
     }
 }
 
-/// The primary of zones over their devices, or the device that was refused.
+/// The primary of zones over their devices, or the device that was refused; then all are closed.
 pub(crate) fn open_primary<D: Sectors + Drop, F: Devices<D>, I: ZoneIndex>(
     heap: Heap,
-    devices: &F,
+    devices: &mut F,
     zones: &[ZoneSettings],
     origins: &[Name],
 ) -> Result<Primary<I, KeptStore<D, I>>, Refusal>
     requires { origins.now ≡ origins_of zones.now }
-    ensures { MatchResult result
-        (λ p. IsServed D.Sectors (F.opened devices.now) zones.now (λ known m. IsKept p m))
-        (λ r. IsNotServed D.Sectors (F.opened devices.now) zones.now r.place r.fault) }
+    ensures { Calls (F.calls devices.old) (F.calls devices.new) (λ calls. MatchResult result
+        (λ p. IsServed D.Sectors calls zones.now (λ known m. IsKept p m))
+        (λ r. IsNotServed D.Sectors calls zones.now r.place r.fault)) }
 {
     let Ok(settings) = settings_of(heap, zones) else {
         return Err(Refusal {
@@ -92,9 +115,10 @@ pub(crate) fn open_primary<D: Sectors + Drop, F: Devices<D>, I: ZoneIndex>(
             let NotOpened {
                 place,
                 error,
-                mut devices,
+                devices: mut given,
             } = refused;
-            let fault = fault_at(&mut devices, place, error);
+            let fault = fault_at(&mut given, place, error);
+            close_all(devices, zones, given);
             Err(Refusal { place, fault })
         }
     }

@@ -1,19 +1,16 @@
 //! A server over devices and sockets.
-ghost use Rattle.std.specs.Prelude.{◌≡◌, ◌⊎◌, [], List, IfOk, OnOk};
+ghost use Rattle.std.specs.Prelude.{◌≡◌, ◌⊎◌, [], IfOk, MatchResult, OnOk};
+ghost use Rattle.std.specs.Result.{result_unwrap_or};
 ghost use Rattle.std.specs.Io.KnownBytes.{Appends};
 ghost use Rattle.dns_service.specs.Log.{IsLogOf, listening_lines, zone_line, zone_lines};
-ghost use Rattle.dns_service.specs.Serve.{IsRefusalTold, ServingEnds};
-ghost use Rattle.dns_service.specs.ServedTurns.{HasPaused, HasTurned, IsServedOn};
+ghost use Rattle.dns_service.specs.Serve.{ArePrimaryClosed, IsRefusalTold, ServingEnds};
+ghost use Rattle.dns_service.specs.ServedTurns.{HasPaused, HasRun, HasTurned, IsServedOn};
+ghost use Rattle.dns_configuration.specs.Calls.{Calls};
 ghost use Rattle.dns_primary.specs.Keeps.{IsKept};
-ghost use Rattle.dns_names.specs.Name.{Labels};
-ghost use Rattle.dns_primary.specs.HandOut.{AreSetAs};
 ghost use Rattle.dns_primary.specs.Machine.{Machine};
-ghost use Rattle.dns_primary.specs.Open.{AreRecoverable};
-ghost use Rattle.dns_primary.specs.Step.{Event as StatedEvent};
-ghost use Rattle.dns_primary.specs.declared.primary.ZoneSpec.{ZoneSpec as StatedSettings};
 
 use crate::log::{Counts, Log};
-use crate::opening::{Refusal, open_primary};
+use crate::opening::{Refusal, close_all, open_primary};
 use crate::sockets::Sockets;
 use dns_configuration::{DONE, FAILED, File, ZoneSettings, origins_of, read_configuration, tell};
 use dns_devices::{Devices, tell_device};
@@ -126,9 +123,10 @@ fn run<R: Clock, I: ZoneIndex, D: ZoneStore, S: Stream + Drop, N: Network<S>, L:
     notes: &mut L,
     turns: u64,
 ) -> io::Result<()>
-    ensures { IfOk result
+    ensures { MatchResult result
         (λ _. IsServedOn S.Stream N.Network L.Notes turns primary.old network.old notes.old primary.new
-        network.new notes.new) }
+        network.new notes.new)
+        (λ _. primary.new ≡ primary.old) }
 {
     let mut edge: Edge<S> = Edge::new(heap)?;
     let start = Instant::now(rt)?;
@@ -160,7 +158,8 @@ fn listen<R: Net + Clock, I: ZoneIndex, S: ZoneStore, E: Write>(
     is_quiet: bool,
     err: &mut E,
 ) -> io::Result<u8>
-    ensures { IfOk result (λ status. (status ≡ FAILED)
+    ensures run { HasRun (λ m. IsKept primary.old m) (λ m. IsKept primary.new m) }
+    ensures ended { IfOk result (λ status. (status ≡ FAILED)
         ⊎ ((status ≡ DONE)
         × HasTurned turns
         (λ told _. IsLogOf [] is_quiet origins.now addresses.now (E.contents err.old)
@@ -203,7 +202,8 @@ fn serve_primary<R: Net + Clock, I: ZoneIndex, S: ZoneStore, E: Write>(
     is_quiet: bool,
     err: &mut E,
 ) -> io::Result<u8>
-    ensures { IfOk result (λ status. (status ≡ FAILED)
+    ensures run { HasRun (λ m. IsKept primary.old m) (λ m. IsKept primary.new m) }
+    ensures ended { IfOk result (λ status. (status ≡ FAILED)
         ⊎ ((status ≡ DONE)
         × HasTurned turns
         (λ told m. IsLogOf (zone_lines origins.now m.zones) is_quiet origins.now addresses.now
@@ -229,17 +229,23 @@ struct Service<'a, R> {
 /// What can be served so. (A call that names both a store over a device and the memory of every collection
 /// has no proof, so that the service is a type parameter.)
 trait Servable<S, E> {
+    /// Some turns were made of it.
+    ghost has_run: { Self → Self → Type 0 };
+
     /// All turns of a service were made of it, and it and the log are these after them.
     ghost is_served: { Self → S → E → Self → E → Type 0 };
 
-    /// Serves it, and gives the exit status.
+    /// Serves it, and returns the exit status.
     fn serve_as(&mut self, service: &S, err: &mut E) -> u8
-        ensures { (result ≡ FAILED)
+        ensures run { has_run self.old self.new }
+        ensures ended { (result ≡ FAILED)
             ⊎ ((result ≡ DONE) × is_served self.old service.now err.old self.new err.new) };
 }
 
 impl<R: Net + Clock, I: ZoneIndex, S: ZoneStore, E: Write> Servable<Service<'_, R>, E>
     for Primary<I, S> {
+    ghost has_run = { λ primary after. HasRun (λ m. IsKept primary m) (λ m. IsKept after m) };
+
     ghost is_served = { λ primary service err after err_after.
         HasTurned service.turns
         (λ told m. IsLogOf (zone_lines service.origins.now m.zones) service.is_quiet service.origins.now
@@ -261,9 +267,10 @@ impl<R: Net + Clock, I: ZoneIndex, S: ZoneStore, E: Write> Servable<Service<'_, 
     }
 }
 
-/// Serves a primary, and gives the exit status.
+/// Serves a primary, and returns the exit status.
 fn serve_as<S, E, P: Servable<S, E>>(primary: &mut P, service: &S, err: &mut E) -> u8
-    ensures { (result ≡ FAILED)
+    ensures run { P.has_run primary.old primary.new }
+    ensures ended { (result ≡ FAILED)
         ⊎ ((result ≡ DONE) × P.is_served primary.old service.now err.old primary.new err.new) }
 {
     primary.serve_as(service, err)
@@ -286,37 +293,37 @@ fn tell_refusal<E: Write>(
     }
 }
 
-/// Takes a primary apart into the devices of its zones. Where there is room for them this takes no memory.
-fn give_back<D: Sectors + Drop, I: ZoneIndex>(
+/// Takes a primary apart into the devices of its zones, and closes these. If memory for their list is refused
+/// they are let go.
+fn close_primary<D: Sectors + Drop, F: Devices<D>, I: ZoneIndex>(
+    heap: Heap,
+    devices: &mut F,
+    zones: &[ZoneSettings],
     primary: Primary<I, KeptStore<D, I>>,
-    back: &mut Vec<D, Heap>,
 ) -> Result<(), AllocError>
-    requires { back.old.items ≡ [] }
-    ensures { IfOk result (λ _. (m : Machine) (event : StatedEvent) (names : List Labels)
-        (known : List StatedSettings) → IsKept primary m → AreSetAs names known m.zones
-        → AreRecoverable D.Sectors 0 m event 0 m.zones names known back.new.items) }
+    ensures { Calls (F.calls devices.old) (F.calls devices.new) (λ calls. MatchResult result
+        (λ _. ArePrimaryClosed D.Sectors calls zones.now primary) (λ _. calls ≡ [])) }
 {
+    let mut back = Vec::new(heap);
     back.reserve_exact(primary.zone_count())?;
-    primary.into_devices(back);
+    primary.into_devices(&mut back);
+    close_all(devices, zones, back);
     Ok(())
 }
 
-/// Opens the stores of all zones, serves them and gives their devices back, for which it makes room first.
-/// Gives the exit status.
+/// Opens the stores of all zones, serves them and closes their devices. Returns the exit status.
 fn serve_all<D: Sectors + Drop, F: Devices<D>, I: ZoneIndex, R: Net + Clock, E: Write>(
     alloc: Global,
     heap: Heap,
     rt: &R,
-    devices: &F,
+    devices: &mut F,
     config: &File<'_>,
     options: ServeOptions,
-    back: &mut Vec<D, Heap>,
     err: &mut E,
 ) -> io::Result<u8>
-    requires { back.old.items ≡ [] }
-    ensures { IfOk result
-        (λ status. ServingEnds D.Sectors (F.opened devices.now) config.now options (E.contents err.old)
-        (E.contents err.new) status back.new.items) }
+    ensures { Calls (F.calls devices.old) (F.calls devices.new)
+        (λ calls. ServingEnds D.Sectors calls config.now options (E.contents err.old) (E.contents err.new)
+        (result_unwrap_or result FAILED)) }
 {
     let configuration = match read_configuration(alloc, heap, config) {
         Ok(configuration) => configuration,
@@ -325,7 +332,6 @@ fn serve_all<D: Sectors + Drop, F: Devices<D>, I: ZoneIndex, R: Net + Clock, E: 
     let origins = origins_of(heap, &configuration.zones)?;
     match open_primary::<D, F, I>(heap, devices, &configuration.zones, &origins) {
         Ok(mut primary) => {
-            back.reserve_exact(primary.zone_count())?;
             let service = Service {
                 heap,
                 rt,
@@ -335,20 +341,11 @@ fn serve_all<D: Sectors + Drop, F: Devices<D>, I: ZoneIndex, R: Net + Clock, E: 
                 is_quiet: options.is_quiet,
             };
             let status = serve_as(&mut primary, &service, err);
-            give_back(primary, back)?;
+            close_primary(heap, devices, &configuration.zones, primary)?;
             Ok(status)
         }
-        Err(refusal) => { tell_refusal(err, &configuration.zones, refusal, options.explain) }
+        Err(refusal) => tell_refusal(err, &configuration.zones, refusal, options.explain),
     }
-}
-
-/// What a server ends with.
-#[derive(Drop)]
-pub struct ServiceEnd<D> {
-    /// The exit status.
-    pub status: u8,
-    /// The devices that it served, in the order of their zones.
-    pub devices: Vec<D, Heap>,
 }
 
 /// How a server is to be run.
@@ -373,26 +370,20 @@ pub struct ServeOptions {
 /// Faults are reported in one line, the first in this order: the configuration, the devices (of which, if it
 /// is wanted, a second line says what can be done), the addresses (`ADDRESS: Unavailable`). Gives the exit
 /// status: `DONE`, `REFUSED`, or `FAILED` where a device or an address can't be had, a writer failed or
-/// memory was refused. The devices are given back as the last turn left them, and none of them where one of
-/// them could not be opened.
+/// memory was refused. The devices are closed as the last turn left them, or as they came if one of them is
+/// refused, but for how often they were opened.
 pub fn serve<D: Sectors + Drop, F: Devices<D>, I: ZoneIndex, R: Net + Clock, E: Write>(
     alloc: Global,
     heap: Heap,
     rt: &R,
-    devices: &F,
+    devices: &mut F,
     config: &File<'_>,
     options: ServeOptions,
     err: &mut E,
-) -> ServiceEnd<D>
-    ensures { ServingEnds D.Sectors (F.opened devices.now) config.now options (E.contents err.old)
-        (E.contents err.new) result.status result.devices.items }
+) -> u8
+    ensures { Calls (F.calls devices.old) (F.calls devices.new)
+        (λ calls. ServingEnds D.Sectors calls config.now options (E.contents err.old) (E.contents err.new)
+        result) }
 {
-    let mut back = Vec::new(heap);
-    let status = serve_all::<D, F, I, R, E>(
-        alloc, heap, rt, devices, config, options, &mut back, err,
-    ).unwrap_or(FAILED);
-    ServiceEnd {
-        status,
-        devices: back,
-    }
+    serve_all::<D, F, I, R, E>(alloc, heap, rt, devices, config, options, err).unwrap_or(FAILED)
 }

@@ -19,7 +19,7 @@ use dns_devices::Disk;
 use dns_fetch::{Tcp, TcpSocket, fetch};
 use dns_memory::{Heap, heap};
 use dns_sectors::{DiskFile, FileSectors};
-use dns_service::{ServeOptions, ServiceEnd, serve};
+use dns_service::{ServeOptions, serve};
 use lines::Lines;
 use std::io::{self, Write};
 use std::process::ExitCode;
@@ -209,7 +209,7 @@ fn run_init(
     let status = init::<Device, _, Index, _, _>(
         rt.alloc(),
         heap,
-        &Disk(rt),
+        &mut Disk(rt),
         &config,
         origin,
         &files,
@@ -244,7 +244,7 @@ fn run_dump(
     let status = dump::<Device, _, Index, _, _>(
         rt.alloc(),
         heap,
-        &Disk(rt),
+        &mut Disk(rt),
         &config,
         origin,
         explain,
@@ -281,7 +281,7 @@ fn run_load(
         compare::<Device, _, Index, _, _>(
             rt.alloc(),
             heap,
-            &Disk(rt),
+            &mut Disk(rt),
             &config,
             &files,
             origin,
@@ -293,7 +293,7 @@ fn run_load(
         load::<Device, _, Index, _, _>(
             rt.alloc(),
             heap,
-            &Disk(rt),
+            &mut Disk(rt),
             &config,
             &files,
             origin,
@@ -317,7 +317,7 @@ fn run_migrate(rt: &HostRuntime, heap: Heap, config: &str, explain: bool) -> io:
     let status = migrate::<Device, _, Index, _, _>(
         rt.alloc(),
         heap,
-        &Disk(rt),
+        &mut Disk(rt),
         &config,
         explain,
         &mut out,
@@ -338,17 +338,15 @@ fn run_serve(rt: &HostRuntime, heap: Heap, words: Serving<'_>, explain: bool) ->
         is_quiet: words.quiet,
         explain,
     };
-    let ServiceEnd { status, devices } = serve::<Device, _, Index, _, _>(
+    let status = serve::<Device, _, Index, _, _>(
         rt.alloc(),
         heap,
         rt,
-        &Disk(rt),
+        &mut Disk(rt),
         &config,
         options,
         &mut Lines::new(rt),
     );
-    // They are let go before the system is asked for them again.
-    drop(devices);
     if explain && status == REFUSED {
         explain_files(rt, heap, &config, &[])?;
     }
@@ -372,7 +370,7 @@ fn run_fetch(rt: &HostRuntime, heap: Heap, words: Fetching<'_>, explain: bool) -
     let seconds = words.seconds;
     let status = fetch::<TcpSocket<'_, HostRuntime>, _, Index, _, _, _>(
         heap,
-        &Tcp { heap, rt, seconds },
+        &mut Tcp { heap, rt, seconds },
         words.server,
         words.origin,
         since,

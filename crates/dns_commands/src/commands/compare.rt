@@ -1,7 +1,9 @@
 //! What loading a zone's master file would change, in print, without loading it: `load --dry-run`.
-ghost use Rattle.std.specs.Prelude.{◌≡◌, ◌+◌, ◌∷◌, [], length, IfOk, OnOk, MatchResult};
+ghost use Rattle.std.specs.Prelude.{◌≡◌, ◌+◌, ◌∷◌, [], length, OnOk, MatchResult};
+ghost use Rattle.std.specs.Result.{result_unwrap_or};
 ghost use Rattle.std.specs.Io.KnownBytes.{Appends};
 ghost use Rattle.dns_store.specs.Versions.{Kept, newest_of};
+ghost use Rattle.dns_configuration.specs.Calls.{Calls};
 ghost use Rattle.dns_devices.specs.Stores.{own_shape};
 ghost use Rattle.dns_commands.specs.Compare.{ComparingEnds, ComparisonEnds, HasNoDifference, IsChangeWithin};
 ghost use Rattle.dns_commands.specs.Compare.{IsDifference, IsWithinRoom, change_lines, difference_text};
@@ -108,17 +110,18 @@ fn with_room<I: ZoneIndex>(
 /// these.
 fn difference<D: Sectors + Drop, F: Devices<D>, I: ZoneIndex>(
     heap: Heap,
-    devices: &F,
+    devices: &mut F,
     own: &ZoneSettings,
     zone: &Zone<I>,
 ) -> Result<Option<Change>, DeviceFault>
-    ensures { MatchResult result (IsDifference D.Sectors (F.opened devices.now) own.now zone.now.records)
-        (HasNoDifference D.Sectors (F.opened devices.now) own.now zone.now.records) }
+    ensures { Calls (F.calls devices.old) (F.calls devices.new)
+        (λ calls. MatchResult result (IsDifference D.Sectors calls own.now zone.now.records)
+        (HasNoDifference D.Sectors calls own.now zone.now.records)) }
 {
     match open_store::<D, F, I>(heap, devices, own) {
         Ok((store, newest)) => {
             let number = store.newest();
-            drop(store);
+            devices.close(&own.device, store.into_device());
             let change = change_to(heap, &newest, zone);
             with_room(&newest, number, own, zone, change)
         }
@@ -129,16 +132,16 @@ fn difference<D: Sectors + Drop, F: Devices<D>, I: ZoneIndex>(
 /// Compares the master file of a zone with its device, and gives the exit status.
 fn compare_own<D: Sectors + Drop, F: Devices<D>, I: ZoneIndex, W: Write, E: Write>(
     heap: Heap,
-    devices: &F,
+    devices: &mut F,
     own: &ZoneSettings,
     files: &[File<'_>],
     explain: bool,
     out: &mut W,
     err: &mut E,
 ) -> io::Result<u8>
-    ensures { IfOk result
-        (λ status. ComparingEnds D.Sectors (F.opened devices.now) own.now files.now explain
-        (W.contents out.old) (W.contents out.new) (E.contents err.old) (E.contents err.new) status) }
+    ensures { Calls (F.calls devices.old) (F.calls devices.new)
+        (λ calls. ComparingEnds D.Sectors calls own.now files.now explain (W.contents out.old)
+        (W.contents out.new) (E.contents err.old) (E.contents err.new) (result_unwrap_or result FAILED)) }
 {
     let zone: Zone<I> = match load_one(heap, files, own) {
         Ok(zone) => zone,
@@ -157,7 +160,7 @@ fn compare_own<D: Sectors + Drop, F: Devices<D>, I: ZoneIndex, W: Write, E: Writ
 fn compare_named<D: Sectors + Drop, F: Devices<D>, I: ZoneIndex, W: Write, E: Write>(
     alloc: Global,
     heap: Heap,
-    devices: &F,
+    devices: &mut F,
     config: &File<'_>,
     files: &[File<'_>],
     origin: &str,
@@ -165,9 +168,9 @@ fn compare_named<D: Sectors + Drop, F: Devices<D>, I: ZoneIndex, W: Write, E: Wr
     out: &mut W,
     err: &mut E,
 ) -> io::Result<u8>
-    ensures { IfOk result
-        (λ status. ComparisonEnds D.Sectors (F.opened devices.now) config.now files.now origin.now explain
-        (W.contents out.old) (W.contents out.new) (E.contents err.old) (E.contents err.new) status) }
+    ensures { Calls (F.calls devices.old) (F.calls devices.new)
+        (λ calls. ComparisonEnds D.Sectors calls config.now files.now origin.now explain (W.contents out.old)
+        (W.contents out.new) (E.contents err.old) (E.contents err.new) (result_unwrap_or result FAILED)) }
 {
     let zones = match read_configuration(alloc, heap, config) {
         Ok(configuration) => configuration.zones,
@@ -187,12 +190,13 @@ fn compare_named<D: Sectors + Drop, F: Devices<D>, I: ZoneIndex, W: Write, E: Wr
 /// go as a line of a master file after `- `, and then each that would come after `+ `, both with their SOA
 /// first; or `ORIGIN already`.
 ///
-/// Faults are reported as `load` does. Gives the exit status: `DONE`, `REFUSED`, or
-/// `FAILED` where the device can't be had, a writer failed or memory was refused.
+/// Faults are reported as `load` does. The device is only looked into: it keeps its version, and counts one
+/// more opening. Returns the exit status: `DONE`, `REFUSED`, or `FAILED` if the device can't be had, a writer
+/// failed or memory was refused.
 pub fn compare<D: Sectors + Drop, F: Devices<D>, I: ZoneIndex, W: Write, E: Write>(
     alloc: Global,
     heap: Heap,
-    devices: &F,
+    devices: &mut F,
     config: &File<'_>,
     files: &[File<'_>],
     origin: &str,
@@ -200,8 +204,9 @@ pub fn compare<D: Sectors + Drop, F: Devices<D>, I: ZoneIndex, W: Write, E: Writ
     out: &mut W,
     err: &mut E,
 ) -> u8
-    ensures { ComparisonEnds D.Sectors (F.opened devices.now) config.now files.now origin.now explain
-        (W.contents out.old) (W.contents out.new) (E.contents err.old) (E.contents err.new) result }
+    ensures { Calls (F.calls devices.old) (F.calls devices.new)
+        (λ calls. ComparisonEnds D.Sectors calls config.now files.now origin.now explain (W.contents out.old)
+        (W.contents out.new) (E.contents err.old) (E.contents err.new) result) }
 {
     compare_named::<D, F, I, W, E>(
         alloc, heap, devices, config, files, origin, explain, out, err,

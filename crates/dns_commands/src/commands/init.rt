@@ -1,13 +1,14 @@
 //! Devices that are made: the store of each zone, from its master file.
-ghost use Rattle.std.specs.Prelude.{◌≡◌, ◌⊎◌, length, flat_map, true, All, IfOk, OnOk, MatchOption};
+ghost use Rattle.std.specs.Prelude.{◌≡◌, ◌⊎◌, ◌∷◌, [], length, map, flat_map, true, OnOk, MatchOption};
 ghost use Rattle.std.specs.Prelude.{MatchResult};
-ghost use Rattle.std.specs.List.{AllZip};
 ghost use Rattle.std.specs.Option.{option_copied};
+ghost use Rattle.std.specs.Result.{result_unwrap_or};
 ghost use Rattle.std.specs.Io.KnownBytes.{Appends};
 ghost use Rattle.dns_configuration.specs.Faults.{is_memory};
-ghost use Rattle.dns_commands.specs.Init.{AreChosen, HasDevice, HasMade, InitEnds, IsFirstFound, IsFound};
-ghost use Rattle.dns_commands.specs.Init.{IsDeviceMade, IsNotChosen, IsNotMade, MakingEnds, MakingStopsAt};
-ghost use Rattle.dns_commands.specs.Init.{formatted, is_absent, sectors_of};
+ghost use Rattle.dns_configuration.specs.Calls.{Calls, HasCalled};
+ghost use Rattle.dns_commands.specs.Init.{AreChosen, AreMade, InitEnds, IsDeviceMade, IsFirstFound, IsFound};
+ghost use Rattle.dns_commands.specs.Init.{IsMakingUndone, IsNotChosen, IsNotMade, MakingEnds, absent};
+ghost use Rattle.dns_commands.specs.Init.{formatted, removal, sectors_of};
 
 use dns_configuration::{
     DONE, FAILED, Fault, File, ZoneSettings, apex, load_all, read_configuration, tell, zone_of,
@@ -29,22 +30,25 @@ fn sectors_of(own: &ZoneSettings) -> usize
     (1 + 2 * bank) as usize
 }
 
-/// Makes the store of a zone on a new device. One on which the store can't be made is taken away again.
+/// Makes the store of a zone on a new device. One on which the store can't be made is removed again.
 fn make_store<D: Sectors + Drop, F: NewDevices<D>, I: ZoneIndex>(
     heap: Heap,
-    devices: &F,
+    devices: &mut F,
     own: &ZoneSettings,
     zone: &Zone<I>,
-) -> Result<D, DeviceFault>
-    ensures { MatchResult result (IsDeviceMade D.Sectors (F.made devices.now) own.now zone.now)
-        (IsNotMade D.Sectors (F.made devices.now) own.now zone.now) }
+) -> Result<(), DeviceFault>
+    ensures { Calls (F.calls devices.old) (F.calls devices.new) (λ calls. MatchResult result
+        (λ _. IsDeviceMade D.Sectors calls own.now zone.now)
+        (IsNotMade D.Sectors calls own.now zone.now)) }
 {
     let Ok(mut device) = devices.make(&own.device, sectors_of(own)) else {
         return Err(DeviceFault::Device);
     };
     let (snapshot, journal) = (own.snapshot_sectors, own.journal_sectors);
-    match format(heap, &mut device, zone, snapshot, journal) {
-        Ok(()) => Ok(device),
+    let formatted = format(heap, &mut device, zone, snapshot, journal);
+    devices.close(&own.device, device);
+    match formatted {
+        Ok(()) => Ok(()),
         Err(error) => {
             devices.remove(&own.device);
             Err(DeviceFault::from(error))
@@ -54,9 +58,9 @@ fn make_store<D: Sectors + Drop, F: NewDevices<D>, I: ZoneIndex>(
 
 /// Why the device of a zone is not to be made: there is something at its path already, or that can't be
 /// determined.
-fn fault_at<D, F: NewDevices<D>>(devices: &F, own: &ZoneSettings) -> Option<DeviceFault>
-    ensures { MatchOption result (is_absent (F.found devices.now) own.now)
-        (IsFound (F.found devices.now) own.now) }
+fn fault_at<D, F: NewDevices<D>>(devices: &mut F, own: &ZoneSettings) -> Option<DeviceFault>
+    ensures { Calls (F.calls devices.old) (F.calls devices.new) (λ calls. MatchOption result
+        (calls ≡ absent own.now ∷ []) (IsFound calls own.now)) }
 {
     match devices.has(&own.device) {
         Ok(there) => {
@@ -72,11 +76,11 @@ fn fault_at<D, F: NewDevices<D>>(devices: &F, own: &ZoneSettings) -> Option<Devi
 
 /// The path of the first device where there is something already, or where that can't be determined.
 fn first_found<'s, D, F: NewDevices<D>>(
-    devices: &F,
+    devices: &mut F,
     zones: &'s [ZoneSettings],
 ) -> Option<(&'s str, DeviceFault)>
-    ensures { MatchOption result (All (is_absent (F.found devices.now)) zones.now)
-        (λ r. IsFirstFound (F.found devices.now) zones.now r.0.now r.1) }
+    ensures { Calls (F.calls devices.old) (F.calls devices.new) (λ calls. MatchOption result
+        (calls ≡ map absent zones.now) (λ r. IsFirstFound calls zones.now r.0.now r.1)) }
 {
     for own in zones {
         if let Some(fault) = fault_at::<D, F>(devices, own) {
@@ -111,31 +115,31 @@ fn chosen<'s, 'o>(
     }
 }
 
-/// Takes away the devices of these zones, which were made in this run.
-fn take_away<D, F: NewDevices<D>>(devices: &F, settings: &[ZoneSettings])
-    requires { All (HasMade (F.made devices.now)) settings.now }
+/// Removes the devices of these zones, which were made in this run.
+fn remove_all<D, F: NewDevices<D>>(devices: &mut F, settings: &[ZoneSettings])
+    ensures { HasCalled (F.calls devices.old) (F.calls devices.new) (map removal settings.now) }
 {
     for own in settings {
         devices.remove(&own.device);
     }
 }
 
-/// Makes the devices of zones, in their order. Where one is refused those before it are taken away again.
+/// Makes the devices of zones, in their order. If one is refused those before it are removed again.
 fn make_devices<'s, D: Sectors + Drop, F: NewDevices<D>, I: ZoneIndex>(
     heap: Heap,
-    devices: &F,
+    devices: &mut F,
     settings: &'s [ZoneSettings],
     zones: &[Zone<I>],
 ) -> Result<(), (&'s str, DeviceFault)>
     requires { length settings.now ≡ length zones.now }
-    ensures { MatchResult result
-        (λ _. AllZip (HasDevice D.Sectors (F.made devices.now)) settings.now zones.now)
-        (λ r. MakingStopsAt D.Sectors (F.made devices.now) settings.now zones.now r.0.now r.1) }
+    ensures { Calls (F.calls devices.old) (F.calls devices.new) (λ calls. MatchResult result
+        (λ _. AreMade D.Sectors calls settings.now zones.now)
+        (λ r. IsMakingUndone D.Sectors calls settings.now zones.now r.0.now r.1)) }
 {
     for place in 0..settings.len() {
         let own = &settings[place];
         if let Err(fault) = make_store(heap, devices, own, &zones[place]) {
-            take_away::<D, F>(devices, &settings[..place]);
+            remove_all::<D, F>(devices, &settings[..place]);
             return Err((&own.device, fault));
         }
     }
@@ -165,11 +169,11 @@ fn print_all<I: ZoneIndex, W: Write>(out: &mut W, zones: &[Zone<I>]) -> io::Resu
     Ok(())
 }
 
-/// Makes the devices of zones, in their order, and prints each. Where one is refused, or what was made can't
-/// be printed, none that was made stays.
+/// Makes the devices of zones, in their order, and prints each. If one is refused, or what was made can't be
+/// printed, none that was made stays.
 fn make_all<D: Sectors + Drop, F: NewDevices<D>, I: ZoneIndex, W: Write, E: Write>(
     heap: Heap,
-    devices: &F,
+    devices: &mut F,
     settings: &[ZoneSettings],
     zones: &[Zone<I>],
     explain: bool,
@@ -177,8 +181,9 @@ fn make_all<D: Sectors + Drop, F: NewDevices<D>, I: ZoneIndex, W: Write, E: Writ
     err: &mut E,
 ) -> io::Result<u8>
     requires { length settings.now ≡ length zones.now }
-    ensures { IfOk result (λ status. MakingEnds D.Sectors (F.made devices.now) settings.now zones.now explain
-        (W.contents out.old) (W.contents out.new) (E.contents err.old) (E.contents err.new) status) }
+    ensures { Calls (F.calls devices.old) (F.calls devices.new)
+        (λ calls. MakingEnds D.Sectors calls settings.now zones.now explain (W.contents out.old)
+        (W.contents out.new) (E.contents err.old) (E.contents err.new) (result_unwrap_or result FAILED)) }
 {
     if let Err((path, fault)) = make_devices::<D, F, I>(heap, devices, settings, zones) {
         return tell_device(err, path, fault, explain);
@@ -186,7 +191,7 @@ fn make_all<D: Sectors + Drop, F: NewDevices<D>, I: ZoneIndex, W: Write, E: Writ
     match print_all(out, zones) {
         Ok(()) => Ok(DONE),
         Err(error) => {
-            take_away::<D, F>(devices, settings);
+            remove_all::<D, F>(devices, settings);
             Err(error)
         }
     }
@@ -196,7 +201,7 @@ fn make_all<D: Sectors + Drop, F: NewDevices<D>, I: ZoneIndex, W: Write, E: Writ
 fn init_all<D: Sectors + Drop, F: NewDevices<D>, I: ZoneIndex, W: Write, E: Write>(
     alloc: Global,
     heap: Heap,
-    devices: &F,
+    devices: &mut F,
     config: &File<'_>,
     origin: Option<&str>,
     files: &[File<'_>],
@@ -204,10 +209,10 @@ fn init_all<D: Sectors + Drop, F: NewDevices<D>, I: ZoneIndex, W: Write, E: Writ
     out: &mut W,
     err: &mut E,
 ) -> io::Result<u8>
-    ensures { IfOk result
-        (λ status. InitEnds D.Sectors (F.found devices.now) (F.made devices.now) config.now
-        (option_copied origin.entry) files.now explain
-        (W.contents out.old) (W.contents out.new) (E.contents err.old) (E.contents err.new) status) }
+    ensures { Calls (F.calls devices.old) (F.calls devices.new)
+        (λ calls. InitEnds D.Sectors calls config.now (option_copied origin.entry) files.now explain
+        (W.contents out.old) (W.contents out.new) (E.contents err.old) (E.contents err.new)
+        (result_unwrap_or result FAILED)) }
 {
     let configured = match read_configuration(alloc, heap, config) {
         Ok(configuration) => configuration.zones,
@@ -228,17 +233,17 @@ fn init_all<D: Sectors + Drop, F: NewDevices<D>, I: ZoneIndex, W: Write, E: Writ
 }
 
 /// Makes the device of each zone of a configuration from its master file, or that of the zone which `origin`
-/// names alone, and then prints `formatted ORIGIN serial M` for each. Where that ends with another status
-/// than `DONE`, no device that this run made stays. Faults are reported in one line, the first in this order:
-/// the configuration, the origin (`ORIGIN: BadOrigin`), the master files in the order of the zones, the
-/// devices (`DEVICE: Exists` before any is made); of a device, if it is wanted, a second line says what can
-/// be done.
-/// Gives the exit status: `DONE`, `REFUSED`, or `FAILED` where a device can't be had, a writer failed or
-/// memory was refused.
+/// names alone, and then prints `formatted ORIGIN serial M` for each. If that ends with another status than
+/// `DONE`, no device that this run made stays; nothing that was there before is opened, written or removed.
+///
+/// Faults are reported in one line, the first in this order: the configuration, the origin
+/// (`ORIGIN: BadOrigin`), the master files in the order of the zones, the devices (`DEVICE: Exists` before any
+/// is made); of a device, if it is wanted, a second line says what can be done. Returns the exit status:
+/// `DONE`, `REFUSED`, or `FAILED` if a device can't be had, a writer failed or memory was refused.
 pub fn init<D: Sectors + Drop, F: NewDevices<D>, I: ZoneIndex, W: Write, E: Write>(
     alloc: Global,
     heap: Heap,
-    devices: &F,
+    devices: &mut F,
     config: &File<'_>,
     origin: Option<&str>,
     files: &[File<'_>],
@@ -246,9 +251,9 @@ pub fn init<D: Sectors + Drop, F: NewDevices<D>, I: ZoneIndex, W: Write, E: Writ
     out: &mut W,
     err: &mut E,
 ) -> u8
-    ensures { InitEnds D.Sectors (F.found devices.now) (F.made devices.now) config.now
-        (option_copied origin.entry) files.now explain (W.contents out.old) (W.contents out.new)
-        (E.contents err.old) (E.contents err.new) result }
+    ensures { Calls (F.calls devices.old) (F.calls devices.new)
+        (λ calls. InitEnds D.Sectors calls config.now (option_copied origin.entry) files.now explain
+        (W.contents out.old) (W.contents out.new) (E.contents err.old) (E.contents err.new) result) }
 {
     init_all::<D, F, I, W, E>(
         alloc, heap, devices, config, origin, files, explain, out, err,

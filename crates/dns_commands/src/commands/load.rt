@@ -1,6 +1,8 @@
 //! A run that makes the records of a zone's master file the next version of its store.
-ghost use Rattle.std.specs.Prelude.{◌≡◌, IfOk, OnOk};
+ghost use Rattle.std.specs.Prelude.{◌≡◌, OnOk};
+ghost use Rattle.std.specs.Result.{result_unwrap_or};
 ghost use Rattle.std.specs.Io.KnownBytes.{Appends};
+ghost use Rattle.dns_configuration.specs.Calls.{Calls};
 ghost use Rattle.dns_commands.specs.LoadRun.{LoadEnds, LoadingEnds, difference_line, loaded_line};
 ghost use Rattle.dns_commands.specs.LoadRun.{loaded_text, path_blamed};
 
@@ -71,16 +73,16 @@ pub(crate) fn path_blamed(own: &ZoneSettings, fault: DeviceFault) -> &str
 /// Loads the master file of a zone, and gives the exit status.
 fn load_own<D: Sectors + Drop, F: Devices<D>, I: ZoneIndex, W: Write, E: Write>(
     heap: Heap,
-    devices: &F,
+    devices: &mut F,
     own: &ZoneSettings,
     files: &[File<'_>],
     explain: bool,
     out: &mut W,
     err: &mut E,
 ) -> io::Result<u8>
-    ensures { IfOk result
-        (λ status. LoadingEnds D.Sectors (F.opened devices.now) own.now files.now explain (W.contents out.old)
-        (W.contents out.new) (E.contents err.old) (E.contents err.new) status) }
+    ensures { Calls (F.calls devices.old) (F.calls devices.new)
+        (λ calls. LoadingEnds D.Sectors calls own.now files.now explain (W.contents out.old)
+        (W.contents out.new) (E.contents err.old) (E.contents err.new) (result_unwrap_or result FAILED)) }
 {
     let zone: Zone<I> = match load_one(heap, files, own) {
         Ok(zone) => zone,
@@ -99,7 +101,7 @@ fn load_own<D: Sectors + Drop, F: Devices<D>, I: ZoneIndex, W: Write, E: Write>(
 fn load_named<D: Sectors + Drop, F: Devices<D>, I: ZoneIndex, W: Write, E: Write>(
     alloc: Global,
     heap: Heap,
-    devices: &F,
+    devices: &mut F,
     config: &File<'_>,
     files: &[File<'_>],
     origin: &str,
@@ -107,9 +109,9 @@ fn load_named<D: Sectors + Drop, F: Devices<D>, I: ZoneIndex, W: Write, E: Write
     out: &mut W,
     err: &mut E,
 ) -> io::Result<u8>
-    ensures { IfOk result
-        (λ status. LoadEnds D.Sectors (F.opened devices.now) config.now files.now origin.now explain
-        (W.contents out.old) (W.contents out.new) (E.contents err.old) (E.contents err.new) status) }
+    ensures { Calls (F.calls devices.old) (F.calls devices.new)
+        (λ calls. LoadEnds D.Sectors calls config.now files.now origin.now explain (W.contents out.old)
+        (W.contents out.new) (E.contents err.old) (E.contents err.new) (result_unwrap_or result FAILED)) }
 {
     let zones = match read_configuration(alloc, heap, config) {
         Ok(configuration) => configuration.zones,
@@ -139,7 +141,7 @@ fn load_named<D: Sectors + Drop, F: Devices<D>, I: ZoneIndex, W: Write, E: Write
 pub fn load<D: Sectors + Drop, F: Devices<D>, I: ZoneIndex, W: Write, E: Write>(
     alloc: Global,
     heap: Heap,
-    devices: &F,
+    devices: &mut F,
     config: &File<'_>,
     files: &[File<'_>],
     origin: &str,
@@ -147,8 +149,9 @@ pub fn load<D: Sectors + Drop, F: Devices<D>, I: ZoneIndex, W: Write, E: Write>(
     out: &mut W,
     err: &mut E,
 ) -> u8
-    ensures { LoadEnds D.Sectors (F.opened devices.now) config.now files.now origin.now explain
-        (W.contents out.old) (W.contents out.new) (E.contents err.old) (E.contents err.new) result }
+    ensures { Calls (F.calls devices.old) (F.calls devices.new)
+        (λ calls. LoadEnds D.Sectors calls config.now files.now origin.now explain (W.contents out.old)
+        (W.contents out.new) (E.contents err.old) (E.contents err.new) result) }
 {
     load_named::<D, F, I, W, E>(
         alloc, heap, devices, config, files, origin, explain, out, err,

@@ -1,6 +1,8 @@
 //! Devices of sector format 1 that are made new, in format 2.
-ghost use Rattle.std.specs.Prelude.{IfOk, MatchResult, OnOk};
+ghost use Rattle.std.specs.Prelude.{MatchResult, OnOk};
+ghost use Rattle.std.specs.Result.{result_unwrap_or};
 ghost use Rattle.std.specs.Io.KnownBytes.{Appends};
+ghost use Rattle.dns_configuration.specs.Calls.{Calls};
 ghost use Rattle.dns_commands.specs.Migrate.{IsMigratedAs, IsNotMigrated, MigrateEnds, MigratingEnds};
 ghost use Rattle.dns_commands.specs.Migrate.{migrated};
 
@@ -16,15 +18,16 @@ use std::io::{self, Write};
 /// Migrates the device of a configured zone.
 fn migrate_one<D: Sectors + Drop, F: Devices<D>, I: ZoneIndex>(
     heap: Heap,
-    devices: &F,
+    devices: &mut F,
     own: &ZoneSettings,
 ) -> Result<Migration, DeviceFault>
-    ensures { MatchResult result (IsMigratedAs D.Sectors (F.opened devices.now) own.now)
-        (IsNotMigrated D.Sectors (F.opened devices.now) own.now) }
+    ensures { Calls (F.calls devices.old) (F.calls devices.new) (λ calls. MatchResult result
+        (IsMigratedAs D.Sectors calls own.now) (IsNotMigrated D.Sectors calls own.now)) }
 {
     let mut device = devices.open(&own.device)?;
     let (snapshot, journal) = (own.snapshot_sectors, own.journal_sectors);
     let migrated = migrate_store::<D, I>(heap, &mut device, &own.origin, snapshot, journal);
+    devices.close(&own.device, device);
     match migrated {
         Ok(answer) => Ok(answer),
         Err(error) => Err(DeviceFault::from(error)),
@@ -48,14 +51,15 @@ fn print_migrated<W: Write>(out: &mut W, own: &ZoneSettings, answer: Migration) 
 /// Migrates the devices of zones, in their order, and prints each. Stops where one is refused.
 fn migrate_zones<D: Sectors + Drop, F: Devices<D>, I: ZoneIndex, W: Write, E: Write>(
     heap: Heap,
-    devices: &F,
+    devices: &mut F,
     settings: &[ZoneSettings],
     explain: bool,
     out: &mut W,
     err: &mut E,
 ) -> io::Result<u8>
-    ensures { IfOk result (λ status. MigratingEnds D.Sectors (F.opened devices.now) settings.now explain
-        (W.contents out.old) (W.contents out.new) (E.contents err.old) (E.contents err.new) status) }
+    ensures { Calls (F.calls devices.old) (F.calls devices.new)
+        (λ calls. MigratingEnds D.Sectors calls settings.now explain (W.contents out.old) (W.contents out.new)
+        (E.contents err.old) (E.contents err.new) (result_unwrap_or result FAILED)) }
 {
     for own in settings {
         match migrate_one::<D, F, I>(heap, devices, own) {
@@ -70,14 +74,15 @@ fn migrate_zones<D: Sectors + Drop, F: Devices<D>, I: ZoneIndex, W: Write, E: Wr
 fn migrate_all<D: Sectors + Drop, F: Devices<D>, I: ZoneIndex, W: Write, E: Write>(
     alloc: Global,
     heap: Heap,
-    devices: &F,
+    devices: &mut F,
     config: &File<'_>,
     explain: bool,
     out: &mut W,
     err: &mut E,
 ) -> io::Result<u8>
-    ensures { IfOk result (λ status. MigrateEnds D.Sectors (F.opened devices.now) config.now explain
-        (W.contents out.old) (W.contents out.new) (E.contents err.old) (E.contents err.new) status) }
+    ensures { Calls (F.calls devices.old) (F.calls devices.new)
+        (λ calls. MigrateEnds D.Sectors calls config.now explain (W.contents out.old) (W.contents out.new)
+        (E.contents err.old) (E.contents err.new) (result_unwrap_or result FAILED)) }
 {
     let settings = match read_configuration(alloc, heap, config) {
         Ok(configuration) => configuration.zones,
@@ -95,14 +100,15 @@ fn migrate_all<D: Sectors + Drop, F: Devices<D>, I: ZoneIndex, W: Write, E: Writ
 pub fn migrate<D: Sectors + Drop, F: Devices<D>, I: ZoneIndex, W: Write, E: Write>(
     alloc: Global,
     heap: Heap,
-    devices: &F,
+    devices: &mut F,
     config: &File<'_>,
     explain: bool,
     out: &mut W,
     err: &mut E,
 ) -> u8
-    ensures { MigrateEnds D.Sectors (F.opened devices.now) config.now explain (W.contents out.old)
-        (W.contents out.new) (E.contents err.old) (E.contents err.new) result }
+    ensures { Calls (F.calls devices.old) (F.calls devices.new)
+        (λ calls. MigrateEnds D.Sectors calls config.now explain (W.contents out.old) (W.contents out.new)
+        (E.contents err.old) (E.contents err.new) result) }
 {
     migrate_all::<D, F, I, W, E>(alloc, heap, devices, config, explain, out, err).unwrap_or(FAILED)
 }

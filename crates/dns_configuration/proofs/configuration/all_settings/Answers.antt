@@ -1,4 +1,4 @@
-use Rattle.std.proofs.Common.{◌≡◌, Vec, false, true, length, map, get_or, add-one, sym, ap, ◌∙◌, arith, rules}
+use Rattle.std.proofs.Common.{◌≡◌, Vec, false, true, length, map, get_or, add-one, arith, rules}
 use Rattle.std.specs.Prelude.{◌≢◌}
 use Rattle.std.specs.Global.{Global}
 use Rattle.dns_configuration.specs.declared.configuration.ZoneSettings.{ZoneSettings}

@@ -1,6 +1,10 @@
-use Rattle.std.proofs.Common.{take}
-use Rattle.dns_service.specs.Opening.{AreGiven}
+use Rattle.std.proofs.Common.{◌≡◌, length}
+use Rattle.dns_configuration.specs.Calls.{HasCalled}
+use Rattle.dns_service.specs.Opening.{openings}
 use Rattle.dns_service.proofs.opening.open_devices.Given as goal
 
 abbrev pub invariant-loop-place : goal.invariant-loop-place
-invariant-loop-place g l = AreGiven (g.F.Devices.opened l.devices) (take l.place l.zones) l.given.items
+invariant-loop-place g l = record {
+  many : length l.given.items ≡ l.place;
+  called : HasCalled (g.F.Devices.calls l.initial.devices) (g.F.Devices.calls l.devices) (openings l.given.items l.zones);
+}

@@ -1,12 +1,14 @@
 use Rattle.std.proofs.Common.{ℕ, List, inr, refl, sym, ap, subst}
 use Rattle.std.specs.Io.KnownBytes.{Appends}
 use Rattle.std.proofs.KnownBytes.{Appends-nil}
+use Rattle.dns_primary.specs.Keeps.{IsKept}
 use Rattle.dns_service.specs.Log.{logged}
 use Rattle.dns_service.proofs.Logged.{has_listened}
+use Rattle.dns_service.proofs.Turned.{has_been_turned, none_run, some_run}
 use Rattle.dns_service.proofs.server.listen.Goals as goal
 
-pub returns : goal.returns
-returns g c =
+pub returns-clause-ended : goal.returns-clause-ended
+returns-clause-ended g c =
     let text = g.E.Write.contents in
     let said = text c.run.new.notes.err.now in
     let is = c.if-not-is_written.false in
@@ -16,3 +18,21 @@ returns g c =
           c.args.addresses.now (text c.args.err.now) said c.in_ok-tell_listening.ensures c.new-lines.ensures.items c.new-counts.ensures (c.is_written.ensures.whole is)
           (subst (λ (lines : List ℕ). Appends said said lines) (sym (c.is_written.ensures.lines is)) (Appends-nil said)) (λ same. ap text (c.err-2-1.given.1 same)),
     )
+
+pub returns-clause-run : goal.returns-clause-run
+returns-clause-run g c = some_run c.args.turns _ (λ m. IsKept c.args.primary.now m) (λ m. IsKept c.run.new.primary m) (has_been_turned (λ _. Unit {0}) c.in_ok-run.ensures (λ turns took. tt))
+
+pub returns-then-not-is_written-clause-run : goal.returns-then-not-is_written-clause-run
+returns-then-not-is_written-clause-run g c = some_run c.args.turns _ (λ m. IsKept c.args.primary.now m) (λ m. IsKept c.run.new.primary m) (has_been_turned (λ _. Unit {0}) c.in_ok-run.ensures (λ turns took. tt))
+
+pub returns-in_err-tell_unavailable-in-Err-clause-run : goal.returns-in_err-tell_unavailable-in-Err-clause-run
+returns-in_err-tell_unavailable-in-Err-clause-run g c = none_run _
+
+pub returns-in-Err-clause-run : goal.returns-in-Err-clause-run
+returns-in-Err-clause-run g c = none_run _
+
+pub returns-in_err-tell_listening-clause-run : goal.returns-in_err-tell_listening-clause-run
+returns-in_err-tell_listening-clause-run g c = none_run _
+
+pub returns-in_err-run-clause-run : goal.returns-in_err-run-clause-run
+returns-in_err-run-clause-run g c = rw c.in_err-run.ensures (none_run _)

@@ -1,35 +1,35 @@
-use Rattle.std.proofs.Common.{◌≡◌, ℕ, inl, inr, List, ap, subst, ◌∙◌}
+use Rattle.std.proofs.Common.{◌≡◌, ℕ, [], ◌++◌, inl, inr, refl, List, ap, subst, ◌∙◌}
 use Rattle.std.specs.declared.net.socket_addr.SocketAddr.{SocketAddr}
 use Rattle.dns_names.specs.Name.{Labels}
 use Rattle.dns_configuration.specs.Known.{origins_of}
+use Rattle.dns_configuration.proofs.Called.{called_on, ended_as, no_calls}
+use Rattle.dns_configuration.proofs.Told.{fault_told}
+use Rattle.dns_devices.proofs.Told.{failed_as}
+use Rattle.dns_primary.specs.Keeps.{IsKept}
+use Rattle.dns_primary.specs.Machine.{Machine}
 use Rattle.dns_service.specs.Log.{IsLogOf, zone_lines}
 use Rattle.dns_service.specs.ServedTurns.{HasTurned}
-use Rattle.dns_configuration.proofs.Told.{fault_told}
-use Rattle.dns_primary.specs.Keeps.{IsKept}
 use Rattle.dns_service.specs.Opening.{IsNotServed, IsServed}
 use Rattle.dns_service.specs.Serve.{ServingEnds}
-use Rattle.dns_service.proofs.Served.{at_ok, configuration_refused, device_refused, served, served_for, serving_failed}
+use Rattle.dns_service.proofs.Served.{at_ok, configuration_refused, device_refused, let_go, served, served_for, served_somehow, serving_failed}
 use Rattle.dns_service.proofs.server.serve_all.Goals as goal
 
 pub returns-in-Err : goal.returns-in-Err
 returns-in-Err g c =
-    let opened = g.F.Devices.opened c.args.devices.now in
     let config = c.args.config.now in
     let fault = c.in-Err.fault in
     let err = g.E.Write.contents c.args.err.now in
     let err_after = g.E.Write.contents c.tell.new.err in
-    let back = c.args.back.now.items in
-    fault_told (λ (status : ℕ). ServingEnds g.D.Sectors opened config c.args.options err err_after status back) config.path.now fault err err_after c.tell.result c.tell.ensures
-    (serving_failed g.D.Sectors opened config c.args.options err err_after back)
-    (λ _ said. configuration_refused g.D.Sectors opened config c.args.options fault err err_after back c.in-Err.ensures.held said)
+    let ends : ℕ → Type 0 = λ status. ServingEnds g.D.Sectors [] config c.args.options err err_after status in
+    let failed = serving_failed g.D.Sectors [] config c.args.options err err_after (inl refl) in
+    no_calls _ _ (ended_as ends c.tell.result failed (fault_told ends config.path.now fault err err_after c.tell.result c.tell.ensures failed
+    (λ _ said. configuration_refused g.D.Sectors config c.args.options fault err err_after c.in-Err.ensures.held said)))
 
 pub returns-in-Ok-open_primary : goal.returns-in-Ok-open_primary
 returns-in-Ok-open_primary g c =
-    let opened = g.F.Devices.opened c.args.devices.now in
     let configuration = c.in-Ok.configuration in
     let primary = c.in-Ok-open_primary.primary in
     let after = c.serve_as-status.new.primary in
-    let back = c.give_back.new.back.items in
     let text = g.E.Write.contents in
     let err = text c.args.err.now in
     let err_after = text c.serve_as-status.new.err in
@@ -37,28 +37,62 @@ returns-in-Ok-open_primary g c =
     let addresses = c.deref-in-Ok-open_primary-2.result.now in
     let named = origins_of configuration.zones.items in
     let names : origins ≡ named = c.deref-in-Ok-open_primary.ensures.value ∙ at_ok c.origins_of.result (λ made. made.items ≡ origins_of c.deref.result.now) c.in_ok-origins.origins c.in_ok-origins.was c.origins_of.ensures ∙ ap origins_of c.deref.ensures.value in
-    let is : IsServed g.D.Sectors opened configuration.zones.items (λ known m. IsKept primary m) = rw c.deref-2.ensures.value at c.in-Ok-open_primary.ensures in
-    served g.D.Sectors opened c.args.config.now configuration c.args.options err err_after c.serve_as-status.result back c.in-Ok.ensures.held
-    (elim c.serve_as-status.ensures [
-      | inl failed ↦ inl failed
-      | inr (done, turned) ↦ inr (
-        done,
-        served_for g.D.Sectors opened configuration c.args.options err err_after (λ m. IsKept primary m) (λ m. IsKept after m) back is
-            (subst (λ (x : List SocketAddr). HasTurned c.args.options.turns (λ told m. IsLogOf (zone_lines named m.zones) c.args.options.is_quiet named x err err_after told) (λ m. IsKept primary m) (λ m. IsKept after m)) c.deref-in-Ok-open_primary-2.ensures.value
-            (subst (λ (x : List Labels). HasTurned c.args.options.turns (λ told m. IsLogOf (zone_lines x m.zones) c.args.options.is_quiet x addresses err err_after told) (λ m. IsKept primary m) (λ m. IsKept after m)) names turned))
-            c.in_ok-give_back-in-Ok-open_primary.ensures,
-      )
-    ])
+    let opening = c.in-Ok-open_primary.ensures.0 in
+    let is : IsServed g.D.Sectors opening configuration.zones.items (λ known m. IsKept primary m) = rw c.deref-2.ensures.value at c.in-Ok-open_primary.ensures.2 in
+    let closed = rw c.deref-in-Ok-open_primary-3.ensures.value at c.in_ok-close_primary-in-Ok-open_primary.ensures in
+    let back = closed.2.0 in
+    let ran = c.serve_as-status.ensures.run in
+    let keeps : Machine → Type 0 = λ m. IsKept primary m in
+    let keeps_after : Machine → Type 0 = λ m. IsKept after m in (
+      _,
+      called_on _ _ _ _ _ c.in-Ok-open_primary.ensures.1 (rw closed.2.1 at closed.1),
+      served g.D.Sectors _ c.args.config.now configuration c.args.options err err_after c.serve_as-status.result c.in-Ok.ensures.held
+          (served_somehow g.D.Sectors configuration opening keeps keeps_after back is closed.2.2 ran)
+          (elim c.serve_as-status.ensures.ended [
+            | inl failed ↦ inl failed
+            | inr (done, turned) ↦ inr (
+              done,
+              served_for g.D.Sectors configuration opening keeps keeps_after back is closed.2.2 c.args.options err err_after
+                  (subst (λ (x : List SocketAddr). HasTurned c.args.options.turns (λ told m. IsLogOf (zone_lines named m.zones) c.args.options.is_quiet named x err err_after told) keeps keeps_after) c.deref-in-Ok-open_primary-2.ensures.value
+                  (subst (λ (x : List Labels). HasTurned c.args.options.turns (λ told m. IsLogOf (zone_lines x m.zones) c.args.options.is_quiet x addresses err err_after told) keeps keeps_after) names turned)),
+            )
+          ]),
+    )
+
+pub returns-in_err-origins : goal.returns-in_err-origins
+returns-in_err-origins g c =
+    let config = c.args.config.now in
+    let err = g.E.Write.contents c.args.err.now in
+    no_calls _ _ (failed_as (λ (status : ℕ). ServingEnds g.D.Sectors [] config c.args.options err err status) c.from_residual.result c.from_residual.ensures.0 (serving_failed g.D.Sectors [] config c.args.options err err (inl refl)))
+
+pub returns-in_err-close_primary-in-Ok-open_primary : goal.returns-in_err-close_primary-in-Ok-open_primary
+returns-in_err-close_primary-in-Ok-open_primary g c =
+    let config = c.args.config.now in
+    let configuration = c.in-Ok.configuration in
+    let primary = c.in-Ok-open_primary.primary in
+    let err = g.E.Write.contents c.args.err.now in
+    let err_after = g.E.Write.contents c.serve_as-status.new.err in
+    let opening = c.in-Ok-open_primary.ensures.0 in
+    let is : IsServed g.D.Sectors opening configuration.zones.items (λ known m. IsKept primary m) = rw c.deref-2.ensures.value at c.in-Ok-open_primary.ensures.2 in
+    let gone = c.in_err-close_primary-in-Ok-open_primary.ensures in (
+      _,
+      called_on _ _ _ _ _ c.in-Ok-open_primary.ensures.1 gone.1,
+      failed_as (λ (status : ℕ). ServingEnds g.D.Sectors (opening ++ gone.0) config c.args.options err err_after status) c.from_residual-in_err-close_primary-in-Ok-open_primary.result c.from_residual-in_err-close_primary-in-Ok-open_primary.ensures.0
+          (let_go g.D.Sectors opening gone.0 config configuration c.args.options (λ m. IsKept primary m) err err_after c.in-Ok.ensures.held is gone.2),
+    )
 
 pub returns : goal.returns
 returns g c =
-    let opened = g.F.Devices.opened c.args.devices.now in
     let configuration = c.in-Ok.configuration in
     let zones = configuration.zones.items in
+    let calls = c.in-Err-open_primary.ensures.0 in
     let place = c.in-Err-open_primary.refusal.place in
     let fault = c.in-Err-open_primary.refusal.fault in
     let err = g.E.Write.contents c.args.err.now in
     let err_after = g.E.Write.contents c.tell_refusal.new.err in
-    let why : IsNotServed g.D.Sectors opened zones place fault = rw c.deref-2.ensures.value at c.in-Err-open_primary.ensures in
-    device_refused g.D.Sectors opened c.args.config.now configuration c.args.options place fault err err_after c.args.back.now.items c.tell_refusal.result c.in-Ok.ensures.held why
-    (rw c.deref-in-Err-open_primary.ensures.value at c.tell_refusal.ensures)
+    let why : IsNotServed g.D.Sectors calls zones place fault = rw c.deref-2.ensures.value at c.in-Err-open_primary.ensures.2 in (
+      calls,
+      c.in-Err-open_primary.ensures.1,
+      device_refused g.D.Sectors calls c.args.config.now configuration c.args.options place fault err err_after c.tell_refusal.result c.in-Ok.ensures.held why
+          (rw c.deref-in-Err-open_primary.ensures.value at c.tell_refusal.ensures),
+    )

@@ -1,8 +1,9 @@
 use Rattle.std.proofs.Common.{take}
-use Rattle.std.specs.List.{AllZip}
-use Rattle.dns_commands.specs.Init.{HasDevice}
+use Rattle.dns_configuration.specs.Calls.{Calls}
+use Rattle.dns_commands.specs.Init.{AreMade}
 use Rattle.dns_commands.proofs.commands.init.make_devices.Given as goal
 
 abbrev pub invariant-loop-place : goal.invariant-loop-place
 invariant-loop-place g l =
-    AllZip (HasDevice g.D.Sectors (g.F.NewDevices.made l.devices)) (take l.place l.settings) (take l.place l.zones)
+    Calls (g.F.NewDevices.calls l.initial.devices) (g.F.NewDevices.calls l.devices)
+    (λ calls. AreMade g.D.Sectors calls (take l.place l.settings) (take l.place l.zones))

@@ -1,30 +1,39 @@
 use Rattle.std.proofs.Common.{inr, Ok, Err, refl, ap}
+use Rattle.dns_configuration.proofs.Called.{called_on}
 use Rattle.dns_commands.proofs.Migrated.{only_read, unless_failed}
 use Rattle.dns_commands.proofs.commands.migrate.migrate_one.Goals as goal
 
 pub returns-in-Ok : goal.returns-in-Ok
-returns-in-Ok g c = record {
-  device = c.in_ok-device.device;
-  after = _;
-  came = rw c.deref.ensures at c.in_ok-device.ensures;
-  honest = c.in-Ok.ensures.honest;
-  takes = c.in-Ok.ensures.migrated;
-  any_moment = c.in-Ok.ensures.any_moment;
-  already = λ honest is. c.in-Ok.ensures.already honest (ap Ok is);
-  read_only = only_read c.in-Ok.answer (Ok c.in-Ok.answer) refl c.in-Ok.ensures.unwritten;
-}
+returns-in-Ok g c = (
+  _,
+  called_on _ _ _ _ _ (rw c.deref.ensures at c.in_ok-device.ensures) (rw c.deref-2.ensures at c.close.ensures),
+  record {
+    device = c.in_ok-device.device;
+    after = c.migrate-migrated.new.device;
+    came = refl;
+    honest = c.in-Ok.ensures.honest;
+    takes = c.in-Ok.ensures.migrated;
+    any_moment = c.in-Ok.ensures.any_moment;
+    already = λ honest is. c.in-Ok.ensures.already honest (ap Ok is);
+    read_only = only_read c.in-Ok.answer (Ok c.in-Ok.answer) refl c.in-Ok.ensures.unwritten;
+  },
+)
 
-pub returns : goal.returns
-returns g c = inr (record {
-  device = c.in_ok-device.device;
-  after = _;
-  came = rw c.deref.ensures at c.in_ok-device.ensures;
-  error = c.in-Err.error;
-  named = c.from.ensures;
-  stopped = c.in-Err.ensures.migrated;
-  refused = c.in-Err.ensures.refused;
-  too_large = λ honest o opens range is. c.in-Err.ensures.too_large honest o opens range (ap Err is);
-  any_moment = c.in-Err.ensures.any_moment;
-  read_only = unless_failed c.in-Err.error (Err c.in-Err.error) refl c.in-Err.ensures.unwritten;
-  failed = λ is. c.in-Err.ensures.device (ap Err is);
-})
+pub returns-in-Err : goal.returns-in-Err
+returns-in-Err g c = (
+  _,
+  called_on _ _ _ _ _ (rw c.deref.ensures at c.in_ok-device.ensures) (rw c.deref-2.ensures at c.close.ensures),
+  inr (record {
+    device = c.in_ok-device.device;
+    after = c.migrate-migrated.new.device;
+    came = refl;
+    error = c.in-Err.error;
+    named = c.from.ensures;
+    stopped = c.in-Err.ensures.migrated;
+    refused = c.in-Err.ensures.refused;
+    too_large = λ honest o opens range is. c.in-Err.ensures.too_large honest o opens range (ap Err is);
+    any_moment = c.in-Err.ensures.any_moment;
+    read_only = unless_failed c.in-Err.error (Err c.in-Err.error) refl c.in-Err.ensures.unwritten;
+    failed = λ is. c.in-Err.ensures.device (ap Err is);
+  }),
+)
