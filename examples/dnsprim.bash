@@ -10,7 +10,9 @@ _dnsprim_options() {
         serve) echo --turns --quiet --explain --help ;;
         fetch) echo --since --seconds --explain --help ;;
         check) echo --config --explain --help ;;
-        dump | init | migrate | replay) echo --explain --help ;;
+        dump) echo --serial --explain --help ;;
+        history) echo --records --explain --help ;;
+        init | migrate | replay) echo --explain --help ;;
     esac
 }
 
@@ -19,7 +21,7 @@ _dnsprim_arguments() {
     local at
     for ((at = 2; at < COMP_CWORD; at++)); do
         case ${COMP_WORDS[at]} in
-            --turns | --since | --seconds)
+            --turns | --since | --seconds | --serial)
                 [[ ${COMP_WORDS[at + 1]} != = ]] || ((at++))
                 ((at++))
                 ;;
@@ -31,18 +33,18 @@ _dnsprim_arguments() {
 
 # What may stand at the cursor: words, or a mark that these are files.
 _dnsprim_words() {
-    local commands="check dump fetch help init load migrate replay serve"
+    local commands="check dump fetch help history init load migrate replay serve"
     case $previous,$current in
         --since,*) echo :files && return ;;
         --turns,*) echo unlimited && return ;;
-        --seconds,*) return ;;
+        --seconds,* | --serial,*) return ;;
     esac
     ((COMP_CWORD > 1)) || { echo "$commands --help --version" && return; }
     case $current,$command,${#arguments[@]} in
         -*) _dnsprim_options "$command" ;;
         *,help,0) echo "$commands" ;;
-        *,check,0 | *,dump,0 | *,init,0 | *,load,0 | *,migrate,0 | *,replay,[01] | *,serve,0) echo :files ;;
-        *,dump,1 | *,init,1 | *,load,1) _dnsprim_origins "${arguments[0]}" ;;
+        *,check,0 | *,dump,0 | *,history,0 | *,init,0 | *,load,0 | *,migrate,0 | *,replay,[01] | *,serve,0) echo :files ;;
+        *,dump,1 | *,history,1 | *,init,1 | *,load,1) _dnsprim_origins "${arguments[0]}" ;;
         *,check,1 | *,fetch,[01]) ;;
         *) _dnsprim_options "$command" ;;
     esac

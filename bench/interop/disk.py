@@ -4,7 +4,6 @@ import ctypes
 import errno
 import mmap
 import os
-import pathlib
 import random
 import signal
 import struct
@@ -14,7 +13,7 @@ import tempfile
 SIZE = 512 << 20
 # Requests of linux/fuse.h, those to which nothing is answered, and those that are answered without octets.
 LOOKUP, GETATTR, OPEN, READ, WRITE, FSYNC, INIT, SILENT, EMPTY = 1, 3, 14, 15, 16, 20, 26, (2, 36, 42), (18, 20, 25, 38)
-NEW_NAMESPACE, NOSUID_NODEV, PRIVATE, DEATH_SIGNAL = 0x20000, 6, 0x44000, 1
+NEW_NAMESPACE, NOSUID_NODEV, PRIVATE = 0x20000, 6, 0x44000
 libc = ctypes.CDLL(None, use_errno=True)
 
 
@@ -50,66 +49,76 @@ def room_of_its_own():
 @contextlib.contextmanager
 def on(kind, path, top, *options, make=()):
     """Mounts a file with a file system, which is made first if that is asked for, by a loop device with these options."""
-    with contextlib.ExitStack() as after:
-        device = call("losetup", "--find", "--show", *options, path)
-        after.callback(call, "losetup", "--detach", device)
+    device = call("losetup", "--find", "--show", *options, path)
+    try:
         call(*make, device) if make else None
         # Blocks that are let go are not discarded, so that each change is a write.
         words = ["mount", "-t", kind, "-o", "nodiscard" if kind == "btrfs" else "rw", device, top]
-        if subprocess.run(words, capture_output=True).returncode:
-            raise Refused
-        after.callback(call, "umount", top)
+        is_refused = subprocess.run(words, capture_output=True).returncode
+    finally:
+        call("losetup", "--detach", device)  # the system does so as soon as nothing has it open
+    if is_refused:
+        raise Refused
+    try:
         yield
+    finally:
+        call("umount", top)
 
 
 class Disk:
-    """A file `disk` in a folder that a process of its own serves, with a log of its writes and flushes in the order in which they came,
-    and `count[0]` of them so far."""
+    """A file `disk` that a process of its own serves, with a log of its writes and flushes in the order in which they came, and `count[0]`
+    of them so far. That process stays outside of `room_of_its_own`, which is made later, so that it answers until all there is unmounted,
+    however this one ends."""
 
-    def __init__(self, room):
-        self.folder, self.log = f"{room}/served", f"{room}/log"
+    def __init__(self):
+        self.device, self.log, (ready, self.ready) = os.open("/dev/fuse", os.O_RDWR), os.memfd_create("log"), os.pipe()
         self.count = memoryview(mmap.mmap(-1, 4096)).cast("Q")  # of both processes, and read at once
-        os.mkdir(self.folder)
-        device = os.open("/dev/fuse", os.O_RDWR)
-        words = f"fd={device},rootmode=40000,user_id=0,group_id=0"
-        mount(b"powercut", self.folder.encode(), b"fuse", NOSUID_NODEV, words.encode())
         self.process = os.fork()
         if self.process == 0:
             try:
-                self.serve(device)
+                os.close(self.ready)
+                for it in (signal.SIGINT, signal.SIGTERM):
+                    signal.signal(it, signal.SIG_IGN)
+                self.serve() if os.read(ready, 1) else None
             finally:
                 os._exit(0)
-        os.close(device)
 
-    def end(self):
-        call("umount", self.folder)
-        os.waitpid(self.process, 0)
+    @contextlib.contextmanager
+    def mounted(self, folder):
+        os.mkdir(folder)
+        words = f"fd={self.device},rootmode=40000,user_id=0,group_id=0"
+        mount(b"powercut", folder.encode(), b"fuse", NOSUID_NODEV, words.encode())
+        os.close(self.device)
+        os.write(self.ready, b"1")
+        try:
+            yield f"{folder}/disk"
+        finally:
+            call("umount", folder)
+            os.waitpid(self.process, 0)
 
-    def serve(self, device):
-        """Answers until the folder is unmounted or the script is gone."""
-        libc.prctl(DEATH_SIGNAL, signal.SIGKILL)
-        signal.signal(signal.SIGINT, signal.SIG_IGN)
-        octets, log, buffer = mmap.mmap(-1, SIZE), open(self.log, "wb", buffering=0), memoryview(bytearray(2 << 20))
+    def serve(self):
+        """Answers until the folder is unmounted."""
+        octets, buffer = mmap.mmap(-1, SIZE), memoryview(bytearray(2 << 20))
         while True:
             try:
-                length = os.readv(device, [buffer])
+                length = os.readv(self.device, [buffer])
                 asked, number, node = struct.unpack_from("<4xIQQ", buffer)
-                answer = self.answer(asked, node, bytes(buffer[40:length]), octets, log)
+                answer = self.answer(asked, node, bytes(buffer[40:length]), octets)
                 error, answer = (-answer, b"") if isinstance(answer, int) else (0, answer)
                 if asked not in SILENT:
-                    os.writev(device, [struct.pack("<IiQ", 16 + len(answer), error, number), answer])
+                    os.writev(self.device, [struct.pack("<IiQ", 16 + len(answer), error, number), answer])
             except OSError as error:
                 if error.errno == errno.ENODEV:
                     return
 
-    def answer(self, asked, node, body, octets, log):
+    def answer(self, asked, node, body, octets):
         """The answer to a request, or the number of an error. The file is opened so that each write comes here at once."""
         mode, size = (0o40755, 0) if node == 1 and asked != LOOKUP else (0o100600, SIZE)
         attributes = struct.pack("<6Q10I", 2, size, size // 512, 0, 0, 0, 0, 0, 0, mode, 1, 0, 0, 0, 4096, 0)
         offset, length = struct.unpack_from("<8xQI", body) if asked in (READ, WRITE) else (-1, 0)
         if asked in (WRITE, FSYNC):
             octets[max(offset, 0) : max(offset, 0) + length] = body[40 : 40 + length]
-            log.write(struct.pack("<qQ", offset, length) + body[40 : 40 + length])
+            os.write(self.log, struct.pack("<qQ", offset, length) + body[40 : 40 + length])
             self.count[0] += 1
         answers = {
             INIT: struct.pack("<4I2H2I2H8I", 7, 31, 1 << 17, 1 | 1 << 5 | 1 << 22, 64, 48, 1 << 20, 1, 256, *[0] * 9),
@@ -127,7 +136,7 @@ class Images:
     their number, and none for a flush."""
 
     def __init__(self, disk, room):
-        self.octets, self.done, self.path, self.synced, at = pathlib.Path(disk.log).read_bytes(), [], f"{room}/synced", 0, 0
+        self.octets, self.done, self.path, self.synced, at = mmap.mmap(disk.log, 0), [], f"{room}/synced", 0, 0
         while at < len(self.octets):
             offset, length = struct.unpack_from("<qQ", self.octets, at)
             self.done.append((offset, at + 16, length) if offset >= 0 else None)

@@ -1,7 +1,9 @@
 pub mod Changed
 pub mod Checked
 pub mod Compared
+pub mod DumpedAt
 pub mod Files
+pub mod Historied
 pub mod LoadEnded
 pub mod Made
 pub mod Migrated

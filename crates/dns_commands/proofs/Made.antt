@@ -39,6 +39,18 @@ map_more f [] n d inside = absurd (omega (arith, inside))
 map_more f (x ∷ xs) zero d inside = refl
 map_more {B = B} f (x ∷ xs) (suc n) d inside = ap (λ (t : List B). f x ∷ t) (map_more f xs n d (omega (arith, inside)))
 
+-- One more of two lists.
+pub pairs_more : {A B : Type 0} (R : A → B → Type 0) (xs : List A) (ys : List B) (n : ℕ) (d : A) (e : B) → n < length xs → n < length ys → AllZip R (take n xs) (take n ys) → R (get_or xs n d) (get_or ys n e) → AllZip R (take (suc n) xs) (take (suc n) ys)
+pairs_more R [] ys n d e inside within h r = absurd (omega (arith, inside))
+pairs_more R (x ∷ xs) [] n d e inside within h r = absurd (omega (arith, within))
+pairs_more R (x ∷ xs) (y ∷ ys) zero d e inside within h r = (r, tt)
+pairs_more R (x ∷ xs) (y ∷ ys) (suc n) d e inside within h r = (h.0, pairs_more R xs ys n d e (omega (arith, inside)) (omega (arith, within)) h.1 r)
+
+-- All of two lists.
+pub pairs_all : {A B : Type 0} (R : A → B → Type 0) (xs : List A) (ys : List B) (n : ℕ) → length xs ≤ n → length ys ≤ n → AllZip R (take n xs) (take n ys) → AllZip R xs ys
+pairs_all {A = A} {B = B} R xs ys n all whole h =
+    subst (λ (some : List A). AllZip R some ys) (take_all n xs all) (subst (λ (others : List B). AllZip R (take n xs) others) (take_all n ys whole) h)
+
 pub zip_length : {A B : Type 0} (R : A → B → Type 0) (xs : List A) (ys : List B) → AllZip R xs ys → length xs ≡ length ys
 zip_length R [] [] h = refl
 zip_length R [] (y ∷ ys) h = absurd h

@@ -9,7 +9,7 @@ use Rattle.dns_sectors.specs.declared.device.Sectors.{Ghosts}
 use Rattle.dns_store.specs.declared.migrating.MigrateError.{MigrateError}
 use Rattle.dns_store.specs.declared.migrating.MigrateError.TheVariants as told
 use Rattle.dns_store.specs.declared.migrating.Migration.{Migration}
-use Rattle.dns_store.specs.declared.migrating.Migration.TheVariants.{Already}
+use Rattle.dns_store.specs.declared.migrating.Migration.TheVariants.{Already, Migrated}
 use Rattle.dns_store.specs.Migrating.{IsMigratedStore}
 use Rattle.dns_configuration.specs.declared.configuration.ZoneSettings.{ZoneSettings}
 use Rattle.dns_configuration.specs.declared.configuration.Configuration.{Configuration}
@@ -27,6 +27,11 @@ pub only_read : {P : Type 0} (answer : Migration) (r : Result Migration MigrateE
 only_read answer r e (inl f) is = absurd (cc)
 only_read answer r e (inr (inl s)) is = absurd (subst (λ (x : Result Migration MigrateError). IsMigratedStore x) (e ∙ ap Ok is) s)
 only_read answer r e (inr (inr p)) is = p
+
+-- What is answered otherwise was migrated.
+pub migrated_store : {E : Type 0} (answer : Migration) → (answer ≡ Already → ⊥) → IsMigratedStore {E = E} (Ok answer)
+migrated_store Already other = other refl
+migrated_store (Migrated version serial) other = tt
 
 -- One that is refused was only read, unless it failed.
 pub unless_failed : {P : Type 0} (error : MigrateError) (r : Result Migration MigrateError) → r ≡ Err error → (r ≡ Err told.Device) ⊎ IsMigratedStore r ⊎ P → (error ≡ told.Device) ⊎ P

@@ -2,6 +2,8 @@ pub mod Check
 pub mod CheckConfiguration
 pub mod Compare
 pub mod Dump
+pub mod DumpAt
+pub mod History
 pub mod Init
 pub mod Inputs
 pub mod Load

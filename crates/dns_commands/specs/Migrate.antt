@@ -8,6 +8,7 @@ use Rattle.dns_names.specs.Text.{printed_name}
 use Rattle.dns_sectors.specs.Device.{LeavesOnly}
 use Rattle.dns_sectors.specs.declared.device.Sectors.{Ghosts}
 use Rattle.dns_layout.specs.Sector.{root_tag, sector_at, tag}
+use Rattle.dns_layout.specs.declared.format.Format.TheVariants.{One}
 use Rattle.dns_journal.specs.Reads.{HasRisen, OnlyReads}
 use Rattle.dns_store.specs.declared.migrating.MigrateError.{MigrateError}
 use Rattle.dns_store.specs.declared.migrating.MigrateError.TheVariants as told
@@ -16,7 +17,8 @@ use Rattle.dns_store.specs.declared.migrating.Migration.TheVariants.{Already, Mi
 use Rattle.dns_store.specs.Plain.{sectors_of_snapshot}
 use Rattle.dns_store.specs.Migrating.{MayMigrate, MigrateRefusal, StopsMigrating, MigratesAsPossible}
 use Rattle.dns_store.specs.Migrating.{TakesMigrated, old_opens}
-use Rattle.dns_store.specs.Opening.{IsInRange}
+use Rattle.dns_store.specs.Opening.{HasRootIn, IsInRange}
+use Rattle.dns_store.specs.Opens.{sizes_of}
 use Rattle.dns_store.specs.Versions.{Opened, newest_after}
 use Rattle.dns_configuration.specs.declared.configuration.ZoneSettings.{ZoneSettings}
 use Rattle.dns_configuration.specs.declared.configuration.Configuration.{Configuration}
@@ -38,7 +40,8 @@ StaysMigratable g own device after =
 
 -- The device that was opened at the path was migrated and closed, with this answer: from then on each crash leaves what
 -- `open` alone opens, as a crash might have left the device before, and the answer is of that. It was opened
--- once more; one that is answered as of format 2 already was only read.
+-- once more; its first sector was a root of format 1 of that zone and these sizes, and its newest version has
+-- room. One that is answered as of format 2 already was only read.
 pub record IsMigratedAs {D : Type 0} (g : Ghosts D) (calls : List (DeviceCall D)) (own : ZoneSettings)
     (answer : Migration) : Type 0 where
   pub device : D
@@ -50,12 +53,18 @@ pub record IsMigratedAs {D : Type 0} (g : Ghosts D) (calls : List (DeviceCall D)
       → MayMigrate g (own_shape own) device
       → TakesMigrated g (own_shape own) device after answer
   pub any_moment : StaysMigratable g own device after
+  pub fits : g.is_honest device
+      → (o : Opened) → old_opens (own_shape own) o (g.seen device)
+      → IsInRange own.snapshot_sectors own.journal_sectors
+      → own.snapshot_sectors < sectors_of_snapshot (newest_after o.loaded o.versions) → ⊥
+  pub root : g.is_honest device → (answer ≡ Already → ⊥)
+      → HasRootIn One (sizes_of (own_shape own)) (g.count device) (sector_at (g.seen device) 0)
   pub already : g.is_honest device → answer ≡ Already → tag (sector_at (g.seen device) 0) ≡ root_tag
   pub read_only : answer ≡ Already → OnlyReads g device after
 
 -- Why the device was not migrated: where each crash leaves a store with room in format 2, the device failed,
 -- memory was refused, or it was opened too often; else the reason is in what is stored on it. It was only
--- read, unless it failed.
+-- read, unless it failed; and only read if its newest version takes more sectors than a snapshot has.
 pub record IsMigrationRefused {D : Type 0} (g : Ghosts D) (calls : List (DeviceCall D)) (own : ZoneSettings)
     (fault : DeviceFault) : Type 0 where
   pub device : D
@@ -73,6 +82,11 @@ pub record IsMigrationRefused {D : Type 0} (g : Ghosts D) (calls : List (DeviceC
       → IsInRange own.snapshot_sectors own.journal_sectors
       → error ≡ told.ZoneTooLarge
       → own.snapshot_sectors < sectors_of_snapshot (newest_after o.loaded o.versions)
+  pub no_room : g.is_honest device
+      → (o : Opened) → old_opens (own_shape own) o (g.seen device)
+      → IsInRange own.snapshot_sectors own.journal_sectors
+      → own.snapshot_sectors < sectors_of_snapshot (newest_after o.loaded o.versions)
+      → OnlyReads g device after
   pub any_moment : StaysMigratable g own device after
   pub read_only : (error ≡ told.Device) ⊎ OnlyReads g device after
   pub failed : error ≡ told.Device → HasRisen (g.failed device) (g.failed after)

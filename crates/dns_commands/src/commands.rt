@@ -3,6 +3,8 @@ pub mod check;
 pub mod check_configuration;
 pub mod compare;
 pub mod dump;
+pub mod dump_at;
+pub mod history;
 pub mod init;
 pub mod load;
 pub mod migrate;

@@ -16,6 +16,8 @@ pub use commands::check::{Index, check};
 pub use commands::check_configuration::check_configuration;
 pub use commands::compare::compare;
 pub use commands::dump::dump;
+pub use commands::dump_at::dump_at;
+pub use commands::history::history;
 pub use commands::init::init;
 pub use commands::load::load;
 pub use commands::migrate::migrate;

@@ -1,9 +1,9 @@
-//! Runs of `init`, `dump` and `migrate` over devices in files of the system.
+//! Runs of `init`, `dump`, `history` and `migrate` over devices in files of the system.
 use crate::commands::Before::{First, Left, Nothing, Old, Second};
-use crate::commands::Command::{Dump, Init, Migrate};
+use crate::commands::Command::{Dump, DumpAt, History, Init, Migrate};
 use crate::old_format::updated;
 use crate::stores::read;
-use dns_commands::{dump, init, migrate};
+use dns_commands::{dump, dump_at, history, init, migrate};
 use dns_configuration::File;
 use dns_devices::Disk;
 use dns_fixtures::plan;
@@ -86,11 +86,43 @@ subdel.example. 3600 IN NS ns.example.net.
 t.example. 60 IN TXT \"x\"
 ";
 
-/// A command, and whether advice is wanted: `init` with this file of the second zone; `dump` of a zone.
+/// What is printed of the example as it was before.
+const UNCHANGED: &str =
+    "example. 3600 IN SOA ns.example.com. hostmaster.example. 7 7200 900 1209600 300
+example. 3600 IN NS ns.example.com.
+example. 3600 IN NS ns.example.net.
+*.example. 3600 IN MX 10 host1.example.
+*.example. 3600 IN TXT \"this is a wildcard\"
+sub.*.example. 3600 IN TXT \"this is not a wildcard\"
+host1.example. 3600 IN A 192.0.2.1
+_ssh._tcp.host1.example. 3600 IN SRV 0 0 22 host1.example.
+_ssh._tcp.host2.example. 3600 IN SRV 0 0 22 host2.example.
+subdel.example. 3600 IN NS ns.example.com.
+subdel.example. 3600 IN NS ns.example.net.
+";
+
+/// Its versions, and with the records of its change.
+const VERSIONS: &str = "version 0 serial 7\nversion 1 serial 8, 1 added, 0 removed\n";
+
+const RECORDS: &str = "version 0 serial 7
+version 1 serial 8, 1 added, 0 removed
+- example. 3600 IN SOA ns.example.com. hostmaster.example. 7 7200 900 1209600 300
++ example. 3600 IN SOA ns.example.com. hostmaster.example. 8 7200 900 1209600 300
++ t.example. 60 IN TXT \"x\"
+";
+
+/// What is told of a serial that no version has.
+const NO_VERSION: &str =
+    "6: NoVersion\n6: no journalled version has that serial; history lists them\n";
+
+/// A command, and whether advice is wanted: `init` with this file of the second zone; `dump` of a zone, or of
+/// the first one at a serial; `history` of a zone, with the records.
 #[derive(Clone, Copy)]
 enum Command {
     Init(&'static str, bool),
     Dump(&'static str, bool),
+    DumpAt(u32, bool),
+    History(&'static str, bool),
     Migrate(bool),
 }
 
@@ -105,6 +137,50 @@ fn file<'a>(path: &'a str, text: &'a str) -> File<'a> {
         path,
         octets: Some(text.as_bytes()),
     }
+}
+
+/// That of a `dump` of the first zone at a serial.
+fn run_dump_at(
+    rt: &HostRuntime,
+    heap: Heap,
+    serial: u32,
+    explain: bool,
+    out: &mut Vec<u8>,
+    err: &mut Vec<u8>,
+) -> u8 {
+    dump_at::<Device, _, RecordList, _, _>(
+        rt.alloc(),
+        heap,
+        &mut Disk(rt),
+        &file("dnsprim.toml", CONFIG),
+        "example.",
+        serial,
+        explain,
+        out,
+        err,
+    )
+}
+
+/// That of a `history`.
+fn run_history(
+    rt: &HostRuntime,
+    heap: Heap,
+    origin: &str,
+    with_records: bool,
+    out: &mut Vec<u8>,
+    err: &mut Vec<u8>,
+) -> u8 {
+    history::<Device, _, RecordList, _, _>(
+        rt.alloc(),
+        heap,
+        &mut Disk(rt),
+        &file("dnsprim.toml", CONFIG),
+        origin,
+        with_records,
+        false,
+        out,
+        err,
+    )
 }
 
 /// The exit status of a command, and what it wrote to the two writers.
@@ -135,6 +211,8 @@ fn run(rt: &HostRuntime, heap: Heap, command: Command, out: &mut Vec<u8>, err: &
             out,
             err,
         ),
+        DumpAt(serial, explain) => run_dump_at(rt, heap, serial, explain, out, err),
+        History(origin, with_records) => run_history(rt, heap, origin, with_records, out, err),
         Migrate(explain) => migrate::<Device, _, RecordList, _, _>(
             alloc,
             heap,
@@ -228,7 +306,7 @@ const LEN: usize = 512 * 49;
 
 /// Commands, each with what is there before, the status, and what is printed and told. Faults of files come
 /// before any device is made.
-const RUNS: [(Before, Command, u8, &str); 28] = [
+const RUNS: [(Before, Command, u8, &str); 39] = [
     (Nothing, Init(OTHER, false), 0, FORMATTED),
     (Left, DUMP, 0, PRINTED),
     (Left, Init(OTHER, false), 1, "example.device: Exists\n"),
@@ -267,6 +345,27 @@ const RUNS: [(Before, Command, u8, &str); 28] = [
     ),
     (Left, MIGRATE, 0, "example. already\nother. already\n"),
     (Left, DUMP, 0, CHANGED),
+    (Left, History("example.", false), 0, VERSIONS),
+    (Left, History("example.", true), 0, RECORDS),
+    (Left, History("none.", false), 1, "none.: BadOrigin\n"),
+    (
+        Left,
+        History("other.", true),
+        0,
+        "version 0 serial 4294967295\n",
+    ),
+    (Left, DumpAt(8, false), 0, CHANGED),
+    (Left, DumpAt(7, false), 0, UNCHANGED),
+    (Left, DumpAt(6, true), 1, NO_VERSION),
+    (Left, DumpAt(9, false), 1, "9: NoVersion\n"),
+    (Nothing, DumpAt(7, false), 3, "example.device: Device\n"),
+    (
+        First(b"", 0, LEN),
+        History("example.", false),
+        1,
+        "example.device: Blank\n",
+    ),
+    (Left, DumpAt(7, false), 1, "example.device: Blank\n"),
 ];
 
 /// Whether a command ends with this status, and writes this: what is printed before what is told, which is
@@ -291,7 +390,7 @@ fn commands(rt: HostRuntime) -> Result<(), Fail> {
     }
     let served = FileSectors::open(&rt, "example.device");
     assert!(rt; served.is_ok());
-    for command in [DUMP, MIGRATE] {
+    for command in [DUMP, MIGRATE, DumpAt(7, false), History("example.", false)] {
         assert!(rt; ends(&rt, heap, command, 3, "example.device: Device\n"));
     }
     Ok(())

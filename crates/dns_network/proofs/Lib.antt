@@ -2,6 +2,7 @@ pub mod Framed
 pub mod Pushed
 mod Gone
 mod Leads
+pub mod Left
 pub mod Noted
 mod ReadAhead
 pub mod Running

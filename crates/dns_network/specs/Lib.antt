@@ -6,6 +6,7 @@ pub mod Connection
 pub mod Connections
 pub mod Datagrams
 pub mod Delivery
+pub mod Left
 pub mod MemoryNetwork
 pub mod Notes
 pub mod NotesOfTurns

@@ -18,6 +18,7 @@ use Rattle.dns_primary.specs.Runs.{Moment, Took, Stopped, Configured, Run, last_
 use Rattle.dns_network.specs.declared.network.Network.{Ghosts}
 use Rattle.dns_network.specs.declared.network.Notes as notes
 use Rattle.dns_network.specs.Delivery.{Served, out_of}
+use Rattle.dns_network.specs.Left.{LeadsThrough}
 use Rattle.dns_network.specs.Turn.{TurnMoment, Asks, Moves, Connects, Refuses, Happens, Closes, AreTurns}
 
 -- An event that a primary is told, and what it reports of it: the replies that go out, in order, the number
@@ -82,3 +83,4 @@ TurnsAreRuns {I = I} {D = D} {S = S} {N = N} {L = L} i d s n l =
     (turns : List (List TurnMoment)) (old new : Served I D S N L i d) (start : Machine)
     → AreTurns s n l turns old new → IsKept old.primary start
     → (run : List Moment) × IsRunOf (told_by turns) start run × IsKept new.primary (last_of start run)
+    × LeadsThrough old.primary new.primary start run

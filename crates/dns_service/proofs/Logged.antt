@@ -24,7 +24,8 @@ use Rattle.dns_network.specs.Turn.{TurnMoment}
 use Rattle.dns_network.proofs.Noted.{Took}
 use Rattle.dns_service.specs.declared.log.Counts.{Counts}
 use Rattle.dns_service.specs.Log.{IsLogged, IsLogOf, IsSaid, Logged, listening_line, listening_lines, log_of, none_in, said_of, says, zone_line, zone_lines}
-use Rattle.dns_service.specs.ServedTurns.{HasTurned, IsServedOn}
+use Rattle.dns_network.specs.Left.{RestLaw}
+use Rattle.dns_service.specs.ServedTurns.{HasTurned, IsLedTo, IsServedOn, OfRun}
 use Rattle.dns_service.proofs.Turned.{has_been_turned}
 
 -- What is written out comes after what was said.
@@ -86,14 +87,14 @@ module _ {L M : Type 0} (l : notes.Ghosts L) (mark : L → M) (names : L → Lis
 
 -- A server listened and made its turns, no line failed, and all lines are written out.
 pub has_listened : {I D S N L M : Type 0} {i : index.Ghosts I} {d : store.Ghosts D} {s : stream.Ghosts S} {n : Ghosts N S} {l : notes.Ghosts L}
-    {count : ℕ} {old new : Primary I D i d} {network network' : N} {first last : L} {err_after : Option (List ℕ)} → IsServedOn s n l count old network first new network' last
+    {count : ℕ} {old new : Primary I D i d} {network network' : N} {first last : L} {err_after : Option (List ℕ)} → RestLaw d → IsServedOn s n l count old network first new network' last
     → (mark : L → M) (names : L → List Labels) (hushed : L → Bool) (failed : L → Bool) (state : L → Logged)
     → ((old : L) (one : Note) (new : L) → l.takes old one new → (mark new ≡ mark old) × (names new ≡ names old) × (hushed new ≡ hushed old) × IsLogged (hushed old) (names old) one (failed old) (failed new) (state old) (state new))
     → (addresses : List SocketAddr) (err out : Option (List ℕ)) → Appends err (state first).written (listening_lines addresses) → (state first).lines ≡ [] → (state first).counts ≡ none_in 0
     → failed last ≡ false → Appends (state last).written out (state last).lines → (mark first ≡ mark last → err_after ≡ out)
-    → HasTurned count (λ turns _. IsLogOf [] (hushed first) (names first) addresses err err_after turns) (λ m. IsKept old m) (λ m. IsKept new m)
-has_listened {l = l} {first = first} {last = last} {err_after = err_after} is mark names hushed failed state taken_so addresses err out said none fresh whole written at =
-    has_been_turned (λ (turns : List (List TurnMoment)). IsLogOf [] (hushed first) (names first) addresses err err_after turns) is
+    → HasTurned count (λ turns _. IsLogOf [] (hushed first) (names first) addresses err err_after turns) (λ m. IsKept old m) (IsLedTo old new)
+has_listened {l = l} {first = first} {last = last} {err_after = err_after} law is mark names hushed failed state taken_so addresses err out said none fresh whole written at =
+    has_been_turned law (λ (turns : List (List TurnMoment)). IsLogOf [] (hushed first) (names first) addresses err err_after turns) is
     (λ turns took. turns_logged l mark names hushed failed state taken_so addresses err out err_after first last turns said none fresh whole written at took)
 
 -- The line of one address more was written.
@@ -130,7 +131,7 @@ lines_more origins other zones place lt =
     ∙ ap (λ (x : ℕ). zone_lines (take place origins) zones ++ line_at here (slice_get zones x)) (length-take-le place origins (omega (arith, lt)))
 
 -- The log of turns, after the lines of the zones.
-pub after_zones : {E : Type 0} (r : Result ℕ E) (quiet : Bool) (origins : List Labels) (addresses : List SocketAddr) (count : ℕ) (err between err_after : Option (List ℕ)) (keeps after : Machine → Type 0)
+pub after_zones : {E : Type 0} (r : Result ℕ E) (quiet : Bool) (origins : List Labels) (addresses : List SocketAddr) (count : ℕ) (err between err_after : Option (List ℕ)) (keeps : Machine → Type 0) (after : OfRun)
     → ((m : Machine) → keeps m → Appends err between (zone_lines origins m.zones))
     → IfOk r (λ status. (status ≡ 3) ⊎ ((status ≡ 0) × HasTurned count (λ turns _. IsLogOf [] quiet origins addresses between err_after turns) keeps after))
     → IfOk r (λ status. (status ≡ 3) ⊎ ((status ≡ 0) × HasTurned count (λ turns m. IsLogOf (zone_lines origins m.zones) quiet origins addresses err err_after turns) keeps after))

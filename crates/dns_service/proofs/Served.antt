@@ -1,10 +1,17 @@
 -- How a server ends, by what its parts told.
-use Rattle.std.proofs.Common.{◌≡◌, ℕ, true, false, suc, inl, inr, List, [], ◌∷◌, ◌++◌, Option, Result, Ok, Err, IfOk, refl, sym, ap, ◌∙◌, arith, subst, append-nil}
+use Rattle.std.proofs.Common.{◌≡◌, ℕ, true, false, suc, inl, inr, List, [], ◌∷◌, ◌++◌, map, Option, Result, Ok, Err, IfOk, refl, sym, ap, ◌∙◌, arith, subst, append-nil}
 use Rattle.std.specs.Prelude.{◌⊎◌, MatchResult}
 use Rattle.std.specs.Option.{option_copied}
 use Rattle.std.specs.Result.{IsErr, result_unwrap_or}
 use Rattle.std.specs.Io.KnownBytes.{Appends}
+use Rattle.dns_zone.specs.declared.index.ZoneIndex as index
+use Rattle.dns_sectors.specs.Device.{Content, LeavesOnly}
 use Rattle.dns_sectors.specs.declared.device.Sectors.{Ghosts}
+use Rattle.dns_sectors.proofs.Moments.{joined, weaker}
+use Rattle.dns_store.specs.Opening.{store_device}
+use Rattle.dns_store.specs.Opens.{opens}
+use Rattle.dns_store.specs.declared.kept_store.KeptStore.{KeptStore}
+use Rattle.dns_store.specs.declared.zone_store.ZoneStore as store
 use Rattle.dns_configuration.specs.declared.configuration.Configuration.{Configuration}
 use Rattle.dns_configuration.specs.declared.files.File.{File}
 use Rattle.dns_configuration.specs.declared.files.Fault.{Fault}
@@ -14,23 +21,27 @@ use Rattle.dns_devices.specs.declared.device_faults.DeviceFault.{DeviceFault}
 use Rattle.dns_devices.specs.DeviceCalls.{DeviceCall}
 use Rattle.dns_names.specs.Name.{Labels}
 use Rattle.dns_configuration.specs.Known.{origins_of}
+use Rattle.dns_versions.specs.declared.pending.PendingZone.{PendingZone}
 use Rattle.dns_versions.specs.Each.{Each2}
 use Rattle.dns_primary.specs.HandOut.{AreSetAs}
+use Rattle.dns_primary.specs.Keeps.{IsKept}
 use Rattle.dns_primary.specs.Machine.{Machine, ZoneState}
-use Rattle.dns_primary.specs.Open.{AreRecoverable}
+use Rattle.dns_primary.specs.Open.{AreRecoverable, AreRecoverableAnew, LeaveRecovered, devices_of}
 use Rattle.dns_primary.specs.Runs.{Moment, Took, Stopped, Configured, Run, last_of}
 use Rattle.dns_primary.specs.Step.{Event}
-use Rattle.dns_primary.specs.Stop.{IsStopped}
+use Rattle.dns_primary.specs.Stop.{IsMaking, IsStopped, OpensAsRecovered}
+use Rattle.dns_primary.specs.declared.primary.Primary.{Primary}
 use Rattle.dns_primary.specs.declared.primary.ZoneSpec.{ZoneSpec}
 use Rattle.dns_primary.proofs.Brought.{StaysSet, step_set, stopped_set, all_stay_set, stay_set_on}
+use Rattle.dns_primary.proofs.StaysSet.{set_lasts}
+use Rattle.dns_network.specs.Left.{AreLeftFrom, OpensInRun}
 use Rattle.dns_network.specs.Turn.{TurnMoment}
 use Rattle.dns_network.specs.Runs.{IsStepOf, Told, told_by}
-use Rattle.dns_primary.proofs.StaysSet.{set_lasts}
 use Rattle.dns_service.specs.Log.{IsLogOf, zone_lines}
 use Rattle.dns_service.specs.declared.server.ServeOptions.{ServeOptions}
-use Rattle.dns_service.specs.Opening.{IsNotServed, IsServed, closings}
-use Rattle.dns_service.specs.Serve.{AreLeft, IsRefusalTold, IsServedFor, IsServedSomehow, IsServingTried, ServingEnds}
-use Rattle.dns_service.specs.ServedTurns.{HasRun, HasTurned, HaveRun}
+use Rattle.dns_service.specs.Opening.{IsNotServed, IsOpenedAs, IsServed, OfRecovered, closings}
+use Rattle.dns_service.specs.Serve.{AreServedFrom, HaveServed, IsRefusalTold, IsServedFor, IsServedSomehow, IsServingTried, ServingEnds}
+use Rattle.dns_service.specs.ServedTurns.{HasRun, HasTurned, HaveRun, IsLedTo}
 
 pub at_ok : {A E : Type 0} (r : Result A E) (P : A → Type 0) (x : A) → r ≡ Ok x → IfOk r P → P x
 at_ok {A = A} {E = E} r P x e h = subst (λ (s : Result A E). IfOk s P) e h
@@ -72,21 +83,58 @@ run_set (t ∷ told) start (Took event fails effects new ∷ run) r each = stay_
 run_set (t ∷ told) start (Stopped event tries new ∷ run) r each = absurd each.0
 run_set (t ∷ told) start (Configured new ∷ run) r each = absurd each.0
 
+-- Whichever settings the zones had.
+pub whichever_set : {D : Type 0} (g : Ghosts D) (tries : ℕ) (m : Machine) (event : Event) (place : ℕ) (zones : List ZoneState) (names : List Labels) (known : List ZoneSpec) (devices : List D) → AreRecoverable g tries m event place zones names known devices → AreRecoverableAnew g tries m event place zones names known devices
+whichever_set g tries m event place [] [] [] [] h = tt
+whichever_set g tries m event place (z ∷ zones) (a ∷ names) (s ∷ known) (d ∷ devices) h =
+    (record { shape = h.0.shape; set = tt; range = h.0.range; honest = h.0.honest; leaves = h.0.leaves }, whichever_set g tries m event (suc place) zones names known devices h.1)
+whichever_set g tries m event place _ _ _ _ h = absurd h
+
+-- What a crash leaves from the opening of devices to their closing.
+module _ {D I S : Type 0} (g : Ghosts D) (s : store.Ghosts S) (device_in : S → D) (tries : ℕ) (m : Machine) (event : Event) (start : Machine) (run : List Moment)
+    (there : (x y : S) (place : ℕ) → LeavesOnly s.moment s.left_since x y (OpensInRun s.opens start run place) → LeavesOnly g.moment g.left_since (device_in x) (device_in y) (OpensInRun opens start run place)) where
+  served_from : (place : ℕ) (zones : List ZoneState) (devices : List D) (olds news : List (PendingZone I S)) → LeaveRecovered g tries m event place zones devices (map (λ (b : PendingZone I S). device_in b.store) olds) → AreLeftFrom s place start run olds news
+      → AreServedFrom g tries m event start run place zones devices (map (λ (b : PendingZone I S). device_in b.store) news)
+  served_from place [] [] [] [] h k = tt
+  served_from place (z ∷ zones) (d ∷ devices) (a ∷ olds) (b ∷ news) h k =
+      let opened : Content → Type 0 = λ c. OpensAsRecovered opens tries (IsMaking m event place z) z c in
+      let ran : Content → Type 0 = λ c. OpensInRun opens start run place c in
+      let either : Content → Type 0 = λ c. opened c ⊎ ran c in (
+        joined g.moment g.left_since d (device_in a.store) (device_in b.store) either ran
+            (weaker g.moment g.left_since d (device_in a.store) opened either h.0 (λ c left. inl left)) (there a.store b.store place k.0) (λ c left. inr left),
+        served_from (suc place) zones devices olds news h.1 k.1,
+      )
+  served_from place [] (d ∷ devices) olds news h k = absurd h
+  served_from place (z ∷ zones) [] olds news h k = absurd h
+  served_from place [] [] (a ∷ olds) news h k = absurd h
+  served_from place [] [] [] (b ∷ news) h k = absurd k
+  served_from place (z ∷ zones) (d ∷ devices) [] news h k = absurd h
+  served_from place (z ∷ zones) (d ∷ devices) (a ∷ olds) [] h k = absurd k
+
 -- What ran from a machine that recovered, and whose devices were closed.
-module _ {D : Type 0} (g : Ghosts D) (c : Configuration) (opening : List (DeviceCall D)) (keeps after : Machine → Type 0) (back : List D) (is : IsServed g opening c.zones.items (λ known m. keeps m)) (left : (m : Machine) (event : Event) (names : List Labels) (known : List ZoneSpec) → after m → AreSetAs names known m.zones → AreRecoverable g 0 m event 0 m.zones names known back) where
+module _ {D I : Type 0} (g : Ghosts D) {i : index.Ghosts I} {s : store.Ghosts (KeptStore D I g)} (c : Configuration) (opening : List (DeviceCall D)) (old new : Primary I (KeptStore D I g) i s) (is : IsServed g opening c.zones.items (IsOpenedAs old))
+    (there : (start : Machine) (run : List Moment) (x y : KeptStore D I g) (place : ℕ) → LeavesOnly s.moment s.left_since x y (OpensInRun s.opens start run place) → LeavesOnly g.moment g.left_since (store_device x) (store_device y) (OpensInRun opens start run place))
+    (left : (m : Machine) (event : Event) (names : List Labels) (known : List ZoneSpec) → IsKept new m → AreSetAs names known m.zones → AreRecoverable g 0 m event 0 m.zones names known (devices_of new)) where
   -- So it is of whichever machine the turns led to.
-  led : (turns : List (List TurnMoment)) (m : Machine) (event : Event) (tries : ℕ) → AreRecoverable g tries m event 0 m.zones (origins_of c.zones.items) is.known is.devices → (new : Machine) → IsStopped tries m event new → HaveRun turns after new → HaveRun turns (AreLeft g c.zones.items back is.known) new
-  led turns m event tries may new stopped ran =
+  led : (turns : List (List TurnMoment)) (m : Machine) (event : Event) (tries : ℕ) → AreRecoverable g tries m event 0 m.zones (origins_of c.zones.items) is.known is.devices → (start : Machine) → IsStopped tries m event start → IsOpenedAs old is.devices is.known m event tries start → HaveRun turns (IsLedTo old new) start
+      → HaveServed g turns c.zones.items (devices_of new) is.devices is.known m event tries start
+  led turns m event tries may start stopped opened ran =
       let names = origins_of c.zones.items in
-      let at = set_lasts names is.known m.zones new.zones (recoverable_set g tries m event 0 m.zones names is.known is.devices may) (stopped_set tries m event new stopped) in
-      let end = set_lasts names is.known new.zones (last_of new ran.0).zones at (run_set (told_by turns) new ran.0 ran.1.runs ran.1.each) in
-      (ran.0, ran.1, λ within. left (last_of new ran.0) within names is.known ran.2 end)
+      let at = set_lasts names is.known m.zones start.zones (recoverable_set g tries m event 0 m.zones names is.known is.devices may) (stopped_set tries m event start stopped) in
+      let end = set_lasts names is.known start.zones (last_of start ran.0).zones at (run_set (told_by turns) start ran.0 ran.1.runs ran.1.each) in (
+        ran.0,
+        ran.1,
+        (
+          (λ within. left (last_of start ran.0) within names is.known ran.2.0 end),
+          served_from {I = I} g s (λ x. store_device x) (suc tries) m event start ran.0 (there start ran.0) 0 m.zones is.devices old.pending.items new.pending.items opened.1 ran.2.1,
+        ),
+      )
 
   -- All turns were made.
-  pub served_for : (options : ServeOptions) (err err_after : Option (List ℕ)) → HasTurned options.turns (λ turns m. IsLogOf (zone_lines (origins_of c.zones.items) m.zones) options.is_quiet (origins_of c.zones.items) c.listen.items err err_after turns) keeps after → IsServedFor g (opening ++ closings back c.zones.items) c options err err_after
+  pub served_for : (options : ServeOptions) (err err_after : Option (List ℕ)) → HasTurned options.turns (λ turns m. IsLogOf (zone_lines (origins_of c.zones.items) m.zones) options.is_quiet (origins_of c.zones.items) c.listen.items err err_after turns) (λ m. IsKept old m) (IsLedTo old new) → IsServedFor g (opening ++ closings (devices_of new) c.zones.items) c options err err_after
   served_for options err err_after (turns, many, run) = record {
     opening = opening;
-    back = back;
+    back = devices_of new;
     came = refl;
     turns = turns;
     many = many;
@@ -97,17 +145,18 @@ module _ {D : Type 0} (g : Ghosts D) (c : Configuration) (opening : List (Device
       settings = is.settings;
       recovered = λ m event tries may.
           let to = is.recovered m event tries may in
-          let turned = run to.0 to.2 in
-          (to.0, to.1, (turned.0, led turns m event tries may to.0 to.1 turned.1));
+          let turned = run to.0 to.2.0 in
+          (to.0, to.1, (turned.0, led turns m event tries may to.0 to.1 to.2 turned.1));
     };
   }
 
   -- Some were.
-  pub served_somehow : HasRun keeps after → IsServedSomehow g (opening ++ closings back c.zones.items) c.zones.items
+  pub served_somehow : HasRun (λ m. IsKept old m) (IsLedTo old new) → IsServedSomehow g (opening ++ closings (devices_of new) c.zones.items) c.zones.items
   served_somehow (turns, run) = record {
     opening = opening;
-    back = back;
+    back = devices_of new;
     came = refl;
+    turns = turns;
     served = record {
       devices = is.devices;
       given = is.given;
@@ -115,18 +164,18 @@ module _ {D : Type 0} (g : Ghosts D) (c : Configuration) (opening : List (Device
       settings = is.settings;
       recovered = λ m event tries may.
           let to = is.recovered m event tries may in
-          (to.0, to.1, (turns, led turns m event tries may to.0 to.1 (run to.0 to.2)));
+          (to.0, to.1, led turns m event tries may to.0 to.1 to.2 (run to.0 to.2.0));
     };
   }
 
 -- Memory was refused when the devices were to be closed.
-pub let_go : {D : Type 0} (g : Ghosts D) (opening calls : List (DeviceCall D)) (config : File) (c : Configuration) (options : ServeOptions) (keeps : Machine → Type 0) (err err_after : Option (List ℕ)) → HoldsConfiguration (option_copied config.octets) (Ok c) → IsServed g opening c.zones.items (λ known m. keeps m) → calls ≡ [] → ServingEnds g (opening ++ calls) config options err err_after 3
-let_go {D = D} g opening calls config c options keeps err err_after holds is none =
+pub let_go : {D : Type 0} (g : Ghosts D) (opening calls : List (DeviceCall D)) (config : File) (c : Configuration) (options : ServeOptions) (says : OfRecovered D) (err err_after : Option (List ℕ)) → HoldsConfiguration (option_copied config.octets) (Ok c) → IsServed g opening c.zones.items says → calls ≡ [] → ServingEnds g (opening ++ calls) config options err err_after 3
+let_go {D = D} g opening calls config c options says err err_after holds is none =
     let gone : opening ++ calls ≡ opening = ap (λ (t : List (DeviceCall D)). opening ++ t) none ∙ append-nil opening in
     serving_failed g (opening ++ calls) config options err err_after (inr (
       c,
       holds,
-      inr (inr (subst (λ (t : List (DeviceCall D)). IsServed g t c.zones.items (λ known m. Unit {0})) (sym gone) (record {
+      inr (inr (subst (λ (t : List (DeviceCall D)). IsServed g t c.zones.items (λ _ _ _ _ _ _. Unit {0})) (sym gone) (record {
         devices = is.devices;
         given = is.given;
         known = is.known;

@@ -16,7 +16,9 @@ use Rattle.dns_network.proofs.Noted.{Took, turns_noted}
 use Rattle.dns_network.proofs.Running.{turns_run}
 use Rattle.dns_network.proofs.Steps.{step_more}
 use Rattle.dns_primary.specs.Machine.{Machine}
-use Rattle.dns_service.specs.ServedTurns.{HasPaused, HasRun, HasTurned, IsServedOn, served_at_start}
+use Rattle.dns_network.specs.Left.{RestLaw}
+use Rattle.dns_network.proofs.Left.{leads_nowhere}
+use Rattle.dns_service.specs.ServedTurns.{HasPaused, HasRun, HasTurned, IsLedTo, IsServedOn, OfRun, served_at_start}
 
 module _ {I D S N L : Type 0} {i : index.Ghosts I} {d : store.Ghosts D} (s : stream.Ghosts S) (n : Ghosts N S) (l : notes.Ghosts L) where
   -- So many turns were made.
@@ -39,31 +41,31 @@ module _ {I D S N L : Type 0} {i : index.Ghosts I} {d : store.Ghosts D} (s : str
   )
 
   -- What its notes say of turns, and that they are a run.
-  pub has_turned : (said : List (List TurnMoment) → Type 0) (count : ℕ) (old new : Primary I D i d) (network network' : N) (first last : L) → IsServedOn s n l count old network first new network' last
+  pub has_turned : RestLaw d → (said : List (List TurnMoment) → Type 0) (count : ℕ) (old new : Primary I D i d) (network network' : N) (first last : L) → IsServedOn s n l count old network first new network' last
       → ((turns : List (List TurnMoment)) → Took l (AreNotesOfTurns turns) first last → said turns)
-      → HasTurned count (λ turns _. said turns) (λ m. IsKept old m) (λ m. IsKept new m)
-  has_turned said count old new network network' first last is log = (
+      → HasTurned count (λ turns _. said turns) (λ m. IsKept old m) (IsLedTo old new)
+  has_turned law said count old new network network' first last is log = (
     is.turns,
     is.many,
     λ m kept.
         let start : Served I D S N L i d = served_at_start old network first in
         let end : Served I D S N L i d = record { primary = new; connections = is.connections; network = network'; notes = last } in
-        let to = turns_run s n l is.turns start end m is.made kept in
-        (log is.turns (turns_noted s n l is.turns start end is.made), (to.0, to.1, to.2)),
+        let to = turns_run s n l law is.turns start end m is.made kept in
+        (log is.turns (turns_noted s n l is.turns start end is.made), (to.0, to.1, (to.2, to.3))),
   )
 
 -- ... whatever the network is.
 pub has_been_turned : {I D S N L : Type 0} {i : index.Ghosts I} {d : store.Ghosts D} {s : stream.Ghosts S} {n : Ghosts N S} {l : notes.Ghosts L}
-    {count : ℕ} {old new : Primary I D i d} {network network' : N} {first last : L} (said : List (List TurnMoment) → Type 0) → IsServedOn s n l count old network first new network' last
+    {count : ℕ} {old new : Primary I D i d} {network network' : N} {first last : L} → RestLaw d → (said : List (List TurnMoment) → Type 0) → IsServedOn s n l count old network first new network' last
     → ((turns : List (List TurnMoment)) → Took l (AreNotesOfTurns turns) first last → said turns)
-    → HasTurned count (λ turns _. said turns) (λ m. IsKept old m) (λ m. IsKept new m)
-has_been_turned {s = s} {n = n} {l = l} {count = count} {old = old} {new = new} {network = network} {network' = network'} {first = first} {last = last} said is log =
-    has_turned s n l said count old new network network' first last is log
+    → HasTurned count (λ turns _. said turns) (λ m. IsKept old m) (IsLedTo old new)
+has_been_turned {s = s} {n = n} {l = l} {count = count} {old = old} {new = new} {network = network} {network' = network'} {first = first} {last = last} law said is log =
+    has_turned s n l law said count old new network network' first last is log
 
 -- No turn was made.
-pub none_run : (keeps : Machine → Type 0) → HasRun keeps keeps
-none_run keeps = ([], λ m kept. ([], record { runs = tt; each = tt }, kept))
+pub none_run : {I D : Type 0} {i : index.Ghosts I} {d : store.Ghosts D} → RestLaw d → (p : Primary I D i d) → HasRun (λ m. IsKept p m) (IsLedTo p p)
+none_run law p = ([], λ m kept. ([], record { runs = tt; each = tt }, (kept, leads_nowhere law p m kept)))
 
 -- Some turns were made.
-pub some_run : (count : ℕ) (said : List (List TurnMoment) → Machine → Type 0) (keeps after : Machine → Type 0) → HasTurned count said keeps after → HasRun keeps after
-some_run count said keeps after is = (is.0, λ m kept. (is.2 m kept).1)
+pub some_run : (count : ℕ) (said : List (List TurnMoment) → Machine → Type 0) (keeps : Machine → Type 0) (says : OfRun) → HasTurned count said keeps says → HasRun keeps says
+some_run count said keeps says is = (is.0, λ m kept. (is.2 m kept).1)

@@ -6,7 +6,12 @@ use Rattle.std.specs.String.{string_bytes}
 use Rattle.dns_sectors.specs.declared.device.Sectors.{Ghosts}
 use Rattle.dns_store.specs.declared.root.OpenError.{OpenError}
 use Rattle.dns_primary.specs.Machine.{Machine}
-use Rattle.dns_primary.specs.Open.{AreRecoverable, AreRefused}
+use Rattle.dns_zone.specs.declared.index.ZoneIndex as index
+use Rattle.dns_store.specs.declared.kept_store.KeptStore.{KeptStore}
+use Rattle.dns_store.specs.declared.zone_store.ZoneStore as store
+use Rattle.dns_primary.specs.Keeps.{IsKept}
+use Rattle.dns_primary.specs.Open.{AreRecoverable, AreRefused, LeaveRecovered, devices_of}
+use Rattle.dns_primary.specs.declared.primary.Primary.{Primary}
 use Rattle.dns_primary.specs.Step.{Event}
 use Rattle.dns_primary.specs.Stop.{IsStopped}
 use Rattle.dns_primary.specs.declared.primary.ZoneSpec as primary
@@ -57,17 +62,22 @@ pub record IsNotGiven {D : Type 0} (calls : List (DeviceCall D)) (zones : List Z
   pub came : calls ≡ openings given zones ++ (tried ++ closings given zones)
   pub why : ((fault ≡ OutOfMemory) × (tried ≡ [])) ⊎ CannotBeHad tried zones place fault
 
--- A primary over the devices that were opened: on those of a machine that stopped it keeps one that recovered
--- from that stop, of zones with these settings.
+-- What is said of devices that were opened, the settings of their zones, a machine that stopped within an event,
+-- with so many tries since, and the one that recovered from that stop.
+abbrev pub OfRecovered : Type 0 → Type 1
+OfRecovered D = List D → List primary.ZoneSpec → Machine → Event → ℕ → Machine → Type 0
+
+-- The stores of the devices that were opened were opened: on those of a machine that stopped, this is said of
+-- one that recovered from that stop, of zones with these settings.
 pub record IsServed {D : Type 0} (g : Ghosts D) (calls : List (DeviceCall D)) (zones : List ZoneSettings)
-    (keeps : List primary.ZoneSpec → Machine → Type 0) : Type 0 where
+    (says : OfRecovered D) : Type 0 where
   pub devices : List D
   pub given : AreGiven calls zones devices
   pub known : List primary.ZoneSpec
   pub settings : AllZip IsSettingOf zones known
   pub recovered : (m : Machine) (event : Event) (tries : ℕ)
       → AreRecoverable g tries m event 0 m.zones (origins_of zones) known devices
-      → (new : Machine) × IsStopped tries m event new × keeps known new
+      → (new : Machine) × IsStopped tries m event new × says devices known m event tries new
 
 -- The fault of the device there among those that were handed back, which it left so; where there is none,
 -- that of the refusal.
@@ -95,3 +105,10 @@ abbrev pub IsNotServed : {D : Type 0} → Ghosts D → List (DeviceCall D) → L
     → Type 0
 IsNotServed g calls zones place fault =
     IsNotGiven calls zones place fault ⊎ IsZoneNotOpened g calls zones place fault
+
+-- A primary keeps the machine that recovered, and a crash at any moment of opening the stores leaves each device
+-- as one that a zone of the stopped machine may be recovered as.
+abbrev pub IsOpenedAs : {D I : Type 0} {g : Ghosts D} {i : index.Ghosts I} {s : store.Ghosts (KeptStore D I g)}
+    → Primary I (KeptStore D I g) i s → OfRecovered D
+IsOpenedAs {g} p devices known m event tries new =
+    IsKept p new × LeaveRecovered g (suc tries) m event 0 m.zones devices (devices_of p)

@@ -4,6 +4,7 @@ use Rattle.std.specs.Prelude.{Option, Ok, Err}
 use Rattle.std.specs.Option.{option_copied}
 use Rattle.std.specs.String.{string_bytes}
 use Rattle.std.specs.Io.KnownBytes.{Appends}
+use Rattle.dns_sectors.specs.Device.{LeavesOnly}
 use Rattle.dns_sectors.specs.declared.device.Sectors.{Ghosts}
 use Rattle.dns_configuration.specs.declared.configuration.ZoneSettings.{ZoneSettings}
 use Rattle.dns_configuration.specs.declared.configuration.Configuration.{Configuration}
@@ -14,21 +15,26 @@ use Rattle.dns_configuration.specs.Files.{HoldsConfiguration}
 use Rattle.dns_devices.specs.declared.device_faults.DeviceFault.{DeviceFault}
 use Rattle.dns_devices.specs.DeviceFaults.{device_text, status_of}
 use Rattle.dns_devices.specs.DeviceCalls.{DeviceCall}
+use Rattle.dns_network.specs.Left.{OpensInRun}
 use Rattle.dns_network.specs.Turn.{TurnMoment}
 use Rattle.dns_names.specs.Name.{Labels}
 use Rattle.dns_zone.specs.declared.index.ZoneIndex as index
+use Rattle.dns_store.specs.Opens.{opens}
+use Rattle.dns_store.specs.declared.kept_store.KeptStore.{KeptStore}
 use Rattle.dns_store.specs.declared.zone_store.ZoneStore as store
 use Rattle.dns_primary.specs.HandOut.{AreSetAs}
 use Rattle.dns_primary.specs.Keeps.{IsKept}
-use Rattle.dns_primary.specs.Machine.{Machine}
-use Rattle.dns_primary.specs.Open.{AreRecoverable}
+use Rattle.dns_primary.specs.Machine.{Machine, ZoneState}
+use Rattle.dns_primary.specs.Open.{AreRecoverable, devices_of}
+use Rattle.dns_primary.specs.Runs.{Moment, last_of}
 use Rattle.dns_primary.specs.Step.{Event}
+use Rattle.dns_primary.specs.Stop.{IsMaking, OpensAsRecovered}
 use Rattle.dns_primary.specs.declared.primary.Primary.{Primary}
 use Rattle.dns_primary.specs.declared.primary.ZoneSpec.{ZoneSpec}
 use Rattle.dns_configuration.specs.Known.{origins_of}
 use Rattle.dns_service.specs.Log.{IsLogOf, zone_lines}
 use Rattle.dns_service.specs.declared.server.ServeOptions.{ServeOptions}
-use Rattle.dns_service.specs.Opening.{IsNotServed, IsServed, closings}
+use Rattle.dns_service.specs.Opening.{IsNotServed, IsServed, OfRecovered, closings}
 use Rattle.dns_service.specs.ServedTurns.{HaveRun}
 
 -- The path of the device of the zone there.
@@ -56,17 +62,36 @@ AreLeft g zones devices known m =
     (event : Event) → AreRecoverable g 0 m event 0 m.zones (origins_of zones) known devices
 
 -- The devices of a primary were closed: those of each machine that it keeps, as this left its zones.
-abbrev pub ArePrimaryClosed : {D I S : Type 0} {i : index.Ghosts I} {s : store.Ghosts S} → Ghosts D
-    → List (DeviceCall D) → List ZoneSettings → Primary I S i s → Type 0
-ArePrimaryClosed {D} g calls zones primary =
-    (back : List D) × (calls ≡ closings back zones)
+abbrev pub ArePrimaryClosed : {D I : Type 0} {g : Ghosts D} {i : index.Ghosts I}
+    {s : store.Ghosts (KeptStore D I g)} → List (DeviceCall D) → List ZoneSettings
+    → Primary I (KeptStore D I g) i s → Type 0
+ArePrimaryClosed {g} calls zones primary =
+    (calls ≡ closings (devices_of primary) zones)
     × ((m : Machine) (event : Event) (names : List Labels) (known : List ZoneSpec) → IsKept primary m
-    → AreSetAs names known m.zones → AreRecoverable g 0 m event 0 m.zones names known back)
+    → AreSetAs names known m.zones → AreRecoverable g 0 m event 0 m.zones names known (devices_of primary))
 
--- All turns were made of a primary over the devices of a configuration's zones, which were then closed: on
--- those of a machine that stopped, the events of the turns are those of a run from one that recovered from
--- that stop, each device was closed as the machine at the run's end left its zone, and the log tells of the
--- versions that are shown at the run's start, of the addresses, and of all that was noted.
+-- A crash at any moment from the opening of devices to their closing leaves each, by itself, as one that the
+-- zone of the machine that stopped may be recovered as, or as the run from the one that recovered allows; those
+-- from this position on.
+abbrev pub AreServedFrom : {D : Type 0} → Ghosts D → ℕ → Machine → Event → Machine → List Moment → ℕ
+    → List ZoneState → List D → List D → Type 0
+AreServedFrom g tries m event start run place [] [] [] = Unit {0}
+AreServedFrom g tries m event start run place (z ∷ zones) (d ∷ devices) (e ∷ back) =
+    LeavesOnly g.moment g.left_since d e (λ c. OpensAsRecovered opens tries (IsMaking m event place z) z c
+    ⊎ OpensInRun opens start run place c)
+    × AreServedFrom g tries m event start run (suc place) zones devices back
+AreServedFrom g tries m event start run place _ _ _ = ⊥
+
+-- Turns were made of a machine that recovered: their events are those of a run from it; each device was closed
+-- as the machine at the run's end left its zone; and what a crash leaves at any moment between is as above.
+abbrev pub HaveServed : {D : Type 0} → Ghosts D → List (List TurnMoment) → List ZoneSettings → List D
+    → OfRecovered D
+HaveServed g turns zones back devices known m event tries start =
+    HaveRun turns (λ _ run. AreLeft g zones back known (last_of start run)
+    × AreServedFrom g (suc tries) m event start run 0 m.zones devices back) start
+
+-- All turns were made of a primary over the devices of a configuration's zones, which were then closed. The log
+-- tells of the versions that are shown at the run's start, of the addresses, and of all that was noted.
 pub record IsServedFor {D : Type 0} (g : Ghosts D) (calls : List (DeviceCall D)) (c : Configuration)
     (options : ServeOptions) (err err_after : Option (List ℕ)) : Type 0 where
   pub opening : List (DeviceCall D)
@@ -75,23 +100,22 @@ pub record IsServedFor {D : Type 0} (g : Ghosts D) (calls : List (DeviceCall D))
   pub turns : List (List TurnMoment)
   pub many : length turns ≡ options.turns
   pub served : let names = origins_of c.zones.items in
-      IsServed g opening c.zones.items (λ known m.
-      IsLogOf (zone_lines names m.zones) options.is_quiet names c.listen.items err err_after turns
-      × HaveRun turns (AreLeft g c.zones.items back known) m)
+      IsServed g opening c.zones.items (λ devices known m event tries start.
+      IsLogOf (zone_lines names start.zones) options.is_quiet names c.listen.items err err_after turns
+      × HaveServed g turns c.zones.items back devices known m event tries start)
 
--- However it ended: some turns were made, and the devices were closed as the machine at their end left its
--- zones.
+-- However it ended: some turns were made, and the devices were closed.
 pub record IsServedSomehow {D : Type 0} (g : Ghosts D) (calls : List (DeviceCall D))
     (zones : List ZoneSettings) : Type 0 where
   pub opening : List (DeviceCall D)
   pub back : List D
   pub came : calls ≡ opening ++ closings back zones
-  pub served : IsServed g opening zones (λ known m.
-      (turns : List (List TurnMoment)) × HaveRun turns (AreLeft g zones back known) m)
+  pub turns : List (List TurnMoment)
+  pub served : IsServed g opening zones (HaveServed g turns zones back)
 
 -- The stores were opened, and memory for the list of the devices was refused when they were to be closed.
 abbrev pub AreLetGo : {D : Type 0} → Ghosts D → List (DeviceCall D) → List ZoneSettings → Type 0
-AreLetGo g calls zones = IsServed g calls zones (λ known m. Unit {0})
+AreLetGo g calls zones = IsServed g calls zones (λ _ _ _ _ _ _. Unit {0})
 
 -- The calls of a server: none; or devices of the zones of its configuration were opened, of which one was
 -- refused, or which it served.

@@ -5,12 +5,14 @@ use Rattle.dns_network.specs.declared.stream.Stream as stream
 use Rattle.dns_zone.specs.declared.index.ZoneIndex as index
 use Rattle.dns_store.specs.declared.zone_store.ZoneStore as store
 use Rattle.dns_primary.specs.declared.primary.Primary.{Primary}
+use Rattle.dns_primary.specs.Keeps.{IsKept}
 use Rattle.dns_primary.specs.Machine.{Machine}
 use Rattle.dns_primary.specs.Runs.{Moment, last_of}
 use Rattle.dns_network.specs.declared.network.Network.{Ghosts}
 use Rattle.dns_network.specs.declared.network.Notes as notes
 use Rattle.dns_network.specs.Delivery.{Served}
 use Rattle.dns_network.specs.Turn.{TurnMoment, AreTurns}
+use Rattle.dns_network.specs.Left.{LeadsThrough}
 use Rattle.dns_network.specs.Runs.{IsRunOf, told_by}
 
 -- A network looked what came meanwhile, or waited, or nothing was done.
@@ -34,18 +36,27 @@ module _ {I D S N L : Type 0} {i : index.Ghosts I} {d : store.Ghosts D} where
     pub made : AreTurns s n l turns (served_at_start old network notes)
         (record { primary = new; connections = connections; network = network'; notes = notes' })
 
--- The events of these turns are those of a run from this machine, and this holds of the machine at its end.
-abbrev pub HaveRun : List (List TurnMoment) → (Machine → Type 0) → Machine → Type 0
-HaveRun turns after m = (run : List Moment) × IsRunOf (told_by turns) m run × after (last_of m run)
+-- What is said of a run from a machine.
+abbrev pub OfRun : Type 1
+OfRun = Machine → List Moment → Type 0
+
+-- The events of these turns are those of a run from this machine, of which this is said.
+abbrev pub HaveRun : List (List TurnMoment) → OfRun → Machine → Type 0
+HaveRun turns says m = (run : List Moment) × IsRunOf (told_by turns) m run × says m run
 
 -- So many turns were made, and whichever machine was kept before them: this is said of it and the turns, and
--- their events are those of a run from it to one that is kept after them.
-abbrev pub HasTurned : ℕ → (List (List TurnMoment) → Machine → Type 0) → (Machine → Type 0)
-    → (Machine → Type 0) → Type 0
-HasTurned count said keeps after =
+-- their events are those of a run from it, of which that is said.
+abbrev pub HasTurned : ℕ → (List (List TurnMoment) → Machine → Type 0) → (Machine → Type 0) → OfRun → Type 0
+HasTurned count said keeps says =
     (turns : List (List TurnMoment)) × (length turns ≡ count)
-    × ((m : Machine) → keeps m → said turns m × HaveRun turns after m)
+    × ((m : Machine) → keeps m → said turns m × HaveRun turns says m)
 
 -- Some turns were made, perhaps none.
-abbrev pub HasRun : (Machine → Type 0) → (Machine → Type 0) → Type 0
-HasRun keeps after = (turns : List (List TurnMoment)) × ((m : Machine) → keeps m → HaveRun turns after m)
+abbrev pub HasRun : (Machine → Type 0) → OfRun → Type 0
+HasRun keeps says = (turns : List (List TurnMoment)) × ((m : Machine) → keeps m → HaveRun turns says m)
+
+-- The run led from one primary to the other: to the machine that this keeps, and a crash at any moment of it
+-- leaves each zone's store as it allows.
+abbrev pub IsLedTo : {I S : Type 0} {i : index.Ghosts I} {s : store.Ghosts S} → Primary I S i s
+    → Primary I S i s → OfRun
+IsLedTo old new m run = IsKept new (last_of m run) × LeadsThrough old new m run

@@ -1,10 +1,9 @@
 //! The zones of a configuration over their devices: what a primary is given, and why there is none.
 ghost use Rattle.std.specs.Prelude.{◌≡◌, MatchResult};
-ghost use Rattle.dns_primary.specs.Keeps.{IsKept};
 ghost use Rattle.dns_configuration.specs.Known.{origins_of};
 ghost use Rattle.dns_configuration.specs.Calls.{Calls, HasCalled};
 ghost use Rattle.dns_service.specs.Opening.{AreGiven, IsFaultAt, IsNextGiven, IsNextNotGiven, IsNotGiven};
-ghost use Rattle.dns_service.specs.Opening.{IsNotServed, IsServed, closings};
+ghost use Rattle.dns_service.specs.Opening.{IsNotServed, IsOpenedAs, IsServed, closings};
 
 use dns_configuration::{ZoneSettings, settings_of};
 use dns_devices::{DeviceFault, Devices, refusal};
@@ -96,7 +95,7 @@ pub(crate) fn open_primary<D: Sectors + Drop, F: Devices<D>, I: ZoneIndex>(
 ) -> Result<Primary<I, KeptStore<D, I>>, Refusal>
     requires { origins.now ≡ origins_of zones.now }
     ensures { Calls (F.calls devices.old) (F.calls devices.new) (λ calls. MatchResult result
-        (λ p. IsServed D.Sectors calls zones.now (λ known m. IsKept p m))
+        (λ p. IsServed D.Sectors calls zones.now (IsOpenedAs p))
         (λ r. IsNotServed D.Sectors calls zones.now r.place r.fault)) }
 {
     let Ok(settings) = settings_of(heap, zones) else {

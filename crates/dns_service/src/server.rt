@@ -4,7 +4,7 @@ ghost use Rattle.std.specs.Result.{result_unwrap_or};
 ghost use Rattle.std.specs.Io.KnownBytes.{Appends};
 ghost use Rattle.dns_service.specs.Log.{IsLogOf, listening_lines, zone_line, zone_lines};
 ghost use Rattle.dns_service.specs.Serve.{ArePrimaryClosed, IsRefusalTold, ServingEnds};
-ghost use Rattle.dns_service.specs.ServedTurns.{HasPaused, HasRun, HasTurned, IsServedOn};
+ghost use Rattle.dns_service.specs.ServedTurns.{HasPaused, HasRun, HasTurned, IsLedTo, IsServedOn};
 ghost use Rattle.dns_configuration.specs.Calls.{Calls};
 ghost use Rattle.dns_primary.specs.Keeps.{IsKept};
 ghost use Rattle.dns_primary.specs.Machine.{Machine};
@@ -158,13 +158,13 @@ fn listen<R: Net + Clock, I: ZoneIndex, S: ZoneStore, E: Write>(
     is_quiet: bool,
     err: &mut E,
 ) -> io::Result<u8>
-    ensures run { HasRun (λ m. IsKept primary.old m) (λ m. IsKept primary.new m) }
+    ensures run { HasRun (λ m. IsKept primary.old m) (IsLedTo primary.old primary.new) }
     ensures ended { IfOk result (λ status. (status ≡ FAILED)
         ⊎ ((status ≡ DONE)
         × HasTurned turns
         (λ told _. IsLogOf [] is_quiet origins.now addresses.now (E.contents err.old)
         (E.contents err.new) told)
-        (λ m. IsKept primary.old m) (λ m. IsKept primary.new m))) }
+        (λ m. IsKept primary.old m) (IsLedTo primary.old primary.new))) }
 {
     let mut sockets = match Sockets::bind(heap, rt, addresses) {
         Ok(sockets) => sockets,
@@ -202,13 +202,13 @@ fn serve_primary<R: Net + Clock, I: ZoneIndex, S: ZoneStore, E: Write>(
     is_quiet: bool,
     err: &mut E,
 ) -> io::Result<u8>
-    ensures run { HasRun (λ m. IsKept primary.old m) (λ m. IsKept primary.new m) }
+    ensures run { HasRun (λ m. IsKept primary.old m) (IsLedTo primary.old primary.new) }
     ensures ended { IfOk result (λ status. (status ≡ FAILED)
         ⊎ ((status ≡ DONE)
         × HasTurned turns
         (λ told m. IsLogOf (zone_lines origins.now m.zones) is_quiet origins.now addresses.now
         (E.contents err.old) (E.contents err.new) told)
-        (λ m. IsKept primary.old m) (λ m. IsKept primary.new m))) }
+        (λ m. IsKept primary.old m) (IsLedTo primary.old primary.new))) }
 {
     tell_zones(err, primary, origins)?;
     listen(heap, rt, primary, origins, addresses, turns, is_quiet, err)
@@ -244,13 +244,13 @@ trait Servable<S, E> {
 
 impl<R: Net + Clock, I: ZoneIndex, S: ZoneStore, E: Write> Servable<Service<'_, R>, E>
     for Primary<I, S> {
-    ghost has_run = { λ primary after. HasRun (λ m. IsKept primary m) (λ m. IsKept after m) };
+    ghost has_run = { λ primary after. HasRun (λ m. IsKept primary m) (IsLedTo primary after) };
 
     ghost is_served = { λ primary service err after err_after.
         HasTurned service.turns
         (λ told m. IsLogOf (zone_lines service.origins.now m.zones) service.is_quiet service.origins.now
         service.addresses.now (E.contents err) (E.contents err_after) told)
-        (λ m. IsKept primary m) (λ m. IsKept after m) };
+        (λ m. IsKept primary m) (IsLedTo primary after) };
 
     fn serve_as(&mut self, service: &Service<'_, R>, err: &mut E) -> u8 {
         serve_primary(
@@ -302,7 +302,7 @@ fn close_primary<D: Sectors + Drop, F: Devices<D>, I: ZoneIndex>(
     primary: Primary<I, KeptStore<D, I>>,
 ) -> Result<(), AllocError>
     ensures { Calls (F.calls devices.old) (F.calls devices.new) (λ calls. MatchResult result
-        (λ _. ArePrimaryClosed D.Sectors calls zones.now primary) (λ _. calls ≡ [])) }
+        (λ _. ArePrimaryClosed calls zones.now primary) (λ _. calls ≡ [])) }
 {
     let mut back = Vec::new(heap);
     back.reserve_exact(primary.zone_count())?;

@@ -114,6 +114,13 @@ module _ (shape : Shape) (o : Opened) (s : Stored) (d : Content) (root : Root) (
     there : n ≤ length vs
     there = chosen.may.there
 
+    -- The newest version fits.
+    pub newest_fits : sectors_of_snapshot (newest_after o.loaded o.versions) ≤ shape.snapshot
+    newest_fits =
+        let last : version_from (base_of o) vs (length vs - 0) ≡ newest_after o.loaded o.versions =
+        ap (λ (l : Versions). newest_after (base_of o) l) (take_all (length vs - 0) vs (omega arith)) ∙ whole_newest o in
+        subst (λ (r : List Record). sectors_of_snapshot r ≤ shape.snapshot) last (choice.may.rooms 0 (omega arith))
+
     fit : AllFit shape.snapshot (drop next o.versions)
     fit =
         let place : length vs - n ≡ gone = omega (arith, long) in

@@ -4,10 +4,11 @@ ghost use Rattle.std.specs.Prelude.{IsTrue, IfErr, IfOk, OnOk, OnErr};
 ghost use Rattle.dns_sectors.specs.Device.{Only, LeavesOnly, CountsFailure};
 ghost use Rattle.dns_layout.specs.Sector.{sector_at, tag, root_tag};
 ghost use Rattle.dns_journal.specs.Reads.{OnlyReads, HasRisen};
-ghost use Rattle.dns_store.specs.Opening.{IsInRange};
+ghost use Rattle.dns_store.specs.Opening.{HasRootIn, IsInRange};
 ghost use Rattle.dns_layout.specs.Store.{Stored};
 ghost use Rattle.dns_store.specs.Versions.{Shape, Opened, newest_after, shape_given};
-ghost use Rattle.dns_store.specs.Opens.{opens};
+ghost use Rattle.dns_layout.specs.declared.format.Format.TheVariants as formats;
+ghost use Rattle.dns_store.specs.Opens.{opens, sizes_of};
 ghost use Rattle.dns_store.specs.Plain.{sectors_of_snapshot};
 ghost use Rattle.dns_store.specs.Migrating.{MayMigrate, MigratesAsPossible, TakesMigrated, StopsMigrating};
 ghost use Rattle.dns_store.specs.Migrating.{MigrateRefusal, IsMigratedStore, IsMigrated, IsReadOld};
@@ -164,6 +165,16 @@ pub fn migrate<D: Sectors, I: ZoneIndex>(
         → old_opens (shape_given apex.now snapshot journal) o (D.seen device.old)
         → IsInRange snapshot journal → result ≡ Err MigrateError.ZoneTooLarge
         → snapshot < sectors_of_snapshot (newest_after o.loaded o.versions) }
+    // Of a store whose newest version takes more sectors than a snapshot has, the device is read alone.
+    ensures no_room { D.is_honest device.old → (o : Opened)
+        → old_opens (shape_given apex.now snapshot journal) o (D.seen device.old)
+        → IsInRange snapshot journal
+        → snapshot < sectors_of_snapshot (newest_after o.loaded o.versions)
+        → (OnOk result ⊥) × OnlyReads D.Sectors device.old device.new }
+    // It is migrated only if the first sector is a root of format 1 of that zone and these sizes.
+    ensures root { D.is_honest device.old → IsMigratedStore result
+        → HasRootIn formats.One (sizes_of (shape_given apex.now snapshot journal)) (D.count device.old)
+        (sector_at (D.seen device.old) 0) }
     ensures unwritten { (result ≡ Err MigrateError.Device) ⊎ IsMigratedStore result
         ⊎ OnlyReads D.Sectors device.old device.new }
     ensures device { result ≡ Err MigrateError.Device → HasRisen (D.failed device.old) (D.failed device.new) }
@@ -234,6 +245,10 @@ fn write_anew<D: Sectors, I: ZoneIndex>(
         → IsReadOld shape o s (D.seen device.old) root version base.now changes.now
         → result ≡ Err MigrateError.ZoneTooLarge → shape.snapshot < sectors_of_snapshot
         (newest_after o.loaded o.versions) }
+    ensures no_room { (shape : Shape) (o : Opened) (s : Stored)
+        → IsReadOld shape o s (D.seen device.old) root version base.now changes.now
+        → shape.snapshot < sectors_of_snapshot (newest_after o.loaded o.versions)
+        → (OnOk result ⊥) × (device.new ≡ device.old) }
     ensures only { IfErr result (λ e. (e ≡ MigrateError.Device) ⊎ (e ≡ MigrateError.OutOfMemory)
         ⊎ (e ≡ MigrateError.ZoneTooLarge)) }
     ensures unwritten { OnErr result ((result ≡ Err MigrateError.Device) ⊎ (device.new ≡ device.old)) }

@@ -14,8 +14,10 @@ pub enum Task<'a> {
     Replay(&'a str, &'a str),
     /// `init CONFIG [ORIGIN]`
     Init(&'a str, Option<&'a str>),
-    /// `dump CONFIG ORIGIN`
-    Dump(&'a str, &'a str),
+    /// `dump CONFIG ORIGIN`, and the serial of the version that is printed (`--serial`)
+    Dump(&'a str, &'a str, Option<u32>),
+    /// `history CONFIG ORIGIN`, and whether the records of each change are printed (`--records`)
+    History(&'a str, &'a str, bool),
     /// `load CONFIG ORIGIN`, and whether what it would change is printed alone (`--dry-run`)
     Load(&'a str, &'a str, bool),
     /// `migrate CONFIG`
@@ -70,6 +72,9 @@ const CHECK_EXPECTED: &str =
 
 /// What is expected of `--turns`.
 const TURNS_EXPECTED: &str = "--turns: a number from 0 to 4294967295, or unlimited, is expected";
+
+/// What is expected of `--serial`.
+const SERIAL_EXPECTED: &str = "--serial: a number from 0 to 4294967295 is expected";
 
 /// What is expected of `--seconds`.
 const SECONDS_EXPECTED: &str = "--seconds: a number from 0 to 4294967295 is expected";
@@ -166,7 +171,23 @@ fn init_command<'a>(alloc: Global) -> Result<Command<'a>, Error> {
 fn dump_command<'a>(alloc: Global) -> Result<Command<'a>, Error> {
     let about = "Prints the zone that a device keeps, as a master file; not while it is served";
     let command = of_one_word(alloc, "dump", about, config(alloc))?;
-    Ok(command.arg(origin(alloc))?)
+    let serial = Arg::new(alloc, "serial")
+        .long("serial")
+        .value_name("M")
+        .action(ArgAction::Set)
+        .help("Prints the version with this serial; history lists those that are kept");
+    Ok(command.arg(origin(alloc))?.arg(serial)?)
+}
+
+fn history_command<'a>(alloc: Global) -> Result<Command<'a>, Error> {
+    let about =
+        "Lists the versions of a zone that its device keeps, the oldest first; not while it is served";
+    let command = of_one_word(alloc, "history", about, config(alloc))?;
+    let records = Arg::new(alloc, "records")
+        .long("records")
+        .action(ArgAction::SetTrue)
+        .help("Prints the records that each version removed and added");
+    Ok(command.arg(origin(alloc))?.arg(records)?)
 }
 
 fn load_command<'a>(alloc: Global) -> Result<Command<'a>, Error> {
@@ -249,6 +270,7 @@ fn whole_command<'a>(alloc: Global) -> Result<Command<'a>, Error> {
     let command = with(command, replay_command(alloc))?;
     let command = with(command, init_command(alloc))?;
     let command = with(command, dump_command(alloc))?;
+    let command = with(command, history_command(alloc))?;
     let command = with(command, load_command(alloc))?;
     let command = with(command, migrate_command(alloc))?;
     let command = with(command, serve_command(alloc))?;
@@ -256,19 +278,18 @@ fn whole_command<'a>(alloc: Global) -> Result<Command<'a>, Error> {
 }
 
 /// The number of a text of decimal digits alone, at most 4294967295.
-fn number_of(text: &str) -> Option<u64> {
+fn number_of(text: &str) -> Option<u32> {
     if !text.bytes().all(|octet| octet.is_ascii_digit()) {
         return None;
     }
-    let number: u32 = text.parse().ok()?;
-    Some(u64::from(number))
+    text.parse().ok()
 }
 
 /// The number of turns that a text says: a number, or `unlimited`.
 fn turns_of(text: &str) -> Option<u64> {
     match text {
         "unlimited" => Some(u64::MAX),
-        _ => number_of(text),
+        _ => Some(u64::from(number_of(text)?)),
     }
 }
 
@@ -284,6 +305,20 @@ fn check_words<'a>(inner: &ArgMatches<'a>) -> Words<'a> {
             task_words(inner, Task::CheckConfiguration(path))
         }
         _ => Words::Wrong(CHECK_EXPECTED),
+    }
+}
+
+/// The words of `dump`.
+fn dump_words<'a>(inner: &ArgMatches<'a>) -> Words<'a> {
+    let (Some(config), Some(origin)) = (inner.get_str("CONFIG"), inner.get_str("ORIGIN")) else {
+        return Words::NoCommand;
+    };
+    let Some(text) = inner.get_str("serial") else {
+        return task_words(inner, Task::Dump(config, origin, None));
+    };
+    match number_of(text) {
+        Some(serial) => task_words(inner, Task::Dump(config, origin, Some(serial))),
+        None => Words::Wrong(SERIAL_EXPECTED),
     }
 }
 
@@ -307,7 +342,7 @@ fn serve_words<'a>(inner: &ArgMatches<'a>) -> Words<'a> {
 /// The seconds that the words of `fetch` say, or those without such a word. None if they are no number.
 fn seconds_of(inner: &ArgMatches<'_>) -> Option<u64> {
     match inner.get_str("seconds") {
-        Some(text) => number_of(text),
+        Some(text) => Some(u64::from(number_of(text)?)),
         None => Some(FETCH_SECONDS),
     }
 }
@@ -342,7 +377,10 @@ fn task_of<'a>(name: &str, inner: &ArgMatches<'a>) -> Option<Task<'a>> {
     match name {
         "replay" => Some(Task::Replay(inner.get_str("CONFIG")?, inner.get_str("SCRIPT")?)),
         "init" => Some(Task::Init(inner.get_str("CONFIG")?, inner.get_str("ORIGIN"))),
-        "dump" => Some(Task::Dump(inner.get_str("CONFIG")?, inner.get_str("ORIGIN")?)),
+        "history" => {
+            let records = inner.get_flag("records");
+            Some(Task::History(inner.get_str("CONFIG")?, inner.get_str("ORIGIN")?, records))
+        }
         "load" => {
             let dry_run = inner.get_flag("dry-run");
             Some(Task::Load(inner.get_str("CONFIG")?, inner.get_str("ORIGIN")?, dry_run))
@@ -360,6 +398,7 @@ pub fn read_words<'a>(alloc: Global, words: &'a [&'a str]) -> Result<Words<'a>, 
     };
     match name {
         "check" => Ok(check_words(inner)),
+        "dump" => Ok(dump_words(inner)),
         "serve" => Ok(serve_words(inner)),
         "fetch" => Ok(fetch_words(inner)),
         _ => match task_of(name, inner) {

@@ -9,9 +9,9 @@ mod terminal;
 use clap::error::ErrorKind;
 use command::{Asked, Fetching, Serving, Task, Words, read_words};
 use dns_commands::{
-    Index, check, check_configuration, compare, dump, explain_check, explain_devices,
+    Index, check, check_configuration, compare, dump, dump_at, explain_check, explain_devices,
     explain_origin, explain_other, explain_replay, explain_unmade, explain_unreadable,
-    explain_unserved, file, init, is_file, load, master_files, migrate, octets, replay,
+    explain_unserved, file, history, init, is_file, load, master_files, migrate, octets, replay,
     warn_of_configuration, zone_file,
 };
 use dns_configuration::{DONE, FAILED, File, REFUSED, USAGE};
@@ -229,34 +229,88 @@ fn run_init(
     Ok(status)
 }
 
-/// Prints what a device keeps, and gives the exit status.
+/// Explains, if it is wanted, why what a device keeps was not printed; and gives the exit status.
+fn explain_looked(
+    rt: &HostRuntime,
+    heap: Heap,
+    config: &File<'_>,
+    origin: &str,
+    explain: bool,
+    status: u8,
+) -> io::Result<u8> {
+    if explain && status == REFUSED {
+        explain_files(rt, heap, config, &[])?;
+        explain_origin(rt.alloc(), heap, config, origin, &mut rt.stderr())?;
+    }
+    explain_failed(rt, heap, config, Some(origin), explain, status)
+}
+
+/// Prints what a device keeps, as it is or as it was at a serial, and gives the exit status.
 fn run_dump(
     rt: &HostRuntime,
     heap: Heap,
     config: &str,
     origin: &str,
+    serial: Option<u32>,
     explain: bool,
 ) -> io::Result<u8> {
     let text = octets(rt, config)?;
     let config = file(config, &text);
     let mut out = io::BufWriter::new(rt.alloc(), io::writer(rt))?;
     let mut err = rt.stderr();
-    let status = dump::<Device, _, Index, _, _>(
+    let status = match serial {
+        Some(serial) => dump_at::<Device, _, Index, _, _>(
+            rt.alloc(),
+            heap,
+            &mut Disk(rt),
+            &config,
+            origin,
+            serial,
+            explain,
+            &mut out,
+            &mut err,
+        ),
+        None => dump::<Device, _, Index, _, _>(
+            rt.alloc(),
+            heap,
+            &mut Disk(rt),
+            &config,
+            origin,
+            explain,
+            &mut out,
+            &mut err,
+        ),
+    };
+    out.flush()?;
+    explain_looked(rt, heap, &config, origin, explain, status)
+}
+
+/// Prints the versions that a device keeps, and gives the exit status.
+fn run_history(
+    rt: &HostRuntime,
+    heap: Heap,
+    config: &str,
+    origin: &str,
+    with_records: bool,
+    explain: bool,
+) -> io::Result<u8> {
+    let text = octets(rt, config)?;
+    let config = file(config, &text);
+    let mut out = io::BufWriter::new(rt.alloc(), io::writer(rt))?;
+    let mut err = rt.stderr();
+    let status = history::<Device, _, Index, _, _>(
         rt.alloc(),
         heap,
         &mut Disk(rt),
         &config,
         origin,
+        with_records,
         explain,
         &mut out,
         &mut err,
     );
     out.flush()?;
-    if explain && status == REFUSED {
-        explain_files(rt, heap, &config, &[])?;
-        explain_origin(rt.alloc(), heap, &config, origin, &mut err)?;
-    }
-    explain_failed(rt, heap, &config, Some(origin), explain, status)
+    explain_looked(rt, heap, &config, origin, explain, status)
 }
 
 /// Loads a zone's master file, or prints what that would change, and gives the exit status.
@@ -399,7 +453,12 @@ fn run(rt: &HostRuntime, asked: Asked<'_>) -> io::Result<u8> {
         }
         Task::Replay(config, script) => run_replay(rt, heap, config, script, asked.explain),
         Task::Init(config, origin) => run_init(rt, heap, config, origin, asked.explain),
-        Task::Dump(config, origin) => run_dump(rt, heap, config, origin, asked.explain),
+        Task::Dump(config, origin, serial) => {
+            run_dump(rt, heap, config, origin, serial, asked.explain)
+        }
+        Task::History(config, origin, records) => {
+            run_history(rt, heap, config, origin, records, asked.explain)
+        }
         Task::Load(config, origin, dry_run) => {
             run_load(rt, heap, config, origin, dry_run, asked.explain)
         }
@@ -413,7 +472,8 @@ fn run(rt: &HostRuntime, asked: Asked<'_>) -> io::Result<u8> {
 fn tell_usage(rt: &HostRuntime) -> io::Result<u8> {
     eprintln!(rt;
         "usage: dnsprim check FILE ORIGIN | check CONFIG | replay CONFIG SCRIPT | init CONFIG [ORIGIN] | \
-dump CONFIG ORIGIN | load CONFIG ORIGIN [--dry-run] | migrate CONFIG | \
+dump CONFIG ORIGIN [--serial M] | history CONFIG ORIGIN [--records] | \
+load CONFIG ORIGIN [--dry-run] | migrate CONFIG | \
 serve CONFIG --turns N|unlimited [--quiet] | \
 fetch ADDRESS:PORT ORIGIN [--since FILE] [--seconds N] [--explain]"
     )?;

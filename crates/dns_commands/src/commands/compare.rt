@@ -57,7 +57,7 @@ fn print_side<W: Write>(out: &mut W, sign: &str, soa: &Record, others: &[Record]
 }
 
 /// Prints what goes and what comes by a change.
-fn print_change<W: Write>(out: &mut W, change: &Change) -> io::Result<()>
+pub(crate) fn print_change<W: Write>(out: &mut W, change: &Change) -> io::Result<()>
     ensures { OnOk result
         (Appends (W.contents out.old) (W.contents out.new) (change_lines change.now)) }
 {

@@ -35,7 +35,11 @@ fn print_version<W: Write>(
 }
 
 /// Prints how many records came and how many went.
-fn print_difference<W: Write>(out: &mut W, added: usize, removed: usize) -> io::Result<()>
+pub(crate) fn print_difference<W: Write>(
+    out: &mut W,
+    added: usize,
+    removed: usize,
+) -> io::Result<()>
     ensures { OnOk result
         (Appends (W.contents out.old) (W.contents out.new) (difference_line added removed)) }
 {

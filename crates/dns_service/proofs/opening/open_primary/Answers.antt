@@ -4,6 +4,7 @@ use Rattle.dns_primary.specs.Open.{AreRecoverable}
 use Rattle.dns_configuration.specs.Known.{IsSettingOf}
 use Rattle.dns_configuration.proofs.Called.{called_on, no_calls}
 use Rattle.dns_service.proofs.Known.{as_many, back_whole, named}
+use Rattle.dns_service.proofs.Served.{whichever_set}
 use Rattle.dns_service.proofs.opening.open_primary.Goals as goal
 
 pub open-requires-clause-as_many : goal.open-requires-clause-as_many
@@ -24,7 +25,10 @@ returns-in-Ok-open g c = (
     given = c.in-Ok-open_devices.ensures.2;
     known = c.in-Ok.settings.items;
     settings = c.in-Ok.ensures;
-    recovered = λ m event tries are. c.in-Ok-open.ensures.recovered m event tries (subst (λ (names : List Labels). AreRecoverable g.D.Sectors tries m event 0 m.zones names c.in-Ok.settings.items c.in-Ok-open_devices.given.items) (sym c.requires) are);
+    recovered = λ m event tries are.
+        (let given = subst (λ (names : List Labels). AreRecoverable g.D.Sectors tries m event 0 m.zones names c.in-Ok.settings.items c.in-Ok-open_devices.given.items) (sym c.requires) are in
+        let to = c.in-Ok-open.ensures.recovered m event tries given in
+        (to.0, to.1, (to.2, c.in-Ok-open.ensures.any_moment m event tries (whichever_set g.D.Sectors tries m event 0 m.zones c.args.origins.now c.in-Ok.settings.items c.in-Ok-open_devices.given.items given))));
   },
 )
 

@@ -1,5 +1,5 @@
-use Rattle.std.proofs.Common.{◌≡◌, [], ◌++◌, map, refl, sym, ap, subst, ◌∙◌, append-nil}
-use Rattle.dns_primary.specs.Open.{AreRecoverable, device_of_pending}
+use Rattle.std.proofs.Common.{◌≡◌, [], ◌++◌, map, refl, ap, ◌∙◌, append-nil}
+use Rattle.dns_primary.specs.Open.{device_of_pending}
 use Rattle.dns_configuration.proofs.Called.{nothing_called}
 use Rattle.dns_service.proofs.Served.{failed_with}
 use Rattle.dns_service.proofs.server.close_primary.Goals as goal
@@ -12,4 +12,4 @@ returns g c =
     let left = map (λ b. device_of_pending b) c.args.primary.pending.items in
     let items : c.into_devices.new.devices.items ≡ left =
     c.into_devices.ensures.handed_out ∙ ap (λ l. left ++ l) (c.reserve_exact.ensures.items ∙ c.new-back.ensures.items) ∙ append-nil left in
-    (_, c.close_all.ensures, (_, refl, λ m event names known kept so. subst (λ l. AreRecoverable g.D.Sectors 0 m event 0 m.zones names known l) (sym items) (c.into_devices.ensures.at_rest m event names known kept so)))
+    (_, rw items at c.close_all.ensures, (refl, c.into_devices.ensures.at_rest))

@@ -3,6 +3,7 @@ use Rattle.std.specs.Io.KnownBytes.{Appends}
 use Rattle.std.proofs.KnownBytes.{Appends-nil}
 use Rattle.dns_primary.specs.Keeps.{IsKept}
 use Rattle.dns_service.specs.Log.{logged}
+use Rattle.dns_service.specs.ServedTurns.{IsLedTo}
 use Rattle.dns_service.proofs.Logged.{has_listened}
 use Rattle.dns_service.proofs.Turned.{has_been_turned, none_run, some_run}
 use Rattle.dns_service.proofs.server.listen.Goals as goal
@@ -14,25 +15,25 @@ returns-clause-ended g c =
     let is = c.if-not-is_written.false in
     inr (
       refl,
-      has_listened c.in_ok-run.ensures (λ log. log.err.ghost_name) (λ log. log.origins.now) (λ log. log.is_quiet) (λ log. log.has_failed) (λ log. logged (text log.err.now) log.lines.now.items log.counts) (λ old one new h. h)
+      has_listened (λ x k kept z left. g.met.S.ZoneStore.at_rest x k kept z left) c.in_ok-run.ensures (λ log. log.err.ghost_name) (λ log. log.origins.now) (λ log. log.is_quiet) (λ log. log.has_failed) (λ log. logged (text log.err.now) log.lines.now.items log.counts) (λ old one new h. h)
           c.args.addresses.now (text c.args.err.now) said c.in_ok-tell_listening.ensures c.new-lines.ensures.items c.new-counts.ensures (c.is_written.ensures.whole is)
           (subst (λ (lines : List ℕ). Appends said said lines) (sym (c.is_written.ensures.lines is)) (Appends-nil said)) (λ same. ap text (c.err-2-1.given.1 same)),
     )
 
 pub returns-clause-run : goal.returns-clause-run
-returns-clause-run g c = some_run c.args.turns _ (λ m. IsKept c.args.primary.now m) (λ m. IsKept c.run.new.primary m) (has_been_turned (λ _. Unit {0}) c.in_ok-run.ensures (λ turns took. tt))
+returns-clause-run g c = some_run c.args.turns _ (λ m. IsKept c.args.primary.now m) (IsLedTo c.args.primary.now c.run.new.primary) (has_been_turned (λ x k kept z left. g.met.S.ZoneStore.at_rest x k kept z left) (λ _. Unit {0}) c.in_ok-run.ensures (λ turns took. tt))
 
 pub returns-then-not-is_written-clause-run : goal.returns-then-not-is_written-clause-run
-returns-then-not-is_written-clause-run g c = some_run c.args.turns _ (λ m. IsKept c.args.primary.now m) (λ m. IsKept c.run.new.primary m) (has_been_turned (λ _. Unit {0}) c.in_ok-run.ensures (λ turns took. tt))
+returns-then-not-is_written-clause-run g c = some_run c.args.turns _ (λ m. IsKept c.args.primary.now m) (IsLedTo c.args.primary.now c.run.new.primary) (has_been_turned (λ x k kept z left. g.met.S.ZoneStore.at_rest x k kept z left) (λ _. Unit {0}) c.in_ok-run.ensures (λ turns took. tt))
 
 pub returns-in_err-tell_unavailable-in-Err-clause-run : goal.returns-in_err-tell_unavailable-in-Err-clause-run
-returns-in_err-tell_unavailable-in-Err-clause-run g c = none_run _
+returns-in_err-tell_unavailable-in-Err-clause-run g c = none_run (λ x k kept z left. g.met.S.ZoneStore.at_rest x k kept z left) _
 
 pub returns-in-Err-clause-run : goal.returns-in-Err-clause-run
-returns-in-Err-clause-run g c = none_run _
+returns-in-Err-clause-run g c = none_run (λ x k kept z left. g.met.S.ZoneStore.at_rest x k kept z left) _
 
 pub returns-in_err-tell_listening-clause-run : goal.returns-in_err-tell_listening-clause-run
-returns-in_err-tell_listening-clause-run g c = none_run _
+returns-in_err-tell_listening-clause-run g c = none_run (λ x k kept z left. g.met.S.ZoneStore.at_rest x k kept z left) _
 
 pub returns-in_err-run-clause-run : goal.returns-in_err-run-clause-run
-returns-in_err-run-clause-run g c = rw c.in_err-run.ensures (none_run _)
+returns-in_err-run-clause-run g c = rw c.in_err-run.ensures (none_run (λ x k kept z left. g.met.S.ZoneStore.at_rest x k kept z left) _)

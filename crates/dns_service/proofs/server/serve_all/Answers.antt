@@ -7,9 +7,11 @@ use Rattle.dns_configuration.proofs.Told.{fault_told}
 use Rattle.dns_devices.proofs.Told.{failed_as}
 use Rattle.dns_primary.specs.Keeps.{IsKept}
 use Rattle.dns_primary.specs.Machine.{Machine}
+use Rattle.dns_primary.specs.Runs.{Moment}
+use Rattle.dns_store.specs.declared.kept_store.KeptStore.{KeptStore}
 use Rattle.dns_service.specs.Log.{IsLogOf, zone_lines}
-use Rattle.dns_service.specs.ServedTurns.{HasTurned}
-use Rattle.dns_service.specs.Opening.{IsNotServed, IsServed}
+use Rattle.dns_service.specs.ServedTurns.{HasTurned, IsLedTo}
+use Rattle.dns_service.specs.Opening.{IsNotServed, IsOpenedAs, IsServed}
 use Rattle.dns_service.specs.Serve.{ServingEnds}
 use Rattle.dns_service.proofs.Served.{at_ok, configuration_refused, device_refused, let_go, served, served_for, served_somehow, serving_failed}
 use Rattle.dns_service.proofs.server.serve_all.Goals as goal
@@ -38,23 +40,23 @@ returns-in-Ok-open_primary g c =
     let named = origins_of configuration.zones.items in
     let names : origins ≡ named = c.deref-in-Ok-open_primary.ensures.value ∙ at_ok c.origins_of.result (λ made. made.items ≡ origins_of c.deref.result.now) c.in_ok-origins.origins c.in_ok-origins.was c.origins_of.ensures ∙ ap origins_of c.deref.ensures.value in
     let opening = c.in-Ok-open_primary.ensures.0 in
-    let is : IsServed g.D.Sectors opening configuration.zones.items (λ known m. IsKept primary m) = rw c.deref-2.ensures.value at c.in-Ok-open_primary.ensures.2 in
+    let is : IsServed g.D.Sectors opening configuration.zones.items (IsOpenedAs primary) = rw c.deref-2.ensures.value at c.in-Ok-open_primary.ensures.2 in
     let closed = rw c.deref-in-Ok-open_primary-3.ensures.value at c.in_ok-close_primary-in-Ok-open_primary.ensures in
-    let back = closed.2.0 in
     let ran = c.serve_as-status.ensures.run in
     let keeps : Machine → Type 0 = λ m. IsKept primary m in
-    let keeps_after : Machine → Type 0 = λ m. IsKept after m in (
+    let zones = configuration.zones.items in
+    let there : (start : Machine) (run : List Moment) (x y : KeptStore _ _ g.D.Sectors) (place : ℕ) → _ = λ start run x y place h. record { later = h.later; each = h.each; before = h.before } in (
       _,
-      called_on _ _ _ _ _ c.in-Ok-open_primary.ensures.1 (rw closed.2.1 at closed.1),
+      called_on _ _ _ _ _ c.in-Ok-open_primary.ensures.1 (rw closed.2.0 at closed.1),
       served g.D.Sectors _ c.args.config.now configuration c.args.options err err_after c.serve_as-status.result c.in-Ok.ensures.held
-          (served_somehow g.D.Sectors configuration opening keeps keeps_after back is closed.2.2 ran)
+          (served_somehow g.D.Sectors configuration opening primary after is there closed.2.1 ran)
           (elim c.serve_as-status.ensures.ended [
             | inl failed ↦ inl failed
             | inr (done, turned) ↦ inr (
               done,
-              served_for g.D.Sectors configuration opening keeps keeps_after back is closed.2.2 c.args.options err err_after
-                  (subst (λ (x : List SocketAddr). HasTurned c.args.options.turns (λ told m. IsLogOf (zone_lines named m.zones) c.args.options.is_quiet named x err err_after told) keeps keeps_after) c.deref-in-Ok-open_primary-2.ensures.value
-                  (subst (λ (x : List Labels). HasTurned c.args.options.turns (λ told m. IsLogOf (zone_lines x m.zones) c.args.options.is_quiet x addresses err err_after told) keeps keeps_after) names turned)),
+              served_for g.D.Sectors configuration opening primary after is there closed.2.1 c.args.options err err_after
+                  (subst (λ (x : List SocketAddr). HasTurned c.args.options.turns (λ told m. IsLogOf (zone_lines named m.zones) c.args.options.is_quiet named x err err_after told) keeps (IsLedTo primary after)) c.deref-in-Ok-open_primary-2.ensures.value
+                  (subst (λ (x : List Labels). HasTurned c.args.options.turns (λ told m. IsLogOf (zone_lines x m.zones) c.args.options.is_quiet x addresses err err_after told) keeps (IsLedTo primary after)) names turned)),
             )
           ]),
     )
@@ -73,12 +75,12 @@ returns-in_err-close_primary-in-Ok-open_primary g c =
     let err = g.E.Write.contents c.args.err.now in
     let err_after = g.E.Write.contents c.serve_as-status.new.err in
     let opening = c.in-Ok-open_primary.ensures.0 in
-    let is : IsServed g.D.Sectors opening configuration.zones.items (λ known m. IsKept primary m) = rw c.deref-2.ensures.value at c.in-Ok-open_primary.ensures.2 in
+    let is : IsServed g.D.Sectors opening configuration.zones.items (IsOpenedAs primary) = rw c.deref-2.ensures.value at c.in-Ok-open_primary.ensures.2 in
     let gone = c.in_err-close_primary-in-Ok-open_primary.ensures in (
       _,
       called_on _ _ _ _ _ c.in-Ok-open_primary.ensures.1 gone.1,
       failed_as (λ (status : ℕ). ServingEnds g.D.Sectors (opening ++ gone.0) config c.args.options err err_after status) c.from_residual-in_err-close_primary-in-Ok-open_primary.result c.from_residual-in_err-close_primary-in-Ok-open_primary.ensures.0
-          (let_go g.D.Sectors opening gone.0 config configuration c.args.options (λ m. IsKept primary m) err err_after c.in-Ok.ensures.held is gone.2),
+          (let_go g.D.Sectors opening gone.0 config configuration c.args.options (IsOpenedAs primary) err err_after c.in-Ok.ensures.held is gone.2),
     )
 
 pub returns : goal.returns

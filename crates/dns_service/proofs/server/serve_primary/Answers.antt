@@ -1,4 +1,5 @@
 use Rattle.dns_primary.specs.Keeps.{IsKept}
+use Rattle.dns_service.specs.ServedTurns.{IsLedTo}
 use Rattle.dns_service.proofs.Logged.{after_zones}
 use Rattle.dns_service.proofs.Turned.{none_run}
 use Rattle.dns_service.proofs.server.serve_primary.Goals as goal
@@ -6,8 +7,8 @@ use Rattle.dns_service.proofs.server.serve_primary.Goals as goal
 pub returns-clause-ended : goal.returns-clause-ended
 returns-clause-ended g c =
     let text = g.E.Write.contents in
-    after_zones c.listen.result c.args.is_quiet c.args.origins.now c.args.addresses.now c.args.turns (text c.args.err.now) (text c.tell_zones.new.err) (text c.listen.new.err) (λ m. IsKept c.args.primary.now m) (λ m. IsKept c.listen.new.primary m)
+    after_zones c.listen.result c.args.is_quiet c.args.origins.now c.args.addresses.now c.args.turns (text c.args.err.now) (text c.tell_zones.new.err) (text c.listen.new.err) (λ m. IsKept c.args.primary.now m) (IsLedTo c.args.primary.now c.listen.new.primary)
     c.in_ok-tell_zones.ensures c.listen.ensures.ended
 
 pub returns-in_err-tell_zones-clause-run : goal.returns-in_err-tell_zones-clause-run
-returns-in_err-tell_zones-clause-run g c = none_run _
+returns-in_err-tell_zones-clause-run g c = none_run (λ x k kept z left. g.met.S.ZoneStore.at_rest x k kept z left) _

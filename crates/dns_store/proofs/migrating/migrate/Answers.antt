@@ -269,3 +269,53 @@ returns-clause-migrated g c honest range may =
           ))
           is,
     )
+
+pub returns-then-branch-clause-no_room : goal.returns-then-branch-clause-no_room
+returns-then-branch-clause-no_room g c honest o is range wide =
+    let shape : Shape = record { apex = c.args.apex.now; snapshot = c.args.snapshot; journal = c.args.journal } in
+    let d = g.D.Sectors.seen c.args.device.now in
+    let one = c.settle.ensures.reads in
+    let two = c.is_new.ensures.reads in
+    let first = reads_then c.args.device.now c.settle.new.device c.is_new.new.device one two in
+    let near = one.honest.1 honest in
+    let new : tag (sector_at d 0) ≡ root_tag = subst (λ (x : Content). tag (sector_at x 0) ≡ root_tag) (one.seen honest) ((c.in_ok-is_new.ensures.new near).0 (true_is _ c.if-branch.true)) in
+    absurd (old_tag shape o d is new)
+
+pub returns-in_err-write_anew-clause-no_room : goal.returns-in_err-write_anew-clause-no_room
+returns-in_err-write_anew-clause-no_room g c honest o is range wide =
+    let shape : Shape = record { apex = c.args.apex.now; snapshot = c.args.snapshot; journal = c.args.journal } in
+    let d = g.D.Sectors.seen c.args.device.now in
+    let one = c.settle.ensures.reads in
+    let two = c.is_new.ensures.reads in
+    let first = reads_then c.args.device.now c.settle.new.device c.is_new.new.device one two in
+    let three = c.read_store.ensures.reads in
+    let reads = reads_then c.args.device.now c.is_new.new.device c.read_store.new.device first three in
+    let same = reads.seen honest in
+    let here = first.honest.1 honest in
+    let read : IsReadOld shape o is.0 (g.D.Sectors.seen c.read_store.new.device) c.in_ok-found.found.root c.in_ok-found.found.end.version c.in_ok-found.found.base c.deref.result.now =
+    subst (λ (cs : List Change). IsReadOld shape o is.0 (g.D.Sectors.seen c.read_store.new.device) c.in_ok-found.found.root c.in_ok-found.found.end.version c.in_ok-found.found.base cs) (sym c.deref.ensures.value)
+    (subst (λ (x : Content). IsReadOld shape o is.0 x c.in_ok-found.found.root c.in_ok-found.found.end.version c.in_ok-found.found.base c.in_ok-found.found.changes.items) (sym same)
+    (read_old shape o is.0 (g.D.Sectors.seen c.is_new.new.device) d c.in_ok-found.found.root c.in_ok-found.found.end c.in_ok-found.found.base c.in_ok-found.found.changes.items c.in_ok-found.found.newest.records (first.seen honest)
+    (c.in_ok-found.ensures.found here range (g.D.Sectors.seen c.is_new.new.device) (altered_itself One (g.D.Sectors.seen c.is_new.new.device)) o is.0 (subst (λ (x : Content). OpensAsIn One (sizes_of shape) x is.0) (sym (first.seen honest)) is.1) is.2)
+    c.in_ok-found.ensures.apex.0 is.1 is.2 is.3)) in
+    let p = err_from_is_err_and c.from_residual-in_err-write_anew.result c.from_residual-in_err-write_anew.ensures.1 in
+    rw p.1 (tt, subst (λ x. OnlyReads g.D.Sectors c.args.device.now x) (sym (c.in_err-write_anew.ensures.no_room shape o is.0 read wide).1) reads)
+
+pub returns-clause-no_room : goal.returns-clause-no_room
+returns-clause-no_room g c honest o is range wide =
+    let shape : Shape = record { apex = c.args.apex.now; snapshot = c.args.snapshot; journal = c.args.journal } in
+    let d = g.D.Sectors.seen c.args.device.now in
+    let one = c.settle.ensures.reads in
+    let two = c.is_new.ensures.reads in
+    let first = reads_then c.args.device.now c.settle.new.device c.is_new.new.device one two in
+    let three = c.read_store.ensures.reads in
+    let reads = reads_then c.args.device.now c.is_new.new.device c.read_store.new.device first three in
+    let same = reads.seen honest in
+    let here = first.honest.1 honest in
+    let read : IsReadOld shape o is.0 (g.D.Sectors.seen c.read_store.new.device) c.in_ok-found.found.root c.in_ok-found.found.end.version c.in_ok-found.found.base c.deref.result.now =
+    subst (λ (cs : List Change). IsReadOld shape o is.0 (g.D.Sectors.seen c.read_store.new.device) c.in_ok-found.found.root c.in_ok-found.found.end.version c.in_ok-found.found.base cs) (sym c.deref.ensures.value)
+    (subst (λ (x : Content). IsReadOld shape o is.0 x c.in_ok-found.found.root c.in_ok-found.found.end.version c.in_ok-found.found.base c.in_ok-found.found.changes.items) (sym same)
+    (read_old shape o is.0 (g.D.Sectors.seen c.is_new.new.device) d c.in_ok-found.found.root c.in_ok-found.found.end c.in_ok-found.found.base c.in_ok-found.found.changes.items c.in_ok-found.found.newest.records (first.seen honest)
+    (c.in_ok-found.ensures.found here range (g.D.Sectors.seen c.is_new.new.device) (altered_itself One (g.D.Sectors.seen c.is_new.new.device)) o is.0 (subst (λ (x : Content). OpensAsIn One (sizes_of shape) x is.0) (sym (first.seen honest)) is.1) is.2)
+    c.in_ok-found.ensures.apex.0 is.1 is.2 is.3)) in
+    absurd (c.in_ok-write_anew.ensures.no_room shape o is.0 read wide).0

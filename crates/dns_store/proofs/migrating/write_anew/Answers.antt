@@ -1,4 +1,4 @@
-use Rattle.std.proofs.Common.{◌≡◌, ⊎_elim, ◌+◌, ◌-◌, ℕ, List, Result, Err, length, take, drop, sym, ◌∙◌, ap, subst, arith}
+use Rattle.std.proofs.Common.{◌≡◌, ◌+◌, ◌-◌, ℕ, List, Result, Err, length, take, drop, sym, ◌∙◌, ap, subst, arith}
 use Rattle.std.proofs.lemmas.Result.{err_from_is_err_and}
 use Rattle.std.proofs.lemmas.List.{take_rest}
 use Rattle.dns_changes.specs.Change.{Change}
@@ -12,7 +12,7 @@ use Rattle.dns_store.specs.Checkpoint.{IsBaseOf}
 use Rattle.dns_store.specs.Migrating.{StaysOrMigrates, base_error}
 use Rattle.dns_changes.specs.declared.ChangeError.{ChangeError}
 use Rattle.dns_store.specs.declared.migrating.MigrateError.{MigrateError}
-use Rattle.dns_store.proofs.Anew.{led, zones, too_wide, gone_led, gone_zones, base_fits, is_base, count_is, migrated, converted, told, stays_old, openings}
+use Rattle.dns_store.proofs.Anew.{led, zones, too_wide, gone_led, gone_zones, base_fits, newest_fits, is_base, count_is, migrated, converted, told, stays_old, openings}
 use Rattle.dns_store.proofs.migrating.write_anew.Goals as goal
 
 pub returns-in_default-clause-any_moment : goal.returns-in_default-clause-any_moment
@@ -93,3 +93,21 @@ returns-clause-migrated g c honest only shape o s read after to x left =
           (subst (λ (cs : List Change). IsTurned s c.deref.result.now cs made.0) (take_rest c.args.changes.now (length c.args.changes.now - n)) made.1) after to,
       by.counted ∙ ap (λ m. m + 1) (openings shape o s d c.args.root c.args.version c.args.base.now c.args.changes.now read) ∙ sym to.openings,
     )
+
+pub returns-in_err-_base-clause-no_room : goal.returns-in_err-_base-clause-no_room
+returns-in_err-_base-clause-no_room g c shape o s read wide =
+    let d = g.D.Sectors.seen c.args.device.now in
+    let fits = newest_fits shape o s d c.args.root c.args.version c.args.base.now c.args.changes.now read c.in-Some.kept (c.in-Some.ensures.chosen (drop o.base o.versions) (led shape o s d c.args.root c.args.version c.args.base.now c.args.changes.now read) (zones shape o s d c.args.root c.args.version c.args.base.now c.args.changes.now read)) in
+    absurd (omega (arith, fits, wide))
+
+pub returns-in_err-convert-clause-no_room : goal.returns-in_err-convert-clause-no_room
+returns-in_err-convert-clause-no_room g c shape o s read wide =
+    let d = g.D.Sectors.seen c.args.device.now in
+    let fits = newest_fits shape o s d c.args.root c.args.version c.args.base.now c.args.changes.now read c.in-Some.kept (c.in-Some.ensures.chosen (drop o.base o.versions) (led shape o s d c.args.root c.args.version c.args.base.now c.args.changes.now read) (zones shape o s d c.args.root c.args.version c.args.base.now c.args.changes.now read)) in
+    absurd (omega (arith, fits, wide))
+
+pub returns-clause-no_room : goal.returns-clause-no_room
+returns-clause-no_room g c shape o s read wide =
+    let d = g.D.Sectors.seen c.args.device.now in
+    let fits = newest_fits shape o s d c.args.root c.args.version c.args.base.now c.args.changes.now read c.in-Some.kept (c.in-Some.ensures.chosen (drop o.base o.versions) (led shape o s d c.args.root c.args.version c.args.base.now c.args.changes.now read) (zones shape o s d c.args.root c.args.version c.args.base.now c.args.changes.now read)) in
+    absurd (omega (arith, fits, wide))

@@ -1,6 +1,6 @@
 use Rattle.std.proofs.Common.{inr, Ok, Err, refl, ap}
 use Rattle.dns_configuration.proofs.Called.{called_on}
-use Rattle.dns_commands.proofs.Migrated.{only_read, unless_failed}
+use Rattle.dns_commands.proofs.Migrated.{migrated_store, only_read, unless_failed}
 use Rattle.dns_commands.proofs.commands.migrate.migrate_one.Goals as goal
 
 pub returns-in-Ok : goal.returns-in-Ok
@@ -14,6 +14,8 @@ returns-in-Ok g c = (
     honest = c.in-Ok.ensures.honest;
     takes = c.in-Ok.ensures.migrated;
     any_moment = c.in-Ok.ensures.any_moment;
+    fits = λ honest o is range wide. (c.in-Ok.ensures.no_room honest o is range wide).0;
+    root = λ honest other. c.in-Ok.ensures.root honest (migrated_store c.in-Ok.answer other);
     already = λ honest is. c.in-Ok.ensures.already honest (ap Ok is);
     read_only = only_read c.in-Ok.answer (Ok c.in-Ok.answer) refl c.in-Ok.ensures.unwritten;
   },
@@ -32,6 +34,7 @@ returns-in-Err g c = (
     stopped = c.in-Err.ensures.migrated;
     refused = c.in-Err.ensures.refused;
     too_large = λ honest o opens range is. c.in-Err.ensures.too_large honest o opens range (ap Err is);
+    no_room = λ honest o is range wide. (c.in-Err.ensures.no_room honest o is range wide).1;
     any_moment = c.in-Err.ensures.any_moment;
     read_only = unless_failed c.in-Err.error (Err c.in-Err.error) refl c.in-Err.ensures.unwritten;
     failed = λ is. c.in-Err.ensures.device (ap Err is);

@@ -1,0 +1,135 @@
+-- The version of a zone with a serial, and how a run ends that prints it.
+use Rattle.std.specs.Prelude.{◌≡◌, ◌⊎◌, ◌≤◌, ◌<◌, ℕ, Bool, List, ◌++◌, length, take, drop, Option, Some}
+use Rattle.std.specs.Prelude.{None, Result, Ok, Err, codes, decimal, if◌then◌else◌}
+use Rattle.std.specs.String.{string_bytes}
+use Rattle.std.specs.Io.KnownBytes.{Appends, Keeps}
+use Rattle.dns_records.specs.Record.{Record}
+use Rattle.dns_zone.specs.Zone.{Zone, soas}
+use Rattle.dns_changes.specs.Change.{Change}
+use Rattle.dns_changes.specs.Version.{serial_in}
+use Rattle.dns_masterfile.specs.Printed.{printed_zone}
+use Rattle.dns_sectors.specs.declared.device.Sectors.{Ghosts}
+use Rattle.dns_store.specs.Versions.{Opened, Versions, newest_after}
+use Rattle.dns_transfer.specs.Form.{Incremental, form_of}
+use Rattle.dns_configuration.specs.declared.configuration.ZoneSettings.{ZoneSettings}
+use Rattle.dns_configuration.specs.declared.files.File.{File}
+use Rattle.dns_configuration.specs.Faults.{line}
+use Rattle.dns_configuration.specs.Named.{IsNamed, IsNoZoneName}
+use Rattle.dns_devices.specs.declared.device_faults.DeviceFault.{DeviceFault}
+use Rattle.dns_devices.specs.declared.device_faults.DeviceFault.TheVariants.{OutOfMemory}
+use Rattle.dns_devices.specs.DeviceFaults.{device_text, status_of}
+use Rattle.dns_devices.specs.DeviceCalls.{DeviceCall}
+use Rattle.dns_devices.specs.Stores.{AreCallsOf, IsNotShown}
+use Rattle.dns_commands.specs.History.{IsSeenAs, changes_after, version_in}
+
+-- The newest version has another serial, and an IXFR from this one is answered by these changes (RFC 1995 4).
+pub record IsIncremental (newest : List Record) (changes : List Change) (serial : ℕ) (left : List Change)
+    : Type 0 where
+  pub other : serial_in (soas newest) ≡ serial → ⊥
+  pub form : form_of (serial_in (soas newest)) changes (Some serial) ≡ Incremental left
+
+-- No journalled version has the serial: an IXFR from it is answered by no changes.
+pub record HasNone (newest : List Record) (changes : List Change) (serial : ℕ) : Type 0 where
+  pub other : serial_in (soas newest) ≡ serial → ⊥
+  pub form : (left : List Change) → form_of (serial_in (soas newest)) changes (Some serial) ≡ Incremental left
+      → ⊥
+
+-- Of the versions from a base on, to which these changes lead: the newest one, if it has the serial; or the
+-- one from which an IXFR is answered by the last of the changes; or none. If there is no answer, memory was
+-- refused.
+abbrev pub IsChosenFrom : Zone → List Change → Zone → Versions → ℕ → Result (Option Zone) DeviceFault → Type 0
+IsChosenFrom base changes newest vs serial (Ok (Some zone)) =
+    ((zone ≡ newest) × (serial_in (soas newest.records) ≡ serial))
+    ⊎ ((n : ℕ) × (n < length changes) × IsIncremental newest.records changes serial (drop n changes)
+    × (zone ≡ record { apex = base.apex; records = newest_after base.records (take n vs) }))
+IsChosenFrom base changes newest vs serial (Ok None) = HasNone newest.records changes serial
+IsChosenFrom base changes newest vs serial (Err fault) = fault ≡ OutOfMemory
+
+-- The zone is the version with that number and that serial of what a store opens as: it is the newest one, or
+-- an IXFR from it is answered by the changes after it.
+pub record IsVersionWith (own : ZoneSettings) (serial : ℕ) (o : Opened) (zone : Zone) (n : ℕ) : Type 0 where
+  pub since_base : o.base ≤ n
+  pub so_far : n ≤ length o.versions
+  pub zone_is : zone ≡ record { apex = own.origin; records = version_in o n }
+  pub serial_is : serial_in (soas zone.records) ≡ serial
+  pub sent : (n ≡ length o.versions)
+      ⊎ IsIncremental (newest_after o.loaded o.versions) (changes_after o o.base) serial (changes_after o n)
+
+-- What the answer for a serial is, of what a store opens as: the version, or none. If there is no answer,
+-- memory was refused.
+abbrev pub IsAnswerFor : ZoneSettings → ℕ → Result (Option Zone) DeviceFault → Opened → Type 0
+IsAnswerFor own serial (Ok (Some zone)) o = (n : ℕ) × IsVersionWith own serial o zone n
+IsAnswerFor own serial (Ok None) o =
+    HasNone (newest_after o.loaded o.versions) (changes_after o o.base) serial
+IsAnswerFor own serial (Err fault) o = fault ≡ OutOfMemory
+
+-- The device of the zone was looked into, with this answer.
+abbrev pub IsPicked : {D : Type 0} → Ghosts D → List (DeviceCall D) → ZoneSettings → ℕ
+    → Result (Option Zone) DeviceFault → Type 0
+IsPicked g calls own serial result = IsSeenAs g calls own (IsAnswerFor own serial result)
+
+abbrev pub IsAnswered : {D : Type 0} → Ghosts D → List (DeviceCall D) → ZoneSettings → ℕ → Option Zone
+    → Type 0
+IsAnswered g calls own serial zone = IsPicked g calls own serial (Ok zone)
+
+-- Why there is none: the device shows no version; or memory was refused, or the device does not keep what was
+-- written.
+abbrev pub HasNoAnswer : {D : Type 0} → Ghosts D → List (DeviceCall D) → ZoneSettings → ℕ → DeviceFault
+    → Type 0
+HasNoAnswer g calls own serial fault =
+    IsNotShown g calls own fault ⊎ ((status_of fault ≡ 3) × IsPicked g calls own serial (Err fault))
+
+-- The device of the zone was looked into, with an answer or without one.
+abbrev pub IsPickTried : {D : Type 0} → Ghosts D → List (DeviceCall D) → ℕ → ZoneSettings → Type 0
+IsPickTried g calls serial own =
+    ((result : Result (Option Zone) DeviceFault) × IsPicked g calls own serial result)
+    ⊎ ((fault : DeviceFault) × IsNotShown g calls own fault)
+
+-- What is reported if no version has the serial, and in a second line, if it is wanted, what can be done.
+abbrev pub unfound_text : ℕ → Bool → List ℕ
+unfound_text serial explain =
+    decimal serial ++ (if explain
+    then codes ": NoVersion\n" ++ decimal serial
+    ++ codes ": no journalled version has that serial; history lists them"
+    else codes ": NoVersion")
+
+-- Why a device shows no version with a serial, and the text that says so.
+abbrev pub IsNotPicked : {D : Type 0} → Ghosts D → List (DeviceCall D) → ZoneSettings → ℕ → Bool → List ℕ
+    → Type 0
+IsNotPicked g calls own serial explain text =
+    ((fault : DeviceFault) × IsNotShown g calls own fault × (status_of fault ≡ 1)
+    × (text ≡ device_text (string_bytes own.device) fault explain))
+    ⊎ (IsAnswered g calls own serial None × (text ≡ unfound_text serial explain))
+
+-- How the showing of a device ends as it was at a serial: that version is printed, or why there is none is
+-- reported. With status 3 the device can't be had, a writer failed or memory was refused. The calls are the
+-- same however it ends.
+pub record PickingEnds {D : Type 0} (g : Ghosts D) (calls : List (DeviceCall D)) (own : ZoneSettings)
+    (serial : ℕ) (explain : Bool) (out out_after err err_after : Option (List ℕ)) (status : ℕ)
+    : Type 0 where
+  pub done : status ≡ 0
+      → (zone : Zone) × IsAnswered g calls own serial (Some zone)
+      × Appends out out_after (printed_zone zone.records) × Keeps err err_after
+  pub refused : status ≡ 1
+      → (text : List ℕ) × IsNotPicked g calls own serial explain text
+      × Appends err err_after (line text) × Keeps out out_after
+  pub others : status ≤ 1 ⊎ (status ≡ 3)
+  pub called : IsPickTried g calls serial own
+
+-- How a run of `dump --serial` ends. With status 3 the device can't be had, a writer failed or memory was
+-- refused. However it ends, nothing was done but to look into the device of the zone that is named, if one
+-- was named.
+pub record DumpAtEnds {D : Type 0} (g : Ghosts D) (calls : List (DeviceCall D)) (config : File)
+    (origin : List ℕ) (serial : ℕ) (explain : Bool) (out out_after err err_after : Option (List ℕ))
+    (status : ℕ)
+    : Type 0 where
+  pub done : status ≡ 0
+      → (own : ZoneSettings) × (zone : Zone) × IsNamed config origin own
+      × IsAnswered g calls own serial (Some zone)
+      × Appends out out_after (printed_zone zone.records) × Keeps err err_after
+  pub refused : status ≡ 1
+      → (text : List ℕ) × Appends err err_after (line text) × Keeps out out_after
+      × (IsNoZoneName config origin text
+      ⊎ ((own : ZoneSettings) × IsNamed config origin own × IsNotPicked g calls own serial explain text))
+  pub others : status ≤ 1 ⊎ (status ≡ 3)
+  pub called : AreCallsOf config origin (IsPickTried g calls serial) calls
