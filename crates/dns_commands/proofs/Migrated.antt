@@ -29,7 +29,7 @@ only_read answer r e (inr (inl s)) is = absurd (subst (λ (x : Result Migration 
 only_read answer r e (inr (inr p)) is = p
 
 -- What is answered otherwise was migrated.
-pub migrated_store : {E : Type 0} (answer : Migration) → (answer ≡ Already → ⊥) → IsMigratedStore {E = E} (Ok answer)
+pub migrated_store : (answer : Migration) → (answer ≡ Already → ⊥) → IsMigratedStore {E = MigrateError} (Ok answer)
 migrated_store Already other = other refl
 migrated_store (Migrated version serial) other = tt
 
