@@ -11,6 +11,7 @@ _dnsprim_options() {
         fetch) echo --since --seconds --explain --help ;;
         check) echo --config --explain --help ;;
         dump) echo --serial --explain --help ;;
+        diff) echo --as-update --explain --help ;;
         history) echo --records --explain --help ;;
         init | migrate | replay) echo --explain --help ;;
     esac
@@ -33,7 +34,7 @@ _dnsprim_arguments() {
 
 # What may stand at the cursor: words, or a mark that these are files.
 _dnsprim_words() {
-    local commands="check dump fetch help history init load migrate replay serve"
+    local commands="check diff dump fetch help history init load migrate replay serve"
     case $previous,$current in
         --since,*) echo :files && return ;;
         --turns,*) echo unlimited && return ;;
@@ -43,9 +44,9 @@ _dnsprim_words() {
     case $current,$command,${#arguments[@]} in
         -*) _dnsprim_options "$command" ;;
         *,help,0) echo "$commands" ;;
-        *,check,0 | *,dump,0 | *,history,0 | *,init,0 | *,load,0 | *,migrate,0 | *,replay,[01] | *,serve,0) echo :files ;;
-        *,dump,1 | *,history,1 | *,init,1 | *,load,1) _dnsprim_origins "${arguments[0]}" ;;
-        *,check,1 | *,fetch,[01]) ;;
+        *,check,0 | *,diff,0 | *,dump,0 | *,history,0 | *,init,0 | *,load,0 | *,migrate,0 | *,replay,[01] | *,serve,0) echo :files ;;
+        *,diff,1 | *,dump,1 | *,history,1 | *,init,1 | *,load,1) _dnsprim_origins "${arguments[0]}" ;;
+        *,check,1 | *,diff,[23] | *,fetch,[01]) ;;
         *) _dnsprim_options "$command" ;;
     esac
 }

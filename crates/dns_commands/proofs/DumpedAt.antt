@@ -93,7 +93,7 @@ incremental newest soa changes left current serial one is other form =
     }
 
 -- Of what opens as these versions the changes are those after the base.
-answered : (own : ZoneSettings) (serial : ℕ) (o : Opened) (changes : List Change) (r : Result (Option Zone) DeviceFault) → o.base ≤ length o.versions → AreLed (base_of o) (drop o.base o.versions) changes
+pub answered : (own : ZoneSettings) (serial : ℕ) (o : Opened) (changes : List Change) (r : Result (Option Zone) DeviceFault) → o.base ≤ length o.versions → AreLed (base_of o) (drop o.base o.versions) changes
     → IsChosenFrom (record { apex = own.origin; records = base_of o }) changes (record { apex = own.origin; records = newest_after o.loaded o.versions }) (drop o.base o.versions) serial r
     → IsAnswerFor own serial r o
 answered own serial o changes (Err fault) so_far led is = is

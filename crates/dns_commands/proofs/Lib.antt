@@ -1,6 +1,7 @@
 pub mod Changed
 pub mod Checked
 pub mod Compared
+pub mod Differed
 pub mod DumpedAt
 pub mod Files
 pub mod Historied

@@ -1,6 +1,7 @@
 pub mod Check
 pub mod CheckConfiguration
 pub mod Compare
+pub mod Diff
 pub mod Dump
 pub mod DumpAt
 pub mod History

@@ -39,7 +39,7 @@ fn only_in<I: ZoneIndex>(
 }
 
 /// The change from a zone to another.
-fn change_between<I: ZoneIndex>(
+pub(crate) fn change_between<I: ZoneIndex>(
     heap: Heap,
     before: &Zone<I>,
     after: &Zone<I>,
@@ -56,7 +56,7 @@ fn change_between<I: ZoneIndex>(
 }
 
 /// Whether the change leads from a version to one with the same records.
-fn is_no_change(change: &Change) -> bool
+pub(crate) fn is_no_change(change: &Change) -> bool
     ensures { (before after : List Stated) → is_ordered before ≡ true → is_ordered after ≡ true
         → IsChange before after change.now → IsTrue result ↔ after ≡ before }
 {

@@ -2,6 +2,7 @@
 pub mod check;
 pub mod check_configuration;
 pub mod compare;
+pub mod diff;
 pub mod dump;
 pub mod dump_at;
 pub mod history;

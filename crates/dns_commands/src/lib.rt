@@ -15,6 +15,7 @@ pub use change::change_to;
 pub use commands::check::{Index, check};
 pub use commands::check_configuration::check_configuration;
 pub use commands::compare::compare;
+pub use commands::diff::diff;
 pub use commands::dump::dump;
 pub use commands::dump_at::dump_at;
 pub use commands::history::history;

@@ -1,9 +1,9 @@
-//! Runs of `init`, `dump`, `history` and `migrate` over devices in files of the system.
+//! Runs of `init`, `dump`, `diff`, `history` and `migrate` over devices in files of the system.
 use crate::commands::Before::{First, Left, Nothing, Old, Second};
-use crate::commands::Command::{Dump, DumpAt, History, Init, Migrate};
+use crate::commands::Command::{Diff, Dump, DumpAt, History, Init, Migrate};
 use crate::old_format::updated;
 use crate::stores::read;
-use dns_commands::{dump, dump_at, history, init, migrate};
+use dns_commands::{diff, dump, dump_at, history, init, migrate};
 use dns_configuration::File;
 use dns_devices::Disk;
 use dns_fixtures::plan;
@@ -111,17 +111,34 @@ version 1 serial 8, 1 added, 0 removed
 + t.example. 60 IN TXT \"x\"
 ";
 
+/// The change alone, the one back, and the lines that undo it.
+const FORWARD: &str =
+    "- example. 3600 IN SOA ns.example.com. hostmaster.example. 7 7200 900 1209600 300
++ example. 3600 IN SOA ns.example.com. hostmaster.example. 8 7200 900 1209600 300
++ t.example. 60 IN TXT \"x\"
+";
+
+const BACK: &str =
+    "- example. 3600 IN SOA ns.example.com. hostmaster.example. 8 7200 900 1209600 300
+- t.example. 60 IN TXT \"x\"
++ example. 3600 IN SOA ns.example.com. hostmaster.example. 7 7200 900 1209600 300
+";
+
+const UNDONE: &str = "zone example.\nupdate delete t.example. 60 IN TXT \"x\"\nsend\n";
+
 /// What is told of a serial that no version has.
 const NO_VERSION: &str =
     "6: NoVersion\n6: no journalled version has that serial; history lists them\n";
 
 /// A command, and whether advice is wanted: `init` with this file of the second zone; `dump` of a zone, or of
-/// the first one at a serial; `history` of a zone, with the records.
+/// the first one at a serial; `diff` of two serials of it, or the lines that undo that; `history` of a zone,
+/// with the records.
 #[derive(Clone, Copy)]
 enum Command {
     Init(&'static str, bool),
     Dump(&'static str, bool),
     DumpAt(u32, bool),
+    Diff(u32, Option<u32>, bool),
     History(&'static str, bool),
     Migrate(bool),
 }
@@ -156,6 +173,30 @@ fn run_dump_at(
         "example.",
         serial,
         explain,
+        out,
+        err,
+    )
+}
+
+/// That of a `diff` of the first zone.
+fn run_diff(
+    rt: &HostRuntime,
+    heap: Heap,
+    (from, to): (u32, Option<u32>),
+    as_update: bool,
+    out: &mut Vec<u8>,
+    err: &mut Vec<u8>,
+) -> u8 {
+    diff::<Device, _, RecordList, _, _>(
+        rt.alloc(),
+        heap,
+        &mut Disk(rt),
+        &file("dnsprim.toml", CONFIG),
+        "example.",
+        from,
+        to,
+        as_update,
+        false,
         out,
         err,
     )
@@ -212,6 +253,7 @@ fn run(rt: &HostRuntime, heap: Heap, command: Command, out: &mut Vec<u8>, err: &
             err,
         ),
         DumpAt(serial, explain) => run_dump_at(rt, heap, serial, explain, out, err),
+        Diff(from, to, as_update) => run_diff(rt, heap, (from, to), as_update, out, err),
         History(origin, with_records) => run_history(rt, heap, origin, with_records, out, err),
         Migrate(explain) => migrate::<Device, _, RecordList, _, _>(
             alloc,
@@ -306,7 +348,7 @@ const LEN: usize = 512 * 49;
 
 /// Commands, each with what is there before, the status, and what is printed and told. Faults of files come
 /// before any device is made.
-const RUNS: [(Before, Command, u8, &str); 39] = [
+const RUNS: [(Before, Command, u8, &str); 46] = [
     (Nothing, Init(OTHER, false), 0, FORMATTED),
     (Left, DUMP, 0, PRINTED),
     (Left, Init(OTHER, false), 1, "example.device: Exists\n"),
@@ -358,6 +400,13 @@ const RUNS: [(Before, Command, u8, &str); 39] = [
     (Left, DumpAt(7, false), 0, UNCHANGED),
     (Left, DumpAt(6, true), 1, NO_VERSION),
     (Left, DumpAt(9, false), 1, "9: NoVersion\n"),
+    (Left, Diff(7, None, false), 0, FORWARD),
+    (Left, Diff(8, Some(7), false), 0, BACK),
+    (Left, Diff(8, None, false), 0, "example. unchanged\n"),
+    (Left, Diff(7, Some(8), true), 0, UNDONE),
+    (Left, Diff(8, Some(8), true), 0, ""),
+    (Left, Diff(6, Some(9), false), 1, "6: NoVersion\n"),
+    (Left, Diff(7, Some(9), false), 1, "9: NoVersion\n"),
     (Nothing, DumpAt(7, false), 3, "example.device: Device\n"),
     (
         First(b"", 0, LEN),

@@ -16,6 +16,8 @@ pub enum Task<'a> {
     Init(&'a str, Option<&'a str>),
     /// `dump CONFIG ORIGIN`, and the serial of the version that is printed (`--serial`)
     Dump(&'a str, &'a str, Option<u32>),
+    /// `diff CONFIG ORIGIN FROM [TO]`
+    Diff(Diffing<'a>),
     /// `history CONFIG ORIGIN`, and whether the records of each change are printed (`--records`)
     History(&'a str, &'a str, bool),
     /// `load CONFIG ORIGIN`, and whether what it would change is printed alone (`--dry-run`)
@@ -26,6 +28,17 @@ pub enum Task<'a> {
     Serve(Serving<'a>),
     /// `fetch ADDRESS:PORT ORIGIN [--since FILE] [--seconds N]`
     Fetch(Fetching<'a>),
+}
+
+/// The words of `diff`: the serials of the versions before and after, and whether the lines of nsupdate that
+/// undo the change are printed.
+#[derive(Clone, Copy)]
+pub struct Diffing<'a> {
+    pub config: &'a str,
+    pub origin: &'a str,
+    pub from: u32,
+    pub to: Option<u32>,
+    pub as_update: bool,
 }
 
 /// The words of `serve`.
@@ -75,6 +88,9 @@ const TURNS_EXPECTED: &str = "--turns: a number from 0 to 4294967295, or unlimit
 
 /// What is expected of `--serial`.
 const SERIAL_EXPECTED: &str = "--serial: a number from 0 to 4294967295 is expected";
+
+/// What is expected of the serials of `diff`.
+const SERIALS_EXPECTED: &str = "diff: FROM and TO are numbers from 0 to 4294967295";
 
 /// What is expected of `--seconds`.
 const SECONDS_EXPECTED: &str = "--seconds: a number from 0 to 4294967295 is expected";
@@ -179,6 +195,31 @@ fn dump_command<'a>(alloc: Global) -> Result<Command<'a>, Error> {
     Ok(command.arg(origin(alloc))?.arg(serial)?)
 }
 
+fn diff_command<'a>(alloc: Global) -> Result<Command<'a>, Error> {
+    let about =
+        "Prints the change between two versions of a zone that its device keeps; not while it is served";
+    let command = of_one_word(alloc, "diff", about, config(alloc))?;
+    let from = word(
+        alloc,
+        "FROM",
+        "The serial of the version before; history lists those that are kept",
+    );
+    let to = Arg::new(alloc, "TO").action(ArgAction::Set).help(
+        "The serial of the version after, in place of the newest one",
+    );
+    let as_update = Arg::new(alloc, "as-update")
+        .long("as-update")
+        .action(ArgAction::SetTrue)
+        .help("Prints lines for nsupdate that undo the change, its SOA aside");
+    Ok(
+        command
+            .arg(origin(alloc))?
+            .arg(from)?
+            .arg(to)?
+            .arg(as_update)?,
+    )
+}
+
 fn history_command<'a>(alloc: Global) -> Result<Command<'a>, Error> {
     let about =
         "Lists the versions of a zone that its device keeps, the oldest first; not while it is served";
@@ -270,6 +311,7 @@ fn whole_command<'a>(alloc: Global) -> Result<Command<'a>, Error> {
     let command = with(command, replay_command(alloc))?;
     let command = with(command, init_command(alloc))?;
     let command = with(command, dump_command(alloc))?;
+    let command = with(command, diff_command(alloc))?;
     let command = with(command, history_command(alloc))?;
     let command = with(command, load_command(alloc))?;
     let command = with(command, migrate_command(alloc))?;
@@ -319,6 +361,30 @@ fn dump_words<'a>(inner: &ArgMatches<'a>) -> Words<'a> {
     match number_of(text) {
         Some(serial) => task_words(inner, Task::Dump(config, origin, Some(serial))),
         None => Words::Wrong(SERIAL_EXPECTED),
+    }
+}
+
+/// What `diff` is asked for. None if a word is missing or is no number.
+fn diffing_of<'a>(inner: &ArgMatches<'a>) -> Option<Diffing<'a>> {
+    let from = number_of(inner.get_str("FROM")?)?;
+    let to = match inner.get_str("TO") {
+        Some(text) => Some(number_of(text)?),
+        None => None,
+    };
+    Some(Diffing {
+        config: inner.get_str("CONFIG")?,
+        origin: inner.get_str("ORIGIN")?,
+        from,
+        to,
+        as_update: inner.get_flag("as-update"),
+    })
+}
+
+/// The words of `diff`.
+fn diff_words<'a>(inner: &ArgMatches<'a>) -> Words<'a> {
+    match diffing_of(inner) {
+        Some(diffing) => task_words(inner, Task::Diff(diffing)),
+        None => Words::Wrong(SERIALS_EXPECTED),
     }
 }
 
@@ -398,6 +464,7 @@ pub fn read_words<'a>(alloc: Global, words: &'a [&'a str]) -> Result<Words<'a>, 
     };
     match name {
         "check" => Ok(check_words(inner)),
+        "diff" => Ok(diff_words(inner)),
         "dump" => Ok(dump_words(inner)),
         "serve" => Ok(serve_words(inner)),
         "fetch" => Ok(fetch_words(inner)),

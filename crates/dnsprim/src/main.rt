@@ -7,12 +7,12 @@ mod lines;
 mod terminal;
 
 use clap::error::ErrorKind;
-use command::{Asked, Fetching, Serving, Task, Words, read_words};
+use command::{Asked, Diffing, Fetching, Serving, Task, Words, read_words};
 use dns_commands::{
-    Index, check, check_configuration, compare, dump, dump_at, explain_check, explain_devices,
-    explain_origin, explain_other, explain_replay, explain_unmade, explain_unreadable,
-    explain_unserved, file, history, init, is_file, load, master_files, migrate, octets, replay,
-    warn_of_configuration, zone_file,
+    Index, check, check_configuration, compare, diff, dump, dump_at, explain_check,
+    explain_devices, explain_origin, explain_other, explain_replay, explain_unmade,
+    explain_unreadable, explain_unserved, file, history, init, is_file, load, master_files,
+    migrate, octets, replay, warn_of_configuration, zone_file,
 };
 use dns_configuration::{DONE, FAILED, File, REFUSED, USAGE};
 use dns_devices::Disk;
@@ -285,6 +285,29 @@ fn run_dump(
     explain_looked(rt, heap, &config, origin, explain, status)
 }
 
+/// Prints the difference of two versions that a device keeps, and gives the exit status.
+fn run_diff(rt: &HostRuntime, heap: Heap, words: Diffing<'_>, explain: bool) -> io::Result<u8> {
+    let text = octets(rt, words.config)?;
+    let config = file(words.config, &text);
+    let mut out = io::BufWriter::new(rt.alloc(), io::writer(rt))?;
+    let mut err = rt.stderr();
+    let status = diff::<Device, _, Index, _, _>(
+        rt.alloc(),
+        heap,
+        &mut Disk(rt),
+        &config,
+        words.origin,
+        words.from,
+        words.to,
+        words.as_update,
+        explain,
+        &mut out,
+        &mut err,
+    );
+    out.flush()?;
+    explain_looked(rt, heap, &config, words.origin, explain, status)
+}
+
 /// Prints the versions that a device keeps, and gives the exit status.
 fn run_history(
     rt: &HostRuntime,
@@ -456,6 +479,7 @@ fn run(rt: &HostRuntime, asked: Asked<'_>) -> io::Result<u8> {
         Task::Dump(config, origin, serial) => {
             run_dump(rt, heap, config, origin, serial, asked.explain)
         }
+        Task::Diff(words) => run_diff(rt, heap, words, asked.explain),
         Task::History(config, origin, records) => {
             run_history(rt, heap, config, origin, records, asked.explain)
         }
@@ -472,8 +496,8 @@ fn run(rt: &HostRuntime, asked: Asked<'_>) -> io::Result<u8> {
 fn tell_usage(rt: &HostRuntime) -> io::Result<u8> {
     eprintln!(rt;
         "usage: dnsprim check FILE ORIGIN | check CONFIG | replay CONFIG SCRIPT | init CONFIG [ORIGIN] | \
-dump CONFIG ORIGIN [--serial M] | history CONFIG ORIGIN [--records] | \
-load CONFIG ORIGIN [--dry-run] | migrate CONFIG | \
+dump CONFIG ORIGIN [--serial M] | diff CONFIG ORIGIN FROM [TO] [--as-update] | \
+history CONFIG ORIGIN [--records] | load CONFIG ORIGIN [--dry-run] | migrate CONFIG | \
 serve CONFIG --turns N|unlimited [--quiet] | \
 fetch ADDRESS:PORT ORIGIN [--since FILE] [--seconds N] [--explain]"
     )?;

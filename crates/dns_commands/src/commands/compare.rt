@@ -29,7 +29,7 @@ use std::alloc::Global;
 use std::io::{self, Write};
 
 /// Prints a record after a sign.
-fn print_record<W: Write>(out: &mut W, sign: &str, entry: &Record) -> io::Result<()>
+pub(crate) fn print_record<W: Write>(out: &mut W, sign: &str, entry: &Record) -> io::Result<()>
     ensures { OnOk result
         (Appends (W.contents out.old) (W.contents out.new) (signed_lines sign.now (entry.now ∷ []))) }
 {
@@ -37,7 +37,7 @@ fn print_record<W: Write>(out: &mut W, sign: &str, entry: &Record) -> io::Result
 }
 
 /// Prints a line for each of these records, after a sign.
-fn print_records<W: Write>(out: &mut W, sign: &str, records: &[Record]) -> io::Result<()>
+pub(crate) fn print_records<W: Write>(out: &mut W, sign: &str, records: &[Record]) -> io::Result<()>
     ensures { OnOk result
         (Appends (W.contents out.old) (W.contents out.new) (signed_lines sign.now records.now)) }
 {

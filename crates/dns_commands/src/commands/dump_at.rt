@@ -77,7 +77,7 @@ fn version_or_fault<I: ZoneIndex>(
 
 /// The version with a serial: the newest one, or that before it from which an IXFR would be incremental. None
 /// if there is none.
-fn version_with<I: ZoneIndex>(
+pub(crate) fn version_with<I: ZoneIndex>(
     base: &Zone<I>,
     changes: &[Change],
     newest: Zone<I>,
@@ -142,7 +142,7 @@ impl fmt::Display for UnfoundText {
 }
 
 /// Tells that no version has the serial; returns the exit status.
-fn tell_unfound<E: Write>(err: &mut E, serial: u32, explain: bool) -> io::Result<u8>
+pub(crate) fn tell_unfound<E: Write>(err: &mut E, serial: u32, explain: bool) -> io::Result<u8>
     ensures { IfOk result (λ status. (status ≡ REFUSED)
         × Appends (E.contents err.old) (E.contents err.new) (line (unfound_text serial explain))) }
 {
