@@ -3,12 +3,14 @@
    `harness < INPUT` handles one input of TARGET, and prints what the program prints. Files are made in the working directory. */
 #include <ctype.h>
 #include <fcntl.h>
+#include <netinet/in.h>
 #include <openssl/sha.h>
 #include <regex.h>
 #include <stdint.h>
 #include <stdio.h>
 #include <stdlib.h>
 #include <string.h>
+#include <sys/socket.h>
 #include <unistd.h>
 
 __AFL_FUZZ_INIT();
@@ -28,6 +30,15 @@ static void keep(const char *path, const void *from, size_t length) {
     int file = open(path, O_WRONLY | O_CREAT | O_TRUNC, 0600);
     if (file < 0 || write(file, from, length) != (ssize_t)length || close(file)) perror(path), exit(9);
 }
+/* Keeps one in so many inputs for compare.py beside those that AFL++ keeps, and no two by the same. */
+static void sample(const void *by, size_t size, int many, const octet *input, size_t length) {
+    octet digest[32];
+    char path[64];
+    SHA256(by, size, digest);
+    if (shows || digest[0] % many) return;
+    sprintf(path, "others/id%02x%02x%02x%02x", digest[1], digest[2], digest[3], digest[4]);
+    if (access(path, F_OK)) keep(path, input, length);
+}
 static void fault(const char *what) {
     fprintf(stderr, "FAULT: %s\nprinted:\n%stold:\n%swanted, if anything is:\n%s", what, out.at, err.at, wanted.at), abort();
 }
@@ -40,7 +51,11 @@ static int fits(const Text *text, const char *form) {
 }
 
 /* The C functions that the program calls, in the place of those of the kit and of the C library. */
-size_t rattle_arg_count(void) { return words[1] == NULL ? 1 : words[2] == NULL ? 2 : words[3] == NULL ? 3 : 4; }
+size_t rattle_arg_count(void) {
+    size_t count = 1;
+    while (words[count]) count++;
+    return count;
+}
 intptr_t rattle_arg(size_t i, octet *to, size_t room) {
     if (i >= rattle_arg_count() || strlen(words[i]) > room) return i >= rattle_arg_count() ? -1 : -2;
     return memcpy(to, words[i], strlen(words[i])), strlen(words[i]);
@@ -123,11 +138,12 @@ static int is_read(void) {
     put(&wanted, line, sprintf(line, " %u %u %u %u\nstatus 0\n", counts[1], counts[2], counts[3], ttls));
     return place == size;
 }
+static void digits(Text *to, const octet *from, size_t length) {
+    for (size_t i = 0; i < length; i++) put(to, (char[]){"0123456789abcdef"[from[i] >> 4], "0123456789abcdef"[from[i] & 15]}, 2);
+}
 static void messages(const octet *input, size_t length) {
     start(&wanted, "");
-    for (size_t i = 0; i < length; i++)
-        put(&wanted, (char[]){"0123456789abcdef"[input[i] >> 4], "0123456789abcdef"[input[i] & 15]}, 2);
-    put(&wanted, "\n", 1);
+    digits(&wanted, input, length), put(&wanted, "\n", 1);
     keep("messages", wanted.at, wanted.length);
     keep("list", "read messages\n", 14);
     start(&wanted, "read messages\n");
@@ -156,6 +172,124 @@ static void zones(const octet *input, size_t length) {
     put(&wanted, out.at, out.length);
     keep("zone", wanted.at + 17, wanted.length - 26);
     if (lines != records || DOES("") || !is_wanted()) fault("what is printed reads back as another zone");
+}
+
+/* A configuration is checked, and once more with what `--explain` adds. `zone` is the one master file that is there. */
+static void configuration(const octet *input, size_t length) {
+    static Text told;
+    keep("config", input, length);
+    int status = DOES("check", "config", "--config");
+    start(&wanted, ""), put(&wanted, out.at, out.length);
+    if (status ? status != 1 || out.length || !fits(&err, "^[ -~]*: [A-Z][A-Za-z]+\n$") : !out.length || err.length)
+        fault("neither taken nor refused");
+    start(&told, ""), put(&told, err.at, err.length);
+    if (DOES("check", "config", "--config", "--explain") != status || !is_wanted()) fault("another verdict with reasons");
+    if (strncmp((char *)err.at, (char *)told.at, told.length)) fault("another fault with reasons");
+    if (!strcmp((char *)err.at, "config: BadConfig\n")) fault("no reason");
+    if (!status) sample(input, length, 32, input, length);
+}
+
+/* Two peers on a network in memory. The input is parts: what becomes of one, in bits; how many octets follow, in two octets; and these, which
+   come on connection 0 or 1 (bit 0), after their length (bit 1), so many moving at once (bits 2 and 3). Then turns are made up to an idle one
+   (bit 4, and always before the other connection goes on) or so many (bits 5 to 7). What goes out is what `replay` prints for the same
+   messages. Then both peers vanish, and the query of a third one has its reply. The device that served.rt makes has room for some hundred
+   writes, so that few updates come; where it is full all the same, a further one is answered SERVFAIL, and nothing is compared. */
+#define FURTHER "002c00012800000100000001000007" "6578616d706c650000060001027a7ac00c000100010000003c000401020304"
+#define QUERY "001912340000000100000000000007" "6578616d706c650000060001"
+static int has_message(const Text *came, size_t at, size_t *count) {
+    return came->length - at > 1 && came->length - at - 2 >= (*count = came->at[at] << 8 | came->at[at + 1]);
+}
+static void settle(Text *play, size_t *waiting) {
+    char line[64];
+    put(play, line, sprintf(line, "turn %zu; settle\n", *waiting / 3)), *waiting = 0;
+}
+static void stream(const octet *input, size_t length) {
+    static Text script, play, came[2], replies[2];
+    char line[160];
+    size_t done[2] = {0, 0}, waiting = 0, updates = 0, count, head;
+    const octet *at = input, *end = input + length;
+    if (length > 65536) return;
+    start(&script, "connect 127.0.0.1\nconnect 127.0.0.1\n"), start(&play, "connect 3; turn 3\n");
+    for (int own = 0; own < 2; own++) start(came + own, ""), start(replies + own, "");
+    for (int last = 0; end - at > 3;) {
+        int bits = *at, own = bits & 1;
+        Text *it = came + own;
+        size_t before = it->length;
+        count = at[1] << 8 | at[2], at += 3, count = count > end - at ? end - at : count;
+        if (own != last) settle(&play, &waiting);
+        last = own, waiting += count;
+        if (bits & 2) put(it, (octet[]){count >> 8, count}, 2);
+        put(it, at, count), at += count;
+        put(&play, line, sprintf(line, "most %d %d; stream %d ", own, (int[]){100000, 3000, 700, 100}[bits >> 2 & 3], own));
+        digits(&play, it->at + before, it->length - before), put(&play, line, sprintf(line, "; turn %d\n", bits >> 5));
+        if (bits & 16) settle(&play, &waiting);
+        for (; has_message(it, done[own], &count); done[own] += 2 + count) {
+            if (!count) continue;
+            if (count > 2 && (it->at[done[own] + 4] & 0x78) == 0x28 && ++updates > 12) return;
+            put(&script, line, sprintf(line, "tcp %d ", own)), digits(&script, it->at + done[own] + 2, count);
+            put(&script, line, sprintf(line, "\nflush\npump %d\npump %d\npump %d\n", own, own, own));
+        }
+    }
+    settle(&play, &waiting), head = play.length;
+    keep("script", script.at, script.length), keep("list", "replay . config script\n", 23);
+    if (DOES("") || memcmp(out.at, "replay . config script\nconn 0\nconn 1\n", 37)) fault("no replay");
+    for (char *it = (char *)out.at + 37, *next; strcmp(it, "status 0\n"); it = next + 1) {
+        if (strncmp(it, "tcp ", 4) || !(next = strchr(it, '\n'))) fault("another line");
+        Text *own = replies + it[4] - '0';
+        put(own, line, sprintf(line, "%04x", (int)(next - it - 6) / 2)), put(own, it + 6, next - it - 6);
+    }
+    sample(out.at, out.length, 64, input, length);
+    for (int own = 0; own < 2; own++) {
+        put(&play, line, sprintf(line, "sent %d ", own)), put(&play, replies[own].at, replies[own].length);
+        put(&play, line, sprintf(line, "\nclose %d\n", own));
+    }
+    put(&play, line, sprintf(line, "settle\nnotes 3 2\nstream 2 %s\nsettle\nmessages 2 1 1; records 2 1\n", QUERY));
+    keep("play", play.at, play.length), keep("list", "turns zone play 0-0\n", 20);
+    start(&wanted, "turns zone play 0-0\nplays 0 to 0 hold\nstatus 0\n");
+    if (!DOES("") && is_wanted()) return;
+    play.length = head, put(&play, line, sprintf(line, "stream 2 %s\n", FURTHER));
+    put(&play, line, sprintf(line, "settle\nsent 2 000c0001a8020000000000000000\n"));
+    keep("play", play.at, play.length);
+    if (DOES("") || !is_wanted()) fault("other replies, or none to the query that follows");
+}
+
+/* What `fetch` connects to, in the place of sockets: the answer is there, and its end, and so much of it is read at once, at most. */
+static int ends[2];
+static size_t piece;
+int socket(int family, int type, int protocol) { return ends[0]; }
+int connect(int file, const struct sockaddr *to, socklen_t length) { return 0; }
+int getpeername(int file, struct sockaddr *to, socklen_t *length) {
+    struct sockaddr_in it = {AF_INET, htons(53), {htonl(INADDR_LOOPBACK)}};
+    return memcpy(to, &it, *length = sizeof it), 0;
+}
+ssize_t recv(int file, void *to, size_t room, int flags) { return read(file, to, room < piece ? room : piece); }
+static int fetches(int since, const octet *answer, size_t length, size_t count) {
+    octet request[1024];
+    piece = count;
+    if (socketpair(AF_UNIX, SOCK_STREAM | SOCK_NONBLOCK | SOCK_CLOEXEC, 0, ends) || write(ends[1], answer, length) != (ssize_t)length)
+        perror("socketpair"), exit(9);
+    shutdown(ends[1], SHUT_WR);
+    int status = since ? DOES("fetch", "127.0.0.1:53", "example.", "--since", "held") : DOES("fetch", "127.0.0.1:53", "example.");
+    ssize_t asked = read(ends[1], request, sizeof request);
+    if (close(ends[1]) || asked < 27 || asked != 2 + (request[0] << 8 | request[1])) fault("another request");
+    return status;
+}
+/* The first octet of an input tells whether a version is held, and how much is read at once; the others are the answer. */
+static void fetch(const octet *input, size_t length) {
+    static Text told;
+    if (!length || length > 65536) return;
+    int status = fetches(*input & 1, input + 1, length - 1, 65536);
+    start(&wanted, ""), put(&wanted, out.at, out.length);
+    start(&told, ""), put(&told, err.at, err.length);
+    int is_told = fits(&err, "^127[.]0[.]0[.]1:53: (Closed|Refused[(][0-9]+[)]|BadMessage|WrongId|BadSequence|RemovesAbsent|AddsPresent|"
+                             "InvalidZone)\n$");
+    if (status ? out.length || !is_told : err.length) fault("neither a zone nor a fault with its name");
+    if (fetches(*input & 1, input + 1, length - 1, 1 + *input / 2) != status || !is_wanted() || strcmp((char *)err.at, (char *)told.at))
+        fault("another verdict in pieces");
+    if (status) return;
+    sample(out.at, out.length, 8, input, length);
+    keep("taken", wanted.at, wanted.length);
+    if (DOES("check", "taken", "example.")) fault("what was taken in is no zone");
 }
 
 /* Puts the digest of a sector at its end: of SHA-256 over its number and its first 504 octets. */

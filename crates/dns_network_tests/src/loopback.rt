@@ -1,5 +1,7 @@
 //! A server over loopback, each time with its clients. The octets of replies are written out from RFC 1035,
 //! RFC 2136 and RFC 5936.
+ghost use Rattle.std.specs.Prelude.{None};
+
 use crate::clients::{Act, Clients};
 use crate::given::device;
 use dns_configuration::{DONE, File, REFUSED};
