@@ -186,7 +186,7 @@ static void configuration(const octet *input, size_t length) {
     if (DOES("check", "config", "--config", "--explain") != status || !is_wanted()) fault("another verdict with reasons");
     if (strncmp((char *)err.at, (char *)told.at, told.length)) fault("another fault with reasons");
     if (!strcmp((char *)err.at, "config: BadConfig\n")) fault("no reason");
-    if (!status) sample(input, length, 32, input, length);
+    if (!status) sample(input, length, 1, input, length);
 }
 
 /* Two peers on a network in memory. The input is parts: what becomes of one, in bits; how many octets follow, in two octets; and these, which
